@@ -1,0 +1,53 @@
+-- Document 01, "Knuth-Plass": ratio, the three terms and the cost of a break, in f32 with each operation rounded.
+use mathlib.Core.Bool.{Bool, true, false, cond, _||_}
+use Prim.Native.Nat.{ℕ, _+_, _-_, _*_, _/_}
+use lib.IntN.{pos}
+use lib.Dec.{leb, eqb}
+use lib.Ieee.{Float, nan, inf, fin, binary32, up, down, minus, mul, sub, div, ofInt}
+
+-- a whole number as an f32
+abbrev pub float : ℕ → Float
+float n = ofInt binary32 (pos n)
+
+abbrev pub noRatio : Float
+noRatio = fin false 0 (pos 0)
+
+-- x without its sign
+abbrev pub abs : Float → Float
+abs nan = nan
+abs (inf s) = inf false
+abs (fin s m e) = fin false m e
+
+-- truncating: the greatest whole number up to |x|, of a finite x
+abbrev pub whole : Float → ℕ
+whole nan = 0
+whole (inf s) = 0
+whole (fin s m e) = m * up e / down e
+
+-- cube(x) = (x × x) × x
+abbrev pub cube : Float → Float
+cube x = mul binary32 (mul binary32 x x) x
+
+-- k × |cube(x)|, truncated
+unfoldable pub term : ℕ → Float → ℕ
+term k x = whole (mul binary32 (float k) (abs (cube x)))
+
+-- r = 0 if t = goal, else (goal − t)/stretch
+unfoldable pub ratio : ℕ → ℕ → ℕ → Float
+ratio goal t stretch = cond (eqb t goal) noRatio (div binary32 (ofInt binary32 (minus goal t)) (float stretch))
+
+-- L = 100 × |cube(r)|
+abbrev pub lineTerm : Float → ℕ
+lineTerm r = term 100 r
+
+-- W = 0 if word ≥ stretch, else 300 × |cube((stretch − word)/(stretch − 1))|; at stretch 1 nothing is divided by 0
+unfoldable pub wordTerm : ℕ → ℕ → ℕ
+wordTerm stretch word = cond (leb stretch word || leb stretch 1) 0 (term 300 (div binary32 (float (stretch - word)) (float (stretch - 1))))
+
+-- D = 600 × |cube((r − old ratio)/2)|
+abbrev pub ratioTerm : Float → Float → ℕ
+ratioTerm r old = term 600 (div binary32 (sub binary32 r old) (float 2))
+
+-- cost = (1 + L + W + D)²
+unfoldable pub cost : Float → Float → ℕ → ℕ → ℕ
+cost r old stretch word = let c = 1 + lineTerm r + wordTerm stretch word + ratioTerm r old in c * c

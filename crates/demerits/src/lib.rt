@@ -1,0 +1,1 @@
+// Demerits: what a break costs.

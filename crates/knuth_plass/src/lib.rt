@@ -1,0 +1,1 @@
+// Knuth-Plass: the optimal breaker.

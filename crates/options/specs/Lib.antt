@@ -1,0 +1,2 @@
+pub mod Opts
+pub mod OptionBlock

@@ -1,0 +1,1 @@
+// Output: writers of words, spaces and indents.

@@ -1,0 +1,1 @@
+// Quick: the greedy breaker.

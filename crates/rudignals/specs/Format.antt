@@ -1,0 +1,105 @@
+-- Document 01, "What is bought": from option block, notes and output slice to the answer. The digest is the pieces' outputs, joined.
+use mathlib.Core.Bool.{Bool, true, false, cond, _||_}
+use mathlib.Core.List.{List, [], _∷_, _++_}
+use Prim.Native.Nat.{ℕ, _+_}
+use lib.Dec.{leb, ltb}
+use lib.ListN.{length}
+use Rattle.lists.specs.Runs.{joined}
+use Rattle.text.specs.Characters.{damage}
+use Rattle.text.specs.declared.Found.{Found}
+use Rattle.text.specs.declared.Found.the-variants.{At, Nowhere}
+use Rattle.options.specs.Opts.{Opts, meant}
+use Rattle.options.specs.OptionBlock.{readBlock}
+use Rattle.options.specs.declared.Block.{Block}
+use Rattle.options.specs.declared.Block.the-variants.{Accepted, Fault}
+use Rattle.lines.specs.Lines.{Line}
+use Rattle.pieces.specs.Pieces.{Piece, Kind, blankLine, plainLine, paragraph, Paragraph, pieces}
+use Rattle.records.specs.Word.{Word}
+use Rattle.words.specs.Words.{wordsOf}
+use Rattle.spacing.specs.declared.Setting.{Setting}
+use Rattle.output.specs.Emission.{emit, lineFeed}
+use Rattle.quick.specs.Quick.{quickBreaks}
+use Rattle.knuth_plass.specs.KnuthPlass.{bestBreaks}
+use Rattle.rudignals.specs.Answers.{Answer, done, options, long, text, words, room}
+
+abbrev pub mostBytes : ℕ
+mostBytes = 65536
+
+abbrev pub mostWords : ℕ
+mostWords = 1024
+
+-- mail always counts as uniform and quick
+unfoldable pub settingOf : Opts → Paragraph → Setting
+settingOf o p = record {
+  width = o .width;
+  goal = o .goal;
+  tab = o .tab;
+  uniform = o .uniform || p .mail;
+  first = p .first .columns;
+  indent = p .indent .columns;
+}
+
+unfoldable pub breaksOf : Opts → Paragraph → List Word → List Bool
+breaksOf o p ws = elim (o .quick || p .mail) [ true ↦ quickBreaks (settingOf o p) ws | false ↦ bestBreaks (settingOf o p) ws ]
+
+unfoldable pub formatted : Opts → Paragraph → List ℕ
+formatted o p = let ws = wordsOf o p in emit (o .uniform || p .mail) (p .first .bytes) (p .indent .bytes) (breaksOf o p ws) ws
+
+-- a blank line emits an empty line; a plain line is emitted as it is with a line feed
+unfoldable pub outputOf : Opts → Kind → List ℕ
+outputOf o blankLine = lineFeed
+outputOf o (plainLine line) = line ++ lineFeed
+outputOf o (paragraph p) = formatted o p
+
+abbrev pub pieceOutput : Opts → Piece → List ℕ
+pieceOutput o piece = outputOf o (piece .kind)
+
+unfoldable pub digest : Opts → List ℕ → List ℕ
+digest o notes = joined (pieceOutput o) (pieces o notes)
+
+-- ---- a paragraph of over 1,024 words
+
+abbrev pub rawBytes : Line → List ℕ
+rawBytes l = l .raw
+
+-- the bytes of the notes that a piece takes
+unfoldable pub extentOf : Piece → List ℕ
+extentOf piece = joined rawBytes (piece .lines)
+
+abbrev pub tooMany : Opts → Kind → Bool
+tooMany o blankLine = false
+tooMany o (plainLine line) = false
+tooMany o (paragraph p) = ltb mostWords (length (wordsOf o p))
+
+-- the start of the first such paragraph's first line
+unfoldable pub longParagraph : Opts → ℕ → List Piece → Found
+longParagraph o place [] = Nowhere
+longParagraph o place (q ∷ qs) = elim (tooMany o (q .kind)) [ true ↦ At place | false ↦ longParagraph o (place + length (extentOf q)) qs ]
+
+-- ---- the answer: the lowest number wins
+
+abbrev pub withDigest : ℕ → List ℕ → Answer
+withDigest space bytes = cond (leb (length bytes) space) (done bytes) (room (length bytes))
+
+abbrev pub withWords : Opts → List ℕ → ℕ → Found → Answer
+withWords o notes space (At place) = words place
+withWords o notes space Nowhere = withDigest space (digest o notes)
+
+abbrev pub withText : Opts → List ℕ → ℕ → Found → Answer
+withText o notes space (At place) = text place
+withText o notes space Nowhere = withWords o notes space (longParagraph o 0 (pieces o notes))
+
+-- keep on: damaged lines are plain lines
+abbrev pub damageIn : Opts → List ℕ → Found
+damageIn o notes = elim (o .keep) [ true ↦ Nowhere | false ↦ damage notes ]
+
+abbrev pub withNotes : Opts → List ℕ → ℕ → Answer
+withNotes o notes space = elim (ltb mostBytes (length notes)) [ true ↦ long | false ↦ withText o notes space (damageIn o notes) ]
+
+abbrev pub withBlock : List ℕ → List ℕ → ℕ → Block → Answer
+withBlock block notes space (Fault place) = options place
+withBlock block notes space (Accepted o) = withNotes (meant block o) notes space
+
+-- the answer to a call with an output slice of so many bytes
+unfoldable pub answer : List ℕ → List ℕ → ℕ → Answer
+answer block notes space = withBlock block notes space (readBlock block)

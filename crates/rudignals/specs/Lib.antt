@@ -1,0 +1,5 @@
+pub mod Answers
+pub mod Format
+pub mod Computing
+pub mod MarkedTexts
+pub mod WorkedExample

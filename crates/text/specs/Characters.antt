@@ -1,0 +1,72 @@
+-- Document 01, "Characters and lines": accepted characters, damaged places, blanks and widths. A glyph is what stands at a place of a
+-- line, with all that later sections ask of it; they look at glyphs alone.
+use mathlib.Core.Bool.{Bool, true, false, cond, not, _&&_, _||_}
+use mathlib.Core.List.{List, [], _∷_}
+use Prim.Native.Nat.{ℕ, _+_, _-_}
+use lib.Dec.{leb, eqb}
+use lib.ListN.{length, take}
+use Rattle.lists.specs.Walk.{each}
+use Rattle.lists.specs.Runs.{while, every}
+use Rattle.text.specs.Rfc3629.{Front, front, nothing, decode}
+use Rattle.text.specs.declared.Found.{Found}
+use Rattle.text.specs.declared.Found.the-variants.{At, Nowhere}
+
+-- U+0000 to U+02FF except U+00AD
+unfoldable pub accepted : ℕ → Bool
+accepted c = leb c 0x2FF && not (eqb c 0xAD)
+
+-- an accepted character at the front of a list
+abbrev pub onlyAccepted : Front → Front
+onlyAccepted (front c n) = cond (accepted c) (front c n) nothing
+onlyAccepted nothing = nothing
+
+unfoldable pub character : List ℕ → Front
+character xs = onlyAccepted (decode xs)
+
+-- blanks: U+0009 to U+000D, U+0020, U+0085, U+00A0; with glue on, U+00A0 is an ordinary character
+unfoldable pub blankCode : Bool → ℕ → Bool
+blankCode glue c = leb 9 c && leb c 13 || eqb c 0x20 || eqb c 0x85 || eqb c 0xA0 && not glue
+
+-- each accepted character has width 1
+unfoldable pub widthOf : ℕ → ℕ
+widthOf c = 1
+
+pub record Glyph : Type 0 where
+  -- its bytes, as they stand in the line
+  pub bytes : List ℕ
+  -- the character's number; U+FFFD of a damaged byte
+  pub code : ℕ
+  -- no accepted character begins here
+  pub damaged : Bool
+  pub blank : Bool
+  pub width : ℕ
+
+abbrev pub isTab : Glyph → Bool
+isTab g = eqb (g .code) 9
+
+-- the glyph at the front of a list; a damaged one has one byte
+abbrev pub glyphAs : Bool → List ℕ → Front → Glyph
+glyphAs glue xs (front c n) = record { bytes = take n xs; code = c; damaged = false; blank = blankCode glue c; width = widthOf c }
+glyphAs glue xs nothing = record { bytes = take 1 xs; code = 0xFFFD; damaged = true; blank = false; width = 1 }
+
+unfoldable pub glyph : Bool → List ℕ → Glyph
+glyph glue xs = glyphAs glue xs (character xs)
+
+-- a text as its glyphs, read from the front
+unfoldable pub glyphs : Bool → List ℕ → List Glyph
+glyphs glue = each (λ xs. length (glyph glue xs .bytes) - 1) (glyph glue)
+
+abbrev pub isBlank : Glyph → Bool
+isBlank g = g .blank
+
+abbrev pub isGood : Glyph → Bool
+isGood g = not (g .damaged)
+
+-- how many bytes glyphs have
+unfoldable pub extent : List Glyph → ℕ
+extent [] = 0
+extent (g ∷ gs) = length (g .bytes) + extent gs
+
+-- the damaged place of a text: the first byte at which no accepted character begins
+unfoldable pub damage : List ℕ → Found
+damage xs = let gs = glyphs false xs in cond (every isGood gs) Nowhere (At (extent (while isGood gs)))

@@ -1,0 +1,3 @@
+pub mod Rfc3629
+pub mod Characters
+pub mod Places

@@ -1,0 +1,17 @@
+-- How the code's answers at a place mean what stands at the front of the text from there on.
+use mathlib.Core.Bool.{cond}
+use Prim.Native.Nat.{ℕ, _+_}
+use lib.ListN.{length}
+use Rattle.text.specs.Rfc3629.{Front, front, nothing}
+use Rattle.text.specs.Characters.{Glyph}
+use Rattle.text.specs.declared.Char.{Char}
+use Rattle.text.specs.declared.Char.the-variants.{Good, Damaged}
+use Rattle.text.specs.declared.Glyph.{Glyph as Seen}
+use Rattle.text.specs.declared.Glyph.the-variants.{Ink, Blank, Damaged as Broken}
+
+abbrev pub readAs : ℕ → Front → Char
+readAs at (front c n) = Good c (at + n)
+readAs at nothing = Damaged
+
+unfoldable pub seenAs : ℕ → Glyph → Seen
+seenAs at g = let next = at + length (g .bytes) in cond (g .damaged) Broken (cond (g .blank) (Blank (g .code) next) (Ink (g .code) next))

@@ -1,0 +1,1 @@
+// Words: a paragraph's word records.

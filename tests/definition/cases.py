@@ -1,0 +1,128 @@
+"""What the Rust does not have, by hand from document 01's words: refusals, keep and glue.
+
+Each case: option block, notes, length of the output slice (which holds `.` before the call), code, N, output afterwards (bytes, or
+SAME: unchanged, or ZERO: all zero).
+"""
+
+SAME, ZERO = "same", "zero"
+
+
+def field(tag, value):
+    return bytes([tag, len(value) >> 8, len(value) & 255]) + value
+
+
+def number(tag, n):
+    return field(tag, bytes([n >> 8, n & 255]))
+
+
+def flags(*bits):
+    return number(1, sum(1 << b for b in bits))
+
+
+UNIFORM, KEEP, GLUE = 4, 8, 9
+keep, glue = flags(KEEP), flags(GLUE)
+
+
+def faulty(block, place):
+    return (block, b"a\n", 4, 1, place, SAME)
+
+
+def accepted(block):
+    return (block, b"a\n", 4, 0, 2, b"a\n..")
+
+
+def damaged(notes, place):
+    return (b"", notes, 3, 3, place, SAME)
+
+
+def kept(block, notes, out):
+    return (block, notes, len(out) + 1, 0, len(out), out + b".")
+
+
+CASES = [
+    # 1: unknown tags
+    faulty(b"\0\0\0", 0),
+    faulty(field(7, b""), 0),
+    faulty(number(2, 20) + field(9, b"x"), 5),
+    # 1: wrong order, a repeated tag: the later field is at fault
+    faulty(number(2, 20) + flags(), 5),
+    faulty(flags() + flags(), 5),
+    faulty(field(6, b"x") + field(5, b"x"), 4),
+    # 1: cut short, in the tag's, the length's and the value's bytes
+    faulty(b"\x02", 0),
+    faulty(b"\x02\0", 0),
+    faulty(b"\x02\0\x02", 0),
+    faulty(b"\x02\0\x02\0", 0),
+    faulty(flags() + b"\x02\0\x02\0", 5),
+    faulty(flags() + b"\x05\0\x02x", 5),
+    # 1: bad length, bad value
+    faulty(field(2, b"\x14"), 0),
+    faulty(field(2, b"\0\x14\0"), 0),
+    faulty(flags(10), 0),
+    faulty(flags(15), 0),
+    faulty(number(2, 0), 0),
+    faulty(number(2, 1001), 0),
+    faulty(number(3, 0), 0),
+    faulty(number(3, 1001), 0),
+    faulty(number(4, 101), 0),
+    faulty(field(5, b"\xb0"), 0),
+    faulty(field(6, b"a\xc2\xad"), 0),
+    faulty(field(5, b"x" * 256), 0),
+    accepted(field(6, b"x" * 255)),
+    accepted(number(4, 0)),
+    accepted(number(4, 100)),
+    accepted(flags(0, 1, 2, 3, 4, 5, 6, 7, 8, 9)),
+    # 1: width and goal; the place is the block's length
+    faulty(number(2, 5), 5),
+    accepted(number(2, 6)),
+    accepted(number(2, 1000)),
+    faulty(number(3, 2), 5),
+    accepted(number(3, 3)),
+    accepted(number(3, 940)),
+    faulty(number(3, 941), 5),
+    faulty(number(2, 10) + number(3, 11), 10),
+    faulty(number(2, 10) + number(3, 4), 10),
+    accepted(number(2, 10) + number(3, 5)),
+    accepted(number(2, 1) + number(3, 1)),
+    faulty(flags() + number(2, 5) + number(4, 8), 15),
+    # 2: notes over 65,536 bytes; a faulty block comes before
+    (b"", b"a" * 65537, 3, 2, 0, SAME),
+    (b"\x02", b"a" * 65537, 3, 1, 0, SAME),
+    # 3: the first byte at which no accepted character begins
+    damaged(b"\xb0", 0),
+    damaged(b"a\n\xb0", 2),
+    damaged(b"\xc2\xad", 0),
+    damaged(b"ab\xcc\x80", 2),
+    damaged(b"\xc0\x80", 0),
+    damaged(b"\xe0\x80\x80", 0),
+    damaged(b"a\xc3", 1),
+    damaged(b"a\xc3\nb", 1),
+    damaged(b"\xed\xa0\x80", 0),
+    damaged(b"\xe2\x82\xac", 0),
+    damaged(b"\xf5\x80\x80\x80", 0),
+    damaged(b"\x80", 0),
+    damaged(b"\xff", 0),
+    damaged(b"\xcb\xbf\xcc\x80", 2),
+    # keep: a damaged line is plain, up to its line end
+    kept(keep, b"\xb0", b"\xb0\n"),
+    kept(keep, b"a\xb0\r\nb", b"a\xb0\nb\n"),
+    kept(keep, b"\xb0\r", b"\xb0\r\n"),
+    kept(keep, b"a\nb\n\xb0  x \nc\nd\n", b"a b\n\xb0  x \nc d\n"),
+    kept(keep, b"a\xc3\nb\n", b"a\xc3\nb\n"),
+    kept(keep, b"\xc2\xad\n\xe2\x82\xac\n", b"\xc2\xad\n\xe2\x82\xac\n"),
+    # glue: U+00A0 is an ordinary character
+    kept(flags(UNIFORM), b"4.2\xc2\xa0K\n", b"4.2 K\n"),
+    kept(flags(UNIFORM, GLUE), b"4.2\xc2\xa0K\n", b"4.2\xc2\xa0K\n"),
+    kept(b"", b"\xc2\xa0\n", b"\n"),
+    kept(glue, b"\xc2\xa0\n", b"\xc2\xa0\n"),
+    kept(glue, b"\xc2\xa0a\n\xc2\xa0b\n", b"\xc2\xa0a \xc2\xa0b\n"),
+    # 4: a paragraph of over 1,024 words, the start of its first line; it comes before 5
+    (flags(UNIFORM), b"x\n\n" + b"a " * 1025, 0, 4, 3, ZERO),
+    (flags(UNIFORM), b"x\n\n" + b"a " * 1025, 9, 4, 3, ZERO),
+    # 5: the length needed; a slice that is just full
+    (b"", b"abc\n", 3, 5, 4, ZERO),
+    (b"", b"abc\n", 0, 5, 4, ZERO),
+    (b"", b"abc\n", 4, 0, 4, b"abc\n"),
+    (b"", b"", 0, 0, 0, b""),
+    (b"", b"\xb0", 0, 3, 0, SAME),
+]
