@@ -1,284 +1,14 @@
-//! The cases: options and notes, made from a seed by a generator of our own, so
-//! that the same cases come out on every machine. All lie in the domain that
-//! document 01 accepts.
+//! The cases: options and notes. Fixed lists of telling ones, streams of random
+//! ones, and the list whose answers are committed.
 
 use crate::options::*;
+use crate::texts::*;
 use std::collections::HashSet;
 
 pub struct Case {
     pub opts: Opts,
     pub notes: String,
 }
-
-/// SplitMix64: short, and the same everywhere.
-pub struct Rng(pub u64);
-
-impl Rng {
-    fn next(&mut self) -> u64 {
-        self.0 = self.0.wrapping_add(0x9e37_79b9_7f4a_7c15);
-        let z = (self.0 ^ (self.0 >> 30)).wrapping_mul(0xbf58_476d_1ce4_e5b9);
-        let z = (z ^ (z >> 27)).wrapping_mul(0x94d0_49bb_1331_11eb);
-        z ^ (z >> 31)
-    }
-
-    pub fn below(&mut self, n: usize) -> usize {
-        (self.next() % n as u64) as usize
-    }
-
-    fn chance(&mut self, percent: usize) -> bool {
-        self.below(100) < percent
-    }
-
-    fn pick<'a>(&mut self, from: &[&'a str]) -> &'a str {
-        from[self.below(from.len())]
-    }
-}
-
-// ---------------------------------------------------------------- options
-
-const PREFIXES: &[&str] = &[
-    "", " ", "\t", ">", "> ", " >", ">>", "a", "a.", "To:", "é", "éa", "\u{a0}", "\u{85}", "\u{a0}>",
-    "\0", "\n", "\r",
-];
-
-/// Width and goal by every way of giving them, goals up to about `most`.
-fn measure(r: &mut Rng, opts: &mut Opts, most: usize) {
-    let goal = 1 + r.below(most);
-    let (width, goal) = match r.below(12) {
-        0 => (None, None),
-        1 => (Some(6 + r.below(most)), None),
-        2 => (None, Some(3 + r.below(most))),
-        3 => (Some(goal + r.below(2)), Some(goal)),
-        4 => (Some(2 * goal), Some(goal)),
-        5 => [
-            (Some(6), None),
-            (Some(1000), None),
-            (None, Some(3)),
-            (None, Some(940)),
-            (Some(1), Some(1)),
-            (Some(2), Some(1)),
-            (Some(1000), Some(500)),
-            (Some(1000), Some(1000)),
-        ][r.below(8)],
-        _ => (Some(goal + r.below(goal + 1)), Some(goal)),
-    };
-    opts.width = width.map(|n| n as u16);
-    opts.goal = goal.map(|n| n as u16);
-}
-
-pub fn random_options(r: &mut Rng, most: usize) -> Opts {
-    let mut opts = Opts::default();
-    measure(r, &mut opts, most);
-    if r.chance(40) {
-        opts.tab = Some([0, 1, 2, 3, 4, 5, 8, 100, r.below(101) as u16][r.below(9)]);
-    }
-    if r.chance(25) {
-        opts.prefix = Some(r.pick(PREFIXES).to_string());
-    }
-    if r.chance(15) {
-        opts.skip = Some(r.pick(PREFIXES).to_string());
-    }
-    let mut flags = 0;
-    for (flag, percent) in [
-        (CROWN, 15),
-        (TAGGED, 15),
-        (MAIL, 15),
-        (SPLIT, 8),
-        (UNIFORM, 35),
-        (QUICK, 33),
-        (EXACT, 15),
-        (EXACT_SKIP, 15),
-        (KEEP, 10),
-        (GLUE, 10),
-    ] {
-        if r.chance(percent) {
-            flags |= flag;
-        }
-    }
-    if flags != 0 || r.chance(10) {
-        opts.flags = Some(flags);
-    }
-    opts
-}
-
-// ---------------------------------------------------------------- texts
-
-/// Few symbols that meet every rule: letter, punctuation, blanks of one and two
-/// bytes, tab, line ends, prefix and colon, a character of two bytes.
-const HOSTILE: &[&str] = &["a", "b", ".", " ", " ", "\t", "\n", "\n", "\r", "\u{a0}", "\u{85}", ">", ":", "é"];
-const BLANKS: &[&str] = &[" ", " ", " ", "\t", "\t", "\u{b}", "\u{c}", "\r", "\u{85}", "\u{a0}", "\u{a0}"];
-const ODD: &[&str] = &[
-    "\0", "\u{8}", "\u{e}", "\u{1f}", "\u{7f}", "\u{80}", "\u{84}", "\u{86}", "\u{9f}", "\u{a1}", "\u{ac}",
-    "\u{ae}", "é", "ÿ", "\u{100}", "\u{2ff}", "'", "\"", ")", ".", "!", "?", ":", ">",
-];
-const PUNCT: &[&str] = &[".", ".", ".", "?", "!", ",", ":", ".)", "..."];
-const HEADERS: &[&str] = &["To: ", "From ", "From: ", "Subject:", "X-A: ", ":", "a b: ", "é: ", "From", "!~: "];
-
-/// A text of so many symbols, each as likely as the next.
-pub fn hostile(r: &mut Rng, symbols: usize) -> String {
-    (0..symbols).map(|_| r.pick(HOSTILE)).collect()
-}
-
-fn blanks(r: &mut Rng, most: usize) -> String {
-    (0..r.below(most + 1)).map(|_| r.pick(BLANKS)).collect()
-}
-
-fn gap(r: &mut Rng) -> String {
-    match r.below(10) {
-        0 => r.pick(BLANKS).to_string() + &blanks(r, 3),
-        1 => "  ".to_string(),
-        2 => "\t".to_string(),
-        _ => " ".to_string(),
-    }
-}
-
-fn word(r: &mut Rng) -> String {
-    let letters = if r.chance(15) { 1 + r.below(14) } else { 1 + r.below(6) };
-    let mut word = String::new();
-    for _ in 0..letters {
-        if r.chance(4) {
-            word += r.pick(ODD);
-        } else {
-            word.push((b'a' + r.below(26) as u8) as char);
-        }
-    }
-    if r.chance(20) {
-        word += r.pick(PUNCT);
-    }
-    word
-}
-
-/// How a line begins: indent, prefix and what follows it, skip prefix.
-fn lead(r: &mut Rng, opts: &Opts) -> String {
-    let mut lead = match r.below(6) {
-        0 => blanks(r, 3),
-        1 => "  ".to_string(),
-        2 => "\t".to_string(),
-        _ => String::new(),
-    };
-    if let (Some(prefix), true) = (&opts.prefix, r.chance(85)) {
-        lead += prefix;
-        lead += &blanks(r, 2);
-    }
-    if let (Some(skip), true) = (&opts.skip, r.chance(25)) {
-        lead += skip;
-    }
-    lead
-}
-
-/// Lines of random words, of at least so many bytes, that fit the options:
-/// lines that join, that begin with the prefix, that look like mail.
-pub fn random_text(r: &mut Rng, opts: &Opts, bytes: usize) -> String {
-    let mut text = String::new();
-    let mut start = lead(r, opts);
-    let mut header_due = true;
-    while text.len() < bytes {
-        if r.chance(8) {
-            text += &blanks(r, 2);
-            header_due = true;
-        } else {
-            if r.chance(35) {
-                start = lead(r, opts);
-            }
-            if opts.has(MAIL) && header_due && r.chance(70) {
-                text += r.pick(HEADERS);
-                start = " ".to_string();
-            } else {
-                text += &start;
-                header_due = false;
-            }
-            for n in 0..1 + r.below(2 + bytes.min(120) / 15) {
-                if n > 0 {
-                    text += &gap(r);
-                }
-                text += &word(r);
-            }
-            if r.chance(10) {
-                text += &blanks(r, 2);
-            }
-        }
-        text += ["\n", "\n", "\n", "\n", "\n", "\n", "\n", "\r\n", "\r\n", "\r\r\n"][r.below(10)];
-    }
-    if r.chance(20) {
-        text.pop();
-    }
-    text
-}
-
-const WORDS: &[&str] = &[
-    "a", "I", "an", "at", "be", "by", "in", "is", "it", "no", "of", "on", "or", "to", "up", "we", "all", "and",
-    "are", "but", "did", "for", "had", "has", "her", "how", "its", "log", "new", "not", "now", "off", "one", "out",
-    "run", "set", "she", "the", "too", "two", "was", "who", "back", "been", "both", "cold", "down", "each", "from",
-    "gate", "hour", "into", "left", "line", "loss", "made", "more", "next", "note", "only", "pump", "read", "room",
-    "same", "seen", "site", "some", "than", "that", "then", "they", "this", "time", "unit", "very", "when", "will",
-    "with", "work", "after", "again", "alarm", "begun", "below", "check", "clear", "drift", "early", "every",
-    "fault", "found", "green", "limit", "meter", "night", "panel", "point", "power", "probe", "reset", "right",
-    "shift", "since", "stage", "third", "under", "until", "value", "valve", "water", "which", "change", "column",
-    "cooler", "during", "higher", "normal", "notice", "number", "output", "record", "sensor", "signal", "stable",
-    "supply", "switch", "system", "archive", "between", "cabinet", "channel", "evening", "failure", "machine",
-    "morning", "network", "nothing", "reading", "regular", "station", "through", "voltage", "building", "computer",
-    "constant", "operator", "pressure", "recorded", "returned", "threshold", "afterwards", "calibrated", "controller",
-    "inspection", "temperature", "replacement", "acknowledged", "twenty-three", "high-pressure", "uninterruptible",
-    "résumé", "Zürich", "naïve", "4.2\u{a0}K", "12\u{a0}bar", "e.g.", "approx.",
-];
-
-/// Sentences in lines of about `columns`, each line begun by `first` or `next`.
-fn paragraph(r: &mut Rng, columns: usize, first: &str, next: &str) -> String {
-    let mut text = String::new();
-    let mut line = first.to_string();
-    for _ in 0..1 + r.below(6) {
-        let words = 3 + r.below(14);
-        for n in 1..=words {
-            let mut word = r.pick(WORDS).to_string();
-            if n == words {
-                word += r.pick(&[".", ".", ".", ".", "?", "!", "...", ".\""]);
-                if r.chance(40) {
-                    word += " ";
-                }
-            } else if r.chance(8) {
-                word += ",";
-            }
-            if line.chars().count() + word.len() > columns {
-                text += line.trim_end_matches(' ');
-                text += "\n";
-                line = next.to_string();
-            }
-            line += &word;
-            line += if r.chance(2) { "\t" } else { " " };
-        }
-    }
-    text + line.trim_end_matches(' ') + "\n"
-}
-
-/// Notes as people write them, of at least so many bytes: paragraphs, lists,
-/// quotations, mail headers.
-pub fn prose(r: &mut Rng, opts: &Opts, bytes: usize) -> String {
-    let prefix = opts.prefix.clone().unwrap_or_default();
-    let mut text = String::new();
-    if opts.has(MAIL) {
-        text += "From the station\nTo: the operator of the night shift and all who\n\tread this\nSubject: alarms\n\n";
-    }
-    while text.len() < bytes {
-        let columns = 20 + r.below(70);
-        let (first, next) = match r.below(8) {
-            0 => ("- ", "  "),
-            1 => ("\t", ""),
-            2 => ("    ", "  "),
-            3 => ("> ", "> "),
-            4 => ("  ", "  "),
-            _ => ("", ""),
-        };
-        let next = prefix.clone() + next;
-        text += &paragraph(r, columns, &(prefix.clone() + first), &next);
-        text += if r.chance(85) { "\n" } else { "" };
-    }
-    if r.chance(10) {
-        text = text.replace('\n', "\r\n");
-    }
-    text
-}
-
-// ---------------------------------------------------------------- lists
 
 fn opts(flags: u16, width: u16, goal: u16) -> Opts {
     let some = |n| if n == 0 { None } else { Some(n) };
@@ -319,8 +49,73 @@ pub fn trials() -> Vec<(Opts, &'static str, &'static str)> {
     ]
 }
 
+/// Short texts on which a near miss of the Knuth-Plass rules shows: flags,
+/// width, goal, notes. They were found by changing one rule of the original at
+/// a time and searching for the shortest text that came out differently.
+const TELLING: &[(u16, u16, u16, &str)] = &[
+    // Among equal offers the first stands.
+    (0, 7, 6, "aa\nb. c d\neee ff"),
+    (0, 8, 4, "a b c ddd eeeeeeee"),
+    (0, 7, 4, "a b c ddd eeeee fff"),
+    // A restart is from the first least break.
+    (0, 7, 4, "a b c dd eeeeeeee"),
+    (0, 6, 4, "a b c dd\neeeeee fff"),
+    (0, 10, 9, "a bbbbbb c ddddd eeeee"),
+    // The end takes the first least break.
+    (0, 6, 4, "a b\nc d"),
+    (0, 7, 6, "aa bb c dd"),
+    (0, 10, 8, "aaaaa b c d"),
+    // A restart never breaks before a fresh line's word; its ratio is 1 or -1.
+    (0, 2, 2, "a b ccccc"),
+    (0, 7, 4, "aaaaaa bb c dd ee"),
+    (0, 8, 4, "aaaaaaa bb c ddd e"),
+    (0, 5, 4, "aa\nbbb ccc d e"),
+    (UNIFORM, 9, 7, "aaa bbbbbbb ccc.\nd e"),
+    (UNIFORM, 8, 6, "aaa bbbb. cccc dd eee"),
+    // The sentence mark in the fit test.
+    (0, 6, 3, "a b.\nc"),
+    (0, 4, 3, "aa\nb.\nc"),
+    (0, 9, 8, "aa bbb.\nc"),
+    (UNIFORM, 8, 6, "aaa b.  cc d"),
+    // The factors 100, 300 and 600, their truncation, the 1 and the cubes.
+    (0, 10, 5, "aa bb\ncc. d"),
+    (0, 11, 6, "aaa bb\nccc dd"),
+    (0, 16, 8, "a bbb c ddddddd eee"),
+    (0, 17, 9, "aa bbb ccccccccc ddd"),
+    (0, 14, 7, "aa bb c dddddd eeee"),
+    (0, 14, 8, "aa bb ccccccc.\ndddd."),
+    (UNIFORM, 15, 9, "a b cc dddddddd ee ffff"),
+    (0, 17, 11, "aa bbbb\nc ddd eeeee."),
+    (0, 22, 12, "aaaaaaaa\nb c ddddddddd."),
+    (0, 6, 3, "a b ccc d eee"),
+    (0, 8, 4, "a bb cccc d ee"),
+    (0, 10, 6, "aa bb ccc d"),
+];
+
+/// Where a term in f32 differs from the exact one, and the break with it:
+/// width, goal, lengths of the words. W at stretch 450 and 468; D at stretch
+/// 210, 420 and 467.
+const F32: &[(u16, u16, &[usize])] = &[
+    (900, 450, &[3, 2, 1, 892]),
+    (936, 468, &[1, 211, 170, 552]),
+    (420, 210, &[99, 331, 1, 27, 59]),
+    (840, 420, &[150, 700, 1, 19, 118]),
+    (934, 467, &[435, 509, 1, 2, 420]),
+];
+
+fn telling() -> Vec<Case> {
+    let short = TELLING.iter().map(|&(flags, width, goal, notes)| {
+        (opts(flags, width, goal), notes.to_string())
+    });
+    let long = F32.iter().map(|&(width, goal, lengths)| {
+        let words: Vec<String> = lengths.iter().map(|&length| "a".repeat(length)).collect();
+        (opts(0, width, goal), words.join(" "))
+    });
+    short.chain(long).map(|(opts, notes)| Case { opts, notes }).collect()
+}
+
 /// Every boundary of document 01, each under a few texts that reach it.
-pub fn boundaries() -> Vec<Case> {
+fn boundaries() -> Vec<Case> {
     let mut cases = Vec::new();
     let mut add = |opts: &Opts, texts: &[&str]| {
         for text in texts {
@@ -329,19 +124,23 @@ pub fn boundaries() -> Vec<Case> {
     };
 
     let texts = &[
-        "a", "aaaaaaa bb\n", "a b c d e f g\n", "aa. bbb\ncc  d. e\n", "a\tb\t\tc\n", "\ta\n\tb c\n", "  a bb ccc\n  d\n",
-        "a\r\nb\r\nc\r", "a\u{85}b \u{85}c\n", "a.\u{a0}b.\u{a0}\u{a0}c\n", "ab abc ab abc abcd a ab\n", "éé é ÿÿÿ ē ˿ ēē\n",
+        "a", "aaaaaaa bb\n", "a b c d e f g\n", "aa. bbb\ncc  d. e\n", "a\tb\t\tc\n",
+        "\ta\n\tb c\n", "  a bb ccc\n  d\n", "a\r\nb\r\nc\r", "a\u{85}b \u{85}c\n",
+        "a.\u{a0}b.\u{a0}\u{a0}c\n", "ab abc ab abc abcd a ab\n", "éé é ÿÿÿ ē ˿ ēē\n",
     ];
     for (width, goal) in [
-        (6, 0), (7, 0), (1000, 0), (0, 3), (0, 4), (0, 940), (1, 1), (2, 1), (2, 2), (4, 2), (5, 3), (5, 5), (6, 3),
-        (6, 5), (6, 6), (941, 941), (1000, 500), (1000, 1000),
+        (6, 0), (7, 0), (1000, 0), (0, 3), (0, 4), (0, 940), (1, 1), (2, 1), (2, 2), (4, 2), (5, 3),
+        (5, 5), (6, 3), (6, 5), (6, 6), (941, 941), (1000, 500), (1000, 941), (1000, 1000),
     ] {
         add(&opts(0, width, goal), texts);
         add(&opts(QUICK, width, goal), texts);
         add(&opts(UNIFORM, width, goal), &texts[3..7]);
     }
 
-    let texts = &["a\tb", "a \t b\t \tcc\n", "\ta \tb\n\tc\n", " \ta\n\tb\n", "ab.\tc\td e\tf\tg\n", "\t\ta\tb c\td e\n"];
+    let texts = &[
+        "a\tb", "a \t b\t \tcc\n", "\ta \tb\n\tc\n", " \ta\n\tb\n", "ab.\tc\td e\tf\tg\n",
+        "\t\ta\tb c\td e\n",
+    ];
     for tab in [0, 1, 2, 7, 8, 100] {
         for flags in [0, QUICK, UNIFORM, CROWN] {
             add(&Opts { tab: Some(tab), ..opts(flags, 12, 9) }, texts);
@@ -360,30 +159,48 @@ pub fn boundaries() -> Vec<Case> {
             "a\n\nb".to_string(),
         ];
         let texts: Vec<&str> = lines.iter().map(|line| &line[..]).collect();
-        for (flags, width, goal) in [(0, 0, 0), (EXACT | EXACT_SKIP, 0, 0), (QUICK, 6, 0), (CROWN, 8, 5), (MAIL, 0, 0)] {
+        for (flags, width, goal) in
+            [(0, 0, 0), (EXACT | EXACT_SKIP, 0, 0), (QUICK, 6, 0), (CROWN, 8, 5), (MAIL, 0, 0)]
+        {
             let none = opts(flags, width, goal);
             add(&Opts { prefix: Some(prefix.to_string()), ..none.clone() }, &texts);
             add(&Opts { skip: Some(prefix.to_string()), ..none }, &texts[..4]);
         }
     }
 
+    // Lines that agree in all but the prefix place, or all but the prefix length
+    // or the indent length.
     let texts = &[
-        "To: a b c\n d e\n\tf\n", "From a\nb: c\n\nd\n", "a b: c\nd\n", "A:\n\nB: c\n d\n", ":a\n b\n", "é: a\n b\n",
-        "A: \u{a0}é  b.  c\n x.\n y\n", "x\nA: b\n c\n", "A: b\nx\nB: c\n", "~!: a\nFrom\n From b\n",
+        "\u{a0}\u{a0}>  a\n  >\u{a0}\u{a0}b\n  >\u{a0}\u{a0}c\n", " >\ta\n\t>\tb\n\t>\tc\n",
+        "\t>\ta\n\t>\tb\n >\tc\n", "> \ta\n>\t b\n>\t c\n", ">\t a\n>\t b\n> \tc\n",
+        ">\u{a0} a\n>   b\n>   c\n", ">\ta\n> b\n> c\n",
+    ];
+    for flags in [0, CROWN, TAGGED] {
+        add(&Opts { tab: Some(2), ..with_prefix(flags, ">") }, texts);
+    }
+
+    let texts = &[
+        "To: a b c\n d e\n\tf\n", "From a\nb: c\n\nd\n", "a b: c\nd\n", "A:\n\nB: c\n d\n",
+        ":a\n b\n", "é: a\n b\n", "A: \u{a0}é  b.  c\n x.\n y\n", "x\nA: b\n c\n",
+        "A: b\nx\nB: c\n d\n", "~!: a\nFrom\n From b\n", "\u{7f}: a\n b\n", "> x\nA: b\n c\n",
+        " A: b\n c\n", "A: bb.  c ddd. e\n",
     ];
     for flags in [0, UNIFORM, CROWN, TAGGED, SPLIT, GLUE] {
         add(&opts(MAIL | flags, 7, 4), texts);
     }
     add(&with_prefix(MAIL, ""), texts);
     add(&with_prefix(MAIL, "A"), texts);
+    add(&Opts { skip: Some(">".to_string()), ..opts(MAIL, 0, 0) }, texts);
 
     let texts = &[
-        "  a\n    b\n    c\n  d\n", "a\n  b\nc\n", "- a b\n  c d\n- e f\n", "\ta b\n        c\n", "a\n\u{a0}b\n c\n",
-        "  a bb c dd\n", "    a\n a\n a\n", "\ta\n\tb\n",
+        "  a\n    b\n    c\n  d\n", "a\n  b\nc\n", "- a b\n  c d\n- e f\n", "\ta b\n        c\n",
+        "a\n\u{a0}b\n c\n", "  a bb c dd\n", "    a\n a\n a\n", "\ta\n\tb\n",
     ];
-    for flags in [CROWN, TAGGED, CROWN | TAGGED, TAGGED | SPLIT, CROWN | SPLIT, TAGGED | QUICK, TAGGED | UNIFORM] {
-        add(&opts(flags, 9, 6), texts);
+    for flags in [0, CROWN, SPLIT, QUICK, UNIFORM] {
+        add(&opts(TAGGED | flags, 9, 6), texts);
     }
+    add(&opts(CROWN, 9, 6), texts);
+    add(&opts(CROWN | SPLIT, 9, 6), texts);
     cases
 }
 
@@ -398,25 +215,98 @@ fn limits() -> Vec<Case> {
         case(opts(0, 1, 1), "a ".repeat(1024)),
         case(opts(UNIFORM, 6, 3), "ab. c\n".repeat(512)),
         case(opts(QUICK, 1000, 0), "abcd ef\n".repeat(512)),
+        case(opts(QUICK, 0, 940), "a ".repeat(1002)),
+        case(opts(0, 0, 940), "abc ".repeat(600)),
+        case(opts(QUICK, 0, 62), "a ".repeat(72)),
+        case(opts(QUICK, 0, 63), "a ".repeat(72)),
+        case(opts(0, 72, 0), "ab ".repeat(60)),
+        case(opts(0, 100, 0), "ab ".repeat(80)),
+        case(opts(QUICK, 0, 0), "a ".repeat(82)),
+        case(opts(0, 0, 0), "a ".repeat(82)),
         case(Opts { width: Some(6), ..with_prefix(0, &long) }, long.clone() + &" ab".repeat(40)),
         case(opts(0, 0, 0), blank_lines),
     ]
 }
 
+/// The symbols of the exhaustive texts.
+const SYMBOLS: [&str; 8] = ["a", ".", " ", "\n", "\t", "\r", "\u{a0}", ":"];
+
+/// Every text of up to so many symbols, under each of some narrow option sets.
+pub fn exhaustive(symbols: u32) -> impl Iterator<Item = Case> {
+    let mut sets = Vec::new();
+    for flags in [0, UNIFORM, QUICK, CROWN, TAGGED, MAIL] {
+        for (width, goal) in [(1, 1), (2, 1), (3, 2), (4, 2), (6, 4)] {
+            sets.push(opts(flags, width, goal));
+        }
+    }
+    for prefix in ["", "a", " ", ":"] {
+        sets.push(Opts { prefix: Some(prefix.to_string()), ..opts(MAIL, 4, 3) });
+        sets.push(Opts { skip: Some(prefix.to_string()), ..opts(SPLIT, 4, 3) });
+    }
+    let base = SYMBOLS.len();
+    sets.into_iter().flat_map(move |opts| {
+        (0..=symbols).flat_map(move |length| {
+            let opts = opts.clone();
+            // The symbols of a text are the digits of its number.
+            (0..base.pow(length)).map(move |number| Case {
+                opts: opts.clone(),
+                notes: (0..length).map(|place| SYMBOLS[number / base.pow(place) % base]).collect(),
+            })
+        })
+    })
+}
+
+/// Random cases without end: short and middling, narrow and wide.
+pub fn random(seed: u64) -> impl Iterator<Item = Case> {
+    let mut r = Rng(seed);
+    std::iter::from_fn(move || {
+        let short = r.chance(75);
+        let opts = random_options(&mut r, if short { 12 } else { 40 });
+        let size = 1 + r.below(if short { 60 } else { 400 });
+        let notes = match r.below(3) {
+            0 => hostile(&mut r, size),
+            1 => plain_words(&mut r),
+            _ => random_text(&mut r, &opts, size),
+        };
+        Some(Case { opts, notes })
+    })
+}
+
+/// Prose without end.
+pub fn proses(seed: u64) -> impl Iterator<Item = Case> {
+    let mut r = Rng(seed);
+    std::iter::from_fn(move || {
+        let opts = random_options(&mut r, 90);
+        let size = 100 + r.below(4000);
+        let notes = prose(&mut r, &opts, size);
+        Some(Case { opts, notes })
+    })
+}
+
 /// The committed list: the smallest first.
 pub fn vectors(seed: u64) -> Vec<Case> {
     let mut r = Rng(seed);
-    let mut cases: Vec<Case> =
-        trials().into_iter().map(|(opts, notes, _)| Case { opts, notes: notes.to_string() }).collect();
+    let trial = |(opts, notes, _): (_, &str, _)| Case { opts, notes: notes.to_string() };
+    let mut cases: Vec<Case> = trials().into_iter().map(trial).collect();
+    cases.extend(telling());
     cases.extend(boundaries());
     cases.extend(limits());
-    for _ in 0..1000 {
+    for _ in 0..800 {
         let opts = random_options(&mut r, 8);
         let symbols = 3 + r.below(14);
         let notes = hostile(&mut r, symbols);
         cases.push(Case { opts, notes });
     }
-    for (count, most, least, spread) in [(1200, 12, 8, 32), (360, 30, 80, 200), (40, 60, 300, 300)] {
+    for _ in 0..300 {
+        let mut opts = Opts::default();
+        measure(&mut r, &mut opts, 20);
+        opts.flags = if r.chance(25) { Some(UNIFORM) } else { None };
+        let notes = plain_words(&mut r);
+        cases.push(Case { opts, notes });
+    }
+    for (count, most, least, spread) in
+        [(1000, 12, 8, 32), (330, 30, 80, 200), (40, 60, 300, 300)]
+    {
         for _ in 0..count {
             let opts = random_options(&mut r, most);
             let bytes = least + r.below(spread);
@@ -436,28 +326,4 @@ pub fn vectors(seed: u64) -> Vec<Case> {
     cases.retain(|case| seen.insert((case.opts.block(), case.notes.clone())));
     cases.sort_by_key(|case| case.notes.len());
     cases
-}
-
-/// The symbols of the exhaustive part of the comparison.
-pub const SYMBOLS: [&str; 8] = ["a", ".", " ", "\n", "\t", "\r", "\u{a0}", ":"];
-
-/// The text of that length whose symbols are the digits of the number.
-pub fn short_text(number: usize, length: u32) -> String {
-    let base = SYMBOLS.len();
-    (0..length).map(|place| SYMBOLS[number / base.pow(place) % base]).collect()
-}
-
-/// The option sets under which every short text is run.
-pub fn exhaustive_options() -> Vec<Opts> {
-    let mut sets = Vec::new();
-    for flags in [0, UNIFORM, QUICK, CROWN, TAGGED, MAIL] {
-        for (width, goal) in [(1, 1), (2, 1), (3, 2), (4, 2), (6, 4)] {
-            sets.push(opts(flags, width, goal));
-        }
-    }
-    for prefix in ["", "a", " ", ":"] {
-        sets.push(Opts { prefix: Some(prefix.to_string()), ..opts(MAIL, 4, 3) });
-        sets.push(Opts { skip: Some(prefix.to_string()), ..opts(SPLIT, 4, 3) });
-    }
-    sets
 }

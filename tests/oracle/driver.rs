@@ -2,16 +2,19 @@
 //!
 //!     oracle fmt [--build powf|cube] [OPTIONS]  format standard input
 //!     oracle vectors                            print the committed list anew
+//!     oracle cases exhaustive SYMBOLS           print more of the same form
+//!     oracle cases random|prose SEED COUNT
 //!     oracle check                              the fast checks of the self-test
 //!     oracle compare [SEED]                     powf against the cube, by texts
 //!     oracle terms                              powf against the cube, by terms
 
 mod cases;
 mod options;
+mod texts;
 
-use cases::{Case, Rng};
+use cases::Case;
 use options::*;
-use std::io::{self, Read, Write};
+use std::io::{self, BufWriter, Read, Write};
 use std::process::exit;
 
 /// The seed of everything random here.
@@ -68,9 +71,12 @@ fn answer(case: &Case) -> Vec<u8> {
 /// paragraph are counted generously, from blank line to blank line.
 fn assert_accepted(case: &Case) {
     let opts = &case.opts;
-    let measure = fmt_cube::options(opts.args());
-    assert!(measure.goal <= measure.width && measure.width <= 2 * measure.goal && measure.width <= 1000);
+    let fmt_cube::FmtOptions { width, goal, .. } = fmt_cube::options(opts.args());
+    assert!(goal <= width && width <= 2 * goal && width <= 1000);
     assert!(opts.goal.is_some() || opts.width.map_or(true, |width| width >= 6));
+    assert!(opts.flags.map_or(true, |flags| flags < 1 << 10));
+    assert!(opts.tab.map_or(true, |tab| tab <= 100));
+    assert!(opts.prefix.iter().chain(&opts.skip).all(|prefix| prefix.len() <= 255));
     for text in [&case.notes].into_iter().chain(&opts.prefix).chain(&opts.skip) {
         assert!(text.chars().all(|c| c <= '\u{2ff}' && c != '\u{ad}') && !text.contains(STAND_IN));
     }
@@ -90,79 +96,66 @@ fn hex(bytes: &[u8]) -> String {
     }
 }
 
-fn vectors() {
-    let mut list = String::new();
-    for case in cases::vectors(SEED) {
-        let (block, notes, output) = (case.opts.block(), case.notes.as_bytes(), answer(&case));
-        list += &format!("{} {} {}\n", hex(&block), hex(notes), hex(&output));
+/// Prints one line for each case: option block, notes, output.
+fn print_answers(cases: impl Iterator<Item = Case>) {
+    let mut out = BufWriter::new(io::stdout());
+    for case in cases {
+        let (block, output) = (case.opts.block(), answer(&case));
+        writeln!(out, "{} {} {}", hex(&block), hex(case.notes.as_bytes()), hex(&output)).unwrap();
     }
-    io::stdout().write_all(list.as_bytes()).unwrap();
+}
+
+fn print_cases(kind: &str, args: &[String]) {
+    let number = |n: usize| match args.get(n).map(|arg| arg.parse::<u64>()) {
+        Some(Ok(number)) => number,
+        _ => fail("usage: oracle cases exhaustive SYMBOLS | random SEED COUNT | prose SEED COUNT"),
+    };
+    match kind {
+        "exhaustive" => print_answers(cases::exhaustive(number(0) as u32)),
+        "random" => print_answers(cases::random(number(0)).take(number(1) as usize)),
+        "prose" => print_answers(cases::proses(number(0)).take(number(1) as usize)),
+        _ => fail(&format!("no cases of kind {kind}")),
+    }
 }
 
 // ---------------------------------------------------------------- powf against the cube
 
-/// Cases run under both builds, and how many were answered differently.
-#[derive(Default)]
-struct Tally {
-    cases: u64,
-    differ: u64,
-}
-
-impl Tally {
-    fn run(&mut self, opts: &Opts, builds: &(Build, Build), notes: &str) {
-        let shown = opts.shown(notes);
+/// Runs the cases under both builds; prints and answers how many differ.
+fn compare(name: &str, cases: impl Iterator<Item = Case>) -> u64 {
+    let (mut all, mut differ) = (0, 0);
+    let mut block = Opts::default().block();
+    let mut builds = both(&Opts::default());
+    for case in cases {
+        let opts = &case.opts;
+        // Cases in a row often share their options.
+        if block != opts.block() {
+            block = opts.block();
+            builds = both(opts);
+        }
+        let shown = opts.shown(&case.notes);
         let (one, other) = (builds.0(shown.as_bytes()), builds.1(shown.as_bytes()));
-        self.cases += 1;
+        all += 1;
         if one != other {
-            self.differ += 1;
-            let (block, notes) = (opts.block(), notes.as_bytes());
-            println!("differ: {} {} powf {} cube {}", hex(&block), hex(notes), hex(&one), hex(&other));
+            differ += 1;
+            let [block, notes] = [&block, shown.as_bytes()].map(hex);
+            println!("differ: {block} {notes} powf {} cube {}", hex(&one), hex(&other));
         }
     }
-
-    fn report(&self, name: &str) -> u64 {
-        println!("{name}: {} cases, {} differ", self.cases, self.differ);
-        self.differ
-    }
+    println!("{name}: {all} cases, {differ} differ");
+    differ
 }
 
 fn both(opts: &Opts) -> (Build, Build) {
     (powf(opts.args()), cube(opts.args()))
 }
 
-/// Every text of up to `symbols` symbols, `random` random texts, `prose` notes
-/// as people write them; answers how many differ.
-fn compare(seed: u64, symbols: u32, random: usize, prose: usize) -> u64 {
-    let mut exhaustive = Tally::default();
-    for opts in cases::exhaustive_options() {
-        let builds = both(&opts);
-        for length in 0..=symbols {
-            for number in 0..cases::SYMBOLS.len().pow(length) {
-                exhaustive.run(&opts, &builds, &cases::short_text(number, length));
-            }
-        }
-    }
-
-    let mut r = Rng(seed);
-    let mut texts = Tally::default();
-    for n in 0..random {
-        let opts = cases::random_options(&mut r, if n % 4 == 0 { 40 } else { 10 });
-        let size = 1 + r.below(if n % 4 == 0 { 400 } else { 60 });
-        let notes = if n % 2 == 0 {
-            cases::random_text(&mut r, &opts, size)
-        } else {
-            cases::hostile(&mut r, size)
-        };
-        texts.run(&opts, &both(&opts), &notes);
-    }
-
-    let mut notes = Tally::default();
-    for _ in 0..prose {
-        let opts = cases::random_options(&mut r, 90);
-        let size = 100 + r.below(4000);
-        notes.run(&opts, &both(&opts), &cases::prose(&mut r, &opts, size));
-    }
-    exhaustive.report("exhaustive") + texts.report("random") + notes.report("prose")
+/// All kinds of cases: every text of up to so many symbols, so many random
+/// ones, so much prose, and the committed list.
+fn compare_all(seed: u64, symbols: u32, random: usize, prose: usize) -> u64 {
+    compare("exhaustive", cases::exhaustive(symbols))
+        + compare("random", cases::random(seed).take(random))
+        + compare("prose", cases::proses(seed).take(prose))
+        + compare("vectors", cases::vectors(SEED).into_iter())
 }
 
 /// The terms under a cost: cost = (1 + L + W + D)^2.
@@ -190,7 +183,8 @@ fn terms() -> u64 {
         let ratio = |delta: isize| if delta == 0 { 0f32 } else { delta as f32 / stretch as f32 };
         for delta in -stretch..=stretch {
             let new = ratio(delta);
-            let (one, other) = (powf(delta, stretch, stretch, new), cube(delta, stretch, stretch, new));
+            let one = powf(delta, stretch, stretch, new);
+            let other = cube(delta, stretch, stretch, new);
             assert!(one.1 == new && other.1 == new);
             let (one, other) = (terms_sum(one.0), terms_sum(other.0));
             count(0, [stretch, delta, 0], new, one, other);
@@ -245,7 +239,8 @@ fn check() {
         checks.that(demerits(0, 0, 1, 1.0).0 == 76 * 76, "cost without stretch");
     }
     widths(&mut checks);
-    checks.that(compare(SEED, 4, 20_000, 200) == 0, "powf against the cube");
+    differences(&mut checks);
+    checks.that(compare_all(SEED, 4, 20_000, 200) == 0, "powf against the cube");
     println!("checks: {}", checks.0);
 }
 
@@ -256,21 +251,46 @@ fn widths(checks: &mut Checks) {
     for c in ('\0'..='\u{2ff}').filter(|c| !c.is_whitespace() && *c != '\u{ad}') {
         let fits = format!("{c}{c}{c} aa\n");
         let over = format!("{c}{c}{c} aaa\n");
-        checks.that(format(fits.as_bytes()) == fits.as_bytes(), &format!("{c:?} is not too wide"));
-        checks.that(format(over.as_bytes()) != over.as_bytes(), &format!("{c:?} is not too narrow"));
+        checks.that(format(fits.as_bytes()) == fits.as_bytes(), &format!("{c:?} is too wide"));
+        checks.that(format(over.as_bytes()) != over.as_bytes(), &format!("{c:?} is too narrow"));
     }
 }
 
+/// What docs/DIFFERENCES.md says of the original outside the accepted domain.
+fn differences(checks: &mut Checks) {
+    let run = |args: &str, notes: &[u8]| {
+        cube(args.split_whitespace().map(|arg| arg.to_string()).collect())(notes)
+    };
+    checks.that(run("", b"a\n\xb0 b\nc\n") == b"a\n", "the original stops at a damaged line");
+    for (width, goal) in [("1", 0), ("2", 1), ("3", 0), ("4", 1), ("5", 2)] {
+        let options = fmt_cube::options(vec!["-w".to_string(), width.to_string()]);
+        checks.that(options.goal == goal, &format!("the goal of width {width} alone"));
+    }
+    let words = b"aa b cc d ee f\n";
+    checks.that(run("-w 2", words) == b"aa\nb\ncc\nd\nee\nf\n", "width 2 alone");
+    checks.that(run("-w 5", words) == b"aa b\ncc d\nee f\n", "width 5 alone");
+    checks.that(run("-g 2", words) == b"aa b\ncc d\nee f\n", "goal 2 alone");
+    checks.that(run("-w 10 -g 4", words) == b"aa b cc d\nee f\n", "width over twice the goal");
+    checks.that(run("-w 2000 -T 101", words) == words, "width over 1,000, tab over 100");
+    let long = vec![b'a'; 65_537];
+    checks.that(run("", &long).len() == 65_538, "notes over 65,536 bytes");
+    let many = b"a ".repeat(1025);
+    checks.that(run("-w 1 -g 1", &many) == b"a\n".repeat(1025), "1,025 words");
+}
+
 fn main() {
-    let mut args: Vec<String> = std::env::args().skip(1).collect();
-    let command = if args.is_empty() { String::new() } else { args.remove(0) };
-    let seed = args.first().and_then(|seed| seed.parse().ok()).unwrap_or(SEED);
-    match &command[..] {
-        "fmt" => format(args),
-        "vectors" => vectors(),
-        "check" => check(),
-        "compare" => exit((compare(seed, 6, 2_000_000, 40_000) != 0) as i32),
-        "terms" => exit((terms() != 0) as i32),
-        _ => fail("usage: oracle fmt|vectors|check|compare|terms"),
+    let args: Vec<String> = std::env::args().skip(1).collect();
+    let seed = |arg: Option<&String>| arg.map_or(Some(SEED), |seed| seed.parse().ok());
+    match args.iter().map(|arg| &arg[..]).collect::<Vec<_>>()[..] {
+        ["fmt", ..] => format(args[1..].to_vec()),
+        ["vectors"] => print_answers(cases::vectors(SEED).into_iter()),
+        ["cases", kind, ..] => print_cases(kind, &args[2..]),
+        ["check"] => check(),
+        ["compare", ..] => {
+            let seed = seed(args.get(1)).unwrap_or_else(|| fail("the seed is a number"));
+            exit((compare_all(seed, 6, 2_000_000, 40_000) != 0) as i32)
+        }
+        ["terms"] => exit((terms() != 0) as i32),
+        _ => fail("usage: see the head of driver.rs"),
     }
 }

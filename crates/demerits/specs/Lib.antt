@@ -1,1 +1,3 @@
 pub mod Demerits
+pub mod Bounds
+pub mod Examples

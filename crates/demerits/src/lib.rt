@@ -1,1 +1,144 @@
-// Demerits: what a break costs.
+// Demerits: what a break after a word costs, in f32 with each operation rounded.
+ghost use mathlib.Core.Path.{_≡_};
+ghost use Prim.Native.Nat.{_+_, _*_, _≤_, _<_};
+ghost use lib.Dec.{T};
+ghost use lib.Ieee.{binary32, mul};
+ghost use Rattle.demerits.specs.Bounds as B;
+ghost use Rattle.demerits.specs.Demerits as S;
+
+// The weight of L: a line far from its goal.
+const LINE_WEIGHT: u16 = 100;
+
+// The weight of W: a line that ends in a short word.
+const WORD_WEIGHT: u16 = 300;
+
+// The weight of D: a line with a ratio unlike that of the line before.
+const RATIO_WEIGHT: u16 = 600;
+
+// What a break after a word offers.
+pub struct Offer {
+    pub cost: u64,
+    pub ratio: f32,
+}
+
+// A count of columns as a float. It goes by u16, which the machine converts in one step.
+fn float(n: usize) -> f32
+    requires { ⌜ n < 65536 ⌝ }
+    ensures { λ r. ⌜ r ≡ S.float n ⌝ }
+{
+    (n as u16) as f32
+}
+
+// x without its sign.
+fn abs(x: f32) -> f32
+    ensures { λ r. ⌜ r ≡ S.abs x ⌝ }
+{
+    if x < 0.0 {
+        return -x;
+    }
+    if x == 0.0 {
+        return 0.0;
+    }
+    x
+}
+
+// The first power of eight above x. Most values are small: by eights they are met after few comparisons.
+fn power_above(x: f32) -> u16
+    requires { ⌜ T (B.upTo B.most x) ⌝ }
+    ensures { λ r. ⌜ (S.whole x < r) × (r ≤ 8 * S.whole x + 1) ⌝ }
+{
+    let mut power: u16 = 1;
+    while power as f32 <= x {
+        power *= 8;
+    }
+    power
+}
+
+// The whole part of x, by comparing with whole numbers made floats.
+pub fn trunc(x: f32) -> u16
+    requires { ⌜ T (B.upTo B.most x) ⌝ }
+    ensures { λ r. ⌜ r ≡ S.whole x ⌝ }
+{
+    let mut high = power_above(x);
+    let mut low = high / 8;
+    while high - low > 1 {
+        let middle = low + (high - low) / 2;
+        if middle as f32 <= x {
+            low = middle;
+        } else {
+            high = middle;
+        }
+    }
+    low
+}
+
+// The whole part of k * |cube(x)|, where cube(x) is (x * x) * x.
+fn term(k: u16, x: f32) -> u16
+    requires { ⌜ T (B.upTo B.most (mul binary32 (S.float k) (S.abs (S.cube x)))) ⌝ }
+    ensures { λ r. ⌜ r ≡ S.term k x ⌝ }
+{
+    trunc((k as f32) * abs(x * x * x))
+}
+
+// How far a line of t columns is from the goal, as a part of the stretch: above 0 where it is short, below 0 where it is long.
+pub fn ratio(goal: usize, t: usize, stretch: usize) -> f32
+    requires { ⌜ (goal ≤ t + stretch) × (t ≤ goal + stretch) × (stretch ≤ 1000) ⌝ }
+    ensures { λ r. ⌜ (r ≡ S.ratio goal t stretch) × T (B.within 1 r) ⌝ }
+{
+    if t == goal {
+        return 0.0;
+    }
+    if t < goal {
+        return float(goal - t) / float(stretch);
+    }
+    (-float(t - goal)) / float(stretch)
+}
+
+// L, for the line's ratio r.
+pub fn line_term(r: f32) -> u16
+    requires { ⌜ T (B.within 1 r) ⌝ }
+    ensures { λ l. ⌜ (l ≡ S.lineTerm r) × (l ≤ 100) ⌝ }
+{
+    term(LINE_WEIGHT, r)
+}
+
+// W, for the width of the line's last word. At a stretch of 1 nothing is divided by 0, whatever the word.
+pub fn word_term(stretch: usize, word: usize) -> u16
+    requires { ⌜ (stretch ≤ 1000) × (1 ≤ word) ⌝ }
+    ensures { λ w. ⌜ (w ≡ S.wordTerm stretch word) × (w ≤ 300) ⌝ }
+{
+    if stretch <= word || stretch <= 1 {
+        return 0;
+    }
+    term(WORD_WEIGHT, float(stretch - word) / float(stretch - 1))
+}
+
+// D, for the line's ratio r and that of the line before.
+pub fn ratio_term(r: f32, old: f32) -> u16
+    requires { ⌜ T (B.within 1 r) × T (B.within 1 old) ⌝ }
+    ensures { λ d. ⌜ (d ≡ S.ratioTerm r old) × (d ≤ 600) ⌝ }
+{
+    term(RATIO_WEIGHT, (r - old) / 2.0)
+}
+
+// The cost of a break after a word of a line with the ratio r, where the line before has the ratio old.
+pub fn cost(r: f32, old: f32, stretch: usize, word: usize) -> u64
+    requires { ⌜ T (B.within 1 r) × T (B.within 1 old) × (stretch ≤ 1000) × (1 ≤ word) ⌝ }
+    ensures { λ c. ⌜ (c ≡ S.cost r old stretch word) × (c ≤ B.mostCost) ⌝ }
+{
+    let sum = 1 + line_term(r) + word_term(stretch, word) + ratio_term(r, old);
+    let wide = sum as u64;
+    wide * wide
+}
+
+// What a break offers behind a word that brings its line to t columns, no farther than the stretch from the goal.
+pub fn compute_demerits(goal: usize, t: usize, stretch: usize, word: usize, old: f32) -> Offer
+    requires { ⌜ (goal ≤ t + stretch) × (t ≤ goal + stretch) × (stretch ≤ 1000) × (1 ≤ word) × T (B.within 1 old) ⌝ }
+    ensures { λ o. ⌜ B.Offered goal t stretch word old (o .cost) (o .ratio) ⌝ }
+{
+    let r = ratio(goal, t, stretch);
+    Offer {
+        cost: cost(r, old, stretch, word),
+        ratio: r,
+    }
+}

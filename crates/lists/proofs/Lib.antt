@@ -1,2 +1,5 @@
 pub mod Walk
 pub mod Views
+pub mod Runs
+pub mod Pieces
+pub mod Slices

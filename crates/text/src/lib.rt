@@ -1,8 +1,9 @@
 // Characters: what stands at a place of a line. RFC 3629 decides decoding; document 01 says which characters are accepted.
 ghost use mathlib.Core.Path.{_≡_};
-ghost use lib.ListN.{drop};
+ghost use Prim.Native.Nat.{_≤_, _<_, _^_};
+ghost use lib.ListN.{getD, drop};
 ghost use Rattle.text.specs.Rfc3629.{decode};
-ghost use Rattle.text.specs.Characters.{character, blankCode, widthOf, glyph, damage};
+ghost use Rattle.text.specs.Characters.{accepted, character, blankCode, widthOf, glyph, damage};
 ghost use Rattle.text.specs.Places.{readAs, seenAs};
 
 // A place, or none.
@@ -22,4 +23,196 @@ pub enum Glyph {
     Ink { code: u32, next: usize },
     Blank { code: u32, next: usize },
     Damaged,
+}
+
+// The character at a place, by RFC 3629. A byte below 0x80 is one by itself.
+pub fn decode_at(s: &[u8], at: usize) -> Char
+    ensures { λ r. ⌜ r ≡ readAs at (decode (drop at (now (s .entry)))) ⌝ }
+{
+    if s.len() <= at {
+        return Char::Damaged;
+    }
+    let a = s[at];
+    if a < 0x80 {
+        return Char::Good {
+            code: wide(a),
+            next: at + 1,
+        };
+    }
+    // It continues a character, or begins two bytes for what one byte spells.
+    if a < 0xC2 {
+        return Char::Damaged;
+    }
+    let rest = &s[at..];
+    if a < 0xE0 {
+        return two(rest, at);
+    }
+    if a < 0xF0 {
+        return three(rest, at);
+    }
+    four(rest, at)
+}
+
+// The longer forms, at the front of what is left of a text; `at` is the place of that front. A byte that continues a character
+// is 10xxxxxx: b / 64 is 2, and b % 64 has its free bits.
+
+// 110xxxxx 10xxxxxx
+fn two(t: &[u8], at: usize) -> Char
+    requires { ⌜ (at < 2 ^ 63) × (0xC2 ≤ getD (now t) 0 0) × (getD (now t) 0 0 < 0xE0) ⌝ }
+    ensures { λ r. ⌜ r ≡ readAs at (decode (now (t .entry))) ⌝ }
+{
+    let a = octet(t, 0);
+    let b = octet(t, 1);
+    if b / 64 != 2 {
+        return Char::Damaged;
+    }
+    Char::Good {
+        code: a % 32 * 64 + b % 64,
+        next: at + 2,
+    }
+}
+
+// 1110xxxx 10xxxxxx 10xxxxxx
+fn three(t: &[u8], at: usize) -> Char
+    requires { ⌜ (at < 2 ^ 63) × (0xE0 ≤ getD (now t) 0 0) × (getD (now t) 0 0 < 0xF0) ⌝ }
+    ensures { λ r. ⌜ r ≡ readAs at (decode (now (t .entry))) ⌝ }
+{
+    let a = octet(t, 0);
+    let b = octet(t, 1);
+    let c = octet(t, 2);
+    if b / 64 != 2 {
+        return Char::Damaged;
+    }
+    if c / 64 != 2 {
+        return Char::Damaged;
+    }
+    let code = a % 16 * 4096 + b % 64 * 64 + c % 64;
+    // Two bytes would do.
+    if code < 0x800 {
+        return Char::Damaged;
+    }
+    // A surrogate is no character.
+    if 0xD800 <= code && code <= 0xDFFF {
+        return Char::Damaged;
+    }
+    Char::Good { code, next: at + 3 }
+}
+
+// 11110xxx 10xxxxxx 10xxxxxx 10xxxxxx
+fn four(t: &[u8], at: usize) -> Char
+    requires { ⌜ (at < 2 ^ 63) × (0xF0 ≤ getD (now t) 0 0) ⌝ }
+    ensures { λ r. ⌜ r ≡ readAs at (decode (now (t .entry))) ⌝ }
+{
+    let a = octet(t, 0);
+    let b = octet(t, 1);
+    let c = octet(t, 2);
+    let d = octet(t, 3);
+    // No character begins with more.
+    if 0xF4 < a {
+        return Char::Damaged;
+    }
+    if b / 64 != 2 {
+        return Char::Damaged;
+    }
+    if c / 64 != 2 {
+        return Char::Damaged;
+    }
+    if d / 64 != 2 {
+        return Char::Damaged;
+    }
+    let code = a % 8 * 262144 + b % 64 * 4096 + c % 64 * 64 + d % 64;
+    // Three bytes would do.
+    if code < 0x10000 {
+        return Char::Damaged;
+    }
+    if 0x10FFFF < code {
+        return Char::Damaged;
+    }
+    Char::Good { code, next: at + 4 }
+}
+
+// The byte at a place; past the end 0, which continues no character.
+fn octet(t: &[u8], at: usize) -> u32
+    ensures { λ r. ⌜ r ≡ getD (now (t .entry)) at 0 ⌝ }
+{
+    if at < t.len() { wide(t[at]) } else { 0 }
+}
+
+// A cast that needs no proof where it is used.
+fn wide(b: u8) -> u32
+    ensures { λ r. ⌜ r ≡ b ⌝ }
+{
+    b as u32
+}
+
+// The accepted character at a place.
+pub fn char_at(s: &[u8], at: usize) -> Char
+    ensures { λ r. ⌜ r ≡ readAs at (character (drop at (now (s .entry)))) ⌝ }
+{
+    let Char::Good { code, next } = decode_at(s, at) else {
+        return Char::Damaged;
+    };
+    if is_accepted(code) {
+        Char::Good { code, next }
+    } else {
+        Char::Damaged
+    }
+}
+
+// U+0000 to U+02FF except U+00AD, the soft hyphen.
+fn is_accepted(code: u32) -> bool
+    ensures { λ r. ⌜ r ≡ accepted code ⌝ }
+{
+    code <= 0x2FF && code != 0xAD
+}
+
+// Whether a character separates words. With glue on, U+00A0 does not.
+pub fn is_blank(code: u32, glue: bool) -> bool
+    ensures { λ r. ⌜ r ≡ blankCode glue code ⌝ }
+{
+    match code {
+        9..=13 | 0x20 | 0x85 => true,
+        0xA0 => !glue,
+        _ => false,
+    }
+}
+
+// How many columns an accepted character takes: so far each takes one.
+pub fn width(code: u32) -> usize
+    ensures { λ r. ⌜ r ≡ widthOf code ⌝ }
+{
+    1
+}
+
+// The character at a place, for all that formatting asks of it.
+pub fn glyph_at(s: &[u8], at: usize, glue: bool) -> Glyph
+    ensures { λ r. ⌜ r ≡ seenAs at (glyph glue (drop at (now (s .entry)))) ⌝ }
+{
+    let Char::Good { code, next } = char_at(s, at) else {
+        return Glyph::Damaged;
+    };
+    if is_blank(code, glue) {
+        Glyph::Blank { code, next }
+    } else {
+        Glyph::Ink { code, next }
+    }
+}
+
+// The first place at which no accepted character begins.
+pub fn first_damage(s: &[u8]) -> Found
+    ensures { λ r. ⌜ r ≡ damage (now (s .entry)) ⌝ }
+{
+    let mut i = 0;
+    while i < s.len() {
+        // Every byte below 0x80 is an accepted character.
+        if s[i] < 0x80 {
+            i += 1;
+        } else {
+            let Char::Good { code: _, next } = char_at(s, i) else {
+                return Found::At(i);
+            };
+            i = next;
+        }
+    }
+    Found::Nowhere
 }

@@ -1,0 +1,35 @@
+-- The bounds that the contracts of `demerits` promise, and what an offered break's cost and ratio are.
+use mathlib.Core.Bool.{Bool, true, false}
+use mathlib.Core.Path.{_≡_}
+use Prim.Native.Nat.{ℕ, _*_, _≤_}
+use lib.Dec.{T, leb}
+use lib.Ieee.{Float, nan, inf, fin, up, down}
+use Rattle.demerits.specs.Demerits.{ratio, cost}
+
+-- the greatest value that is ever truncated: the weight of D
+abbrev pub most : ℕ
+most = 600
+
+-- the greatest cost: (1 + 100 + 300 + 600)²
+abbrev pub mostCost : ℕ
+mostCost = 1002001
+
+-- x is finite and |x| ≤ n
+abbrev pub within : ℕ → Float → Bool
+within n nan = false
+within n (inf s) = false
+within n (fin s m e) = leb (m * up e) (n * down e)
+
+-- x is finite, has no sign, and x ≤ n
+abbrev pub upTo : ℕ → Float → Bool
+upTo n nan = false
+upTo n (inf s) = false
+upTo n (fin true m e) = false
+upTo n (fin false m e) = leb (m * up e) (n * down e)
+
+-- what a break after a word offers, where the line before has the ratio old: the cost c and the line's own ratio r
+pub record Offered (goal t stretch word : ℕ) (old : Float) (c : ℕ) (r : Float) : Type 0 where
+  pub ratio-is : r ≡ ratio goal t stretch
+  pub cost-is : c ≡ cost (ratio goal t stretch) old stretch word
+  pub ratio-small : T (within 1 r)
+  pub cost-small : c ≤ mostCost

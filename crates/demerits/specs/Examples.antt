@@ -1,0 +1,37 @@
+-- Document 01's worked example, and two values that f32 gives and exact arithmetic does not (49 and 298).
+use mathlib.Core.Path.{_≡_, refl}
+use mathlib.Core.Bool.{true}
+use lib.IntN.{pos}
+use lib.Ieee.{fin, sub, div, mul, ofInt}
+use Rattle.demerits.specs.Bounds.{mostCost}
+use Rattle.demerits.specs.Demerits.{noRatio, ratio, term, lineTerm, wordTerm, ratioTerm, cost}
+
+-- goal 74, stretch 5, t 70, word 3, old ratio 0: 51, 37, 38, cost 16,129
+example-line : lineTerm (ratio 74 70 5) ≡ 51
+unfolding ratio term ofInt div mul
+example-line = refl
+
+example-word : wordTerm 5 3 ≡ 37
+unfolding wordTerm term ofInt div mul
+example-word = refl
+
+example-ratio : ratioTerm (ratio 74 70 5) noRatio ≡ 38
+unfolding ratio term ofInt sub div mul
+example-ratio = refl
+
+example-cost : cost (ratio 74 70 5) noRatio 5 3 ≡ 16129
+unfolding ratio cost wordTerm term ofInt sub div mul
+example-cost = refl
+
+rounded-up : wordTerm 468 211 ≡ 50
+unfolding wordTerm term ofInt div mul
+rounded-up = refl
+
+rounded-down : wordTerm 450 2 ≡ 297
+unfolding wordTerm term ofInt div mul
+rounded-down = refl
+
+-- the greatest cost is reached: a line as short as may be, behind one as long as may be, ending in a word of width 1
+greatest : cost (ratio 74 69 5) (fin true 1 (pos 0)) 5 1 ≡ mostCost
+unfolding ratio cost wordTerm term ofInt sub div mul
+greatest = refl

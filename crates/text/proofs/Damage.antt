@@ -1,0 +1,102 @@
+-- The damaged place of a text, from any place that it is read from; and what it says of the text's glyphs.
+use mathlib.Core.Path.{_≡_, refl, sym, ap, _∙_}
+use mathlib.Core.Bool.{Bool, true, false, cond}
+use mathlib.Core.List.{List, [], _∷_}
+use Prim.Native.Nat.{ℕ, _+_, _-_, _≤_, _<_}
+use native.Mathlib.Omega.{arith}
+use lib.ListN.{length, drop, length-drop}
+use Rattle.lists.specs.Runs.{while, every}
+use Rattle.lists.proofs.Runs.{while-more, while-end, every-more, every-end}
+use Rattle.text.specs.Characters.{Glyph, glyph, glyphs, isGood, extent, damage}
+use Rattle.text.specs.declared.Found.{Found}
+use Rattle.text.specs.declared.Found.the-variants.{At, Nowhere}
+use Rattle.text.proofs.Glyphs.{Here, DamagedHere, Bytes, glyphs-past, glyphs-induct}
+use Rattle.text.proofs.Glue.{every-good}
+
+-- a place counted from i, counted from the front
+abbrev pub later : ℕ → Found → Found
+later i (At n) = At (i + n)
+later i Nowhere = Nowhere
+
+pub later-zero : (f : Found) → later 0 f ≡ f
+later-zero (At n) = ap At (omega arith)
+later-zero Nowhere = refl
+
+later-later : (i n : ℕ) (f : Found) → later i (later n f) ≡ later (i + n) f
+later-later i n (At k) = ap At (omega arith)
+later-later i n Nowhere = refl
+
+-- the damaged place by the glyphs
+damageOf : List Glyph → Found
+damageOf gs = cond (every isGood gs) Nowhere (At (extent (while isGood gs)))
+
+none-damaged : damageOf [] ≡ Nowhere
+unfolding damageOf every
+none-damaged = refl
+
+first-damaged : (g : Glyph) (gs : List Glyph) → g .damaged ≡ true → damageOf (g ∷ gs) ≡ At 0
+unfolding damageOf extent
+first-damaged g gs h = let e : isGood g ≡ false = rw h in rw (every-end isGood g gs e, while-end isGood g gs e)
+
+first-good : (g : Glyph) (gs : List Glyph) → g .damaged ≡ false → damageOf (g ∷ gs) ≡ later (length (g .bytes)) (damageOf gs)
+unfolding damageOf extent
+first-good g gs h = let e : isGood g ≡ true = rw h in rw (every-more isGood g gs e, while-more isGood g gs e) (pick (every isGood gs))
+  where
+    pick : (t : Bool) → cond t Nowhere (At (length (g .bytes) + extent (while isGood gs))) ≡ later (length (g .bytes)) (cond t Nowhere (At (extent (while isGood gs))))
+    pick true = refl
+    pick false = refl
+
+damage-glyphs : (xs : List ℕ) → damage xs ≡ damageOf (glyphs false xs)
+unfolding damage damageOf
+damage-glyphs xs = refl
+
+module _ (s : List ℕ) (at : ℕ) where
+  pub damage-past : length s ≤ at → later at (damage (drop at s)) ≡ Nowhere
+  damage-past h = rw (damage-glyphs (drop at s), glyphs-past false s at h, none-damaged)
+
+  pub damage-here : DamagedHere false s at → later at (damage (drop at s)) ≡ At at
+  damage-here b = rw (damage-glyphs (drop at s), b .first, first-damaged (glyph false (drop at s)) (glyphs false (drop (at + 1) s)) (b .isDamaged)) (ap At (omega arith))
+
+  pub damage-on : {t : Bool} {code next : ℕ} → Here false t s at code next → later at (damage (drop at s)) ≡ later next (damage (drop next s))
+  damage-on {t} {code} {next} g =
+      let e : at + (next - at) ≡ next = omega arith in
+      rw (
+        damage-glyphs (drop at s),
+        g .first,
+        first-good (glyph false (drop at s)) (glyphs false (drop next s)) (g .isGood),
+        g .count,
+        later-later at (next - at) (damageOf (glyphs false (drop next s))),
+        e,
+        ← damage-glyphs (drop next s),
+      )
+
+-- no damaged place: every glyph is good, with glue and without
+pub damage-none : (glue : Bool) (xs : List ℕ) → damage xs ≡ Nowhere → every isGood (glyphs glue xs) ≡ true
+unfolding damage
+damage-none glue xs h = every-good glue false xs ∙ pick (every isGood (glyphs false xs)) h
+  where
+    pick : (t : Bool) → cond t Nowhere (At (extent (while isGood (glyphs false xs)))) ≡ Nowhere → t ≡ true
+    pick true e = refl
+    pick false e = cc
+
+-- a damaged place is one of the text
+good-before : (xs : List ℕ) → every isGood (glyphs false xs) ≡ false → extent (while isGood (glyphs false xs)) < length xs
+unfolding every extent
+good-before = glyphs-induct false (λ ys gs. every isGood gs ≡ false → extent (while isGood gs) < length ys) (λ e. absurd (let z : _≡_ {A = ℕ} 0 1 = cc in omega arith)) more
+  where
+    pick : (g : Glyph) (gs : List Glyph) (m k : ℕ) (t : Bool) → isGood g ≡ t → 1 ≤ m → m ≤ k → length (g .bytes) ≡ m → (every isGood gs ≡ false → extent (while isGood gs) < k - m)
+        → every isGood (g ∷ gs) ≡ false → extent (while isGood (g ∷ gs)) < k
+    pick g gs m k true t h l c rest e = rw (while-more isGood g gs t) (let r = rest (sym (every-more isGood g gs t) ∙ e) in omega arith)
+    pick g gs m k false t h l c rest e = rw (while-end isGood g gs t) (omega arith)
+
+    more : (ys : List ℕ) (b : Bytes false ys) → (every isGood (glyphs false (drop (b .n) ys)) ≡ false → extent (while isGood (glyphs false (drop (b .n) ys))) < length (drop (b .n) ys))
+        → every isGood (glyph false ys ∷ glyphs false (drop (b .n) ys)) ≡ false → extent (while isGood (glyph false ys ∷ glyphs false (drop (b .n) ys))) < length ys
+    more ys b rest = pick (glyph false ys) (glyphs false (drop (b .n) ys)) (b .n) (length ys) _ refl (b .some) (b .within) (b .count) (λ e. rw length-drop at (rest e))
+
+pub damage-some : (glue : Bool) (xs : List ℕ) (n : ℕ) → damage xs ≡ At n → (every isGood (glyphs glue xs) ≡ false) × (n < length xs)
+unfolding damage
+damage-some glue xs n h = let e = pick (every isGood (glyphs false xs)) h in (every-good glue false xs ∙ e .0, rw (← e .1) (good-before xs (e .0)))
+  where
+    pick : (t : Bool) → cond t Nowhere (At (extent (while isGood (glyphs false xs)))) ≡ At n → (t ≡ false) × (extent (while isGood (glyphs false xs)) ≡ n)
+    pick true e = (cc, absurd (let z : _≡_ {A = ℕ} 0 1 = cc in omega arith))
+    pick false e = (refl, cc)
