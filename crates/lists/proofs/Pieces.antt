@@ -1,11 +1,10 @@
--- A list cut into pieces: what holds of all pieces by induction, the pieces joined again, two cuttings that agree, and a list in two parts.
-use mathlib.Core.Path.{_≡_, refl, ap, ap₂, _∙_}
+-- A list cut into pieces: what holds of all pieces by induction, two cuttings that agree, and a list in two parts.
+use mathlib.Core.Path.{_≡_, refl, ap, _∙_}
 use mathlib.Core.List.{List, [], _∷_, _++_, map}
 use Prim.Native.Nat.{ℕ, zero, suc, _≤_, _<_}
 use native.Mathlib.Omega.{arith}
-use lib.ListN.{length, take, drop, length-drop, take-append-drop}
+use lib.ListN.{length, drop, length-drop}
 use Rattle.lists.specs.Walk.{piece, each}
-use Rattle.lists.specs.Runs.{joined}
 use Rattle.lists.proofs.Walk.{walk-append, each-nil, each-step}
 
 module _ {A B : Type 0} (cut : List A → ℕ) (f : List A → B) where
@@ -22,13 +21,6 @@ module _ {A B : Type 0} (cut : List A → ℕ) (f : List A → B) where
 
     pub each-induct : (xs : List A) → P xs (each cut f xs)
     each-induct xs = upto (length xs) xs (omega arith)
-
-  pub each-joined : (g : B → List A) → ((xs : List A) → 0 < length xs → g (f xs) ≡ take (suc (cut xs)) xs) → (xs : List A) → joined g (each cut f xs) ≡ xs
-  unfolding joined
-  each-joined g own xs =
-      each-induct (λ ys bs. joined g bs ≡ ys) refl
-      (λ ys h e. ap₂ (λ (l r : List A). l ++ r) (own ys h) e ∙ take-append-drop (suc (cut ys)) ys)
-      xs
 
   pub each-alike : {C D : Type 0} (cut′ : List A → ℕ) (f′ : List A → C) (g : B → D) (g′ : C → D)
       → ((xs : List A) → cut xs ≡ cut′ xs) → ((xs : List A) → g (f xs) ≡ g′ (f′ xs)) → (xs : List A) → map g (each cut f xs) ≡ map g′ (each cut′ f′ xs)

@@ -6,3 +6,5 @@ pub mod Glue
 pub mod Damage
 pub mod Boundary
 mod Worked
+pub mod Extents
+pub mod Blanks

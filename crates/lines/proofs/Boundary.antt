@@ -1,0 +1,71 @@
+-- A text that ends in a line feed is a boundary of lines: its lines, and then the lines of what follows it.
+use mathlib.Core.Path.{_≡_, refl, ap, _∙_}
+use mathlib.Core.Bool.{Bool, true, false, not}
+use mathlib.Core.List.{List, [], _∷_, _++_}
+use Prim.Native.Nat.{ℕ, zero, suc, _<_}
+use native.Mathlib.Omega.{arith}
+use lib.ListN.{length, drop, length-append}
+use lib.Seq.{take-append-le}
+use borrow.Author.Tests.{eq-eqb, lt-ltb}
+use Rattle.lists.proofs.Runs.{while-more, while-end}
+use Rattle.lists.proofs.Parts.{while-append}
+use Rattle.lists.proofs.Walk.{each-step}
+use Rattle.lists.proofs.Extents.{each-append}
+use Rattle.lines.specs.Lines.{Line, noFeed, body, withoutReturn, firstLine, linesOf}
+use Rattle.lines.specs.Closed.{Closed}
+
+-- the first line of a closed text is ended
+ended : (x : ℕ) (r : List ℕ) → Closed (x ∷ r) → length (body (x ∷ r)) < length (x ∷ r)
+unfolding body
+ended x [] c = rw (while-end noFeed x [] (ap not (eq-eqb x 10 c))) (omega arith)
+ended x (y ∷ r) c = go (noFeed x) refl (ended y r c)
+  where
+    go : (b : Bool) → noFeed x ≡ b → length (body (y ∷ r)) < length (y ∷ r) → length (body (x ∷ y ∷ r)) < length (x ∷ y ∷ r)
+    go true e h = rw (while-more noFeed x (y ∷ r) e) (omega arith)
+    go false e h = rw (while-end noFeed x (y ∷ r) e) (omega arith)
+
+closed-drop : (n : ℕ) (a : List ℕ) → Closed a → Closed (drop n a)
+closed-drop zero a c = c
+closed-drop (suc n) [] c = c
+closed-drop (suc n) (x ∷ []) c = closed-drop n [] tt
+closed-drop (suc n) (x ∷ y ∷ r) c = closed-drop n (y ∷ r) c
+
+-- an ended first line stays what it is with more behind the text
+module _ (a b : List ℕ) (h : length (body a) < length a) where
+  body-append : body (a ++ b) ≡ body a
+  unfolding body
+  body-append = while-append noFeed a b h
+
+  firstLine-append : firstLine (a ++ b) ≡ firstLine a
+  unfolding firstLine
+  firstLine-append =
+      let l = length-append a b in
+      rw (
+        body-append,
+        take-append-le (suc (length (body a))) a b h,
+        lt-ltb (length (body a)) (length (a ++ b)) (omega arith),
+        lt-ltb (length (body a)) (length a) h,
+      )
+
+pub lines-append : (a b : List ℕ) → Closed a → linesOf (a ++ b) ≡ linesOf a ++ linesOf b
+unfolding linesOf
+lines-append a b c = each-append (λ xs. length (body xs)) firstLine Closed b stays a c
+  where
+    stays : (d : List ℕ) → Closed d → 0 < length d
+        → (firstLine (d ++ b) ≡ firstLine d) × (length (body (d ++ b)) ≡ length (body d)) × (length (body d) < length d) × Closed (drop (suc (length (body d))) d)
+    stays [] k g = absurd (omega arith)
+    stays (x ∷ r) k g =
+        let e = ended x r k in
+        (firstLine-append (x ∷ r) b e, ap length (body-append (x ∷ r) b e), e, closed-drop (suc (length (body (x ∷ r)))) (x ∷ r) k)
+
+-- an empty line: the line feed alone, and no text
+abbrev pub emptyLine : Line
+emptyLine = record { raw = 10 ∷ []; text = [] }
+
+body-feed : (b : List ℕ) → body (10 ∷ b) ≡ []
+unfolding body
+body-feed b = while-end noFeed 10 b refl
+
+pub lines-feed : (b : List ℕ) → linesOf (10 ∷ b) ≡ emptyLine ∷ linesOf b
+unfolding linesOf firstLine withoutReturn
+lines-feed b = each-step (λ xs. length (body xs)) firstLine (10 ∷ b) (omega arith) ∙ rw (body-feed b, lt-ltb 0 (suc (length b)) (omega arith))

@@ -1,0 +1,99 @@
+-- Where a line has ink: an empty line is blank, a damaged one plain, and a formatted one has a non-blank at or behind its indent's end.
+use mathlib.Core.Path.{_≡_, refl, sym, ap, _∙_}
+use mathlib.Core.Bool.{Bool, true, false, cond, _||_}
+use mathlib.Core.List.{List, [], _∷_, _++_, append-assoc}
+use Prim.Native.Nat.{ℕ, _+_, _-_}
+use native.Mathlib.Omega.{arith}
+use lib.Dec.{eqb}
+use lib.ListN.{length}
+use borrow.Author.Tests.{ne-eqb}
+use Rattle.lists.specs.Runs.{while, behind, every}
+use Rattle.lists.specs.All.{All}
+use Rattle.lists.proofs.Parts.{while-behind, every-nil, every-behind}
+use Rattle.lists.proofs.All.{all-front}
+use Rattle.lists.proofs.Walk.{each-nil}
+use Rattle.text.specs.Characters.{Glyph, glyph, glyphs, isBlank, isGood, extent}
+use Rattle.text.proofs.Extents.{Sound, glyphs-sound}
+use Rattle.text.proofs.Blanks.{damaged-ink}
+use Rattle.text.specs.declared.Found.{Found}
+use Rattle.text.specs.declared.Found.the-variants.{At, Nowhere}
+use Rattle.options.specs.Opts.{Opts}
+use Rattle.lines.specs.Classes.{upTo, from, prefixFound, sizeOf, skipFound, somewhere, shapeAt, classBehind, classify}
+use Rattle.lines.specs.declared.Shape.{Shape}
+use Rattle.lines.specs.declared.Class.the-variants.{Blank, Plain, Formatted}
+
+pub empty-blank : (o : Opts) → classify o [] ≡ Blank
+unfolding classify glyphs
+empty-blank o = rw (each-nil (λ xs. length (glyph (o .glue) xs .bytes) - 1) (glyph (o .glue)), every-nil isBlank)
+
+pub damaged-plain : (o : Opts) (line : List ℕ) → every isGood (glyphs (o .glue) line) ≡ false → classify o line ≡ Plain
+unfolding classify
+damaged-plain o line e = rw (damaged-ink (o .glue) (glyphs (o .glue) line) (glyphs-sound (o .glue) line) e, e)
+
+-- ---- the glyphs before a place and from it on
+
+pub upTo-from : (place : ℕ) (gs : List Glyph) → upTo place gs ++ from place gs ≡ gs
+unfolding upTo from
+upTo-from place [] = refl
+upTo-from place (g ∷ gs) = go (eqb place 0) (upTo-from (place - length (g .bytes)) gs)
+  where
+    go : (t : Bool) → upTo (place - length (g .bytes)) gs ++ from (place - length (g .bytes)) gs ≡ gs
+        → elim t as (λ b. List Glyph) [ true ↦ [] | false ↦ g ∷ upTo (place - length (g .bytes)) gs ]
+        ++ elim t as (λ b. List Glyph) [ true ↦ g ∷ gs | false ↦ from (place - length (g .bytes)) gs ]
+        ≡ g ∷ gs
+    go true h = refl
+    go false h = ap (λ (l : List Glyph). g ∷ l) h
+
+from-start : (gs : List Glyph) → from 0 gs ≡ gs
+unfolding from
+from-start [] = refl
+from-start (g ∷ gs) = refl
+
+-- from where some glyphs end: the glyphs behind them
+from-extent : (glue : Bool) (front rest : List Glyph) → All (Sound glue) front → from (extent front) (front ++ rest) ≡ rest
+unfolding extent from
+from-extent glue [] rest s = from-start rest
+from-extent glue (g ∷ front) rest s =
+    let h = s .0 .some in
+    let k : length (g .bytes) + extent front - length (g .bytes) ≡ extent front = omega arith in
+    rw (from, ne-eqb (length (g .bytes) + extent front) 0 (λ e. omega arith), k) (from-extent glue front rest (s .1))
+
+-- ---- a formatted line
+
+-- what is at or behind the indent's end: the glyphs behind the prefix without their leading blanks
+from-indent : (o : Opts) (line : List ℕ) (place : ℕ)
+    → (let gs = glyphs (o .glue) line in from (shapeAt o gs place .indent) gs ≡ behind isBlank (from (place + sizeOf (o .prefix)) gs))
+unfolding shapeAt
+from-indent o line place =
+    let gs = glyphs (o .glue) line in
+    let end = place + sizeOf (o .prefix) in
+    let rest = from end gs in
+    let parts : upTo end gs ++ while isBlank rest ++ behind isBlank rest ≡ gs = append-assoc (upTo end gs) (while isBlank rest) (behind isBlank rest) ∙ rw while-behind (upTo-from end gs) in
+    let sound : All (Sound (o .glue)) (upTo end gs ++ while isBlank rest) = all-front _ (upTo end gs ++ while isBlank rest) (behind isBlank rest) (rw parts (glyphs-sound (o .glue) line)) in
+    ap (from (extent (upTo end gs ++ while isBlank rest))) (sym parts) ∙ from-extent (o .glue) _ (behind isBlank rest) sound
+
+pub formatted-ink : (o : Opts) (line : List ℕ) (s : Shape) → classify o line ≡ Formatted s
+    → (every isBlank (glyphs (o .glue) line) ≡ false) × (every isBlank (from (s .indent) (glyphs (o .glue) line)) ≡ false)
+unfolding classify
+formatted-ink o line s e = blank (every isBlank gs) (every isGood gs) (prefixFound (o .exactPrefix) (o .prefix) line gs) e
+  where
+    gs : List Glyph
+    gs = glyphs (o .glue) line
+
+    behind-prefix : (place : ℕ) (b c : Bool) → every isBlank (from (place + sizeOf (o .prefix)) gs) ≡ b → cond (b || c) Plain (Formatted (shapeAt o gs place)) ≡ Formatted s
+        → every isBlank (from (s .indent) gs) ≡ false
+    behind-prefix place true c h e = cc
+    behind-prefix place false true h e = cc
+    behind-prefix place false false h e =
+        let k : shapeAt o gs place ≡ s = cc in
+        ap (λ (t : Shape). every isBlank (from (t .indent) gs)) (sym k) ∙ ap (every isBlank) (from-indent o line place) ∙ every-behind isBlank (from (place + sizeOf (o .prefix)) gs) ∙ h
+
+    found : (f : Found) → classBehind o line gs f ≡ Formatted s → every isBlank (from (s .indent) gs) ≡ false
+    found Nowhere e = cc
+    found (At place) e = behind-prefix place _ (somewhere (skipFound (o .exactSkip) (o .skip) line gs)) refl e
+
+    blank : (b g : Bool) (f : Found) → cond b Blank (cond g (classBehind o line gs f) Plain) ≡ Formatted s
+        → (b ≡ false) × (every isBlank (from (s .indent) gs) ≡ false)
+    blank true g f e = (cc, cc)
+    blank false true f e = (refl, found f e)
+    blank false false f e = (refl, cc)

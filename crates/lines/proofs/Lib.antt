@@ -1,0 +1,3 @@
+pub mod Boundary
+pub mod Extents
+pub mod Ink

@@ -1,0 +1,5 @@
+pub mod Answers
+pub mod Boundary
+pub mod Order
+pub mod Extents
+pub mod Demand3

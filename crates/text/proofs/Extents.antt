@@ -1,0 +1,73 @@
+-- Each glyph of a text has a byte; one that is blank is not damaged and has a blank character's octets.
+use mathlib.Core.Path.{_≡_, refl, sym, ap, _∙_}
+use mathlib.Core.Bool.{Bool, true, false, cond, _&&_, false≢true}
+use mathlib.Core.List.{List, [], _∷_}
+use Prim.Native.Nat.{ℕ, _-_, _<_}
+use native.Mathlib.Omega.{arith}
+use lib.Dec.{ltb}
+use lib.ListN.{length, take, drop}
+use lib.Seq.{take-append-seam}
+use Rattle.lists.specs.Runs.{begins}
+use Rattle.lists.specs.All.{All}
+use Rattle.lists.proofs.Runs.{begins-front}
+use Rattle.lists.proofs.Extents.{each-all}
+use Rattle.text.specs.Rfc3629.{Front, front, nothing, scalar, encode, spelled, decode}
+use Rattle.text.specs.Characters.{accepted, onlyAccepted, character, blankCode, Glyph, glyphAs, glyph, glyphs}
+
+either-some : (b : Bool) (x y : List ℕ) → 0 < length x → 0 < length y → 0 < length (cond b x y)
+either-some true x y h k = h
+either-some false x y h k = k
+
+encode-some : (c : ℕ) → 0 < length (encode c)
+unfolding encode
+encode-some c = either-some (ltb c 0x80) _ _ (omega arith) (either-some (ltb c 0x800) _ _ (omega arith) (either-some (ltb c 0x10000) _ _ (omega arith) (omega arith)))
+
+-- what the decoder finds has its encoding's length, and that encoding begins the list
+decode-octets : (xs : List ℕ) (c n : ℕ) → decode xs ≡ front c n → (n ≡ length (encode c)) × (take n xs ≡ encode c)
+unfolding decode
+decode-octets [] c n e = (cc, cc)
+decode-octets (a ∷ xs) c n e = go (spelled a xs) (scalar (spelled a xs)) (begins (encode (spelled a xs)) (a ∷ xs)) refl e
+  where
+    go : (d : ℕ) (s b : Bool) → begins (encode d) (a ∷ xs) ≡ b → cond (s && b) (front d (length (encode d))) nothing ≡ front c n
+        → (n ≡ length (encode c)) × (take n (a ∷ xs) ≡ encode c)
+    go d true true h e =
+        let k : d ≡ c = cc in
+        let m : length (encode d) ≡ n = cc in
+        let t : take (length (encode d)) (a ∷ xs) ≡ encode d = ap (take (length (encode d))) (begins-front (encode d) (a ∷ xs) h) ∙ take-append-seam (encode d) (drop (length (encode d)) (a ∷ xs)) in
+        (sym m ∙ ap (λ (j : ℕ). length (encode j)) k, rw (← m, ← k) t)
+    go d true false h e = (cc, cc)
+    go d false b h e = (cc, cc)
+
+-- what holds of each glyph that a text is read as
+pub record Sound (glue : Bool) (g : Glyph) : Type 0 where
+  pub some : 0 < length (g .bytes)
+  pub good : g .blank ≡ true → g .damaged ≡ false
+  pub code : g .blank ≡ true → blankCode glue (g .code) ≡ true
+  pub octets : g .blank ≡ true → g .bytes ≡ encode (g .code)
+
+glyph-sound : (glue : Bool) (xs : List ℕ) → 0 < length xs → Sound glue (glyph glue xs)
+unfolding glyph character
+glyph-sound glue [] h = absurd (omega arith)
+glyph-sound glue (x ∷ xs) h = read (decode (x ∷ xs)) refl
+  where
+    Read : Front → Type 0
+    Read f = Sound glue (glyphAs glue (x ∷ xs) f)
+
+    none : Read nothing
+    none = record { some = omega arith; good = λ e. absurd (false≢true e); code = λ e. absurd (false≢true e); octets = λ e. absurd (false≢true e) }
+
+    some : (c n : ℕ) (a : Bool) → decode (x ∷ xs) ≡ front c n → Read (cond a (front c n) nothing)
+    some c n true e =
+        let d = decode-octets (x ∷ xs) c n e in
+        let l : length (take n (x ∷ xs)) ≡ n = rw (d .1) (sym (d .0)) in
+        let s = encode-some c in
+        record { some = omega arith; good = λ e. refl; code = λ e. e; octets = λ e. d .1 }
+    some c n false e = none
+
+    read : (f : Front) → decode (x ∷ xs) ≡ f → Read (onlyAccepted f)
+    read (front c n) e = some c n (accepted c) e
+    read nothing e = none
+
+pub glyphs-sound : (glue : Bool) (xs : List ℕ) → All (Sound glue) (glyphs glue xs)
+unfolding glyphs
+glyphs-sound glue xs = each-all (λ ys. length (glyph glue ys .bytes) - 1) (glyph glue) (Sound glue) (λ ys h. glyph-sound glue ys h) xs
