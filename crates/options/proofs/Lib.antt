@@ -1,0 +1,6 @@
+pub mod Values
+pub mod Fields
+pub mod Settled
+pub mod Given
+pub mod Accepted
+pub mod Examples

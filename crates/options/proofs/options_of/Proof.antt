@@ -1,0 +1,126 @@
+-- `options::options_of` meets its contract: each option is what its function answers.
+use borrow.Author.Needs.{needs}
+use Rattle.options.specs.OptionBlock.{optionsOf}
+use Rattle.options.proofs.options_of.Statement.{statement}
+use Rattle.options.proofs.options_of.Tie as tie
+
+part-of-requires : tie.Need-part-of-requires
+part-of-requires c κs = search needs
+
+number-or-requires : tie.Need-number-or-requires
+number-or-requires c κs = search needs
+
+part-of-requires-2 : tie.Need-part-of-requires-2
+part-of-requires-2 c κs = search needs
+
+part-of-requires-3 : tie.Need-part-of-requires-3
+part-of-requires-3 c κs = search needs
+
+part-of-requires-4 : tie.Need-part-of-requires-4
+part-of-requires-4 c κs = search needs
+
+number-or-requires-2 : tie.Need-number-or-requires-2
+number-or-requires-2 c κs = search needs
+
+part-of-requires-5 : tie.Need-part-of-requires-5
+part-of-requires-5 c κs = search needs
+
+part-of-requires-6 : tie.Need-part-of-requires-6
+part-of-requires-6 c κs = search needs
+
+is-crown-requires : tie.Need-is-crown-requires
+is-crown-requires c κs = search needs
+
+is-tagged-requires : tie.Need-is-tagged-requires
+is-tagged-requires c κs = search needs
+
+is-set-requires : tie.Need-is-set-requires
+is-set-requires c κs = search needs
+
+is-set-requires-2 : tie.Need-is-set-requires-2
+is-set-requires-2 c κs = search needs
+
+is-set-requires-3 : tie.Need-is-set-requires-3
+is-set-requires-3 c κs = search needs
+
+is-set-requires-4 : tie.Need-is-set-requires-4
+is-set-requires-4 c κs = search needs
+
+is-set-requires-5 : tie.Need-is-set-requires-5
+is-set-requires-5 c κs = search needs
+
+is-set-requires-6 : tie.Need-is-set-requires-6
+is-set-requires-6 c κs = search needs
+
+is-set-requires-7 : tie.Need-is-set-requires-7
+is-set-requires-7 c κs = search needs
+
+is-set-requires-8 : tie.Need-is-set-requires-8
+is-set-requires-8 c κs = search needs
+
+width-of-requires : tie.Need-width-of-requires
+width-of-requires c κs = search needs
+
+goal-of-requires : tie.Need-goal-of-requires
+goal-of-requires c κs = search needs
+
+larger-requires : tie.Need-larger-requires
+larger-requires c κs = search needs
+
+returns : tie.Need-returns
+unfolding optionsOf
+returns c =
+    let g = c .before in
+    let w = g .before in
+    let s = w .before in
+    let f = s .before .before .before .before .before .before .before .before .before .before in
+    rw (
+      c .larger .ensures,
+      g .goal-of .ensures,
+      w .width-of .ensures,
+      s .is-set8 .ensures,
+      s .before .is-set7 .ensures,
+      s .before .before .is-set6 .ensures,
+      s .before .before .before .is-set5 .ensures,
+      s .before .before .before .before .is-set4 .ensures,
+      s .before .before .before .before .before .is-set3 .ensures,
+      s .before .before .before .before .before .before .is-set2 .ensures,
+      s .before .before .before .before .before .before .before .is-set .ensures,
+      s .before .before .before .before .before .before .before .before .is-tagged .ensures,
+      s .before .before .before .before .before .before .before .before .before .is-crown .ensures,
+      f .part-of6 .ensures,
+      f .before .part-of5 .ensures,
+      f .before .before .number-or2 .ensures,
+      f .before .before .before .part-of4 .ensures,
+      f .before .before .before .before .part-of3 .ensures,
+      f .before .before .before .before .before .part-of2 .ensures,
+      f .before .before .before .before .before .before .number-or .ensures,
+      f .before .before .before .before .before .before .before .part-of .ensures,
+    )
+
+pub options-of-spec : {M : Type 1} → statement M
+options-of-spec =
+    tie.close
+    (tie.spec
+    part-of-requires
+    number-or-requires
+    part-of-requires-2
+    part-of-requires-3
+    part-of-requires-4
+    number-or-requires-2
+    part-of-requires-5
+    part-of-requires-6
+    is-crown-requires
+    is-tagged-requires
+    is-set-requires
+    is-set-requires-2
+    is-set-requires-3
+    is-set-requires-4
+    is-set-requires-5
+    is-set-requires-6
+    is-set-requires-7
+    is-set-requires-8
+    width-of-requires
+    goal-of-requires
+    larger-requires
+    returns)

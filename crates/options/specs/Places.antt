@@ -1,0 +1,19 @@
+-- What the code's small functions answer: a field is a place of the block, with the tag of the field before it; a number within
+-- bounds, and a prefix, as values of a field.
+use mathlib.Core.Bool.{Bool, false, _&&_}
+use mathlib.Core.List.{List}
+use Prim.Native.Nat.{ℕ}
+use lib.Dec.{leb, eqb}
+use lib.ListN.{length, drop}
+use Rattle.lists.specs.Runs.{every}
+use Rattle.text.specs.Characters.{glyphs, isGood}
+use Rattle.options.specs.OptionBlock.{Field, number}
+
+abbrev pub fieldAt : List ℕ → ℕ → ℕ → Field
+fieldAt block at previous = record { place = at; previous = previous; bytes = drop at block }
+
+unfoldable pub numberText : ℕ → ℕ → List ℕ → Bool
+numberText least most v = eqb (length v) 2 && leb least (number v) && leb (number v) most
+
+unfoldable pub prefixText : List ℕ → Bool
+prefixText v = leb (length v) 255 && every isGood (glyphs false v)
