@@ -1,1 +1,3 @@
 pub mod KnuthPlass
+pub mod Table
+pub mod Round

@@ -1,1 +1,657 @@
-// Knuth-Plass: the optimal breaker.
+// Knuth-Plass: the best breaks of a paragraph, one round for each word over the active breaks.
+use records::Word;
+use spacing::Setting;
+ghost use mathlib.Core.Path.{_≡_};
+ghost use mathlib.Core.List.{List, map};
+ghost use mathlib.Core.Bool.{cond, false, _||_};
+ghost use lib.Dec.{eqb};
+ghost use Prim.Native.Nat.{ℕ, _+_, _-_, _*_, _<_, _≤_, _^_};
+ghost use lib.ListN.{length, take, drop, getD, set};
+ghost use Rattle.records.specs.Word.{meaning};
+ghost use Rattle.records.specs.Table.{wordIn, wordsIn};
+ghost use Rattle.demerits.specs.Demerits.{wordTerm};
+ghost use Rattle.knuth_plass.specs.KnuthPlass.{stretchOf, startsLine, reduced, sentenceBehind};
+ghost use Rattle.knuth_plass.specs.Table as T;
+ghost use Rattle.knuth_plass.specs.Round as R;
+
+// A break place: the number of the previous break, the word and whether it stands before or after it; its demerits and the ratio of
+// the line that it ends; the columns of the line that it begins, and whether nothing but the indent stands on that line.
+pub struct Break {
+    pub previous: usize,
+    pub word: usize,
+    pub demerits: u64,
+    pub columns: usize,
+    pub ratio: f32,
+    pub before: bool,
+    pub fresh: bool,
+}
+
+fn bit(mark: bool) -> usize
+    ensures { λ r. ⌜ r ≡ cond mark 1 0 ⌝ }
+{
+    if mark {
+        return 1;
+    }
+    0
+}
+
+fn wide(x: usize) -> u64
+    ensures { λ r. ⌜ r ≡ x ⌝ }
+{
+    x as u64
+}
+
+// Number j of record i.
+fn number(breaks: &[usize; 8192], i: usize, j: usize) -> usize
+    requires { ⌜ (i < 1024) × (j < 8) ⌝ }
+    ensures { λ r. ⌜ r ≡ T.numberAt (now (breaks .entry)) i j ⌝ }
+{
+    let k = i * 8 + j;
+    breaks[k]
+}
+
+// The record at i, put together.
+fn get_break(breaks: &[usize; 8192], ratios: &[f32; 1024], i: usize) -> Break
+    requires { ⌜ i < 1024 ⌝ }
+    ensures { λ r. ⌜ r ≡ T.breakIn (T.tables (now (breaks .entry)) (now (ratios .entry))) i ⌝ }
+{
+    Break {
+        previous: number(breaks, i, 0),
+        word: number(breaks, i, 1),
+        before: number(breaks, i, 2) == 1,
+        demerits: wide(number(breaks, i, 3)),
+        ratio: ratios[i],
+        columns: number(breaks, i, 4),
+        fresh: number(breaks, i, 5) == 1,
+    }
+}
+
+// The record taken apart into the tables at i.
+fn store_break(breaks: &mut [usize; 8192], ratios: &mut [f32; 1024], i: usize, b: Break)
+    requires { ⌜ i < 1024 ⌝ }
+    ensures { λ _. ⌜ T.tables (now (breaks .exit)) (now (ratios .exit)) ≡ T.withBreak (T.tables (now (breaks .entry)) (now (ratios .entry))) i b ⌝ }
+{
+    let k = i * 8;
+    let k1 = k + 1;
+    let k2 = k + 2;
+    let k3 = k + 3;
+    let k4 = k + 4;
+    let k5 = k + 5;
+    breaks[k] = b.previous;
+    breaks[k1] = b.word;
+    breaks[k2] = bit(b.before);
+    breaks[k3] = b.demerits as usize;
+    breaks[k4] = b.columns;
+    breaks[k5] = bit(b.fresh);
+    ratios[i] = b.ratio;
+}
+
+// ---- a round
+
+// What a round goes by: its word and the word's number, the space that is added before it, what a break after it costs at the least,
+// and whether it is the last.
+pub struct Turn {
+    pub word: Word,
+    pub number: usize,
+    pub space: usize,
+    pub floor: u64,
+    pub last: bool,
+}
+
+// The best offer so far: the break it goes on from, its total and its ratio.
+pub enum Best {
+    Nothing,
+    From {
+        ratio: f32,
+        previous: usize,
+        total: u64,
+    },
+}
+
+// A round so far: how many breaks stay, the first least break with its number, and the best offer.
+pub struct State {
+    pub kept: usize,
+    pub from: usize,
+    pub least: Break,
+    pub best: Best,
+}
+
+// Between rounds: how many breaks are active, how many records the table has, and what each active break loses.
+pub struct Standing {
+    pub count: usize,
+    pub size: usize,
+    pub reduction: u64,
+}
+
+fn less(a: u64, b: u64) -> u64
+    ensures { λ r. ⌜ r ≡ a - b ⌝ }
+{
+    if a < b {
+        return 0;
+    }
+    a - b
+}
+
+fn lessened(b: Break, reduction: u64) -> Break
+    ensures { λ r. ⌜ r ≡ R.lessened reduction b ⌝ }
+{
+    Break {
+        previous: b.previous,
+        word: b.word,
+        before: b.before,
+        demerits: less(b.demerits, reduction),
+        ratio: b.ratio,
+        columns: b.columns,
+        fresh: b.fresh,
+    }
+}
+
+fn extended(b: Break, t: usize) -> Break
+    ensures { λ r. ⌜ r ≡ R.extended t b ⌝ }
+{
+    Break {
+        previous: b.previous,
+        word: b.word,
+        before: b.before,
+        demerits: b.demerits,
+        ratio: b.ratio,
+        columns: t,
+        fresh: false,
+    }
+}
+
+// The first least break so far, when break n is b.
+fn noted(s: State, n: usize, b: Break) -> State
+    ensures { λ r. ⌜ r ≡ R.noted s n b ⌝ }
+{
+    let least = s.least;
+    let best = s.best;
+    if b.demerits < least.demerits {
+        return State {
+            kept: s.kept,
+            from: n,
+            least: b,
+            best,
+        };
+    }
+    s
+}
+
+// The lesser of the best offer so far and another, the first where they are equal.
+fn better(best: Best, previous: usize, total: u64, ratio: f32) -> Best
+    ensures { λ r. ⌜ r ≡ R.better best previous total ratio ⌝ }
+{
+    match best {
+        Best::Nothing => Best::From {
+            previous,
+            total,
+            ratio,
+        },
+        Best::From {
+            previous: p,
+            total: d,
+            ratio: q,
+        } => {
+            if d <= total {
+                Best::From {
+                    previous: p,
+                    total: d,
+                    ratio: q,
+                }
+            } else {
+                Best::From {
+                    previous,
+                    total,
+                    ratio,
+                }
+            }
+        }
+    }
+}
+
+// Whether no offer of this total or a greater one is taken.
+fn beaten(best: Best, total: u64) -> bool
+    ensures { λ r. ⌜ r ≡ R.beaten best total ⌝ }
+{
+    match best {
+        Best::Nothing => false,
+        Best::From {
+            ratio: _,
+            previous: _,
+            total: d,
+        } => d <= total,
+    }
+}
+
+// The least that a break after a word of this width costs: what the word alone weighs.
+fn floor(g: Setting, width: usize) -> u64
+    requires { ⌜ R.Limits g × (1 ≤ width) ⌝ }
+    ensures { λ r. ⌜ (r ≡ (1 + wordTerm (stretchOf g) width) * (1 + wordTerm (stretchOf g) width)) × (r ≤ 90601) ⌝ }
+{
+    let weight = 1 + demerits::word_term(g.width - g.goal, width) as u64;
+    weight * weight
+}
+
+// The columns of the line with the word on it. The added space counts on a fresh line too.
+fn reach(g: Setting, turn: Turn, b: Break) -> usize
+    requires { ⌜ R.Limits g × R.Turns g turn × (b .columns < 2 ^ 33) ⌝ }
+    ensures { λ r. ⌜ (r ≡ R.lineAt g turn b) × (r < 2 ^ 36) ⌝ }
+{
+    let w = turn.word;
+    let before = w.before;
+    if b.fresh {
+        return b.columns + turn.space + w.width;
+    }
+    let gap = spacing::gap_width(g.tab, b.columns, before, w.after);
+    b.columns + gap + turn.space + w.width
+}
+
+// What break n, with the word on its line of t columns, makes of the best offer so far.
+fn offered(g: Setting, turn: Turn, n: usize, b: Break, t: usize, best: Best) -> Best
+    requires { ⌜ R.Offers g turn b t ⌝ }
+    ensures { λ r. ⌜ R.OfferedIs g turn n b best r ⌝ }
+{
+    let w = turn.word;
+    let stretch = g.width - g.goal;
+    if t < g.goal - stretch {
+        return best;
+    }
+    if turn.last {
+        // The last line costs nothing, but a break that is not among the least offers none.
+        if 0 < b.demerits {
+            return best;
+        }
+        return better(best, n, 0, 0.0);
+    }
+    // Most offers are beaten before their cost is worked out.
+    if beaten(best, turn.floor + b.demerits) {
+        return best;
+    }
+    let o = demerits::compute_demerits(g.goal, t, stretch, w.width, b.ratio);
+    better(best, n, o.cost + b.demerits, o.ratio)
+}
+
+// One turn of a round: the k-th active break loses the reduction and gets the word on its line. It stays active, and may offer, where
+// the line is no longer than the width.
+fn visit(
+    g: Setting,
+    turn: Turn,
+    st: Standing,
+    breaks: &mut [usize; 8192],
+    ratios: &mut [f32; 1024],
+    active: &mut [usize; 1024],
+    k: usize,
+    s: State,
+) -> State
+    requires { ⌜ R.Limits g × R.Turns g turn × R.Fit turn st k (T.tables (now breaks) (now ratios)) (now active) s × (k < st .count) ⌝ }
+    ensures { λ r. ⌜ R.Fit turn st (k + 1) (T.tables (now (breaks .exit)) (now (ratios .exit))) (now (active .exit)) r × ((z : R.Answer) → R.Goes g turn st z k (T.tables (now (breaks .entry)) (now (ratios .entry))) (now (active .entry)) s → R.Goes g turn st z (k + 1) (T.tables (now (breaks .exit)) (now (ratios .exit))) (now (active .exit)) r) ⌝ }
+{
+    let n = active[k];
+    let b = lessened(get_break(breaks, ratios, n), st.reduction);
+    let t = reach(g, turn, b);
+    let best = s.best;
+    let kept = s.kept;
+    let seen = noted(s, n, b);
+    if g.width < t {
+        return seen;
+    }
+    let better = offered(g, turn, n, b, t, best);
+    store_break(breaks, ratios, n, extended(b, t));
+    active[kept] = n;
+    let least = seen.least;
+    State {
+        kept: kept + 1,
+        from: seen.from,
+        least,
+        best: better,
+    }
+}
+
+// A round over all active breaks.
+fn advance(
+    g: Setting,
+    turn: Turn,
+    st: Standing,
+    breaks: &mut [usize; 8192],
+    ratios: &mut [f32; 1024],
+    active: &mut [usize; 1024],
+) -> State
+    requires { ⌜ R.Limits g × R.Turns g turn × R.Ready (turn .number) st (T.tables (now breaks) (now ratios)) (now active) ⌝ }
+    ensures { λ r. ⌜ R.Fit turn st (st .count) (T.tables (now (breaks .exit)) (now (ratios .exit))) (now (active .exit)) r × ((notes : List ℕ) → R.Done g turn (map (reduced (st .reduction)) (R.breaksOf (st .count) (T.tables (now (breaks .entry)) (now (ratios .entry))) (now (active .entry)))) (T.tables (now (breaks .exit)) (now (ratios .exit))) (now (active .exit)) r notes) ⌝ }
+{
+    let first = active[0];
+    let least = lessened(get_break(breaks, ratios, first), st.reduction);
+    let mut s = State {
+        kept: 0,
+        from: first,
+        least,
+        best: Best::Nothing,
+    };
+    let count = st.count;
+    let mut k = 0;
+    while k < count {
+        s = visit(g, turn, st, breaks, ratios, active, k, s);
+        k += 1;
+    }
+    s
+}
+
+// One break more, active last.
+fn append(
+    breaks: &mut [usize; 8192],
+    ratios: &mut [f32; 1024],
+    active: &mut [usize; 1024],
+    size: usize,
+    kept: usize,
+    b: Break,
+)
+    requires { ⌜ (size < 1024) × (kept < 1024) ⌝ }
+    ensures { λ _. ⌜ (T.tables (now (breaks .exit)) (now (ratios .exit)) ≡ T.withBreak (T.tables (now (breaks .entry)) (now (ratios .entry))) size b) × (now (active .exit) ≡ set (now (active .entry)) kept size) ⌝ }
+{
+    store_break(breaks, ratios, size, b);
+    active[kept] = size;
+}
+
+// The break that begins again where nothing stays, from break n: before the word where that is the lesser evil, and never on a fresh line.
+fn restarted(g: Setting, turn: Turn, n: usize, least: Break) -> Break
+    requires { ⌜ R.Limits g × R.Turns g turn × (least .columns < 2 ^ 33) ⌝ }
+    ensures { λ r. ⌜ R.Restarted g turn n least r ⌝ }
+{
+    let t = reach(g, turn, least);
+    let w = turn.word;
+    let minimum = g.goal - (g.width - g.goal);
+    let after = Break {
+        previous: n,
+        word: turn.number,
+        before: false,
+        demerits: 0,
+        ratio: -1.0,
+        columns: g.indent,
+        fresh: true,
+    };
+    if least.fresh {
+        return after;
+    }
+    if t + least.columns <= minimum + g.width {
+        return after;
+    }
+    Break {
+        previous: n,
+        word: turn.number,
+        before: true,
+        demerits: 0,
+        ratio: 1.0,
+        columns: g.indent + w.width,
+        fresh: false,
+    }
+}
+
+// The end of a round: the best offer becomes one break more; where nothing stays, one break begins again.
+fn settle(
+    g: Setting,
+    turn: Turn,
+    st: Standing,
+    breaks: &mut [usize; 8192],
+    ratios: &mut [f32; 1024],
+    active: &mut [usize; 1024],
+    s: State,
+) -> Standing
+    requires { ⌜ R.Limits g × R.Turns g turn × R.Fit turn st (st .count) (T.tables (now breaks) (now ratios)) (now active) s ⌝ }
+    ensures { λ r. ⌜ R.Settled g turn (T.tables (now (breaks .entry)) (now (ratios .entry))) (now (active .entry)) s (T.tables (now (breaks .exit)) (now (ratios .exit))) (now (active .exit)) r ⌝ }
+{
+    let kept = s.kept;
+    let least = s.least;
+    let best = s.best;
+    let size = st.size;
+    match best {
+        Best::Nothing => {
+            if kept == 0 {
+                append(
+                    breaks,
+                    ratios,
+                    active,
+                    size,
+                    0,
+                    restarted(g, turn, s.from, least),
+                );
+                Standing {
+                    count: 1,
+                    size: size + 1,
+                    reduction: 0,
+                }
+            } else {
+                Standing {
+                    count: kept,
+                    size,
+                    reduction: least.demerits,
+                }
+            }
+        }
+        Best::From {
+            previous,
+            total,
+            ratio,
+        } => {
+            let b = Break {
+                previous,
+                word: turn.number,
+                before: false,
+                demerits: total,
+                ratio,
+                columns: g.indent,
+                fresh: true,
+            };
+            append(breaks, ratios, active, size, kept, b);
+            Standing {
+                count: kept + 1,
+                size: size + 1,
+                reduction: least.demerits,
+            }
+        }
+    }
+}
+
+// The round of word i.
+fn round(
+    g: Setting,
+    table: &[u32; 8192],
+    i: usize,
+    last: bool,
+    sentence: bool,
+    st: Standing,
+    breaks: &mut [usize; 8192],
+    ratios: &mut [f32; 1024],
+    active: &mut [usize; 1024],
+) -> Standing
+    requires { ⌜ R.Limits g × (i < 1024) × (1 ≤ wordIn (now table) i .width) × R.Ready i st (T.tables (now breaks) (now ratios)) (now active) ⌝ }
+    ensures { λ r. ⌜ R.RoundIs g last sentence i (wordIn (now (table .entry)) i) st (T.tables (now (breaks .entry)) (now (ratios .entry))) (now (active .entry)) (T.tables (now (breaks .exit)) (now (ratios .exit))) (now (active .exit)) r ⌝ }
+{
+    let word = records::get(table, i);
+    // Not the spacing that is written later: the previous word's punctuation does not count here.
+    let space = spacing::added_space(g.uniform, word.first, sentence, false);
+    let turn = Turn {
+        word,
+        number: i,
+        space,
+        floor: floor(g, word.width),
+        last,
+    };
+    let s = advance(g, turn, st, breaks, ratios, active);
+    settle(g, turn, st, breaks, ratios, active, s)
+}
+
+// The sentence mark of the word behind word i, of n.
+fn sentence_behind(table: &[u32; 8192], n: usize, i: usize) -> bool
+    requires { ⌜ (i < n) × (n ≤ 1024) ⌝ }
+    ensures { λ r. ⌜ ((notes : List ℕ) → r ≡ sentenceBehind (meaning notes (wordIn (now (table .entry)) i)) (drop (i + 1) (wordsIn notes n (now (table .entry))))) ⌝ }
+{
+    let next = i + 1;
+    if n <= next {
+        return true;
+    }
+    let v = records::get(table, i);
+    let w = records::get(table, next);
+    if w.sentence {
+        return true;
+    }
+    if w.first {
+        return v.punct;
+    }
+    false
+}
+
+// One round for each word behind the first.
+fn rounds(
+    g: Setting,
+    table: &[u32; 8192],
+    n: usize,
+    breaks: &mut [usize; 8192],
+    ratios: &mut [f32; 1024],
+    active: &mut [usize; 1024],
+) -> Standing
+    requires { ⌜ R.Limits g × (1 ≤ n) × (n ≤ 1024) × R.Wide n (now table) × T.Sized (T.tables (now breaks) (now ratios)) × (length (now active) ≡ 1024) ⌝ }
+    ensures { λ r. ⌜ R.RoundsAre g n (now (table .entry)) (T.tables (now (breaks .exit)) (now (ratios .exit))) (now (active .exit)) r ⌝ }
+{
+    let w = records::get(table, 0);
+    let first = Break {
+        previous: 0,
+        word: 0,
+        before: false,
+        demerits: 0,
+        ratio: 0.0,
+        columns: g.first + w.width,
+        fresh: false,
+    };
+    append(breaks, ratios, active, 0, 0, first);
+    let mut st = Standing {
+        count: 1,
+        size: 1,
+        reduction: 0,
+    };
+    let mut sentence = false;
+    let mut i = 1;
+    while i < n {
+        st = round(
+            g,
+            table,
+            i,
+            i + 1 == n,
+            sentence,
+            st,
+            breaks,
+            ratios,
+            active,
+        );
+        sentence = sentence_behind(table, n, i);
+        i += 1;
+    }
+    st
+}
+
+// ---- the least break
+
+// The one of two breaks with less demerits, the first where they are equal.
+fn lesser(breaks: &[usize; 8192], ratios: &[f32; 1024], m: usize, n: usize) -> usize
+    requires { ⌜ (m < 1024) × (n < 1024) ⌝ }
+    ensures { λ r. ⌜ r ≡ T.lesserIn (T.tables (now (breaks .entry)) (now (ratios .entry))) m n ⌝ }
+{
+    let a = get_break(breaks, ratios, m);
+    let b = get_break(breaks, ratios, n);
+    if b.demerits < a.demerits {
+        return n;
+    }
+    m
+}
+
+// The first active break of least demerits.
+fn least(
+    breaks: &[usize; 8192],
+    ratios: &[f32; 1024],
+    active: &[usize; 1024],
+    st: Standing,
+) -> usize
+    requires { ⌜ R.Listed st (now active) ⌝ }
+    ensures { λ r. ⌜ R.LeastIs st (T.tables (now (breaks .entry)) (now (ratios .entry))) (now (active .entry)) r ⌝ }
+{
+    let mut found = active[0];
+    let mut k = 1;
+    while k < st.count {
+        let n = active[k];
+        found = lesser(breaks, ratios, found, n);
+        k += 1;
+    }
+    found
+}
+
+// ---- the path as marks by word
+
+// The word that a break starts a line with.
+fn starts(b: Break) -> usize
+    requires { ⌜ b .word < 1024 ⌝ }
+    ensures { λ r. ⌜ r ≡ T.startOf b ⌝ }
+{
+    if b.before {
+        return b.word;
+    }
+    b.word + 1
+}
+
+fn clear(marks: &mut [bool; 1024], n: usize)
+    requires { ⌜ (n ≤ 1024) × (length (now marks) ≡ 1024) ⌝ }
+    ensures { λ _. ⌜ T.Marked n (now (marks .entry)) (now (marks .exit)) (λ (j : ℕ). false) ⌝ }
+{
+    let mut i = 0;
+    while i < n {
+        marks[i] = false;
+        i += 1;
+    }
+}
+
+// A break behind the last word starts no line.
+fn mark(marks: &mut [bool; 1024], n: usize, at: usize)
+    requires { ⌜ (n ≤ 1024) × (length (now marks) ≡ 1024) ⌝ }
+    ensures { λ _. ⌜ T.Marked n (now (marks .entry)) (now (marks .exit)) (λ (j : ℕ). getD (now (marks .entry)) j false || eqb at j) ⌝ }
+{
+    if at < n {
+        marks[at] = true;
+    }
+}
+
+// The marks of the path that ends at a record, from break to previous break.
+fn mark_path(
+    breaks: &[usize; 8192],
+    ratios: &[f32; 1024],
+    marks: &mut [bool; 1024],
+    n: usize,
+    last: usize,
+)
+    requires { ⌜ (n ≤ 1024) × (last < 1024) × (length (now marks) ≡ 1024) × T.Leads (T.tables (now breaks) (now ratios)) last ⌝ }
+    ensures { λ _. ⌜ T.Marked n (now (marks .entry)) (now (marks .exit)) (λ (j : ℕ). getD (now (marks .entry)) j false || startsLine j (T.pathTo (T.tables (now (breaks .entry)) (now (ratios .entry))) last)) ⌝ }
+{
+    let mut at = last;
+    while 0 < at {
+        let b = get_break(breaks, ratios, at);
+        mark(marks, n, starts(b));
+        at = b.previous;
+    }
+}
+
+// The best breaks of a paragraph of n words, as marks by word: mark i says whether a new line starts with word i. The other tables are
+// lent to work in, and what they hold afterwards is left open.
+pub fn best_breaks(
+    table: &[u32; 8192],
+    n: usize,
+    g: Setting,
+    breaks: &mut [usize; 8192],
+    ratios: &mut [f32; 1024],
+    active: &mut [usize; 1024],
+    marks: &mut [bool; 1024],
+)
+    requires { ⌜ R.Limits g × (1 ≤ n) × (n ≤ 1024) × R.Wide n (now table) × R.Lent (T.tables (now breaks) (now ratios)) (now active) (now marks) ⌝ }
+    ensures { λ _. ⌜ R.BestAre g n (now (table .entry)) (now (marks .entry)) (T.tables (now (breaks .exit)) (now (ratios .exit))) (now (active .exit)) (now (marks .exit)) ⌝ }
+{
+    let st = rounds(g, table, n, breaks, ratios, active);
+    let last = least(breaks, ratios, active, st);
+    clear(marks, n);
+    mark_path(breaks, ratios, marks, n, last);
+}

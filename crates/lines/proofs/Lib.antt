@@ -1,3 +1,11 @@
 pub mod Boundary
 pub mod Extents
 pub mod Ink
+pub mod Lines
+pub mod Measures
+pub mod Turns
+pub mod Prefixes
+pub mod Classes
+pub mod Bounds
+pub mod Shapes
+pub mod Usable

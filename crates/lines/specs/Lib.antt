@@ -1,3 +1,4 @@
 pub mod Lines
 pub mod Classes
 pub mod Closed
+pub mod Places

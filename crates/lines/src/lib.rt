@@ -1,4 +1,26 @@
 // Lines: where one ends, where its text ends, and its class.
+ghost use mathlib.Core.Path.{_≡_};
+ghost use mathlib.Core.Bool.{Bool, cond};
+ghost use Prim.Native.Nat.{_+_, _≤_, _<_};
+ghost use lib.Dec.{eqb};
+ghost use lib.ListN.{length};
+ghost use Rattle.lists.specs.Runs.{begins};
+ghost use Rattle.text.specs.Characters.{widthOf, glyphs};
+ghost use Rattle.options.specs.Opts.{textOf, meant};
+ghost use Rattle.lines.specs.Lines.{body, withoutReturn, firstLine};
+ghost use Rattle.lines.specs.Classes.{nextStop, search, skipFound, somewhere, classify};
+ghost use Rattle.lines.specs.Places.{extentOf, Lies, Usable, Inside, classAt, Behind, BehindBlanks, BehindPlace};
+use options::Options;
+use options::Part;
+use text::Char;
+use text::Found;
+use text::Glyph;
+
+// How long a line is: its text, and the whole with its line end.
+pub struct Extent {
+    pub text: usize,
+    pub whole: usize,
+}
 
 // Of a formatted line: the place of its prefix, the end of its indent (both in bytes), the indent's columns, and the columns up to
 // the prefix's end.
@@ -13,4 +35,217 @@ pub enum Class {
     Blank,
     Plain,
     Formatted(Shape),
+}
+
+// A place of a line, and the column that it stands at.
+struct Spot {
+    at: usize,
+    column: usize,
+}
+
+// The first line of what is left of the notes.
+pub fn first_line(s: &[u8]) -> Extent
+    ensures { λ r. ⌜ r ≡ extentOf (firstLine (now (s .entry))) ⌝ }
+{
+    let end = body_end(s);
+    let text = without_return(&s[..end]);
+    // Without a line feed it is the last, and keeps its carriage return.
+    if end == s.len() {
+        return Extent {
+            text: end,
+            whole: end,
+        };
+    }
+    Extent {
+        text,
+        whole: end + 1,
+    }
+}
+
+// The place of the first line feed, or the length.
+fn body_end(s: &[u8]) -> usize
+    ensures { λ r. ⌜ (r ≡ length (body (now (s .entry)))) × (r ≤ length (now (s .entry))) ⌝ }
+{
+    let mut i = 0;
+    while i < s.len() {
+        if s[i] == 10 {
+            return i;
+        }
+        i += 1;
+    }
+    i
+}
+
+// How long a line's body is without a carriage return at its end.
+fn without_return(body: &[u8]) -> usize
+    ensures { λ r. ⌜ r ≡ length (withoutReturn (now (body .entry))) ⌝ }
+{
+    if body.len() == 0 {
+        return 0;
+    }
+    let last = body.len() - 1;
+    if body[last] == 13 { last } else { body.len() }
+}
+
+// Whether p stands at the front of s.
+pub fn begins(p: &[u8], s: &[u8]) -> bool
+    ensures { λ r. ⌜ r ≡ begins (now (p .entry)) (now (s .entry)) ⌝ }
+{
+    let mut i = 0;
+    while i < p.len() {
+        if s.len() <= i {
+            return false;
+        }
+        if s[i] != p[i] {
+            return false;
+        }
+        i += 1;
+    }
+    true
+}
+
+// The class of a line's text. Plain are a damaged line, a skipped one, and one without its prefix or with only blanks behind it.
+pub fn classify(line: &[u8], o: Options, block: &[u8]) -> Class
+    requires { ⌜ Usable (now block) o × (length (now line) ≤ 65536) ⌝ }
+    ensures { λ r. ⌜ r ≡ classify (meant (now (block .entry)) o) (now (line .entry)) ⌝ }
+{
+    let tab = o.tab;
+    let glue = o.glue;
+    let lead = over_blanks(line, Spot { at: 0, column: 0 }, tab, glue);
+    let first = lead.at;
+    if first == line.len() {
+        return Class::Blank;
+    }
+    let Found::Nowhere = text::first_damage(line) else {
+        return Class::Plain;
+    };
+    let skip = o.skip;
+    if is_skipped(line, skip, o.exact_skip, block, glue) {
+        return Class::Plain;
+    }
+    let prefix = o.prefix;
+    // Without a prefix the indent is what was measured first.
+    let Part::Given { start, end } = prefix else {
+        return Class::Formatted(Shape {
+            prefix: 0,
+            indent: first,
+            columns: lead.column,
+            margin: 0,
+        });
+    };
+    behind_prefix(line, &block[start..end], o.exact, tab, glue)
+}
+
+// The class of a line by its prefix, which must be there with more than blanks behind it.
+fn behind_prefix(line: &[u8], p: &[u8], exact: bool, tab: usize, glue: bool) -> Class
+    requires { ⌜ (length (now line) ≤ 65536) × (1 ≤ tab) × (tab ≤ 100) ⌝ }
+    ensures { λ r. ⌜ r ≡ classAt tab (length (now (p .entry))) (glyphs glue (now (line .entry))) (search exact (now (p .entry)) (now (line .entry)) 0 (glyphs glue (now (line .entry)))) ⌝ }
+{
+    let Found::At(place) = find(line, p, exact, glue) else {
+        return Class::Plain;
+    };
+    let margin = measure_to(line, place + p.len(), tab);
+    let indent = over_blanks(line, margin, tab, glue);
+    let at = indent.at;
+    if at == line.len() {
+        return Class::Plain;
+    }
+    Class::Formatted(Shape {
+        prefix: place,
+        indent: at,
+        columns: indent.column,
+        margin: margin.column,
+    })
+}
+
+// Whether a line begins with the skip prefix. One that is not given begins no line.
+fn is_skipped(line: &[u8], skip: Part, exact: bool, block: &[u8], glue: bool) -> bool
+    requires { ⌜ Lies (now block) skip ⌝ }
+    ensures { λ r. ⌜ r ≡ somewhere (skipFound exact (textOf (now (block .entry)) skip) (now (line .entry)) (glyphs glue (now (line .entry)))) ⌝ }
+{
+    let Part::Given { start, end } = skip else {
+        return false;
+    };
+    match find(line, &block[start..end], exact, glue) {
+        Found::At(_) => true,
+        Found::Nowhere => false,
+    }
+}
+
+// Where a prefix stands: at the line's start or, unless exact, at the first place with only blanks before it.
+fn find(line: &[u8], p: &[u8], exact: bool, glue: bool) -> Found
+    ensures { λ r. ⌜ r ≡ search exact (now (p .entry)) (now (line .entry)) 0 (glyphs glue (now (line .entry))) ⌝ }
+{
+    let mut i = 0;
+    while !begins(p, &line[i..]) {
+        if exact {
+            return Found::Nowhere;
+        }
+        // Nothing but blanks may stand before it; at the line's end none does.
+        let Glyph::Blank { code: _, next } = text::glyph_at(line, i, glue) else {
+            return Found::Nowhere;
+        };
+        i = next;
+    }
+    Found::At(i)
+}
+
+// On from a spot over the blanks that stand there. None stands at the line's end.
+fn over_blanks(line: &[u8], from: Spot, tab: usize, glue: bool) -> Spot
+    requires { ⌜ Inside (now line) from × (length (now line) ≤ 65536) × (1 ≤ tab) × (tab ≤ 100) ⌝ }
+    ensures { λ r. ⌜ BehindBlanks glue tab (now (line .entry)) from r ⌝ }
+{
+    let mut spot = from;
+    loop {
+        let at = spot.at;
+        let Glyph::Blank { code, next } = text::glyph_at(line, at, glue) else {
+            return spot;
+        };
+        spot = Spot {
+            at: next,
+            column: column_behind(spot.column, code, tab),
+        };
+    }
+}
+
+// The spot behind the characters that begin before a place.
+fn measure_to(line: &[u8], place: usize, tab: usize) -> Spot
+    requires { ⌜ (place ≤ length (now line)) × (length (now line) ≤ 65536) × (1 ≤ tab) × (tab ≤ 100) ⌝ }
+    ensures { λ r. ⌜ Inside (now (line .entry)) r × ((glue : Bool) → BehindPlace glue tab (now (line .entry)) place r) ⌝ }
+{
+    let mut spot = Spot { at: 0, column: 0 };
+    while spot.at < place {
+        spot = behind(line, spot, tab);
+    }
+    spot
+}
+
+// The spot behind the character at a spot. A damaged byte is one by itself.
+fn behind(line: &[u8], spot: Spot, tab: usize) -> Spot
+    requires { ⌜ Inside (now line) spot × (spot .at < length (now line)) × (length (now line) ≤ 65536) × (1 ≤ tab) × (tab ≤ 100) ⌝ }
+    ensures { λ r. ⌜ ((glue : Bool) → Behind glue tab (now (line .entry)) spot r) ⌝ }
+{
+    let at = spot.at;
+    let Char::Good { code, next } = text::char_at(line, at) else {
+        return Spot {
+            at: at + 1,
+            column: spot.column + 1,
+        };
+    };
+    Spot {
+        at: next,
+        column: column_behind(spot.column, code, tab),
+    }
+}
+
+// The column behind a character: a tab goes to the next stop.
+fn column_behind(column: usize, code: u32, tab: usize) -> usize
+    requires { ⌜ (column ≤ 6553600) × (1 ≤ tab) × (tab ≤ 100) ⌝ }
+    ensures { λ r. ⌜ (r ≡ cond (eqb code 9) (nextStop tab column) (column + widthOf code)) × (r ≤ column + 100) ⌝ }
+{
+    if code == 9 {
+        (column / tab + 1) * tab
+    } else {
+        column + text::width(code)
+    }
 }

@@ -6,3 +6,10 @@ pub mod Slices
 pub mod Parts
 pub mod All
 pub mod Extents
+pub mod RunsAt
+pub mod Fronts
+pub mod Stores
+pub mod Mapped
+pub mod Joins
+pub mod RunParts
+pub mod Remaining

@@ -1,2 +1,4 @@
 pub mod Emission
 pub mod Order
+pub mod Sink
+pub mod Writers

@@ -1,1 +1,185 @@
-// Output: writers of words, spaces and indents.
+// Output: writers of words, spaces and indents. Each is handed the output from its written end onwards, writes what fits at the front
+// of it, and answers how many bytes there were to write.
+use pieces::Margin;
+use records::Word;
+ghost use mathlib.Core.Path.{_≡_};
+ghost use mathlib.Core.Bool.{false};
+ghost use mathlib.Core.List.{_++_};
+ghost use Prim.Native.Nat.{_≤_, _<_, _^_, min};
+ghost use lib.ListN.{length, replicate};
+ghost use lib.Seq.{slice};
+ghost use Rattle.records.specs.Word.{meaning};
+ghost use Rattle.records.specs.Table.{Within};
+ghost use Rattle.output.specs.Emission.{lineFeed};
+ghost use Rattle.output.specs.Sink.{Wrote};
+ghost use Rattle.output.specs.Writers.{marginOf, MarginIn, placed, Laid, emitted, emittedFrom};
+
+// How a paragraph is laid out: uniform spacing, and its two indents.
+pub struct Layout {
+    pub uniform: bool,
+    pub first: Margin,
+    pub indent: Margin,
+}
+
+// Where a part of the output begins: at the written end or, where that lies past the output, at the output's end, so that the part is
+// empty. It is also how much of a text fits.
+fn lesser(a: usize, b: usize) -> usize
+    ensures { λ r. ⌜ r ≡ min a b ⌝ }
+{
+    if a < b {
+        return a;
+    }
+    b
+}
+
+// Bytes of the notes: a word, with the blanks before it or bare, or the bytes of an indent.
+pub fn put_text(notes: &[u8], from: usize, to: usize, rest: &mut [u8]) -> usize
+    requires { ⌜ (from ≤ to) × (to ≤ length (now notes)) ⌝ }
+    ensures { λ r. ⌜ Wrote (now (rest .entry)) 0 (slice from to (now (notes .entry))) (now (rest .exit)) r ⌝ }
+{
+    let size = to - from;
+    let fits = lesser(size, rest.len());
+    let mut k = 0;
+    while k < fits {
+        rest[k] = notes[from + k];
+        k += 1;
+    }
+    size
+}
+
+pub fn put_spaces(count: usize, rest: &mut [u8]) -> usize
+    ensures { λ r. ⌜ Wrote (now (rest .entry)) 0 (replicate count 32) (now (rest .exit)) r ⌝ }
+{
+    let fits = lesser(count, rest.len());
+    let mut k = 0;
+    while k < fits {
+        rest[k] = 32;
+        k += 1;
+    }
+    count
+}
+
+pub fn put_feed(rest: &mut [u8]) -> usize
+    ensures { λ r. ⌜ Wrote (now (rest .entry)) 0 lineFeed (now (rest .exit)) r ⌝ }
+{
+    if rest.len() == 0 {
+        return 1;
+    }
+    rest[0] = 10;
+    1
+}
+
+// An indent: its bytes, and further spaces behind them.
+pub fn put_margin(notes: &[u8], m: Margin, rest: &mut [u8]) -> usize
+    requires { ⌜ MarginIn (length (now notes)) m ⌝ }
+    ensures { λ r. ⌜ Wrote (now (rest .entry)) 0 (marginOf (now (notes .entry)) m) (now (rest .exit)) r ⌝ }
+{
+    let k = put_text(notes, m.start, m.end, rest);
+    let place = lesser(k, rest.len());
+    k + put_spaces(m.more, &mut rest[place..])
+}
+
+// A new line: a line feed, and the indent behind it.
+pub fn put_break(notes: &[u8], indent: Margin, rest: &mut [u8]) -> usize
+    requires { ⌜ MarginIn (length (now notes)) indent ⌝ }
+    ensures { λ r. ⌜ Wrote (now (rest .entry)) 0 (lineFeed ++ marginOf (now (notes .entry)) indent) (now (rest .exit)) r ⌝ }
+{
+    let k = put_feed(rest);
+    let place = lesser(k, rest.len());
+    k + put_margin(notes, indent, &mut rest[place..])
+}
+
+// A word and what stands before it: on a fresh line the line feed and the indent, else added spaces and its blanks.
+pub fn put_word(
+    notes: &[u8],
+    w: Word,
+    fresh: bool,
+    added: usize,
+    indent: Margin,
+    rest: &mut [u8],
+) -> usize
+    requires { ⌜ Within (length (now notes)) w × MarginIn (length (now notes)) indent × (length (now notes) < 2 ^ 32) × (added ≤ 2) ⌝ }
+    ensures { λ r. ⌜ Wrote (now (rest .entry)) 0 (placed fresh added (marginOf (now (notes .entry)) indent) (meaning (now (notes .entry)) w)) (now (rest .exit)) r ⌝ }
+{
+    let end = w.end;
+    if fresh {
+        let k = put_break(notes, indent, rest);
+        let place = lesser(k, rest.len());
+        return k + put_text(notes, w.start, end, &mut rest[place..]);
+    }
+    let k = put_spaces(added, rest);
+    let place = lesser(k, rest.len());
+    k + put_text(notes, w.from, end, &mut rest[place..])
+}
+
+// The first word, bare behind the first indent.
+pub fn put_first(notes: &[u8], w: Word, first: Margin, rest: &mut [u8]) -> usize
+    requires { ⌜ Within (length (now notes)) w × MarginIn (length (now notes)) first × (length (now notes) < 2 ^ 32) ⌝ }
+    ensures { λ r. ⌜ Wrote (now (rest .entry)) 0 (marginOf (now (notes .entry)) first ++ meaning (now (notes .entry)) w .text) (now (rest .exit)) r ⌝ }
+{
+    let k = put_margin(notes, first, rest);
+    let place = lesser(k, rest.len());
+    k + put_text(notes, w.start, w.end, &mut rest[place..])
+}
+
+// The words behind the first, and the line feed at the end.
+fn emit_rest(
+    notes: &[u8],
+    table: &[u32; 8192],
+    n: usize,
+    marks: &[bool; 1024],
+    l: Layout,
+    out: &mut [u8],
+    at: usize,
+) -> usize
+    requires { ⌜ Laid (now notes) (now table) n (now marks) l × (at < 2 ^ 63) ⌝ }
+    ensures { λ r. ⌜ Wrote (now (out .entry)) at (emittedFrom (now (notes .entry)) (now (table .entry)) n (now (marks .entry)) l false 1) (now (out .exit)) r ⌝ }
+{
+    let indent = l.indent;
+    let mut k = at;
+    // The first word's own punctuation does not count.
+    let mut punct = false;
+    let mut i = 1;
+    while i < n {
+        let w = records::get(table, i);
+        let added = spacing::added_space(l.uniform, w.first, w.sentence, punct);
+        let fresh = marks[i];
+        let place = lesser(k, out.len());
+        k += put_word(notes, w, fresh, added, indent, &mut out[place..]);
+        punct = w.punct;
+        i += 1;
+    }
+    let place = lesser(k, out.len());
+    k + put_feed(&mut out[place..])
+}
+
+// A paragraph of n words, broken where the marks say, written behind at bytes. Answers the written end, whether or not all of it fitted.
+pub fn emit(
+    notes: &[u8],
+    table: &[u32; 8192],
+    n: usize,
+    marks: &[bool; 1024],
+    l: Layout,
+    out: &mut [u8],
+    at: usize,
+) -> usize
+    requires { ⌜ Laid (now notes) (now table) n (now marks) l × (at < 2 ^ 62) ⌝ }
+    ensures { λ r. ⌜ Wrote (now (out .entry)) at (emitted (now (notes .entry)) (now (table .entry)) n (now (marks .entry)) l) (now (out .exit)) r ⌝ }
+{
+    let w = records::get(table, 0);
+    let first = l.first;
+    let place = lesser(at, out.len());
+    let k = at + put_first(notes, w, first, &mut out[place..]);
+    emit_rest(notes, table, n, marks, l, out, k)
+}
+
+// A line of the notes as it is, and a line feed, written behind at bytes; a blank line has no bytes of its own.
+pub fn emit_line(notes: &[u8], from: usize, to: usize, out: &mut [u8], at: usize) -> usize
+    requires { ⌜ (from ≤ to) × (to ≤ length (now notes)) × (length (now notes) < 2 ^ 32) × (at < 2 ^ 62) ⌝ }
+    ensures { λ r. ⌜ Wrote (now (out .entry)) at (slice from to (now (notes .entry)) ++ lineFeed) (now (out .exit)) r ⌝ }
+{
+    let place = lesser(at, out.len());
+    let k = at + put_text(notes, from, to, &mut out[place..]);
+    let behind = lesser(k, out.len());
+    k + put_feed(&mut out[behind..])
+}

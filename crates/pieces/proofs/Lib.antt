@@ -1,3 +1,10 @@
+pub mod Shapes
+pub mod Headers
+pub mod Following
+pub mod Places
+pub mod Seconds
 pub mod Reach
 pub mod Boundary
 pub mod Extents
+pub mod Paragraphs
+pub mod Next

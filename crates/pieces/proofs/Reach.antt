@@ -71,7 +71,7 @@ module _ (o : Opts) where
       go (joins text b) = let h = follow-le (agrees b) ls in omega arith
 
   -- the count of lines behind the first, its tests in a row
-  further-is : (mail : Bool) (a : Shape) (ls : List Line)
+  pub further-is : (mail : Bool) (a : Shape) (ls : List Line)
       → further o mail a ls ≡ cond (o .split) 0 (cond mail (follow o (continues o) ls) (cond (o .crown || o .tagged) (followSecond o ls (secondOf o a ls)) (follow o (agrees a) ls)))
   unfolding further
   further-is mail a ls = go (o .split) mail (o .crown || o .tagged)

@@ -1,1 +1,294 @@
 // Words: a paragraph's word records.
+ghost use mathlib.Core.Path.{_≡_};
+ghost use mathlib.Core.Bool.{true, false, cond, _&&_, _||_};
+ghost use mathlib.Core.List.{List, [], _++_};
+ghost use Prim.Native.Nat.{ℕ, _+_, _-_, _≤_, _<_};
+ghost use lib.Dec.{ltb};
+ghost use lib.ListN.{length};
+ghost use lib.Seq.{slice};
+ghost use Rattle.text.specs.Characters.{glyphs};
+ghost use Rattle.options.specs.Opts.{meant};
+ghost use Rattle.lines.specs.Lines.{linesOf};
+ghost use Rattle.records.specs.Table.{wordsIn};
+ghost use Rattle.words.specs.Words.{hasTab};
+ghost use Rattle.words.specs.Places.{wordsAt};
+ghost use Rattle.words.specs.Scan.{gapIn, gapBehind, punctCode, OverBlanks, OverInk, wordAt, mailAt, wordsFrom, NextIs};
+ghost use Rattle.words.specs.Split.{AllBegin, Kept, Filled, Split};
+use options::Options;
+use records::Before;
+use records::Word;
+use text::Glyph;
+
+// How many words a paragraph has, or that there are over 1,024.
+pub enum Count {
+    Words(usize),
+    TooMany,
+}
+
+// Blanks at a place: where they end, and the counts before and behind their first tab.
+struct Blanks {
+    end: usize,
+    before: Before,
+    after: usize,
+}
+
+// Ink at a place: where it ends, its width, and whether it ends in punctuation.
+struct Ink {
+    end: usize,
+    width: usize,
+    punct: bool,
+}
+
+// The next word of a line, or the line's end.
+enum Next {
+    One(Word),
+    End,
+}
+
+// The words of a paragraph's lines, which stand in the notes from at up to next: the words of the first line begin at start, those of
+// the others at later. What the table holds behind the words is scratch, and all of it if there are too many.
+pub fn split_words(
+    notes: &[u8],
+    at: usize,
+    next: usize,
+    mail: bool,
+    start: usize,
+    later: usize,
+    o: Options,
+    table: &mut [u32; 8192],
+) -> Count
+    requires { ⌜ (at ≤ next) × (next ≤ length (now notes)) × (length (now notes) ≤ 65536) × (1 ≤ o .tab) × (o .tab ≤ 100) × (length (now table) ≡ 8192) × (mail ≡ false → AllBegin (o .glue) start later (linesOf (slice at next (now notes)))) ⌝ }
+    ensures { λ r. ⌜ ((block : List ℕ) → Split (now (notes .entry)) (wordsAt (meant block o) mail start later (linesOf (slice at next (now (notes .entry))))) (now (table .exit)) r) ⌝ }
+{
+    let part = &notes[..next];
+    let mut i = at;
+    let mut n = 0;
+    let mut skip = start;
+    while i < next {
+        let line = lines::first_line(&part[i..]);
+        let from = begin(mail, i, skip);
+        let Count::Words(m) = split_line(notes, from, i + line.text, mail, o, n, table) else {
+            return Count::TooMany;
+        };
+        n = m;
+        i += line.whole;
+        skip = later;
+    }
+    Count::Words(n)
+}
+
+// Where the words of a line begin, of which mail's is taken whole.
+fn begin(mail: bool, line: usize, start: usize) -> usize
+    requires { ⌜ (mail ≡ false → line + start ≤ 65536) ⌝ }
+    ensures { λ r. ⌜ r ≡ line + cond mail 0 start ⌝ }
+{
+    if mail { line } else { line + start }
+}
+
+// The words of a line from start up to end, behind the first n of the table; or that there are too many.
+fn split_line(
+    notes: &[u8],
+    start: usize,
+    end: usize,
+    mail: bool,
+    o: Options,
+    n: usize,
+    table: &mut [u32; 8192],
+) -> Count
+    requires { ⌜ (start ≤ end) × (end ≤ length (now notes)) × (length (now notes) ≤ 65536) × (1 ≤ o .tab) × (o .tab ≤ 100) × Kept (length (now notes)) n (now table) ⌝ }
+    ensures { λ r. ⌜ Filled (now (notes .entry)) (wordsIn (now (notes .entry)) n (now (table .entry)) ++ wordsFrom (meant [] o) mail true false (glyphs (o .glue) (slice start end (now (notes .entry))))) (now (table .exit)) r ⌝ }
+{
+    let s = &notes[..end];
+    let mut count = n;
+    let mut at = start;
+    let mut first = true;
+    let mut previous = false;
+    loop {
+        let Next::One(w) = next_word(s, at, mail, first, previous, o) else {
+            return Count::Words(count);
+        };
+        if 1024 <= count {
+            return Count::TooMany;
+        }
+        records::store(table, count, w);
+        count += 1;
+        at = w.end;
+        first = false;
+        previous = w.punct;
+    }
+}
+
+// The next word from a place on. Blanks at the end belong to no word.
+fn next_word(s: &[u8], at: usize, mail: bool, first: bool, previous: bool, o: Options) -> Next
+    requires { ⌜ (at ≤ length (now s)) × (length (now s) ≤ 65536) × (1 ≤ o .tab) × (o .tab ≤ 100) ⌝ }
+    ensures { λ r. ⌜ NextIs (meant [] o) mail first previous (now (s .entry)) at r ⌝ }
+{
+    let b = over_blanks(s, at, o.tab, o.glue);
+    let start = b.end;
+    if s.len() <= start {
+        return Next::End;
+    }
+    let w = over_ink(s, start, o.glue);
+    if mail {
+        return Next::One(mail_word(start, w.end));
+    }
+    Next::One(word_of(o.uniform, first, previous, at, b, w))
+}
+
+// The record of a word behind blanks that begin at a place.
+fn word_of(uniform: bool, first: bool, previous: bool, at: usize, b: Blanks, w: Ink) -> Word
+    requires { ⌜ at ≤ b .end ⌝ }
+    ensures { λ r. ⌜ r ≡ wordAt uniform first previous at b w ⌝ }
+{
+    let sentence = starts_sentence(previous, at, b);
+    if uniform {
+        return Word {
+            from: b.end,
+            start: b.end,
+            end: w.end,
+            width: w.width,
+            before: Before::Absent,
+            after: 0,
+            first,
+            punct: w.punct,
+            sentence,
+        };
+    }
+    let before = b.before;
+    Word {
+        from: at,
+        start: b.end,
+        end: w.end,
+        width: w.width,
+        before,
+        after: b.after,
+        first,
+        punct: w.punct,
+        sentence,
+    }
+}
+
+// Whether a word starts a sentence: the one before it on its line ends in punctuation, and the blanks between have a tab or are more
+// than one byte.
+fn starts_sentence(previous: bool, at: usize, b: Blanks) -> bool
+    requires { ⌜ at ≤ b .end ⌝ }
+    ensures { λ r. ⌜ r ≡ (previous && (hasTab (b .before) || ltb 1 (b .end - at))) ⌝ }
+{
+    if previous {
+        let before = b.before;
+        let Before::Absent = before else {
+            return true;
+        };
+        return 1 < b.end - at;
+    }
+    false
+}
+
+// The record of a word in mail.
+fn mail_word(start: usize, end: usize) -> Word
+    requires { ⌜ start ≤ end ⌝ }
+    ensures { λ r. ⌜ r ≡ mailAt start end ⌝ }
+{
+    Word {
+        from: start,
+        start,
+        end,
+        width: end - start,
+        before: Before::Absent,
+        after: 0,
+        first: false,
+        punct: false,
+        sentence: false,
+    }
+}
+
+// The blanks at a place.
+fn over_blanks(s: &[u8], at: usize, tab: usize, glue: bool) -> Blanks
+    requires { ⌜ (at ≤ length (now s)) × (length (now s) ≤ 65536) × (1 ≤ tab) × (tab ≤ 100) ⌝ }
+    ensures { λ r. ⌜ OverBlanks glue tab (now (s .entry)) at r ⌝ }
+{
+    let mut b = Blanks {
+        end: at,
+        before: Before::Absent,
+        after: 0,
+    };
+    loop {
+        let end = b.end;
+        let Glyph::Blank { code, next } = text::glyph_at(s, end, glue) else {
+            return b;
+        };
+        b = behind_blank(b, code, next, tab);
+    }
+}
+
+// Blanks with one more, which ends at next. The first tab parts the counts; a later one goes to the next stop.
+fn behind_blank(b: Blanks, code: u32, next: usize, tab: usize) -> Blanks
+    requires { ⌜ (1 ≤ tab) × (tab ≤ 100) × (b .after ≤ 6553600) ⌝ }
+    ensures { λ r. ⌜ (r .end ≡ next) × (gapIn r ≡ gapBehind tab code (gapIn b)) ⌝ }
+{
+    let before = b.before;
+    if code != 9 {
+        return Blanks {
+            end: next,
+            before,
+            after: b.after + 1,
+        };
+    }
+    match before {
+        Before::Absent => Blanks {
+            end: next,
+            before: Before::Count(b.after),
+            after: 0,
+        },
+        Before::Count(n) => Blanks {
+            end: next,
+            before: Before::Count(n),
+            after: (b.after / tab + 1) * tab,
+        },
+    }
+}
+
+// The ink at a place: all up to the next blank.
+fn over_ink(s: &[u8], at: usize, glue: bool) -> Ink
+    requires { ⌜ (at ≤ length (now s)) × (length (now s) ≤ 65536) ⌝ }
+    ensures { λ r. ⌜ OverInk glue (now (s .entry)) at r ⌝ }
+{
+    let mut w = Ink {
+        end: at,
+        width: 0,
+        punct: false,
+    };
+    while w.end < s.len() {
+        let end = w.end;
+        match text::glyph_at(s, end, glue) {
+            Glyph::Blank { code: _, next: _ } => {
+                return w;
+            }
+            Glyph::Ink { code, next } => {
+                w = Ink {
+                    end: next,
+                    width: w.width + text::width(code),
+                    punct: is_punct(code),
+                };
+            }
+            // A damaged byte is one by itself, and as wide as a character.
+            Glyph::Damaged => {
+                w = Ink {
+                    end: end + 1,
+                    width: w.width + 1,
+                    punct: false,
+                };
+            }
+        }
+    }
+    w
+}
+
+fn is_punct(code: u32) -> bool
+    ensures { λ r. ⌜ r ≡ punctCode code ⌝ }
+{
+    match code {
+        33 | 46 | 63 => true,
+        _ => false,
+    }
+}

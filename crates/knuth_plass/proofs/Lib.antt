@@ -1,0 +1,14 @@
+pub mod Table
+pub mod Path
+pub mod Ascends
+pub mod Marks
+pub mod Offers
+pub mod Lowest
+pub mod Line
+pub mod Filled
+pub mod Step
+pub mod Over
+pub mod Restart
+pub mod Settling
+pub mod Paragraph
+pub mod Whole

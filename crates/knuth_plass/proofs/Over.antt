@@ -1,0 +1,98 @@
+-- A round over all active breaks: how it begins, and what it has come to when all are done.
+use mathlib.Core.Path.{_≡_, refl, sym, ap, _∙_}
+use mathlib.Core.Bool.{Bool, true, false, cond}
+use mathlib.Core.List.{List, _∷_, map, append-nil}
+use Prim.Native.Nat.{ℕ, _-_, _≤_, _<_}
+use native.Mathlib.Omega.{arith}
+use lib.Dec.{ltb}
+use lib.ListN.{length, getD, take}
+use lib.Seq.{slice}
+use Rattle.lists.proofs.Remaining.{slice-here, slice-none}
+use Rattle.records.specs.Word.{meaning}
+use Rattle.spacing.specs.declared.Setting.{Setting}
+use Rattle.knuth_plass.specs.declared.Break.{Break as Record}
+use Rattle.knuth_plass.specs.declared.Best.the-variants.{Nothing}
+use Rattle.knuth_plass.specs.declared.Turn.{Turn}
+use Rattle.knuth_plass.specs.declared.State.{State}
+use Rattle.knuth_plass.specs.declared.Standing.{Standing}
+use Rattle.knuth_plass.specs.KnuthPlass.{Break, reduced, staying, lesser, bestOffer, leastFrom, least}
+use Rattle.knuth_plass.specs.Table.{Tables, breakIn, seen, meant, Ascends}
+use Rattle.knuth_plass.specs.Round.{Turns, lessened, offerIn, Ready, breaksOf, Fit, Goes, Answer, Done}
+use Rattle.knuth_plass.proofs.Ascends.{ascends-first}
+use Rattle.knuth_plass.proofs.Offers.{lesser-none}
+
+-- the first break, looked at again, is still the least
+least-again : (b : Break) (bs : List Break) → leastFrom b (b ∷ bs) ≡ leastFrom b bs
+unfolding leastFrom
+least-again b bs = ap (λ (c : Break). leastFrom c bs) (by (ltb (b .demerits) (b .demerits))) where
+  by : (x : Bool) → cond x b b ≡ b
+  by true = refl
+  by false = refl
+
+-- the round so far where none is done, the first break being b
+abbrev begun : ℕ → Record → State
+begun n b = record { kept = 0; from = n; least = b; best = Nothing }
+
+abbrev pub answer : Setting → Turn → List Break → List ℕ → Answer
+answer g turn active notes = record {
+  notes = notes;
+  stayed = staying g (turn .space) (meaning notes (turn .word)) active;
+  best = bestOffer g (turn .last) (turn .number) (turn .space) (meaning notes (turn .word)) active;
+  least = least active;
+}
+
+module _ (g : Setting) (turn : Turn) (st : Standing) (t : Tables) (a : List ℕ) (turns : Turns g turn) (ready : Ready (turn .number) st t a) where
+  few : st .count ≤ length a
+  few = let f = turns .few in let h = ready .few in let r = ready .room in let l = ready .active in omega arith
+
+  here : slice 0 (st .count) a ≡ getD a 0 0 ∷ slice 1 (st .count) a
+  here = slice-here a 0 (st .count) 0 (ready .some) few
+
+  pub first-within : getD a 0 0 < st .size
+  first-within = ascends-first 0 (st .size) (getD a 0 0) (slice 1 (st .count) a) (rw here at (ready .ascends))
+
+  pub first-room : getD a 0 0 < 1024
+  first-room = let w = first-within in let f = turns .few in let h = ready .few in omega arith
+
+  module _ (b : Record) (is : b ≡ lessened (st .reduction) (breakIn t (getD a 0 0))) where
+    pub fit-first : Fit turn st 0 t a (begun (getD a 0 0) b)
+    fit-first = record {
+      filled = ready .filled;
+      active = ready .active;
+      few = ready .few;
+      room = ready .room;
+      kept = omega arith;
+      on = omega arith;
+      ascends = ready .ascends;
+      from = first-within;
+      columns = rw is (ready .filled .sound (getD a 0 0) first-within .columns);
+      best = tt;
+    }
+
+    pub goes-first : (notes : List ℕ) → Goes g turn st (answer g turn (map (reduced (st .reduction)) (breaksOf (st .count) t a)) notes) 0 t a (begun (getD a 0 0) b)
+    unfolding lesser offerIn least reduced meant seen
+    goes-first notes = record {
+      stayed = refl;
+      best = refl;
+      least = rw (is, here) (least-again _ _);
+    }
+
+module _ (turn : Turn) (st : Standing) (t : Tables) (a : List ℕ) (k : ℕ) (s : State) (all : st .count ≤ k) where
+  pub fit-end : Fit turn st k t a s → Fit turn st (st .count) t a s
+  fit-end fit =
+      let on = fit .on in
+      let e : k ≡ st .count = omega arith in
+      rw e at fit
+
+  pub fit-all : Fit turn st k t a s → Ascends 0 (st .size) (take (s .kept) a)
+  fit-all fit = rw (← append-nil (take (s .kept) a), ← slice-none a k (st .count) all) (fit .ascends)
+
+  pub done : (g : Setting) (active : List Break) (notes : List ℕ) → Goes g turn st (answer g turn active notes) k t a s → Done g turn active t a s notes
+  unfolding staying bestOffer leastFrom
+  done g active notes v =
+      let e = slice-none a k (st .count) all in
+      record {
+        stayed = sym (append-nil (breaksOf (s .kept) t a)) ∙ rw e at (v .stayed);
+        best = sym (lesser-none (offerIn g (turn .number) t (s .best))) ∙ rw e at (v .best);
+        least = rw e at (v .least);
+      }

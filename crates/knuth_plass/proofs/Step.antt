@@ -1,0 +1,167 @@
+-- One turn of a round: the break that is next is dropped, or stays with the word on its line and may offer.
+use mathlib.Core.Path.{_≡_, refl}
+use mathlib.Core.List.{List, [], _∷_, _++_, map-append}
+use Prim.Native.Nat.{ℕ, _+_, _-_, _^_, _≤_, _<_}
+use native.Mathlib.Numerals.{add-one}
+use native.Mathlib.Omega.{arith}
+use borrow.Author.Tests.{le-leb, lt-leb}
+use lib.ListN.{getD, set, take, length-set}
+use lib.Seq.{slice, take-suc-set, append-snoc}
+use Rattle.lists.proofs.Remaining.{slice-here, slice-set}
+use Rattle.records.specs.Word.{meaning}
+use Rattle.spacing.specs.declared.Setting.{Setting}
+use Rattle.knuth_plass.specs.declared.Break.{Break as Record}
+use Rattle.knuth_plass.specs.declared.Best.{Best}
+use Rattle.knuth_plass.specs.declared.Turn.{Turn}
+use Rattle.knuth_plass.specs.declared.State.{State}
+use Rattle.knuth_plass.specs.declared.Standing.{Standing}
+use Rattle.knuth_plass.specs.KnuthPlass.{Place, Break, none, reduced, staying, lesser, offerOf, bestOffer}
+use Rattle.knuth_plass.specs.Table.{Tables, breakIn, withBreak, pathTo, seen, meant, Sound, Ascends}
+use Rattle.knuth_plass.specs.Round.{Limits, Turns, lineAt, lessened, extended, noted, OfferedIs, Fit, Goes, Answer, rest}
+use Rattle.knuth_plass.proofs.Path.{Alike, path-again, meant-again, meant-beside}
+use Rattle.knuth_plass.proofs.Ascends.{ascends-at, ascends-less, map-left, map-right}
+use Rattle.knuth_plass.proofs.Filled.{filled-again, sound-lessened, sound-extended}
+use Rattle.knuth_plass.proofs.Lowest.{noted-kept, noted-best, noted-holds, least-step}
+use Rattle.knuth_plass.proofs.Line.{line-is}
+use Rattle.knuth_plass.proofs.Offers.{lesser-assoc, offer-same}
+
+-- ---- the definition, one break on
+
+module _ (g : Setting) (turn : Turn) (notes : List ℕ) (b : Record) (path : List Place) where
+  staying-drops : (bs : List Break) → g .width < lineAt g turn b
+      → staying g (turn .space) (meaning notes (turn .word)) (seen path b ∷ bs) ≡ staying g (turn .space) (meaning notes (turn .word)) bs
+  unfolding staying
+  staying-drops bs h = rw (staying, line-is g turn b notes path, lt-leb (lineAt g turn b) (g .width) h)
+
+  staying-keeps : (bs : List Break) → lineAt g turn b ≤ g .width
+      → staying g (turn .space) (meaning notes (turn .word)) (seen path b ∷ bs) ≡ seen path (extended (lineAt g turn b) b) ∷ staying g (turn .space) (meaning notes (turn .word)) bs
+  unfolding staying seen
+  staying-keeps bs h = rw (staying, line-is g turn b notes path, le-leb (lineAt g turn b) (g .width) h, line-is g turn b notes path)
+
+  offer-drops : g .width < lineAt g turn b → offerOf g (turn .last) (turn .number) (turn .space) (meaning notes (turn .word)) (seen path b) ≡ none
+  unfolding offerOf
+  offer-drops h = rw (offerOf, line-is g turn b notes path, lt-leb (lineAt g turn b) (g .width) h)
+
+-- ---- one turn
+
+module _ (g : Setting) (turn : Turn) (st : Standing) (k : ℕ) (t : Tables) (a : List ℕ) (s : State) (turns : Turns g turn) (fit : Fit turn st k t a s) (more : k < st .count) where
+  here : slice k (st .count) a ≡ getD a k 0 ∷ slice (k + 1) (st .count) a
+  here = let f = turns .few in slice-here a k (st .count) 0 more (omega arith)
+
+  split : Ascends 0 (st .size) (take (s .kept) a ++ getD a k 0 ∷ slice (k + 1) (st .count) a)
+  split = rw here at (fit .ascends)
+
+  pub within : getD a k 0 < st .size
+  within = ascends-at (getD a k 0) (slice (k + 1) (st .count) a) 0 (st .size) (take (s .kept) a) split .1
+
+  pub room : getD a k 0 < 1024
+  room = let w = within in let f = turns .few in let h = fit .few in omega arith
+
+  pub sound : Sound (turn .number) (lessened (st .reduction) (breakIn t (getD a k 0)))
+  sound = sound-lessened (turn .number) (st .reduction) (breakIn t (getD a k 0)) (fit .filled .sound (getD a k 0) within)
+
+  next : rest st k t a ≡ seen (pathTo t (getD a k 0)) (lessened (st .reduction) (breakIn t (getD a k 0))) ∷ rest st (k + 1) t a
+  unfolding reduced meant seen
+  next = rw here
+
+  module _ (b : Record) (is : b ≡ lessened (st .reduction) (breakIn t (getD a k 0))) where
+    least-fits : (noted s (getD a k 0) b .from < st .size) × (noted s (getD a k 0) b .least .columns < 2 ^ 33)
+    least-fits =
+        noted-holds s (getD a k 0) b (λ m c. (m < st .size) × (c .columns < 2 ^ 33)) (fit .from, fit .columns) (within, rw is (sound .columns))
+
+    module _ (long : g .width < lineAt g turn b) where
+      pub fit-drops : Fit turn st (k + 1) t a (noted s (getD a k 0) b)
+      fit-drops =
+          let h = fit .kept in
+          record {
+            filled = fit .filled;
+            active = fit .active;
+            few = fit .few;
+            room = fit .room;
+            kept = rw (noted-kept s (getD a k 0) b) (omega arith);
+            on = omega arith;
+            ascends = rw (noted-kept s (getD a k 0) b) (ascends-less (getD a k 0) (slice (k + 1) (st .count) a) 0 (st .size) (take (s .kept) a) split);
+            from = least-fits .0;
+            columns = least-fits .1;
+            best = rw (noted-best s (getD a k 0) b) (fit .best);
+          }
+
+      pub goes-drops : (z : Answer) → Goes g turn st z k t a s → Goes g turn st z (k + 1) t a (noted s (getD a k 0) b)
+      unfolding bestOffer lesser
+      goes-drops z v =
+          let n : rest st k t a ≡ seen (pathTo t (getD a k 0)) b ∷ rest st (k + 1) t a = rw is next in
+          record {
+            stayed = rw (noted-kept s (getD a k 0) b) (rw (n, staying-drops g turn (z .notes) b (pathTo t (getD a k 0)) (rest st (k + 1) t a) long) at (v .stayed));
+            best = rw (noted-best s (getD a k 0) b) (rw (n, bestOffer, offer-drops g turn (z .notes) b (pathTo t (getD a k 0)) long, lesser) at (v .best));
+            least = rw (n, least-step s (getD a k 0) b (pathTo t) (rest st (k + 1) t a)) at (v .least);
+          }
+
+    module _ (x : ℕ) (best : Best) (t₁ : Tables) (limits : Limits g) (line : x ≡ lineAt g turn b) (fits : x ≤ g .width)
+        (offered : OfferedIs g turn (getD a k 0) b (s .best) best) (stored : t₁ ≡ withBreak t (getD a k 0) (extended x b)) where
+      alike : Alike (extended x b) (breakIn t (getD a k 0))
+      alike = rw is (record { place = refl; previous = refl })
+
+      few : st .size ≤ 1024
+      few = let f = turns .few in let h = fit .few in omega arith
+
+      paths : (j : ℕ) → j < st .size → pathTo t₁ j ≡ pathTo t j
+      paths j h = rw stored (path-again t (getD a k 0) (st .size) (extended x b) few (fit .filled .sized) (fit .filled .down) within alike j h)
+
+      beside : (j : ℕ) → j < st .size → (j ≡ getD a k 0 → ⊥) → meant t₁ j ≡ meant t j
+      beside j h ne = rw stored (meant-beside t (getD a k 0) (st .size) (extended x b) few (fit .filled .sized) (fit .filled .down) within alike j h ne)
+
+      itself : meant t₁ (getD a k 0) ≡ seen (pathTo t (getD a k 0)) (extended x b)
+      itself = rw stored (meant-again t (getD a k 0) (st .size) (extended x b) few (fit .filled .sized) (fit .filled .down) within alike)
+
+      front : take (s .kept + 1) (set a (s .kept) (getD a k 0)) ≡ take (s .kept) a ++ (getD a k 0 ∷ [])
+      front = let h = fit .kept in let l = fit .active in let r = fit .room in rw add-one (take-suc-set a (s .kept) (getD a k 0) (omega arith))
+
+      back : slice (k + 1) (st .count) (set a (s .kept) (getD a k 0)) ≡ slice (k + 1) (st .count) a
+      back = let h = fit .kept in slice-set a (k + 1) (st .count) (s .kept) (getD a k 0) (omega arith) (omega arith)
+
+      rest-same : rest st (k + 1) t₁ (set a (s .kept) (getD a k 0)) ≡ rest st (k + 1) t a
+      rest-same = rw (back, map-right (meant t₁) (meant t) (getD a k 0) (slice (k + 1) (st .count) a) 0 (st .size) (take (s .kept) a) split beside)
+
+      abbrev state : State
+      state = record { kept = s .kept + 1; from = noted s (getD a k 0) b .from; least = noted s (getD a k 0) b .least; best = best }
+
+      pub fit-keeps : Fit turn st (k + 1) t₁ (set a (s .kept) (getD a k 0)) state
+      fit-keeps =
+          let h = fit .kept in
+          let w = limits .wide in
+          record {
+            filled = rw stored (filled-again (turn .number) (st .size) t (fit .filled) (getD a k 0) (extended x b) few within (sound-extended (turn .number) x b (omega arith) (rw is sound)) (alike .previous));
+            active = simp length-set (fit .active);
+            few = fit .few;
+            room = fit .room;
+            kept = omega arith;
+            on = omega arith;
+            ascends = rw (front, back, append-snoc) split;
+            from = least-fits .0;
+            columns = least-fits .1;
+            best = offered .fits (st .size) within (fit .best);
+          }
+
+      pub goes-keeps : (z : Answer) → Goes g turn st z k t a s → Goes g turn st z (k + 1) t₁ (set a (s .kept) (getD a k 0)) state
+      unfolding bestOffer
+      goes-keeps z v =
+          let n : rest st k t a ≡ seen (pathTo t (getD a k 0)) b ∷ rest st (k + 1) t a = rw is next in
+          let f : lineAt g turn b ≤ g .width = rw (← line) fits in
+          record {
+            stayed = rw (
+              front,
+              rest-same,
+              map-append,
+              map-left (meant t₁) (meant t) (getD a k 0) (slice (k + 1) (st .count) a) 0 (st .size) (take (s .kept) a) split beside,
+              itself,
+              append-snoc,
+              line,
+            ) (rw (n, staying-keeps g turn (z .notes) b (pathTo t (getD a k 0)) (rest st (k + 1) t a) f) at (v .stayed));
+            best = rw (
+              rest-same,
+              offer-same g (turn .number) (st .size) t t₁ best (offered .fits (st .size) within (fit .best)) paths,
+              offered .is (z .notes) t,
+              lesser-assoc,
+            ) (rw (n, bestOffer) at (v .best));
+            least = rw (rest-same, paths (noted s (getD a k 0) b .from) (least-fits .0)) (rw (n, least-step s (getD a k 0) b (pathTo t) (rest st (k + 1) t a)) at (v .least));
+          }

@@ -1,0 +1,83 @@
+-- The break table's laws: a record that was stored is read back, and the others are as they were.
+use mathlib.Core.Path.{_≡_, refl}
+use mathlib.Core.Bool.{Bool, true, false, cond}
+use mathlib.Core.List.{List, [], _∷_}
+use Prim.Native.Nat.{ℕ, _+_, _*_, _<_}
+use native.Mathlib.Numerals.{add-one, add-two, add-three, add-four, add-five}
+use native.Mathlib.Omega.{arith}
+use lib.Dec.{eqb}
+use lib.Ieee.{Float, nan}
+use lib.ListN.{getD, set, length-set}
+use lib.Seq.{sets, length-sets, getD-set-same, getD-set-other}
+use Rattle.lists.proofs.Stores.{sets-other, sets-within}
+use Rattle.knuth_plass.specs.declared.Break.{Break as Record}
+use Rattle.knuth_plass.specs.Table.{Tables, tables, Sized, numberAt, breakIn, numbersOf, withBreak}
+
+bit-back : (a : Bool) → eqb (cond a 1 0) 1 ≡ a
+bit-back true = refl
+bit-back false = refl
+
+-- six stores one by one
+stored : (l : List ℕ) (k a b c d e f : ℕ)
+    → set (set (set (set (set (set l k a) (k + 1) b) (k + 2) c) (k + 3) d) (k + 4) e) (k + 5) f ≡ sets l k (a ∷ b ∷ c ∷ d ∷ e ∷ f ∷ [])
+stored l k a b c d e f = rw (add-one k, add-two k, add-three k, add-four k, add-five k)
+
+-- the same, as the code makes them
+pub stored-break : (l : List ℕ) (rs : List Float) (i : ℕ) (b : Record) (p q : ℕ) → p ≡ cond (b .before) 1 0 → q ≡ cond (b .fresh) 1 0
+    → tables
+    (set (set (set (set (set (set l (i * 8) (b .previous)) (i * 8 + 1) (b .word)) (i * 8 + 2) p) (i * 8 + 3) (b .demerits)) (i * 8 + 4) (b .columns)) (i * 8 + 5) q)
+    (set rs i (b .ratio))
+    ≡ withBreak (tables l rs) i b
+unfolding withBreak numbersOf
+stored-break l rs i b p q e f = rw (stored l (i * 8) (b .previous) (b .word) p (b .demerits) (b .columns) q, e, f)
+
+module _ (t : Tables) (i : ℕ) (b : Record) where
+  pub sized-with : Sized t → Sized (withBreak t i b)
+  unfolding withBreak
+  sized-with s = record { numbers = simp length-sets (s .numbers); ratios = simp length-set (s .ratios) }
+
+  module _ (room : i < 1024) (sized : Sized t) where
+    number-back : (j : ℕ) → j < 6 → numberAt (withBreak t i b .numbers) i j ≡ getD (numbersOf b) j 0
+    unfolding withBreak numbersOf
+    number-back j h = let n = sized .numbers in sets-within 0 (t .numbers) (i * 8) (numbersOf b) j h (omega arith)
+
+    ratio-back : getD (withBreak t i b .ratios) i nan ≡ b .ratio
+    unfolding withBreak
+    ratio-back = let n = sized .ratios in getD-set-same (t .ratios) i (b .ratio) nan (omega arith)
+
+    pub read-back : breakIn (withBreak t i b) i ≡ b
+    unfolding breakIn numbersOf
+    read-back =
+        rw (
+          number-back 0 (omega arith),
+          number-back 1 (omega arith),
+          number-back 2 (omega arith),
+          number-back 3 (omega arith),
+          number-back 4 (omega arith),
+          number-back 5 (omega arith),
+          ratio-back,
+          bit-back (b .before),
+          bit-back (b .fresh),
+        )
+
+  module _ (j : ℕ) (other : j ≡ i → ⊥) where
+    other-number : (a : ℕ) → a < 8 → numberAt (withBreak t i b .numbers) j a ≡ numberAt (t .numbers) j a
+    unfolding withBreak numbersOf
+    other-number a h = sets-other 0 (t .numbers) (i * 8) (numbersOf b) (j * 8 + a) (λ b g e. other (omega arith))
+
+    other-ratio : getD (withBreak t i b .ratios) j nan ≡ getD (t .ratios) j nan
+    unfolding withBreak
+    other-ratio = getD-set-other (t .ratios) i j (b .ratio) nan other
+
+    pub read-other : breakIn (withBreak t i b) j ≡ breakIn t j
+    unfolding breakIn
+    read-other =
+        rw (
+          other-number 0 (omega arith),
+          other-number 1 (omega arith),
+          other-number 2 (omega arith),
+          other-number 3 (omega arith),
+          other-number 4 (omega arith),
+          other-number 5 (omega arith),
+          other-ratio,
+        )

@@ -1,0 +1,61 @@
+-- The marks of the path from the first least break are the definition's.
+use mathlib.Core.Path.{_≡_, ap, _∙_}
+use mathlib.Core.Bool.{Bool, false}
+use mathlib.Core.List.{List, [], _∷_}
+use Prim.Native.Nat.{ℕ, suc, _-_, _≤_, _<_}
+use native.Mathlib.Numerals.{add-one}
+use native.Mathlib.Omega.{arith}
+use lib.ListN.{length, getD, drop, length-drop}
+use lib.Seq.{slice}
+use Rattle.lists.proofs.Remaining.{slice-here, slice-none}
+use Rattle.records.specs.Word.{Word, meaning}
+use Rattle.records.specs.Table.{wordIn, wordsIn}
+use Rattle.records.proofs.Table.{words-drop, words-length}
+use Rattle.spacing.specs.declared.Setting.{Setting}
+use Rattle.knuth_plass.specs.declared.Standing.{Standing}
+use Rattle.knuth_plass.specs.KnuthPlass.{Place, Break, Active, least, roundsFrom, pathOf, startsLine, marksFrom, bestBreaks}
+use Rattle.knuth_plass.specs.Table.{Tables, pathTo, seen, meant, Leads, Marked}
+use Rattle.knuth_plass.specs.Round.{begin, RoundsAre, Listed, LeastIs, BestAre}
+
+marks-are : (marks : List Bool) (n : ℕ) (path : List Place) (i : ℕ) (ws : List Word) → n ≤ length marks → length ws ≡ n - i
+    → ((j : ℕ) → j < n → getD marks j false ≡ startsLine j path) → slice i n marks ≡ marksFrom path i ws
+unfolding marksFrom
+marks-are marks n path i [] h l e = slice-none marks i n (omega arith)
+marks-are marks n path i (w ∷ ws) h l e =
+    rw (slice-here marks i n false (omega arith) h, e i (omega arith), add-one i) (ap (λ (bs : List Bool). startsLine i path ∷ bs) (marks-are marks n path (suc i) ws h (omega arith) e))
+
+module _ (g : Setting) (n : ℕ) (table : List ℕ) (t : Tables) (a : List ℕ) (st : Standing) (few : n ≤ 1024) (rounds : RoundsAre g n table t a st) where
+  pub listed : Listed st a
+  listed =
+      let r = rounds .ready in
+      let f = r .few in
+      record { size = omega arith; some = r .some; room = r .room; active = r .active; ascends = r .ascends }
+
+  module _ (last : ℕ) (found : LeastIs st t a last) where
+    pub last-room : last < 1024
+    last-room = let r = rounds .ready .few in let w = found .within in omega arith
+
+    pub leads : Leads t last
+    leads j p h =
+        let r = rounds .ready in
+        let w = found .within in
+        let l : j < st .size = omega arith in
+        let d = r .filled .sound j l .word in
+        (r .filled .down j p l, omega arith)
+
+    path-is : (notes : List ℕ) → pathTo t last ≡ least (roundsFrom g false 1 (begin g (meaning notes (wordIn table 0))) (drop 1 (wordsIn notes n table)) .breaks) .places
+    unfolding meant seen
+    path-is notes = ap (λ (b : Break). b .places) (found .is ∙ ap (λ (b : Active). least (b .breaks)) (rounds .is notes))
+
+    pub best-are : (old marks : List Bool) → 1 ≤ n → Marked n old marks (λ (j : ℕ). startsLine j (pathTo t last)) → BestAre g n table old t a marks
+    unfolding bestBreaks pathOf begin
+    best-are old marks some m = record {
+      breaks = λ notes.
+          let l = words-length notes n table in
+          let f = m .sized in
+          rw (words-drop notes n table 0 some, ← path-is notes)
+          (marks-are marks n (pathTo t last) 1 (drop 1 (wordsIn notes n table)) (omega arith) (length-drop 1 (wordsIn notes n table) ∙ rw l) (m .within));
+      first = λ notes. rw (words-drop notes n table 0 some, ← path-is notes) (m .within 0 some);
+      beyond = m .beyond;
+      lent = record { tables = rounds .ready .filled .sized; active = rounds .ready .active; all = m .sized };
+    }

@@ -1,0 +1,51 @@
+-- `knuth_plass::get_break` meets its contract. The record is put together from its numbers.
+use Rattle.knuth_plass.specs.Table.{breakIn}
+use borrow.Author.Needs.{needs}
+use Rattle.knuth_plass.proofs.get_break.Statement.{statement}
+use Rattle.knuth_plass.proofs.get_break.Tie as tie
+
+number-requires : tie.Need-number-requires
+number-requires c κs = search needs
+
+number-requires-2 : tie.Need-number-requires-2
+number-requires-2 c κs = search needs
+
+number-requires-3 : tie.Need-number-requires-3
+number-requires-3 c κs = search needs
+
+number-requires-4 : tie.Need-number-requires-4
+number-requires-4 c κs = search needs
+
+wide-requires : tie.Need-wide-requires
+wide-requires c κs = search needs
+
+mul-t10 : tie.Need-mul-t10
+mul-t10 c = search needs
+
+element-copy-out-t13 : tie.Need-element-copy-out-t13
+element-copy-out-t13 c = search needs
+
+number-requires-5 : tie.Need-number-requires-5
+number-requires-5 c κs = search needs
+
+number-requires-6 : tie.Need-number-requires-6
+number-requires-6 c κs = search needs
+
+returns : tie.Need-returns
+unfolding breakIn
+returns c = cc
+
+pub get-break-spec : {M : Type 1} → statement M
+get-break-spec =
+    tie.close
+    (tie.spec
+    number-requires
+    number-requires-2
+    number-requires-3
+    number-requires-4
+    wide-requires
+    mul-t10
+    element-copy-out-t13
+    number-requires-5
+    number-requires-6
+    returns)

@@ -1,0 +1,66 @@
+-- `knuth_plass::least` meets its contract. Invariant: the least of the one found and the rest is the least of all.
+use mathlib.Core.Path.{_≡_, _∙_}
+use mathlib.Core.List.{map}
+use Prim.Native.Nat.{_≤_, _<_, _-_}
+use native.Mathlib.Omega.{arith}
+use lib.Seq.{slice}
+use Rattle.knuth_plass.specs.KnuthPlass.{leastFrom, least as leastOf}
+use Rattle.knuth_plass.specs.Table.{tables, meant}
+use Rattle.knuth_plass.specs.Round.{breaksOf}
+use Rattle.knuth_plass.proofs.Lowest.{active-below, least-begins, least-goes, least-found}
+use Rattle.knuth_plass.proofs.least.Statement.{statement}
+use Rattle.knuth_plass.proofs.least.Tie as tie
+
+abbrev Inv-loop : tie.InvT-loop
+Inv-loop breaks ratios active st found₀ k₀ found k =
+    (k ≤ st .count) × (found < st .size)
+    × (leastFrom (meant (tables breaks ratios) found) (map (meant (tables breaks ratios)) (slice k (st .count) active)) ≡ leastOf (breaksOf (st .count) (tables breaks ratios) active))
+
+abbrev μ-loop : tie.MeasureT-loop
+μ-loop breaks ratios active st found₀ k₀ found k = st .count - k
+
+element-copy-out-found : tie.Need-element-copy-out-found Inv-loop μ-loop
+element-copy-out-found c = omega arith
+
+loop-holds : tie.Need-loop-holds Inv-loop μ-loop
+loop-holds c = let h = c .before .pre .some in (omega arith, active-below (c .before .args .st) (tables (c .before .args .breaks .now) (c .before .args .ratios .now)) (c .before .args .active .now) (c .before .pre) 0 h, least-begins (c .before .args .st) (tables (c .before .args .breaks .now) (c .before .args .ratios .now)) (c .before .args .active .now) (c .before .pre))
+
+mul-n : tie.Need-mul-n Inv-loop μ-loop
+mul-n c = let r = c .before .before .before .before .pre in omega arith
+
+element-copy-out-n : tie.Need-element-copy-out-n Inv-loop μ-loop
+element-copy-out-n c = let r = c .before .before .before .before .pre in omega arith
+
+lesser-requires : tie.Need-lesser-requires Inv-loop μ-loop
+lesser-requires c κs = let r = c .before .before .before .before .before .pre in let v = c .before .before .before .loop .inv in let w = active-below (c .before .before .before .before .before .args .st) (tables (c .before .before .before .before .before .args .breaks .now) (c .before .before .before .before .before .args .ratios .now)) (c .before .before .before .before .before .args .active .now) (c .before .before .before .before .before .pre) (c .before .before .before .loop .k) (c .before .if1 .taken) in (omega arith, omega arith)
+
+add-k : tie.Need-add-k Inv-loop μ-loop
+add-k c = let r = c .before .before .before .before .before .before .pre in omega arith
+
+loop-less : tie.Need-loop-less Inv-loop μ-loop
+loop-less c = omega arith
+
+loop-again : tie.Need-loop-again Inv-loop μ-loop
+loop-again c =
+    let v = c .before .before .before .before .loop .inv in
+    let g = least-goes (c .before .before .before .before .before .before .args .st) (tables (c .before .before .before .before .before .before .args .breaks .now) (c .before .before .before .before .before .before .args .ratios .now)) (c .before .before .before .before .before .before .args .active .now) (c .before .before .before .before .before .before .pre) (c .before .before .before .before .loop .k) (c .before .before .before .before .loop .found) (c .lesser .result) (c .before .before .if1 .taken) (c .lesser .ensures) (v .1) in
+    (omega arith, g .0, g .1 ∙ v .2)
+
+returns : tie.Need-returns Inv-loop μ-loop
+returns c = let v = c .before .before .loop .inv in least-found (c .before .before .before .before .args .st) (tables (c .before .before .before .before .args .breaks .now) (c .before .before .before .before .args .ratios .now)) (c .before .before .before .before .args .active .now) (c .before .before .before .before .pre) (c .before .before .loop .k) (c .before .before .loop .found) (c .if1 .left) (v .1) (v .2)
+
+pub least-spec : {M : Type 1} → statement M
+least-spec =
+    tie.close
+    (tie.spec
+    Inv-loop
+    μ-loop
+    element-copy-out-found
+    loop-holds
+    mul-n
+    element-copy-out-n
+    lesser-requires
+    add-k
+    loop-less
+    loop-again
+    returns)

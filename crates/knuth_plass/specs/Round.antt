@@ -1,0 +1,228 @@
+-- What the code's records of a round mean, what holds of them, and what a round has still to do while it goes over the active breaks.
+use mathlib.Core.Bool.{Bool, true, false, cond}
+use mathlib.Core.List.{List, [], _∷_, _++_, map}
+use mathlib.Core.Path.{_≡_}
+use Prim.Native.Nat.{ℕ, suc, _+_, _-_, _*_, _^_, _≤_, _<_}
+use lib.Dec.{T, leb, ltb}
+use lib.Ieee.{Float}
+use lib.ListN.{length, getD, take, drop}
+use lib.Seq.{slice}
+use Rattle.records.specs.Word.{Word, meaning}
+use Rattle.records.specs.Table.{Small, wordIn, wordsIn}
+use Rattle.records.specs.Marks.{breaksIn}
+use Rattle.records.specs.declared.Word.{Word as WordRecord}
+use Rattle.spacing.specs.Spacing.{gapWidth}
+use Rattle.spacing.specs.declared.Setting.{Setting}
+use Rattle.demerits.specs.Demerits.{wordTerm}
+use Rattle.demerits.specs.Bounds.{within, mostCost}
+use Rattle.knuth_plass.specs.declared.Break.{Break as Record}
+use Rattle.knuth_plass.specs.declared.Best.{Best}
+use Rattle.knuth_plass.specs.declared.Best.the-variants.{Nothing, From}
+use Rattle.knuth_plass.specs.declared.Turn.{Turn}
+use Rattle.knuth_plass.specs.declared.State.{State}
+use Rattle.knuth_plass.specs.declared.Standing.{Standing}
+use Rattle.knuth_plass.specs.KnuthPlass.{stretchOf, Place, Break, Active, Offer, none, offer, after, reduced, staying, lesser, offerOf, bestOffer, leastFrom, least, restart, settled, withOffer, round, firstBreak, roundsFrom, pathOf, startsLine, bestBreaks}
+use Rattle.knuth_plass.specs.Table.{Tables, Sized, placeOf, pathTo, seen, meant, Sound, Filled, Ascends}
+
+-- ---- what can be asked of a caller
+
+pub record Limits (g : Setting) : Type 0 where
+  pub over : g .goal ≤ g .width
+  pub twice : g .width ≤ 2 * g .goal
+  pub wide : g .width ≤ 1000
+  pub tab : 1 ≤ g .tab
+  pub tabs : g .tab ≤ 100
+  pub first : g .first < 2 ^ 32
+  pub indent : g .indent < 2 ^ 32
+
+pub record Turns (g : Setting) (turn : Turn) : Type 0 where
+  pub some : 1 ≤ turn .word .width
+  pub small : Small (turn .word)
+  pub space : turn .space ≤ 2
+  pub few : turn .number < 1024
+  pub floor : turn .floor ≡ (1 + wordTerm (stretchOf g) (turn .word .width)) * (1 + wordTerm (stretchOf g) (turn .word .width))
+  pub low : turn .floor ≤ 90601
+
+-- ---- one active break
+
+unfoldable pub lineAt : Setting → Turn → Record → ℕ
+lineAt g turn b =
+    b .columns + cond (b .fresh) 0 (gapWidth (g .tab) (b .columns) (turn .word .before) (turn .word .after)) + turn .space + turn .word .width
+
+abbrev pub lessened : ℕ → Record → Record
+lessened k b = record {
+  previous = b .previous;
+  word = b .word;
+  before = b .before;
+  demerits = b .demerits - k;
+  ratio = b .ratio;
+  columns = b .columns;
+  fresh = b .fresh;
+}
+
+abbrev pub extended : ℕ → Record → Record
+extended t b = record {
+  previous = b .previous;
+  word = b .word;
+  before = b .before;
+  demerits = b .demerits;
+  ratio = b .ratio;
+  columns = t;
+  fresh = false;
+}
+
+-- the least break so far, when break n is b
+unfoldable pub noted : State → ℕ → Record → State
+noted s n b = cond (ltb (b .demerits) (s .least .demerits)) (record { kept = s .kept; from = n; least = b; best = s .best }) s
+
+-- ---- the best offer so far
+
+unfoldable pub better : Best → ℕ → ℕ → Float → Best
+better Nothing p d r = From r p d
+better (From s q e) p d r = cond (leb e d) (From s q e) (From r p d)
+
+-- no offer of a total from d on is better
+abbrev pub beaten : Best → ℕ → Bool
+beaten Nothing d = false
+beaten (From s q e) d = leb e d
+
+-- the offer that it means, behind word i
+unfoldable pub offerIn : Setting → ℕ → Tables → Best → Offer
+offerIn g i t Nothing = none
+offerIn g i t (From r p d) = offer (record { places = after i ∷ pathTo t p; demerits = d; ratio = r; columns = g .indent; fresh = true })
+
+abbrev pub BestFits : ℕ → ℕ → Best → Type 0
+BestFits i size Nothing = Unit {0}
+BestFits i size (From r p d) = (p < size) × (d ≤ suc i * mostCost) × T (within 1 r)
+
+-- a break that may offer: the word is on its line of x columns
+pub record Offers (g : Setting) (turn : Turn) (b : Record) (x : ℕ) : Type 0 where
+  pub limits : Limits g
+  pub turns : Turns g turn
+  pub is : x ≡ lineAt g turn b
+  pub fits : x ≤ g .width
+  pub sound : Sound (turn .number) b
+
+-- the best offer with that of break n, which is b
+pub record OfferedIs (g : Setting) (turn : Turn) (n : ℕ) (b : Record) (best r : Best) : Type 0 where
+  pub is : (notes : List ℕ) (t : Tables)
+      → offerIn g (turn .number) t r
+      ≡ lesser (offerIn g (turn .number) t best) (offerOf g (turn .last) (turn .number) (turn .space) (meaning notes (turn .word)) (seen (pathTo t n) b))
+  pub fits : (size : ℕ) → n < size → BestFits (turn .number) size best → BestFits (turn .number) size r
+
+-- ---- the active breaks
+
+-- before a round: count of them, and size records in the tables
+pub record Ready (i : ℕ) (st : Standing) (t : Tables) (a : List ℕ) : Type 0 where
+  pub filled : Filled i (st .size) t
+  pub active : length a ≡ 1024
+  pub few : st .size ≤ i
+  pub some : 0 < st .count
+  pub room : st .count ≤ st .size
+  pub ascends : Ascends 0 (st .size) (take (st .count) a)
+
+abbrev pub breaksOf : ℕ → Tables → List ℕ → List Break
+breaksOf count t a = map (meant t) (take count a)
+
+abbrev pub standing : Standing → Tables → List ℕ → Active
+standing st t a = record { breaks = breaksOf (st .count) t a; reduction = st .reduction }
+
+-- in a round: k of them are done, and those that stay are the first of the list
+pub record Fit (turn : Turn) (st : Standing) (k : ℕ) (t : Tables) (a : List ℕ) (s : State) : Type 0 where
+  pub filled : Filled (turn .number) (st .size) t
+  pub active : length a ≡ 1024
+  pub few : st .size ≤ turn .number
+  pub room : st .count ≤ st .size
+  pub kept : s .kept ≤ k
+  pub on : k ≤ st .count
+  pub ascends : Ascends 0 (st .size) (take (s .kept) a ++ slice k (st .count) a)
+  pub from : s .from < st .size
+  pub columns : s .least .columns < 2 ^ 33
+  pub best : BestFits (turn .number) (st .size) (s .best)
+
+-- what a round comes to, for the notes that its word stands in
+pub record Answer : Type 0 where
+  pub notes : List ℕ
+  pub stayed : List Break
+  pub best : Offer
+  pub least : Break
+
+-- the breaks that are still to be done
+abbrev pub rest : Standing → ℕ → Tables → List ℕ → List Break
+rest st k t a = map (reduced (st .reduction)) (map (meant t) (slice k (st .count) a))
+
+-- what is done and what is still to do come to the answer
+pub record Goes (g : Setting) (turn : Turn) (st : Standing) (z : Answer) (k : ℕ) (t : Tables) (a : List ℕ) (s : State) : Type 0 where
+  pub stayed : map (meant t) (take (s .kept) a) ++ staying g (turn .space) (meaning (z .notes) (turn .word)) (rest st k t a) ≡ z .stayed
+  pub best : lesser (offerIn g (turn .number) t (s .best))
+      (bestOffer g (turn .last) (turn .number) (turn .space) (meaning (z .notes) (turn .word)) (rest st k t a))
+      ≡ z .best
+  pub least : leastFrom (seen (pathTo t (s .from)) (s .least)) (rest st k t a) ≡ z .least
+
+-- all are done: what stays, the best offer and the least of the breaks that the round began with
+pub record Done (g : Setting) (turn : Turn) (active : List Break) (t : Tables) (a : List ℕ) (s : State) (notes : List ℕ) : Type 0 where
+  pub stayed : breaksOf (s .kept) t a ≡ staying g (turn .space) (meaning notes (turn .word)) active
+  pub best : offerIn g (turn .number) t (s .best) ≡ bestOffer g (turn .last) (turn .number) (turn .space) (meaning notes (turn .word)) active
+  pub least : seen (pathTo t (s .from)) (s .least) ≡ least active
+
+-- ---- what becomes of it
+
+-- the break that a round with nothing left begins again with, from break n, which is b
+pub record Restarted (g : Setting) (turn : Turn) (n : ℕ) (b r : Record) : Type 0 where
+  pub previous : r .previous ≡ n
+  pub sound : Sound (suc (turn .number)) r
+  pub is : (notes : List ℕ) (path : List Place)
+      → seen (placeOf r ∷ path) r ≡ restart g (turn .number) (turn .space) (meaning notes (turn .word)) (seen path b)
+
+-- the active breaks after a round whose least break, least offer and staying breaks s has
+pub record Settled (g : Setting) (turn : Turn) (t : Tables) (a : List ℕ) (s : State) (t₁ : Tables) (a₁ : List ℕ) (r : Standing) : Type 0 where
+  pub ready : Ready (turn .number + 1) r t₁ a₁
+  pub is : (notes : List ℕ) (active : List Break) → seen (pathTo t (s .from)) (s .least) ≡ least active
+      → standing r t₁ a₁
+      ≡ settled g (turn .number) (turn .space) (meaning notes (turn .word)) active (withOffer (breaksOf (s .kept) t a) (offerIn g (turn .number) t (s .best)))
+
+-- ---- rounds
+
+-- after the round of word i
+pub record RoundIs (g : Setting) (last sentence : Bool) (i : ℕ) (w : WordRecord) (st : Standing) (t : Tables) (a : List ℕ) (t₁ : Tables) (a₁ : List ℕ) (r : Standing) : Type 0 where
+  pub ready : Ready (i + 1) r t₁ a₁
+  pub is : (notes : List ℕ) → standing r t₁ a₁ ≡ round g last sentence i (meaning notes w) (standing st t a)
+
+-- each of n words is at least a column wide
+abbrev pub Wide : ℕ → List ℕ → Type 0
+Wide n table = (i : ℕ) → i < n → 1 ≤ wordIn table i .width
+
+-- what the definition's rounds begin with
+unfoldable pub begin : Setting → Word → Active
+begin g w = record { breaks = firstBreak g w ∷ []; reduction = 0 }
+
+-- after the rounds of n words
+pub record RoundsAre (g : Setting) (n : ℕ) (table : List ℕ) (t : Tables) (a : List ℕ) (r : Standing) : Type 0 where
+  pub ready : Ready n r t a
+  pub is : (notes : List ℕ) → standing r t a ≡ roundsFrom g false 1 (begin g (meaning notes (wordIn table 0))) (drop 1 (wordsIn notes n table))
+
+-- active breaks, by number, of a table of st .size records
+pub record Listed (st : Standing) (a : List ℕ) : Type 0 where
+  pub size : st .size ≤ 1024
+  pub some : 0 < st .count
+  pub room : st .count ≤ st .size
+  pub active : length a ≡ 1024
+  pub ascends : Ascends 0 (st .size) (take (st .count) a)
+
+-- the number of the first least active break
+pub record LeastIs (st : Standing) (t : Tables) (a : List ℕ) (r : ℕ) : Type 0 where
+  pub within : r < st .size
+  pub is : meant t r ≡ least (breaksOf (st .count) t a)
+
+-- the tables that are lent have their length
+pub record Lent (t : Tables) (a : List ℕ) (marks : List Bool) : Type 0 where
+  pub tables : Sized t
+  pub active : length a ≡ 1024
+  pub all : length marks ≡ 1024
+
+-- the marks are those of the definition, for whatever notes the words stand in, and those that belong to no word are as they were
+pub record BestAre (g : Setting) (n : ℕ) (table : List ℕ) (old : List Bool) (t : Tables) (a : List ℕ) (marks : List Bool) : Type 0 where
+  pub breaks : (notes : List ℕ) → breaksIn n marks ≡ bestBreaks g (wordsIn notes n table)
+  pub first : (notes : List ℕ) → getD marks 0 false ≡ startsLine 0 (pathOf g (wordsIn notes n table))
+  pub beyond : (j : ℕ) → n ≤ j → getD marks j false ≡ getD old j false
+  pub lent : Lent t a marks

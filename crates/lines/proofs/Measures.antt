@@ -1,0 +1,121 @@
+-- Measuring: the column behind a character, the spot behind glyphs, and the glyphs before and from a place, one glyph at a time.
+use mathlib.Core.Path.{_≡_, refl, sym, ap, _∙_}
+use mathlib.Core.Bool.{Bool, true, cond}
+use mathlib.Core.List.{List, [], _∷_, _++_}
+use Prim.Native.Nat.{ℕ, _+_, _-_, _*_, _/_, _≤_, _<_}
+use native.Mathlib.Nat.{add-mul, div-add-mod', mod-lt, div-le-self}
+use native.Mathlib.Omega.{arith}
+use lib.Dec.{eqb}
+use lib.ListN.{length, drop}
+use borrow.Author.Tests.{eq-eqb, ne-eqb}
+use Rattle.lists.specs.Runs.{while, every}
+use Rattle.lists.proofs.Runs.{while-more, every-more}
+use Rattle.text.specs.Characters.{widthOf, Glyph, glyph, glyphs, isBlank, extent}
+use Rattle.text.proofs.Glyphs.{Here, DamagedHere}
+use Rattle.lines.specs.Classes.{upTo, from, nextStop, columnBehind, columnsOf}
+use Rattle.lines.specs.Places.{Inside, behindAll, Behind}
+use Rattle.lines.specs.declared.Spot.{Spot}
+
+-- ---- columns
+
+pub next-stop : (column tab : ℕ) → 1 ≤ tab → (column < (column / tab + 1) * tab) × ((column / tab + 1) * tab ≤ column + tab) × (column / tab ≤ column)
+next-stop column tab h =
+    let d = div-add-mod' column tab in
+    let m = mod-lt column {m = tab} h in
+    let e = add-mul (column / tab) 1 tab in
+    (omega arith, omega arith, div-le-self column tab)
+
+pub stop-is : (column tab code : ℕ) → code ≡ 9 → (column / tab + 1) * tab ≡ cond (eqb code 9) (nextStop tab column) (column + widthOf code)
+unfolding nextStop
+stop-is column tab code h = rw eq-eqb
+
+pub width-is : (column tab code w : ℕ) → (code ≡ 9 → ⊥) → w ≡ widthOf code → column + w ≡ cond (eqb code 9) (nextStop tab column) (column + widthOf code)
+width-is column tab code w h e = rw (ne-eqb code 9 h, e)
+
+-- a character is at most two columns wide
+pub narrow : (code w : ℕ) → w ≡ widthOf code → w ≤ 2
+unfolding widthOf
+narrow code w e = omega arith
+
+-- ---- behind glyphs
+
+pub behind-none : (tab : ℕ) (m : Spot) → m ≡ behindAll tab m []
+unfolding behindAll extent columnsOf
+behind-none tab m = ap (λ (n : ℕ). record { at = n; column = m .column }) (omega arith)
+
+behind-cons : (tab : ℕ) (m r : Spot) (g : Glyph) (gs : List Glyph) → m .at + length (g .bytes) ≡ r .at → columnBehind tab (m .column) g ≡ r .column → behindAll tab m (g ∷ gs) ≡ behindAll tab r gs
+unfolding behindAll extent columnsOf
+behind-cons tab m r g gs p c = rw c (ap (λ (n : ℕ). record { at = n; column = columnsOf tab (r .column) gs }) (omega arith))
+
+pub behind-append : (tab : ℕ) (m : Spot) (a b : List Glyph) → behindAll tab m (a ++ b) ≡ behindAll tab (behindAll tab m a) b
+behind-append tab m [] b = ap (λ (n : Spot). behindAll tab n b) (behind-none tab m)
+behind-append tab m (g ∷ a) b =
+    let r : Spot = record { at = m .at + length (g .bytes); column = columnBehind tab (m .column) g } in
+    behind-cons tab m r g (a ++ b) refl refl ∙ behind-append tab r a b ∙ ap (λ (n : Spot). behindAll tab n b) (sym (behind-cons tab m r g a refl refl))
+
+-- ---- before and from a place
+
+pub upTo-zero : (gs : List Glyph) → upTo 0 gs ≡ []
+unfolding upTo
+upTo-zero [] = refl
+upTo-zero (g ∷ gs) = refl
+
+pub from-zero : (gs : List Glyph) → from 0 gs ≡ gs
+unfolding from
+from-zero [] = refl
+from-zero (g ∷ gs) = refl
+
+module _ (place : ℕ) (g : Glyph) (gs : List Glyph) (some : 0 < place) where
+  pub upTo-more : upTo place (g ∷ gs) ≡ g ∷ upTo (place - length (g .bytes)) gs
+  unfolding upTo
+  upTo-more = rw (ne-eqb place 0 (omega arith), upTo)
+
+  pub from-more : from place (g ∷ gs) ≡ from (place - length (g .bytes)) gs
+  unfolding from
+  from-more = rw (ne-eqb place 0 (omega arith), from)
+
+-- ---- one glyph on: r is the spot behind the glyph at m
+
+module _ (glue : Bool) (tab : ℕ) (line : List ℕ) (m r : Spot) (ins : Inside line m) where
+  -- from the answer of char_at or glyph_at and of column_behind
+  pub behind-char : {blank : Bool} {code : ℕ} → Here glue blank line (m .at) code (r .at)
+      → r .column ≡ cond (eqb code 9) (nextStop tab (m .column)) (m .column + widthOf code) → r .column ≤ m .column + 100 → Behind glue tab line m r
+  unfolding columnBehind
+  behind-char {blank} {code} h e k = record {
+    on = h .on;
+    inside = record { place = h .within; small = omega (arith, h .on, ins .small) };
+    first = h .first;
+    count = h .count;
+    column = rw (h .hasCode, h .hasWidth) (sym e);
+  }
+
+  pub behind-damaged : DamagedHere glue line (m .at) → m .at < length line → r .at ≡ m .at + 1 → r .column ≡ m .column + 1 → Behind glue tab line m r
+  unfolding columnBehind
+  behind-damaged h k p e = record {
+    on = omega arith;
+    inside = record { place = omega arith; small = omega (arith, ins .small) };
+    first = rw p (h .first);
+    count = rw (h .hasBytes) (omega arith);
+    column = rw (h .hasCode, h .hasWidth) (sym e);
+  }
+
+module _ (glue : Bool) (tab : ℕ) (line : List ℕ) (m r : Spot) (st : Behind glue tab line m r) where
+  past : (gs : List Glyph) → behindAll tab m (glyph glue (drop (m .at) line) ∷ gs) ≡ behindAll tab r gs
+  past gs = behind-cons tab m r (glyph glue (drop (m .at) line)) gs (omega (arith, st .count, st .on)) (st .column)
+
+  pub blanks-on : glyph glue (drop (m .at) line) .blank ≡ true
+      → behindAll tab m (while isBlank (glyphs glue (drop (m .at) line))) ≡ behindAll tab r (while isBlank (glyphs glue (drop (r .at) line)))
+  blanks-on b = rw (st .first, while-more isBlank (glyph glue (drop (m .at) line)) (glyphs glue (drop (r .at) line)) b) (past _)
+
+  pub every-on : glyph glue (drop (m .at) line) .blank ≡ true → every isBlank (glyphs glue (drop (m .at) line)) ≡ every isBlank (glyphs glue (drop (r .at) line))
+  every-on b = rw (st .first) (every-more isBlank _ _ b)
+
+  module _ (place : ℕ) (h : m .at < place) where
+    less : (place - m .at) - length (glyph glue (drop (m .at) line) .bytes) ≡ place - r .at
+    less = omega (arith, st .count, st .on)
+
+    pub upTo-on : behindAll tab m (upTo (place - m .at) (glyphs glue (drop (m .at) line))) ≡ behindAll tab r (upTo (place - r .at) (glyphs glue (drop (r .at) line)))
+    upTo-on = rw (st .first, upTo-more (place - m .at) (glyph glue (drop (m .at) line)) (glyphs glue (drop (r .at) line)) (omega arith), less) (past _)
+
+    pub from-on : from (place - m .at) (glyphs glue (drop (m .at) line)) ≡ from (place - r .at) (glyphs glue (drop (r .at) line))
+    from-on = rw (st .first, from-more (place - m .at) (glyph glue (drop (m .at) line)) (glyphs glue (drop (r .at) line)) (omega arith), less)

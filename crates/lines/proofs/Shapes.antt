@@ -1,0 +1,119 @@
+-- For callers: what is known of a formatted line. Its prefix and its indent lie in the line, its columns are small, and at the indent's
+-- end stands a character that is not blank.
+use mathlib.Core.Path.{_≡_, refl, sym, _∙_}
+use mathlib.Core.Bool.{Bool, true, false, cond, _||_}
+use mathlib.Core.List.{List, _∷_, _++_, append-assoc}
+use Prim.Native.Nat.{ℕ, _+_, _-_, _*_, _≤_, _<_}
+use native.Mathlib.Omega.{arith}
+use lib.Dec.{ltb}
+use lib.ListN.{length, drop}
+use borrow.Author.Tests.{ltb-true, ltb-false}
+use Rattle.lists.specs.Runs.{while, behind, every}
+use Rattle.lists.proofs.RunsAt.{behind-first}
+use Rattle.lists.proofs.Parts.{while-behind}
+use Rattle.text.specs.Characters.{Glyph, glyph, glyphs, isBlank, isGood, extent}
+use Rattle.text.specs.declared.Found.{Found}
+use Rattle.text.specs.declared.Found.the-variants.{At, Nowhere}
+use Rattle.text.proofs.Glyphs.{glyphs-past, glyphs-first}
+use Rattle.options.specs.Opts.{Opts, Text, absent, given}
+use Rattle.lines.specs.Classes.{upTo, from, prefixFound, sizeOf, skipFound, somewhere, shapeAt, classBehind, classify}
+use Rattle.lines.specs.declared.Shape.{Shape}
+use Rattle.lines.specs.declared.Class.the-variants.{Blank, Plain, Formatted}
+use Rattle.lines.proofs.Prefixes.{search-within}
+use Rattle.lines.proofs.Bounds.{columns-front, columns-near, parted}
+use Rattle.lines.proofs.Ink.{upTo-from}
+
+-- what a formatted line was found to be
+record Formed (o : Opts) (line : List ℕ) (s : Shape) : Type 0 where
+  at : ℕ
+  good : every isGood (glyphs (o .glue) line) ≡ true
+  found : prefixFound (o .exactPrefix) (o .prefix) line (glyphs (o .glue) line) ≡ At at
+  text : every isBlank (from (at + sizeOf (o .prefix)) (glyphs (o .glue) line)) ≡ false
+  shape : shapeAt o (glyphs (o .glue) line) at ≡ s
+
+plain-formatted : (s : Shape) → Plain ≡ Formatted s → ⊥
+plain-formatted s e = let z : _≡_ {A = ℕ} 0 1 = cc in omega arith
+
+blank-formatted : (s : Shape) → Blank ≡ Formatted s → ⊥
+blank-formatted s e = let z : _≡_ {A = ℕ} 0 1 = cc in omega arith
+
+module _ (o : Opts) (line : List ℕ) (s : Shape) where
+  formed : classify o line ≡ Formatted s → Formed o line s
+  unfolding classify
+  formed h = pick (every isBlank gs) (every isGood gs) refl refl h
+    where
+      gs : List Glyph
+      gs = glyphs (o .glue) line
+
+      found : Found
+      found = prefixFound (o .exactPrefix) (o .prefix) line gs
+
+      skipped : Bool
+      skipped = somewhere (skipFound (o .exactSkip) (o .skip) line gs)
+
+      place : (f : Found) → every isGood gs ≡ true → found ≡ f → classBehind o line gs f ≡ Formatted s → Formed o line s
+      place Nowhere g e c = absurd (plain-formatted s c)
+      place (At at) g e c = end (every isBlank (from (at + sizeOf (o .prefix)) gs)) skipped refl c
+        where
+          end : (t u : Bool) → every isBlank (from (at + sizeOf (o .prefix)) gs) ≡ t → cond (t || u) Plain (Formatted (shapeAt o gs at)) ≡ Formatted s → Formed o line s
+          end true u b k = absurd (plain-formatted s k)
+          end false true b k = absurd (plain-formatted s k)
+          end false false b k = record { at = at; good = g; found = e; text = b; shape = cc }
+
+      pick : (t u : Bool) → every isBlank gs ≡ t → every isGood gs ≡ u → cond t Blank (cond u (classBehind o line gs found) Plain) ≡ Formatted s → Formed o line s
+      pick true u b g c = absurd (blank-formatted s c)
+      pick false false b g c = absurd (plain-formatted s c)
+      pick false true b g c = place found g refl c
+
+  -- the prefix that is found lies in the line
+  prefix-within : (t : Text) (at : ℕ) → prefixFound (o .exactPrefix) t line (glyphs (o .glue) line) ≡ At at → at + sizeOf t ≤ length line
+  prefix-within absent at e = let z : 0 ≡ at = cc in omega arith
+  prefix-within (given p) at e = omega (arith, search-within (o .exactPrefix) (o .glue) p line 0 at e)
+
+-- the first of the glyphs at a place stands there
+first-is : (glue : Bool) (line : List ℕ) (at : ℕ) (g : Glyph) (gs : List Glyph) → glyphs glue (drop at line) ≡ g ∷ gs → (at < length line) × (glyph glue (drop at line) ≡ g)
+first-is glue line at g gs e = pick (ltb at (length line)) refl
+  where
+    pick : (t : Bool) → ltb at (length line) ≡ t → (at < length line) × (glyph glue (drop at line) ≡ g)
+    pick true k = let f = glyphs-first glue line at (ltb-true at (length line) k) in (ltb-true at (length line) k, cc)
+    pick false k = let f = glyphs-past glue line at (ltb-false at (length line) k) in absurd (let z : _≡_ {A = ℕ} 0 1 = cc in omega arith)
+
+-- what callers may know of it
+pub record Known (o : Opts) (line : List ℕ) (s : Shape) : Type 0 where
+  pub prefix : s .prefix + sizeOf (o .prefix) ≤ length line
+  pub indent : s .indent < length line
+  pub columns : s .columns ≤ 100 * length line
+  pub margin : s .margin ≤ s .columns
+  pub good : every isGood (glyphs (o .glue) line) ≡ true
+  pub rest : from (s .indent) (glyphs (o .glue) line) ≡ glyphs (o .glue) (drop (s .indent) line)
+  pub ink : glyph (o .glue) (drop (s .indent) line) .blank ≡ false
+
+-- the same of the definition's shape
+module _ (o : Opts) (least : 1 ≤ o .tab) (most : o .tab ≤ 100) (line : List ℕ) (at : ℕ) (good : every isGood (glyphs (o .glue) line) ≡ true)
+    (found : prefixFound (o .exactPrefix) (o .prefix) line (glyphs (o .glue) line) ≡ At at)
+    (text : every isBlank (from (at + sizeOf (o .prefix)) (glyphs (o .glue) line)) ≡ false) where
+  known-at : Known o line (shapeAt o (glyphs (o .glue) line) at)
+  unfolding shapeAt
+  known-at =
+      let gs = glyphs (o .glue) line in
+      let end = at + sizeOf (o .prefix) in
+      let margin = upTo end gs in
+      let indent = margin ++ while isBlank (from end gs) in
+      let behindIndent = behind isBlank (from end gs) in
+      let f = behind-first isBlank (from end gs) text in
+      let whole : indent ++ behindIndent ≡ gs = append-assoc margin (while isBlank (from end gs)) behindIndent ∙ rw (while-behind isBlank (from end gs)) (upTo-from end gs) in
+      let p = parted (o .glue) line indent behindIndent whole in
+      let h = first-is (o .glue) line (extent indent) (f .0) (f .1) (p .rest ∙ f .2) in
+      record {
+        prefix = prefix-within o line (shapeAt o gs at) (o .prefix) at found;
+        indent = h .0;
+        columns = omega (arith, rw whole at (columns-front (o .tab) least 0 indent behindIndent), columns-near (o .tab) least most (o .glue) line 0);
+        margin = columns-front (o .tab) least 0 margin (while isBlank (from end gs));
+        good = good;
+        rest = p .place ∙ sym (p .rest);
+        ink = rw (h .1) (f .3);
+      }
+
+-- from the answer of classify
+pub known : (o : Opts) (line : List ℕ) (s : Shape) → 1 ≤ o .tab → o .tab ≤ 100 → classify o line ≡ Formatted s → Known o line s
+known o line s least most h = let k = formed o line s h in rw (k .shape) at (known-at o least most line (k .at) (k .good) (k .found) (k .text))

@@ -1,0 +1,60 @@
+-- `lines::behind_prefix` meets its contract: the prefix is looked for, and what stands behind it decides.
+use mathlib.Core.Path.{sym, _∙_}
+use Prim.Native.Nat.{_+_, _≤_}
+use native.Mathlib.Omega.{arith}
+use lib.ListN.{length}
+use borrow.Author.Needs.{needs}
+use denote.Ref.{now}
+use Rattle.lines.proofs.Prefixes.{search-within}
+use Rattle.lines.proofs.Classes.{class-ended, class-shaped}
+use Rattle.lines.proofs.behind_prefix.Statement.{statement}
+use Rattle.lines.proofs.behind_prefix.Tie as tie
+
+find-requires : tie.Need-find-requires
+find-requires c κs = search needs
+
+enum-known-place : tie.Need-enum-known-place
+enum-known-place c = search needs
+
+enum-told : tie.Need-enum-told
+enum-told c = search needs
+
+returns : tie.Need-returns
+returns c = rw (sym (c .before .before .find .ensures) ∙ c .enum-told .given .1)
+
+-- the prefix ends within the line
+within : (c : tie.After-place) → c .place .given .0 .0 + length (now (c .before .before .before .before .before .args .p)) ≤ length (now (c .before .before .before .before .before .args .line))
+within c = omega (arith, search-within _ _ _ _ _ _ (sym (c .before .before .find .ensures) ∙ c .place .given .1))
+
+add-measure-to : tie.Need-add-measure-to
+add-measure-to c = omega (arith, within (c .before))
+
+measure-to-requires : tie.Need-measure-to-requires
+measure-to-requires c κs = let p = c .before .before .before .before .before .before .pre in (within (c .before), p .0, p .1, p .2)
+
+over-blanks-requires : tie.Need-over-blanks-requires
+over-blanks-requires c κs = search needs
+
+returns-2 : tie.Need-returns-2
+returns-2 c =
+    let k = c .before .before .before .before in
+    class-ended _ _ _ _ _ _ _ _ (sym (k .before .before .find .ensures) ∙ k .place .given .1) (c .before .before .measure-to .ensures .1 _) (c .before .over-blanks .ensures) (c .if1 .taken)
+
+returns-3 : tie.Need-returns-3
+returns-3 c =
+    let k = c .before .before .before .before in
+    class-shaped _ _ _ _ _ _ _ _ (sym (k .before .before .find .ensures) ∙ k .place .given .1) (c .before .before .measure-to .ensures .1 _) (c .before .over-blanks .ensures) (c .if1 .left)
+
+pub behind-prefix-spec : {M : Type 1} → statement M
+behind-prefix-spec =
+    tie.close
+    (tie.spec
+    find-requires
+    enum-known-place
+    enum-told
+    returns
+    add-measure-to
+    measure-to-requires
+    over-blanks-requires
+    returns-2
+    returns-3)

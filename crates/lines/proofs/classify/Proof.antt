@@ -1,0 +1,116 @@
+-- `lines::classify` meets its contract, test by test.
+use denote.Ref.{now}
+use mathlib.Core.Path.{_≡_, sym, _∙_}
+use mathlib.Core.Bool.{true, false}
+use Prim.Native.Nat.{_≤_}
+use lib.ListN.{length}
+use borrow.Author.Needs.{needs}
+use borrow.Author.Tests.{eq-eqb, ne-eqb}
+use Rattle.lists.specs.Runs.{every}
+use Rattle.lists.proofs.Fronts.{part-between}
+use Rattle.text.specs.Characters.{glyphs, isBlank, isGood}
+use Rattle.text.proofs.Damage.{damage-none, damage-some}
+use Rattle.options.specs.Opts.{meant}
+use Rattle.lines.proofs.Classes.{class-blank, class-damaged, class-skipped, class-bare, class-given}
+use Rattle.lines.proofs.classify.Statement.{statement}
+use Rattle.lines.proofs.classify.Tie as tie
+
+over-blanks-requires : tie.Need-over-blanks-requires
+over-blanks-requires c κs = search needs
+
+returns : tie.Need-returns
+unfolding meant
+returns c = class-blank _ _ (c .before .over-blanks .ensures .blank ∙ eq-eqb _ _ (c .if1 .taken))
+
+first-damage-requires : tie.Need-first-damage-requires
+first-damage-requires c κs = search needs
+
+enum-told : tie.Need-enum-told
+enum-told c = search needs
+
+enum-told-2 : tie.Need-enum-told-2
+enum-told-2 c = search needs
+
+-- the line is not blank
+ink : (c : tie.Else1) → every isBlank (glyphs (c .before .before .before .before .args .o .glue) (now (c .before .before .before .before .args .line))) ≡ false
+ink c = c .before .over-blanks .ensures .blank ∙ ne-eqb _ _ (c .if1 .left)
+
+returns-2 : tie.Need-returns-2
+unfolding meant
+returns-2 c =
+    let k = c .before .before in
+    class-damaged _ _ (ink (k .before)) (damage-some _ _ _ (sym (k .first-damage .ensures) ∙ c .enum-told2 .given .1) .0)
+
+is-skipped-requires : tie.Need-is-skipped-requires
+is-skipped-requires c κs = search needs
+
+-- nor is it damaged
+good : (c : tie.After-enum-told)
+    → every isGood (glyphs (c .before .before .before .before .before .before .before .args .o .glue) (now (c .before .before .before .before .before .before .before .args .line))) ≡ true
+good c = damage-none _ _ (sym (c .before .before .first-damage .ensures) ∙ c .enum-told .given .1)
+
+returns-3 : tie.Need-returns-3
+unfolding meant
+returns-3 c =
+    let k = c .before .before in
+    class-skipped _ _ (ink (k .before .before .before)) (good k) (sym (c .before .is-skipped .ensures) ∙ c .if2 .taken)
+
+enum-known-prefix : tie.Need-enum-known-prefix
+enum-known-prefix c = search needs
+
+enum-told-3 : tie.Need-enum-told-3
+enum-told-3 c = search needs
+
+returns-4 : tie.Need-returns-4
+unfolding meant
+returns-4 c =
+    let i = c .before .before in
+    let k = i .before .before in
+    let e = k .before .before .before in
+    class-bare _ _ (ink e) (good k) (sym (i .before .is-skipped .ensures) ∙ i .if2 .left) _ (rw (c .enum-told3 .given .1)) (e .before .over-blanks .ensures .spot)
+
+-- the prefix lies in the block
+lies : (c : tie.After-prefix)
+    → (c .prefix .given .0 .0 ≤ c .prefix .given .0 .1 .0) × (c .prefix .given .0 .1 .0 ≤ length (now (c .before .before .before .before .before .before .before .before .before .before .before .args .block)))
+lies c = rw (c .prefix .given .1) at (c .before .before .before .before .before .before .before .before .before .before .before .pre .0 .prefix)
+
+sub-behind-prefix : tie.Need-sub-behind-prefix
+sub-behind-prefix c = lies (c .before) .0
+
+part-behind-prefix-start : tie.Need-part-behind-prefix-start
+part-behind-prefix-start c = let l = lies (c .before) in search needs
+
+part-behind-prefix-end : tie.Need-part-behind-prefix-end
+part-behind-prefix-end c = let l = lies (c .before) in search needs
+
+behind-prefix-requires : tie.Need-behind-prefix-requires
+behind-prefix-requires c κs = search needs
+
+returns-5 : tie.Need-returns-5
+unfolding meant
+returns-5 c =
+    let g = c .before .before .before in
+    let i = g .before .before in
+    let k = i .before .before in
+    class-given _ _ (ink (k .before .before .before)) (good k) (sym (i .before .is-skipped .ensures) ∙ i .if2 .left) _ _ (rw (g .prefix .given .1)) (rw (part-between _ _ _ (lies g .0)) at (c .behind-prefix .ensures))
+
+pub classify-spec : {M : Type 1} → statement M
+classify-spec =
+    tie.close
+    (tie.spec
+    over-blanks-requires
+    returns
+    first-damage-requires
+    enum-told
+    enum-told-2
+    returns-2
+    is-skipped-requires
+    returns-3
+    enum-known-prefix
+    enum-told-3
+    returns-4
+    sub-behind-prefix
+    part-behind-prefix-start
+    part-behind-prefix-end
+    behind-prefix-requires
+    returns-5)

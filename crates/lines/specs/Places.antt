@@ -1,0 +1,81 @@
+-- How the code's answers, which are places and counts, mean what the definitions say of bytes and glyphs.
+use mathlib.Core.Path.{_≡_}
+use mathlib.Core.Bool.{Bool, cond}
+use mathlib.Core.List.{List, _∷_}
+use Prim.Native.Nat.{ℕ, _+_, _-_, _*_, _≤_, _<_}
+use lib.Dec.{eqb}
+use lib.ListN.{length, drop}
+use Rattle.lists.specs.Runs.{while, every}
+use Rattle.text.specs.Characters.{Glyph, glyph, glyphs, isBlank, extent}
+use Rattle.text.specs.declared.Found.{Found}
+use Rattle.text.specs.declared.Found.the-variants.{At, Nowhere}
+use Rattle.options.specs.declared.Part.{Part}
+use Rattle.options.specs.declared.Part.the-variants.{Absent, Given}
+use Rattle.options.specs.declared.Options.{Options}
+use Rattle.lines.specs.Lines.{Line}
+use Rattle.lines.specs.Classes.{upTo, from, columnBehind, columnsOf}
+use Rattle.lines.specs.declared.Extent.{Extent}
+use Rattle.lines.specs.declared.Spot.{Spot}
+use Rattle.lines.specs.declared.Shape.{Shape}
+use Rattle.lines.specs.declared.Class.{Class}
+use Rattle.lines.specs.declared.Class.the-variants.{Plain, Formatted}
+
+-- a line by its lengths: of its text, and with its line end
+unfoldable pub extentOf : Line → Extent
+extentOf l = record { text = length (l .text); whole = length (l .raw) }
+
+-- a part given lies in the block
+abbrev pub Lies : List ℕ → Part → Type 0
+Lies block Absent = Unit {0}
+Lies block (Given start end) = (start ≤ end) × (end ≤ length block)
+
+-- what classifying asks of the options: all that reading a block accepts
+pub record Usable (block : List ℕ) (o : Options) : Type 0 where
+  pub prefix : Lies block (o .prefix)
+  pub skip : Lies block (o .skip)
+  pub least : 1 ≤ o .tab
+  pub most : o .tab ≤ 100
+
+-- a place of a line with its column, which is small
+pub record Inside (line : List ℕ) (m : Spot) : Type 0 where
+  pub place : m .at ≤ length line
+  pub small : m .column ≤ 100 * m .at
+
+abbrev pub lineStart : Spot
+lineStart = record { at = 0; column = 0 }
+
+-- the spot behind glyphs that stand at m
+unfoldable pub behindAll : ℕ → Spot → List Glyph → Spot
+behindAll tab m gs = record { at = m .at + extent gs; column = columnsOf tab (m .column) gs }
+
+-- the shape of a formatted line with a prefix of so many bytes at a place, and the class of a line whose prefix was looked for; the
+-- skip prefix is left out of account
+unfoldable pub shapeBehind : ℕ → ℕ → List Glyph → ℕ → Shape
+shapeBehind tab size gs place =
+    let end = place + size in
+    let margin = behindAll tab lineStart (upTo end gs) in
+    let indent = behindAll tab margin (while isBlank (from end gs)) in
+    record { prefix = place; indent = indent .at; columns = indent .column; margin = margin .column }
+
+abbrev pub classAt : ℕ → ℕ → List Glyph → Found → Class
+classAt tab size gs Nowhere = Plain
+classAt tab size gs (At place) = cond (every isBlank (from (place + size) gs)) Plain (Formatted (shapeBehind tab size gs place))
+
+-- r is the spot behind the glyph at m
+pub record Behind (glue : Bool) (tab : ℕ) (line : List ℕ) (m r : Spot) : Type 0 where
+  pub on : m .at < r .at
+  pub inside : Inside line r
+  pub first : glyphs glue (drop (m .at) line) ≡ glyph glue (drop (m .at) line) ∷ glyphs glue (drop (r .at) line)
+  pub count : length (glyph glue (drop (m .at) line) .bytes) ≡ r .at - m .at
+  pub column : columnBehind tab (m .column) (glyph glue (drop (m .at) line)) ≡ r .column
+
+-- r is the spot behind the blanks at m; the line's end, if only blanks stand there
+pub record BehindBlanks (glue : Bool) (tab : ℕ) (line : List ℕ) (m r : Spot) : Type 0 where
+  pub inside : Inside line r
+  pub spot : r ≡ behindAll tab m (while isBlank (glyphs glue (drop (m .at) line)))
+  pub blank : every isBlank (glyphs glue (drop (m .at) line)) ≡ eqb (r .at) (length line)
+
+-- r is the spot behind the glyphs before a place, where those from it on stand
+pub record BehindPlace (glue : Bool) (tab : ℕ) (line : List ℕ) (place : ℕ) (r : Spot) : Type 0 where
+  pub spot : r ≡ behindAll tab lineStart (upTo place (glyphs glue line))
+  pub rest : glyphs glue (drop (r .at) line) ≡ from place (glyphs glue line)

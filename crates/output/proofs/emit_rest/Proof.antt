@@ -1,0 +1,136 @@
+-- `output::emit_rest` meets its contract. Invariant: what is left to write is what the words from i on give; each turn adds less than 2 ^ 34.
+use mathlib.Core.Bool.{false}
+use mathlib.Core.Path.{_≡_, refl, _∙_}
+use Prim.Native.Nat.{_≤_, _-_, _+_, _*_, _^_}
+use native.Mathlib.Omega.{arith}
+use borrow.Author.Needs.{needs}
+use lib.ListN.{length}
+use Rattle.output.specs.Sink.{Left}
+use Rattle.output.specs.Writers.{emittedFrom}
+use Rattle.output.proofs.Sink.{wrote-length, wrote-part, left-first, left-last}
+use Rattle.output.proofs.Emission.{turn-within, turn-most, rest-end, turn-left}
+use Rattle.output.proofs.emit_rest.Statement.{statement}
+use Rattle.output.proofs.emit_rest.Tie as tie
+
+abbrev Inv-loop : tie.InvT-loop
+Inv-loop notes table n marks l out₀ at indent k₀ punct₀ i₀ out k punct i =
+    (i ≤ n) × (k ≤ 2 ^ 63 + i * 2 ^ 34) × (length out ≡ length out₀)
+    × Left out₀ at (emittedFrom notes table n marks l false 1) out k (emittedFrom notes table n marks l punct i)
+
+abbrev μ-loop : tie.MeasureT-loop
+μ-loop notes table n marks l out₀ at indent k₀ punct₀ i₀ out k punct i = n - i
+
+-- what a turn adds
+most : (c : tie.After-slice-known2 Inv-loop μ-loop) → c .before .before .put-word .result ≤ 2 ^ 34
+most c =
+    let a = c .before .before .before .before .before .before in
+    turn-most (a .before .before .before .before .before .before .before .pre .0) (a .before .get .ensures) (a .before .before .loop-test .taken) _ _ (a .added-space .ensures .most) (c .before .before .put-word .ensures)
+
+loop-holds : tie.Need-loop-holds Inv-loop μ-loop
+loop-holds c = (omega arith, omega arith, refl, left-first _ _ _)
+
+get-requires : tie.Need-get-requires Inv-loop μ-loop
+get-requires c κs = search needs
+
+added-space-requires : tie.Need-added-space-requires Inv-loop μ-loop
+added-space-requires c κs = search needs
+
+element-copy-out-fresh : tie.Need-element-copy-out-fresh Inv-loop μ-loop
+element-copy-out-fresh c = omega arith
+
+lesser-requires : tie.Need-lesser-requires Inv-loop μ-loop
+lesser-requires c κs = search needs
+
+sub-put-word : tie.Need-sub-put-word Inv-loop μ-loop
+sub-put-word c = omega arith
+
+part-put-word-start : tie.Need-part-put-word-start Inv-loop μ-loop
+part-put-word-start c = omega arith
+
+part-put-word-end : tie.Need-part-put-word-end Inv-loop μ-loop
+part-put-word-end c = omega arith
+
+put-word-requires : tie.Need-put-word-requires Inv-loop μ-loop
+put-word-requires c κs =
+    let a = c .before .before .before in
+    let p = a .before .before .before .before .before .before .before .pre .0 in
+    (turn-within p (a .before .get .ensures) (a .before .before .loop-test .taken), p .indent, p .small, a .added-space .ensures .most)
+
+add-k : tie.Need-add-k Inv-loop μ-loop
+add-k c = let b = most c in omega arith
+
+add-i : tie.Need-add-i Inv-loop μ-loop
+add-i c = omega arith
+
+loop-less : tie.Need-loop-less Inv-loop μ-loop
+loop-less c = omega arith
+
+loop-again : tie.Need-loop-again Inv-loop μ-loop
+loop-again c =
+    let a = c .before .before .before .before .before .before in
+    let l = a .before .before .before .loop in
+    let b = most c in (
+      omega arith,
+      omega arith,
+      wrote-length (wrote-part _ (l .k) _ _ _ _ (c .before .before .before .before .lesser .ensures) (c .before .before .put-word .ensures)) ∙ l .inv .2,
+      turn-left (a .before .before .before .before .before .before .before .pre .0) (a .before .get .ensures) (a .before .before .loop-test .taken) _ _ (a .added-space .ensures .is) (l .inv .3)
+          (wrote-part _ _ _ _ _ _ (c .before .before .before .before .lesser .ensures) (c .before .before .put-word .ensures)),
+    )
+
+lesser-requires-2 : tie.Need-lesser-requires-2 Inv-loop μ-loop
+lesser-requires-2 c κs = search needs
+
+sub-put-feed : tie.Need-sub-put-feed Inv-loop μ-loop
+sub-put-feed c = omega arith
+
+part-put-feed-start : tie.Need-part-put-feed-start Inv-loop μ-loop
+part-put-feed-start c = omega arith
+
+part-put-feed-end : tie.Need-part-put-feed-end Inv-loop μ-loop
+part-put-feed-end c = omega arith
+
+put-feed-requires : tie.Need-put-feed-requires Inv-loop μ-loop
+put-feed-requires c κs = search needs
+
+add-result : tie.Need-add-result Inv-loop μ-loop
+add-result c = omega (arith, c .before .before .put-feed .ensures .count)
+
+same-length : tie.Need-same-length Inv-loop μ-loop
+same-length c =
+    let l = c .before .before .before .before .before .before .loop in
+    wrote-length (wrote-part _ (l .k) _ _ _ _ (c .before .before .before .before .lesser2 .ensures) (c .before .before .put-feed .ensures)) ∙ l .inv .2
+
+returns : tie.Need-returns Inv-loop μ-loop
+returns c =
+    let l = c .before .before .before .before .before .before .loop in
+    left-last
+    (rw (rest-end _ _ _ _ _ _ _ (c .before .before .before .before .before .loop-test .left)) at (l .inv .3))
+    (wrote-part _ _ _ _ _ _ (c .before .before .before .before .lesser2 .ensures) (c .before .before .put-feed .ensures))
+
+pub emit-rest-spec : {M : Type 1} → statement M
+emit-rest-spec =
+    tie.close
+    (tie.spec
+    Inv-loop
+    μ-loop
+    loop-holds
+    get-requires
+    added-space-requires
+    element-copy-out-fresh
+    lesser-requires
+    sub-put-word
+    part-put-word-start
+    part-put-word-end
+    put-word-requires
+    add-k
+    add-i
+    loop-less
+    loop-again
+    lesser-requires-2
+    sub-put-feed
+    part-put-feed-start
+    part-put-feed-end
+    put-feed-requires
+    add-result
+    same-length
+    returns)

@@ -1,0 +1,47 @@
+-- What the writers write: an indent's bytes, and a word with what stands before it.
+use mathlib.Core.Bool.{Bool, true, false}
+use mathlib.Core.List.{List, _++_}
+use Prim.Native.Nat.{ℕ, _≤_, _<_, _^_}
+use mathlib.Core.Path.{_≡_}
+use lib.ListN.{length, drop, replicate}
+use lib.Seq.{slice}
+use Rattle.pieces.specs.declared.Margin.{Margin}
+use Rattle.records.specs.Word.{Word}
+use Rattle.records.specs.Table.{wordsIn, AllWithin}
+use Rattle.records.specs.Marks.{breaksIn}
+use Rattle.output.specs.declared.Layout.{Layout}
+use Rattle.output.specs.Emission.{lineFeed, emitRest, emit}
+
+-- an indent: bytes of the notes, then spaces
+abbrev pub marginOf : List ℕ → Margin → List ℕ
+marginOf notes m = slice (m .start) (m .end) notes ++ replicate (m .more) 32
+
+-- an indent whose places lie in notes of a length
+pub record MarginIn (size : ℕ) (m : Margin) : Type 0 where
+  pub order : m .start ≤ m .end
+  pub end : m .end ≤ size
+  pub more : m .more < 2 ^ 32
+
+-- a word on a fresh line stands bare behind a line feed and the indent; else behind added spaces and its blanks
+unfoldable pub placed : Bool → ℕ → List ℕ → Word → List ℕ
+placed fresh added indent w =
+    elim fresh as (λ x. List ℕ) [ true ↦ lineFeed ++ indent | false ↦ replicate added 32 ++ w .blanks ] ++ w .text
+
+-- what emission is handed: a table of n words and their marks, and the indents, with every place in the notes
+pub record Laid (notes : List ℕ) (table : List ℕ) (n : ℕ) (marks : List Bool) (l : Layout) : Type 0 where
+  pub some : 1 ≤ n
+  pub few : n ≤ 1024
+  pub words : AllWithin (length notes) n table
+  pub marked : length marks ≡ 1024
+  pub first : MarginIn (length notes) (l .first)
+  pub indent : MarginIn (length notes) (l .indent)
+  pub small : length notes < 2 ^ 32
+
+-- what is emitted: the paragraph, and the part of it from word i on
+abbrev pub emitted : List ℕ → List ℕ → ℕ → List Bool → Layout → List ℕ
+emitted notes table n marks l =
+    emit (l .uniform) (marginOf notes (l .first)) (marginOf notes (l .indent)) (breaksIn n marks) (wordsIn notes n table)
+
+abbrev pub emittedFrom : List ℕ → List ℕ → ℕ → List Bool → Layout → Bool → ℕ → List ℕ
+emittedFrom notes table n marks l punct i =
+    emitRest (l .uniform) (marginOf notes (l .indent)) punct (slice i n marks) (drop i (wordsIn notes n table))

@@ -1,0 +1,85 @@
+-- The word table: 1,024 records of eight numbers each, the eighth spare. What it holds as records, and as words of the notes.
+use mathlib.Core.Bool.{cond}
+use mathlib.Core.List.{List, [], _∷_, _++_, map}
+use mathlib.Core.Path.{_≡_}
+use Prim.Native.Nat.{ℕ, zero, suc, _+_, _-_, _*_, _/_, _%_, _^_, _≤_, _<_}
+use lib.Dec.{eqb}
+use lib.ListN.{getD, set}
+use lib.Seq.{sets}
+use Rattle.records.specs.declared.Before.{Before}
+use Rattle.records.specs.declared.Before.the-variants.{Absent, Count}
+use Rattle.records.specs.declared.Word.{Word as Record}
+use Rattle.records.specs.Word.{Word, meaning}
+
+-- the count before a tab as a number: 0 is absent
+abbrev pub numberOf : Before → ℕ
+numberOf Absent = 0
+numberOf (Count n) = n + 1
+
+abbrev pub beforeOf : ℕ → Before
+beforeOf n = cond (eqb n 0) Absent (Count (n - 1))
+
+-- the three marks as one number of three bits
+abbrev pub marksOf : Record → ℕ
+marksOf w = cond (w .first) 1 0 + cond (w .punct) 2 0 + cond (w .sentence) 4 0
+
+-- number j of record i of a table
+abbrev pub number : List ℕ → ℕ → ℕ → ℕ
+number t i j = getD t (i * 8 + j) 0
+
+-- record i, put together
+unfoldable pub wordIn : List ℕ → ℕ → Record
+wordIn t i = record {
+  from = number t i 0;
+  start = number t i 1;
+  end = number t i 2;
+  width = number t i 3;
+  before = beforeOf (number t i 4);
+  after = number t i 5;
+  first = eqb (number t i 6 % 2) 1;
+  punct = eqb (number t i 6 / 2 % 2) 1;
+  sentence = eqb (number t i 6 / 4 % 2) 1;
+}
+
+-- the table with w taken apart into record i
+unfoldable pub numbersOf : Record → List ℕ
+numbersOf w = w .from ∷ w .start ∷ w .end ∷ w .width ∷ numberOf (w .before) ∷ w .after ∷ marksOf w ∷ []
+
+unfoldable pub withWord : List ℕ → ℕ → Record → List ℕ
+withWord t i w = sets t (i * 8) (numbersOf w)
+
+-- seven numbers stored one by one
+abbrev pub stored : List ℕ → ℕ → ℕ → ℕ → ℕ → ℕ → ℕ → ℕ → ℕ → List ℕ
+stored t k a b c d e f g = set (set (set (set (set (set (set t k a) (k + 1) b) (k + 2) c) (k + 3) d) (k + 4) e) (k + 5) f) (k + 6) g
+
+-- the first n records, in order, and the words they mean
+unfoldable pub recordsOf : ℕ → List ℕ → List Record
+recordsOf zero t = []
+recordsOf (suc n) t = recordsOf n t ++ (wordIn t n ∷ [])
+
+unfoldable pub wordsIn : List ℕ → ℕ → List ℕ → List Word
+wordsIn notes n t = map (meaning notes) (recordsOf n t)
+
+-- a record whose numbers fit the table
+pub record Small (w : Record) : Type 0 where
+  pub from : w .from < 2 ^ 32
+  pub start : w .start < 2 ^ 32
+  pub end : w .end < 2 ^ 32
+  pub width : w .width < 2 ^ 32
+  pub before : numberOf (w .before) < 2 ^ 32
+  pub after : w .after < 2 ^ 32
+
+-- what reading record i of a table gives
+pub record Got (t : List ℕ) (i : ℕ) (w : Record) : Type 0 where
+  pub is : w ≡ wordIn t i
+  pub small : Small w
+
+-- a record's places lie in a text of a length, in order
+pub record Within (size : ℕ) (w : Record) : Type 0 where
+  pub gap : w .from ≤ w .start
+  pub text : w .start ≤ w .end
+  pub end : w .end ≤ size
+
+-- so do those of the first n records
+abbrev pub AllWithin : ℕ → ℕ → List ℕ → Type 0
+AllWithin size n t = (i : ℕ) → i < n → Within size (wordIn t i)

@@ -1,0 +1,132 @@
+-- Blanks at a place, worked off one by one.
+use mathlib.Core.Path.{_≡_, refl, sym, ap, _∙_}
+use mathlib.Core.Bool.{Bool, true, false, cond}
+use mathlib.Core.List.{List, [], _∷_}
+use Prim.Native.Nat.{ℕ, _+_, _*_, _/_, _≤_, _<_}
+use native.Mathlib.Nat.{add-mul, div-add-mod'}
+use native.Mathlib.Omega.{arith}
+use lib.Dec.{ltb, eqb}
+use lib.ListN.{length, drop}
+use borrow.Author.Tests.{ltb-true, ltb-false, eq-eqb, ne-eqb}
+use Rattle.lists.specs.Runs.{while, behind}
+use Rattle.lists.proofs.Runs.{while-more, while-end, behind-more, behind-end}
+use Rattle.text.proofs.Glyph.{the-type}
+use denote.Enum.Declared.{tagOf}
+use types.Run.{OneOf}
+use Rattle.text.specs.Characters.{Glyph, glyph, glyphs, isBlank, extent}
+use Rattle.text.specs.Places.{seenAs}
+use Rattle.text.specs.declared.Glyph.{Glyph as Seen}
+use Rattle.text.proofs.Glyphs.{Here, glyphs-past, glyphs-first, not-blank}
+use Rattle.lines.specs.Classes.{nextStop}
+use Rattle.records.specs.Table.{numberOf}
+use Rattle.records.specs.declared.Before.{Before}
+use Rattle.records.specs.declared.Before.the-variants.{Absent, Count}
+use Rattle.words.specs.Words.{Gap, gapTab, gapFrom, gapOf}
+use Rattle.words.specs.Scan.{gapIn, gapBehind, OverBlanks}
+use Rattle.words.specs.declared.Blanks.{Blanks}
+
+-- ---- the counts
+
+stop-near : (tab after : ℕ) → (after / tab + 1) * tab ≤ after + tab
+stop-near tab after =
+    let d = div-add-mod' after tab in
+    let e = add-mul (after / tab) 1 tab in
+    omega arith
+
+pub stop-small : (tab after : ℕ) → tab ≤ 100 → after ≤ 6553600 → (after / tab + 1) * tab < 18446744073709551616
+stop-small tab after h k = let s = stop-near tab after in omega arith
+
+-- both counts grow by at most 100 with a blank
+module _ (tab m : ℕ) (few : tab ≤ 100) where
+  tab-few : (before : Before) (after : ℕ) → numberOf before ≤ m → after ≤ m
+      → (numberOf (gapTab tab before after .before) ≤ m + 100) × (gapTab tab before after .after ≤ m + 100)
+  unfolding nextStop
+  tab-few Absent after h k = (omega arith, omega arith)
+  tab-few (Count n) after h k = let s = stop-near tab after in (omega arith, omega arith)
+
+  gap-few : (code : ℕ) (g : Gap) → numberOf (g .before) ≤ m → g .after ≤ m
+      → (numberOf (gapBehind tab code g .before) ≤ m + 100) × (gapBehind tab code g .after ≤ m + 100)
+  gap-few code g h k = pick (eqb code 9)
+    where
+      pick : (t : Bool)
+          → (numberOf (cond t (gapTab tab (g .before) (g .after)) (record { before = g .before; after = g .after + 1 }) .before) ≤ m + 100)
+          × (cond t (gapTab tab (g .before) (g .after)) (record { before = g .before; after = g .after + 1 }) .after ≤ m + 100)
+      pick true = tab-few (g .before) (g .after) h k
+      pick false = (omega arith, omega arith)
+
+-- as the code counts
+module _ (tab code : ℕ) (before : Before) (after : ℕ) where
+  pub gap-other : (code ≡ 9 → ⊥) → _≡_ {A = Gap} (record { before = before; after = after + 1 }) (gapBehind tab code (record { before = before; after = after }))
+  gap-other h = rw (ne-eqb code 9 h)
+
+  pub gap-first : code ≡ 9 → before ≡ Absent → _≡_ {A = Gap} (record { before = Count after; after = 0 }) (gapBehind tab code (record { before = before; after = after }))
+  gap-first h e = rw (eq-eqb code 9 h, e)
+
+  pub gap-later : code ≡ 9 → (n : ℕ) → before ≡ Count n → _≡_ {A = Gap} (record { before = Count n; after = (after / tab + 1) * tab }) (gapBehind tab code (record { before = before; after = after }))
+  unfolding nextStop
+  gap-later h n e = rw (eq-eqb code 9 h, e)
+
+-- ---- the blanks that are left
+
+abbrev blanksAt : Bool → List ℕ → ℕ → List Glyph
+blanksAt glue s i = while isBlank (glyphs glue (drop i s))
+
+pub record BlanksLeft (glue : Bool) (tab : ℕ) (s : List ℕ) (at : ℕ) (b : Blanks) : Type 0 where
+  pub end : b .end + extent (blanksAt glue s (b .end)) ≡ at + extent (blanksAt glue s at)
+  pub gap : gapFrom tab (gapIn b) (blanksAt glue s (b .end)) ≡ gapOf tab (blanksAt glue s at)
+  pub rest : behind isBlank (glyphs glue (drop (b .end) s)) ≡ behind isBlank (glyphs glue (drop at s))
+  pub within : b .end ≤ length s
+  pub before : numberOf (b .before) ≤ 100 * b .end
+  pub after : b .after ≤ 100 * b .end
+
+-- no blank stands at a place
+pub record NoBlank (glue : Bool) (s : List ℕ) (at : ℕ) : Type 0 where
+  pub none : blanksAt glue s at ≡ []
+  pub rest : behind isBlank (glyphs glue (drop at s)) ≡ glyphs glue (drop at s)
+
+module _ (glue : Bool) (s : List ℕ) (at : ℕ) where
+  no-blank-past : length s ≤ at → NoBlank glue s at
+  unfolding while behind
+  no-blank-past h = let g = glyphs-past glue s at h in record { none = rw g; rest = rw g }
+
+  no-blank-first : (gs : List Glyph) → glyphs glue (drop at s) ≡ glyph glue (drop at s) ∷ gs → glyph glue (drop at s) .blank ≡ false → NoBlank glue s at
+  no-blank-first gs f b = record { none = rw f (while-end isBlank _ gs b); rest = rw f (behind-end isBlank _ gs b) }
+
+  -- from an answer of glyph_at that is no blank
+  pub no-blank : (r : Seen) → r ≡ seenAs at (glyph glue (drop at s)) → OneOf (0 ∷ 2 ∷ []) (tagOf the-type r) → NoBlank glue s at
+  no-blank r e h = pick (ltb at (length s)) refl
+    where
+      pick : (t : Bool) → ltb at (length s) ≡ t → NoBlank glue s at
+      pick true k = no-blank-first _ (glyphs-first glue s at (ltb-true _ _ k)) (not-blank glue s at r e h)
+      pick false k = no-blank-past (ltb-false at (length s) k)
+
+module _ {glue : Bool} {tab : ℕ} {s : List ℕ} {at : ℕ} where
+  pub blanks-first : at ≤ length s → BlanksLeft glue tab s at (record { end = at; before = Absent; after = 0 })
+  unfolding gapOf
+  blanks-first h = record { end = refl; gap = refl; rest = refl; within = h; before = omega arith; after = omega arith }
+
+  pub blanks-more : (b r : Blanks) {code next : ℕ} → BlanksLeft glue tab s at b → tab ≤ 100 → Here glue true s (b .end) code next → r .end ≡ next → gapIn r ≡ gapBehind tab code (gapIn b) → BlanksLeft glue tab s at r
+  unfolding extent gapFrom
+  blanks-more b r {code} {next} i few h e g =
+      let f = gap-few tab (100 * b .end) few code (gapIn b) (i .before) (i .after) in
+      let l : blanksAt glue s (b .end) ≡ glyph glue (drop (b .end) s) ∷ blanksAt glue s next = rw (h .first) (while-more isBlank _ _ (h .isBlank)) in
+      let m : behind isBlank (glyphs glue (drop (b .end) s)) ≡ behind isBlank (glyphs glue (drop next s)) = rw (h .first) (behind-more isBlank _ _ (h .isBlank)) in
+      record {
+        end = rw e (omega (arith, rw l at (i .end), h .count, h .on));
+        gap = rw (e, g) (rw (l, h .hasCode) at (i .gap));
+        rest = rw e (sym m ∙ i .rest);
+        within = rw e (h .within);
+        before = rw (e, ap (λ (x : Gap). numberOf (x .before)) g) (omega (arith, f .0, h .on));
+        after = rw (e, ap (λ (x : Gap). x .after) g) (omega (arith, f .1, h .on));
+      }
+
+  pub blanks-done : (b : Blanks) → BlanksLeft glue tab s at b → NoBlank glue s (b .end) → OverBlanks glue tab s at b
+  unfolding extent gapFrom
+  blanks-done b i n = record {
+    end = omega (arith, rw (n .none) at (i .end));
+    gap = rw (n .none) at (i .gap);
+    rest = sym (n .rest) ∙ i .rest;
+    within = i .within;
+    before = omega (arith, i .before, i .within);
+    after = omega (arith, i .after, i .within);
+  }

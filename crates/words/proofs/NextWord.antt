@@ -1,0 +1,148 @@
+-- The next word at a place, from the blanks and the ink that the code found there.
+use mathlib.Core.Path.{_≡_, refl, sym, ap, _∙_}
+use mathlib.Core.Bool.{Bool, true, false, cond, _&&_, _||_}
+use mathlib.Core.List.{List, [], _∷_}
+use Prim.Native.Nat.{ℕ, _+_, _-_, _*_, _≤_, _<_}
+use native.Mathlib.Omega.{arith}
+use lib.Dec.{ltb}
+use lib.ListN.{length, drop, length-drop}
+use lib.Seq.{slice, slice-empty, length-slice}
+use Rattle.lists.specs.Runs.{while, behind}
+use Rattle.lists.proofs.Runs.{while-more}
+use Rattle.lists.proofs.RunParts.{behind-fails}
+use Rattle.text.specs.Characters.{Glyph, glyph, glyphs, isBlank, extent}
+use Rattle.text.proofs.Glyphs.{bytes-of, glyphs-past, glyphs-first}
+use Rattle.options.specs.Opts.{Opts}
+use Rattle.records.specs.Word.{meaning}
+use Rattle.records.specs.Table.{numberOf, Small, Within}
+use Rattle.records.specs.declared.Word.{Word as Record}
+use Rattle.records.specs.declared.Before.the-variants.{Absent}
+use Rattle.words.specs.Words.{Run, isInk, runOf, bytesOf, widthSum, noGap, gapOf, hasTab, punctAtEnd, wideGap, wordOf, mailWord}
+use Rattle.words.specs.Scan.{gapIn, OverBlanks, OverInk, wordAt, mailAt, wordsFrom, NextWord}
+use Rattle.words.specs.declared.Blanks.{Blanks}
+use Rattle.words.specs.declared.Ink.{Ink}
+use Rattle.words.proofs.WordRuns.{run-bytes, words-none, wordFor, words-one}
+
+module _ (o : Opts) (s : List ℕ) (at : ℕ) (b : Blanks) (over : OverBlanks (o .glue) (o .tab) s at b) where
+  pub next-none : (mail newLine previous : Bool) → length s ≤ b .end → wordsFrom o mail newLine previous (glyphs (o .glue) (drop at s)) ≡ []
+  next-none mail newLine previous h = words-none o mail newLine previous _ (sym (over .rest) ∙ glyphs-past (o .glue) s (b .end) h)
+
+  module _ (w : Ink) (ink : OverInk (o .glue) s (b .end) w) (more : b .end < length s) where
+    rest : List Glyph
+    rest = glyphs (o .glue) (drop (b .end + length (glyph (o .glue) (drop (b .end) s) .bytes)) s)
+
+    starts : behind isBlank (glyphs (o .glue) (drop at s)) ≡ glyph (o .glue) (drop (b .end) s) ∷ rest
+    unfolding rest
+    starts = sym (over .rest) ∙ glyphs-first (o .glue) s (b .end) more
+
+    run : Run
+    run = runOf (glyphs (o .glue) (drop at s))
+
+    text-is : while isInk (behind isBlank (glyphs (o .glue) (drop at s))) ≡ while isInk (glyphs (o .glue) (drop (b .end) s))
+    text-is = rw (over .rest)
+
+    text-bytes : bytesOf (run .text) ≡ slice (b .end) (w .end) s
+    unfolding run runOf
+    text-bytes = rw text-is (run-bytes isInk (o .glue) s (b .end) (w .end) (ink .end))
+
+    blank-bytes : bytesOf (run .blanks) ≡ slice at (b .end) s
+    unfolding run runOf
+    blank-bytes = run-bytes isBlank (o .glue) s at (b .end) (over .end)
+
+    -- the word is at least a byte long
+    ends : b .end < w .end
+    unfolding extent
+    ends =
+        let i : isInk (glyph (o .glue) (drop (b .end) s)) ≡ true = rw (behind-fails isBlank _ starts) in
+        let e : while isInk (glyphs (o .glue) (drop (b .end) s)) ≡ glyph (o .glue) (drop (b .end) s) ∷ while isInk rest = rw (over .rest, starts) (while-more isInk _ _ i) in
+        let f = bytes-of (o .glue) (drop (b .end) s) (simp length-drop (omega arith)) in
+        omega (arith, ink .end, ap extent e, f .some, f .count)
+
+    -- the words from here on, with the next written as the code's record
+    onward : (mail newLine previous : Bool) (r : Record) → meaning s r ≡ wordFor o mail newLine previous run → r .end ≡ w .end
+        → wordsFrom o mail newLine previous (glyphs (o .glue) (drop at s)) ≡ meaning s r ∷ wordsFrom o mail false (w .punct) (glyphs (o .glue) (drop (r .end) s))
+    unfolding run
+    onward mail newLine previous r m e =
+        rw (m, e, ink .punct, ink .rest, over .rest) (words-one _ starts o mail newLine previous)
+
+    -- in mail
+    mail-means : (newLine previous : Bool) → meaning s (mailAt (b .end) (w .end)) ≡ wordFor o true newLine previous run
+    unfolding meaning wordFor mailWord
+    mail-means newLine previous = rw (slice-empty (b .end) s, text-bytes, length-slice (b .end) (w .end) s (ink .within))
+
+    -- elsewhere
+    text-width : widthSum (run .text) ≡ w .width
+    unfolding run runOf
+    text-width = rw text-is (sym (ink .width))
+
+    text-punct : punctAtEnd (run .text) ≡ w .punct
+    unfolding run runOf
+    text-punct = rw text-is (sym (ink .punct))
+
+    blank-gap : gapOf (o .tab) (run .blanks) ≡ gapIn b
+    unfolding run runOf
+    blank-gap = sym (over .gap)
+
+    line-means : (newLine previous : Bool) → meaning s (wordAt (o .uniform) newLine previous at b w) ≡ wordFor o false newLine previous run
+    unfolding meaning wordFor wordOf wideGap
+    line-means newLine previous =
+        rw (text-width, text-punct, blank-gap, text-bytes, blank-bytes, length-slice at (b .end) s (over .within)) (pick (o .uniform))
+      where
+        pick : (u : Bool) → meaning s (wordAt u newLine previous at b w) ≡ record {
+          blanks = cond u [] (slice at (b .end) s);
+          text = slice (b .end) (w .end) s;
+          width = w .width;
+          before = cond u noGap (gapIn b) .before;
+          after = cond u noGap (gapIn b) .after;
+          newLine = newLine;
+          endsPunct = w .punct;
+          sentenceStart = previous && (hasTab (b .before) || ltb 1 (b .end - at));
+        }
+        pick true = rw (slice-empty (b .end) s)
+        pick false = refl
+
+    pub next-mail : (newLine previous : Bool) → NextWord o true newLine previous s at (mailAt (b .end) (w .end))
+    unfolding wordsFrom
+    next-mail newLine previous = let e = ends in record {
+      first = onward true newLine previous (mailAt (b .end) (w .end)) (mail-means newLine previous) refl;
+      within = record { gap = omega arith; text = omega arith; end = ink .within };
+      on = omega (arith, over .end);
+      some = omega arith;
+      narrow = omega (arith, ink .within);
+      before = omega arith;
+      after = omega arith;
+    }
+
+    pub next-line : (newLine previous : Bool) → NextWord o false newLine previous s at (wordAt (o .uniform) newLine previous at b w)
+    next-line newLine previous = let e = ends in record {
+      first = onward false newLine previous (wordAt (o .uniform) newLine previous at b w) (line-means newLine previous) refl;
+      within = pick-within (o .uniform);
+      on = omega (arith, over .end);
+      some = omega (arith, ink .some);
+      narrow = omega (arith, ink .narrow, ink .within);
+      before = pick-before (o .uniform);
+      after = pick-after (o .uniform);
+    }
+      where
+        pick-within : (u : Bool) → Within (length s) (wordAt u newLine previous at b w)
+        pick-within true = let e = ends in record { gap = omega arith; text = omega arith; end = ink .within }
+        pick-within false = let e = ends in record { gap = omega (arith, over .end); text = omega arith; end = ink .within }
+
+        pick-before : (u : Bool) → numberOf (cond u Absent (b .before)) ≤ 100 * length s
+        pick-before true = omega arith
+        pick-before false = over .before
+
+        pick-after : (u : Bool) → cond u 0 (b .after) ≤ 100 * length s
+        pick-after true = omega arith
+        pick-after false = over .after
+
+-- its numbers fit the table
+pub next-small : {o : Opts} {mail newLine previous : Bool} {s : List ℕ} {at : ℕ} {w : Record} → NextWord o mail newLine previous s at w → length s ≤ 65536 → Small w
+next-small n h = record {
+  from = omega (arith, n .within .gap, n .within .text, n .within .end);
+  start = omega (arith, n .within .text, n .within .end);
+  end = omega (arith, n .within .end);
+  width = omega (arith, n .narrow);
+  before = omega (arith, n .before);
+  after = omega (arith, n .after);
+}

@@ -1,0 +1,130 @@
+-- The words of a paragraph, line by line; and that they hang on no prefix.
+use mathlib.Core.Path.{_≡_, refl, sym, ap, ap₂, _∙_}
+use mathlib.Core.Bool.{Bool, true, false, cond}
+use mathlib.Core.List.{List, [], _∷_, _++_}
+use Prim.Native.Nat.{ℕ, _+_, _-_, _≤_, _<_}
+use native.Mathlib.Omega.{arith}
+use lib.ListN.{length, take, drop, length-take}
+use lib.Seq.{slice, drop-drop, take-take, length-slice, length-take-le}
+use Rattle.lists.proofs.Fronts.{part-to-end}
+use Rattle.lists.specs.Runs.{joined}
+use Rattle.text.specs.Characters.{Glyph, glyphs}
+use Rattle.options.specs.Opts.{Opts, meant}
+use Rattle.options.specs.declared.Options.{Options}
+use Rattle.lines.specs.Lines.{Line, firstLine, linesOf}
+use Rattle.lines.specs.Places.{extentOf}
+use Rattle.lines.specs.declared.Extent.{Extent}
+use Rattle.lines.proofs.Lines.{LineHere, lines-past, line-here}
+use Rattle.pieces.specs.Pieces.{Row}
+use Rattle.records.specs.Word.{Word}
+use Rattle.words.specs.Words.{Run, wordOf, lineWords, rowWords}
+use Rattle.words.specs.Places.{rowsAt, wordsAt}
+use Rattle.words.specs.Scan.{wordsFrom}
+use Rattle.words.specs.Split.{Begins, AllBegin, Filled, Split}
+use Rattle.words.specs.declared.Count.{Count}
+use Rattle.words.proofs.Filling.{filled-split}
+
+-- ---- of the options, only uniform, tab and glue count
+
+module _ (o : Options) (block : List ℕ) where
+  line-same : (newLine previous : Bool) (rs : List Run) → lineWords (meant block o) newLine previous rs ≡ lineWords (meant [] o) newLine previous rs
+  unfolding lineWords wordOf meant
+  line-same newLine previous [] = refl
+  line-same newLine previous (r ∷ rs) = pick (r .text) (ap (λ (l : List Word). wordOf (meant [] o) newLine previous r ∷ l) (line-same false _ rs))
+    where
+      pick : (t : List Glyph) {a b : List Word} → a ≡ b → _≡_ {A = List Word} (elim t as (λ t. List Word) [ [] ↦ [] | x ∷ (xs → y) ↦ a ]) (elim t as (λ t. List Word) [ [] ↦ [] | x ∷ (xs → y) ↦ b ])
+      pick [] e = refl
+      pick (x ∷ t) e = e
+
+  row-same : (mail : Bool) (row : Row) → rowWords (meant block o) mail row ≡ rowWords (meant [] o) mail row
+  unfolding rowWords meant
+  row-same true row = refl
+  row-same false row = line-same true false _
+
+  rows-same : (mail : Bool) (rows : List Row) → joined (rowWords (meant block o) mail) rows ≡ joined (rowWords (meant [] o) mail) rows
+  unfolding joined
+  rows-same mail [] = refl
+  rows-same mail (row ∷ rows) = ap₂ (λ (l r : List Word). l ++ r) (row-same mail row) (rows-same mail rows)
+
+  words-same : (mail : Bool) (start later : ℕ) (ls : List Line) → wordsAt (meant [] o) mail start later ls ≡ wordsAt (meant block o) mail start later ls
+  unfolding wordsAt
+  words-same mail start later ls = sym (rows-same mail (rowsAt start later ls))
+
+-- ---- line by line
+
+module _ (o : Opts) (mail : Bool) (start later : ℕ) where
+  pub rows-none : wordsAt o mail start later [] ≡ []
+  unfolding wordsAt rowsAt joined
+  rows-none = refl
+
+  rows-first : (l : Line) (ls : List Line) → wordsAt o mail start later (l ∷ ls) ≡ rowWords o mail (record { text = l .text; start = start }) ++ wordsAt o mail later later ls
+  unfolding wordsAt rowsAt joined
+  rows-first l ls = refl
+
+begin-first : (glue : Bool) (start later : ℕ) (l : Line) (ls : List Line) → AllBegin glue start later (l ∷ ls) → Begins glue start (l .text) × AllBegin glue later later ls
+unfolding AllBegin
+begin-first glue start later l ls a = a
+
+row-words : (o : Opts) (mail : Bool) (text : List ℕ) (start : ℕ) → (mail ≡ false → Begins (o .glue) start text)
+    → rowWords o mail (record { text = text; start = start }) ≡ wordsFrom o mail true false (glyphs (o .glue) (drop (cond mail 0 start) text))
+unfolding rowWords wordsFrom
+row-words o true text start b = refl
+row-words o false text start b = rw (b refl .glyph)
+
+-- the line at a place i of the notes up to next, of which e are the lengths
+pub record LineAt (o : Opts) (mail : Bool) (skip later : ℕ) (notes : List ℕ) (next i : ℕ) (e : Extent) : Type 0 where
+  pub on : 0 < e .whole
+  pub shorter : e .text ≤ e .whole
+  pub within : i + e .whole ≤ next
+  pub starts : mail ≡ false → skip ≤ e .text
+  pub begins : cond mail 0 skip ≤ e .text
+  pub words : wordsAt o mail skip later (linesOf (slice i next notes))
+      ≡ wordsFrom o mail true false (glyphs (o .glue) (slice (i + cond mail 0 skip) (i + e .text) notes)) ++ wordsAt o mail later later (linesOf (slice (i + e .whole) next notes))
+  pub rest : mail ≡ false → AllBegin (o .glue) later later (linesOf (slice (i + e .whole) next notes))
+
+module _ (o : Opts) (mail : Bool) (skip later : ℕ) (notes : List ℕ) (next i : ℕ) (e : Extent) where
+  -- from the answer of first_line
+  pub line-at : i < next → next ≤ length notes → e ≡ extentOf (firstLine (take (length (take next notes) - i) (slice i next notes))) → (mail ≡ false → AllBegin (o .glue) skip later (linesOf (slice i next notes)))
+      → LineAt o mail skip later notes next i e
+  line-at more fits q begins = record {
+    on = here .on;
+    shorter = here .shorter;
+    within = omega (arith, here .within, sized);
+    starts = starts;
+    begins = low mail starts;
+    words = rw (here .first, rows-first o mail skip later, row-words o mail (line .text) skip (λ m. begin m .0), text, drop-drop (cond mail 0 skip) i (take (i + e .text) notes));
+    rest = λ m. begin m .1;
+  }
+    where
+      low : (m : Bool) → (m ≡ false → skip ≤ e .text) → cond m 0 skip ≤ e .text
+      low true h = omega arith
+      low false h = h refl
+
+      sized : length (take next notes) ≡ next
+      sized = length-take-le next notes fits
+
+      here : LineHere (take next notes) i e
+      here = line-here (take next notes) i e (omega (arith, sized)) (q ∙ ap (λ (l : List ℕ). extentOf (firstLine l)) (part-to-end i (take next notes)))
+
+      line : Line
+      line = firstLine (slice i next notes)
+
+      begin : mail ≡ false → Begins (o .glue) skip (line .text) × AllBegin (o .glue) later later (linesOf (slice (i + e .whole) next notes))
+      begin m = begin-first (o .glue) skip later line _ (rw (here .first) at (begins m))
+
+      text : line .text ≡ slice i (i + e .text) notes
+      text = here .text ∙ ap (drop i) (take-take (i + e .text) next notes (omega (arith, here .within, here .shorter, sized)))
+
+      count : length (line .text) ≡ e .text
+      count = rw (text, length-slice i (i + e .text) notes (omega (arith, here .within, here .shorter, sized))) (omega arith)
+
+      starts : mail ≡ false → skip ≤ e .text
+      starts m = rw count at (begin m .0 .within)
+
+pub lines-end : (o : Opts) (mail : Bool) (skip later : ℕ) (notes : List ℕ) (next i : ℕ) → next ≤ i → wordsAt o mail skip later (linesOf (slice i next notes)) ≡ []
+lines-end o mail skip later notes next i h = rw (lines-past (take next notes) i (rw length-take (omega arith))) (rows-none o mail skip later)
+
+-- so the table filled answers for every block
+pub filled-words : (notes t : List ℕ) (r : Count) (o : Options) (mail : Bool) (start later : ℕ) (ls : List Line) → Filled notes (wordsAt (meant [] o) mail start later ls) t r
+    → (block : List ℕ) → Split notes (wordsAt (meant block o) mail start later ls) t r
+filled-words notes t r o mail start later ls f block = rw (words-same o block mail start later ls) at (filled-split notes (wordsAt (meant [] o) mail start later ls) t r f)

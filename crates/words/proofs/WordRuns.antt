@@ -1,0 +1,103 @@
+-- The words of a line, run by run; and the bytes of a run that stands at a place.
+use mathlib.Core.Path.{_≡_, refl, sym, ap, _∙_}
+use mathlib.Core.Bool.{Bool, true, false}
+use mathlib.Core.List.{List, [], _∷_, _++_}
+use Prim.Native.Nat.{ℕ, suc, _+_, _-_, _<_}
+use native.Mathlib.Omega.{arith}
+use lib.ListN.{length, take, drop, length-append}
+use lib.Seq.{slice, take-at, drop-drop}
+use Rattle.lists.specs.Runs.{while, behind, joined}
+use Rattle.lists.proofs.Walk.{each-nil, each-step}
+use Rattle.lists.proofs.Runs.{while-more}
+use Rattle.lists.proofs.Parts.{while-behind, joined-append}
+use Rattle.lists.proofs.RunParts.{drop-while, behind-fails}
+use Rattle.lists.proofs.Slices.{slice-is}
+use Rattle.text.specs.Characters.{Glyph, glyphs, isBlank, extent}
+use Rattle.text.proofs.Glyphs.{glyphs-joined}
+use Rattle.options.specs.Opts.{Opts}
+use Rattle.records.specs.Word.{Word}
+use Rattle.words.specs.Words.{Run, isInk, runOf, runs, glyphBytes, bytesOf, punctAtEnd, wordOf, lineWords, mailWord, mailWords}
+use Rattle.words.specs.Scan.{wordsFrom}
+
+-- ---- bytes
+
+pub extent-bytes : (gs : List Glyph) → extent gs ≡ length (bytesOf gs)
+unfolding extent bytesOf joined
+extent-bytes [] = refl
+extent-bytes (g ∷ gs) = rw (length-append, ← extent-bytes gs)
+
+-- the bytes of the run at a place stand there up to its end
+pub run-bytes : (test : Glyph → Bool) (glue : Bool) (s : List ℕ) (at end : ℕ) → end ≡ at + extent (while test (glyphs glue (drop at s)))
+    → bytesOf (while test (glyphs glue (drop at s))) ≡ slice at end s
+unfolding bytesOf
+run-bytes test glue s at end e =
+    let gs = glyphs glue (drop at s) in
+    let n = extent (while test gs) in
+    let whole : joined glyphBytes (while test gs) ++ joined glyphBytes (behind test gs) ≡ drop at s =
+    sym (joined-append glyphBytes (while test gs) (behind test gs)) ∙ ap (joined glyphBytes) (while-behind test gs) ∙ glyphs-joined glue (drop at s) in
+    sym (take-at (joined glyphBytes (while test gs)) (joined glyphBytes (behind test gs)) n (sym (extent-bytes (while test gs))))
+    ∙ ap (take n) whole ∙ sym (slice-is at n s) ∙ ap (λ (k : ℕ). slice at k s) (sym e)
+
+-- ---- words
+
+runs-none : runs [] ≡ []
+unfolding runs
+runs-none = each-nil _ runOf
+
+runs-step : (gs : List Glyph) → 0 < length gs
+    → runs gs ≡ runOf gs ∷ runs (drop (suc (length (runOf gs .blanks) + length (runOf gs .text) - 1)) gs)
+unfolding runs
+runs-step gs h = each-step _ runOf gs h
+
+no-runs : (o : Opts) (newLine previous : Bool) → (mailWords [] ≡ []) × (lineWords o newLine previous [] ≡ [])
+unfolding mailWords lineWords
+no-runs o newLine previous = (refl, refl)
+
+-- a run without text ends the words, and one with text is a word
+module _ (o : Opts) (newLine previous : Bool) (r : Run) (rs : List Run) where
+  text-none : r .text ≡ [] → (mailWords (r ∷ rs) ≡ []) × (lineWords o newLine previous (r ∷ rs) ≡ [])
+  unfolding mailWords lineWords
+  text-none e = (rw e, rw e)
+
+  text-some : {g : Glyph} {gs : List Glyph} → r .text ≡ g ∷ gs
+      → (mailWords (r ∷ rs) ≡ mailWord r ∷ mailWords rs) × (lineWords o newLine previous (r ∷ rs) ≡ wordOf o newLine previous r ∷ lineWords o false (punctAtEnd (r .text)) rs)
+  unfolding mailWords lineWords
+  text-some e = (pick (r .text) e _, pick (r .text) e _)
+    where
+      pick : (t : List Glyph) {h : Glyph} {hs : List Glyph} → t ≡ h ∷ hs → (ws : List Word) → elim t as (λ t. List Word) [ [] ↦ [] | x ∷ (xs → y) ↦ ws ] ≡ ws
+      pick [] q ws = absurd (let z : _≡_ {A = ℕ} 0 1 = cc in omega arith)
+      pick (x ∷ t) q ws = refl
+
+-- blanks alone make no word
+pub words-none : (o : Opts) (mail newLine previous : Bool) (gs : List Glyph) → behind isBlank gs ≡ [] → wordsFrom o mail newLine previous gs ≡ []
+unfolding runOf while wordsFrom
+words-none o true newLine previous [] e = rw runs-none (no-runs o newLine previous .0)
+words-none o false newLine previous [] e = rw runs-none (no-runs o newLine previous .1)
+words-none o true newLine previous (g ∷ gs) e = rw (runs-step (g ∷ gs) (omega arith)) (text-none o newLine previous (runOf (g ∷ gs)) _ (rw e) .0)
+words-none o false newLine previous (g ∷ gs) e = rw (runs-step (g ∷ gs) (omega arith)) (text-none o newLine previous (runOf (g ∷ gs)) _ (rw e) .1)
+
+-- a word
+unfoldable pub wordFor : Opts → Bool → Bool → Bool → Run → Word
+wordFor o true newLine previous r = mailWord r
+wordFor o false newLine previous r = wordOf o newLine previous r
+
+module _ (gs : List Glyph) {g : Glyph} {rest : List Glyph} (some : behind isBlank gs ≡ g ∷ rest) where
+  text-is : while isInk (behind isBlank gs) ≡ g ∷ while isInk rest
+  text-is = let b = behind-fails isBlank gs some in rw some (while-more isInk g rest (rw b))
+
+  runs-first : runs gs ≡ runOf gs ∷ runs (behind isInk (behind isBlank gs))
+  unfolding runOf
+  runs-first =
+      let h : 0 < length gs = omega (arith, ap length (while-behind isBlank gs), length-append (while isBlank gs) (behind isBlank gs), ap length some) in
+      let n = ap length text-is in
+      let e : suc (length (while isBlank gs) + length (while isInk (behind isBlank gs)) - 1) ≡ length (while isBlank gs) + length (while isInk (behind isBlank gs)) = omega arith in
+      let d : drop (length (while isBlank gs) + length (while isInk (behind isBlank gs))) gs ≡ behind isInk (behind isBlank gs) =
+      sym (drop-drop (length (while isInk (behind isBlank gs))) (length (while isBlank gs)) gs)
+      ∙ ap (drop (length (while isInk (behind isBlank gs)))) (drop-while isBlank gs) ∙ drop-while isInk (behind isBlank gs) in
+      runs-step gs h ∙ ap (λ (l : List Glyph). runOf gs ∷ runs l) (rw e d)
+
+  pub words-one : (o : Opts) (mail newLine previous : Bool)
+      → wordsFrom o mail newLine previous gs ≡ wordFor o mail newLine previous (runOf gs) ∷ wordsFrom o mail false (punctAtEnd (while isInk (behind isBlank gs))) (behind isInk (behind isBlank gs))
+  unfolding runOf wordFor wordsFrom
+  words-one o true newLine previous = rw runs-first (text-some o newLine previous (runOf gs) _ text-is .0)
+  words-one o false newLine previous = rw runs-first (text-some o newLine previous (runOf gs) _ text-is .1)

@@ -1,0 +1,42 @@
+-- `words::next_word` meets its contract: no word is left, or one of mail or of a line.
+use Rattle.options.specs.Opts.{meant}
+use Rattle.words.proofs.NextWord.{next-none, next-mail, next-line}
+use borrow.Author.Needs.{needs}
+use Rattle.words.proofs.next_word.Statement.{statement}
+use Rattle.words.proofs.next_word.Tie as tie
+
+over-blanks-requires : tie.Need-over-blanks-requires
+over-blanks-requires c κs = search needs
+
+returns : tie.Need-returns
+unfolding meant
+returns c = next-none _ _ _ _ (c .before .over-blanks .ensures) _ _ _ (c .if1 .taken)
+
+over-ink-requires : tie.Need-over-ink-requires
+over-ink-requires c κs = search needs
+
+mail-word-requires : tie.Need-mail-word-requires
+mail-word-requires c κs = search needs
+
+returns-2 : tie.Need-returns-2
+unfolding meant
+returns-2 c = rw (c .mail-word .ensures, c .before .if2 .taken) (next-mail _ _ _ _ (c .before .before .before .before .over-blanks .ensures) _ (c .before .before .over-ink .ensures) (c .before .before .before .if1 .left) _ _)
+
+word-of-requires : tie.Need-word-of-requires
+word-of-requires c κs = search needs
+
+returns-3 : tie.Need-returns-3
+unfolding meant
+returns-3 c = rw (c .word-of .ensures, c .before .if2 .left) (next-line _ _ _ _ (c .before .before .before .before .over-blanks .ensures) _ (c .before .before .over-ink .ensures) (c .before .before .before .if1 .left) _ _)
+
+pub next-word-spec : {M : Type 1} → statement M
+next-word-spec =
+    tie.close
+    (tie.spec
+    over-blanks-requires
+    returns
+    over-ink-requires
+    mail-word-requires
+    returns-2
+    word-of-requires
+    returns-3)

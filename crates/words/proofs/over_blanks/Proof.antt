@@ -1,0 +1,58 @@
+-- `words::over_blanks` meets its contract. Invariant: what is left of the blanks.
+use mathlib.Core.Path.{sym, _∙_}
+use mathlib.Core.Bool.{true}
+use Prim.Native.Nat.{_-_}
+use native.Mathlib.Omega.{arith}
+use lib.ListN.{length}
+use denote.Ref.{now}
+use borrow.Author.Needs.{needs}
+use Rattle.text.proofs.Glyphs.{Here, blank-here}
+use Rattle.words.proofs.BlankRuns.{BlanksLeft, blanks-first, blanks-more, blanks-done, no-blank}
+use Rattle.words.proofs.over_blanks.Statement.{statement}
+use Rattle.words.proofs.over_blanks.Tie as tie
+
+abbrev Inv-loop : tie.InvT-loop
+Inv-loop s at tab glue b₀ b = BlanksLeft glue tab s at b
+
+abbrev μ-loop : tie.MeasureT-loop
+μ-loop s at tab glue b₀ b = length s - b .end
+
+loop-holds : tie.Need-loop-holds Inv-loop μ-loop
+loop-holds c = blanks-first (search needs)
+
+glyph-at-requires : tie.Need-glyph-at-requires Inv-loop μ-loop
+glyph-at-requires c κs = search needs
+
+enum-known-code : tie.Need-enum-known-code Inv-loop μ-loop
+enum-known-code c = search needs
+
+returns : tie.Need-returns Inv-loop μ-loop
+returns c = blanks-done _ (c .before .before .loop .inv) (no-blank _ _ _ _ (c .before .glyph-at .ensures) (c .match .keys2))
+
+behind-blank-requires : tie.Need-behind-blank-requires Inv-loop μ-loop
+behind-blank-requires c κs = let i = c .before .before .before .before .loop .inv in omega arith
+
+-- the blank that the loop's turn reads
+read : (c : tie.After-code Inv-loop μ-loop)
+    → Here (c .before .before .before .before .before .args .glue) true (now (c .before .before .before .before .before .args .s)) (c .before .before .before .loop .b .end) (c .code .given .0 .0) (c .code .given .0 .1 .0)
+read c = blank-here _ _ _ _ _ (sym (c .before .before .glyph-at .ensures) ∙ c .code .given .1)
+
+loop-less : tie.Need-loop-less Inv-loop μ-loop
+loop-less c = let h = read (c .before .before) in omega (arith, c .behind-blank .ensures .0)
+
+loop-again : tie.Need-loop-again Inv-loop μ-loop
+loop-again c = let h = read (c .before .before) in blanks-more _ _ (c .before .before .before .before .before .loop .inv) (search needs) h (c .behind-blank .ensures .0) (c .behind-blank .ensures .1)
+
+pub over-blanks-spec : {M : Type 1} → statement M
+over-blanks-spec =
+    tie.close
+    (tie.spec
+    Inv-loop
+    μ-loop
+    loop-holds
+    glyph-at-requires
+    enum-known-code
+    returns
+    behind-blank-requires
+    loop-less
+    loop-again)

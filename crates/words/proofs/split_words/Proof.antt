@@ -1,0 +1,122 @@
+-- `words::split_words` meets its contract. Invariant: the words in the table, with those of the lines that are left, are all the words.
+use mathlib.Core.Path.{_≡_, sym}
+use mathlib.Core.Bool.{true, false, cond}
+use mathlib.Core.List.{List, [], _++_}
+use Prim.Native.Nat.{_+_, _-_, _≤_}
+use native.Mathlib.Omega.{arith}
+use lib.Seq.{slice, length-take-le}
+use denote.Ref.{now}
+use borrow.Author.Needs.{needs}
+use Rattle.options.specs.Opts.{meant}
+use Rattle.lines.specs.Lines.{linesOf}
+use Rattle.words.specs.Places.{wordsAt}
+use Rattle.words.specs.Split.{AllBegin, Filled}
+use Rattle.words.specs.Scan.{wordsFrom}
+use Rattle.text.specs.Characters.{glyphs}
+use Rattle.records.specs.Word.{Word}
+use Rattle.records.specs.Table.{wordsIn}
+use Rattle.words.proofs.Filling.{Filling, filling-none, filling-line, filling-over, filling-done}
+use Rattle.words.proofs.Rows.{LineAt, line-at, lines-end, filled-words}
+use Rattle.words.proofs.split_words.Statement.{statement}
+use Rattle.words.proofs.split_words.Tie as tie
+
+abbrev Inv-loop : tie.InvT-loop
+Inv-loop notes at next mail start later o table₀ part i₀ n₀ skip₀ table i n skip =
+    (i ≤ next)
+    × (mail ≡ false → AllBegin (meant [] o .glue) skip later (linesOf (slice i next notes)))
+    × Filling notes (wordsAt (meant [] o) mail start later (linesOf (slice at next notes))) (wordsAt (meant [] o) mail skip later (linesOf (slice i next notes))) n table
+
+abbrev μ-loop : tie.MeasureT-loop
+μ-loop notes at next mail start later o table₀ part i₀ n₀ skip₀ table i n skip = next - i
+
+slice-aggregate-part : tie.Need-slice-aggregate-part Inv-loop μ-loop
+slice-aggregate-part c = sym (length-take-le _ _ (c .before .before .pre .1))
+
+loop-holds : tie.Need-loop-holds Inv-loop μ-loop
+unfolding meant
+loop-holds c = (c .before .before .pre .0, c .before .before .pre .6, filling-none (c .before .before .pre .5))
+
+sub-first-line : tie.Need-sub-first-line Inv-loop μ-loop
+sub-first-line c = rw (length-take-le _ _ (c .before .before .before .before .pre .1)) (search needs)
+
+part-first-line-start : tie.Need-part-first-line-start Inv-loop μ-loop
+part-first-line-start c = let l = length-take-le (c .before .before .before .before .args .next) (now (c .before .before .before .before .args .notes)) (c .before .before .before .before .pre .1) in search needs
+
+part-first-line-end : tie.Need-part-first-line-end Inv-loop μ-loop
+part-first-line-end c = let l = length-take-le (c .before .before .before .before .args .next) (now (c .before .before .before .before .args .notes)) (c .before .before .before .before .pre .1) in search needs
+
+first-line-requires : tie.Need-first-line-requires Inv-loop μ-loop
+first-line-requires c κs = search needs
+
+-- the line that the loop's turn reads
+line : (c : tie.After-first-line Inv-loop μ-loop)
+    → LineAt (meant [] (c .before .before .before .before .before .before .args .o)) (c .before .before .before .before .before .before .args .mail) (c .before .before .before .loop .skip) (c .before .before .before .before .before .before .args .later) (now (c .before .before .before .before .before .before .args .notes)) (c .before .before .before .before .before .before .args .next) (c .before .before .before .loop .i) (c .first-line .result)
+line c = line-at _ _ _ _ _ _ _ _ (c .before .before .loop-test .taken) (c .before .before .before .before .before .before .pre .1) (c .first-line .ensures) (c .before .before .before .loop .inv .1)
+
+begin-requires : tie.Need-begin-requires Inv-loop μ-loop
+begin-requires c κs = λ m. omega (arith, line c .starts m, line c .shorter, line c .within, c .before .before .before .before .before .before .pre .1, c .before .before .before .before .before .before .pre .2)
+
+add-split-line : tie.Need-add-split-line Inv-loop μ-loop
+add-split-line c = let l = line (c .before .before) in omega (arith, l .shorter, l .within, c .before .before .before .before .before .before .before .before .pre .1, c .before .before .before .before .before .before .before .before .pre .2)
+
+split-line-requires : tie.Need-split-line-requires Inv-loop μ-loop
+split-line-requires c κs = let l = line (c .before .before .before) in (omega (arith, l .begins, c .before .before .begin .ensures), omega (arith, l .shorter, l .within, c .before .before .before .before .before .before .before .before .before .pre .1), search needs, search needs, search needs, c .before .before .before .before .before .before .loop .inv .2 .kept)
+
+enum-known-m : tie.Need-enum-known-m Inv-loop μ-loop
+enum-known-m c = search needs
+
+enum-told : tie.Need-enum-told Inv-loop μ-loop
+enum-told c = search needs
+
+-- the words of the turn's line, behind those of the table
+added : (c : tie.After-split-line Inv-loop μ-loop) → List Word
+added c =
+    let a = c .before .before .before .before .before .before .before .before .before .before .args in
+    let l = c .before .before .before .before .before .before .before .loop in
+    wordsIn (now (a .notes)) (l .n) (l .table)
+    ++ wordsFrom (meant [] (a .o)) (a .mail) true false (glyphs (meant [] (a .o) .glue) (slice (l .i + cond (a .mail) 0 (l .skip)) (l .i + c .before .before .before .before .first-line .result .text) (now (a .notes))))
+
+filled : (c : tie.After-split-line Inv-loop μ-loop)
+    → Filled (now (c .before .before .before .before .before .before .before .before .before .before .args .notes)) (added c) (c .split-line .last .1 .1 .1 .1 .1 .1 .0) (c .split-line .result)
+unfolding meant added
+filled c = rw (c .before .before .before .begin .ensures) at (c .split-line .ensures)
+
+returns : tie.Need-returns Inv-loop μ-loop
+unfolding added
+returns c = filled-words _ _ _ _ _ _ _ _ (filling-over (c .before .before .before .before .before .before .before .before .before .loop .inv .2) _ _ (line (c .before .before .before .before .before .before) .words) (c .before .before .split-line .last .1 .1 .1 .1 .1 .1 .0) (rw (c .enum-told .given .1) at (filled (c .before .before))))
+
+add-i : tie.Need-add-i Inv-loop μ-loop
+add-i c = let l = line (c .before .before .before .before .before .before .before .before) in omega (arith, l .within, c .before .before .before .before .before .before .before .before .before .before .before .before .before .before .pre .1, c .before .before .before .before .before .before .before .before .before .before .before .before .before .before .pre .2)
+
+loop-less : tie.Need-loop-less Inv-loop μ-loop
+loop-less c = let l = line (c .before .before .before .before .before .before .before .before) in omega (arith, l .within, l .on)
+
+loop-again : tie.Need-loop-again Inv-loop μ-loop
+unfolding added
+loop-again c = let l = line (c .before .before .before .before .before .before .before .before) in (l .within, l .rest, filling-line (c .before .before .before .before .before .before .before .before .before .before .before .loop .inv .2) _ _ (l .words) _ _ (rw (c .before .before .m .given .1) at (filled (c .before .before .before .before))))
+
+returns-2 : tie.Need-returns-2 Inv-loop μ-loop
+returns-2 c = filled-words _ _ _ _ _ _ _ _ (filling-done (c .before .loop .inv .2) (lines-end _ _ _ _ _ _ _ (c .loop-test .left)))
+
+pub split-words-spec : {M : Type 1} → statement M
+split-words-spec =
+    tie.close
+    (tie.spec
+    Inv-loop
+    μ-loop
+    slice-aggregate-part
+    loop-holds
+    sub-first-line
+    part-first-line-start
+    part-first-line-end
+    first-line-requires
+    begin-requires
+    add-split-line
+    split-line-requires
+    enum-known-m
+    enum-told
+    returns
+    add-i
+    loop-less
+    loop-again
+    returns-2)

@@ -1,0 +1,86 @@
+-- How the code's answers at a place of a text mean what the definitions say of the glyphs from there on.
+use mathlib.Core.Path.{_≡_}
+use mathlib.Core.Bool.{Bool, true, false, cond, _&&_, _||_}
+use mathlib.Core.List.{List, [], _∷_}
+use Prim.Native.Nat.{ℕ, _+_, _-_, _*_, _≤_, _<_}
+use lib.Dec.{ltb, eqb}
+use lib.ListN.{length, drop}
+use Rattle.lists.specs.Runs.{while, behind}
+use Rattle.text.specs.Characters.{Glyph, glyphs, isBlank, extent}
+use Rattle.options.specs.Opts.{Opts}
+use Rattle.records.specs.Word.{Word, meaning}
+use Rattle.records.specs.Table.{numberOf, Within}
+use Rattle.records.specs.declared.Word.{Word as Record}
+use Rattle.records.specs.declared.Before.the-variants.{Absent}
+use Rattle.words.specs.Words.{isInk, runs, widthSum, Gap, gapTab, gapOf, hasTab, punctAtEnd, lineWords, mailWords}
+use Rattle.words.specs.declared.Blanks.{Blanks}
+use Rattle.words.specs.declared.Ink.{Ink}
+use Rattle.words.specs.declared.Next.{Next}
+use Rattle.words.specs.declared.Next.the-variants.{One, End}
+
+-- the counts that the code found
+abbrev pub gapIn : Blanks → Gap
+gapIn b = record { before = b .before; after = b .after }
+
+-- the counts with one blank more, by its code
+abbrev pub gapBehind : ℕ → ℕ → Gap → Gap
+gapBehind tab code g = cond (eqb code 9) (gapTab tab (g .before) (g .after)) (record { before = g .before; after = g .after + 1 })
+
+-- r is what stands of blanks at a place
+pub record OverBlanks (glue : Bool) (tab : ℕ) (s : List ℕ) (at : ℕ) (r : Blanks) : Type 0 where
+  pub end : r .end ≡ at + extent (while isBlank (glyphs glue (drop at s)))
+  pub gap : gapIn r ≡ gapOf tab (while isBlank (glyphs glue (drop at s)))
+  pub rest : glyphs glue (drop (r .end) s) ≡ behind isBlank (glyphs glue (drop at s))
+  pub within : r .end ≤ length s
+  pub before : numberOf (r .before) ≤ 100 * length s
+  pub after : r .after ≤ 100 * length s
+
+abbrev pub punctCode : ℕ → Bool
+punctCode code = eqb code 33 || eqb code 46 || eqb code 63
+
+-- r is what stands of ink at a place; a damaged byte is ink
+pub record OverInk (glue : Bool) (s : List ℕ) (at : ℕ) (r : Ink) : Type 0 where
+  pub end : r .end ≡ at + extent (while isInk (glyphs glue (drop at s)))
+  pub width : r .width ≡ widthSum (while isInk (glyphs glue (drop at s)))
+  pub punct : r .punct ≡ punctAtEnd (while isInk (glyphs glue (drop at s)))
+  pub rest : glyphs glue (drop (r .end) s) ≡ behind isInk (glyphs glue (drop at s))
+  pub within : r .end ≤ length s
+  pub narrow : r .width ≤ r .end
+  pub some : r .end ≤ at + 4 * r .width
+
+-- the record of a word behind blanks that begin at a place; uniform drops them and their counts
+abbrev pub wordAt : Bool → Bool → Bool → ℕ → Blanks → Ink → Record
+wordAt uniform first previous at b w = record {
+  from = cond uniform (b .end) at;
+  start = b .end;
+  end = w .end;
+  width = w .width;
+  before = cond uniform Absent (b .before);
+  after = cond uniform 0 (b .after);
+  first = first;
+  punct = w .punct;
+  sentence = previous && (hasTab (b .before) || ltb 1 (b .end - at));
+}
+
+-- mail: the width in bytes, no blanks and no marks
+abbrev pub mailAt : ℕ → ℕ → Record
+mailAt start end = record { from = start; start = start; end = end; width = end - start; before = Absent; after = 0; first = false; punct = false; sentence = false }
+
+-- the words of the glyphs that are left of a line: whether the next is its first, and whether the one before it ends in punctuation
+unfoldable pub wordsFrom : Opts → Bool → Bool → Bool → List Glyph → List Word
+wordsFrom o true newLine previousPunct gs = mailWords (runs gs)
+wordsFrom o false newLine previousPunct gs = lineWords o newLine previousPunct (runs gs)
+
+-- w is the next word at a place
+pub record NextWord (o : Opts) (mail newLine previousPunct : Bool) (s : List ℕ) (at : ℕ) (w : Record) : Type 0 where
+  pub first : wordsFrom o mail newLine previousPunct (glyphs (o .glue) (drop at s)) ≡ meaning s w ∷ wordsFrom o mail false (w .punct) (glyphs (o .glue) (drop (w .end) s))
+  pub within : Within (length s) w
+  pub on : at < w .end
+  pub some : 1 ≤ w .width
+  pub narrow : w .width ≤ length s
+  pub before : numberOf (w .before) ≤ 100 * length s
+  pub after : w .after ≤ 100 * length s
+
+abbrev pub NextIs : Opts → Bool → Bool → Bool → List ℕ → ℕ → Next → Type 0
+NextIs o mail newLine previousPunct s at End = wordsFrom o mail newLine previousPunct (glyphs (o .glue) (drop at s)) ≡ []
+NextIs o mail newLine previousPunct s at (One w) = NextWord o mail newLine previousPunct s at w
