@@ -1,4 +1,3 @@
-
 // ---- From here on appended by bench/layers. All above is the original's, with the replacements of tests/oracle.
 
 /// The original's own functions behind names that a driver can call, each on words that are already split.
@@ -23,7 +22,12 @@ pub mod breakers {
     }
 
     /// `find_kp_breakpoints` alone: how many breaks it finds.
-    pub fn find<'a>(opts: &'a FmtOptions, para: &'a Paragraph, words: &'a ParaWords<'a>, out: &'a mut Vec<u8>) -> usize {
+    pub fn find<'a>(
+        opts: &'a FmtOptions,
+        para: &'a Paragraph,
+        words: &'a ParaWords<'a>,
+        out: &'a mut Vec<u8>,
+    ) -> usize {
         let mut iter = words.words();
         let columns = para.indent_len + iter.next().unwrap().word_nchars;
         find_kp_breakpoints(iter, &arguments(opts, para, columns, out)).len()

@@ -12,3 +12,4 @@ pub mod Restart
 pub mod Settling
 pub mod Paragraph
 pub mod Whole
+pub mod Reduction

@@ -2,4 +2,3 @@ pub mod Answers
 pub mod Format
 pub mod Computing
 pub mod MarkedTexts
-pub mod WorkedExample

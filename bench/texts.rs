@@ -1,0 +1,75 @@
+//! The texts that are timed: made by rule, so that every machine times the same.
+
+/// A linear congruential generator (Knuth's MMIX constants), so that every machine times the same texts.
+pub struct Draw(pub u64);
+
+impl Draw {
+    fn below(&mut self, n: usize) -> usize {
+        self.0 = self.0.wrapping_mul(6364136223846793005).wrapping_add(1442695040888963407);
+        (self.0 >> 33) as usize % n
+    }
+}
+
+const VOCABULARY: &str = "the of and a to in is it at on was for pump valve night shift alarm pressure line again reset by \
+operator before after no change temperature still high checked twice left running two compressor stopped restarted without \
+fault see log water level steady as expected maintenance";
+
+/// Words of ordinary English lengths in sentences of 6 to 15 words, one blank between words and one or two between
+/// sentences, on lines of 60 to 72 columns.
+fn prose(draw: &mut Draw, words: usize) -> Vec<u8> {
+    let vocabulary: Vec<&str> = VOCABULARY.split(' ').collect();
+    let (mut text, mut column, mut left) = (String::new(), 0, 6 + draw.below(10));
+    for i in 0..words {
+        let word = vocabulary[draw.below(vocabulary.len())];
+        text.push_str(word);
+        column += word.len() + 1;
+        left -= 1;
+        let ends = left == 0 || i + 1 == words;
+        if ends {
+            text.push(['.', '.', '.', '?', '!'][draw.below(5)]);
+            left = 6 + draw.below(10);
+        }
+        if column > 60 || i + 1 == words {
+            text.push('\n');
+            column = 0;
+        } else {
+            text.push_str(if ends && draw.below(2) == 0 { "  " } else { " " });
+        }
+    }
+    text.into_bytes()
+}
+
+/// Words of one letter, one blank between them, 36 to a line.
+fn letters(draw: &mut Draw, words: usize) -> Vec<u8> {
+    let mut text = Vec::new();
+    for i in 1..=words {
+        text.push(b'a' + draw.below(26) as u8);
+        text.push(if i % 36 == 0 || i == words { b'\n' } else { b' ' });
+    }
+    text
+}
+
+pub type Kind = fn(&mut Draw, usize) -> Vec<u8>;
+
+/// The texts: name, generator, words a paragraph, width. The goal is what the original takes for the width.
+pub const TEXTS: [(&str, Kind, usize, usize); 10] = [
+    ("prose", prose, 10, 79),
+    ("prose", prose, 100, 79),
+    ("prose", prose, 1000, 79),
+    ("prose", prose, 1024, 79),
+    ("prose", prose, 1000, 1000),
+    ("prose", prose, 1000, 20),
+    ("letters", letters, 10, 79),
+    ("letters", letters, 1024, 79),
+    ("letters", letters, 1024, 1000),
+    ("letters", letters, 1024, 20),
+];
+
+/// Each text has eight groups of paragraphs, all different, of about 1,000 words a group: too many for the processor to
+/// learn by heart, as it does with one paragraph that comes again and again.
+pub const GROUPS: usize = 8;
+
+/// How many paragraphs of so many words a group has.
+pub fn group(words: usize) -> usize {
+    (1000 / words).max(1)
+}
