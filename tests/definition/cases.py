@@ -1,4 +1,4 @@
-"""What the Rust does not have, by hand from document 01's words: refusals, keep and glue.
+"""What the Rust does not have, by hand from document 01's words: refusals, keep and glue; and document 01's trial texts.
 
 Each case: option block, notes, length of the output slice (which holds `.` before the call), code, N, output afterwards (bytes, or
 SAME: unchanged, or ZERO: all zero).
@@ -19,7 +19,7 @@ def flags(*bits):
     return number(1, sum(1 << b for b in bits))
 
 
-UNIFORM, KEEP, GLUE = 4, 8, 9
+CROWN, TAGGED, MAIL, UNIFORM, QUICK, KEEP, GLUE = 0, 1, 2, 4, 5, 8, 9
 keep, glue = flags(KEEP), flags(GLUE)
 
 
@@ -39,7 +39,31 @@ def kept(block, notes, out):
     return (block, notes, len(out) + 1, 0, len(out), out + b".")
 
 
-CASES = [
+w10 = number(2, 10)
+quick10 = flags(QUICK) + w10
+
+# document 01, "Trial texts", all sixteen
+TRIALS = [
+    kept(b"", b"", b""),
+    kept(b"", b" \t\n", b"\n"),
+    kept(b"", b"abc\r\n", b"abc\n"),
+    kept(b"", b"a.\nb\n", b"a. b\n"),
+    kept(b"", b"x a.\nb\n", b"x a.  b\n"),
+    kept(flags(UNIFORM), b"a  b\n", b"a b\n"),
+    kept(flags(UNIFORM), b"a.\xc2\xa0b\n", b"a.  b\n"),
+    kept(quick10, b"aaaa bbbbb c\n", b"aaaa bbbbb\nc\n"),
+    kept(quick10, b"aaaa bbbbbb c\n", b"aaaa\nbbbbbb c\n"),
+    kept(w10, b"aa bbbbbbbb c\n", b"aa bbbbbbbb\nc\n"),
+    kept(w10, b"aaaa bbbbbbb c\n", b"aaaa\nbbbbbbb c\n"),
+    kept(flags(TAGGED), b"a\nb\n", b"a\nb\n"),
+    kept(flags(CROWN), b"  a\nb\nc\n", b"  a b c\n"),
+    kept(field(5, b">"), b"> a\n> b\nc\n", b"> a b\nc\n"),
+    kept(flags(MAIL), b"To: a\n c\n", b"To: a c\n"),
+    kept(keep, b"a\n\xb0 b\nc\n", b"a\n\xb0 b\nc\n"),
+]
+
+
+CASES = TRIALS + [
     # 1: unknown tags
     faulty(b"\0\0\0", 0),
     faulty(field(7, b""), 0),
@@ -119,6 +143,7 @@ CASES = [
     # 4: a paragraph of over 1,024 words, the start of its first line; it comes before 5
     (flags(UNIFORM), b"x\n\n" + b"a " * 1025, 0, 4, 3, ZERO),
     (flags(UNIFORM), b"x\n\n" + b"a " * 1025, 9, 4, 3, ZERO),
+    (b"", b"a" * 3000 + b"\xb0", 3, 3, 3000, SAME),
     # 5: the length needed; a slice that is just full
     (b"", b"abc\n", 3, 5, 4, ZERO),
     (b"", b"abc\n", 0, 5, 4, ZERO),
