@@ -3,3 +3,11 @@ pub mod Boundary
 pub mod Order
 pub mod Extents
 pub mod Demand3
+pub mod Fronts
+pub mod Starting
+pub mod Meaning
+pub mod Bound
+pub mod Steps
+pub mod Loop
+pub mod Replies
+pub mod Values

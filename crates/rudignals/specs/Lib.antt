@@ -1,4 +1,5 @@
 pub mod Answers
 pub mod Format
+pub mod Call
 pub mod Computing
 pub mod MarkedTexts

@@ -1,1 +1,336 @@
-// The call.
+// The call: an option block and notes in, their digest or a refusal out.
+use options::Block;
+use options::Options;
+use output::Layout;
+use pieces::Paragraph;
+use pieces::Piece;
+use spacing::Setting;
+use text::Found;
+use words::Count;
+ghost use mathlib.Core.Path.{_≡_};
+ghost use mathlib.Core.Bool.{true, false, _||_};
+ghost use mathlib.Core.List.{List};
+ghost use Prim.Native.Nat.{ℕ, _+_, _*_, _^_, _≤_, _<_};
+ghost use lib.ListN.{length, replicate};
+ghost use Rattle.options.specs.Opts.{meant};
+ghost use Rattle.options.specs.OptionBlock.{readBlock};
+ghost use Rattle.options.specs.declared.Block.the-variants.{Accepted};
+ghost use Rattle.knuth_plass.specs.Table.{tables};
+ghost use Rattle.knuth_plass.specs.Round.{Limits, Wide, Lent};
+ghost use Rattle.rudignals.specs.Answers.{numbered, outputAfter};
+ghost use Rattle.pieces.specs.Pieces.{pieces};
+ghost use Rattle.rudignals.specs.Format.{answer, withNotes, withWords, longParagraph};
+ghost use Rattle.rudignals.specs.Call.{told, numberOf, damageFor, Answers, Stepped, Scratch, Ready, settingIn, Broken, Placed, TextStepped, Finished};
+
+// What the call answers: the digest's length, or a refusal with what is told of it.
+pub enum Answer {
+    Done(usize),
+    Options(usize),
+    Long,
+    Text(usize),
+    Words(usize),
+    Room(usize),
+}
+
+// Where the work stands: the place in the notes, the length of the digest up to there, and next-mail.
+struct Cursor {
+    at: usize,
+    written: usize,
+    mail: bool,
+}
+
+// What came of a piece: the work goes on behind it, or it has too many words.
+enum Step {
+    On(Cursor),
+    Over,
+}
+
+// What came of the notes: the digest's length, or the place of the first paragraph that has too many words.
+enum Ended {
+    All(usize),
+    Stopped(usize),
+}
+
+// What a host calls. The answer's code is in the upper 32 bits and its number in the lower.
+#[no_mangle]
+pub extern "C" fn rudignals_format(options: &[u8], notes: &[u8], output: &mut [u8]) -> u64
+    ensures { λ r. ⌜ (r ≡ numbered (answer (now (options .entry)) (now (notes .entry)) (length (now (output .entry))))) × (now (output .exit) ≡ outputAfter (answer (now (options .entry)) (now (notes .entry)) (length (now (output .entry)))) (now (output .entry))) ⌝ }
+{
+    number_of(answer_to(options, notes, output))
+}
+
+// The answer's number: its code times 2 to the 32nd, and what is told.
+fn number_of(a: Answer) -> u64
+    requires { ⌜ numberOf a < 2 ^ 64 ⌝ }
+    ensures { λ r. ⌜ r ≡ numberOf a ⌝ }
+{
+    match a {
+        Answer::Done(n) => n as u64,
+        Answer::Options(place) => 1 * 4294967296 + place as u64,
+        Answer::Long => 2 * 4294967296,
+        Answer::Text(place) => 3 * 4294967296 + place as u64,
+        Answer::Words(place) => 4 * 4294967296 + place as u64,
+        Answer::Room(needed) => 5 * 4294967296 + needed as u64,
+    }
+}
+
+// The answer to a call: the lowest code wins.
+fn answer_to(block: &[u8], notes: &[u8], out: &mut [u8]) -> Answer
+    ensures { λ r. ⌜ Answers (answer (now (block .entry)) (now (notes .entry)) (length (now (out .entry)))) (now (out .entry)) r (now (out .exit)) ⌝ }
+{
+    match options::read_block(block) {
+        Block::Fault(place) => Answer::Options(place),
+        Block::Accepted(o) => answer_with(o, block, notes, out),
+    }
+}
+
+// The answer with the options of an accepted block.
+fn answer_with(o: Options, block: &[u8], notes: &[u8], out: &mut [u8]) -> Answer
+    requires { ⌜ readBlock (now block) ≡ Accepted o ⌝ }
+    ensures { λ r. ⌜ Answers (withNotes (meant (now (block .entry)) o) (now (notes .entry)) (length (now (out .entry)))) (now (out .entry)) r (now (out .exit)) ⌝ }
+{
+    if 65536 < notes.len() {
+        return Answer::Long;
+    }
+    match damage_in(o.keep, notes) {
+        Found::At(place) => Answer::Text(place),
+        Found::Nowhere => format_notes(o, block, notes, out),
+    }
+}
+
+// The first damaged character, if it is to be refused. With keep on, damaged lines are plain lines.
+fn damage_in(keep: bool, notes: &[u8]) -> Found
+    ensures { λ r. ⌜ r ≡ damageFor keep (now (notes .entry)) ⌝ }
+{
+    if keep {
+        return Found::Nowhere;
+    }
+    text::first_damage(notes)
+}
+
+// Formats the notes. All working storage is declared here, and lent from here on.
+fn format_notes(o: Options, block: &[u8], notes: &[u8], out: &mut [u8]) -> Answer
+    requires { ⌜ Ready (now block) (now notes) o ⌝ }
+    ensures { λ r. ⌜ Answers (withWords (meant (now (block .entry)) o) (now (notes .entry)) (length (now (out .entry))) (longParagraph (meant (now (block .entry)) o) 0 (pieces (meant (now (block .entry)) o) (now (notes .entry))))) (now (out .entry)) r (now (out .exit)) ⌝ }
+{
+    let mut table = [0u32; 8192];
+    let mut breaks = [0usize; 8192];
+    let mut ratios = [0f32; 1024];
+    let mut active = [0usize; 1024];
+    let mut marks = [false; 1024];
+    match put_all(
+        o,
+        block,
+        notes,
+        out,
+        &mut table,
+        &mut breaks,
+        &mut ratios,
+        &mut active,
+        &mut marks,
+    ) {
+        Ended::Stopped(place) => {
+            clear(out);
+            Answer::Words(place)
+        }
+        Ended::All(needed) => {
+            if needed <= out.len() {
+                return Answer::Done(needed);
+            }
+            clear(out);
+            Answer::Room(needed)
+        }
+    }
+}
+
+// Writes what fits of all pieces, and counts what is needed. It goes on when there is no room left, since too many words come before that.
+fn put_all(
+    o: Options,
+    block: &[u8],
+    notes: &[u8],
+    out: &mut [u8],
+    table: &mut [u32; 8192],
+    breaks: &mut [usize; 8192],
+    ratios: &mut [f32; 1024],
+    active: &mut [usize; 1024],
+    marks: &mut [bool; 1024],
+) -> Ended
+    requires { ⌜ Ready (now block) (now notes) o × Scratch (now table) (now breaks) (now ratios) (now active) (now marks) ⌝ }
+    ensures { λ r. ⌜ Finished (meant (now (block .entry)) o) (now (notes .entry)) (now (out .entry)) (now (out .exit)) r ⌝ }
+{
+    let mut c = Cursor {
+        at: 0,
+        written: 0,
+        mail: true,
+    };
+    while c.at < notes.len() {
+        let Step::On(d) = put_piece(
+            o,
+            block,
+            notes,
+            c,
+            out,
+            table,
+            breaks,
+            ratios,
+            active,
+            marks,
+        ) else {
+            return Ended::Stopped(c.at);
+        };
+        c = d;
+    }
+    Ended::All(c.written)
+}
+
+// Writes the piece that begins where the cursor stands.
+fn put_piece(
+    o: Options,
+    block: &[u8],
+    notes: &[u8],
+    c: Cursor,
+    out: &mut [u8],
+    table: &mut [u32; 8192],
+    breaks: &mut [usize; 8192],
+    ratios: &mut [f32; 1024],
+    active: &mut [usize; 1024],
+    marks: &mut [bool; 1024],
+) -> Step
+    requires { ⌜ Ready (now block) (now notes) o × Scratch (now table) (now breaks) (now ratios) (now active) (now marks) × (c .at < length (now notes)) × (c .written < 2 ^ 62) ⌝ }
+    ensures { λ r. ⌜ Stepped (meant (now (block .entry)) o) (now (notes .entry)) (now (out .entry)) c (now (out .exit)) r × Scratch (now (table .exit)) (now (breaks .exit)) (now (ratios .exit)) (now (active .exit)) (now (marks .exit)) ⌝ }
+{
+    let at = c.at;
+    match pieces::next_piece(notes, at, o, block, c.mail) {
+        Piece::Blank { next } => Step::On(Cursor {
+            at: next,
+            written: output::emit_line(notes, at, at, out, c.written),
+            mail: true,
+        }),
+        Piece::Plain { end, next } => Step::On(Cursor {
+            at: next,
+            written: output::emit_line(notes, at, end, out, c.written),
+            mail: false,
+        }),
+        Piece::Text(p) => put_paragraph(
+            notes,
+            at,
+            o,
+            p,
+            out,
+            c.written,
+            table,
+            breaks,
+            ratios,
+            active,
+            marks,
+        ),
+    }
+}
+
+// Writes a paragraph, unless it has too many words.
+fn put_paragraph(
+    notes: &[u8],
+    at: usize,
+    o: Options,
+    p: Paragraph,
+    out: &mut [u8],
+    written: usize,
+    table: &mut [u32; 8192],
+    breaks: &mut [usize; 8192],
+    ratios: &mut [f32; 1024],
+    active: &mut [usize; 1024],
+    marks: &mut [bool; 1024],
+) -> Step
+    requires { ⌜ Placed (now notes) at o p × Scratch (now table) (now breaks) (now ratios) (now active) (now marks) × (written < 2 ^ 62) ⌝ }
+    ensures { λ r. ⌜ ((block : List ℕ) → TextStepped (now (notes .entry)) at o p (now (out .entry)) written (now (out .exit)) r block) × Scratch (now (table .exit)) (now (breaks .exit)) (now (ratios .exit)) (now (active .exit)) (now (marks .exit)) ⌝ }
+{
+    let Count::Words(n) = words::split_words(notes, at, p.next, p.mail, p.start, p.later, o, table)
+    else {
+        return Step::Over;
+    };
+    mark_breaks(
+        either(o.quick, p.mail),
+        setting_of(o, p),
+        table,
+        n,
+        breaks,
+        ratios,
+        active,
+        marks,
+    );
+    Step::On(Cursor {
+        at: p.next,
+        written: output::emit(notes, table, n, marks, layout_of(o, p), out, written),
+        mail: p.mail,
+    })
+}
+
+// Marks where lines of n words start.
+fn mark_breaks(
+    fast: bool,
+    g: Setting,
+    table: &[u32; 8192],
+    n: usize,
+    breaks: &mut [usize; 8192],
+    ratios: &mut [f32; 1024],
+    active: &mut [usize; 1024],
+    marks: &mut [bool; 1024],
+)
+    requires { ⌜ Limits g × (1 ≤ n) × (n ≤ 1024) × Wide n (now table) × Lent (tables (now breaks) (now ratios)) (now active) (now marks) ⌝ }
+    ensures { λ _. ⌜ Broken fast g n (now (table .entry)) (now (breaks .exit)) (now (ratios .exit)) (now (active .exit)) (now (marks .exit)) ⌝ }
+{
+    if fast {
+        quick::quick_breaks(table, n, g, marks);
+        return;
+    }
+    knuth_plass::best_breaks(table, n, g, breaks, ratios, active, marks);
+}
+
+// What a paragraph is broken with. Mail always counts as uniform.
+fn setting_of(o: Options, p: Paragraph) -> Setting
+    ensures { λ r. ⌜ r ≡ settingIn o p ⌝ }
+{
+    let first = p.first;
+    let indent = p.indent;
+    Setting {
+        width: o.width,
+        goal: o.goal,
+        tab: o.tab,
+        uniform: either(o.uniform, p.mail),
+        first: first.columns,
+        indent: indent.columns,
+    }
+}
+
+// How a paragraph is laid out.
+fn layout_of(o: Options, p: Paragraph) -> Layout
+    ensures { λ r. ⌜ (r .uniform ≡ (o .uniform || p .mail)) × (r .first ≡ p .first) × (r .indent ≡ p .indent) ⌝ }
+{
+    let first = p.first;
+    let indent = p.indent;
+    Layout {
+        uniform: either(o.uniform, p.mail),
+        first,
+        indent,
+    }
+}
+
+fn either(a: bool, b: bool) -> bool
+    ensures { λ r. ⌜ r ≡ (a || b) ⌝ }
+{
+    if a {
+        return true;
+    }
+    b
+}
+
+// No byte of a digest stays where there is none.
+fn clear(out: &mut [u8])
+    ensures { λ _. ⌜ now (out .exit) ≡ replicate (length (now (out .entry))) 0 ⌝ }
+{
+    let mut i = 0;
+    while i < out.len() {
+        out[i] = 0;
+        i += 1;
+    }
+}

@@ -1,0 +1,121 @@
+-- How long a piece's output gets: at most 10,000 bytes for each byte of the notes that it takes, if it has no more than 1,024 words.
+use mathlib.Core.Path.{_≡_, refl, sym, ap, _∙_}
+use mathlib.Core.Bool.{Bool, true, false, cond, _||_}
+use mathlib.Core.List.{List, [], _∷_, _++_, map}
+use Prim.Native.Nat.{ℕ, suc, _+_, _-_, _*_, _≤_, _<_}
+use native.Mathlib.Nat.{mul-le-mul}
+use native.Mathlib.Omega.{arith}
+use lib.ListN.{length, replicate, length-append, length-replicate}
+use lib.Seq.{slice, length-slice}
+use Rattle.lists.specs.Runs.{joined}
+use Rattle.lists.specs.All.{All}
+use Rattle.lists.proofs.Parts.{joined-nil, joined-cons, joined-append}
+use Rattle.lists.proofs.Extents.{each-all}
+use Rattle.text.specs.Characters.{Glyph, glyphs}
+use Rattle.text.proofs.Glyphs.{glyphs-joined}
+use Rattle.options.specs.Opts.{Opts}
+use Rattle.lines.specs.Lines.{Line, body, firstLine, linesOf}
+use Rattle.lines.specs.Classes.{upTo, from}
+use Rattle.lines.specs.Places.{extentOf}
+use Rattle.lines.proofs.Lines.{lengths}
+use Rattle.lines.proofs.Extents.{lines-extents}
+use Rattle.lines.proofs.Ink.{upTo-from}
+use Rattle.pieces.specs.Pieces.{Row, Indent, Paragraph, rowOf}
+use Rattle.pieces.specs.Places.{rawBytes, taken}
+use Rattle.pieces.specs.declared.Margin.{Margin}
+use Rattle.pieces.specs.declared.Paragraph.{Paragraph as ParagraphAt}
+use Rattle.pieces.proofs.Following.{taken-none, taken-more}
+use Rattle.records.specs.Word.{Word}
+use Rattle.words.specs.Words.{glyphBytes, bytesOf, rowWords, wordsOf}
+use Rattle.words.proofs.Spelled.{Begins, Spelled, row-spelled}
+use Rattle.output.specs.Writers.{marginOf}
+use Rattle.output.proofs.Bound.{bulk, emit-most}
+use Rattle.rudignals.specs.Format.{breaksOf, formatted}
+use Rattle.rudignals.proofs.Meaning.{MarginIs, TextIs}
+
+-- ---- the words of a line have no more bytes than the line
+
+bytes-append : (a b : List Glyph) → length (bytesOf (a ++ b)) ≡ length (bytesOf a) + length (bytesOf b)
+unfolding bytesOf
+bytes-append a b = rw joined-append (length-append (bytesOf a) (bytesOf b))
+
+spelled-bulk : (uniform : Bool) (ws : List Word) (gs : List Glyph) → Spelled uniform ws gs → bulk ws ≤ length (bytesOf gs)
+unfolding bulk
+spelled-bulk uniform [] gs s = omega arith
+spelled-bulk uniform (w ∷ ws) gs s =
+    let b = s .1 in
+    let r = spelled-bulk uniform ws (s .0) (s .2) in
+    let p = ap (λ (l : List Glyph). length (bytesOf l)) (b .parts) ∙ bytes-append (b .blanks) (b .ink ++ s .0) in
+    let q = bytes-append (b .ink) (s .0) in
+    let t = ap length (b .text) in
+    let c = ap length (b .before) in
+    let d = held uniform (bytesOf (b .blanks)) in
+    omega arith
+  where
+    held : (u : Bool) (xs : List ℕ) → length (cond u [] xs) ≤ length xs
+    held true xs = omega arith
+    held false xs = omega arith
+
+row-bulk : (o : Opts) (mail : Bool) (row : Row) → bulk (rowWords o mail row) ≤ length (row .text)
+unfolding bytesOf
+row-bulk o mail row = omega (arith, spelled-bulk (o .uniform || mail) (rowWords o mail row) (cond mail gs (from (row .start) gs)) (row-spelled o mail row), read mail)
+  where
+    gs : List Glyph
+    gs = glyphs (o .glue) (row .text)
+
+    all : length (bytesOf gs) ≡ length (row .text)
+    all = ap length (glyphs-joined (o .glue) (row .text))
+
+    read : (m : Bool) → length (bytesOf (cond m gs (from (row .start) gs))) ≤ length (row .text)
+    read true = omega (arith, all)
+    read false = omega (arith, all, sym (bytes-append (upTo (row .start) gs) (from (row .start) gs)) ∙ ap (λ (l : List Glyph). length (bytesOf l)) (upTo-from (row .start) gs))
+
+-- ---- nor the words of lines
+
+abbrev Shorter : Line → Type 0
+Shorter l = length (l .text) ≤ length (l .raw)
+
+lines-shorter : (xs : List ℕ) → All Shorter (linesOf xs)
+unfolding linesOf extentOf
+lines-shorter xs = each-all (λ ys. length (body ys)) firstLine Shorter (λ ys h. lengths ys (extentOf (firstLine ys)) refl .shorter) xs
+
+bulk-append : (a b : List Word) → bulk (a ++ b) ≡ bulk a + bulk b
+unfolding bulk
+bulk-append [] b = omega arith
+bulk-append (w ∷ a) b = omega (arith, bulk-append a b)
+
+rows-bulk : (o : Opts) (mail : Bool) (ls : List Line) → All Shorter ls → bulk (joined (rowWords o mail) (map (rowOf o) ls)) ≤ taken ls
+unfolding bulk rowOf
+rows-bulk o mail [] s = rw joined-nil (omega arith)
+rows-bulk o mail (l ∷ ls) s =
+    let a = s .0 in
+    let r = rows-bulk o mail ls (s .1) in
+    let k = row-bulk o mail (rowOf o l) in
+    rw (joined-cons, bulk-append, taken-more) (omega arith)
+
+module _ (o : Opts) (notes : List ℕ) (at : ℕ) (p : ParagraphAt) (q : Paragraph) (t : TextIs o notes at p q) (on : at < p .next) (within : p .next ≤ length notes) where
+  words-bulk : bulk (wordsOf o q) ≤ p .next - at
+  unfolding wordsOf taken
+  words-bulk =
+      let b = rows-bulk o (q .mail) (linesOf (slice at (p .next) notes)) (lines-shorter (slice at (p .next) notes)) in
+      let e = ap length (lines-extents (slice at (p .next) notes)) in
+      let n = length-slice at (p .next) notes within in
+      rw (t .rows .rows, t .are) (omega arith)
+
+  margin-most : (m : Margin) (i : Indent) → MarginIs notes at (p .next) m i → length (i .bytes) ≤ p .next - at + 4
+  margin-most m i h =
+      let n = length-slice (m .start) (m .end) notes (omega (arith, h .high)) in
+      let l = length-append (slice (m .start) (m .end) notes) (replicate (m .more) 32) in
+      let r = length-replicate {A = ℕ} (m .more) 32 in
+      let b = ap length (h .bytes) in
+      omega (arith, h .more, h .low, h .order, h .high)
+
+  pub formatted-most : length (wordsOf o q) ≤ 1024 → length (formatted o q) + 10000 * at ≤ 10000 * p .next
+  unfolding formatted
+  formatted-most few =
+      let e = emit-most (o .uniform || q .mail) (q .indent .bytes) (q .first .bytes) (breaksOf o q (wordsOf o q)) (wordsOf o q) in
+      let b = words-bulk in
+      let f = margin-most (p .first) (q .first) (t .first) in
+      let i = margin-most (p .indent) (q .indent) (t .indent) in
+      let n = mul-le-mul {n₁ = length (wordsOf o q)} {n₂ = 1024} few (let z : length (q .indent .bytes) + 2 ≤ p .next - at + 6 = omega arith in z) in
+      omega arith

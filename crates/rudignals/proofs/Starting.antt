@@ -1,0 +1,129 @@
+-- A paragraph's lines are formatted, and the words of its first line and of its other lines begin where the code was told.
+use mathlib.Core.Path.{_≡_, refl, sym, ap, ap₂, _∙_}
+use mathlib.Core.Bool.{Bool, true, false, cond, _&&_, _||_, false≢true}
+use mathlib.Core.List.{List, [], _∷_, _++_, map}
+use Prim.Native.Nat.{ℕ, suc, _≤_}
+use native.Mathlib.Omega.{arith}
+use lib.Dec.{eqb}
+use lib.ListN.{length, take, drop}
+use borrow.Author.Tests.{eqb-true}
+use Rattle.lists.specs.Runs.{joined}
+use Rattle.lists.specs.All.{All}
+use Rattle.lists.proofs.Parts.{joined-nil, joined-cons}
+use Rattle.options.specs.Opts.{Opts}
+use Rattle.lines.specs.Lines.{Line}
+use Rattle.lines.specs.Classes.{classify}
+use Rattle.lines.specs.declared.Shape.{Shape}
+use Rattle.lines.specs.declared.Class.{Class}
+use Rattle.lines.specs.declared.Class.the-variants.{Blank, Plain, Formatted}
+use Rattle.lines.proofs.Shapes.{known}
+use Rattle.pieces.specs.Pieces.{Row, agrees, second, follow, Second, alone, joins, secondAs, secondOf, followSecond, further, rowOf}
+use Rattle.pieces.specs.Places.{laterStart, startAt}
+use Rattle.records.specs.Word.{Word}
+use Rattle.words.specs.Words.{rowWords}
+use Rattle.words.specs.Places.{rowsAt, wordsAt}
+use Rattle.words.specs.Split.{Begins, AllBegin}
+
+-- a formatted line whose words begin at a place
+pub record Starts (o : Opts) (start : ℕ) (l : Line) : Type 0 where
+  pub shape : Shape
+  pub formatted : classify o (l .text) ≡ Formatted shape
+  pub indent : shape .indent ≡ start
+
+agree-indent : (a b : Shape) → agrees a b ≡ true → b .indent ≡ a .indent
+unfolding agrees
+agree-indent a b e = sym (eqb-true (a .indent) (b .indent) (pick (eqb (a .indent) (b .indent)) _ _ _ e))
+  where
+    pick : (p q r s : Bool) → (p && q && r && s) ≡ true → p ≡ true
+    pick true q r s h = refl
+    pick false q r s h = absurd (false≢true h)
+
+module _ (o : Opts) where
+  follow-starts : (test : Shape → Bool) (start : ℕ) → ((s : Shape) → test s ≡ true → s .indent ≡ start) → (ls : List Line) → All (Starts o start) (take (follow o test ls) ls)
+  unfolding follow
+  follow-starts test start at [] = tt
+  follow-starts test start at (l ∷ ls) = go (classify o (l .text)) refl (follow-starts test start at ls)
+    where
+      join : (t : Bool) (s : Shape) → classify o (l .text) ≡ Formatted s → test s ≡ t → All (Starts o start) (take (follow o test ls) ls)
+          → All (Starts o start) (take (elim t as (λ x. ℕ) [ true ↦ suc (follow o test ls) | false ↦ 0 ]) (l ∷ ls))
+      join true s e h rest = (record { shape = s; formatted = e; indent = at s h }, rest)
+      join false s e h rest = tt
+
+      go : (k : Class) → classify o (l .text) ≡ k → All (Starts o start) (take (follow o test ls) ls)
+          → All (Starts o start) (take (elim k as (λ x. ℕ) [ Blank ↦ 0 | Plain ↦ 0 | Formatted s ↦ elim (test s) as (λ x. ℕ) [ true ↦ suc (follow o test ls) | false ↦ 0 ] ]) (l ∷ ls))
+      go Blank e rest = tt
+      go Plain e rest = tt
+      go (Formatted s) e rest = join (test s) s e refl rest
+
+  second-starts : (s : Shape) (ls : List Line) → All (Starts o (laterStart s (secondOf o s ls))) (take (followSecond o ls (secondOf o s ls)) ls)
+  unfolding secondOf
+  second-starts s [] = tt
+  second-starts s (l ∷ ls) = go (classify o (l .text)) refl
+    where
+      join : (t : Bool) (b : Shape) → classify o (l .text) ≡ Formatted b
+          → All (Starts o (laterStart s (cond t (joins (l .text) b) alone))) (take (followSecond o (l ∷ ls) (cond t (joins (l .text) b) alone)) (l ∷ ls))
+      join true b e = (record { shape = b; formatted = e; indent = refl }, follow-starts (agrees b) (b .indent) (agree-indent b) ls)
+      join false b e = tt
+
+      go : (k : Class) → classify o (l .text) ≡ k → All (Starts o (laterStart s (secondAs o s (l .text) k))) (take (followSecond o (l ∷ ls) (secondAs o s (l .text) k)) (l ∷ ls))
+      go Blank e = tt
+      go Plain e = tt
+      go (Formatted b) e = join (second o s b) b e
+
+  pub further-starts : (s : Shape) (ls : List Line) → All (Starts o (startAt o false s ls)) (take (further o false s ls) ls)
+  unfolding further startAt
+  further-starts s ls = go (o .split) (o .crown || o .tagged)
+    where
+      go : (split two : Bool) → All (Starts o (elim two as (λ x. ℕ) [ true ↦ laterStart s (secondOf o s ls) | false ↦ s .indent ]))
+          (take (elim split as (λ x. ℕ) [ true ↦ 0 | false ↦ elim two as (λ x. ℕ) [ true ↦ followSecond o ls (secondOf o s ls) | false ↦ follow o (agrees s) ls ] ]) ls)
+      go true two = tt
+      go false true = second-starts s ls
+      go false false = follow-starts (agrees s) (s .indent) (agree-indent s) ls
+
+  -- ---- so the rows are those of the code, and a glyph begins at each start
+
+  row-starts : (start : ℕ) (l : Line) → Starts o start l → rowOf o l ≡ record { text = l .text; start = start }
+  unfolding rowOf
+  row-starts start l s = rw (s .formatted, s .indent)
+
+  rows-start : (start : ℕ) (ls : List Line) → All (Starts o start) ls → map (rowOf o) ls ≡ rowsAt start start ls
+  unfolding rowsAt
+  rows-start start [] a = refl
+  rows-start start (l ∷ ls) a = ap₂ (λ (r : Row) (rs : List Row). r ∷ rs) (row-starts start l (a .0)) (rows-start start ls (a .1))
+
+  plain-rows : (start later : ℕ) (l : Line) (ls : List Line) → Starts o start l → All (Starts o later) ls → joined (rowWords o false) (map (rowOf o) (l ∷ ls)) ≡ wordsAt o false start later (l ∷ ls)
+  unfolding wordsAt rowsAt
+  plain-rows start later l ls s a = ap (joined (rowWords o false)) (ap₂ (λ (r : Row) (rs : List Row). r ∷ rs) (row-starts start l s) (rows-start later ls a))
+
+  -- mail's words do not hang on where they begin
+  mail-row : (l : Line) (start : ℕ) → rowWords o true (rowOf o l) ≡ rowWords o true (record { text = l .text; start = start })
+  unfolding rowWords rowOf
+  mail-row l start = refl
+
+  mail-rows : (start later : ℕ) (ls : List Line) → joined (rowWords o true) (map (rowOf o) ls) ≡ wordsAt o true start later ls
+  unfolding wordsAt rowsAt
+  mail-rows start later [] = rw joined-nil
+  mail-rows start later (l ∷ ls) =
+      joined-cons (rowWords o true) (rowOf o l) (map (rowOf o) ls)
+      ∙ ap₂ (λ (a b : List Word). a ++ b) (mail-row l start) (mail-rows later later ls)
+      ∙ sym (joined-cons (rowWords o true) (record { text = l .text; start = start }) (rowsAt later later ls))
+
+  pub rows-words : (mail : Bool) (start later : ℕ) (l : Line) (ls : List Line) → Starts o start l → (mail ≡ false → All (Starts o later) ls)
+      → joined (rowWords o mail) (map (rowOf o) (l ∷ ls)) ≡ wordsAt o mail start later (l ∷ ls)
+  rows-words true start later l ls s a = mail-rows start later (l ∷ ls)
+  rows-words false start later l ls s a = plain-rows start later l ls s (a refl)
+
+  module _ (least : 1 ≤ o .tab) (most : o .tab ≤ 100) where
+    begin : (start : ℕ) (l : Line) → Starts o start l → Begins (o .glue) start (l .text)
+    begin start l s =
+        let k = known o (l .text) (s .shape) least most (s .formatted) in
+        rw (← s .indent) (record { within = omega (arith, k .indent); glyph = k .rest })
+
+    all-begin : (start : ℕ) (ls : List Line) → All (Starts o start) ls → AllBegin (o .glue) start start ls
+    unfolding AllBegin
+    all-begin start [] a = tt
+    all-begin start (l ∷ ls) a = (begin start l (a .0), all-begin start ls (a .1))
+
+    pub rows-begin : (start later : ℕ) (l : Line) (ls : List Line) → Starts o start l → All (Starts o later) ls → AllBegin (o .glue) start later (l ∷ ls)
+    unfolding AllBegin
+    rows-begin start later l ls s a = (begin start l s, all-begin later ls a)

@@ -1,0 +1,193 @@
+-- What a piece's writers have done, as the definition says it of the piece; and what they could ask.
+use mathlib.Core.Path.{_≡_, refl, sym, ap, ap₂, _∙_}
+use mathlib.Core.Bool.{Bool, true, false, cond, _||_}
+use mathlib.Core.List.{List, [], _++_}
+use Prim.Native.Nat.{ℕ, _+_, _-_, _*_, _^_, _≤_, _<_}
+use native.Mathlib.Omega.{arith}
+use lib.Dec.{leb, ltb}
+use lib.Ieee.{Float}
+use lib.ListN.{length, length-append}
+use lib.Seq.{slice, length-slice}
+use borrow.Author.Tests.{le-ltb, lt-ltb, leb-true, leb-false}
+use Rattle.lists.proofs.Slices.{slice-is}
+use Rattle.options.specs.Opts.{Opts, meant}
+use Rattle.options.specs.declared.Options.{Options}
+use Rattle.options.proofs.Accepted.{Kept, accepted}
+use Rattle.lines.specs.Places.{Usable}
+use Rattle.lines.proofs.Usable.{usable}
+use Rattle.pieces.specs.Pieces.{Paragraph, blankLine, plainLine, paragraph}
+use Rattle.pieces.specs.Places.{Cleared, pieceAt}
+use Rattle.pieces.specs.declared.Margin.{Margin}
+use Rattle.pieces.specs.declared.Paragraph.{Paragraph as ParagraphAt}
+use Rattle.pieces.specs.declared.Piece.{Piece as PieceAt}
+use Rattle.records.specs.Word.{Word}
+use Rattle.records.specs.Table.{wordsIn}
+use Rattle.records.specs.Marks.{breaksIn, Marked}
+use Rattle.words.specs.Words.{wordsOf}
+use Rattle.words.specs.Places.{counted}
+use Rattle.words.specs.Split.{Split}
+use Rattle.words.specs.declared.Count.{Count}
+use Rattle.words.specs.declared.Count.the-variants.{Words, TooMany}
+use Rattle.words.proofs.Order.{paragraph-some}
+use Rattle.spacing.specs.declared.Setting.{Setting}
+use Rattle.output.specs.Emission.{lineFeed, emit}
+use Rattle.output.specs.Sink.{Wrote}
+use Rattle.output.specs.Writers.{marginOf, MarginIn, emitted}
+use Rattle.output.specs.declared.Layout.{Layout}
+use Rattle.quick.specs.Quick.{quickBreaks}
+use Rattle.knuth_plass.specs.Table.{tables}
+use Rattle.knuth_plass.specs.Round.{Limits, Lent, BestAre}
+use Rattle.rudignals.specs.Format.{settingOf, breaksOf, formatted, outputOf, tooMany}
+use Rattle.rudignals.specs.Call.{Goes, Put, TooLong, Stepped, Ready, settingIn, broken, Broken, wordsFor, Placed, TextPut, TextStepped}
+use Rattle.rudignals.specs.declared.Cursor.{Cursor}
+use Rattle.rudignals.specs.declared.Step.{Step}
+use Rattle.rudignals.specs.declared.Step.the-variants.{On, Over}
+use Rattle.rudignals.proofs.Meaning.{MarginIs, TextIs, TextGoes, Means, means}
+use Rattle.rudignals.proofs.Bound.{formatted-most}
+
+-- ---- what the block's options allow
+
+module _ (block notes : List ℕ) (o : Options) (ready : Ready block notes o) where
+  pub ready-kept : Kept block o
+  ready-kept = accepted block o (ready .accepted)
+
+  pub ready-usable : Usable block o
+  ready-usable = usable block o ready-kept
+
+  pub ready-cleared : Cleared o
+  ready-cleared = ready-kept .splitClears
+
+  -- the piece that the code found at a place means
+  pub found-means : (nextMail : Bool) (at : ℕ) (r s : PieceAt) → at < length notes → r ≡ pieceAt (meant block o) nextMail notes at → r ≡ s → Means (meant block o) nextMail notes at s
+  unfolding meant
+  found-means nextMail at r s h p q =
+      let k = ready-kept in
+      rw (sym q ∙ p) (means (meant block o) nextMail notes at h (k .tabLeast) (k .tabMost) (ready .short) (k .splitClears))
+
+-- ---- blank and plain lines
+
+module _ (o : Opts) (notes out : List ℕ) (c : Cursor) (out′ : List ℕ) (next n : ℕ) where
+  pub blank-put : Goes o (c .mail) notes (c .at) blankLine true next → Wrote out (c .written) (slice (c .at) (c .at) notes ++ lineFeed) out′ n
+      → Put o notes out c (record { at = next; written = n; mail = true }) out′
+  unfolding outputOf
+  blank-put g w =
+      let z : c .at + 0 ≡ c .at = omega arith in
+      let e : slice (c .at) (c .at) notes ≡ [] = rw z at (slice-is (c .at) 0 notes) in
+      record { kind = blankLine; goes = g; few = refl; wrote = rw e at w; most = omega (arith, g .on) }
+
+  pub plain-put : (end : ℕ) → Goes o (c .mail) notes (c .at) (plainLine (slice (c .at) end notes)) false next × (c .at ≤ end) × (end ≤ next) → Wrote out (c .written) (slice (c .at) end notes ++ lineFeed) out′ n
+      → Put o notes out c (record { at = next; written = n; mail = false }) out′
+  unfolding outputOf
+  plain-put end g w =
+      let l = length-slice (c .at) end notes (omega (arith, g .0 .within)) in
+      let a = length-append (slice (c .at) end notes) lineFeed in
+      record { kind = plainLine (slice (c .at) end notes); goes = g .0; few = refl; wrote = w; most = omega (arith, g .0 .on) }
+
+-- ---- paragraphs
+
+module _ (block notes : List ℕ) (o : Options) (ready : Ready block notes o) (nextMail : Bool) (at : ℕ) (p : ParagraphAt) (q : Paragraph)
+    (goes : Goes (meant block o) nextMail notes at (paragraph q) (p .mail) (p .next)) (text : TextIs (meant block o) notes at p q) where
+  margin-in : (m : Margin) {i : _} → MarginIs notes at (p .next) m i → MarginIn (length notes) m
+  margin-in m h = record { order = h .order; end = omega (arith, h .high, goes .within); more = omega (arith, h .more) }
+
+  pub text-placed : Placed notes at o p
+  unfolding meant
+  text-placed =
+      let k = ready-kept block notes o ready in
+      let f = text .first in
+      let i = text .indent in
+      let s = paragraph-some (meant block o) (text .lines) q (text .rows) in
+      record {
+        order = omega (arith, goes .on);
+        within = goes .within;
+        short = ready .short;
+        begins = text .begins;
+        block = block;
+        some = rw (text .words) at s;
+        first = margin-in (p .first) f;
+        indent = margin-in (p .indent) i;
+        firstSmall = omega (arith, f .small);
+        indentSmall = omega (arith, i .small);
+        goal = k .goalMost;
+        twice = k .widthTwice;
+        width = k .widthMost;
+        least = k .tabLeast;
+        most = k .tabMost;
+      }
+
+  formatted-is : formatted (meant block o) q
+      ≡ emit (o .uniform || p .mail) (marginOf notes (p .first)) (marginOf notes (p .indent)) (broken (o .quick || p .mail) (settingIn o p) (wordsFor block notes at o p)) (wordsFor block notes at o p)
+  unfolding formatted breaksOf settingOf meant
+  formatted-is = rw (text .words, text .mail, text .first .bytes, text .indent .bytes, text .first .columns, text .indent .columns)
+
+  words-count : length (wordsOf (meant block o) q) ≡ length (wordsFor block notes at o p)
+  words-count = ap length (text .words)
+
+  text-put : (out : List ℕ) (c d : Cursor) (out′ : List ℕ) → c .at ≡ at → c .mail ≡ nextMail → TextPut notes at o p out (c .written) out′ d block → Put (meant block o) notes out c d out′
+  unfolding outputOf
+  text-put out c d out′ a m w = record {
+    kind = paragraph q;
+    goes = rw (a, m, w .next, w .mail) (goes);
+    few = rw words-count (le-ltb 1024 (length (wordsFor block notes at o p)) (w .few));
+    wrote = rw formatted-is (w .wrote);
+    most = rw (a, w .next) (formatted-most (meant block o) notes at p q (text) (goes .on) (goes .within) (omega (arith, words-count, w .few)));
+  }
+
+  pub text-stepped : (out : List ℕ) (c : Cursor) (out′ : List ℕ) (r : Step) → c .at ≡ at → c .mail ≡ nextMail → TextStepped notes at o p out (c .written) out′ r block → Stepped (meant block o) notes out c out′ r
+  text-stepped out c out′ (On d) a m w = text-put out c d out′ a m w
+  text-stepped out c out′ Over a m w = record {
+    kind = paragraph q;
+    state = p .mail;
+    next = p .next;
+    goes = rw (a, m) (goes);
+    many = rw words-count (lt-ltb 1024 (length (wordsFor block notes at o p)) (w .0));
+    same = w .1;
+  }
+
+-- ---- splitting and breaking
+
+pub limits-of : (notes : List ℕ) (at : ℕ) (o : Options) (p : ParagraphAt) → Placed notes at o p → Limits (settingIn o p)
+limits-of notes at o p h = record { over = h .goal; twice = h .twice; wide = h .width; tab = h .least; tabs = h .most; first = h .firstSmall; indent = h .indentSmall }
+
+counted-many : (ws : List Word) → counted ws ≡ TooMany → 1024 < length ws
+unfolding counted
+counted-many ws e = go (leb (length ws) 1024) refl e
+  where
+    go : (t : Bool) → leb (length ws) 1024 ≡ t → cond t (Words (length ws)) TooMany ≡ TooMany → 1024 < length ws
+    go true h k = absurd (let z : _≡_ {A = ℕ} 0 1 = cc in omega arith)
+    go false h k = leb-false (length ws) 1024 h
+
+counted-few : (ws : List Word) (n : ℕ) → counted ws ≡ Words n → (length ws ≡ n) × (length ws ≤ 1024)
+unfolding counted
+counted-few ws n e = go (leb (length ws) 1024) refl e
+  where
+    go : (t : Bool) → leb (length ws) 1024 ≡ t → cond t (Words (length ws)) TooMany ≡ Words n → (length ws ≡ n) × (length ws ≤ 1024)
+    go true h k = (cc, leb-true (length ws) 1024 h)
+    go false h k = absurd (let z : _≡_ {A = ℕ} 0 1 = cc in omega arith)
+
+module _ {notes t : List ℕ} {r : Count} {ws : List Word} (s : Split notes ws t r) where
+  pub split-many : r ≡ TooMany → 1024 < length ws
+  split-many e = counted-many ws (sym (s .count) ∙ e)
+
+  pub split-few : (n : ℕ) → r ≡ Words n → (length ws ≡ n) × (length ws ≤ 1024)
+  split-few n e = counted-few ws n (sym (s .count) ∙ e)
+
+module _ (fast : Bool) (g : Setting) (n : ℕ) (table breaks : List ℕ) (ratios : List Float) (active : List ℕ) (marks marks′ : List Bool) where
+  pub broken-fast : fast ≡ true → ((notes : List ℕ) → Marked n marks (quickBreaks g (wordsIn notes n table)) marks′) → Lent (tables breaks ratios) active marks
+      → Broken fast g n table breaks ratios active marks′
+  broken-fast e m l = record {
+    says = λ notes. rw e (m notes .says);
+    lent = record { tables = l .tables; active = l .active; all = m [] .sized };
+  }
+
+  pub broken-best : fast ≡ false → BestAre g n table marks (tables breaks ratios) active marks′ → Broken fast g n table breaks ratios active marks′
+  broken-best e b = record { says = λ notes. rw e (b .breaks notes); lent = b .lent }
+
+-- what was emitted is the paragraph, in terms of its own words
+pub emitted-is : (notes table : List ℕ) (n : ℕ) (marks : List Bool) (l : Layout) {uniform fast₀ fast : Bool} {first indent : Margin} {g₀ g : Setting} {ws : List Word}
+    → l .uniform ≡ uniform → l .first ≡ first → l .indent ≡ indent → wordsIn notes n table ≡ ws → breaksIn n marks ≡ broken fast₀ g₀ (wordsIn notes n table) → fast₀ ≡ fast → g₀ ≡ g
+    → emitted notes table n marks l ≡ emit uniform (marginOf notes first) (marginOf notes indent) (broken fast g ws) ws
+emitted-is notes table n marks l u f i w b k s = rw (u, f, i, b, w, k, s)
+
+pub wrote-as : {o o′ d e : List ℕ} {n n′ : ℕ} → d ≡ e → Wrote o n d o′ n′ → Wrote o n e o′ n′
+wrote-as q w = rw (← q) w

@@ -1,0 +1,179 @@
+-- What an answer tells is small: the fault's place lies in the block, other places in the notes, and a digest has at most 10,000 bytes for
+-- each byte of the notes. So code and value can be read back from the number.
+use mathlib.Core.Path.{_≡_, refl, sym, ap, _∙_}
+use mathlib.Core.Bool.{Bool, true, false, cond, _||_}
+use mathlib.Core.List.{List, []}
+use Prim.Native.Nat.{ℕ, zero, suc, max, _+_, _*_, _/_, _%_, _^_, _≤_, _<_}
+use native.Mathlib.Omega.{arith}
+use lib.Dec.{leb, ltb}
+use lib.ListN.{length, length-append}
+use lib.Seq.{slice, length-slice}
+use borrow.Author.Tests.{lt-ltb, ltb-true, ltb-false}
+use Rattle.text.specs.Characters.{damage}
+use Rattle.text.specs.declared.Found.{Found}
+use Rattle.text.specs.declared.Found.the-variants.{At, Nowhere}
+use Rattle.text.proofs.Damage.{damage-some}
+use Rattle.options.specs.Opts.{Opts, meant}
+use Rattle.options.specs.OptionBlock.{readBlock}
+use Rattle.options.specs.declared.Options.{Options}
+use Rattle.options.specs.declared.Block.{Block}
+use Rattle.options.specs.declared.Block.the-variants.{Accepted, Fault}
+use Rattle.options.proofs.Accepted.{accepted, fault-within}
+use Rattle.pieces.specs.Pieces.{Kind, blankLine, plainLine, paragraph, pieces}
+use Rattle.pieces.specs.Places.{pieceAt}
+use Rattle.pieces.specs.declared.Piece.{Piece as PieceAt}
+use Rattle.pieces.specs.declared.Piece.the-variants.{Blank as BlankAt, Plain as PlainAt, Text}
+use Rattle.words.specs.Words.{wordsOf}
+use Rattle.output.specs.Emission.{lineFeed}
+use Rattle.rudignals.specs.Answers.{Answer, done, options, long, text, words, room, code, value, numbered}
+use Rattle.rudignals.specs.Format.{mostBytes, outputOf, tooMany, digest, longParagraph, withDigest, withWords, withText, damageIn, withNotes, withBlock, answer}
+use Rattle.rudignals.specs.Call.{Goes, told, numberOf}
+use Rattle.rudignals.proofs.Meaning.{Means, means}
+use Rattle.rudignals.proofs.Bound.{formatted-most}
+use Rattle.rudignals.proofs.Loop.{outputFrom, longFrom, all-output, all-long, output-none, long-none, output-more, long-more, long-here}
+
+-- ---- a piece
+
+-- the next piece, and how long its output gets
+record Next (o : Opts) (nextMail : Bool) (notes : List ℕ) (at : ℕ) : Type 0 where
+  kind : Kind
+  state : Bool
+  next : ℕ
+  goes : Goes o nextMail notes at kind state next
+  most : tooMany o kind ≡ false → length (outputOf o kind) + 10000 * at ≤ 10000 * next
+
+next-of : (o : Opts) (nextMail : Bool) (notes : List ℕ) (at : ℕ) (r : PieceAt) → Means o nextMail notes at r → Next o nextMail notes at
+unfolding outputOf
+next-of o nextMail notes at (BlankAt next) g = record { kind = blankLine; state = true; next = next; goes = g; most = λ few. omega (arith, g .on) }
+next-of o nextMail notes at (PlainAt end next) g =
+    let l = length-slice at end notes (omega (arith, g .2, g .0 .within)) in
+    let a = length-append (slice at end notes) lineFeed in
+    record { kind = plainLine (slice at end notes); state = false; next = next; goes = g .0; most = λ few. omega (arith, g .0 .on, g .1, g .2) }
+next-of o nextMail notes at (Text p) t = record {
+  kind = paragraph (t .paragraph-is);
+  state = p .mail;
+  next = p .next;
+  goes = t .goes;
+  most = λ few. formatted-most o notes at p (t .paragraph-is) (t .text) (t .goes .on) (t .goes .within) (ltb-false 1024 (length (wordsOf o (t .paragraph-is))) few);
+}
+
+-- ---- the notes
+
+module _ (o : Opts) (notes : List ℕ) (least : 1 ≤ o .tab) (most : o .tab ≤ 100) (short : length notes ≤ 65536) (cleared : o .split ≡ true → (o .crown || o .tagged) ≡ false) where
+  -- from a place on: the output's length, and the place of a paragraph of too many words
+  record Small (nextMail : Bool) (at : ℕ) : Type 0 where
+    output : longFrom o nextMail notes at ≡ Nowhere → length (outputFrom o nextMail notes at) + 10000 * at ≤ 10000 * length notes
+    place : (n : ℕ) → longFrom o nextMail notes at ≡ At n → n ≤ length notes
+
+  small-past : (nextMail : Bool) (at : ℕ) → at ≤ length notes → length notes ≤ at → Small nextMail at
+  small-past nextMail at h k = record {
+    output = λ e. rw (output-none o nextMail notes at k) (omega arith);
+    place = λ n e. absurd (let q = long-none o nextMail notes at k in let z : _≡_ {A = ℕ} 0 1 = cc in omega arith);
+  }
+
+  small-more : (nextMail : Bool) (at : ℕ) → at < length notes → (n : Next o nextMail notes at) → Small (n .state) (n .next) → Small nextMail at
+  small-more nextMail at h n s = go (tooMany o (n .kind)) refl
+    where
+      go : (t : Bool) → tooMany o (n .kind) ≡ t → Small nextMail at
+      go true t = record {
+        output = λ e. absurd (let q = long-here o (n .goes) t in let z : _≡_ {A = ℕ} 0 1 = cc in omega arith);
+        place = λ k e. let q = long-here o (n .goes) t in let z : at ≡ k = cc in omega arith;
+      }
+      go false t = record {
+        output = λ e. rw (output-more o (n .goes), length-append) (omega (arith, n .most t, s .output (sym (long-more o (n .goes) t) ∙ e)));
+        place = λ k e. s .place k (sym (long-more o (n .goes) t) ∙ e);
+      }
+
+  small : (k : ℕ) (nextMail : Bool) (at : ℕ) → at ≤ length notes → length notes ≤ at + k → Small nextMail at
+  small zero nextMail at h k = small-past nextMail at h (omega arith)
+  small (suc k) nextMail at h g = go (ltb at (length notes)) refl (small k)
+    where
+      go : (t : Bool) → ltb at (length notes) ≡ t → ((m : Bool) (i : ℕ) → i ≤ length notes → length notes ≤ i + k → Small m i) → Small nextMail at
+      go false t rest = small-past nextMail at h (ltb-false at (length notes) t)
+      go true t rest =
+          let i = ltb-true at (length notes) t in
+          let n = next-of o nextMail notes at (pieceAt o nextMail notes at) (means o nextMail notes at i least most short cleared) in
+          small-more nextMail at i n (rest (n .state) (n .next) (n .goes .within) (omega (arith, n .goes .on)))
+
+  all-small : Small true 0
+  all-small = small (length notes) true 0 (omega arith) (omega arith)
+
+  -- without a paragraph of too many words, the digest has less than 2 to the 32nd bytes
+  pub digest-most : longParagraph o 0 (pieces o notes) ≡ Nowhere → length (digest o notes) ≤ 655360000
+  digest-most e = let s = all-small .output (all-long o notes ∙ e) in omega (arith, ap length (all-output o notes))
+
+  pub long-within : (n : ℕ) → longParagraph o 0 (pieces o notes) ≡ At n → n ≤ length notes
+  long-within n e = all-small .place n (all-long o notes ∙ e)
+
+  notes-value : (space : ℕ) → value (withNotes o notes space) ≤ 655360000
+  notes-value space = size (ltb mostBytes (length notes)) refl
+    where
+      fit : (b : Bool) → length (digest o notes) ≤ 655360000 → value (cond b (done (digest o notes)) (room (length (digest o notes)))) ≤ 655360000
+      fit true h = h
+      fit false h = h
+
+      count : (f : Found) → longParagraph o 0 (pieces o notes) ≡ f → value (withWords o notes space f) ≤ 655360000
+      count (At n) e = omega (arith, long-within n e)
+      count Nowhere e = fit (leb (length (digest o notes)) space) (digest-most e)
+
+      damaged : (keep : Bool) (f : Found) → elim keep as (λ t. Found) [ true ↦ Nowhere | false ↦ damage notes ] ≡ f → value (withText o notes space f) ≤ 655360000
+      damaged keep Nowhere e = count (longParagraph o 0 (pieces o notes)) refl
+      damaged true (At n) e = absurd (let z : _≡_ {A = ℕ} 0 1 = cc in omega arith)
+      damaged false (At n) e = omega (arith, damage-some false notes n e .1)
+
+      size : (b : Bool) → ltb mostBytes (length notes) ≡ b → value (elim b as (λ t. Answer) [ true ↦ long | false ↦ withText o notes space (damageIn o notes) ]) ≤ 655360000
+      size true e = omega arith
+      size false e = damaged (o .keep) (damageIn o notes) refl
+
+-- ---- the call
+
+long-value : (o : Opts) (notes : List ℕ) (space : ℕ) → 65536 < length notes → value (withNotes o notes space) ≡ 0
+long-value o notes space h = rw (withNotes, lt-ltb mostBytes (length notes) h)
+
+pub answer-value : (block notes : List ℕ) (space : ℕ) → value (answer block notes space) ≤ max (length block) 655360000
+unfolding answer meant
+answer-value block notes space = go (readBlock block) refl
+  where
+    short : (o : Options) → readBlock block ≡ Accepted o → (t : Bool) → ltb 65536 (length notes) ≡ t → value (withNotes (meant block o) notes space) ≤ 655360000
+    short o e true t = omega (arith, long-value (meant block o) notes space (ltb-true 65536 (length notes) t))
+    short o e false t =
+        let k = accepted block o e in
+        notes-value (meant block o) notes (k .tabLeast) (k .tabMost) (ltb-false 65536 (length notes) t) (k .splitClears) space
+
+    go : (b : Block) → readBlock block ≡ b → value (withBlock block notes space b) ≤ max (length block) 655360000
+    go (Fault place) e = omega (arith, fault-within block place e)
+    go (Accepted o) e = omega (arith, short o e (ltb 65536 (length notes)) refl)
+
+code-most : (a : Answer) → code a ≤ 5
+code-most (done digest) = omega arith
+code-most (options place) = omega arith
+code-most long = omega arith
+code-most (text place) = omega arith
+code-most (words place) = omega arith
+code-most (room needed) = omega arith
+
+-- Code and value can be read back from the number, for every block of less than 2 to the 32nd bytes.
+pub the-answer-tells-code-and-value : (block notes : List ℕ) (space : ℕ) → length block < 2 ^ 32
+    → (numbered (answer block notes space) / 2 ^ 32 ≡ code (answer block notes space)) × (numbered (answer block notes space) % 2 ^ 32 ≡ value (answer block notes space))
+unfolding numbered
+the-answer-tells-code-and-value block notes space h =
+    let v = answer-value block notes space in
+    (omega arith, omega arith)
+
+-- the code's number is the answer's
+pub told-number : (a : Answer) → numberOf (told a) ≡ numbered a
+unfolding numbered
+told-number (done digest) = omega arith
+told-number (options place) = omega arith
+told-number long = omega arith
+told-number (text place) = omega arith
+told-number (words place) = omega arith
+told-number (room needed) = omega arith
+
+-- and fits 64 bits
+pub told-fits : (block notes : List ℕ) (space : ℕ) → length block < 2 ^ 63 → numberOf (told (answer block notes space)) < 2 ^ 64
+unfolding numbered
+told-fits block notes space h =
+    let v = answer-value block notes space in
+    let c = code-most (answer block notes space) in
+    rw told-number (omega arith)

@@ -1,0 +1,55 @@
+-- `rudignals::format_notes` meets its contract.
+use mathlib.Core.Path.{refl}
+use borrow.Author.Needs.{needs}
+use Rattle.rudignals.proofs.Replies.{words-answer, done-answer, room-answer}
+use Rattle.rudignals.proofs.format_notes.Statement.{statement}
+use Rattle.rudignals.proofs.format_notes.Tie as tie
+
+put-all-requires : tie.Need-put-all-requires
+put-all-requires c κs = (c .before .before .before .before .before .before .before .before .before .pre, record { sized = refl; lent = record { tables = record { numbers = refl; ratios = refl }; active = refl; all = refl } })
+
+enum-known-place : tie.Need-enum-known-place
+enum-known-place c = search needs
+
+clear-requires : tie.Need-clear-requires
+clear-requires c κs = search needs
+
+enum-known-needed : tie.Need-enum-known-needed
+enum-known-needed c = search needs
+
+same-length : tie.Need-same-length
+same-length c = search needs
+
+returns : tie.Need-returns
+returns c = done-answer _ _ _ _ _ (c .before .before .before .before .before .before .put-all .ensures) (c .before .before .needed .given .1) (c .if1 .taken)
+
+clear-requires-2 : tie.Need-clear-requires-2
+clear-requires-2 c κs = search needs
+
+same-length-2 : tie.Need-same-length-2
+same-length-2 c = search needs
+
+returns-2 : tie.Need-returns-2
+returns-2 c = words-answer _ _ _ _ _ (c .before .before .before .before .before .before .before .before .before .put-all .ensures) (c .before .before .before .before .before .place .given .1) (c .before .before .clear .ensures)
+
+same-length-3 : tie.Need-same-length-3
+same-length-3 c = search needs
+
+returns-3 : tie.Need-returns-3
+returns-3 c = room-answer _ _ _ _ _ (c .before .before .before .before .before .before .before .before .before .before .put-all .ensures) (c .before .before .before .before .before .before .needed .given .1) (c .before .before .before .before .if1 .left) (c .before .before .clear2 .ensures)
+
+pub format-notes-spec : {M : Type 1} → statement M
+format-notes-spec =
+    tie.close
+    (tie.spec
+    put-all-requires
+    enum-known-place
+    clear-requires
+    enum-known-needed
+    same-length
+    returns
+    clear-requires-2
+    same-length-2
+    returns-2
+    same-length-3
+    returns-3)

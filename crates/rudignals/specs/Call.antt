@@ -1,0 +1,179 @@
+-- What the functions of the call answer for: the pieces from a place of the notes on, what has become of them and of the output, and
+-- the code's answer.
+use mathlib.Core.Path.{_≡_}
+use mathlib.Core.Bool.{Bool, true, false, _||_}
+use mathlib.Core.List.{List, _∷_}
+use Prim.Native.Nat.{ℕ, _+_, _*_, _^_, _≤_, _<_}
+use lib.Ieee.{Float}
+use lib.ListN.{length, drop}
+use lib.Seq.{slice}
+use Rattle.lists.specs.Walk.{walk}
+use Rattle.text.specs.Characters.{damage}
+use Rattle.text.specs.declared.Found.{Found}
+use Rattle.text.specs.declared.Found.the-variants.{At, Nowhere}
+use Rattle.options.specs.Opts.{Opts, meant}
+use Rattle.options.specs.OptionBlock.{readBlock}
+use Rattle.options.specs.declared.Options.{Options}
+use Rattle.options.specs.declared.Block.the-variants.{Accepted}
+use Rattle.lines.specs.Lines.{linesOf}
+use Rattle.pieces.specs.Pieces.{Piece, Kind, nextPiece, pieces}
+use Rattle.pieces.specs.declared.Paragraph.{Paragraph}
+use Rattle.records.specs.Word.{Word}
+use Rattle.records.specs.Table.{wordsIn}
+use Rattle.records.specs.Marks.{breaksIn}
+use Rattle.words.specs.Places.{wordsAt}
+use Rattle.words.specs.Split.{AllBegin}
+use Rattle.spacing.specs.declared.Setting.{Setting}
+use Rattle.output.specs.Emission.{emit}
+use Rattle.output.specs.Sink.{Wrote}
+use Rattle.output.specs.Writers.{marginOf, MarginIn}
+use Rattle.quick.specs.Quick.{quickBreaks}
+use Rattle.knuth_plass.specs.KnuthPlass.{bestBreaks}
+use Rattle.knuth_plass.specs.Table.{tables}
+use Rattle.knuth_plass.specs.Round.{Lent}
+use Rattle.rudignals.specs.Answers.{Answer, done, options, long, text, words, room, outputAfter}
+use Rattle.rudignals.specs.Format.{extentOf, tooMany, outputOf, digest, longParagraph}
+use Rattle.rudignals.specs.declared.Answer.{Answer as Told}
+use Rattle.rudignals.specs.declared.Answer.the-variants.{Done, Options as Refused, Long, Text, Words, Room}
+use Rattle.rudignals.specs.declared.Cursor.{Cursor}
+use Rattle.rudignals.specs.declared.Step.{Step}
+use Rattle.rudignals.specs.declared.Step.the-variants.{On, Over}
+use Rattle.rudignals.specs.declared.Ended.{Ended}
+use Rattle.rudignals.specs.declared.Ended.the-variants.{All, Stopped}
+
+-- ---- the answer in code: without the digest's bytes, which are in the output
+
+abbrev pub told : Answer → Told
+told (done digest) = Done (length digest)
+told (options place) = Refused place
+told long = Long
+told (text place) = Text place
+told (words place) = Words place
+told (room needed) = Room needed
+
+-- its number
+abbrev pub numberOf : Told → ℕ
+numberOf (Done n) = n
+numberOf (Refused place) = 1 * 2 ^ 32 + place
+numberOf Long = 2 * 2 ^ 32
+numberOf (Text place) = 3 * 2 ^ 32 + place
+numberOf (Words place) = 4 * 2 ^ 32 + place
+numberOf (Room needed) = 5 * 2 ^ 32 + needed
+
+-- what a function that gives the answer leaves behind: the answer as told, and the output after it
+pub record Answers (a : Answer) (out : List ℕ) (r : Told) (out′ : List ℕ) : Type 0 where
+  pub is : r ≡ told a
+  pub output : out′ ≡ outputAfter a out
+
+-- with keep on nothing is refused as damaged
+abbrev pub damageFor : Bool → List ℕ → Found
+damageFor keep notes = elim keep [ true ↦ Nowhere | false ↦ damage notes ]
+
+-- ---- pieces
+
+-- the pieces from a place on
+unfoldable pub piecesFrom : Opts → Bool → List ℕ → ℕ → List Piece
+piecesFrom o nextMail notes at = walk (nextPiece o) nextMail (linesOf (drop at notes))
+
+-- the first of them is of a kind and stands from at up to next; the others stand behind it
+pub record Goes (o : Opts) (nextMail : Bool) (notes : List ℕ) (at : ℕ) (kind : Kind) (state : Bool) (next : ℕ) : Type 0 where
+  pub piece : Piece
+  pub is : piece .kind ≡ kind
+  pub pieces : piecesFrom o nextMail notes at ≡ piece ∷ piecesFrom o state notes next
+  pub extent : at + length (extentOf piece) ≡ next
+  pub on : at < next
+  pub within : next ≤ length notes
+
+-- a piece was written, and the work goes on behind it
+pub record Put (o : Opts) (notes out : List ℕ) (c d : Cursor) (out′ : List ℕ) : Type 0 where
+  pub kind : Kind
+  pub goes : Goes o (c .mail) notes (c .at) kind (d .mail) (d .at)
+  pub few : tooMany o kind ≡ false
+  pub wrote : Wrote out (c .written) (outputOf o kind) out′ (d .written)
+  pub most : length (outputOf o kind) + 10000 * c .at ≤ 10000 * d .at
+
+-- a paragraph has too many words, and the output is as it was
+pub record TooLong (o : Opts) (notes out : List ℕ) (c : Cursor) (out′ : List ℕ) : Type 0 where
+  pub kind : Kind
+  pub state : Bool
+  pub next : ℕ
+  pub goes : Goes o (c .mail) notes (c .at) kind state next
+  pub many : tooMany o kind ≡ true
+  pub same : out′ ≡ out
+
+abbrev pub Stepped : Opts → List ℕ → List ℕ → Cursor → List ℕ → Step → Type 0
+Stepped o notes out c out′ (On d) = Put o notes out c d out′
+Stepped o notes out c out′ Over = TooLong o notes out c out′
+
+-- ---- working storage
+
+pub record Scratch (table breaks : List ℕ) (ratios : List Float) (active : List ℕ) (marks : List Bool) : Type 0 where
+  pub sized : length table ≡ 8192
+  pub lent : Lent (tables breaks ratios) active marks
+
+-- ---- a paragraph
+
+-- the options of an accepted block, and notes within the limit
+pub record Ready (block notes : List ℕ) (o : Options) : Type 0 where
+  pub accepted : readBlock block ≡ Accepted o
+  pub short : length notes ≤ 65536
+
+abbrev pub settingIn : Options → Paragraph → Setting
+settingIn o p = record {
+  width = o .width;
+  goal = o .goal;
+  tab = o .tab;
+  uniform = o .uniform || p .mail;
+  first = p .first .columns;
+  indent = p .indent .columns;
+}
+
+abbrev pub broken : Bool → Setting → List Word → List Bool
+broken fast g ws = elim fast [ true ↦ quickBreaks g ws | false ↦ bestBreaks g ws ]
+
+-- the marks say so of n words of a table, for whatever notes they stand in
+pub record Broken (fast : Bool) (g : Setting) (n : ℕ) (table breaks : List ℕ) (ratios : List Float) (active : List ℕ) (marks : List Bool) : Type 0 where
+  pub says : (notes : List ℕ) → breaksIn n marks ≡ broken fast g (wordsIn notes n table)
+  pub lent : Lent (tables breaks ratios) active marks
+
+-- the words of a paragraph in places
+abbrev pub wordsFor : List ℕ → List ℕ → ℕ → Options → Paragraph → List Word
+wordsFor block notes at o p = wordsAt (meant block o) (p .mail) (p .start) (p .later) (linesOf (slice at (p .next) notes))
+
+-- a paragraph that lies in the notes, with limits that keep all sums small
+pub record Placed (notes : List ℕ) (at : ℕ) (o : Options) (p : Paragraph) : Type 0 where
+  pub order : at ≤ p .next
+  pub within : p .next ≤ length notes
+  pub short : length notes ≤ 65536
+  pub begins : p .mail ≡ false → AllBegin (o .glue) (p .start) (p .later) (linesOf (slice at (p .next) notes))
+  pub block : List ℕ
+  pub some : 0 < length (wordsFor block notes at o p)
+  pub first : MarginIn (length notes) (p .first)
+  pub indent : MarginIn (length notes) (p .indent)
+  pub firstSmall : p .first .columns < 2 ^ 32
+  pub indentSmall : p .indent .columns < 2 ^ 32
+  pub goal : o .goal ≤ o .width
+  pub twice : o .width ≤ 2 * o .goal
+  pub width : o .width ≤ 1000
+  pub least : 1 ≤ o .tab
+  pub most : o .tab ≤ 100
+
+-- it was written
+pub record TextPut (notes : List ℕ) (at : ℕ) (o : Options) (p : Paragraph) (out : List ℕ) (written : ℕ) (out′ : List ℕ) (d : Cursor) (block : List ℕ) : Type 0 where
+  pub few : length (wordsFor block notes at o p) ≤ 1024
+  pub next : d .at ≡ p .next
+  pub mail : d .mail ≡ p .mail
+  pub wrote : Wrote out written
+      (emit (o .uniform || p .mail) (marginOf notes (p .first)) (marginOf notes (p .indent)) (broken (o .quick || p .mail) (settingIn o p) (wordsFor block notes at o p)) (wordsFor block notes at o p))
+      out′ (d .written)
+
+abbrev pub TextStepped : List ℕ → ℕ → Options → Paragraph → List ℕ → ℕ → List ℕ → Step → List ℕ → Type 0
+TextStepped notes at o p out written out′ (On d) block = TextPut notes at o p out written out′ d block
+TextStepped notes at o p out written out′ Over block = (1024 < length (wordsFor block notes at o p)) × (out′ ≡ out)
+
+-- ---- the notes
+
+-- all pieces were written; or the work stopped at a paragraph of too many words
+abbrev pub Finished : Opts → List ℕ → List ℕ → List ℕ → Ended → Type 0
+Finished o notes out out′ (All n) = (longParagraph o 0 (pieces o notes) ≡ Nowhere) × Wrote out 0 (digest o notes) out′ n
+Finished o notes out out′ (Stopped place) = (longParagraph o 0 (pieces o notes) ≡ At place) × (length out′ ≡ length out)
