@@ -2,7 +2,7 @@
 use mathlib.Core.Path.{_≡_, refl, sym, ap, _∙_}
 use mathlib.Core.Bool.{Bool, true, false, cond, _||_}
 use mathlib.Core.List.{List, [], _∷_, _++_, map}
-use Prim.Native.Nat.{ℕ, suc, _+_, _-_, _*_, _≤_, _<_}
+use Prim.Native.Nat.{ℕ, _+_, _-_, _*_, _≤_, _<_}
 use native.Mathlib.Nat.{mul-le-mul}
 use native.Mathlib.Omega.{arith}
 use lib.ListN.{length, replicate, length-append, length-replicate}
@@ -21,17 +21,17 @@ use Rattle.lines.proofs.Lines.{lengths}
 use Rattle.lines.proofs.Extents.{lines-extents}
 use Rattle.lines.proofs.Ink.{upTo-from}
 use Rattle.pieces.specs.Pieces.{Row, Indent, Paragraph, rowOf}
-use Rattle.pieces.specs.Places.{rawBytes, taken}
+use Rattle.pieces.specs.Places.{taken}
 use Rattle.pieces.specs.declared.Margin.{Margin}
 use Rattle.pieces.specs.declared.Paragraph.{Paragraph as ParagraphAt}
-use Rattle.pieces.proofs.Following.{taken-none, taken-more}
+use Rattle.pieces.proofs.Following.{taken-more}
 use Rattle.records.specs.Word.{Word}
-use Rattle.words.specs.Words.{glyphBytes, bytesOf, rowWords, wordsOf}
-use Rattle.words.proofs.Spelled.{Begins, Spelled, row-spelled}
-use Rattle.output.specs.Writers.{marginOf}
+use Rattle.words.specs.Words.{bytesOf, rowWords, wordsOf}
+use Rattle.words.proofs.Spelled.{Spelled, row-spelled}
 use Rattle.output.proofs.Bound.{bulk, emit-most}
 use Rattle.rudignals.specs.Format.{breaksOf, formatted}
-use Rattle.rudignals.proofs.Meaning.{MarginIs, TextIs}
+use Rattle.rudignals.proofs.Indents.{MarginIs}
+use Rattle.rudignals.proofs.Meaning.{TextIs}
 
 -- ---- the words of a line have no more bytes than the line
 

@@ -1,19 +1,19 @@
 -- Lines at the front of the lines from a place on: they are the lines of the bytes that they take, and the others are those behind.
 use mathlib.Core.Path.{_≡_, refl, sym, ap, ap₂, _∙_}
-use mathlib.Core.Bool.{Bool, true, false, cond}
+use mathlib.Core.Bool.{Bool, true, false}
 use mathlib.Core.List.{List, [], _∷_}
-use Prim.Native.Nat.{ℕ, zero, suc, min, _+_, _-_, _≤_, _<_}
+use Prim.Native.Nat.{ℕ, zero, suc, min, _+_, _≤_, _<_}
 use native.Mathlib.Omega.{arith}
-use lib.Dec.{ltb, leb}
-use lib.ListN.{length, take, drop, length-take, length-drop}
+use lib.Dec.{ltb}
+use lib.ListN.{length, take, drop, length-take}
 use lib.Seq.{slice, take-nil, take-all, take-take, length-take-le}
 use borrow.Author.Tests.{lt-ltb, le-ltb, ltb-true, ltb-false}
 use Rattle.lists.specs.Runs.{while}
 use Rattle.lists.proofs.Runs.{while-more, while-end}
 use Rattle.lists.proofs.Slices.{slice-is}
-use Rattle.lines.specs.Lines.{Line, noFeed, body, withoutReturn, firstLine, linesOf}
+use Rattle.lines.specs.Lines.{Line, noFeed, body, firstLine, linesOf}
 use Rattle.lines.specs.Places.{extentOf}
-use Rattle.lines.proofs.Lines.{LineHere, lines-past, line-here}
+use Rattle.lines.proofs.Lines.{lines-past, line-here}
 use Rattle.pieces.specs.Places.{taken}
 use Rattle.pieces.proofs.Following.{taken-none, taken-more}
 

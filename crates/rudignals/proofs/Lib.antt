@@ -5,9 +5,11 @@ pub mod Extents
 pub mod Demand3
 pub mod Fronts
 pub mod Starting
+pub mod Indents
 pub mod Meaning
 pub mod Bound
 pub mod Steps
 pub mod Loop
 pub mod Replies
+pub mod Faults
 pub mod Values

@@ -1,10 +1,10 @@
 -- The loop over the pieces: what is left of the digest, and of the search for a paragraph of too many words.
 use mathlib.Core.Path.{_≡_, refl, sym, ap, _∙_}
 use mathlib.Core.Bool.{Bool, true, false}
-use mathlib.Core.List.{List, [], _∷_, _++_}
-use Prim.Native.Nat.{ℕ, _+_, _*_, _≤_, _<_}
+use mathlib.Core.List.{List, [], _++_}
+use Prim.Native.Nat.{ℕ, _*_, _≤_}
 use native.Mathlib.Omega.{arith}
-use lib.ListN.{length, drop}
+use lib.ListN.{length}
 use Rattle.lists.specs.Runs.{joined}
 use Rattle.lists.proofs.Walk.{walk-nil}
 use Rattle.lists.proofs.Parts.{joined-nil, joined-cons}
@@ -12,10 +12,10 @@ use Rattle.text.specs.declared.Found.{Found}
 use Rattle.text.specs.declared.Found.the-variants.{At, Nowhere}
 use Rattle.options.specs.Opts.{Opts}
 use Rattle.lines.proofs.Lines.{lines-past}
-use Rattle.pieces.specs.Pieces.{Piece, Kind, nextPiece, pieces}
+use Rattle.pieces.specs.Pieces.{Kind, nextPiece, pieces}
 use Rattle.output.specs.Sink.{Wrote, Left}
 use Rattle.output.proofs.Sink.{length-written, wrote-nil, left-first, left-then, left-last}
-use Rattle.rudignals.specs.Format.{outputOf, pieceOutput, digest, extentOf, tooMany, longParagraph}
+use Rattle.rudignals.specs.Format.{outputOf, pieceOutput, digest, tooMany, longParagraph}
 use Rattle.rudignals.specs.Call.{piecesFrom, Goes, Put, TooLong, Stepped}
 use Rattle.rudignals.specs.declared.Cursor.{Cursor}
 use Rattle.rudignals.specs.declared.Step.{Step}

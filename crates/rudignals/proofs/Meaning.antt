@@ -1,18 +1,17 @@
 -- What the piece that the code finds at a place means: the next piece of the definition, its bytes, and what goes on behind it.
 use mathlib.Core.Path.{_≡_, refl, sym, ap, subst⁻¹, _∙_}
 use mathlib.Core.Bool.{Bool, true, false, cond, _||_, true≢false}
-use mathlib.Core.List.{List, [], _∷_, _++_, append-nil, map}
-use Prim.Native.Nat.{ℕ, suc, _+_, _-_, _*_, _≤_, _<_}
+use mathlib.Core.List.{List, [], _∷_, map}
+use Prim.Native.Nat.{ℕ, suc, _+_, _-_, _≤_, _<_}
 use native.Mathlib.Omega.{arith}
 use lib.Dec.{ltb}
-use lib.ListN.{length, take, drop, replicate}
-use lib.Seq.{slice, take-take, length-slice}
+use lib.ListN.{length, take, drop}
+use lib.Seq.{slice}
 use borrow.Author.Tests.{ltb-true, ltb-false}
 use Rattle.lists.specs.Walk.{Turn, walk}
 use Rattle.lists.specs.Runs.{joined}
 use Rattle.lists.specs.All.{All}
 use Rattle.lists.proofs.Walk.{walk-step}
-use Rattle.lists.proofs.Slices.{slice-is}
 use Rattle.options.specs.Opts.{Opts}
 use Rattle.lines.specs.Lines.{Line, firstLine, linesOf}
 use Rattle.lines.specs.Places.{extentOf}
@@ -20,11 +19,11 @@ use Rattle.lines.specs.Classes.{classify}
 use Rattle.lines.specs.declared.Shape.{Shape}
 use Rattle.lines.specs.declared.Class.{Class}
 use Rattle.lines.specs.declared.Class.the-variants.{Blank, Plain, Formatted}
-use Rattle.lines.proofs.Lines.{LineHere, lines-past, line-here}
+use Rattle.lines.proofs.Lines.{lines-past, line-here}
 use Rattle.lines.proofs.Shapes.{known}
 use Rattle.lines.proofs.Extents.{lines-feedless}
-use Rattle.pieces.specs.Pieces.{Indent, Paragraph, Kind, Piece, blankLine, plainLine, paragraph, isHeader, agrees, second, follow, Second, alone, joins, secondAs, secondOf, followSecond, further, indentOf, widened, noIndent, laterIndent, firstIndent, indentFor, rowOf, paragraphAt, pieceAs, nextPiece}
-use Rattle.pieces.specs.Places.{taken, marginAt, spacesAt, laterAt, indentAt, startAt, paragraphWith, pieceFrom, pieceOf, pieceAt}
+use Rattle.pieces.specs.Pieces.{Indent, Paragraph, Kind, Piece, blankLine, plainLine, paragraph, isHeader, agrees, follow, Second, alone, joins, secondOf, followSecond, further, indentOf, laterIndent, firstIndent, indentFor, rowOf, paragraphAt, pieceAs, nextPiece}
+use Rattle.pieces.specs.Places.{taken, marginAt, spacesAt, laterAt, indentAt, startAt, paragraphWith, pieceFrom, pieceAt}
 use Rattle.pieces.specs.declared.Margin.{Margin}
 use Rattle.pieces.specs.declared.Paragraph.{Paragraph as ParagraphAt}
 use Rattle.pieces.specs.declared.Piece.{Piece as PieceAt}
@@ -35,21 +34,11 @@ use Rattle.pieces.proofs.Extents.{Feedless, Rows}
 use Rattle.words.specs.Words.{wordsOf}
 use Rattle.words.specs.Places.{wordsAt}
 use Rattle.words.specs.Split.{AllBegin}
-use Rattle.output.specs.Writers.{marginOf}
 use Rattle.rudignals.specs.Format.{extentOf as extentIn}
 use Rattle.rudignals.specs.Call.{piecesFrom, Goes}
-use Rattle.rudignals.proofs.Fronts.{Front, lines-front}
+use Rattle.rudignals.proofs.Fronts.{lines-front}
+use Rattle.rudignals.proofs.Indents.{MarginIs, margin-at, margin-bare, margin-spaces, second-is}
 use Rattle.rudignals.proofs.Starting.{Starts, further-starts, rows-words, rows-begin}
-
--- an indent in places of a piece that stands from at up to next
-pub record MarginIs (notes : List ℕ) (at next : ℕ) (m : Margin) (i : Indent) : Type 0 where
-  pub bytes : marginOf notes m ≡ i .bytes
-  pub columns : m .columns ≡ i .columns
-  pub low : at ≤ m .start
-  pub order : m .start ≤ m .end
-  pub high : m .end ≤ next
-  pub more : m .more ≤ 4
-  pub small : m .columns ≤ 6553604
 
 -- a paragraph in places: its indents, and its words, which are those of the lines of its part of the notes
 pub record TextIs (o : Opts) (notes : List ℕ) (at : ℕ) (p : ParagraphAt) (q : Paragraph) : Type 0 where
@@ -71,74 +60,6 @@ abbrev pub Means : Opts → Bool → List ℕ → ℕ → PieceAt → Type 0
 Means o nextMail notes at (BlankAt next) = Goes o nextMail notes at blankLine true next
 Means o nextMail notes at (PlainAt end next) = Goes o nextMail notes at (plainLine (slice at end notes)) false next × (at ≤ end) × (end ≤ next)
 Means o nextMail notes at (Text p) = TextGoes o nextMail notes at p
-
--- ---- indents
-
-widened-none : (i : Indent) → widened i 0 ≡ i
-widened-none i =
-    let c : i .columns + 0 ≡ i .columns = omega arith in
-    rw (append-nil (i .bytes), c)
-
-module _ (notes : List ℕ) (at next : ℕ) where
-  margin-at : (a more : ℕ) (text : List ℕ) (s : Shape) → text ≡ slice a (a + length text) notes → s .indent ≤ length text → s .columns ≤ 6553600
-      → at ≤ a → a + length text ≤ next → more ≤ 4 → MarginIs notes at next (marginAt a more s) (widened (indentOf text s) more)
-  unfolding indentOf
-  margin-at a more text s e i c low high m =
-      let b : slice a (a + s .indent) notes ≡ take (s .indent) text =
-      slice-is a (s .indent) notes ∙ sym (take-take (s .indent) (length text) (drop a notes) i) ∙ ap (take (s .indent)) (sym (slice-is a (length text) notes)) ∙ ap (take (s .indent)) (sym e) in
-      record {
-        bytes = ap (λ (l : List ℕ). l ++ replicate more 32) b;
-        columns = refl;
-        low = low;
-        order = omega arith;
-        high = omega arith;
-        more = m;
-        small = omega arith;
-      }
-
-  margin-bare : (a : ℕ) (text : List ℕ) (s : Shape) → text ≡ slice a (a + length text) notes → s .indent ≤ length text → s .columns ≤ 6553600
-      → at ≤ a → a + length text ≤ next → MarginIs notes at next (marginAt a 0 s) (indentOf text s)
-  margin-bare a text s e i c low high = rw widened-none at (margin-at a 0 text s e i c low high (omega arith))
-
-  margin-spaces : (n : ℕ) → at ≤ next → n ≤ 4 → MarginIs notes at next (spacesAt at n) (widened noIndent n)
-  margin-spaces n h m =
-      let z : at + 0 ≡ at = omega arith in
-      let b : slice at at notes ≡ [] = rw z at (slice-is at 0 notes) in
-      record {
-        bytes = ap (λ (l : List ℕ). l ++ replicate n 32) b;
-        columns = omega arith;
-        low = omega arith;
-        order = omega arith;
-        high = h;
-        more = m;
-        small = omega arith;
-      }
-
--- ---- the second line
-
-record SecondIs (o : Opts) (ls : List Line) (text : List ℕ) (b : Shape) : Type 0 where
-  head : Line
-  tail : List Line
-  are : ls ≡ head ∷ tail
-  is : head .text ≡ text
-  formatted : classify o text ≡ Formatted b
-
-second-is : (o : Opts) (s : Shape) (ls : List Line) (text : List ℕ) (b : Shape) → secondOf o s ls ≡ joins text b → SecondIs o ls text b
-unfolding secondOf
-second-is o s [] text b e = absurd (let z : _≡_ {A = ℕ} 0 1 = cc in omega arith)
-second-is o s (l ∷ ls) text b e = go (classify o (l .text)) refl e
-  where
-    join : (t : Bool) (c : Shape) → classify o (l .text) ≡ Formatted c → cond t (joins (l .text) c) alone ≡ joins text b → SecondIs o (l ∷ ls) text b
-    join true c k h =
-        let x : l .text ≡ text = cc in
-        let y : c ≡ b = cc in
-        record { head = l; tail = ls; are = refl; is = x; formatted = ap (classify o) (sym x) ∙ k ∙ ap Formatted y }
-    join false c k h = absurd (let z : _≡_ {A = ℕ} 0 1 = cc in omega arith)
-
-    go : (k : Class) → classify o (l .text) ≡ k → secondAs o s (l .text) k ≡ joins text b → SecondIs o (l ∷ ls) text b
-    go Blank k h = absurd (let z : _≡_ {A = ℕ} 0 1 = cc in omega arith)
-    go Plain k h = absurd (let z : _≡_ {A = ℕ} 0 1 = cc in omega arith)
-    go (Formatted c) k h = join (second o s c) c k h
 
 -- ---- the next turn of the pieces
 

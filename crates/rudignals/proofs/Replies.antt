@@ -1,10 +1,9 @@
 -- The call's answers, case by case: what each refusal and a digest leave behind.
 use mathlib.Core.Path.{_≡_, refl, sym, ap, _∙_}
-use mathlib.Core.Bool.{Bool, true, false}
-use mathlib.Core.List.{List, _++_}
-use Prim.Native.Nat.{ℕ, _+_, _≤_, _<_}
+use mathlib.Core.List.{List}
+use Prim.Native.Nat.{ℕ, _≤_, _<_}
 use native.Mathlib.Omega.{arith}
-use lib.ListN.{length, drop, replicate}
+use lib.ListN.{length, replicate}
 use borrow.Author.Tests.{lt-ltb, le-ltb, le-leb, lt-leb}
 use Rattle.text.specs.declared.Found.{Found}
 use Rattle.text.specs.declared.Found.the-variants.{At, Nowhere}
@@ -15,9 +14,9 @@ use Rattle.options.specs.declared.Block.{Block}
 use Rattle.options.specs.declared.Block.the-variants.{Accepted, Fault}
 use Rattle.pieces.specs.Pieces.{pieces}
 use Rattle.output.specs.Sink.{Wrote}
-use Rattle.output.proofs.Sink.{length-written, written-fits, wrote-length}
+use Rattle.output.proofs.Sink.{written-fits, wrote-length}
 use Rattle.rudignals.specs.Answers.{outputAfter}
-use Rattle.rudignals.specs.Format.{mostBytes, digest, longParagraph, withWords, withText, withNotes, withBlock, answer}
+use Rattle.rudignals.specs.Format.{mostBytes, digest, longParagraph, withWords, withText, withNotes, answer}
 use Rattle.rudignals.specs.Call.{Answers, damageFor, Finished}
 use Rattle.rudignals.specs.declared.Answer.{Answer as Told}
 use Rattle.rudignals.specs.declared.Answer.the-variants.{Done, Options as Refused, Long, Text, Words, Room}

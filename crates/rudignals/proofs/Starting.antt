@@ -5,7 +5,7 @@ use mathlib.Core.List.{List, [], _∷_, _++_, map}
 use Prim.Native.Nat.{ℕ, suc, _≤_}
 use native.Mathlib.Omega.{arith}
 use lib.Dec.{eqb}
-use lib.ListN.{length, take, drop}
+use lib.ListN.{take}
 use borrow.Author.Tests.{eqb-true}
 use Rattle.lists.specs.Runs.{joined}
 use Rattle.lists.specs.All.{All}
@@ -17,7 +17,7 @@ use Rattle.lines.specs.declared.Shape.{Shape}
 use Rattle.lines.specs.declared.Class.{Class}
 use Rattle.lines.specs.declared.Class.the-variants.{Blank, Plain, Formatted}
 use Rattle.lines.proofs.Shapes.{known}
-use Rattle.pieces.specs.Pieces.{Row, agrees, second, follow, Second, alone, joins, secondAs, secondOf, followSecond, further, rowOf}
+use Rattle.pieces.specs.Pieces.{Row, agrees, second, follow, alone, joins, secondAs, secondOf, followSecond, further, rowOf}
 use Rattle.pieces.specs.Places.{laterStart, startAt}
 use Rattle.records.specs.Word.{Word}
 use Rattle.words.specs.Words.{rowWords}

@@ -1,10 +1,10 @@
 -- What a piece's writers have done, as the definition says it of the piece; and what they could ask.
-use mathlib.Core.Path.{_≡_, refl, sym, ap, ap₂, _∙_}
+use mathlib.Core.Path.{_≡_, refl, sym, ap, _∙_}
 use mathlib.Core.Bool.{Bool, true, false, cond, _||_}
 use mathlib.Core.List.{List, [], _++_}
-use Prim.Native.Nat.{ℕ, _+_, _-_, _*_, _^_, _≤_, _<_}
+use Prim.Native.Nat.{ℕ, _+_, _≤_, _<_}
 use native.Mathlib.Omega.{arith}
-use lib.Dec.{leb, ltb}
+use lib.Dec.{leb}
 use lib.Ieee.{Float}
 use lib.ListN.{length, length-append}
 use lib.Seq.{slice, length-slice}
@@ -37,12 +37,13 @@ use Rattle.output.specs.declared.Layout.{Layout}
 use Rattle.quick.specs.Quick.{quickBreaks}
 use Rattle.knuth_plass.specs.Table.{tables}
 use Rattle.knuth_plass.specs.Round.{Limits, Lent, BestAre}
-use Rattle.rudignals.specs.Format.{settingOf, breaksOf, formatted, outputOf, tooMany}
-use Rattle.rudignals.specs.Call.{Goes, Put, TooLong, Stepped, Ready, settingIn, broken, Broken, wordsFor, Placed, TextPut, TextStepped}
+use Rattle.rudignals.specs.Format.{settingOf, breaksOf, formatted, outputOf}
+use Rattle.rudignals.specs.Call.{Goes, Put, Stepped, Ready, settingIn, broken, Broken, wordsFor, Placed, TextPut, TextStepped}
 use Rattle.rudignals.specs.declared.Cursor.{Cursor}
 use Rattle.rudignals.specs.declared.Step.{Step}
 use Rattle.rudignals.specs.declared.Step.the-variants.{On, Over}
-use Rattle.rudignals.proofs.Meaning.{MarginIs, TextIs, TextGoes, Means, means}
+use Rattle.rudignals.proofs.Indents.{MarginIs}
+use Rattle.rudignals.proofs.Meaning.{TextIs, Means, means}
 use Rattle.rudignals.proofs.Bound.{formatted-most}
 
 -- ---- what the block's options allow

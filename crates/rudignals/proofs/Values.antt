@@ -1,9 +1,9 @@
--- What an answer tells is small: the fault's place lies in the block, other places in the notes, and a digest has at most 10,000 bytes for
--- each byte of the notes. So code and value can be read back from the number.
+-- What an answer tells is small: a fault's place is, other places lie in the notes, and a digest has at most 10,000 bytes for each byte of
+-- the notes. So code and value can be read back from the number.
 use mathlib.Core.Path.{_≡_, refl, sym, ap, _∙_}
 use mathlib.Core.Bool.{Bool, true, false, cond, _||_}
-use mathlib.Core.List.{List, []}
-use Prim.Native.Nat.{ℕ, zero, suc, max, _+_, _*_, _/_, _%_, _^_, _≤_, _<_}
+use mathlib.Core.List.{List}
+use Prim.Native.Nat.{ℕ, zero, suc, _+_, _*_, _/_, _%_, _^_, _≤_, _<_}
 use native.Mathlib.Omega.{arith}
 use lib.Dec.{leb, ltb}
 use lib.ListN.{length, length-append}
@@ -18,7 +18,7 @@ use Rattle.options.specs.OptionBlock.{readBlock}
 use Rattle.options.specs.declared.Options.{Options}
 use Rattle.options.specs.declared.Block.{Block}
 use Rattle.options.specs.declared.Block.the-variants.{Accepted, Fault}
-use Rattle.options.proofs.Accepted.{accepted, fault-within}
+use Rattle.options.proofs.Accepted.{accepted}
 use Rattle.pieces.specs.Pieces.{Kind, blankLine, plainLine, paragraph, pieces}
 use Rattle.pieces.specs.Places.{pieceAt}
 use Rattle.pieces.specs.declared.Piece.{Piece as PieceAt}
@@ -26,10 +26,11 @@ use Rattle.pieces.specs.declared.Piece.the-variants.{Blank as BlankAt, Plain as
 use Rattle.words.specs.Words.{wordsOf}
 use Rattle.output.specs.Emission.{lineFeed}
 use Rattle.rudignals.specs.Answers.{Answer, done, options, long, text, words, room, code, value, numbered}
-use Rattle.rudignals.specs.Format.{mostBytes, outputOf, tooMany, digest, longParagraph, withDigest, withWords, withText, damageIn, withNotes, withBlock, answer}
+use Rattle.rudignals.specs.Format.{mostBytes, outputOf, tooMany, digest, longParagraph, withWords, withText, damageIn, withNotes, withBlock, answer}
 use Rattle.rudignals.specs.Call.{Goes, told, numberOf}
 use Rattle.rudignals.proofs.Meaning.{Means, means}
 use Rattle.rudignals.proofs.Bound.{formatted-most}
+use Rattle.rudignals.proofs.Faults.{fault-small}
 use Rattle.rudignals.proofs.Loop.{outputFrom, longFrom, all-output, all-long, output-none, long-none, output-more, long-more, long-here}
 
 -- ---- a piece
@@ -130,7 +131,7 @@ module _ (o : Opts) (notes : List ℕ) (least : 1 ≤ o .tab) (most : o .tab ≤
 long-value : (o : Opts) (notes : List ℕ) (space : ℕ) → 65536 < length notes → value (withNotes o notes space) ≡ 0
 long-value o notes space h = rw (withNotes, lt-ltb mostBytes (length notes) h)
 
-pub answer-value : (block notes : List ℕ) (space : ℕ) → value (answer block notes space) ≤ max (length block) 655360000
+pub answer-value : (block notes : List ℕ) (space : ℕ) → value (answer block notes space) ≤ 655360000
 unfolding answer meant
 answer-value block notes space = go (readBlock block) refl
   where
@@ -140,9 +141,9 @@ answer-value block notes space = go (readBlock block) refl
         let k = accepted block o e in
         notes-value (meant block o) notes (k .tabLeast) (k .tabMost) (ltb-false 65536 (length notes) t) (k .splitClears) space
 
-    go : (b : Block) → readBlock block ≡ b → value (withBlock block notes space b) ≤ max (length block) 655360000
-    go (Fault place) e = omega (arith, fault-within block place e)
-    go (Accepted o) e = omega (arith, short o e (ltb 65536 (length notes)) refl)
+    go : (b : Block) → readBlock block ≡ b → value (withBlock block notes space b) ≤ 655360000
+    go (Fault place) e = omega (arith, fault-small block place e)
+    go (Accepted o) e = short o e (ltb 65536 (length notes)) refl
 
 code-most : (a : Answer) → code a ≤ 5
 code-most (done digest) = omega arith
@@ -152,15 +153,14 @@ code-most (text place) = omega arith
 code-most (words place) = omega arith
 code-most (room needed) = omega arith
 
--- Code and value can be read back from the number, for every block of less than 2 to the 32nd bytes.
-pub the-answer-tells-code-and-value : (block notes : List ℕ) (space : ℕ) → length block < 2 ^ 32
+-- Code and value can be read back from the number, whatever the block, the notes and the room.
+pub the-answer-tells-code-and-value : (block notes : List ℕ) (space : ℕ)
     → (numbered (answer block notes space) / 2 ^ 32 ≡ code (answer block notes space)) × (numbered (answer block notes space) % 2 ^ 32 ≡ value (answer block notes space))
 unfolding numbered
-the-answer-tells-code-and-value block notes space h =
-    let v = answer-value block notes space in
-    (omega arith, omega arith)
+the-answer-tells-code-and-value block notes space = let v = answer-value block notes space in (omega arith, omega arith)
 
--- the code's number is the answer's
+-- ---- the code's number
+
 pub told-number : (a : Answer) → numberOf (told a) ≡ numbered a
 unfolding numbered
 told-number (done digest) = omega arith
@@ -170,10 +170,9 @@ told-number (text place) = omega arith
 told-number (words place) = omega arith
 told-number (room needed) = omega arith
 
--- and fits 64 bits
-pub told-fits : (block notes : List ℕ) (space : ℕ) → length block < 2 ^ 63 → numberOf (told (answer block notes space)) < 2 ^ 64
+pub told-fits : (block notes : List ℕ) (space : ℕ) → numberOf (told (answer block notes space)) < 2 ^ 64
 unfolding numbered
-told-fits block notes space h =
+told-fits block notes space =
     let v = answer-value block notes space in
     let c = code-most (answer block notes space) in
     rw told-number (omega arith)

@@ -1,8 +1,7 @@
 -- `rudignals::put_paragraph` meets its contract.
-use mathlib.Core.Path.{_≡_, refl, sym, _∙_}
+use mathlib.Core.Path.{refl}
 use native.Mathlib.Omega.{arith}
 use borrow.Author.Needs.{needs}
-use denote.Ref.{now}
 use Rattle.rudignals.proofs.Steps.{limits-of, split-many, split-few, emitted-is, wrote-as}
 use Rattle.rudignals.proofs.put_paragraph.Statement.{statement}
 use Rattle.rudignals.proofs.put_paragraph.Tie as tie

@@ -1,6 +1,5 @@
 -- `rudignals::rudignals_format` meets its contract.
 use mathlib.Core.Path.{ap, _∙_}
-use native.Mathlib.Omega.{arith}
 use borrow.Author.Needs.{needs}
 use Rattle.rudignals.specs.Call.{numberOf}
 use Rattle.rudignals.proofs.Values.{told-number, told-fits}
@@ -11,7 +10,7 @@ answer-to-requires : tie.Need-answer-to-requires
 answer-to-requires c κs = search needs
 
 number-of-requires : tie.Need-number-of-requires
-number-of-requires c κs = rw (c .before .before .answer-to .ensures .is) (told-fits _ _ _ (omega (arith, c .before .before .before .before .before .before .before .good .0 .1)))
+number-of-requires c κs = rw (c .before .before .answer-to .ensures .is) (told-fits _ _ _)
 
 same-length : tie.Need-same-length
 same-length c = search needs
