@@ -15,7 +15,7 @@ use Rattle.options.specs.declared.Options.{Options}
 use Rattle.options.proofs.Accepted.{Kept, accepted}
 use Rattle.lines.specs.Places.{Usable}
 use Rattle.lines.proofs.Usable.{usable}
-use Rattle.pieces.specs.Pieces.{Paragraph, blankLine, plainLine, paragraph}
+use Rattle.pieces.specs.Pieces.{Indent, Paragraph, blankLine, plainLine, paragraph}
 use Rattle.pieces.specs.Places.{Cleared, pieceAt}
 use Rattle.pieces.specs.declared.Margin.{Margin}
 use Rattle.pieces.specs.declared.Paragraph.{Paragraph as ParagraphAt}
@@ -88,7 +88,7 @@ module _ (o : Opts) (notes out : List ℕ) (c : Cursor) (out′ : List ℕ) (nex
 
 module _ (block notes : List ℕ) (o : Options) (ready : Ready block notes o) (nextMail : Bool) (at : ℕ) (p : ParagraphAt) (q : Paragraph)
     (goes : Goes (meant block o) nextMail notes at (paragraph q) (p .mail) (p .next)) (text : TextIs (meant block o) notes at p q) where
-  margin-in : (m : Margin) {i : _} → MarginIs notes at (p .next) m i → MarginIn (length notes) m
+  margin-in : (m : Margin) {i : Indent} → MarginIs notes at (p .next) m i → MarginIn (length notes) m
   margin-in m h = record { order = h .order; end = omega (arith, h .high, goes .within); more = omega (arith, h .more) }
 
   pub text-placed : Placed notes at o p

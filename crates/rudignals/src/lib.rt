@@ -8,19 +8,19 @@ use spacing::Setting;
 use text::Found;
 use words::Count;
 ghost use mathlib.Core.Path.{_≡_};
-ghost use mathlib.Core.Bool.{true, false, _||_};
+ghost use mathlib.Core.Bool.{_||_};
 ghost use mathlib.Core.List.{List};
-ghost use Prim.Native.Nat.{ℕ, _+_, _*_, _^_, _≤_, _<_};
+ghost use Prim.Native.Nat.{ℕ, _^_, _≤_, _<_};
 ghost use lib.ListN.{length, replicate};
 ghost use Rattle.options.specs.Opts.{meant};
 ghost use Rattle.options.specs.OptionBlock.{readBlock};
 ghost use Rattle.options.specs.declared.Block.the-variants.{Accepted};
+ghost use Rattle.pieces.specs.Pieces.{pieces};
 ghost use Rattle.knuth_plass.specs.Table.{tables};
 ghost use Rattle.knuth_plass.specs.Round.{Limits, Wide, Lent};
 ghost use Rattle.rudignals.specs.Answers.{numbered, outputAfter};
-ghost use Rattle.pieces.specs.Pieces.{pieces};
 ghost use Rattle.rudignals.specs.Format.{answer, withNotes, withWords, longParagraph};
-ghost use Rattle.rudignals.specs.Call.{told, numberOf, damageFor, Answers, Stepped, Scratch, Ready, settingIn, Broken, Placed, TextStepped, Finished};
+ghost use Rattle.rudignals.specs.Call.{numberOf, damageFor, Answers, Stepped, Scratch, Ready, settingIn, Broken, Placed, TextStepped, Finished};
 
 // What the call answers: the digest's length, or a refusal with what is told of it.
 pub enum Answer {
@@ -51,7 +51,7 @@ enum Ended {
     Stopped(usize),
 }
 
-// What a host calls. The answer's code is in the upper 32 bits and its number in the lower.
+// What a host calls: the answer's number, and the output as the answer leaves it.
 #[no_mangle]
 pub extern "C" fn rudignals_format(options: &[u8], notes: &[u8], output: &mut [u8]) -> u64
     ensures { λ r. ⌜ (r ≡ numbered (answer (now (options .entry)) (now (notes .entry)) (length (now (output .entry))))) × (now (output .exit) ≡ outputAfter (answer (now (options .entry)) (now (notes .entry)) (length (now (output .entry)))) (now (output .entry))) ⌝ }
@@ -59,18 +59,21 @@ pub extern "C" fn rudignals_format(options: &[u8], notes: &[u8], output: &mut [u
     number_of(answer_to(options, notes, output))
 }
 
-// The answer's number: its code times 2 to the 32nd, and what is told.
+// The answer's code stands in the upper 32 bits of its number, what it tells in the lower.
+const UPPER: u64 = 4294967296;
+
+// The answer's number.
 fn number_of(a: Answer) -> u64
     requires { ⌜ numberOf a < 2 ^ 64 ⌝ }
     ensures { λ r. ⌜ r ≡ numberOf a ⌝ }
 {
     match a {
         Answer::Done(n) => n as u64,
-        Answer::Options(place) => 1 * 4294967296 + place as u64,
-        Answer::Long => 2 * 4294967296,
-        Answer::Text(place) => 3 * 4294967296 + place as u64,
-        Answer::Words(place) => 4 * 4294967296 + place as u64,
-        Answer::Room(needed) => 5 * 4294967296 + needed as u64,
+        Answer::Options(place) => 1 * UPPER + place as u64,
+        Answer::Long => 2 * UPPER,
+        Answer::Text(place) => 3 * UPPER + place as u64,
+        Answer::Words(place) => 4 * UPPER + place as u64,
+        Answer::Room(needed) => 5 * UPPER + needed as u64,
     }
 }
 
@@ -143,7 +146,7 @@ fn format_notes(o: Options, block: &[u8], notes: &[u8], out: &mut [u8]) -> Answe
     }
 }
 
-// Writes what fits of all pieces, and counts what is needed. It goes on when there is no room left, since too many words come before that.
+// Writes what fits of all pieces, and counts what is needed. It goes on when no room is left: too many words, found later, take precedence.
 fn put_all(
     o: Options,
     block: &[u8],
