@@ -1,4 +1,4 @@
--- How long emission gets at most: the first indent, the bytes of the words with their blanks, for each word an indent and two bytes, a line feed.
+-- Emission is no longer than its bound says.
 use mathlib.Core.Bool.{Bool, true, false}
 use mathlib.Core.List.{List, [], _∷_}
 use Prim.Native.Nat.{ℕ, _+_, _*_, _≤_}
@@ -8,16 +8,12 @@ use lib.ListN.{length, length-append, length-replicate}
 use Rattle.records.specs.Word.{Word}
 use Rattle.records.specs.Table.{wordsIn}
 use Rattle.records.specs.Marks.{breaksIn}
-use Rattle.records.proofs.Table.{words-length}
 use Rattle.spacing.proofs.Laws.{added-most}
 use Rattle.output.specs.declared.Layout.{Layout}
+use Rattle.output.specs.Bound.{bulk, most, mostEmitted}
 use Rattle.output.specs.Emission.{spaceBefore, emitRest, emit}
+use Rattle.output.specs.Sink.{Wrote}
 use Rattle.output.specs.Writers.{marginOf, emitted}
-
--- the bytes of the words and their blanks
-unfoldable pub bulk : List Word → ℕ
-bulk [] = 0
-bulk (w ∷ ws) = length (w .blanks) + length (w .text) + bulk ws
 
 space-most : (uniform punct : Bool) (w : Word) → length (spaceBefore uniform punct w) ≤ length (w .blanks) + 2
 unfolding spaceBefore
@@ -41,13 +37,16 @@ module _ (uniform : Bool) (indent : List ℕ) where
       rw (length-append, length-append, suc-mul) (omega arith)
 
   pub emit-most : (first : List ℕ) (breaks : List Bool) (ws : List Word)
-      → length (emit uniform first indent breaks ws) ≤ length first + bulk ws + length ws * (length indent + 2) + 1
+      → length (emit uniform first indent breaks ws) ≤ most first indent ws
   unfolding emit bulk
   emit-most first breaks [] = omega arith
   emit-most first breaks (w ∷ ws) = let r = rest-most false breaks ws in rw (length-append, length-append, suc-mul) (omega arith)
 
 -- the same of what a table means
-pub emitted-most : (notes table : List ℕ) (n : ℕ) (marks : List Bool) (l : Layout) → length (emitted notes table n marks l)
-    ≤ length (marginOf notes (l .first)) + bulk (wordsIn notes n table) + n * (length (marginOf notes (l .indent)) + 2) + 1
-emitted-most notes table n marks l =
-    rw words-length at (emit-most (l .uniform) (marginOf notes (l .indent)) (marginOf notes (l .first)) (breaksIn n marks) (wordsIn notes n table))
+pub emitted-most : (notes table : List ℕ) (n : ℕ) (marks : List Bool) (l : Layout) → length (emitted notes table n marks l) ≤ mostEmitted notes table n l
+emitted-most notes table n marks l = emit-most (l .uniform) (marginOf notes (l .indent)) (marginOf notes (l .first)) (breaksIn n marks) (wordsIn notes n table)
+
+-- so is the place behind it
+pub with-most : (notes table : List ℕ) (n : ℕ) (marks : List Bool) (l : Layout) {o o′ : List ℕ} {at r : ℕ} → Wrote o at (emitted notes table n marks l) o′ r
+    → Wrote o at (emitted notes table n marks l) o′ r × (r ≤ at + mostEmitted notes table n l)
+with-most notes table n marks l w = (w, omega (arith, w .count, emitted-most notes table n marks l))

@@ -1,3 +1,4 @@
+pub mod Bound
 pub mod Emission
 pub mod Order
 pub mod Sink

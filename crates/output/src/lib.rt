@@ -5,11 +5,12 @@ use records::Word;
 ghost use mathlib.Core.Path.{_≡_};
 ghost use mathlib.Core.Bool.{false};
 ghost use mathlib.Core.List.{_++_};
-ghost use Prim.Native.Nat.{_≤_, _<_, _^_, min};
+ghost use Prim.Native.Nat.{_+_, _-_, _≤_, _<_, _^_, min};
 ghost use lib.ListN.{length, replicate};
 ghost use lib.Seq.{slice};
 ghost use Rattle.records.specs.Word.{meaning};
 ghost use Rattle.records.specs.Table.{Within};
+ghost use Rattle.output.specs.Bound.{mostEmitted};
 ghost use Rattle.output.specs.Emission.{lineFeed};
 ghost use Rattle.output.specs.Sink.{Wrote};
 ghost use Rattle.output.specs.Writers.{marginOf, MarginIn, placed, Laid, emitted, emittedFrom};
@@ -164,7 +165,7 @@ pub fn emit(
     at: usize,
 ) -> usize
     requires { ⌜ Laid (now notes) (now table) n (now marks) l × (at < 2 ^ 62) ⌝ }
-    ensures { λ r. ⌜ Wrote (now (out .entry)) at (emitted (now (notes .entry)) (now (table .entry)) n (now (marks .entry)) l) (now (out .exit)) r ⌝ }
+    ensures { λ r. ⌜ Wrote (now (out .entry)) at (emitted (now (notes .entry)) (now (table .entry)) n (now (marks .entry)) l) (now (out .exit)) r × (r ≤ at + mostEmitted (now (notes .entry)) (now (table .entry)) n l) ⌝ }
 {
     let w = records::get(table, 0);
     let first = l.first;
@@ -176,7 +177,7 @@ pub fn emit(
 // A line of the notes as it is, and a line feed, written behind at bytes; a blank line has no bytes of its own.
 pub fn emit_line(notes: &[u8], from: usize, to: usize, out: &mut [u8], at: usize) -> usize
     requires { ⌜ (from ≤ to) × (to ≤ length (now notes)) × (length (now notes) < 2 ^ 32) × (at < 2 ^ 62) ⌝ }
-    ensures { λ r. ⌜ Wrote (now (out .entry)) at (slice from to (now (notes .entry)) ++ lineFeed) (now (out .exit)) r ⌝ }
+    ensures { λ r. ⌜ Wrote (now (out .entry)) at (slice from to (now (notes .entry)) ++ lineFeed) (now (out .exit)) r × (r ≤ at + (to - from) + 1) ⌝ }
 {
     let place = lesser(at, out.len());
     let k = at + put_text(notes, from, to, &mut out[place..]);

@@ -28,7 +28,8 @@ use Rattle.pieces.proofs.Following.{taken-more}
 use Rattle.records.specs.Word.{Word}
 use Rattle.words.specs.Words.{bytesOf, rowWords, wordsOf}
 use Rattle.words.proofs.Spelled.{Spelled, row-spelled}
-use Rattle.output.proofs.Bound.{bulk, emit-most}
+use Rattle.output.specs.Bound.{bulk, most}
+use Rattle.output.proofs.Bound.{emit-most}
 use Rattle.rudignals.specs.Format.{breaksOf, formatted}
 use Rattle.rudignals.proofs.Indents.{MarginIs}
 use Rattle.rudignals.proofs.Meaning.{TextIs}
@@ -110,12 +111,18 @@ module _ (o : Opts) (notes : List ℕ) (at : ℕ) (p : ParagraphAt) (q : Paragra
       let b = ap length (h .bytes) in
       omega (arith, h .more, h .low, h .order, h .high)
 
-  pub formatted-most : length (wordsOf o q) ≤ 1024 → length (formatted o q) + 10000 * at ≤ 10000 * p .next
-  unfolding formatted
-  formatted-most few =
-      let e = emit-most (o .uniform || q .mail) (q .indent .bytes) (q .first .bytes) (breaksOf o q (wordsOf o q)) (wordsOf o q) in
+  -- what emission promises
+  pub text-most : length (wordsOf o q) ≤ 1024 → most (q .first .bytes) (q .indent .bytes) (wordsOf o q) + 10000 * at ≤ 10000 * p .next
+  text-most few =
       let b = words-bulk in
       let f = margin-most (p .first) (q .first) (t .first) in
       let i = margin-most (p .indent) (q .indent) (t .indent) in
       let n = mul-le-mul {n₁ = length (wordsOf o q)} {n₂ = 1024} few (let z : length (q .indent .bytes) + 2 ≤ p .next - at + 6 = omega arith in z) in
       omega arith
+
+  -- and what is defined
+  pub formatted-most : length (wordsOf o q) ≤ 1024 → length (formatted o q) + 10000 * at ≤ 10000 * p .next
+  unfolding formatted
+  formatted-most few =
+      let e = emit-most (o .uniform || q .mail) (q .indent .bytes) (q .first .bytes) (breaksOf o q (wordsOf o q)) (wordsOf o q) in
+      omega (arith, text-most few)

@@ -89,14 +89,12 @@ module _ (o : Opts) (notes out₀ : List ℕ) where
     going-length = sym (length-written (c .written) out (outputFrom o (c .mail) notes (c .at))) ∙ ap length (g .left .bytes) ∙ length-written 0 out₀ (digest o notes)
 
     pub going-on : {d : Cursor} {out′ : List ℕ} → Put o notes out c d out′ → Going o notes out₀ d out′
-    going-on {d} {out′} p =
-        let w = p .wrote .count in
-        record {
-          within = p .goes .within;
-          left = left-then {d = outputOf o (p .kind)} {e = outputFrom o (d .mail) notes (d .at)} (rw (output-more o (p .goes)) at (g .left)) (p .wrote);
-          long = sym (long-more o (p .goes) (p .few)) ∙ g .long;
-          most = omega (arith, g .most, p .most);
-        }
+    going-on {d} {out′} p = record {
+      within = p .goes .within;
+      left = left-then {d = outputOf o (p .kind)} {e = outputFrom o (d .mail) notes (d .at)} (rw (output-more o (p .goes)) at (g .left)) (p .wrote);
+      long = sym (long-more o (p .goes) (p .few)) ∙ g .long;
+      most = omega (arith, g .most, p .most);
+    }
 
     pub going-over : {out′ : List ℕ} → TooLong o notes out c out′ → longParagraph o 0 (pieces o notes) ≡ At (c .at)
     going-over t = sym (g .long) ∙ long-here o (t .goes) (t .many)

@@ -2,12 +2,12 @@
 use mathlib.Core.Path.{_≡_, refl, sym, ap, _∙_}
 use mathlib.Core.Bool.{Bool, true, false, cond, _||_}
 use mathlib.Core.List.{List, [], _++_}
-use Prim.Native.Nat.{ℕ, _+_, _≤_, _<_}
+use Prim.Native.Nat.{ℕ, _+_, _-_, _≤_, _<_}
 use native.Mathlib.Omega.{arith}
 use lib.Dec.{leb}
 use lib.Ieee.{Float}
-use lib.ListN.{length, length-append}
-use lib.Seq.{slice, length-slice}
+use lib.ListN.{length}
+use lib.Seq.{slice}
 use borrow.Author.Tests.{le-ltb, lt-ltb, leb-true, leb-false}
 use Rattle.lists.proofs.Slices.{slice-is}
 use Rattle.options.specs.Opts.{Opts, meant}
@@ -30,6 +30,7 @@ use Rattle.words.specs.declared.Count.{Count}
 use Rattle.words.specs.declared.Count.the-variants.{Words, TooMany}
 use Rattle.words.proofs.Order.{paragraph-some}
 use Rattle.spacing.specs.declared.Setting.{Setting}
+use Rattle.output.specs.Bound.{most, mostEmitted}
 use Rattle.output.specs.Emission.{lineFeed, emit}
 use Rattle.output.specs.Sink.{Wrote}
 use Rattle.output.specs.Writers.{marginOf, MarginIn, emitted}
@@ -44,7 +45,7 @@ use Rattle.rudignals.specs.declared.Step.{Step}
 use Rattle.rudignals.specs.declared.Step.the-variants.{On, Over}
 use Rattle.rudignals.proofs.Indents.{MarginIs}
 use Rattle.rudignals.proofs.Meaning.{TextIs, Means, means}
-use Rattle.rudignals.proofs.Bound.{formatted-most}
+use Rattle.rudignals.proofs.Bound.{text-most}
 
 -- ---- what the block's options allow
 
@@ -68,21 +69,18 @@ module _ (block notes : List ℕ) (o : Options) (ready : Ready block notes o) wh
 -- ---- blank and plain lines
 
 module _ (o : Opts) (notes out : List ℕ) (c : Cursor) (out′ : List ℕ) (next n : ℕ) where
-  pub blank-put : Goes o (c .mail) notes (c .at) blankLine true next → Wrote out (c .written) (slice (c .at) (c .at) notes ++ lineFeed) out′ n
+  pub blank-put : Goes o (c .mail) notes (c .at) blankLine true next → Wrote out (c .written) (slice (c .at) (c .at) notes ++ lineFeed) out′ n × (n ≤ c .written + (c .at - c .at) + 1)
       → Put o notes out c (record { at = next; written = n; mail = true }) out′
   unfolding outputOf
   blank-put g w =
       let z : c .at + 0 ≡ c .at = omega arith in
       let e : slice (c .at) (c .at) notes ≡ [] = rw z at (slice-is (c .at) 0 notes) in
-      record { kind = blankLine; goes = g; few = refl; wrote = rw e at w; most = omega (arith, g .on) }
+      record { kind = blankLine; goes = g; few = refl; wrote = rw e at (w .0); most = omega (arith, g .on, w .1) }
 
-  pub plain-put : (end : ℕ) → Goes o (c .mail) notes (c .at) (plainLine (slice (c .at) end notes)) false next × (c .at ≤ end) × (end ≤ next) → Wrote out (c .written) (slice (c .at) end notes ++ lineFeed) out′ n
+  pub plain-put : (end : ℕ) → Goes o (c .mail) notes (c .at) (plainLine (slice (c .at) end notes)) false next × (c .at ≤ end) × (end ≤ next) → Wrote out (c .written) (slice (c .at) end notes ++ lineFeed) out′ n × (n ≤ c .written + (end - c .at) + 1)
       → Put o notes out c (record { at = next; written = n; mail = false }) out′
   unfolding outputOf
-  plain-put end g w =
-      let l = length-slice (c .at) end notes (omega (arith, g .0 .within)) in
-      let a = length-append (slice (c .at) end notes) lineFeed in
-      record { kind = plainLine (slice (c .at) end notes); goes = g .0; few = refl; wrote = w; most = omega (arith, g .0 .on) }
+  plain-put end g w = record { kind = plainLine (slice (c .at) end notes); goes = g .0; few = refl; wrote = w .0; most = omega (arith, g .0 .on, g .1, g .2, w .1) }
 
 -- ---- paragraphs
 
@@ -121,6 +119,9 @@ module _ (block notes : List ℕ) (o : Options) (ready : Ready block notes o) (n
   unfolding formatted breaksOf settingOf meant
   formatted-is = rw (text .words, text .mail, text .first .bytes, text .indent .bytes, text .first .columns, text .indent .columns)
 
+  most-is : most (marginOf notes (p .first)) (marginOf notes (p .indent)) (wordsFor block notes at o p) ≡ most (q .first .bytes) (q .indent .bytes) (wordsOf (meant block o) q)
+  most-is = rw (text .words, text .first .bytes, text .indent .bytes)
+
   words-count : length (wordsOf (meant block o) q) ≡ length (wordsFor block notes at o p)
   words-count = ap length (text .words)
 
@@ -131,7 +132,7 @@ module _ (block notes : List ℕ) (o : Options) (ready : Ready block notes o) (n
     goes = rw (a, m, w .next, w .mail) (goes);
     few = rw words-count (le-ltb 1024 (length (wordsFor block notes at o p)) (w .few));
     wrote = rw formatted-is (w .wrote);
-    most = rw (a, w .next) (formatted-most (meant block o) notes at p q (text) (goes .on) (goes .within) (omega (arith, words-count, w .few)));
+    most = rw (a, w .next) (omega (arith, w .most, most-is, text-most (meant block o) notes at p q text (goes .on) (goes .within) (omega (arith, words-count, w .few))));
   }
 
   pub text-stepped : (out : List ℕ) (c : Cursor) (out′ : List ℕ) (r : Step) → c .at ≡ at → c .mail ≡ nextMail → TextStepped notes at o p out (c .written) out′ r block → Stepped (meant block o) notes out c out′ r
@@ -189,6 +190,11 @@ pub emitted-is : (notes table : List ℕ) (n : ℕ) (marks : List Bool) (l : Lay
     → l .uniform ≡ uniform → l .first ≡ first → l .indent ≡ indent → wordsIn notes n table ≡ ws → breaksIn n marks ≡ broken fast₀ g₀ (wordsIn notes n table) → fast₀ ≡ fast → g₀ ≡ g
     → emitted notes table n marks l ≡ emit uniform (marginOf notes first) (marginOf notes indent) (broken fast g ws) ws
 emitted-is notes table n marks l u f i w b k s = rw (u, f, i, b, w, k, s)
+
+-- and so is its bound
+pub most-as : (notes table : List ℕ) (n : ℕ) (l : Layout) (written : ℕ) {first indent : Margin} {ws : List Word} {r : ℕ} → l .first ≡ first → l .indent ≡ indent → wordsIn notes n table ≡ ws
+    → r ≤ written + mostEmitted notes table n l → r ≤ written + most (marginOf notes first) (marginOf notes indent) ws
+most-as notes table n l written f i w h = rw (f, i, w) at h
 
 pub wrote-as : {o o′ d e : List ℕ} {n n′ : ℕ} → d ≡ e → Wrote o n d o′ n′ → Wrote o n e o′ n′
 wrote-as q w = rw (← q) w

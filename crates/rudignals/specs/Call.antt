@@ -24,6 +24,7 @@ use Rattle.records.specs.Marks.{breaksIn}
 use Rattle.words.specs.Places.{wordsAt}
 use Rattle.words.specs.Split.{AllBegin}
 use Rattle.spacing.specs.declared.Setting.{Setting}
+use Rattle.output.specs.Bound.{most}
 use Rattle.output.specs.Emission.{emit}
 use Rattle.output.specs.Sink.{Wrote}
 use Rattle.output.specs.Writers.{marginOf, MarginIn}
@@ -90,7 +91,7 @@ pub record Put (o : Opts) (notes out : List ℕ) (c d : Cursor) (out′ : List �
   pub goes : Goes o (c .mail) notes (c .at) kind (d .mail) (d .at)
   pub few : tooMany o kind ≡ false
   pub wrote : Wrote out (c .written) (outputOf o kind) out′ (d .written)
-  pub most : length (outputOf o kind) + 10000 * c .at ≤ 10000 * d .at
+  pub most : d .written + 10000 * c .at ≤ c .written + 10000 * d .at
 
 -- a paragraph has too many words, and the output is as it was
 pub record TooLong (o : Opts) (notes out : List ℕ) (c : Cursor) (out′ : List ℕ) : Type 0 where
@@ -166,6 +167,7 @@ pub record TextPut (notes : List ℕ) (at : ℕ) (o : Options) (p : Paragraph) (
   pub wrote : Wrote out written
       (emit (o .uniform || p .mail) (marginOf notes (p .first)) (marginOf notes (p .indent)) (broken (o .quick || p .mail) (settingIn o p) (wordsFor block notes at o p)) (wordsFor block notes at o p))
       out′ (d .written)
+  pub most : d .written ≤ written + most (marginOf notes (p .first)) (marginOf notes (p .indent)) (wordsFor block notes at o p)
 
 abbrev pub TextStepped : List ℕ → ℕ → Options → Paragraph → List ℕ → ℕ → List ℕ → Step → List ℕ → Type 0
 TextStepped notes at o p out written out′ (On d) block = TextPut notes at o p out written out′ d block

@@ -2,6 +2,7 @@
 use native.Mathlib.Omega.{arith}
 use borrow.Author.Needs.{needs}
 use Rattle.output.proofs.Sink.{wrote-then, wrote-part}
+use Rattle.output.proofs.Bound.{with-most}
 use Rattle.output.proofs.Emission.{turn-within, first-most, emit-first}
 use Rattle.output.proofs.emit.Statement.{statement}
 use Rattle.output.proofs.emit.Tie as tie
@@ -43,10 +44,11 @@ same-length c = search needs
 
 returns : tie.Need-returns
 returns c =
-    rw (emit-first _ _ _ _ _ _ (c .before .before .before .before .before .before .before .before .before .before .get .ensures .is) (c .before .before .before .before .before .before .before .before .before .before .before .before .before .pre .0 .some))
+    with-most _ _ _ _ (c .before .before .before .before .before .before .before .before .before .before .before .before .before .args .l)
+    (rw (emit-first _ _ _ _ _ _ (c .before .before .before .before .before .before .before .before .before .before .get .ensures .is) (c .before .before .before .before .before .before .before .before .before .before .before .before .before .pre .0 .some))
     (wrote-then
     (wrote-part _ _ _ _ _ _ (c .before .before .before .before .before .before .before .before .lesser .ensures) (c .before .before .before .before .before .before .put-first .ensures))
-    (c .before .before .emit-rest .ensures))
+    (c .before .before .emit-rest .ensures)))
 
 pub emit-spec : {M : Type 1} → statement M
 emit-spec =

@@ -54,9 +54,13 @@ same-length c = search needs
 
 returns : tie.Need-returns
 returns c =
-    wrote-then
-    (wrote-part _ _ _ _ _ _ (c .before .before .before .before .before .before .before .before .before .lesser .ensures) (c .before .before .before .before .before .before .before .put-text .ensures))
-    (wrote-part _ _ _ _ _ _ (c .before .before .before .before .lesser2 .ensures) (c .before .before .put-feed .ensures))
+    let s = c .before .before .before .before .before .before .before .before .before .before .before .before in
+    let t = length-slice (s .args .from) (s .args .to) (now (s .args .notes)) (s .pre .1) in (
+      wrote-then
+          (wrote-part _ _ _ _ _ _ (c .before .before .before .before .before .before .before .before .before .lesser .ensures) (c .before .before .before .before .before .before .before .put-text .ensures))
+          (wrote-part _ _ _ _ _ _ (c .before .before .before .before .lesser2 .ensures) (c .before .before .put-feed .ensures)),
+      omega (arith, c .before .before .before .before .before .before .before .put-text .ensures .count, c .before .before .put-feed .ensures .count),
+    )
 
 pub emit-line-spec : {M : Type 1} → statement M
 emit-line-spec =

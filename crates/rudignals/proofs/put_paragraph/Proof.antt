@@ -2,7 +2,7 @@
 use mathlib.Core.Path.{refl}
 use native.Mathlib.Omega.{arith}
 use borrow.Author.Needs.{needs}
-use Rattle.rudignals.proofs.Steps.{limits-of, split-many, split-few, emitted-is, wrote-as}
+use Rattle.rudignals.proofs.Steps.{limits-of, split-many, split-few, emitted-is, wrote-as, most-as}
 use Rattle.rudignals.proofs.put_paragraph.Statement.{statement}
 use Rattle.rudignals.proofs.put_paragraph.Tie as tie
 
@@ -74,7 +74,8 @@ returns-2 c =
         few = split-few (s block) _ w .1;
         next = refl;
         mail = refl;
-        wrote = wrote-as (emitted-is _ _ _ _ _ (l .0) (l .1) (l .2) (s block .words _ w) (b .says _) (c .before .before .before .before .before .before .before .before .before .before .before .before .before .before .either .ensures) (c .before .before .before .before .before .before .before .before .before .before .before .before .before .setting-of .ensures)) (c .before .before .emit .ensures);
+        wrote = wrote-as (emitted-is _ _ _ _ _ (l .0) (l .1) (l .2) (s block .words _ w) (b .says _) (c .before .before .before .before .before .before .before .before .before .before .before .before .before .before .either .ensures) (c .before .before .before .before .before .before .before .before .before .before .before .before .before .setting-of .ensures)) (c .before .before .emit .ensures .0);
+        most = most-as _ _ _ (c .before .before .before .before .layout-of .result) _ (l .1) (l .2) (s block .words _ w) (c .before .before .emit .ensures .1);
       },
       record { sized = s (p .0 .block) .sized; lent = b .lent },
     )
