@@ -15,26 +15,30 @@ use Rattle.records.proofs.Marks.{marks-here}
 use Rattle.spacing.specs.Spacing.{addedSpace}
 use Rattle.output.specs.declared.Layout.{Layout}
 use Rattle.output.specs.Emission.{lineFeed, spaceBefore, emitRest, emit}
-use Rattle.output.specs.Sink.{Wrote, Left}
+use Rattle.output.specs.Sink.{Wrote}
 use Rattle.output.specs.Writers.{marginOf, placed, Laid, emitted, emittedFrom}
-use Rattle.output.proofs.Sink.{wrote-then, left-then}
+use Rattle.output.proofs.Sink.{wrote-then}
 use Rattle.output.proofs.Writers.{margin-most}
 
--- ---- one word
+-- ---- one word, and the notes behind it
 
 module _ (notes : List ℕ) (w : Record) (added : ℕ) (indent : List ℕ) (within : Within (length notes) w) where
-  pub word-fresh : {o o′ o″ : List ℕ} {k r : ℕ} → Wrote o 0 (lineFeed ++ indent) o′ k → Wrote o′ k (slice (w .start) (w .end) notes) o″ r
-      → Wrote o 0 (placed true added indent (meaning notes w)) o″ r
-  unfolding placed meaning
-  word-fresh p q = wrote-then p q
-
-  joined : placed false added indent (meaning notes w) ≡ replicate added 32 ++ slice (w .from) (w .end) notes
+  pub joined : placed false added indent (meaning notes w) ≡ replicate added 32 ++ slice (w .from) (w .end) notes
   unfolding placed meaning
   joined = rw (append-assoc, slice-join (w .from) (w .start) (w .end) notes (within .gap) (within .text) (within .end))
 
-  pub word-joined : {o o′ o″ : List ℕ} {k r : ℕ} → Wrote o 0 (replicate added 32) o′ k → Wrote o′ k (slice (w .from) (w .end) notes) o″ r
-      → Wrote o 0 (placed false added indent (meaning notes w)) o″ r
-  word-joined p q = rw joined (wrote-then p q)
+  module _ (end : ℕ) (order : w .end ≤ end) (high : end ≤ length notes) where
+    pub word-fresh : {o o′ o″ : List ℕ} {k r : ℕ} → Wrote o 0 (lineFeed ++ indent) o′ k → Wrote o′ k (slice (w .start) end notes) o″ r
+        → Wrote o 0 (placed true added indent (meaning notes w) ++ slice (w .end) end notes) o″ r
+    unfolding placed meaning
+    word-fresh p q = rw (append-assoc, slice-join (w .start) (w .end) end notes (within .text) order high) (wrote-then p q)
+
+    pub word-joined : {o o′ o″ : List ℕ} {k r : ℕ} → Wrote o 0 (replicate added 32) o′ k → Wrote o′ k (slice (w .from) end notes) o″ r
+        → Wrote o 0 (placed false added indent (meaning notes w) ++ slice (w .end) end notes) o″ r
+    word-joined p q =
+        let g = within .gap in
+        let t = within .text in
+        rw (joined, append-assoc, slice-join (w .from) (w .end) end notes (omega arith) order high) (wrote-then p q)
 
   pub placed-most : (fresh : Bool) → added ≤ 2 → length (placed fresh added indent (meaning notes w)) ≤ length notes + length indent + 2
   unfolding placed meaning
@@ -53,31 +57,23 @@ rest-cons : (uniform : Bool) (indent : List ℕ) (punct b : Bool) (bs : List Boo
 unfolding emitRest placed spaceBefore
 rest-cons uniform indent punct b bs w ws = rw append-assoc
 
--- record i of the table lies in the notes; it adds little enough for every sum; and what is left when it is written
+-- record i of the table lies in the notes; it adds little enough for every sum; and what the words from it on give
 module _ {notes table : List ℕ} {n : ℕ} {marks : List Bool} {l : Layout} {i : ℕ} {w : Record} (laid : Laid notes table n marks l) (got : Got table i w) (more : i < n) where
   pub turn-within : Within (length notes) w
   turn-within = rw (got .is) (laid .words i more)
 
-  pub turn-most : (fresh : Bool) (added : ℕ) {o o′ : List ℕ} {r : ℕ} → added ≤ 2
-      → Wrote o 0 (placed fresh added (marginOf notes (l .indent)) (meaning notes w)) o′ r → r ≤ 2 ^ 34
-  turn-most fresh added h q =
+  pub turn-most : (fresh : Bool) (added end : ℕ) {o o′ : List ℕ} {r : ℕ} → added ≤ 2 → end ≤ length notes
+      → Wrote o 0 (placed fresh added (marginOf notes (l .indent)) (meaning notes w) ++ slice (w .end) end notes) o′ r → r ≤ 2 ^ 34
+  turn-most fresh added end h k q =
       let m = margin-most notes (l .indent) (laid .indent) in
       let b = placed-most notes w added (marginOf notes (l .indent)) turn-within fresh h in
+      let t = length-slice (w .end) end notes k in
+      let a = length-append (placed fresh added (marginOf notes (l .indent)) (meaning notes w)) (slice (w .end) end notes) in
       let s = laid .small in
       let e = q .count in
       omega arith
 
-  pub first-most : {o o′ : List ℕ} {r : ℕ} → Wrote o 0 (marginOf notes (l .first) ++ meaning notes w .text) o′ r → r ≤ 2 ^ 34
-  unfolding meaning
-  first-most q =
-      let m = margin-most notes (l .first) (laid .first) in
-      let t = length-slice (w .start) (w .end) notes (turn-within .end) in
-      let s = laid .small in
-      let a = length-append (marginOf notes (l .first)) (slice (w .start) (w .end) notes) in
-      let e = q .count in
-      omega arith
-
-  rest-turn : (punct : Bool) → emittedFrom notes table n marks l punct i
+  pub rest-turn : (punct : Bool) → emittedFrom notes table n marks l punct i
       ≡ placed (getD marks i false) (addedSpace (l .uniform) (w .first) (w .sentence) punct) (marginOf notes (l .indent)) (meaning notes w)
       ++ emittedFrom notes table n marks l (w .punct) (i + 1)
   unfolding meaning
@@ -86,12 +82,6 @@ module _ {notes table : List ℕ} {n : ℕ} {marks : List Bool} {l : Layout} {i 
       rw (marks-here marks i n more marked, words-drop notes n table i more, ← got .is)
       (rest-cons (l .uniform) (marginOf notes (l .indent)) punct _ _ (meaning notes w) _)
 
-  pub turn-left : (punct : Bool) (added : ℕ) {o₀ o o′ : List ℕ} {n₀ k k′ : ℕ} {d₀ : List ℕ} → added ≡ addedSpace (l .uniform) (w .first) (w .sentence) punct
-      → Left o₀ n₀ d₀ o k (emittedFrom notes table n marks l punct i)
-      → Wrote o k (placed (getD marks i false) added (marginOf notes (l .indent)) (meaning notes w)) o′ k′
-      → Left o₀ n₀ d₀ o′ k′ (emittedFrom notes table n marks l (w .punct) (i + 1))
-  turn-left punct added a p q = left-then (rw rest-turn at p) (rw a at q)
-
 module _ (notes table : List ℕ) (n : ℕ) (marks : List Bool) (l : Layout) where
   pub rest-end : (punct : Bool) (i : ℕ) → n ≤ i → emittedFrom notes table n marks l punct i ≡ lineFeed
   unfolding emitRest
@@ -99,8 +89,17 @@ module _ (notes table : List ℕ) (n : ℕ) (marks : List Bool) (l : Layout) whe
 
   -- the first word, and the rest
   pub emit-first : (w : Record) → w ≡ wordIn table 0 → 0 < n
-      → emitted notes table n marks l ≡ (marginOf notes (l .first) ++ meaning notes w .text) ++ emittedFrom notes table n marks l false 1
+      → emitted notes table n marks l ≡ marginOf notes (l .first) ++ (meaning notes w .text ++ emittedFrom notes table n marks l false 1)
   unfolding emit
   emit-first w e h =
       let view : wordsIn notes n table ≡ meaning notes (wordIn table 0) ∷ drop 1 (wordsIn notes n table) = words-drop notes n table 0 h in
-      rw (append-assoc, e, view)
+      rw (e, view)
+
+  pub first-most : (from to : ℕ) {o o′ : List ℕ} {r : ℕ} → Laid notes table n marks l → to ≤ length notes → Wrote o 0 (marginOf notes (l .first) ++ slice from to notes) o′ r → r ≤ 2 ^ 34
+  first-most from to laid h q =
+      let m = margin-most notes (l .first) (laid .first) in
+      let t = length-slice from to notes h in
+      let s = laid .small in
+      let a = length-append (marginOf notes (l .first)) (slice from to notes) in
+      let e = q .count in
+      omega arith

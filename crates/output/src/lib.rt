@@ -3,7 +3,7 @@
 use pieces::Margin;
 use records::Word;
 ghost use mathlib.Core.Path.{_≡_};
-ghost use mathlib.Core.Bool.{false};
+ghost use mathlib.Core.Bool.{true, false};
 ghost use mathlib.Core.List.{_++_};
 ghost use Prim.Native.Nat.{_+_, _-_, _≤_, _<_, _^_, min};
 ghost use lib.ListN.{length, replicate};
@@ -14,6 +14,7 @@ ghost use Rattle.output.specs.Bound.{mostEmitted};
 ghost use Rattle.output.specs.Emission.{lineFeed};
 ghost use Rattle.output.specs.Sink.{Wrote};
 ghost use Rattle.output.specs.Writers.{marginOf, MarginIn, placed, Laid, emitted, emittedFrom};
+ghost use Rattle.output.specs.Runs.{Joins, Runs};
 
 // How a paragraph is laid out: uniform spacing, and its two indents.
 pub struct Layout {
@@ -90,19 +91,20 @@ pub fn put_break(notes: &[u8], indent: Margin, rest: &mut [u8]) -> usize
     k + put_margin(notes, indent, &mut rest[place..])
 }
 
-// A word and what stands before it: on a fresh line the line feed and the indent, else added spaces and its blanks.
+// A word with what stands before it, and the notes behind it up to end: on a fresh line the line feed and the indent, else added spaces
+// and its blanks.
 pub fn put_word(
     notes: &[u8],
     w: Word,
+    end: usize,
     fresh: bool,
     added: usize,
     indent: Margin,
     rest: &mut [u8],
 ) -> usize
-    requires { ⌜ Within (length (now notes)) w × MarginIn (length (now notes)) indent × (length (now notes) < 2 ^ 32) × (added ≤ 2) ⌝ }
-    ensures { λ r. ⌜ Wrote (now (rest .entry)) 0 (placed fresh added (marginOf (now (notes .entry)) indent) (meaning (now (notes .entry)) w)) (now (rest .exit)) r ⌝ }
+    requires { ⌜ Within (length (now notes)) w × MarginIn (length (now notes)) indent × (length (now notes) < 2 ^ 32) × (added ≤ 2) × (w .end ≤ end) × (end ≤ length (now notes)) ⌝ }
+    ensures { λ r. ⌜ Wrote (now (rest .entry)) 0 (placed fresh added (marginOf (now (notes .entry)) indent) (meaning (now (notes .entry)) w) ++ slice (w .end) end (now (notes .entry))) (now (rest .exit)) r ⌝ }
 {
-    let end = w.end;
     if fresh {
         let k = put_break(notes, indent, rest);
         let place = lesser(k, rest.len());
@@ -113,42 +115,116 @@ pub fn put_word(
     k + put_text(notes, w.from, end, &mut rest[place..])
 }
 
-// The first word, bare behind the first indent.
-pub fn put_first(notes: &[u8], w: Word, first: Margin, rest: &mut [u8]) -> usize
-    requires { ⌜ Within (length (now notes)) w × MarginIn (length (now notes)) first × (length (now notes) < 2 ^ 32) ⌝ }
-    ensures { λ r. ⌜ Wrote (now (rest .entry)) 0 (marginOf (now (notes .entry)) first ++ meaning (now (notes .entry)) w .text) (now (rest .exit)) r ⌝ }
+// The first word and the notes behind it, bare behind the first indent.
+pub fn put_first(notes: &[u8], from: usize, to: usize, first: Margin, rest: &mut [u8]) -> usize
+    requires { ⌜ (from ≤ to) × (to ≤ length (now notes)) × MarginIn (length (now notes)) first × (length (now notes) < 2 ^ 32) ⌝ }
+    ensures { λ r. ⌜ Wrote (now (rest .entry)) 0 (marginOf (now (notes .entry)) first ++ slice from to (now (notes .entry))) (now (rest .exit)) r ⌝ }
 {
     let k = put_margin(notes, first, rest);
     let place = lesser(k, rest.len());
-    k + put_text(notes, w.start, w.end, &mut rest[place..])
+    k + put_text(notes, from, to, &mut rest[place..])
 }
 
-// The words behind the first, and the line feed at the end.
+// Words that stand in the notes just as they are to be written, so that they are written as one piece: the number of the word behind
+// them, where they end in the notes, and the mark of the last of them.
+struct Run {
+    next: usize,
+    end: usize,
+    punct: bool,
+}
+
+// Whether so many bytes of the notes are spaces, two at most.
+fn all_spaces(notes: &[u8], at: usize, count: usize) -> bool
+    requires { ⌜ (count ≤ 2) × (at + count ≤ length (now notes)) ⌝ }
+    ensures { λ r. ⌜ (r ≡ true → slice at (at + count) (now (notes .entry)) ≡ replicate count 32) ⌝ }
+{
+    if count == 0 {
+        return true;
+    }
+    if notes[at] != 32 {
+        return false;
+    }
+    if count == 1 {
+        return true;
+    }
+    notes[at + 1] == 32
+}
+
+// Whether a word's bytes, with what goes before it, do not stand in the notes from end on.
+fn apart(notes: &[u8], w: Word, fresh: bool, added: usize, end: usize) -> bool
+    requires { ⌜ Within (length (now notes)) w × (end ≤ length (now notes)) × (length (now notes) < 2 ^ 32) × (added ≤ 2) ⌝ }
+    ensures { λ r. ⌜ (r ≡ false → Joins (now (notes .entry)) w fresh added end) ⌝ }
+{
+    if fresh {
+        return true;
+    }
+    if end + added != w.from {
+        return true;
+    }
+    !all_spaces(notes, end, added)
+}
+
+// The run that word i continues, which reaches up to end so far: punct is the mark of its last word.
+fn run_from(
+    notes: &[u8],
+    table: &[u32; 8192],
+    n: usize,
+    marks: &[bool; 1024],
+    l: Layout,
+    end: usize,
+    punct: bool,
+    i: usize,
+) -> Run
+    requires { ⌜ Laid (now notes) (now table) n (now marks) l × (end ≤ length (now notes)) × (i ≤ n) ⌝ }
+    ensures { λ r. ⌜ Runs (now (notes .entry)) (now (table .entry)) n (now (marks .entry)) l end punct i r ⌝ }
+{
+    let mut r = Run {
+        next: i,
+        end,
+        punct,
+    };
+    while r.next < n {
+        let j = r.next;
+        let w = records::get(table, j);
+        let added = spacing::added_space(l.uniform, w.first, w.sentence, r.punct);
+        let fresh = marks[j];
+        if apart(notes, w, fresh, added, r.end) {
+            return r;
+        }
+        r = Run {
+            next: j + 1,
+            end: w.end,
+            punct: w.punct,
+        };
+    }
+    r
+}
+
+// The words behind the first run, and the line feed at the end.
 fn emit_rest(
     notes: &[u8],
     table: &[u32; 8192],
     n: usize,
     marks: &[bool; 1024],
     l: Layout,
+    first: Run,
     out: &mut [u8],
     at: usize,
 ) -> usize
-    requires { ⌜ Laid (now notes) (now table) n (now marks) l × (at < 2 ^ 63) ⌝ }
-    ensures { λ r. ⌜ Wrote (now (out .entry)) at (emittedFrom (now (notes .entry)) (now (table .entry)) n (now (marks .entry)) l false 1) (now (out .exit)) r ⌝ }
+    requires { ⌜ Laid (now notes) (now table) n (now marks) l × (first .next ≤ n) × (at < 2 ^ 63) ⌝ }
+    ensures { λ r. ⌜ Wrote (now (out .entry)) at (emittedFrom (now (notes .entry)) (now (table .entry)) n (now (marks .entry)) l (first .punct) (first .next)) (now (out .exit)) r ⌝ }
 {
     let indent = l.indent;
     let mut k = at;
-    // The first word's own punctuation does not count.
-    let mut punct = false;
-    let mut i = 1;
-    while i < n {
+    let mut r = first;
+    while r.next < n {
+        let i = r.next;
         let w = records::get(table, i);
-        let added = spacing::added_space(l.uniform, w.first, w.sentence, punct);
+        let added = spacing::added_space(l.uniform, w.first, w.sentence, r.punct);
         let fresh = marks[i];
+        r = run_from(notes, table, n, marks, l, w.end, w.punct, i + 1);
         let place = lesser(k, out.len());
-        k += put_word(notes, w, fresh, added, indent, &mut out[place..]);
-        punct = w.punct;
-        i += 1;
+        k += put_word(notes, w, r.end, fresh, added, indent, &mut out[place..]);
     }
     let place = lesser(k, out.len());
     k + put_feed(&mut out[place..])
@@ -169,9 +245,11 @@ pub fn emit(
 {
     let w = records::get(table, 0);
     let first = l.first;
+    // The first word's own punctuation does not count.
+    let run = run_from(notes, table, n, marks, l, w.end, false, 1);
     let place = lesser(at, out.len());
-    let k = at + put_first(notes, w, first, &mut out[place..]);
-    emit_rest(notes, table, n, marks, l, out, k)
+    let k = at + put_first(notes, w.start, run.end, first, &mut out[place..]);
+    emit_rest(notes, table, n, marks, l, run, out, k)
 }
 
 // A line of the notes as it is, and a line feed, written behind at bytes; a blank line has no bytes of its own.

@@ -1,14 +1,20 @@
 -- `output::emit` meets its contract.
 use native.Mathlib.Omega.{arith}
 use borrow.Author.Needs.{needs}
-use Rattle.output.proofs.Sink.{wrote-then, wrote-part}
+use Rattle.output.proofs.Sink.{wrote-part}
 use Rattle.output.proofs.Bound.{with-most}
-use Rattle.output.proofs.Emission.{turn-within, first-most, emit-first}
+use Rattle.output.proofs.Emission.{turn-within, first-most}
+use Rattle.output.proofs.Runs.{first-wrote}
 use Rattle.output.proofs.emit.Statement.{statement}
 use Rattle.output.proofs.emit.Tie as tie
 
 get-requires : tie.Need-get-requires
 get-requires c κs = search needs
+
+run-from-requires : tie.Need-run-from-requires
+run-from-requires c κs =
+    let p = c .before .before .before .before .pre .0 in
+    (p, turn-within p (c .before .get .ensures) (p .some) .end, p .some)
 
 lesser-requires : tie.Need-lesser-requires
 lesser-requires c κs = search needs
@@ -24,37 +30,38 @@ part-put-first-end c = search needs
 
 put-first-requires : tie.Need-put-first-requires
 put-first-requires c κs =
-    let p = c .before .before .before .before .before .before .pre .0 in
-    (turn-within p (c .before .before .before .get .ensures) (p .some), p .first, p .small)
+    let p = c .before .before .before .before .before .before .before .pre .0 in
+    let r = c .before .before .run-from .ensures in
+    (omega (arith, turn-within p (c .before .before .before .before .get .ensures) (p .some) .text, r .order), r .within, p .first, p .small)
 
 add-k : tie.Need-add-k
-add-k c =
-    let s = c .before .before .before .before .before .before .before .before .before in
-    let b = first-most (s .pre .0) (c .before .before .before .before .before .before .get .ensures) (s .pre .0 .some) (c .before .before .put-first .ensures) in
-    omega arith
+add-k c = omega (arith, first-most _ _ _ _ _ (c .before .before .before .before .before .before .before .get .result .start) _ (c .before .before .before .before .before .before .before .before .before .before .pre .0) (c .before .before .before .before .before .run-from .ensures .within) (c .before .before .put-first .ensures))
 
 emit-rest-requires : tie.Need-emit-rest-requires
 emit-rest-requires c κs =
-    let s = c .before .before .before .before .before .before .before .before .before .before in
-    let b = first-most (s .pre .0) (c .before .before .before .before .before .before .before .get .ensures) (s .pre .0 .some) (c .before .before .before .put-first .ensures) in
-    (s .pre .0, omega arith)
+    let p = c .before .before .before .before .before .before .before .before .before .before .before .pre in
+    let r = c .before .before .before .before .before .before .run-from .ensures in
+    (p .0, r .few, omega (arith, p .1, first-most _ _ _ _ _ (c .before .before .before .before .before .before .before .before .get .result .start) _ (p .0) (r .within) (c .before .before .before .put-first .ensures)))
 
 same-length : tie.Need-same-length
 same-length c = search needs
 
 returns : tie.Need-returns
 returns c =
-    with-most _ _ _ _ (c .before .before .before .before .before .before .before .before .before .before .before .before .before .args .l)
-    (rw (emit-first _ _ _ _ _ _ (c .before .before .before .before .before .before .before .before .before .before .get .ensures .is) (c .before .before .before .before .before .before .before .before .before .before .before .before .before .pre .0 .some))
-    (wrote-then
+    with-most _ _ _ _ (c .before .before .before .before .before .before .before .before .before .before .before .before .before .before .args .l)
+    (first-wrote
+    (c .before .before .before .before .before .before .before .before .before .before .before .before .before .before .pre .0)
+    (c .before .before .before .before .before .before .before .before .before .before .before .get .ensures)
+    (c .before .before .before .before .before .before .before .before .before .run-from .ensures)
     (wrote-part _ _ _ _ _ _ (c .before .before .before .before .before .before .before .before .lesser .ensures) (c .before .before .before .before .before .before .put-first .ensures))
-    (c .before .before .emit-rest .ensures)))
+    (c .before .before .emit-rest .ensures))
 
 pub emit-spec : {M : Type 1} → statement M
 emit-spec =
     tie.close
     (tie.spec
     get-requires
+    run-from-requires
     lesser-requires
     sub-put-first
     part-put-first-start

@@ -1,5 +1,4 @@
--- `output::emit_rest` meets its contract. Invariant: what is left to write is what the words from i on give; each turn adds less than 2 ^ 34.
-use mathlib.Core.Bool.{false}
+-- `output::emit_rest` meets its contract. Invariant: what is left to write is what the words behind the run give; each turn adds less than 2 ^ 34.
 use mathlib.Core.Path.{_≡_, refl, _∙_}
 use Prim.Native.Nat.{_≤_, _-_, _+_, _*_, _^_}
 use native.Mathlib.Omega.{arith}
@@ -8,23 +7,23 @@ use lib.ListN.{length}
 use Rattle.output.specs.Sink.{Left}
 use Rattle.output.specs.Writers.{emittedFrom}
 use Rattle.output.proofs.Sink.{wrote-length, wrote-part, left-first, left-last}
-use Rattle.output.proofs.Emission.{turn-within, turn-most, rest-end, turn-left}
+use Rattle.output.proofs.Emission.{turn-within, turn-most, rest-end}
+use Rattle.output.proofs.Runs.{turn-left}
 use Rattle.output.proofs.emit_rest.Statement.{statement}
 use Rattle.output.proofs.emit_rest.Tie as tie
 
 abbrev Inv-loop : tie.InvT-loop
-Inv-loop notes table n marks l out₀ at indent k₀ punct₀ i₀ out k punct i =
-    (i ≤ n) × (k ≤ 2 ^ 63 + i * 2 ^ 34) × (length out ≡ length out₀)
-    × Left out₀ at (emittedFrom notes table n marks l false 1) out k (emittedFrom notes table n marks l punct i)
+Inv-loop notes table n marks l out₀ at indent k₀ r₀ out k r =
+    (r .next ≤ n) × (k ≤ 2 ^ 63 + r .next * 2 ^ 34) × (length out ≡ length out₀)
+    × Left out₀ at (emittedFrom notes table n marks l (r₀ .punct) (r₀ .next)) out k (emittedFrom notes table n marks l (r .punct) (r .next))
 
 abbrev μ-loop : tie.MeasureT-loop
-μ-loop notes table n marks l out₀ at indent k₀ punct₀ i₀ out k punct i = n - i
+μ-loop notes table n marks l out₀ at indent k₀ r₀ out k r = n - r .next
 
 -- what a turn adds
 most : (c : tie.After-slice-known2 Inv-loop μ-loop) → c .before .before .put-word .result ≤ 2 ^ 34
 most c =
-    let a = c .before .before .before .before .before .before in
-    turn-most (a .before .before .before .before .before .before .before .pre .0) (a .before .get .ensures) (a .before .before .loop-test .taken) _ _ (a .added-space .ensures .most) (c .before .before .put-word .ensures)
+    turn-most (c .before .before .before .before .before .before .before .before .before .before .before .before .before .before .before .pre .0) (c .before .before .before .before .before .before .before .before .get .ensures) (c .before .before .before .before .before .before .before .before .before .if1 .taken) _ _ _ (c .before .before .before .before .before .before .before .added-space .ensures .most) (c .before .before .before .before .before .run-from .ensures .within) (c .before .before .put-word .ensures)
 
 loop-holds : tie.Need-loop-holds Inv-loop μ-loop
 loop-holds c = (omega arith, omega arith, refl, left-first _ _ _)
@@ -37,6 +36,14 @@ added-space-requires c κs = search needs
 
 element-copy-out-fresh : tie.Need-element-copy-out-fresh Inv-loop μ-loop
 element-copy-out-fresh c = omega arith
+
+add-run-from : tie.Need-add-run-from Inv-loop μ-loop
+add-run-from c = omega arith
+
+run-from-requires : tie.Need-run-from-requires Inv-loop μ-loop
+run-from-requires c κs =
+    let p = c .before .before .before .before .before .before .before .before .before .pre .0 in
+    (p, turn-within p (c .before .before .get .ensures) (c .before .before .before .if1 .taken) .end, omega arith)
 
 lesser-requires : tie.Need-lesser-requires Inv-loop μ-loop
 lesser-requires c κs = search needs
@@ -52,28 +59,25 @@ part-put-word-end c = omega arith
 
 put-word-requires : tie.Need-put-word-requires Inv-loop μ-loop
 put-word-requires c κs =
-    let a = c .before .before .before in
-    let p = a .before .before .before .before .before .before .before .pre .0 in
-    (turn-within p (a .before .get .ensures) (a .before .before .loop-test .taken), p .indent, p .small, a .added-space .ensures .most)
+    let p = c .before .before .before .before .before .before .before .before .before .before .before .before .pre .0 in
+    let r = c .before .before .run-from .ensures in
+    (turn-within p (c .before .before .before .before .before .get .ensures) (c .before .before .before .before .before .before .if1 .taken), p .indent, p .small, c .before .before .before .before .added-space .ensures .most, r .order, r .within)
 
 add-k : tie.Need-add-k Inv-loop μ-loop
-add-k c = let b = most c in omega arith
-
-add-i : tie.Need-add-i Inv-loop μ-loop
-add-i c = omega arith
+add-k c = omega (arith, most c, c .before .before .before .before .before .before .before .before .before .before .before .loop .inv .1, c .before .before .before .before .before .before .before .before .before .if1 .taken, c .before .before .before .before .before .before .before .before .before .before .before .before .before .before .before .pre .0 .few)
 
 loop-less : tie.Need-loop-less Inv-loop μ-loop
-loop-less c = omega arith
+loop-less c = let r = c .before .before .before .before .before .run-from .ensures in omega (arith, r .on, r .few)
 
 loop-again : tie.Need-loop-again Inv-loop μ-loop
 loop-again c =
-    let a = c .before .before .before .before .before .before in
-    let l = a .before .before .before .loop in
+    let l = c .before .before .before .before .before .before .before .before .before .before .before .loop in
+    let r = c .before .before .before .before .before .run-from .ensures in
     let b = most c in (
-      omega arith,
-      omega arith,
+      r .few,
+      omega (arith, r .on),
       wrote-length (wrote-part _ (l .k) _ _ _ _ (c .before .before .before .before .lesser .ensures) (c .before .before .put-word .ensures)) ∙ l .inv .2,
-      turn-left (a .before .before .before .before .before .before .before .pre .0) (a .before .get .ensures) (a .before .before .loop-test .taken) _ _ (a .added-space .ensures .is) (l .inv .3)
+      turn-left (c .before .before .before .before .before .before .before .before .before .before .before .before .before .before .before .pre .0) (c .before .before .before .before .before .before .before .before .get .ensures) (c .before .before .before .before .before .before .before .before .before .if1 .taken) _ _ (c .before .before .before .before .before .before .before .added-space .ensures .is) r (l .inv .3)
           (wrote-part _ _ _ _ _ _ (c .before .before .before .before .lesser .ensures) (c .before .before .put-word .ensures)),
     )
 
@@ -97,14 +101,14 @@ add-result c = omega (arith, c .before .before .put-feed .ensures .count)
 
 same-length : tie.Need-same-length Inv-loop μ-loop
 same-length c =
-    let l = c .before .before .before .before .before .before .loop in
+    let l = c .before .before .before .before .before .before .before .loop in
     wrote-length (wrote-part _ (l .k) _ _ _ _ (c .before .before .before .before .lesser2 .ensures) (c .before .before .put-feed .ensures)) ∙ l .inv .2
 
 returns : tie.Need-returns Inv-loop μ-loop
 returns c =
-    let l = c .before .before .before .before .before .before .loop in
+    let l = c .before .before .before .before .before .before .before .loop in
     left-last
-    (rw (rest-end _ _ _ _ _ _ _ (c .before .before .before .before .before .loop-test .left)) at (l .inv .3))
+    (rw (rest-end _ _ _ _ _ _ _ (c .before .before .before .before .before .if1 .left)) at (l .inv .3))
     (wrote-part _ _ _ _ _ _ (c .before .before .before .before .lesser2 .ensures) (c .before .before .put-feed .ensures))
 
 pub emit-rest-spec : {M : Type 1} → statement M
@@ -117,13 +121,14 @@ emit-rest-spec =
     get-requires
     added-space-requires
     element-copy-out-fresh
+    add-run-from
+    run-from-requires
     lesser-requires
     sub-put-word
     part-put-word-start
     part-put-word-end
     put-word-requires
     add-k
-    add-i
     loop-less
     loop-again
     lesser-requires-2

@@ -3,7 +3,6 @@ use native.Mathlib.Omega.{arith}
 use borrow.Author.Needs.{needs}
 use denote.Ref.{now}
 use lib.Seq.{length-slice}
-use Rattle.records.specs.Word.{meaning}
 use Rattle.output.proofs.Sink.{wrote-then, wrote-part}
 use Rattle.output.proofs.Writers.{margin-most}
 use Rattle.output.proofs.put_first.Statement.{statement}
@@ -30,16 +29,14 @@ put-text-requires c κs = search needs
 add-result : tie.Need-add-result
 add-result c =
     let s = c .before .before .before .before .before .before .before .before .before .before .before in
-    let w = s .args .w in
-    let m = margin-most (now (s .args .notes)) (s .args .first) (s .pre .1) in
-    let t = length-slice (w .start) (w .end) (now (s .args .notes)) (s .pre .0 .end) in
+    let m = margin-most (now (s .args .notes)) (s .args .first) (s .pre .2) in
+    let t = length-slice (s .args .from) (s .args .to) (now (s .args .notes)) (s .pre .1) in
     omega (arith, c .before .before .before .before .before .before .before .put-margin .ensures .count, c .before .before .put-text .ensures .count)
 
 same-length : tie.Need-same-length
 same-length c = search needs
 
 returns : tie.Need-returns
-unfolding meaning
 returns c =
     wrote-then
     (c .before .before .before .before .before .before .before .put-margin .ensures)

@@ -32,9 +32,8 @@ put-text-requires c κs = search needs
 add-result : tie.Need-add-result
 add-result c =
     let s = c .before .before .before .before .before .before .before .before .before .before .before .before in
-    let w = s .args .w in
     let m = margin-most (now (s .args .notes)) (s .args .indent) (s .pre .1) in
-    let t = length-slice (w .start) (w .end) (now (s .args .notes)) (s .pre .0 .end) in
+    let t = length-slice (s .args .w .start) (s .args .end) (now (s .args .notes)) (s .pre .5) in
     omega (arith, c .before .before .before .before .before .before .before .put-break .ensures .count, c .before .before .put-text .ensures .count)
 
 same-length : tie.Need-same-length
@@ -44,7 +43,7 @@ returns : tie.Need-returns
 returns c =
     let s = c .before .before .before .before .before .before .before .before .before .before .before .before in
     rw (c .before .before .before .before .before .before .before .before .before .if1 .taken)
-    (word-fresh (now (s .args .notes)) (s .args .w) _ _ (s .pre .0)
+    (word-fresh (now (s .args .notes)) (s .args .w) _ _ (s .pre .0) _ (s .pre .4) (s .pre .5)
     (c .before .before .before .before .before .before .before .put-break .ensures)
     (wrote-part _ _ _ _ _ _ (c .before .before .before .before .lesser .ensures) (c .before .before .put-text .ensures)))
 
@@ -69,9 +68,8 @@ put-text-requires-2 c κs = search needs
 add-result-2 : tie.Need-add-result-2
 add-result-2 c =
     let s = c .before .before .before .before .before .before .before .before .before .before .before .before in
-    let w = s .args .w in
     let n = length-replicate {A = ℕ} (s .args .added) 32 in
-    let t = length-slice (w .from) (w .end) (now (s .args .notes)) (s .pre .0 .end) in
+    let t = length-slice (s .args .w .from) (s .args .end) (now (s .args .notes)) (s .pre .5) in
     omega (arith, c .before .before .before .before .before .before .before .put-spaces .ensures .count, c .before .before .put-text2 .ensures .count)
 
 same-length-2 : tie.Need-same-length-2
@@ -81,7 +79,7 @@ returns-2 : tie.Need-returns-2
 returns-2 c =
     let s = c .before .before .before .before .before .before .before .before .before .before .before .before in
     rw (c .before .before .before .before .before .before .before .before .before .if1 .left)
-    (word-joined (now (s .args .notes)) (s .args .w) _ _ (s .pre .0)
+    (word-joined (now (s .args .notes)) (s .args .w) _ _ (s .pre .0) _ (s .pre .4) (s .pre .5)
     (c .before .before .before .before .before .before .before .put-spaces .ensures)
     (wrote-part _ _ _ _ _ _ (c .before .before .before .before .lesser2 .ensures) (c .before .before .put-text2 .ensures)))
 
