@@ -66,9 +66,9 @@ impl Row {
 }
 
 /// The goal that the original takes for a width.
-fn setting(width: usize) -> Setting {
+fn setting(width: usize, uniform: bool) -> Setting {
     let goal = fmt_cube::options(vec!["-w".to_string(), width.to_string()]).goal;
-    Setting { width, goal }
+    Setting { width, goal, uniform }
 }
 
 /// Both sides write the same bytes, or nothing that follows is worth anything. Answers whether the original with powf
@@ -102,8 +102,8 @@ fn all<'a>(text: &'a Text, g: Setting) -> Vec<Span<'a>> {
 
 fn measure(milliseconds: usize) -> Vec<Row> {
     let mut rows = Vec::new();
-    for (name, kind, words, width) in TEXTS {
-        let g = setting(width);
+    for (name, kind, words, width, uniform) in TEXTS {
+        let g = setting(width, uniform);
         let text = Text::new(kind, words, g);
         if !compare(&text, g) {
             println!("{name} {words} {width}: the original with powf breaks a paragraph elsewhere");
@@ -167,8 +167,8 @@ fn print(rows: &[Row]) {
 
 /// One span over one text, many times: for a profiler.
 fn once(text: usize, span: &str, calls: usize) {
-    let (_, kind, words, width) = TEXTS[text];
-    let g = setting(width);
+    let (_, kind, words, width, uniform) = TEXTS[text];
+    let g = setting(width, uniform);
     let text = Text::new(kind, words, g);
     let mut spans = all(&text, g);
     let (_, f) = spans.iter_mut().find(|(name, _)| *name == span).expect("no such span");

@@ -64,6 +64,7 @@ const TAB: usize = 8;
 pub struct Setting {
     pub width: usize,
     pub goal: usize,
+    pub uniform: bool,
 }
 
 /// The paragraphs of a text, with their words split and their breaks found, so that each layer can be timed alone. The
@@ -89,7 +90,7 @@ impl Text {
         let mut text = Text { paragraphs: Vec::new(), tables: Vec::new(), marks: Vec::new(), group };
         for i in 0..GROUPS * group {
             let notes = kind(&mut draw, words);
-            assert_eq!(split(&notes, &mut room.table), words, "the words of a paragraph");
+            assert_eq!(split(&notes, g, &mut room.table), words, "the words of a paragraph");
             best(&room.table, words, g, &mut room.work, &mut room.marks);
             text.tables.extend(&room.table[..words * 8]);
             text.marks.extend(&room.marks[..words]);
@@ -147,32 +148,32 @@ impl Room {
 // Each wrapper asks what its layer asks: at most 65,536 bytes of notes and 1,024 words, and the option block's limits of
 // width, goal and tab. The texts keep to that; their indents are empty.
 
-fn split(notes: &[u8], table: &mut Table) -> usize {
-    unsafe { layers_split(notes.as_ptr(), notes.len(), 0, 0, TAB, false, table) }
+fn split(notes: &[u8], g: Setting, table: &mut Table) -> usize {
+    unsafe { layers_split(notes.as_ptr(), notes.len(), 0, 0, TAB, g.uniform, table) }
 }
 
 fn quick(table: &Table, n: usize, g: Setting, marks: &mut Marks) {
-    unsafe { layers_quick(table, n, g.width, g.goal, TAB, false, 0, 0, marks) }
+    unsafe { layers_quick(table, n, g.width, g.goal, TAB, g.uniform, 0, 0, marks) }
 }
 
 fn best(table: &Table, n: usize, g: Setting, work: &mut Work, marks: &mut Marks) {
     let Work { breaks, ratios, active } = work;
-    unsafe { layers_best(table, n, g.width, g.goal, TAB, false, 0, 0, breaks, ratios, active, marks) }
+    unsafe { layers_best(table, n, g.width, g.goal, TAB, g.uniform, 0, 0, breaks, ratios, active, marks) }
 }
 
-fn emit(notes: &[u8], table: &Table, n: usize, marks: &Marks, out: &mut [u8]) -> usize {
-    unsafe { layers_emit(notes.as_ptr(), notes.len(), table, n, marks, false, 0, 0, out.as_mut_ptr(), out.len()) }
+fn emit(notes: &[u8], table: &Table, n: usize, g: Setting, marks: &Marks, out: &mut [u8]) -> usize {
+    unsafe { layers_emit(notes.as_ptr(), notes.len(), table, n, marks, g.uniform, 0, 0, out.as_mut_ptr(), out.len()) }
 }
 
 /// A paragraph's output by all layers in turn.
 pub fn format(notes: &[u8], g: Setting, is_quick: bool, room: &mut Room) -> usize {
-    let n = split(notes, &mut room.table);
+    let n = split(notes, g, &mut room.table);
     if is_quick {
         quick(&room.table, n, g, &mut room.marks);
     } else {
         best(&room.table, n, g, &mut room.work, &mut room.marks);
     }
-    emit(notes, &room.table, n, &room.marks, &mut room.out)
+    emit(notes, &room.table, n, g, &room.marks, &mut room.out)
 }
 
 /// A name, and a call that goes once over some groups of a text.
@@ -189,21 +190,21 @@ pub fn layers<'a>(text: &'a Text, g: Setting) -> Vec<Span<'a>> {
         };
         spans.push((name, Box::new(span)));
     };
-    add("split", |_, p, _, r| {
-        black_box(split(&p.notes, &mut r.table));
+    add("split", |_, p, g, r| {
+        black_box(split(&p.notes, g, &mut r.table));
     });
     add("quick", |t, p, g, r| quick(t.table(p), p.n, g, &mut r.marks));
     add("best", |t, p, g, r| best(t.table(p), p.n, g, &mut r.work, &mut r.marks));
-    add("emit", |t, p, _, r| {
-        black_box(emit(&p.notes, t.table(p), p.n, t.marks(p), &mut r.out));
+    add("emit", |t, p, g, r| {
+        black_box(emit(&p.notes, t.table(p), p.n, g, t.marks(p), &mut r.out));
     });
     add("quick+emit", |t, p, g, r| {
         quick(t.table(p), p.n, g, &mut r.marks);
-        black_box(emit(&p.notes, t.table(p), p.n, &r.marks, &mut r.out));
+        black_box(emit(&p.notes, t.table(p), p.n, g, &r.marks, &mut r.out));
     });
     add("best+emit", |t, p, g, r| {
         best(t.table(p), p.n, g, &mut r.work, &mut r.marks);
-        black_box(emit(&p.notes, t.table(p), p.n, &r.marks, &mut r.out));
+        black_box(emit(&p.notes, t.table(p), p.n, g, &r.marks, &mut r.out));
     });
     add("split+quick+emit", |_, p, g, r| {
         black_box(format(&p.notes, g, true, r));
@@ -225,6 +226,9 @@ macro_rules! original {
                 let mut args = vec!["-w".to_string(), g.width.to_string(), "-g".to_string(), g.goal.to_string()];
                 if is_quick {
                     args.push("-q".to_string());
+                }
+                if g.uniform {
+                    args.push("-u".to_string());
                 }
                 $build::options(args)
             }

@@ -51,18 +51,20 @@ fn letters(draw: &mut Draw, words: usize) -> Vec<u8> {
 
 pub type Kind = fn(&mut Draw, usize) -> Vec<u8>;
 
-/// The texts: name, generator, words a paragraph, width. The goal is what the original takes for the width.
-pub const TEXTS: [(&str, Kind, usize, usize); 10] = [
-    ("prose", prose, 10, 79),
-    ("prose", prose, 100, 79),
-    ("prose", prose, 1000, 79),
-    ("prose", prose, 1024, 79),
-    ("prose", prose, 1000, 1000),
-    ("prose", prose, 1000, 20),
-    ("letters", letters, 10, 79),
-    ("letters", letters, 1024, 79),
-    ("letters", letters, 1024, 1000),
-    ("letters", letters, 1024, 20),
+/// The texts: name, generator, words a paragraph, width, uniform spacing. The goal is what the original takes for the width.
+pub const TEXTS: [(&str, Kind, usize, usize, bool); 12] = [
+    ("prose", prose, 10, 79, false),
+    ("prose", prose, 100, 79, false),
+    ("prose", prose, 1000, 79, false),
+    ("prose", prose, 1024, 79, false),
+    ("prose", prose, 1000, 1000, false),
+    ("prose", prose, 1000, 20, false),
+    ("letters", letters, 10, 79, false),
+    ("letters", letters, 1024, 79, false),
+    ("letters", letters, 1024, 1000, false),
+    ("letters", letters, 1024, 20, false),
+    ("prose -u", prose, 1000, 79, true),
+    ("lett. -u", letters, 1024, 79, true),
 ];
 
 /// Each text has eight groups of paragraphs, all different, of about 1,000 words a group: too many for the processor to
