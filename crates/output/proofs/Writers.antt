@@ -1,10 +1,10 @@
--- The laws of the writers' loops: what is left of a text of the notes and of a run of spaces.
+-- The laws of the writers: what is left of a row of spaces, and how long an indent gets.
 use mathlib.Core.Path.{_≡_}
 use mathlib.Core.List.{List, [], _∷_}
 use Prim.Native.Nat.{ℕ, suc, _+_, _-_, _≤_, _<_, _^_}
 use native.Mathlib.Omega.{arith}
-use lib.ListN.{length, getD, set, replicate, length-append, length-replicate}
-use lib.Seq.{slice, slice-cons, length-slice}
+use lib.ListN.{length, set, replicate, length-append, length-replicate}
+use lib.Seq.{length-slice}
 use Rattle.pieces.specs.declared.Margin.{Margin}
 use Rattle.output.specs.Sink.{Left}
 use Rattle.output.specs.Writers.{marginOf, MarginIn}
@@ -13,12 +13,6 @@ use Rattle.output.proofs.Sink.{wrote-byte, left-then}
 -- a turn of a loop that stores one byte
 pub left-byte : {o₀ o : List ℕ} {n₀ n : ℕ} {d₀ d e : List ℕ} (x : ℕ) → n < length o → d ≡ x ∷ e → Left o₀ n₀ d₀ o n d → Left o₀ n₀ d₀ (set o n x) (n + 1) e
 left-byte {o} {n} {e} x h s l = left-then {d = x ∷ []} {e = e} (rw s at l) (wrote-byte o n x h)
-
-pub text-here : (notes : List ℕ) (from to k : ℕ) → from + k < to → to ≤ length notes
-    → slice (from + k) to notes ≡ getD notes (from + k) 0 ∷ slice (from + (k + 1)) to notes
-text-here notes from to k h l =
-    let e : from + (k + 1) ≡ suc (from + k) = omega arith in
-    rw e (slice-cons (from + k) to notes 0 h l)
 
 pub spaces-here : (count k x : ℕ) → k < count → replicate (count - k) x ≡ x ∷ replicate (count - (k + 1)) x
 spaces-here count k x h =

@@ -6,7 +6,7 @@ ghost use mathlib.Core.Path.{_≡_};
 ghost use mathlib.Core.Bool.{true, false};
 ghost use mathlib.Core.List.{_++_};
 ghost use Prim.Native.Nat.{_+_, _-_, _≤_, _<_, _^_, min};
-ghost use lib.ListN.{length, replicate};
+ghost use lib.ListN.{length, take, replicate};
 ghost use lib.Seq.{slice};
 ghost use Rattle.records.specs.Word.{meaning};
 ghost use Rattle.records.specs.Table.{Within};
@@ -34,18 +34,74 @@ fn lesser(a: usize, b: usize) -> usize
     b
 }
 
-// Bytes of the notes: a word, with the blanks before it or bare, or the bytes of an indent.
+// The first eight bytes of a text, all read before the first is stored, so that they move as one.
+fn copy_eight(text: &[u8], rest: &mut [u8])
+    requires { ⌜ (8 ≤ length (now text)) × (8 ≤ length (now rest)) ⌝ }
+    ensures { λ _. ⌜ Wrote (now (rest .entry)) 0 (take 8 (now (text .entry))) (now (rest .exit)) 8 ⌝ }
+{
+    let b0 = text[0];
+    let b1 = text[1];
+    let b2 = text[2];
+    let b3 = text[3];
+    let b4 = text[4];
+    let b5 = text[5];
+    let b6 = text[6];
+    let b7 = text[7];
+    rest[0] = b0;
+    rest[1] = b1;
+    rest[2] = b2;
+    rest[3] = b3;
+    rest[4] = b4;
+    rest[5] = b5;
+    rest[6] = b6;
+    rest[7] = b7;
+}
+
+// A text of eight bytes or more. The last eight may be partly written already; they are the same bytes.
+fn copy_long(text: &[u8], rest: &mut [u8])
+    requires { ⌜ (8 ≤ length (now text)) × (length (now text) ≤ length (now rest)) ⌝ }
+    ensures { λ _. ⌜ Wrote (now (rest .entry)) 0 (now (text .entry)) (now (rest .exit)) (length (now (text .entry))) ⌝ }
+{
+    let last = text.len() - 8;
+    let mut k = 0;
+    while k < last {
+        copy_eight(&text[k..], &mut rest[k..]);
+        k += 8;
+    }
+    copy_eight(&text[last..], &mut rest[last..]);
+}
+
+fn copy_short(text: &[u8], rest: &mut [u8])
+    requires { ⌜ length (now text) ≤ length (now rest) ⌝ }
+    ensures { λ _. ⌜ Wrote (now (rest .entry)) 0 (now (text .entry)) (now (rest .exit)) (length (now (text .entry))) ⌝ }
+{
+    let mut k = 0;
+    while k < text.len() {
+        rest[k] = text[k];
+        k += 1;
+    }
+}
+
+// A text, to where there is room for it.
+fn copy(text: &[u8], rest: &mut [u8])
+    requires { ⌜ length (now text) ≤ length (now rest) ⌝ }
+    ensures { λ _. ⌜ Wrote (now (rest .entry)) 0 (now (text .entry)) (now (rest .exit)) (length (now (text .entry))) ⌝ }
+{
+    if text.len() < 8 {
+        copy_short(text, rest);
+        return;
+    }
+    copy_long(text, rest);
+}
+
+// Bytes of the notes: words, with the blanks before them or bare, or the bytes of an indent.
 pub fn put_text(notes: &[u8], from: usize, to: usize, rest: &mut [u8]) -> usize
     requires { ⌜ (from ≤ to) × (to ≤ length (now notes)) ⌝ }
     ensures { λ r. ⌜ Wrote (now (rest .entry)) 0 (slice from to (now (notes .entry))) (now (rest .exit)) r ⌝ }
 {
     let size = to - from;
-    let fits = lesser(size, rest.len());
-    let mut k = 0;
-    while k < fits {
-        rest[k] = notes[from + k];
-        k += 1;
-    }
+    let end = from + lesser(size, rest.len());
+    copy(&notes[from..end], rest);
     size
 }
 

@@ -1,78 +1,48 @@
--- `output::put_text` meets its contract. Invariant: what is left to write is the text from the place reached.
-use mathlib.Core.Path.{_≡_, refl}
-use Prim.Native.Nat.{_≤_, _-_, _+_}
-use native.Mathlib.Nat.{add-zero}
-use native.Mathlib.Omega.{arith}
+-- `output::put_text` meets its contract.
 use borrow.Author.Needs.{needs}
-use denote.Ref.{now}
-use lib.ListN.{length, length-set}
-use lib.Seq.{slice, length-slice}
-use Rattle.output.specs.Sink.{Left}
-use Rattle.output.proofs.Sink.{left-first, left-done}
-use Rattle.output.proofs.Writers.{left-byte, text-here}
+use Rattle.output.proofs.Copies.{text-wrote}
 use Rattle.output.proofs.put_text.Statement.{statement}
 use Rattle.output.proofs.put_text.Tie as tie
 
-abbrev Inv-loop : tie.InvT-loop
-Inv-loop notes from to rest₀ size fits k₀ rest k =
-    (k ≤ fits) × (length rest ≡ length rest₀) × Left rest₀ 0 (slice from to notes) rest k (slice (from + k) to notes)
+sub-size : tie.Need-sub-size
+sub-size c = search needs
 
-abbrev μ-loop : tie.MeasureT-loop
-μ-loop notes from to rest₀ size fits k₀ rest k = fits - k
-
-sub-size : tie.Need-sub-size Inv-loop μ-loop
-sub-size c = omega arith
-
-lesser-requires : tie.Need-lesser-requires Inv-loop μ-loop
+lesser-requires : tie.Need-lesser-requires
 lesser-requires c κs = search needs
 
-loop-holds : tie.Need-loop-holds Inv-loop μ-loop
-loop-holds c = (omega arith, refl, rw add-zero (left-first _ _ _))
+add-end : tie.Need-add-end
+add-end c = search needs
 
-add-rest : tie.Need-add-rest Inv-loop μ-loop
-add-rest c = omega arith
+sub-copy : tie.Need-sub-copy
+sub-copy c = search needs
 
-shared-slice-read-rest : tie.Need-shared-slice-read-rest Inv-loop μ-loop
-shared-slice-read-rest c = omega arith
+part-copy-start : tie.Need-part-copy-start
+part-copy-start c = search needs
 
-slice-write-rest : tie.Need-slice-write-rest Inv-loop μ-loop
-slice-write-rest c = omega arith
+part-copy-end : tie.Need-part-copy-end
+part-copy-end c = search needs
 
-add-k : tie.Need-add-k Inv-loop μ-loop
-add-k c = omega arith
+copy-requires : tie.Need-copy-requires
+copy-requires c κs = search needs
 
-loop-less : tie.Need-loop-less Inv-loop μ-loop
-loop-less c = omega arith
+same-length : tie.Need-same-length
+same-length c = search needs
 
-loop-again : tie.Need-loop-again Inv-loop μ-loop
-loop-again c =
-    let a = c .before .before .before .before .before .before .args in
-    let l = c .before .before .loop in (
-      omega arith,
-      simp length-set (l .inv .1),
-      left-byte _ (omega arith) (text-here (now (a .notes)) (a .from) (a .to) (l .k) (omega arith) (omega arith)) (l .inv .2),
-    )
-
-same-length : tie.Need-same-length Inv-loop μ-loop
-same-length c = c .before .loop .inv .1
-
-returns : tie.Need-returns Inv-loop μ-loop
-returns c = left-done _ (c .before .loop .inv .2) (length-slice _ _ _ (omega arith)) (omega arith)
+returns : tie.Need-returns
+returns c =
+    let s = c .before .before .before .before .before .before .before .before in
+    text-wrote _ _ _ _ (s .pre .0) (s .pre .1) (c .before .before .before .before .before .lesser .ensures) (c .before .before .copy .ensures)
 
 pub put-text-spec : {M : Type 1} → statement M
 put-text-spec =
     tie.close
     (tie.spec
-    Inv-loop
-    μ-loop
     sub-size
     lesser-requires
-    loop-holds
-    add-rest
-    shared-slice-read-rest
-    slice-write-rest
-    add-k
-    loop-less
-    loop-again
+    add-end
+    sub-copy
+    part-copy-start
+    part-copy-end
+    copy-requires
     same-length
     returns)
