@@ -1,11 +1,11 @@
--- The laws of copying: a byte more, eight bytes more, the last bytes once again, and a text that is clipped to the room there is.
+-- The laws of copying: a byte more, eight bytes more, a space more, the last bytes once again, and a text that is clipped to the room there is.
 use mathlib.Core.Path.{_≡_, refl, sym, ap, _∙_}
 use mathlib.Core.List.{List, [], _∷_, _++_}
 use Prim.Native.Nat.{ℕ, zero, suc, min, _+_, _-_, _≤_, _<_}
 use native.Mathlib.Nat.{suc-min-suc}
 use native.Mathlib.Numerals.{add-one}
 use native.Mathlib.Omega.{arith}
-use lib.ListN.{length, getD, take, drop, set, length-take, length-drop}
+use lib.ListN.{length, getD, take, drop, set, replicate, length-take, length-drop, length-replicate, getD-replicate}
 use lib.Seq.{slice, length-slice, take-nil, take-suc, take-all, take-take}
 use Rattle.lists.proofs.Fronts.{part-to-end}
 use Rattle.lists.proofs.Joins.{slice-join}
@@ -40,6 +40,12 @@ pub copied-eight : {o o′ : List ℕ} (text ys : List ℕ) (k : ℕ) → k + 8 
 copied-eight {o} {o′} text ys k h l w q =
     let e : take k text ++ slice k (k + 8) text ≡ take (k + 8) text = slice-join 0 k (k + 8) text (omega arith) (omega arith) h in
     rw (← e, slice-is k 8 text) (wrote-then w (home text o′ ys k (omega (arith, wrote-length w)) q))
+
+-- ---- spaces
+
+pub copied-space : {o o′ : List ℕ} (count n : ℕ) → n < count → n < length o → Wrote o 0 (take n (replicate count 32)) o′ n
+    → Wrote o 0 (take (n + 1) (replicate count 32)) (set o′ n 32) (n + 1)
+copied-space count n h k w = rw (getD-replicate {A = ℕ} count n 32 0 h) at (copied-byte (replicate count 32) n (rw (length-replicate {A = ℕ} count 32) h) k w)
 
 -- ---- over what is written already
 
@@ -79,6 +85,12 @@ paint-clip (y ∷ d) (x ∷ o) = rw suc-min-suc (ap (λ (l : List ℕ). y ∷ l)
 wrote-clip : {o o′ : List ℕ} {r : ℕ} (d : List ℕ) → Wrote o 0 (take (min (length d) (length o)) d) o′ r → Wrote o 0 d o′ (length d)
 unfolding written
 wrote-clip {o} d w = record { count = omega arith; bytes = w .bytes ∙ paint-clip d o }
+
+pub spaces-wrote : {o o′ : List ℕ} {r : ℕ} (count m : ℕ) → m ≡ min count (length o) → Wrote o 0 (take m (replicate count 32)) o′ r → Wrote o 0 (replicate count 32) o′ count
+spaces-wrote {o} count m e w =
+    let l = length-replicate {A = ℕ} count 32 in
+    let t : m ≡ min (length {A = ℕ} (replicate count 32)) (length o) = rw l e in
+    rw l at (wrote-clip (replicate count 32) (rw t at w))
 
 -- the part of the notes that there is room for
 text-clip : (notes : List ℕ) (from to m : ℕ) → from + m ≤ to → take (from + m - from) (drop from notes) ≡ take m (slice from to notes)

@@ -1,8 +1,7 @@
 -- The laws of `paint`, `written`, `Wrote` and `Left`: pieces behind one another, a byte, a lent part that comes home, what does not fit.
 use mathlib.Core.Path.{_≡_, refl, sym, ap, _∙_}
-use mathlib.Core.Logic.{_⊎_, inl, inr, ⊎-elim}
 use mathlib.Core.List.{List, [], _∷_, _++_, append-nil}
-use Prim.Native.Nat.{ℕ, zero, suc, min, _+_, _-_, _≤_, _<_, zero-le, suc-le-suc}
+use Prim.Native.Nat.{ℕ, zero, suc, min, _+_, _-_, _≤_, _<_}
 use native.Mathlib.Nat.{suc-add, zero-add, zero-min, min-zero, suc-min-suc}
 use native.Mathlib.Omega.{arith}
 use lib.ListN.{length, take, drop, set, length-append, length-take, length-drop, take-append-drop, drop-of-length-le}
@@ -116,21 +115,3 @@ left-then {o} {n} {d} {e} p q = record {
 
 pub left-last : {o₀ o o′ : List ℕ} {n₀ n n′ : ℕ} {d₀ d : List ℕ} → Left o₀ n₀ d₀ o n d → Wrote o n d o′ n′ → Wrote o₀ n₀ d₀ o′ n′
 left-last p q = record { count = omega arith; bytes = q .bytes ∙ p .bytes }
-
--- a loop that stores byte by byte, up to the end of what is to be written or of what there is room for
-written-done : (o : List ℕ) (n : ℕ) (d : List ℕ) → (length d ≡ 0) ⊎ (length o ≤ n) → written n o d ≡ o
-written-done o n [] h = written-nil n o
-written-done o n (x ∷ d) (inl e) = absurd (omega arith)
-written-done o n (x ∷ d) (inr h) = written-past n o (x ∷ d) h
-
-lesser-of : (a b k : ℕ) → min a b ≤ k → (a ≤ k) ⊎ (b ≤ k)
-lesser-of zero b k h = inl zero-le
-lesser-of (suc a) zero k h = inr zero-le
-lesser-of (suc a) (suc b) zero h = absurd (omega arith)
-lesser-of (suc a) (suc b) (suc k) h = ⊎-elim (λ p. inl (suc-le-suc p)) (λ q. inr (suc-le-suc q)) (lesser-of a b k (omega arith))
-
-pub left-done : {o₀ o : List ℕ} {n : ℕ} {d₀ d : List ℕ} (count : ℕ) → Left o₀ 0 d₀ o n d → length d₀ ≡ count → min count (length o) ≤ n → Wrote o₀ 0 d₀ o count
-left-done {o} {n} {d₀} {d} count p e h = record {
-  count = omega arith;
-  bytes = sym (written-done o n d (⊎-elim (λ a. inl (let z = p .count in omega arith)) (λ b. inr b) (lesser-of count (length o) n h))) ∙ p .bytes;
-}

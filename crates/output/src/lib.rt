@@ -117,6 +117,23 @@ pub fn put_spaces(count: usize, rest: &mut [u8]) -> usize
     count
 }
 
+// The spaces that are added before a word, two at most: without a loop, which would become a call.
+pub fn put_added(count: usize, rest: &mut [u8]) -> usize
+    requires { ⌜ count ≤ 2 ⌝ }
+    ensures { λ r. ⌜ Wrote (now (rest .entry)) 0 (replicate count 32) (now (rest .exit)) r ⌝ }
+{
+    let fits = lesser(count, rest.len());
+    if fits == 0 {
+        return count;
+    }
+    rest[0] = 32;
+    if fits == 1 {
+        return count;
+    }
+    rest[1] = 32;
+    count
+}
+
 pub fn put_feed(rest: &mut [u8]) -> usize
     ensures { λ r. ⌜ Wrote (now (rest .entry)) 0 lineFeed (now (rest .exit)) r ⌝ }
 {
@@ -166,7 +183,7 @@ pub fn put_word(
         let place = lesser(k, rest.len());
         return k + put_text(notes, w.start, end, &mut rest[place..]);
     }
-    let k = put_spaces(added, rest);
+    let k = put_added(added, rest);
     let place = lesser(k, rest.len());
     k + put_text(notes, w.from, end, &mut rest[place..])
 }

@@ -47,8 +47,8 @@ returns c =
     (c .before .before .before .before .before .before .before .put-break .ensures)
     (wrote-part _ _ _ _ _ _ (c .before .before .before .before .lesser .ensures) (c .before .before .put-text .ensures)))
 
-put-spaces-requires : tie.Need-put-spaces-requires
-put-spaces-requires c κs = search needs
+put-added-requires : tie.Need-put-added-requires
+put-added-requires c κs = search needs
 
 lesser-requires-2 : tie.Need-lesser-requires-2
 lesser-requires-2 c κs = search needs
@@ -70,7 +70,7 @@ add-result-2 c =
     let s = c .before .before .before .before .before .before .before .before .before .before .before .before in
     let n = length-replicate {A = ℕ} (s .args .added) 32 in
     let t = length-slice (s .args .w .from) (s .args .end) (now (s .args .notes)) (s .pre .5) in
-    omega (arith, c .before .before .before .before .before .before .before .put-spaces .ensures .count, c .before .before .put-text2 .ensures .count)
+    omega (arith, c .before .before .before .before .before .before .before .put-added .ensures .count, c .before .before .put-text2 .ensures .count)
 
 same-length-2 : tie.Need-same-length-2
 same-length-2 c = search needs
@@ -80,7 +80,7 @@ returns-2 c =
     let s = c .before .before .before .before .before .before .before .before .before .before .before .before in
     rw (c .before .before .before .before .before .before .before .before .before .if1 .left)
     (word-joined (now (s .args .notes)) (s .args .w) _ _ (s .pre .0) _ (s .pre .4) (s .pre .5)
-    (c .before .before .before .before .before .before .before .put-spaces .ensures)
+    (c .before .before .before .before .before .before .before .put-added .ensures)
     (wrote-part _ _ _ _ _ _ (c .before .before .before .before .lesser2 .ensures) (c .before .before .put-text2 .ensures)))
 
 pub put-word-spec : {M : Type 1} → statement M
@@ -96,7 +96,7 @@ put-word-spec =
     add-result
     same-length
     returns
-    put-spaces-requires
+    put-added-requires
     lesser-requires-2
     sub-put-text-2
     part-put-text-start-2
