@@ -122,12 +122,12 @@ pub fn put_added(count: usize, rest: &mut [u8]) -> usize
     requires { ⌜ count ≤ 2 ⌝ }
     ensures { λ r. ⌜ Wrote (now (rest .entry)) 0 (replicate count 32) (now (rest .exit)) r ⌝ }
 {
-    let fits = lesser(count, rest.len());
-    if fits == 0 {
+    let room = lesser(count, rest.len());
+    if room == 0 {
         return count;
     }
     rest[0] = 32;
-    if fits == 1 {
+    if room == 1 {
         return count;
     }
     rest[1] = 32;

@@ -20,7 +20,7 @@ returns-2 c = λ e. absurd (let z : _≡_ {A = ℕ} 0 1 = cc in omega arith)
 all-spaces-requires : tie.Need-all-spaces-requires
 all-spaces-requires c κs =
     let p = c .before .before .before .before .pre in
-    (p .3, omega (arith, c .if2 .left, p .0 .gap, p .0 .text, p .0 .end))
+    (omega (arith, p .3), omega (arith, c .if2 .left, p .0 .gap, p .0 .text, p .0 .end))
 
 returns-3 : tie.Need-returns-3
 returns-3 c = λ e.
