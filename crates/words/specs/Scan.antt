@@ -4,7 +4,7 @@ use mathlib.Core.Bool.{Bool, true, false, cond, _&&_, _||_}
 use mathlib.Core.List.{List, [], _∷_}
 use Prim.Native.Nat.{ℕ, _+_, _-_, _*_, _≤_, _<_}
 use lib.Dec.{ltb, eqb}
-use lib.ListN.{length, drop}
+use lib.ListN.{length, getD, drop}
 use Rattle.lists.specs.Runs.{while, behind}
 use Rattle.text.specs.Characters.{Glyph, glyphs, isBlank, extent}
 use Rattle.options.specs.Opts.{Opts}
@@ -47,6 +47,20 @@ pub record OverInk (glue : Bool) (s : List ℕ) (at : ℕ) (r : Ink) : Type 0 wh
   pub within : r .end ≤ length s
   pub narrow : r .width ≤ r .end
   pub some : r .end ≤ at + 4 * r .width
+
+-- plain characters, bytes from `!` to `~`, stand from a place up to another
+pub record Plain (s : List ℕ) (from to : ℕ) : Type 0 where
+  pub on : from ≤ to
+  pub within : to ≤ length s
+  pub least : (i : ℕ) → from ≤ i → i < to → 33 ≤ getD s i 0
+  pub most : (i : ℕ) → from ≤ i → i < to → getD s i 0 ≤ 126
+
+-- r is the ink w with plain characters behind it
+pub record OverPlain (s : List ℕ) (w r : Ink) : Type 0 where
+  pub run : Plain s (w .end) (r .end)
+  pub width : r .width ≡ w .width + (r .end - w .end)
+  pub none : r .end ≡ w .end → r .punct ≡ w .punct
+  pub last : w .end < r .end → r .punct ≡ punctCode (getD s (r .end - 1) 0)
 
 -- the record of a word behind blanks that begin at a place; uniform drops them and their counts
 abbrev pub wordAt : Bool → Bool → Bool → ℕ → Blanks → Ink → Record

@@ -12,7 +12,7 @@ ghost use Rattle.lines.specs.Lines.{linesOf};
 ghost use Rattle.records.specs.Table.{wordsIn};
 ghost use Rattle.words.specs.Words.{hasTab};
 ghost use Rattle.words.specs.Places.{wordsAt};
-ghost use Rattle.words.specs.Scan.{gapIn, gapBehind, punctCode, OverBlanks, OverInk, wordAt, mailAt, wordsFrom, NextIs};
+ghost use Rattle.words.specs.Scan.{gapIn, gapBehind, punctCode, OverBlanks, OverInk, Plain, OverPlain, wordAt, mailAt, wordsFrom, NextIs};
 ghost use Rattle.words.specs.Split.{AllBegin, Kept, Filled, Split};
 use options::Options;
 use records::Before;
@@ -258,8 +258,12 @@ fn over_ink(s: &[u8], at: usize, glue: bool) -> Ink
         width: 0,
         punct: false,
     };
-    while w.end < s.len() {
+    loop {
+        w = over_plain(s, w);
         let end = w.end;
+        if s.len() <= end {
+            return w;
+        }
         match text::glyph_at(s, end, glue) {
             Glyph::Blank { code: _, next: _ } => {
                 return w;
@@ -281,7 +285,50 @@ fn over_ink(s: &[u8], at: usize, glue: bool) -> Ink
             }
         }
     }
-    w
+}
+
+// Ink with the plain characters behind it, which most are: bytes from `!` to `~`, each a character of one column.
+fn over_plain(s: &[u8], w: Ink) -> Ink
+    requires { ⌜ (w .end ≤ length (now s)) × (w .width ≤ w .end) × (length (now s) ≤ 65536) ⌝ }
+    ensures { λ r. ⌜ OverPlain (now (s .entry)) w r ⌝ }
+{
+    let from = w.end;
+    let end = plain_end(s, from);
+    if end == from {
+        return w;
+    }
+    let last = end - 1;
+    Ink {
+        end,
+        width: w.width + (end - from),
+        punct: is_punct(wide(s[last])),
+    }
+}
+
+// The end of the plain characters at a place.
+fn plain_end(s: &[u8], from: usize) -> usize
+    requires { ⌜ from ≤ length (now s) ⌝ }
+    ensures { λ r. ⌜ Plain (now (s .entry)) from r ⌝ }
+{
+    let mut i = from;
+    while i < s.len() {
+        let b = s[i];
+        if b < 33 {
+            return i;
+        }
+        if 126 < b {
+            return i;
+        }
+        i += 1;
+    }
+    i
+}
+
+// A cast that needs no proof where it is used.
+fn wide(b: u8) -> u32
+    ensures { λ r. ⌜ r ≡ b ⌝ }
+{
+    b as u32
 }
 
 fn is_punct(code: u32) -> bool

@@ -1,0 +1,76 @@
+-- Plain characters in ink: a run of them is as many glyphs of ink, each of one column.
+use mathlib.Core.Path.{_≡_, refl, sym, ap, _∙_}
+use mathlib.Core.Bool.{Bool, false}
+use mathlib.Core.Logic.{⊎-elim}
+use mathlib.Core.List.{List}
+use Prim.Native.Nat.{ℕ, zero, suc, _+_, _-_, _≤_, _<_}
+use native.Mathlib.Nat.{eq-or-lt-of-le}
+use native.Mathlib.Omega.{arith}
+use lib.ListN.{length, getD}
+use borrow.Author.Tests.{lt-leb, le-leb, ne-eqb}
+use Rattle.text.specs.Characters.{blankCode, widthOf}
+use Rattle.text.proofs.Glyphs.{Here, ascii-here}
+use Rattle.words.specs.Scan.{punctCode, Plain, OverPlain}
+use Rattle.words.specs.declared.Ink.{Ink}
+use Rattle.words.proofs.InkRuns.{InkLeft, ink-more}
+
+-- a plain character is no blank
+pub plain-ink : (glue : Bool) (c : ℕ) → 33 ≤ c → c ≤ 126 → blankCode glue c ≡ false
+unfolding blankCode
+plain-ink glue c h k = rw (le-leb 9 c (omega arith), lt-leb c 13 (omega arith), ne-eqb c 0x20 (omega arith), ne-eqb c 0x85 (omega arith), ne-eqb c 0xA0 (omega arith))
+
+pub plain-here : (glue : Bool) (s : List ℕ) (at i : ℕ) → at ≡ i → i < length s → 33 ≤ getD s i 0 → getD s i 0 ≤ 126 → Here glue false s at (getD s i 0) (i + 1)
+plain-here glue s at i e h k l = rw (e, ← plain-ink glue (getD s i 0) k l) (ascii-here glue s i h (omega arith))
+
+-- ---- a run, character by character
+
+-- what holds of the bytes before a place and of the byte there
+before-and-at : (P : ℕ → Type 0) (s : List ℕ) (from to : ℕ) → ((i : ℕ) → from ≤ i → i < to → P (getD s i 0)) → P (getD s to 0) → (i : ℕ) → from ≤ i → i < to + 1 → P (getD s i 0)
+before-and-at P s from to all one i h k =
+    ⊎-elim (λ (e : i ≡ to). rw e one) (λ (l : i < to). all i h l) (eq-or-lt-of-le (let g : i ≤ to = omega arith in g))
+
+module _ {s : List ℕ} {from : ℕ} where
+  pub plain-none : from ≤ length s → Plain s from from
+  plain-none h = record { on = omega arith; within = h; least = λ i l k. absurd (omega arith); most = λ i l k. absurd (omega arith) }
+
+  pub plain-more : {to : ℕ} → Plain s from to → to < length s → 33 ≤ getD s to 0 → getD s to 0 ≤ 126 → Plain s from (to + 1)
+  plain-more {to} p h k l = record {
+    on = omega (arith, p .on);
+    within = omega arith;
+    least = before-and-at (λ b. 33 ≤ b) s from to (p .least) k;
+    most = before-and-at (λ b. b ≤ 126) s from to (p .most) l;
+  }
+
+  -- the front of a run, and its last character
+  pub plain-front : {to end : ℕ} → Plain s from to → from ≤ end → end ≤ to → Plain s from end
+  plain-front p h k = record { on = h; within = omega (arith, p .within); least = λ i a b. p .least i a (omega arith); most = λ i a b. p .most i a (omega arith) }
+
+  plain-last : (glue : Bool) {last : ℕ} → Plain s from (last + 1) → {i : ℕ} → i ≡ last → from ≤ last → Here glue false s i (getD s last 0) (last + 1)
+  plain-last glue {last} p e h = plain-here glue s _ last e (omega (arith, p .within)) (p .least last h (omega arith)) (p .most last h (omega arith))
+
+-- ---- a run in ink
+
+module _ {glue : Bool} {s : List ℕ} {at : ℕ} where
+  ink-same : {end width end′ width′ : ℕ} {punct punct′ : Bool} → InkLeft glue s at (record { end = end; width = width; punct = punct })
+      → end′ ≡ end → width′ ≡ width → punct′ ≡ punct → InkLeft glue s at (record { end = end′; width = width′; punct = punct′ })
+  ink-same i e w p = rw (e, w, p) i
+
+  module _ (w : Ink) (left : InkLeft glue s at w) where
+    -- up to the character n places on
+    ink-run : (n last : ℕ) → last ≡ w .end + n → Plain s (w .end) (last + 1)
+        → InkLeft glue s at (record { end = last + 1; width = w .width + (last + 1 - w .end); punct = punctCode (getD s last 0) })
+    unfolding widthOf
+    ink-run zero last e p =
+        ink-more w (record { end = last + 1; width = w .width + (last + 1 - w .end); punct = punctCode (getD s last 0) }) left (plain-last glue p (omega arith) (omega arith)) {n = 1} refl (omega arith) refl
+    ink-run (suc n) last e p =
+        let i = ink-run n (w .end + n) refl (plain-front p (omega arith) (omega arith)) in
+        ink-more (record { end = w .end + n + 1; width = w .width + (w .end + n + 1 - w .end); punct = punctCode (getD s (w .end + n) 0) }) (record { end = last + 1; width = w .width + (last + 1 - w .end); punct = punctCode (getD s last 0) }) i
+        (plain-last glue p (omega arith) (omega arith)) {n = 1} refl (omega arith) refl
+
+    pub ink-plain : (r : Ink) → OverPlain s w r → InkLeft glue s at r
+    ink-plain r o =
+        ⊎-elim
+        (λ (e : w .end ≡ r .end). ink-same left (sym e) (omega (arith, o .width)) (o .none (sym e)))
+        (λ (l : w .end < r .end). let i = ink-run (r .end - 1 - w .end) (r .end - 1) (omega arith) (plain-front (o .run) (omega arith) (omega arith)) in
+            ink-same i (omega arith) (omega (arith, o .width)) (o .last l))
+        (eq-or-lt-of-le (o .run .on))
