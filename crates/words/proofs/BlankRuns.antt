@@ -13,17 +13,18 @@ use Rattle.lists.proofs.Runs.{while-more, while-end, behind-more, behind-end}
 use Rattle.text.proofs.Glyph.{the-type}
 use denote.Enum.Declared.{tagOf}
 use types.Run.{OneOf}
-use Rattle.text.specs.Characters.{Glyph, glyph, glyphs, isBlank, extent}
+use Rattle.text.specs.Characters.{blankCode, Glyph, glyph, glyphs, isBlank, extent}
 use Rattle.text.specs.Places.{seenAs}
 use Rattle.text.specs.declared.Glyph.{Glyph as Seen}
-use Rattle.text.proofs.Glyphs.{Here, glyphs-past, glyphs-first, not-blank}
+use Rattle.text.proofs.Glyphs.{Here, glyphs-past, glyphs-first, not-blank, ascii-here}
 use Rattle.lines.specs.Classes.{nextStop}
 use Rattle.records.specs.Table.{numberOf}
 use Rattle.records.specs.declared.Before.{Before}
 use Rattle.records.specs.declared.Before.the-variants.{Absent, Count}
 use Rattle.words.specs.Words.{Gap, gapTab, gapFrom, gapOf}
-use Rattle.words.specs.Scan.{gapIn, gapBehind, OverBlanks}
+use Rattle.words.specs.Scan.{gapIn, gapBehind, OverBlanks, OneSpace}
 use Rattle.words.specs.declared.Blanks.{Blanks}
+use Rattle.words.proofs.PlainRuns.{plain-here}
 
 -- ---- the counts
 
@@ -130,3 +131,15 @@ module _ {glue : Bool} {tab : ℕ} {s : List ℕ} {at : ℕ} where
     before = omega (arith, i .before, i .within);
     after = omega (arith, i .after, i .within);
   }
+
+-- one space, and a plain character behind it
+space-here : (glue : Bool) (s : List ℕ) (at : ℕ) → OneSpace s at → Here glue true s at 32 (at + 1)
+unfolding blankCode
+space-here glue s at o = rw (o .space) at (ascii-here glue s at (omega (arith, o .within)) (omega (arith, o .space)))
+
+pub blanks-one : {glue : Bool} {tab : ℕ} {s : List ℕ} {at : ℕ} → OneSpace s at → tab ≤ 100 → OverBlanks glue tab s at (record { end = at + 1; before = Absent; after = 1 })
+blanks-one {glue} {tab} {s} {at} o few =
+    let p = plain-here glue s (at + 1) (at + 1) refl (o .within) (o .least) (o .most) in
+    let left : BlanksLeft glue tab s at (record { end = at + 1; before = Absent; after = 1 }) =
+        blanks-more (record { end = at; before = Absent; after = 0 }) (record { end = at + 1; before = Absent; after = 1 }) (blanks-first (omega (arith, o .within))) few (space-here glue s at o) refl refl in
+    blanks-done (record { end = at + 1; before = Absent; after = 1 }) left (no-blank-first glue s (at + 1) _ (p .first) (p .isBlank))

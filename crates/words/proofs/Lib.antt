@@ -1,6 +1,6 @@
-pub mod BlankRuns
 pub mod InkRuns
 pub mod PlainRuns
+pub mod BlankRuns
 pub mod WordRuns
 pub mod NextWord
 pub mod Filling

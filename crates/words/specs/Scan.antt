@@ -55,6 +55,13 @@ pub record Plain (s : List ℕ) (from to : ℕ) : Type 0 where
   pub least : (i : ℕ) → from ≤ i → i < to → 33 ≤ getD s i 0
   pub most : (i : ℕ) → from ≤ i → i < to → getD s i 0 ≤ 126
 
+-- a space stands at a place, and a plain character behind it
+pub record OneSpace (s : List ℕ) (at : ℕ) : Type 0 where
+  pub within : at + 1 < length s
+  pub space : getD s at 0 ≡ 32
+  pub least : 33 ≤ getD s (at + 1) 0
+  pub most : getD s (at + 1) 0 ≤ 126
+
 -- r is the ink w with plain characters behind it
 pub record OverPlain (s : List ℕ) (w r : Ink) : Type 0 where
   pub run : Plain s (w .end) (r .end)

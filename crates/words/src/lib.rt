@@ -12,7 +12,7 @@ ghost use Rattle.lines.specs.Lines.{linesOf};
 ghost use Rattle.records.specs.Table.{wordsIn};
 ghost use Rattle.words.specs.Words.{hasTab};
 ghost use Rattle.words.specs.Places.{wordsAt};
-ghost use Rattle.words.specs.Scan.{gapIn, gapBehind, punctCode, OverBlanks, OverInk, Plain, OverPlain, wordAt, mailAt, wordsFrom, NextIs};
+ghost use Rattle.words.specs.Scan.{gapIn, gapBehind, punctCode, OverBlanks, OverInk, Plain, OverPlain, OneSpace, wordAt, mailAt, wordsFrom, NextIs};
 ghost use Rattle.words.specs.Split.{AllBegin, Kept, Filled, Split};
 use options::Options;
 use records::Before;
@@ -207,6 +207,14 @@ fn over_blanks(s: &[u8], at: usize, tab: usize, glue: bool) -> Blanks
     requires { ⌜ (at ≤ length (now s)) × (length (now s) ≤ 65536) × (1 ≤ tab) × (tab ≤ 100) ⌝ }
     ensures { λ r. ⌜ OverBlanks glue tab (now (s .entry)) at r ⌝ }
 {
+    // Between most words.
+    if is_one_space(s, at) {
+        return Blanks {
+            end: at + 1,
+            before: Before::Absent,
+            after: 1,
+        };
+    }
     let mut b = Blanks {
         end: at,
         before: Before::Absent,
@@ -219,6 +227,28 @@ fn over_blanks(s: &[u8], at: usize, tab: usize, glue: bool) -> Blanks
         };
         b = behind_blank(b, code, next, tab);
     }
+}
+
+// Whether a space stands at a place, and a plain character behind it.
+fn is_one_space(s: &[u8], at: usize) -> bool
+    requires { ⌜ (at ≤ length (now s)) × (length (now s) ≤ 65536) ⌝ }
+    ensures { λ r. ⌜ (r ≡ true → OneSpace (now (s .entry)) at) ⌝ }
+{
+    let next = at + 1;
+    if s.len() <= next {
+        return false;
+    }
+    if s[at] != 32 {
+        return false;
+    }
+    let b = s[next];
+    if b < 33 {
+        return false;
+    }
+    if 126 < b {
+        return false;
+    }
+    true
 }
 
 // Blanks with one more, which ends at next. The first tab parts the counts; a later one goes to the next stop.

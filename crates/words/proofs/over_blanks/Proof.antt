@@ -7,7 +7,7 @@ use lib.ListN.{length}
 use denote.Ref.{now}
 use borrow.Author.Needs.{needs}
 use Rattle.text.proofs.Glyphs.{Here, blank-here}
-use Rattle.words.proofs.BlankRuns.{BlanksLeft, blanks-first, blanks-more, blanks-done, no-blank}
+use Rattle.words.proofs.BlankRuns.{BlanksLeft, blanks-first, blanks-more, blanks-done, blanks-one, no-blank}
 use Rattle.words.proofs.over_blanks.Statement.{statement}
 use Rattle.words.proofs.over_blanks.Tie as tie
 
@@ -16,6 +16,15 @@ Inv-loop s at tab glue b₀ b = BlanksLeft glue tab s at b
 
 abbrev μ-loop : tie.MeasureT-loop
 μ-loop s at tab glue b₀ b = length s - b .end
+
+is-one-space-requires : tie.Need-is-one-space-requires Inv-loop μ-loop
+is-one-space-requires c κs = search needs
+
+add-t10 : tie.Need-add-t10 Inv-loop μ-loop
+add-t10 c = search needs
+
+returns : tie.Need-returns Inv-loop μ-loop
+returns c = blanks-one (c .before .is-one-space .ensures (c .if1 .taken)) (search needs)
 
 loop-holds : tie.Need-loop-holds Inv-loop μ-loop
 loop-holds c = blanks-first (search needs)
@@ -26,15 +35,15 @@ glyph-at-requires c κs = search needs
 enum-known-code : tie.Need-enum-known-code Inv-loop μ-loop
 enum-known-code c = search needs
 
-returns : tie.Need-returns Inv-loop μ-loop
-returns c = blanks-done _ (c .before .before .loop .inv) (no-blank _ _ _ _ (c .before .glyph-at .ensures) (c .match .keys2))
+returns-2 : tie.Need-returns-2 Inv-loop μ-loop
+returns-2 c = blanks-done _ (c .before .before .loop .inv) (no-blank _ _ _ _ (c .before .glyph-at .ensures) (c .match .keys2))
 
 behind-blank-requires : tie.Need-behind-blank-requires Inv-loop μ-loop
 behind-blank-requires c κs = let i = c .before .before .before .before .loop .inv in omega arith
 
 -- the blank that the loop's turn reads
 read : (c : tie.After-code Inv-loop μ-loop)
-    → Here (c .before .before .before .before .before .args .glue) true (now (c .before .before .before .before .before .args .s)) (c .before .before .before .loop .b .end) (c .code .given .0 .0) (c .code .given .0 .1 .0)
+    → Here (c .before .before .before .before .before .before .before .args .glue) true (now (c .before .before .before .before .before .before .before .args .s)) (c .before .before .before .loop .b .end) (c .code .given .0 .0) (c .code .given .0 .1 .0)
 read c = blank-here _ _ _ _ _ (sym (c .before .before .glyph-at .ensures) ∙ c .code .given .1)
 
 loop-less : tie.Need-loop-less Inv-loop μ-loop
@@ -49,10 +58,13 @@ over-blanks-spec =
     (tie.spec
     Inv-loop
     μ-loop
+    is-one-space-requires
+    add-t10
+    returns
     loop-holds
     glyph-at-requires
     enum-known-code
-    returns
+    returns-2
     behind-blank-requires
     loop-less
     loop-again)
