@@ -1,9 +1,9 @@
 // Lines: where one ends, where its text ends, and its class.
 ghost use mathlib.Core.Path.{_≡_};
-ghost use mathlib.Core.Bool.{Bool, cond};
-ghost use Prim.Native.Nat.{_+_, _≤_, _<_};
+ghost use mathlib.Core.Bool.{Bool, true, cond};
+ghost use Prim.Native.Nat.{_+_, _-_, _≤_, _<_};
 ghost use lib.Dec.{eqb};
-ghost use lib.ListN.{length};
+ghost use lib.ListN.{length, drop};
 ghost use Rattle.lists.specs.Runs.{begins};
 ghost use Rattle.text.specs.Characters.{widthOf, glyphs};
 ghost use Rattle.options.specs.Opts.{textOf, meant};
@@ -66,7 +66,7 @@ pub fn first_line(s: &[u8]) -> Extent
 fn body_end(s: &[u8]) -> usize
     ensures { λ r. ⌜ (r ≡ length (body (now (s .entry)))) × (r ≤ length (now (s .entry))) ⌝ }
 {
-    let mut i = 0;
+    let mut i = feedless_eights(s);
     while i < s.len() {
         if s[i] == 10 {
             return i;
@@ -74,6 +74,37 @@ fn body_end(s: &[u8]) -> usize
         i += 1;
     }
     i
+}
+
+// On over bytes that are no line feed, as long as the next eight are none: eight tests without a branch between them are as quick as
+// one.
+fn feedless_eights(s: &[u8]) -> usize
+    ensures { λ r. ⌜ (r ≤ length (now (s .entry))) × (r + length (body (drop r (now (s .entry)))) ≡ length (body (now (s .entry)))) ⌝ }
+{
+    let mut i = 0;
+    while 8 <= s.len() - i {
+        if are_feedless(s, i) {
+            i += 8;
+        } else {
+            return i;
+        }
+    }
+    i
+}
+
+// Whether no line feed is among the eight bytes at a place.
+fn are_feedless(s: &[u8], i: usize) -> bool
+    requires { ⌜ (i ≤ length (now s)) × (8 ≤ length (now s) - i) ⌝ }
+    ensures { λ r. ⌜ (r ≡ true → i + length (body (drop i (now (s .entry)))) ≡ i + 8 + length (body (drop (i + 8) (now (s .entry))))) ⌝ }
+{
+    let b = i + 1;
+    let c = i + 2;
+    let d = i + 3;
+    let e = i + 4;
+    let f = i + 5;
+    let g = i + 6;
+    let h = i + 7;
+    (s[i] != 10) & (s[b] != 10) & (s[c] != 10) & (s[d] != 10) & (s[e] != 10) & (s[f] != 10) & (s[g] != 10) & (s[h] != 10)
 }
 
 // How long a line's body is without a carriage return at its end.

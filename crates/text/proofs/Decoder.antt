@@ -2,7 +2,7 @@
 use mathlib.Core.Path.{_≡_, refl, ap}
 use mathlib.Core.Bool.{Bool, true, false, cond, _&&_, not}
 use mathlib.Core.List.{List, [], _∷_, _++_}
-use Prim.Native.Nat.{ℕ, zero, suc, _+_, _*_, _/_, _%_, _≤_, _<_}
+use Prim.Native.Nat.{ℕ, _+_, _*_, _/_, _%_, _≤_, _<_}
 use native.Mathlib.Omega.{arith}
 use lib.Dec.{T, ltb, leb}
 use lib.ListN.{length, getD, drop, length-append}
@@ -37,31 +37,6 @@ some-octets c = pick (row c)
     pick (row2 h k e) = rw e (omega arith)
     pick (row3 h k e) = rw e (omega arith)
     pick (row4 h e) = rw e (omega arith)
-
--- every octet of a character but the first continues it: 10xxxxxx
-AllContinue : List ℕ → Type 0
-AllContinue [] = Unit {0}
-AllContinue (x ∷ xs) = (x / 64 ≡ 2) × AllContinue xs
-
-continued : (a : ℕ) (xs : List ℕ) → AllContinue xs → (i : ℕ) → 1 ≤ i → i < length (a ∷ xs) → getD (a ∷ xs) i 0 / 64 ≡ 2
-unfolding AllContinue
-continued a xs all zero h k = absurd (omega arith)
-continued a [] all (suc i) h k = absurd (omega arith)
-continued a (x ∷ xs) all (suc zero) h k = all .0
-continued a (x ∷ xs) all (suc (suc i)) h k = continued x xs (all .1) (suc i) (omega arith) (omega arith)
-
-pub continues : (c i : ℕ) → 1 ≤ i → i < length (encode c) → getD (encode c) i 0 / 64 ≡ 2
-unfolding AllContinue
-continues c i h k = pick (row c)
-  where
-    along : {a : ℕ} {p : List ℕ} → encode c ≡ a ∷ p → AllContinue p → getD (encode c) i 0 / 64 ≡ 2
-    along {a} {p} e all = rw e (continued a p all i h (rw e at k))
-
-    pick : Row c → getD (encode c) i 0 / 64 ≡ 2
-    pick (row1 l e) = along e tt
-    pick (row2 l m e) = along e (omega arith, tt)
-    pick (row3 l m e) = along e (omega arith, (omega arith, tt))
-    pick (row4 l e) = along e (omega arith, (omega arith, (omega arith, tt)))
 
 -- a character number in plain terms
 pub record Scalar (c : ℕ) : Type 0 where

@@ -2,10 +2,10 @@
 use mathlib.Core.Path.{_≡_, refl, sym, ap, ap₂, _∙_}
 use mathlib.Core.Bool.{Bool, true, false, cond}
 use mathlib.Core.List.{List, [], _∷_, _++_}
-use mathlib.Core.Logic.{_⊎_, inl, inr, ⊎-elim}
+use mathlib.Core.Logic.{⊎-elim}
 use Prim.Native.Nat.{ℕ, suc, _+_, _-_, _≤_, _<_}
 use native.Mathlib.Omega.{arith}
-use lib.ListN.{length, getD, take, drop, length-drop, length-append, take-append-drop}
+use lib.ListN.{length, getD, take, drop, length-drop, take-append-drop}
 use lib.Seq.{slice, length-take-le}
 use borrow.Author.Tests.{le-leb, ne-eqb}
 use Rattle.lists.specs.Runs.{joined}
@@ -14,7 +14,7 @@ use Rattle.lists.proofs.Pieces.{each-induct}
 use Rattle.lists.proofs.Views.{drop-here, drop-none}
 use Rattle.lists.proofs.Slices.{slice-is, slice-one}
 use Rattle.text.specs.Rfc3629.{Front, front, nothing}
-use Rattle.text.specs.Characters.{accepted, character, blankCode, widthOf, Glyph, glyphAs, glyph, glyphs, isGood, extent}
+use Rattle.text.specs.Characters.{accepted, character, blankCode, widthOf, Glyph, glyphAs, glyph, glyphs, isGood}
 use Rattle.text.specs.Places.{readAs, seenAs}
 use Rattle.text.specs.declared.Char.the-variants.{Good, Damaged}
 use Rattle.text.specs.declared.Glyph.{Glyph as Seen}
@@ -144,22 +144,9 @@ module _ (glue : Bool) (s : List ℕ) (at : ℕ) where
   not-blank (Blank c n) e h = absurd (⊎-elim (λ z. omega arith) (λ z. omega arith) h)
   not-blank Broken e h = rw (damaged-is e)
 
-  pub not-ink : (r : Seen) → r ≡ seenAs at (glyph glue (drop at s)) → OneOf (1 ∷ 2 ∷ []) (tagOf the-type r) → (glyph glue (drop at s) .blank ≡ true) ⊎ (glyph glue (drop at s) .damaged ≡ true)
-  not-ink (Ink c n) e h = absurd (⊎-elim (λ z. omega arith) (λ z. omega arith) h)
-  not-ink (Blank c n) e h = inl (blank-here c n (sym e) .isBlank)
-  not-ink Broken e h = inr (rw (damaged-is e))
-
-  pub not-damaged : (r : Seen) → r ≡ seenAs at (glyph glue (drop at s)) → OneOf (0 ∷ 1 ∷ []) (tagOf the-type r) → glyph glue (drop at s) .damaged ≡ false
-  not-damaged (Ink c n) e h = ink-here c n (sym e) .isGood
-  not-damaged (Blank c n) e h = blank-here c n (sym e) .isGood
-  not-damaged Broken e h = absurd (⊎-elim (λ z. omega arith) (λ z. omega arith) h)
-
   -- a byte below 0x80 reads as itself
   pub ascii-here : at < length s → getD s at 0 < 0x80 → Here glue (blankCode glue (getD s at 0)) s at (getD s at 0) (at + 1)
   ascii-here h k = front-here (getD s at 0) 1 (rw (drop-here 0 s at h) (ascii-character (getD s at 0) (drop (at + 1) s) k))
-
-  pub ascii-bytes : at < length s → getD s at 0 < 0x80 → glyph glue (drop at s) .bytes ≡ getD s at 0 ∷ []
-  ascii-bytes h k = ascii-here h k .hasBytes ∙ slice-one 0 s at h
 
 -- what holds of nothing, and of a text if it holds of what is behind its first glyph, holds of every text
 pub glyphs-induct : (glue : Bool) (P : List ℕ → List Glyph → Type 0) → P [] []
@@ -181,11 +168,3 @@ unfolding joined
 glyphs-joined glue =
     glyphs-induct glue (λ ys gs. joined (λ g. g .bytes) gs ≡ ys) refl
     (λ ys b e. ap₂ (λ (l r : List ℕ). l ++ r) (b .are) e ∙ take-append-drop (b .n) ys)
-
-extent-joined : (gs : List Glyph) → extent gs ≡ length (joined (λ g. g .bytes) gs)
-unfolding extent joined
-extent-joined [] = refl
-extent-joined (g ∷ gs) = rw (length-append, ← extent-joined gs)
-
-pub glyphs-extent : (glue : Bool) (xs : List ℕ) → extent (glyphs glue xs) ≡ length xs
-glyphs-extent glue xs = extent-joined (glyphs glue xs) ∙ ap length (glyphs-joined glue xs)

@@ -4,7 +4,8 @@ pub mod Places
 pub mod Glyphs
 pub mod Glue
 pub mod Damage
-pub mod Boundary
+pub mod Rows
+pub mod Asciis
 mod Worked
 pub mod Extents
 pub mod Blanks

@@ -1,7 +1,8 @@
 -- How the code's answers at a place mean what stands at the front of the text from there on.
 use mathlib.Core.Bool.{cond}
-use Prim.Native.Nat.{ℕ, _+_}
-use lib.ListN.{length}
+use mathlib.Core.List.{List}
+use Prim.Native.Nat.{ℕ, _+_, _≤_, _<_}
+use lib.ListN.{length, getD}
 use Rattle.text.specs.Rfc3629.{Front, front, nothing}
 use Rattle.text.specs.Characters.{Glyph}
 use Rattle.text.specs.declared.Char.{Char}
@@ -15,3 +16,9 @@ readAs at nothing = Damaged
 
 unfoldable pub seenAs : ℕ → Glyph → Seen
 seenAs at g = let next = at + length (g .bytes) in cond (g .damaged) Broken (cond (g .blank) (Blank (g .code) next) (Ink (g .code) next))
+
+-- the bytes from a place up to another are below 0x80
+pub record Ascii (s : List ℕ) (from to : ℕ) : Type 0 where
+  pub on : from ≤ to
+  pub within : to ≤ length s
+  pub small : (i : ℕ) → from ≤ i → i < to → getD s i 0 < 0x80
