@@ -15,6 +15,7 @@ use Rattle.lists.proofs.Fronts.{take-counted, drop-counted}
 use Rattle.lists.proofs.Slices.{slice-is}
 use Rattle.lists.proofs.Views.{drop-none}
 use Rattle.lists.proofs.RunsAt.{while-within, while-front, run-past, run-end, run-more}
+use Rattle.text.proofs.Rows.{allAt, all-each}
 use Rattle.lines.specs.Lines.{noFeed, body, withoutReturn, firstLine, linesOf}
 use Rattle.lines.specs.Places.{extentOf}
 use Rattle.lines.specs.declared.Extent.{Extent}
@@ -33,6 +34,18 @@ module _ (s : List ℕ) (i : ℕ) where
   pub body-more : i < length s → (getD s i 0 ≡ 10 → ⊥) → i + length (body (drop i s)) ≡ (i + 1) + length (body (drop (i + 1) s))
   unfolding body
   body-more h e = run-more noFeed 0 s i h (rw ne-eqb)
+
+-- n + 1 bytes in a row that are no line feed
+body-run : (s : List ℕ) (i n : ℕ) → i + n < length s → ((k : ℕ) → i ≤ k → k ≤ i + n → noFeed (getD s k 0) ≡ true)
+    → i + length (body (drop i s)) ≡ (i + suc n) + length (body (drop (i + suc n) s))
+unfolding body
+body-run s i zero h all = run-more noFeed 0 s i (omega arith) (all i (omega arith) (omega arith))
+body-run s i (suc n) h all =
+    let e : i + suc n + 1 ≡ i + suc (suc n) = omega arith in
+    body-run s i n (omega arith) (λ k a b. all k a (omega arith)) ∙ run-more noFeed 0 s (i + suc n) h (all (i + suc n) (omega arith) (omega arith)) ∙ ap (λ (k : ℕ). k + length (body (drop k s))) e
+
+pub body-eight : (s : List ℕ) (i : ℕ) → i + 8 ≤ length s → allAt noFeed s i 7 ≡ true → i + length (body (drop i s)) ≡ (i + 8) + length (body (drop (i + 8) s))
+body-eight s i h e = body-run s i 7 (omega arith) (λ k a b. all-each noFeed s i 7 e k a b)
 
 body-within : (s : List ℕ) → length (body s) ≤ length s
 unfolding body

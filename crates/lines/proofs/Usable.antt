@@ -1,17 +1,12 @@
--- For callers: options that a block was accepted as can be used, and what is then known of a formatted line.
+-- For callers: options that a block was accepted as can be used.
 use mathlib.Core.Path.{_≡_, refl}
 use mathlib.Core.List.{List}
 use Prim.Native.Nat.{ℕ}
-use Rattle.options.specs.Opts.{meant}
 use Rattle.options.specs.declared.Part.{Part}
 use Rattle.options.specs.declared.Part.the-variants.{Absent, Given}
 use Rattle.options.specs.declared.Options.{Options}
 use Rattle.options.proofs.Accepted.{Prefix, Kept}
-use Rattle.lines.specs.Classes.{classify}
 use Rattle.lines.specs.Places.{Lies, Usable}
-use Rattle.lines.specs.declared.Shape.{Shape}
-use Rattle.lines.specs.declared.Class.the-variants.{Formatted}
-use Rattle.lines.proofs.Shapes.{Known, known}
 
 lies : (block : List ℕ) (p : Part) → ((start end : ℕ) → p ≡ Given start end → Prefix block start end) → Lies block p
 lies block Absent h = tt
@@ -24,7 +19,3 @@ usable block o k = record {
   least = k .tabLeast;
   most = k .tabMost;
 }
-
-pub known-meant : (block line : List ℕ) (o : Options) (s : Shape) → Usable block o → classify (meant block o) line ≡ Formatted s → Known (meant block o) line s
-unfolding meant
-known-meant block line o s u h = known (meant block o) line s (u .least) (u .most) h

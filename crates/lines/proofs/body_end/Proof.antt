@@ -15,8 +15,11 @@ Inv-loop s i₀ i = (i ≤ length s) × (i + length (body (drop i s)) ≡ length
 abbrev μ-loop : tie.MeasureT-loop
 μ-loop s i₀ i = length s - i
 
+feedless-eights-requires : tie.Need-feedless-eights-requires Inv-loop μ-loop
+feedless-eights-requires c κs = search needs
+
 loop-holds : tie.Need-loop-holds Inv-loop μ-loop
-loop-holds c = (search needs, omega arith)
+loop-holds c = c .feedless-eights .ensures
 
 shared-slice-read-if1 : tie.Need-shared-slice-read-if1 Inv-loop μ-loop
 shared-slice-read-if1 c = search needs
@@ -46,6 +49,7 @@ body-end-spec =
     (tie.spec
     Inv-loop
     μ-loop
+    feedless-eights-requires
     loop-holds
     shared-slice-read-if1
     returns
