@@ -104,7 +104,14 @@ fn are_feedless(s: &[u8], i: usize) -> bool
     let f = i + 5;
     let g = i + 6;
     let h = i + 7;
-    (s[i] != 10) & (s[b] != 10) & (s[c] != 10) & (s[d] != 10) & (s[e] != 10) & (s[f] != 10) & (s[g] != 10) & (s[h] != 10)
+    (s[i] != 10)
+        & (s[b] != 10)
+        & (s[c] != 10)
+        & (s[d] != 10)
+        & (s[e] != 10)
+        & (s[f] != 10)
+        & (s[g] != 10)
+        & (s[h] != 10)
 }
 
 // How long a line's body is without a carriage return at its end.

@@ -1,24 +1,18 @@
--- The marks' laws: what the marks from word i on say, one mark more, and all breaks stored.
+-- The marks' laws: what the marks from word i on say, and all breaks stored.
 use mathlib.Core.Path.{_≡_, ap, _∙_}
 use mathlib.Core.Bool.{Bool, false}
-use mathlib.Core.List.{List, [], _∷_, _++_}
+use mathlib.Core.List.{List, _∷_}
 use Prim.Native.Nat.{ℕ, _+_, _-_, _≤_, _<_}
 use native.Mathlib.Numerals.{add-one}
 use native.Mathlib.Omega.{arith}
-use lib.ListN.{length, getD, set, take, drop-of-length-le, length-take}
-use lib.Seq.{sets, length-sets, slice, slice-cons, take-suc-set, drop-append-le}
+use lib.ListN.{length, getD}
+use lib.Seq.{sets, length-sets, slice, slice-cons}
 use Rattle.lists.proofs.Stores.{sets-slice}
-use Rattle.records.specs.Marks.{breaksIn, Marked}
+use Rattle.records.specs.Marks.{Marked}
 
 module _ (marks : List Bool) (i n : ℕ) where
   pub marks-here : i < n → n ≤ length marks → slice i n marks ≡ getD marks i false ∷ slice (i + 1) n marks
   marks-here h k = rw add-one (slice-cons i n marks false h k)
-
-  pub marks-end : n ≤ i → slice i n marks ≡ []
-  marks-end h = drop-of-length-le (take n marks) {i = i} (simp length-take (omega arith))
-
-pub marks-more : (marks : List Bool) (i : ℕ) (b : Bool) → 0 < i → i < length marks → breaksIn (i + 1) (set marks i b) ≡ breaksIn i marks ++ (b ∷ [])
-marks-more marks i b h k = rw (add-one i, take-suc-set marks i b k) (drop-append-le 1 (take i marks) (b ∷ []) (simp length-take (omega arith)))
 
 pub marked : (n : ℕ) (marks breaks marks′ : List Bool) → 1 ≤ n → n ≤ 1024 → length marks ≡ 1024 → length breaks ≡ n - 1
     → marks′ ≡ sets marks 1 breaks → Marked n marks breaks marks′

@@ -1,5 +1,5 @@
 -- Bytes below 0x80: each is an accepted character, so a run of them has no damaged place.
-use mathlib.Core.Path.{_≡_, refl, sym, ap, _∙_}
+use mathlib.Core.Path.{_≡_, refl, ap, _∙_}
 use mathlib.Core.Bool.{Bool, true, false}
 use mathlib.Core.List.{List}
 use Prim.Native.Nat.{ℕ, zero, suc, _+_, _-_, _≤_, _<_}
@@ -37,7 +37,7 @@ ascii-eight s i h e = record { on = omega arith; within = h; small = λ k a b. l
 
 -- a damaged place behind a run is the first
 pub damage-run : (s : List ℕ) (from to : ℕ) → Ascii s from to → later from (damage (drop from s)) ≡ later to (damage (drop to s))
-damage-run s from to a = go (to - from) to (omega (arith, a .on)) (omega (arith, a .on)) 
+damage-run s from to a = go (to - from) to (omega (arith, a .on)) (omega (arith, a .on))
   where
     go : (n to′ : ℕ) → to′ ≡ from + n → to′ ≤ to → later from (damage (drop from s)) ≡ later to′ (damage (drop to′ s))
     go zero to′ e h = let q : from ≡ to′ = omega arith in ap (λ (i : ℕ). later i (damage (drop i s))) q

@@ -256,5 +256,12 @@ fn are_ascii(s: &[u8], i: usize) -> bool
     let f = i + 5;
     let g = i + 6;
     let h = i + 7;
-    (s[i] < 0x80) & (s[b] < 0x80) & (s[c] < 0x80) & (s[d] < 0x80) & (s[e] < 0x80) & (s[f] < 0x80) & (s[g] < 0x80) & (s[h] < 0x80)
+    (s[i] < 0x80)
+        & (s[b] < 0x80)
+        & (s[c] < 0x80)
+        & (s[d] < 0x80)
+        & (s[e] < 0x80)
+        & (s[f] < 0x80)
+        & (s[g] < 0x80)
+        & (s[h] < 0x80)
 }

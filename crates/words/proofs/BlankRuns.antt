@@ -141,5 +141,5 @@ pub blanks-one : {glue : Bool} {tab : ℕ} {s : List ℕ} {at : ℕ} → OneSpac
 blanks-one {glue} {tab} {s} {at} o few =
     let p = plain-here glue s (at + 1) (at + 1) refl (o .within) (o .least) (o .most) in
     let left : BlanksLeft glue tab s at (record { end = at + 1; before = Absent; after = 1 }) =
-        blanks-more (record { end = at; before = Absent; after = 0 }) (record { end = at + 1; before = Absent; after = 1 }) (blanks-first (omega (arith, o .within))) few (space-here glue s at o) refl refl in
+    blanks-more (record { end = at; before = Absent; after = 0 }) (record { end = at + 1; before = Absent; after = 1 }) (blanks-first (omega (arith, o .within))) few (space-here glue s at o) refl refl in
     blanks-done (record { end = at + 1; before = Absent; after = 1 }) left (no-blank-first glue s (at + 1) _ (p .first) (p .isBlank))

@@ -1,5 +1,5 @@
 -- The next word at a place, from the blanks and the ink that the code found there.
-use mathlib.Core.Path.{_≡_, refl, sym, ap, _∙_}
+use mathlib.Core.Path.{_≡_, refl, sym, ap, ap₂, _∙_}
 use mathlib.Core.Bool.{Bool, true, false, cond, _&&_, _||_}
 use mathlib.Core.List.{List, [], _∷_}
 use Prim.Native.Nat.{ℕ, _+_, _-_, _*_, _≤_, _<_}
@@ -17,7 +17,7 @@ use Rattle.records.specs.Word.{meaning}
 use Rattle.records.specs.Table.{numberOf, Small, Within}
 use Rattle.records.specs.declared.Word.{Word as Record}
 use Rattle.records.specs.declared.Before.the-variants.{Absent}
-use Rattle.words.specs.Words.{Run, isInk, runOf, bytesOf, widthSum, noGap, gapOf, hasTab, punctAtEnd, wideGap, wordOf, mailWord}
+use Rattle.words.specs.Words.{Run, isInk, runOf, bytesOf, widthSum, Gap, noGap, gapOf, hasTab, punctAtEnd, wideGap, wordOf, mailWord}
 use Rattle.words.specs.Scan.{gapIn, OverBlanks, OverInk, wordAt, mailAt, wordsFrom, NextWord}
 use Rattle.words.specs.declared.Blanks.{Blanks}
 use Rattle.words.specs.declared.Ink.{Ink}
@@ -83,10 +83,18 @@ module _ (o : Opts) (s : List ℕ) (at : ℕ) (b : Blanks) (over : OverBlanks (o
     unfolding run runOf
     blank-gap = sym (over .gap)
 
+    blank-count : length (bytesOf (run .blanks)) ≡ b .end - at
+    blank-count = ap length blank-bytes ∙ length-slice at (b .end) s (over .within)
+
+    -- by the bytes of the blanks
+    blank-wide : wideGap (o .tab) (run .blanks) ≡ (hasTab (b .before) || ltb 1 (b .end - at))
+    unfolding wideGap
+    blank-wide = ap₂ (λ (g : Gap) (n : ℕ). hasTab (g .before) || ltb 1 n) blank-gap blank-count
+
     line-means : (newLine previous : Bool) → meaning s (wordAt (o .uniform) newLine previous at b w) ≡ wordFor o false newLine previous run
-    unfolding meaning wordFor wordOf wideGap
+    unfolding meaning wordFor wordOf
     line-means newLine previous =
-        rw (text-width, text-punct, blank-gap, text-bytes, blank-bytes, length-slice at (b .end) s (over .within)) (pick (o .uniform))
+        rw (text-width, text-punct, blank-wide, blank-gap, text-bytes, blank-bytes) (pick (o .uniform))
       where
         pick : (u : Bool) → meaning s (wordAt u newLine previous at b w) ≡ record {
           blanks = cond u [] (slice at (b .end) s);

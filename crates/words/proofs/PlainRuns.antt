@@ -1,5 +1,5 @@
 -- Plain characters in ink: a run of them is as many glyphs of ink, each of one column.
-use mathlib.Core.Path.{_≡_, refl, sym, ap, _∙_}
+use mathlib.Core.Path.{_≡_, refl, sym}
 use mathlib.Core.Bool.{Bool, false}
 use mathlib.Core.Logic.{⊎-elim}
 use mathlib.Core.List.{List}
@@ -72,5 +72,5 @@ module _ {glue : Bool} {s : List ℕ} {at : ℕ} where
         ⊎-elim
         (λ (e : w .end ≡ r .end). ink-same left (sym e) (omega (arith, o .width)) (o .none (sym e)))
         (λ (l : w .end < r .end). let i = ink-run (r .end - 1 - w .end) (r .end - 1) (omega arith) (plain-front (o .run) (omega arith) (omega arith)) in
-            ink-same i (omega arith) (omega (arith, o .width)) (o .last l))
+        ink-same i (omega arith) (omega (arith, o .width)) (o .last l))
         (eq-or-lt-of-le (o .run .on))

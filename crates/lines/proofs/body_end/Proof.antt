@@ -1,7 +1,6 @@
 -- `lines::body_end` meets its contract. Invariant: the body's end, counted from the place reached, is that counted from the start.
 use mathlib.Core.Path.{_≡_, sym, _∙_}
 use Prim.Native.Nat.{_+_, _-_, _≤_}
-use native.Mathlib.Omega.{arith}
 use lib.ListN.{length, drop}
 use borrow.Author.Needs.{needs}
 use Rattle.lines.specs.Lines.{body}

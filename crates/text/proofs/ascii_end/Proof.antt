@@ -1,6 +1,5 @@
 -- `text::ascii_end` meets its contract. Invariant: what was passed is below 0x80.
 use Prim.Native.Nat.{_-_}
-use native.Mathlib.Omega.{arith}
 use lib.ListN.{length}
 use borrow.Author.Needs.{needs}
 use Rattle.text.specs.Places.{Ascii}

@@ -1,6 +1,5 @@
 -- `words::plain_end` meets its contract. Invariant: what was passed is plain.
 use Prim.Native.Nat.{_-_}
-use native.Mathlib.Omega.{arith}
 use lib.ListN.{length}
 use borrow.Author.Needs.{needs}
 use Rattle.words.specs.Scan.{Plain}
