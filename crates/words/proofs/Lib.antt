@@ -1,5 +1,6 @@
 pub mod InkRuns
 pub mod PlainRuns
+pub mod Eights
 pub mod BlankRuns
 pub mod WordRuns
 pub mod NextWord

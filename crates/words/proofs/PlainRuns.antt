@@ -1,13 +1,14 @@
 -- Plain characters in ink: a run of them is as many glyphs of ink, each of one column.
 use mathlib.Core.Path.{_≡_, refl, sym}
-use mathlib.Core.Bool.{Bool, false}
+use mathlib.Core.Bool.{Bool, true, false}
 use mathlib.Core.Logic.{⊎-elim}
 use mathlib.Core.List.{List}
 use Prim.Native.Nat.{ℕ, zero, suc, _+_, _-_, _≤_, _<_}
 use native.Mathlib.Nat.{eq-or-lt-of-le}
 use native.Mathlib.Omega.{arith}
 use lib.ListN.{length, getD}
-use borrow.Author.Tests.{lt-leb, le-leb, ne-eqb}
+use borrow.Author.Tests.{lt-leb, le-leb, ne-eqb, ltb-true, ltb-false}
+use lib.Dec.{ltb}
 use Rattle.text.specs.Characters.{blankCode, widthOf}
 use Rattle.text.proofs.Glyphs.{Here, ascii-here}
 use Rattle.words.specs.Scan.{punctCode, Plain, OverPlain}
@@ -15,11 +16,11 @@ use Rattle.words.specs.declared.Ink.{Ink}
 use Rattle.words.proofs.InkRuns.{InkLeft, ink-more}
 
 -- a plain character is no blank
-pub plain-ink : (glue : Bool) (c : ℕ) → 33 ≤ c → c ≤ 126 → blankCode glue c ≡ false
+pub plain-ink : (glue : Bool) (c : ℕ) → 33 ≤ c → c < 128 → blankCode glue c ≡ false
 unfolding blankCode
 plain-ink glue c h k = rw (le-leb 9 c (omega arith), lt-leb c 13 (omega arith), ne-eqb c 0x20 (omega arith), ne-eqb c 0x85 (omega arith), ne-eqb c 0xA0 (omega arith))
 
-pub plain-here : (glue : Bool) (s : List ℕ) (at i : ℕ) → at ≡ i → i < length s → 33 ≤ getD s i 0 → getD s i 0 ≤ 126 → Here glue false s at (getD s i 0) (i + 1)
+pub plain-here : (glue : Bool) (s : List ℕ) (at i : ℕ) → at ≡ i → i < length s → 33 ≤ getD s i 0 → getD s i 0 < 128 → Here glue false s at (getD s i 0) (i + 1)
 plain-here glue s at i e h k l = rw (e, ← plain-ink glue (getD s i 0) k l) (ascii-here glue s i h (omega arith))
 
 -- ---- a run, character by character
@@ -29,16 +30,34 @@ before-and-at : (P : ℕ → Type 0) (s : List ℕ) (from to : ℕ) → ((i : �
 before-and-at P s from to all one i h k =
     ⊎-elim (λ (e : i ≡ to). rw e one) (λ (l : i < to). all i h l) (eq-or-lt-of-le (let g : i ≤ to = omega arith in g))
 
+-- what holds of the bytes of two parts
+either-part : (P : ℕ → Type 0) (s : List ℕ) (from i to : ℕ) → ((k : ℕ) → from ≤ k → k < i → P (getD s k 0)) → ((k : ℕ) → i ≤ k → k < to → P (getD s k 0))
+    → (k : ℕ) → from ≤ k → k < to → P (getD s k 0)
+either-part P s from i to first second k h l = pick (ltb k i) refl
+  where
+    pick : (t : Bool) → ltb k i ≡ t → P (getD s k 0)
+    pick true e = first k h (ltb-true k i e)
+    pick false e = second k (ltb-false k i e) l
+
 module _ {s : List ℕ} {from : ℕ} where
   pub plain-none : from ≤ length s → Plain s from from
   plain-none h = record { on = omega arith; within = h; least = λ i l k. absurd (omega arith); most = λ i l k. absurd (omega arith) }
 
-  pub plain-more : {to : ℕ} → Plain s from to → to < length s → 33 ≤ getD s to 0 → getD s to 0 ≤ 126 → Plain s from (to + 1)
+  pub plain-more : {to : ℕ} → Plain s from to → to < length s → 33 ≤ getD s to 0 → getD s to 0 < 128 → Plain s from (to + 1)
   plain-more {to} p h k l = record {
     on = omega (arith, p .on);
     within = omega arith;
     least = before-and-at (λ b. 33 ≤ b) s from to (p .least) k;
-    most = before-and-at (λ b. b ≤ 126) s from to (p .most) l;
+    most = before-and-at (λ b. b < 128) s from to (p .most) l;
+  }
+
+  -- one run behind another
+  pub plain-join : {i to : ℕ} → Plain s from i → Plain s i to → Plain s from to
+  plain-join {i} {to} a b = record {
+    on = omega (arith, a .on, b .on);
+    within = b .within;
+    least = λ k h l. either-part (λ c. 33 ≤ c) s from i to (a .least) (b .least) k h l;
+    most = λ k h l. either-part (λ c. c < 128) s from i to (a .most) (b .most) k h l;
   }
 
   -- the front of a run, and its last character

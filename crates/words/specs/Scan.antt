@@ -48,19 +48,29 @@ pub record OverInk (glue : Bool) (s : List ℕ) (at : ℕ) (r : Ink) : Type 0 wh
   pub narrow : r .width ≤ r .end
   pub some : r .end ≤ at + 4 * r .width
 
--- plain characters, bytes from `!` to `~`, stand from a place up to another
+-- bytes as one number, the first its least digit
+unfoldable pub number : List ℕ → ℕ
+number [] = 0
+number (b ∷ bs) = b + 256 * number bs
+
+-- the eight bytes at a place
+abbrev pub eightAt : List ℕ → ℕ → List ℕ
+eightAt s i =
+    getD s i 0 ∷ getD s (i + 1) 0 ∷ getD s (i + 2) 0 ∷ getD s (i + 3) 0 ∷ getD s (i + 4) 0 ∷ getD s (i + 5) 0 ∷ getD s (i + 6) 0 ∷ getD s (i + 7) 0 ∷ []
+
+-- plain characters, ASCII from `!` on, stand from a place up to another
 pub record Plain (s : List ℕ) (from to : ℕ) : Type 0 where
   pub on : from ≤ to
   pub within : to ≤ length s
   pub least : (i : ℕ) → from ≤ i → i < to → 33 ≤ getD s i 0
-  pub most : (i : ℕ) → from ≤ i → i < to → getD s i 0 ≤ 126
+  pub most : (i : ℕ) → from ≤ i → i < to → getD s i 0 < 128
 
 -- a space stands at a place, and a plain character behind it
 pub record OneSpace (s : List ℕ) (at : ℕ) : Type 0 where
   pub within : at + 1 < length s
   pub space : getD s at 0 ≡ 32
   pub least : 33 ≤ getD s (at + 1) 0
-  pub most : getD s (at + 1) 0 ≤ 126
+  pub most : getD s (at + 1) 0 < 128
 
 -- r is the ink w with plain characters behind it
 pub record OverPlain (s : List ℕ) (w r : Ink) : Type 0 where

@@ -2,7 +2,7 @@
 ghost use mathlib.Core.Path.{_≡_};
 ghost use mathlib.Core.Bool.{true, false, cond, _&&_, _||_};
 ghost use mathlib.Core.List.{List, [], _++_};
-ghost use Prim.Native.Nat.{ℕ, _+_, _-_, _≤_, _<_};
+ghost use Prim.Native.Nat.{ℕ, _+_, _-_, _*_, _^_, _≤_, _<_};
 ghost use lib.Dec.{ltb};
 ghost use lib.ListN.{length};
 ghost use lib.Seq.{slice};
@@ -12,7 +12,7 @@ ghost use Rattle.lines.specs.Lines.{linesOf};
 ghost use Rattle.records.specs.Table.{wordsIn};
 ghost use Rattle.words.specs.Words.{hasTab};
 ghost use Rattle.words.specs.Places.{wordsAt};
-ghost use Rattle.words.specs.Scan.{gapIn, gapBehind, punctCode, OverBlanks, OverInk, Plain, OverPlain, OneSpace, wordAt, mailAt, wordsFrom, NextIs};
+ghost use Rattle.words.specs.Scan.{gapIn, gapBehind, punctCode, OverBlanks, OverInk, number, eightAt, Plain, OverPlain, OneSpace, wordAt, mailAt, wordsFrom, NextIs};
 ghost use Rattle.words.specs.Split.{AllBegin, Kept, Filled, Split};
 use options::Options;
 use records::Before;
@@ -245,7 +245,7 @@ fn is_one_space(s: &[u8], at: usize) -> bool
     if b < 33 {
         return false;
     }
-    if 126 < b {
+    if 127 < b {
         return false;
     }
     true
@@ -317,7 +317,7 @@ fn over_ink(s: &[u8], at: usize, glue: bool) -> Ink
     }
 }
 
-// Ink with the plain characters behind it, which most are: bytes from `!` to `~`, each a character of one column.
+// Ink with the plain characters behind it, which most are: ASCII from `!` on, each a character of one column.
 fn over_plain(s: &[u8], w: Ink) -> Ink
     requires { ⌜ (w .end ≤ length (now s)) × (w .width ≤ w .end) × (length (now s) ≤ 65536) ⌝ }
     ensures { λ r. ⌜ OverPlain (now (s .entry)) w r ⌝ }
@@ -340,18 +340,80 @@ fn plain_end(s: &[u8], from: usize) -> usize
     requires { ⌜ from ≤ length (now s) ⌝ }
     ensures { λ r. ⌜ Plain (now (s .entry)) from r ⌝ }
 {
-    let mut i = from;
+    let mut i = plain_eights(s, from);
     while i < s.len() {
         let b = s[i];
         if b < 33 {
             return i;
         }
-        if 126 < b {
+        if 127 < b {
             return i;
         }
         i += 1;
     }
     i
+}
+
+// On over plain characters, eight at a time, up to one that is not plain or the last eight.
+fn plain_eights(s: &[u8], from: usize) -> usize
+    requires { ⌜ from ≤ length (now s) ⌝ }
+    ensures { λ r. ⌜ Plain (now (s .entry)) from r ⌝ }
+{
+    let mut i = from;
+    while 8 <= s.len() - i {
+        let n = plain_among(s, i);
+        i += n;
+        if n < 8 {
+            return i;
+        }
+    }
+    i
+}
+
+// How many of the eight bytes at a place, from the first on, are plain; none if one of the eight is not ASCII. With 95 added, each byte from
+// 33 on has its high bit set. Below the first high bit that is clear stand eight zeros for each byte before it.
+fn plain_among(s: &[u8], i: usize) -> usize
+    requires { ⌜ (i ≤ length (now s)) × (8 ≤ length (now s) - i) ⌝ }
+    ensures { λ r. ⌜ (r ≤ 8) × Plain (now (s .entry)) i (i + r) ⌝ }
+{
+    let x = eight(s, i);
+    if x & 0x8080808080808080 != 0 {
+        return 0;
+    }
+    let clear = 0x8080808080808080 - ((x + 0x5F5F5F5F5F5F5F5F) & 0x8080808080808080);
+    let zeros = u64::trailing_zeros(clear);
+    (zeros / 8) as usize
+}
+
+// The eight bytes at a place as one number, so that one sum tests them all.
+fn eight(s: &[u8], i: usize) -> u64
+    requires { ⌜ (i ≤ length (now s)) × (8 ≤ length (now s) - i) ⌝ }
+    ensures { λ r. ⌜ r ≡ number (eightAt (now (s .entry)) i) ⌝ }
+{
+    let b = i + 1;
+    let c = i + 2;
+    let d = i + 3;
+    let e = i + 4;
+    let f = i + 5;
+    let g = i + 6;
+    let h = i + 7;
+    let x = with_digit(s[g], with_digit(s[h], 0));
+    let y = with_digit(s[d], with_digit(s[e], with_digit(s[f], x)));
+    with_digit(s[i], with_digit(s[b], with_digit(s[c], y)))
+}
+
+// A number with one digit more, its least: a byte.
+fn with_digit(b: u8, digits: u64) -> u64
+    requires { ⌜ digits < 2 ^ 56 ⌝ }
+    ensures { λ r. ⌜ (r ≡ b + 256 * digits) × (r < 256 * digits + 256) ⌝ }
+{
+    digit(b) + 256 * digits
+}
+
+fn digit(b: u8) -> u64
+    ensures { λ r. ⌜ (r ≡ b) × (r < 256) ⌝ }
+{
+    b as u64
 }
 
 // A cast that needs no proof where it is used.

@@ -3,7 +3,7 @@ use Prim.Native.Nat.{_-_}
 use lib.ListN.{length}
 use borrow.Author.Needs.{needs}
 use Rattle.words.specs.Scan.{Plain}
-use Rattle.words.proofs.PlainRuns.{plain-none, plain-more}
+use Rattle.words.proofs.PlainRuns.{plain-more}
 use Rattle.words.proofs.plain_end.Statement.{statement}
 use Rattle.words.proofs.plain_end.Tie as tie
 
@@ -13,8 +13,11 @@ Inv-loop s from i₀ i = Plain s from i
 abbrev μ-loop : tie.MeasureT-loop
 μ-loop s from i₀ i = length s - i
 
+plain-eights-requires : tie.Need-plain-eights-requires Inv-loop μ-loop
+plain-eights-requires c κs = search needs
+
 loop-holds : tie.Need-loop-holds Inv-loop μ-loop
-loop-holds c = plain-none (search needs)
+loop-holds c = c .plain-eights .ensures
 
 shared-slice-read-b : tie.Need-shared-slice-read-b Inv-loop μ-loop
 shared-slice-read-b c = search needs
@@ -43,6 +46,7 @@ plain-end-spec =
     (tie.spec
     Inv-loop
     μ-loop
+    plain-eights-requires
     loop-holds
     shared-slice-read-b
     returns
