@@ -1,6 +1,6 @@
 -- The terms and the cost, each with its bound. Assumes nothing.
-use mathlib.Core.Path.{_≡_, refl}
-use mathlib.Core.Bool.{Bool, true, false}
+use mathlib.Core.Path.{_≡_, refl, _∙_}
+use mathlib.Core.Bool.{Bool, true, false, cond, _||_}
 use Prim.Native.Nat.{ℕ, _+_, _-_, _*_, _^_, _≤_, _<_, zero-le}
 use native.Mathlib.Nat.{le-trans, mul-le-mul}
 use native.Mathlib.Omega.{arith}
@@ -8,7 +8,7 @@ use lib.Dec.{T, leb, lit≤, lit<}
 use lib.Ieee.{Float, binary32, mul, sub, div, ofInt}
 use lib.Ieee.Back.{round-whole}
 use borrow.Author.Tests.{leb-true, leb-false, le-leb, lt-leb}
-use Rattle.demerits.specs.Bounds.{within, upTo, mostCost}
+use Rattle.demerits.specs.Bounds.{within, upTo, mostCost, costWith}
 use Rattle.demerits.specs.Demerits.{abs, cube, float, term, lineTerm, wordTerm, ratioTerm, cost}
 use Rattle.demerits.proofs.Operations.{abs-upTo, upTo-more, float-upTo, mul-within, mul-upTo, sub-within, div-within}
 use Rattle.demerits.proofs.Ratios.{quotient-within}
@@ -41,18 +41,33 @@ module _ (n k b : ℕ) (x : Float) (N : k * (b * b * b) ≤ n) (K : k ≤ 2 ^ 16
 pub line-le : (r : Float) → T (within 1 r) → lineTerm r ≤ 100
 line-le r h = term-le 100 100 1 r (lit≤ tt) (lit≤ tt) (lit≤ tt) h
 
--- ---- W, by its two tests: a long word, a stretch of at most 1, a short word
-pub word-long : (s w : ℕ) → s ≤ w → 0 ≡ wordTerm s w
+-- ---- W: a long word, a stretch of at most 1, a short word
+word-long : (s w : ℕ) → s ≤ w → 0 ≡ wordTerm s w
 unfolding wordTerm
 word-long s w h = simp (le-leb s w h)
 
-pub word-tight : (s w : ℕ) → w < s → s ≤ 1 → 0 ≡ wordTerm s w
+pub word-tight : (s w : ℕ) → s ≤ 1 → 0 ≡ wordTerm s w
 unfolding wordTerm
-word-tight s w h k = simp (lt-leb s w h, le-leb s 1 k)
+word-tight s w k = by (leb s w)
+  where
+    by : (x : Bool) → 0 ≡ cond (x || leb s 1) 0 (term 300 (div binary32 (float (s - w)) (float (s - 1))))
+    by true = refl
+    by false = simp (le-leb s 1 k)
 
-pub word-short : (s w : ℕ) → w < s → 1 < s → term 300 (div binary32 (float (s - w)) (float (s - 1))) ≡ wordTerm s w
+word-short : (s w : ℕ) → w < s → 1 < s → term 300 (div binary32 (float (s - w)) (float (s - 1))) ≡ wordTerm s w
 unfolding wordTerm
 word-short s w h k = simp (lt-leb s w h, lt-leb s 1 k)
+
+-- of a long word nothing is left to divide, and nothing is what it weighs
+pub word-any : (s w : ℕ) → 1 < s → s ≤ 2 ^ 24 → term 300 (div binary32 (float (s - w)) (float (s - 1))) ≡ wordTerm s w
+word-any s w k N = by (leb s w) refl
+  where
+    none : s ≤ w → term 300 (div binary32 (float (s - w)) (float (s - 1))) ≤ 0
+    none h = term-le 0 300 0 _ (lit≤ tt) (lit≤ tt) (lit≤ tt) (quotient-within 0 (s - w) (s - 1) (lit≤ tt) (omega arith) (omega arith) (omega arith) (omega arith))
+
+    by : (x : Bool) → leb s w ≡ x → term 300 (div binary32 (float (s - w)) (float (s - 1))) ≡ wordTerm s w
+    by true e = let h = leb-true s w e in let z = none h in (let q : term 300 (div binary32 (float (s - w)) (float (s - 1))) ≡ 0 = omega arith in q) ∙ word-long s w h
+    by false e = word-short s w (leb-false s w e) k
 
 pub word-within : (s w : ℕ) → 1 ≤ w → 1 < s → s ≤ 2 ^ 24 → T (within 1 (div binary32 (float (s - w)) (float (s - 1))))
 word-within s w h k N = quotient-within 1 (s - w) (s - 1) (lit≤ tt) (omega arith) (omega arith) (omega arith) (omega arith)
@@ -76,6 +91,10 @@ pub ratio-le : (r old : Float) → T (within 1 r) → T (within 1 old) → ratio
 ratio-le r old h k = term-le 600 600 1 _ (lit≤ tt) (lit≤ tt) (lit≤ tt) (change-within r old h k)
 
 -- ---- the cost
+pub cost-with : (r old : Float) (s word w : ℕ) → w ≡ wordTerm s word → costWith r old w ≡ cost r old s word
+unfolding cost
+cost-with r old s word w e = rw e
+
 pub square-le-most : (l w d : ℕ) → l ≤ 100 → w ≤ 300 → d ≤ 600 → (1 + l + w + d) * (1 + l + w + d) ≤ mostCost
 square-le-most l w d L W D = let s : 1 + l + w + d ≤ 1001 = omega arith in mul-le-mul s s
 

@@ -1,10 +1,10 @@
 -- The bounds that the contracts of `demerits` promise, and what an offered break's cost and ratio are.
-use mathlib.Core.Bool.{Bool, true, false}
+use mathlib.Core.Bool.{Bool, true, false, cond}
 use mathlib.Core.Path.{_≡_}
-use Prim.Native.Nat.{ℕ, _*_, _≤_}
-use lib.Dec.{T, leb}
-use lib.Ieee.{Float, nan, inf, fin, up, down}
-use Rattle.demerits.specs.Demerits.{ratio, cost}
+use Prim.Native.Nat.{ℕ, _+_, _-_, _*_, _≤_}
+use lib.Dec.{T, leb, ltb}
+use lib.Ieee.{Float, nan, inf, fin, up, down, neg}
+use Rattle.demerits.specs.Demerits.{float, ratio, lineTerm, ratioTerm}
 
 -- the greatest value that is ever truncated: the weight of D
 abbrev pub most : ℕ
@@ -27,9 +27,21 @@ upTo n (inf s) = false
 upTo n (fin true m e) = false
 upTo n (fin false m e) = leb (m * up e) (n * down e)
 
--- what a break after a word offers, where the line before has the ratio old: the cost c and the line's own ratio r
-pub record Offered (goal t stretch word : ℕ) (old : Float) (c : ℕ) (r : Float) : Type 0 where
+-- how many of the 24 digits of an f32 stand behind the point, by its exponent as it is written
+abbrev pub places : ℕ → ℕ
+places e = cond (ltb e 127) 24 (150 - e)
+
+-- goal − t as a float, but −0 where they are equal
+abbrev pub apart : ℕ → ℕ → Float
+apart goal t = cond (ltb t goal) (float (goal - t)) (neg (float (t - goal)))
+
+-- the cost, where W is given
+abbrev pub costWith : Float → Float → ℕ → ℕ
+costWith r old w = let c = 1 + lineTerm r + w + ratioTerm r old in c * c
+
+-- what a break after a word of weight w offers, where the line before has the ratio old: the cost c and the line's own ratio r
+pub record Offered (goal t stretch w : ℕ) (old : Float) (c : ℕ) (r : Float) : Type 0 where
   pub ratio-is : r ≡ ratio goal t stretch
-  pub cost-is : c ≡ cost (ratio goal t stretch) old stretch word
+  pub cost-is : c ≡ costWith (ratio goal t stretch) old w
   pub ratio-small : T (within 1 r)
   pub cost-small : c ≤ mostCost

@@ -1,6 +1,6 @@
 // Demerits: what a break after a word costs, in f32 with each operation rounded.
 ghost use mathlib.Core.Path.{_≡_};
-ghost use Prim.Native.Nat.{_+_, _*_, _≤_, _<_};
+ghost use Prim.Native.Nat.{_+_, _-_, _≤_, _<_};
 ghost use lib.Dec.{T};
 ghost use lib.Ieee.{binary32, mul};
 ghost use Rattle.demerits.specs.Bounds as B;
@@ -42,34 +42,26 @@ fn abs(x: f32) -> f32
     x
 }
 
-// The first power of eight above x. Most values are small: by eights they are met after few comparisons.
-fn power_above(x: f32) -> u16
-    requires { ⌜ T (B.upTo B.most x) ⌝ }
-    ensures { λ r. ⌜ (S.whole x < r) × (r ≤ 8 * S.whole x + 1) ⌝ }
+// How many of an f32's 24 digits stand behind the point. A value below 1 has no whole part: all of them do.
+fn places(exponent: u32) -> u32
+    requires { ⌜ exponent ≤ 150 ⌝ }
+    ensures { λ r. ⌜ r ≡ B.places exponent ⌝ }
 {
-    let mut power: u16 = 1;
-    while power as f32 <= x {
-        power *= 8;
+    if exponent < 127 {
+        return 24;
     }
-    power
+    150 - exponent
 }
 
-// The whole part of x, by comparing with whole numbers made floats.
+// The whole part of x, from its own bits: the exponent, and 23 digits behind a first one that is not written.
 pub fn trunc(x: f32) -> u16
     requires { ⌜ T (B.upTo B.most x) ⌝ }
     ensures { λ r. ⌜ r ≡ S.whole x ⌝ }
 {
-    let mut high = power_above(x);
-    let mut low = high / 8;
-    while high - low > 1 {
-        let middle = low + (high - low) / 2;
-        if middle as f32 <= x {
-            low = middle;
-        } else {
-            high = middle;
-        }
-    }
-    low
+    let bits = f32::to_bits(x);
+    let digits = (bits & 0x7f_ffff) | 0x80_0000;
+    let behind = places(bits >> 23);
+    (digits >> behind) as u16
 }
 
 // The whole part of k * |cube(x)|, where cube(x) is (x * x) * x.
@@ -80,6 +72,17 @@ fn term(k: u16, x: f32) -> u16
     trunc((k as f32) * abs(x * x * x))
 }
 
+// goal - t, as a float.
+fn apart(goal: usize, t: usize) -> f32
+    requires { ⌜ (goal < t + 65536) × (t < goal + 65536) ⌝ }
+    ensures { λ r. ⌜ r ≡ B.apart goal t ⌝ }
+{
+    if t < goal {
+        return float(goal - t);
+    }
+    -float(t - goal)
+}
+
 // How far a line of t columns is from the goal, as a part of the stretch: above 0 where it is short, below 0 where it is long.
 pub fn ratio(goal: usize, t: usize, stretch: usize) -> f32
     requires { ⌜ (goal ≤ t + stretch) × (t ≤ goal + stretch) × (stretch ≤ 1000) ⌝ }
@@ -88,10 +91,7 @@ pub fn ratio(goal: usize, t: usize, stretch: usize) -> f32
     if t == goal {
         return 0.0;
     }
-    if t < goal {
-        return float(goal - t) / float(stretch);
-    }
-    (-float(t - goal)) / float(stretch)
+    apart(goal, t) / float(stretch)
 }
 
 // L, for the line's ratio r.
@@ -102,15 +102,24 @@ pub fn line_term(r: f32) -> u16
     term(LINE_WEIGHT, r)
 }
 
-// W, for the width of the line's last word. At a stretch of 1 nothing is divided by 0, whatever the word.
+fn less(a: usize, b: usize) -> usize
+    ensures { λ r. ⌜ r ≡ a - b ⌝ }
+{
+    if a < b {
+        return 0;
+    }
+    a - b
+}
+
+// W, for the width of the line's last word. A word of the stretch or more leaves 0 to divide. At a stretch of 1 nothing is divided by 0, whatever the word.
 pub fn word_term(stretch: usize, word: usize) -> u16
     requires { ⌜ (stretch ≤ 1000) × (1 ≤ word) ⌝ }
     ensures { λ w. ⌜ (w ≡ S.wordTerm stretch word) × (w ≤ 300) ⌝ }
 {
-    if stretch <= word || stretch <= 1 {
+    if stretch <= 1 {
         return 0;
     }
-    term(WORD_WEIGHT, float(stretch - word) / float(stretch - 1))
+    term(WORD_WEIGHT, float(less(stretch, word)) / float(stretch - 1))
 }
 
 // D, for the line's ratio r and that of the line before.
@@ -121,24 +130,24 @@ pub fn ratio_term(r: f32, old: f32) -> u16
     term(RATIO_WEIGHT, (r - old) / 2.0)
 }
 
-// The cost of a break after a word of a line with the ratio r, where the line before has the ratio old.
-pub fn cost(r: f32, old: f32, stretch: usize, word: usize) -> u64
-    requires { ⌜ T (B.within 1 r) × T (B.within 1 old) × (stretch ≤ 1000) × (1 ≤ word) ⌝ }
-    ensures { λ c. ⌜ (c ≡ S.cost r old stretch word) × (c ≤ B.mostCost) ⌝ }
+// The cost of a break after a word of weight W, of a line with the ratio r, where the line before has the ratio old.
+pub fn cost(r: f32, old: f32, weight: u16) -> u64
+    requires { ⌜ T (B.within 1 r) × T (B.within 1 old) × (weight ≤ 300) ⌝ }
+    ensures { λ c. ⌜ (c ≡ B.costWith r old weight) × (c ≤ B.mostCost) ⌝ }
 {
-    let sum = 1 + line_term(r) + word_term(stretch, word) + ratio_term(r, old);
+    let sum = 1 + line_term(r) + weight + ratio_term(r, old);
     let wide = sum as u64;
     wide * wide
 }
 
-// What a break offers behind a word that brings its line to t columns, no farther than the stretch from the goal.
-pub fn compute_demerits(goal: usize, t: usize, stretch: usize, word: usize, old: f32) -> Offer
-    requires { ⌜ (goal ≤ t + stretch) × (t ≤ goal + stretch) × (stretch ≤ 1000) × (1 ≤ word) × T (B.within 1 old) ⌝ }
-    ensures { λ o. ⌜ B.Offered goal t stretch word old (o .cost) (o .ratio) ⌝ }
+// What a break offers behind a word of weight W that brings its line to t columns, no farther than the stretch from the goal.
+pub fn compute_demerits(goal: usize, t: usize, stretch: usize, weight: u16, old: f32) -> Offer
+    requires { ⌜ (goal ≤ t + stretch) × (t ≤ goal + stretch) × (stretch ≤ 1000) × (weight ≤ 300) × T (B.within 1 old) ⌝ }
+    ensures { λ o. ⌜ B.Offered goal t stretch weight old (o .cost) (o .ratio) ⌝ }
 {
     let r = ratio(goal, t, stretch);
     Offer {
-        cost: cost(r, old, stretch, word),
+        cost: cost(r, old, weight),
         ratio: r,
     }
 }

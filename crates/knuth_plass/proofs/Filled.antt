@@ -6,9 +6,9 @@ use native.Mathlib.Omega.{arith}
 use borrow.Author.Tests.{eqb-true, eqb-false}
 use lib.Dec.{eqb}
 use Rattle.knuth_plass.specs.declared.Break.{Break as Record}
-use Rattle.knuth_plass.specs.Table.{Tables, Sized, breakIn, withBreak, Sound, Filled}
+use Rattle.knuth_plass.specs.Table.{Tables, breakIn, withBreak, Stored, Sound, Filled}
 use Rattle.knuth_plass.specs.Round.{lessened, extended}
-use Rattle.knuth_plass.proofs.Table.{sized-with, read-back, read-other}
+use Rattle.knuth_plass.proofs.Table.{sized-with, stored-with}
 
 pub sound-lessened : (i k : ℕ) (b : Record) → Sound i b → Sound i (lessened k b)
 sound-lessened i k b s = let d = s .demerits in record { ratio = s .ratio; columns = s .columns; demerits = omega arith; word = s .word }
@@ -20,18 +20,18 @@ sound-later : (i : ℕ) (b : Record) → Sound i b → Sound (suc i) b
 sound-later i b s = let d = s .demerits in let w = s .word in record { ratio = s .ratio; columns = s .columns; demerits = omega arith; word = omega arith }
 
 -- what is stored at j holds, and the other records are as they were
-stored-holds : (t : Tables) (j : ℕ) (b : Record) (P : ℕ → Record → Type 0) → j < 1024 → Sized t → P j b → (m : ℕ) → ((m ≡ j → ⊥) → P m (breakIn t m)) → P m (breakIn (withBreak t j b) m)
-stored-holds t j b P room sized h m other = by (eqb m j) refl where
-  by : (x : Bool) → eqb m j ≡ x → P m (breakIn (withBreak t j b) m)
-  by true e = rw (eqb-true m j e, read-back t j b room sized) h
-  by false e = rw (read-other t j b m (eqb-false m j e)) (other (eqb-false m j e))
+stored-holds : (t : Tables) (j : ℕ) (b : Record) (t₁ : Tables) (P : ℕ → Record → Type 0) → Stored t j b t₁ → P j b → (m : ℕ) → ((m ≡ j → ⊥) → P m (breakIn t m)) → P m (breakIn t₁ m)
+stored-holds t j b t₁ P stored h m other = by (eqb m j) refl where
+  by : (x : Bool) → eqb m j ≡ x → P m (breakIn t₁ m)
+  by true e = rw (eqb-true m j e, stored .here) h
+  by false e = rw (stored .others m (eqb-false m j e)) (other (eqb-false m j e))
 
 module _ (i n : ℕ) (t : Tables) (filled : Filled i n t) where
-  pub filled-again : (j : ℕ) (b : Record) → n ≤ 1024 → j < n → Sound i b → b .previous ≡ breakIn t j .previous → Filled i n (withBreak t j b)
-  filled-again j b few here sound same = record {
-    sized = sized-with t j b (filled .sized);
-    sound = λ m h. stored-holds t j b (λ m c. Sound i c) (omega arith) (filled .sized) sound m (λ ne. filled .sound m h);
-    down = λ m p h. stored-holds t j b (λ m c. 0 < m → c .previous < m) (omega arith) (filled .sized) (λ q. rw same (filled .down j q here)) m (λ ne q. filled .down m q h) p;
+  pub filled-again : (j : ℕ) (b : Record) (t₁ : Tables) → j < n → Stored t j b t₁ → Sound i b → b .previous ≡ breakIn t j .previous → Filled i n t₁
+  filled-again j b t₁ here stored sound same = record {
+    sized = stored .sized;
+    sound = λ m h. stored-holds t j b t₁ (λ m c. Sound i c) stored sound m (λ ne. filled .sound m h);
+    down = λ m p h. stored-holds t j b t₁ (λ m c. 0 < m → c .previous < m) stored (λ q. rw same (filled .down j q here)) m (λ ne q. filled .down m q h) p;
   }
 
   pub filled-later : Filled (suc i) n t
@@ -40,6 +40,6 @@ module _ (i n : ℕ) (t : Tables) (filled : Filled i n t) where
   pub filled-more : (b : Record) → n < 1024 → Sound (suc i) b → b .previous < n → Filled (suc i) (suc n) (withBreak t n b)
   filled-more b room sound before = record {
     sized = sized-with t n b (filled .sized);
-    sound = λ m h. stored-holds t n b (λ m c. Sound (suc i) c) room (filled .sized) sound m (λ ne. sound-later i (breakIn t m) (filled .sound m (omega arith)));
-    down = λ m p h. stored-holds t n b (λ m c. 0 < m → c .previous < m) room (filled .sized) (λ q. before) m (λ ne q. filled .down m q (omega arith)) p;
+    sound = λ m h. stored-holds t n b (withBreak t n b) (λ m c. Sound (suc i) c) (stored-with t n b room (filled .sized)) sound m (λ ne. sound-later i (breakIn t m) (filled .sound m (omega arith)));
+    down = λ m p h. stored-holds t n b (withBreak t n b) (λ m c. 0 < m → c .previous < m) (stored-with t n b room (filled .sized)) (λ q. before) m (λ ne q. filled .down m q (omega arith)) p;
   }

@@ -12,53 +12,61 @@ use Rattle.lists.proofs.Remaining.{slice-here, slice-none}
 use Rattle.knuth_plass.specs.declared.Break.{Break as Record}
 use Rattle.knuth_plass.specs.declared.State.{State}
 use Rattle.knuth_plass.specs.declared.Standing.{Standing}
-use Rattle.knuth_plass.specs.KnuthPlass.{Place, Break, leastFrom, least}
-use Rattle.knuth_plass.specs.Table.{Tables, breakIn, seen, meant, lesserIn}
-use Rattle.knuth_plass.specs.Round.{noted, breaksOf, Listed, LeastIs}
+use Rattle.knuth_plass.specs.KnuthPlass.{Break, leastFrom, least}
+use Rattle.knuth_plass.specs.Table.{Tables, breakIn, pathTo, seen, meant, lesserIn}
+use Rattle.knuth_plass.specs.Round.{lessened, noted, Found, breaksOf, Listed, LeastIs}
 use Rattle.knuth_plass.proofs.Ascends.{ascends-each}
 
-abbrev with : State → ℕ → Record → State
-with s n b = record { kept = s .kept; from = n; least = b; best = s .best }
+abbrev with : State → ℕ → ℕ → State
+with s n d = record { kept = s .kept; from = n; least = d; best = s .best }
 
-module _ (s : State) (n : ℕ) (b : Record) where
-  pub noted-less : b .demerits < s .least .demerits → with s n b ≡ noted s n b
+module _ (s : State) (n d : ℕ) where
+  pub noted-less : d < s .least → with s n d ≡ noted s n d
   unfolding noted
-  noted-less h = sym (rw (lt-ltb (b .demerits) (s .least .demerits) h))
+  noted-less h = sym (rw (lt-ltb d (s .least) h))
 
-  pub noted-not : s .least .demerits ≤ b .demerits → s ≡ noted s n b
+  pub noted-not : s .least ≤ d → s ≡ noted s n d
   unfolding noted
-  noted-not h = sym (rw (le-ltb (b .demerits) (s .least .demerits) h))
+  noted-not h = sym (rw (le-ltb d (s .least) h))
 
-  -- the round's other numbers are as they were, and what holds of both holds of the least
-  pub noted-kept : noted s n b .kept ≡ s .kept
+  -- the round's other numbers are as they were
+  pub noted-kept : noted s n d .kept ≡ s .kept
   unfolding noted
-  noted-kept = by (ltb (b .demerits) (s .least .demerits)) where
-    by : (x : Bool) → cond x (with s n b) s .kept ≡ s .kept
+  noted-kept = by (ltb d (s .least)) where
+    by : (x : Bool) → cond x (with s n d) s .kept ≡ s .kept
     by true = refl
     by false = refl
 
-  pub noted-best : noted s n b .best ≡ s .best
+  pub noted-best : noted s n d .best ≡ s .best
   unfolding noted
-  noted-best = by (ltb (b .demerits) (s .least .demerits)) where
-    by : (x : Bool) → cond x (with s n b) s .best ≡ s .best
+  noted-best = by (ltb d (s .least)) where
+    by : (x : Bool) → cond x (with s n d) s .best ≡ s .best
     by true = refl
     by false = refl
 
-  pub noted-holds : (P : ℕ → Record → Type 0) → P (s .from) (s .least) → P n b → P (noted s n b .from) (noted s n b .least)
+  pub noted-from : (size : ℕ) → s .from < size → n < size → noted s n d .from < size
   unfolding noted
-  noted-holds P h k = by (ltb (b .demerits) (s .least .demerits)) where
-    by : (x : Bool) → P (cond x (with s n b) s .from) (cond x (with s n b) s .least)
+  noted-from size h k = by (ltb d (s .least)) where
+    by : (x : Bool) → cond x (with s n d) s .from < size
     by true = k
     by false = h
 
+-- c is the least so far, and b is next
+module _ (st : Standing) (t : Tables) (s : State) (n : ℕ) (b : Record) (c : Break) (found : Found st t s c) where
+  abbrev pub lower : Break
+  lower = cond (ltb (b .demerits) (s .least)) (seen (pathTo t n) b) c
+
+  pub noted-found : b ≡ lessened (st .reduction) (breakIn t n) → Found st t (noted s n (b .demerits)) lower
+  unfolding noted seen
+  noted-found is = by (ltb (b .demerits) (s .least)) where
+    by : (x : Bool) → Found st t (cond x (with s n (b .demerits)) s) (cond x (seen (pathTo t n) b) c)
+    by true = record { demerits = refl; again = λ z. ap (seen (pathTo t n)) (sym is) }
+    by false = found
+
   -- the definition's choice is the same
-  pub least-step : (path : ℕ → List Place) (bs : List Break)
-      → leastFrom (seen (path (s .from)) (s .least)) (seen (path n) b ∷ bs) ≡ leastFrom (seen (path (noted s n b .from)) (noted s n b .least)) bs
-  unfolding noted leastFrom seen
-  least-step path bs = ap (λ (c : Break). leastFrom c bs) (by (ltb (b .demerits) (s .least .demerits))) where
-    by : (x : Bool) → cond x (seen (path n) b) (seen (path (s .from)) (s .least)) ≡ seen (path (cond x (with s n b) s .from)) (cond x (with s n b) s .least)
-    by true = refl
-    by false = refl
+  pub least-step : (bs : List Break) → leastFrom c (seen (pathTo t n) b ∷ bs) ≡ leastFrom lower bs
+  unfolding leastFrom seen
+  least-step bs = ap (λ (m : ℕ). leastFrom (cond (ltb (b .demerits) m) (seen (pathTo t n) b) c) bs) (sym (found .demerits))
 
 -- ---- the same by number, over all active breaks
 

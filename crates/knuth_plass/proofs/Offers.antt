@@ -1,68 +1,70 @@
 -- The best offer: the code's choice between two is the definition's, first among equals, and the order of choosing does not matter.
-use mathlib.Core.Path.{_≡_, refl, sym}
+use mathlib.Core.Path.{_≡_, refl}
+use mathlib.Core.List.{_∷_}
 use mathlib.Core.Bool.{Bool, true, false, cond}
 use Prim.Native.Nat.{ℕ, suc, _*_, _≤_, _<_}
 use native.Mathlib.Omega.{arith}
-use borrow.Author.Tests.{le-leb, lt-leb, leb-true, leb-false}
-use lib.Dec.{T, leb}
+use borrow.Author.Tests.{le-leb, lt-leb, leb-true, leb-false, lt-ltb, le-ltb, ltb-true, ltb-false}
+use lib.Dec.{T, leb, ltb}
 use lib.Ieee.{Float}
 use Rattle.spacing.specs.declared.Setting.{Setting}
 use Rattle.demerits.specs.Bounds.{within, mostCost}
 use Rattle.knuth_plass.specs.declared.Best.{Best}
-use Rattle.knuth_plass.specs.declared.Best.the-variants.{Nothing, From}
-use Rattle.knuth_plass.specs.KnuthPlass.{Break, Offer, none, offer, lesser}
+use Rattle.knuth_plass.specs.KnuthPlass.{Break, Offer, none, offer, after, lesser}
 use Rattle.knuth_plass.specs.Table.{Tables, pathTo}
-use Rattle.knuth_plass.specs.Round.{better, beaten, offerIn, BestFits}
+use Rattle.knuth_plass.specs.Round.{nothing, from, better, offerIn, BestFits}
 
 -- ---- as the code chooses
 
-module _ (b : Best) (p d : ℕ) (r : Float) where
-  pub better-none : b ≡ Nothing → From r p d ≡ better b p d r
-  unfolding better
-  better-none e = rw e
-
-  pub better-keeps : (q f : ℕ) (s : Float) → b ≡ From s q f → f ≤ d → From s q f ≡ better b p d r
-  unfolding better
-  better-keeps q f s e h = rw (e, better) (sym (rw (le-leb f d h)))
-
-  pub better-gives-way : (q f : ℕ) (s : Float) → b ≡ From s q f → d < f → From r p d ≡ better b p d r
-  unfolding better
-  better-gives-way q f s e h = rw (e, better) (sym (rw (lt-leb f d h)))
-
-pub beaten-from : (b : Best) (d : ℕ) (q f : ℕ) (s : Float) → b ≡ From s q f → leb f d ≡ beaten b d
-beaten-from b d q f s e = rw e
-
--- a total that is no less than one that is beaten is not taken
-pub better-stays : (b : Best) (p m d : ℕ) (r : Float) → m ≤ d → beaten b m ≡ true → better b p d r ≡ b
+-- a choice for each number is a choice between the two
+pub better-is : (b : Best) (p d : ℕ) (r : Float) (e q : ℕ) (u : Float) → e ≡ cond (leb (b .total) d) (b .total) d → q ≡ cond (leb (b .total) d) (b .previous) p
+    → u ≡ cond (leb (b .total) d) (b .ratio) r → from q e u ≡ better b p d r
 unfolding better
-better-stays Nothing p m d r h e = absurd (let z : _≡_ {A = ℕ} 0 1 = cc in omega arith)
-better-stays (From s q f) p m d r h e = let k = leb-true f m e in rw (le-leb f d (omega arith))
+better-is b p d r e q u f g h = rw (f, g, h) (by (leb (b .total) d)) where
+  by : (x : Bool) → from (cond x (b .previous) p) (cond x (b .total) d) (cond x (b .ratio) r) ≡ cond x b (from p d r)
+  by true = refl
+  by false = refl
 
 -- ---- what is chosen
 
-offer-pick : (g : Setting) (i : ℕ) (t : Tables) (x : Bool) (a b : Best) → offerIn g i t (cond x a b) ≡ cond x (offerIn g i t a) (offerIn g i t b)
-offer-pick g i t true a b = refl
-offer-pick g i t false a b = refl
+module _ (g : Setting) (i : ℕ) (t : Tables) where
+  -- the break that an offer would be
+  abbrev one : Best → Break
+  one b = record { places = after i ∷ pathTo t (b .previous); demerits = b .total; ratio = b .ratio; columns = g .indent; fresh = true }
 
-pub offer-better : (g : Setting) (i : ℕ) (t : Tables) (b : Best) (p d : ℕ) (r : Float) → offerIn g i t (better b p d r) ≡ lesser (offerIn g i t b) (offerIn g i t (From r p d))
-unfolding better lesser offerIn
-offer-better g i t Nothing p d r = refl
-offer-better g i t (From s q f) p d r = offer-pick g i t (leb f d) (From s q f) (From r p d)
+  pub offer-some : (b : Best) → b .total < nothing → offerIn g i t b ≡ offer (one b)
+  unfolding offerIn
+  offer-some b h = rw (lt-ltb (b .total) nothing h)
 
-fits-pick : (i size : ℕ) (x : Bool) (a b : Best) → BestFits i size a → BestFits i size b → BestFits i size (cond x a b)
-fits-pick i size true a b h k = h
-fits-pick i size false a b h k = k
+  pub offer-none : (b : Best) → nothing ≤ b .total → offerIn g i t b ≡ none
+  unfolding offerIn
+  offer-none b h = rw (le-ltb (b .total) nothing h)
 
-pub fits-better : (i size : ℕ) (b : Best) (p d : ℕ) (r : Float) → BestFits i size b → p < size → d ≤ suc i * mostCost → T (within 1 r) → BestFits i size (better b p d r)
+  pub offer-better : (b : Best) (p d : ℕ) (r : Float) → d < nothing → offerIn g i t (better b p d r) ≡ lesser (offerIn g i t b) (offerIn g i t (from p d r))
+  unfolding better lesser
+  offer-better b p d r few = by (leb (b .total) d) (ltb (b .total) nothing) refl refl where
+    by : (x y : Bool) → leb (b .total) d ≡ x → ltb (b .total) nothing ≡ y → offerIn g i t (cond x b (from p d r)) ≡ lesser (offerIn g i t b) (offerIn g i t (from p d r))
+    by true true e f = rw (offer-some b (ltb-true (b .total) nothing f), offer-some (from p d r) few, lesser, e)
+    by false true e f = rw (offer-some b (ltb-true (b .total) nothing f), offer-some (from p d r) few, lesser, e)
+    by true false e f = let h = leb-true (b .total) d e in let k = ltb-false (b .total) nothing f in absurd (omega arith)
+    by false false e f = rw (offer-none b (ltb-false (b .total) nothing f), lesser)
+
+pub fits-better : (i size : ℕ) (b : Best) (p d : ℕ) (r : Float) → (b .total < nothing → BestFits i size b) → p < size → d ≤ suc i * mostCost → T (within 1 r)
+    → better b p d r .total < nothing → BestFits i size (better b p d r)
 unfolding better
-fits-better i size Nothing p d r f h k w = (h, k, w)
-fits-better i size (From s q e) p d r f h k w = fits-pick i size (leb e d) (From s q e) (From r p d) f (h, k, w)
+fits-better i size b p d r f h k w = by (leb (b .total) d) where
+  by : (x : Bool) → cond x b (from p d r) .total < nothing → BestFits i size (cond x b (from p d r))
+  by true z = f z
+  by false z = record { previous = h; total = k; ratio = w }
 
 -- the same paths, the same offer
-pub offer-same : (g : Setting) (i size : ℕ) (t t₁ : Tables) (b : Best) → BestFits i size b → ((j : ℕ) → j < size → pathTo t₁ j ≡ pathTo t j) → offerIn g i t₁ b ≡ offerIn g i t b
-unfolding offerIn
-offer-same g i size t t₁ Nothing f e = refl
-offer-same g i size t t₁ (From r p d) f e = rw (e p (f .0))
+pub offer-same : (g : Setting) (i size : ℕ) (t t₁ : Tables) (b : Best) → (b .total < nothing → BestFits i size b) → ((j : ℕ) → j < size → pathTo t₁ j ≡ pathTo t j) → offerIn g i t₁ b ≡ offerIn g i t b
+offer-same g i size t t₁ b f e = by (ltb (b .total) nothing) refl where
+  by : (x : Bool) → ltb (b .total) nothing ≡ x → offerIn g i t₁ b ≡ offerIn g i t b
+  by true h =
+      let k = ltb-true (b .total) nothing h in
+      rw (offer-some g i t₁ b k, offer-some g i t b k, e (b .previous) (f k .previous))
+  by false h = let k = ltb-false (b .total) nothing h in rw (offer-none g i t₁ b k, offer-none g i t b k)
 
 -- ---- first among equals, in any grouping
 

@@ -5,19 +5,19 @@ use mathlib.Core.List.{List, _∷_, map, append-nil}
 use Prim.Native.Nat.{ℕ, _-_, _≤_, _<_}
 use native.Mathlib.Omega.{arith}
 use lib.Dec.{ltb}
+use lib.Ieee.{Float}
 use lib.ListN.{length, getD, take}
 use lib.Seq.{slice}
 use Rattle.lists.proofs.Remaining.{slice-here, slice-none}
 use Rattle.records.specs.Word.{meaning}
 use Rattle.spacing.specs.declared.Setting.{Setting}
 use Rattle.knuth_plass.specs.declared.Break.{Break as Record}
-use Rattle.knuth_plass.specs.declared.Best.the-variants.{Nothing}
 use Rattle.knuth_plass.specs.declared.Turn.{Turn}
 use Rattle.knuth_plass.specs.declared.State.{State}
 use Rattle.knuth_plass.specs.declared.Standing.{Standing}
 use Rattle.knuth_plass.specs.KnuthPlass.{Break, reduced, staying, lesser, bestOffer, leastFrom, least}
-use Rattle.knuth_plass.specs.Table.{Tables, breakIn, seen, meant, Ascends}
-use Rattle.knuth_plass.specs.Round.{Turns, lessened, offerIn, Ready, breaksOf, Fit, Goes, Answer, Done}
+use Rattle.knuth_plass.specs.Table.{Tables, breakIn, pathTo, seen, meant, Ascends}
+use Rattle.knuth_plass.specs.Round.{Turns, lessened, nothing, offerIn, Ready, breaksOf, Fit, Goes, Answer, Done}
 use Rattle.knuth_plass.proofs.Ascends.{ascends-first}
 use Rattle.knuth_plass.proofs.Offers.{lesser-none}
 
@@ -29,9 +29,9 @@ least-again b bs = ap (λ (c : Break). leastFrom c bs) (by (ltb (b .demerits) (b
   by true = refl
   by false = refl
 
--- the round so far where none is done, the first break being b
-abbrev begun : ℕ → Record → State
-begun n b = record { kept = 0; from = n; least = b; best = Nothing }
+-- the round so far where none is done, the first break having the demerits d
+abbrev begun : ℕ → ℕ → Float → State
+begun n d r = record { kept = 0; from = n; least = d; best = record { total = nothing; previous = 0; ratio = r } }
 
 abbrev pub answer : Setting → Turn → List Break → List ℕ → Answer
 answer g turn active notes = record {
@@ -54,8 +54,8 @@ module _ (g : Setting) (turn : Turn) (st : Standing) (t : Tables) (a : List ℕ)
   pub first-room : getD a 0 0 < 1024
   first-room = let w = first-within in let f = turns .few in let h = ready .few in omega arith
 
-  module _ (b : Record) (is : b ≡ lessened (st .reduction) (breakIn t (getD a 0 0))) where
-    pub fit-first : Fit turn st 0 t a (begun (getD a 0 0) b)
+  module _ (r : Float) (b : Record) (is : b ≡ lessened (st .reduction) (breakIn t (getD a 0 0))) where
+    pub fit-first : Fit turn st 0 t a (begun (getD a 0 0) (b .demerits) r)
     fit-first = record {
       filled = ready .filled;
       active = ready .active;
@@ -65,15 +65,16 @@ module _ (g : Setting) (turn : Turn) (st : Standing) (t : Tables) (a : List ℕ)
       on = omega arith;
       ascends = ready .ascends;
       from = first-within;
-      columns = rw is (ready .filled .sound (getD a 0 0) first-within .columns);
-      best = tt;
+      best = λ h. absurd (omega arith);
     }
 
-    pub goes-first : (notes : List ℕ) → Goes g turn st (answer g turn (map (reduced (st .reduction)) (breaksOf (st .count) t a)) notes) 0 t a (begun (getD a 0 0) b)
+    pub goes-first : (notes : List ℕ) → Goes g turn st (answer g turn (map (reduced (st .reduction)) (breaksOf (st .count) t a)) notes) 0 t a (begun (getD a 0 0) (b .demerits) r)
     unfolding lesser offerIn least reduced meant seen
     goes-first notes = record {
       stayed = refl;
       best = refl;
+      so-far = seen (pathTo t (getD a 0 0)) b;
+      found = record { demerits = refl; again = λ z. ap (seen (pathTo t (getD a 0 0))) (sym is) };
       least = rw (is, here) (least-again _ _);
     }
 
@@ -87,12 +88,12 @@ module _ (turn : Turn) (st : Standing) (t : Tables) (a : List ℕ) (k : ℕ) (s 
   pub fit-all : Fit turn st k t a s → Ascends 0 (st .size) (take (s .kept) a)
   fit-all fit = rw (← append-nil (take (s .kept) a), ← slice-none a k (st .count) all) (fit .ascends)
 
-  pub done : (g : Setting) (active : List Break) (notes : List ℕ) → Goes g turn st (answer g turn active notes) k t a s → Done g turn active t a s notes
+  pub done : (g : Setting) (active : List Break) (notes : List ℕ) → Goes g turn st (answer g turn active notes) k t a s → Done g turn st active t a s notes
   unfolding staying bestOffer leastFrom
   done g active notes v =
       let e = slice-none a k (st .count) all in
       record {
         stayed = sym (append-nil (breaksOf (s .kept) t a)) ∙ rw e at (v .stayed);
         best = sym (lesser-none (offerIn g (turn .number) t (s .best))) ∙ rw e at (v .best);
-        least = rw e at (v .least);
+        found = rw (sym (rw e at (v .least))) (v .found);
       }

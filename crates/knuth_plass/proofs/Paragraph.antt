@@ -29,19 +29,19 @@ use Rattle.knuth_plass.proofs.Path.{path-start}
 
 -- ---- one round
 
-module _ (g : Setting) (last sentence : Bool) (i : ℕ) (w : WordRecord) (space floor : ℕ) (st : Standing) (t : Tables) (a : List ℕ) where
+module _ (g : Setting) (last sentence : Bool) (i : ℕ) (w : WordRecord) (space weight : ℕ) (st : Standing) (t : Tables) (a : List ℕ) where
   abbrev turn : Turn
-  turn = record { word = w; number = i; space = space; floor = floor; last = last }
+  turn = record { word = w; number = i; space = space; weight = weight; last = last }
 
   pub round-is : (t₁ : Tables) (a₁ : List ℕ) (s : State) (t₂ : Tables) (a₂ : List ℕ) (r : Standing) → space ≡ addedSpace (g .uniform) (w .first) sentence false
-      → ((notes : List ℕ) → Done g turn (map (reduced (st .reduction)) (breaksOf (st .count) t a)) t₁ a₁ s notes) → Settled g turn t₁ a₁ s t₂ a₂ r
+      → ((notes : List ℕ) → Done g turn st (map (reduced (st .reduction)) (breaksOf (st .count) t a)) t₁ a₁ s notes) → Settled g turn st t₁ a₁ s t₂ a₂ r
       → RoundIs g last sentence i w st t a t₂ a₂ r
   unfolding round meaning
   round-is t₁ a₁ s t₂ a₂ r e done settles = record {
     ready = settles .ready;
     is = λ notes.
         let active = map (reduced (st .reduction)) (breaksOf (st .count) t a) in
-        settles .is notes active (done notes .least)
+        settles .is notes active (done notes .found)
         ∙ ap₂ (λ (bs : List Break) (o : Offer). settled g i space (meaning notes w) active (withOffer bs o)) (done notes .stayed) (done notes .best)
         ∙ rw e;
   }

@@ -8,7 +8,7 @@ use borrow.Author.Tests.{eqb-true, eqb-false}
 use lib.Dec.{eqb}
 use Rattle.knuth_plass.specs.declared.Break.{Break as Record}
 use Rattle.knuth_plass.specs.KnuthPlass.{Place}
-use Rattle.knuth_plass.specs.Table.{Tables, Sized, placeOf, pathIn, pathTo, breakIn, withBreak, seen, meant, Leads}
+use Rattle.knuth_plass.specs.Table.{Tables, Sized, Stored, placeOf, pathIn, pathTo, breakIn, withBreak, seen, meant, Leads}
 use Rattle.knuth_plass.proofs.Table.{read-back, read-other}
 
 -- two records that stand at the same place and lead to the same one
@@ -38,39 +38,35 @@ unfolding pathIn
 step k f zero h = absurd (omega arith)
 step k f (suc i) h = refl
 
--- a store at i that leaves every record below n alike leaves their paths
-module _ (t : Tables) (i n : ℕ) (b : Record) (few : n ≤ 1024) (down : Down (breakIn t) n)
-    (alike : (j : ℕ) → j < n → Alike (breakIn (withBreak t i b) j) (breakIn t j)) where
-  kept : (j : ℕ) → j < n → pathTo (withBreak t i b) j ≡ pathTo t j
+-- tables whose records below n are alike have the same paths
+module _ (t t₁ : Tables) (n : ℕ) (few : n ≤ 1024) (down : Down (breakIn t) n) (alike : (j : ℕ) → j < n → Alike (breakIn t₁ j) (breakIn t j)) where
+  kept : (j : ℕ) → j < n → pathTo t₁ j ≡ pathTo t j
   unfolding pathTo
-  kept j h = path-same 1024 1024 (breakIn t) (breakIn (withBreak t i b)) n j h (omega arith) (omega arith) down alike
+  kept j h = path-same 1024 1024 (breakIn t) (breakIn t₁) n j h (omega arith) (omega arith) down alike
 
 -- a record is stored again, at the same place and leading where it led
-module _ (t : Tables) (i n : ℕ) (b : Record) (few : n ≤ 1024) (sized : Sized t) (down : Down (breakIn t) n) (here : i < n)
+module _ (t : Tables) (i n : ℕ) (b : Record) (t₁ : Tables) (few : n ≤ 1024) (stored : Stored t i b t₁) (down : Down (breakIn t) n) (here : i < n)
     (same : Alike b (breakIn t i)) where
-  alike-by : (j : ℕ) (x : Bool) → eqb j i ≡ x → Alike (breakIn (withBreak t i b) j) (breakIn t j)
-  alike-by j true e = rw (eqb-true j i e, read-back t i b (omega arith) sized) same
-  alike-by j false e = rw (read-other t i b j (eqb-false j i e)) (record { place = refl; previous = refl })
+  alike-by : (j : ℕ) (x : Bool) → eqb j i ≡ x → Alike (breakIn t₁ j) (breakIn t j)
+  alike-by j true e = rw (eqb-true j i e, stored .here) same
+  alike-by j false e = rw (stored .others j (eqb-false j i e)) (record { place = refl; previous = refl })
 
-  alike : (j : ℕ) → j < n → Alike (breakIn (withBreak t i b) j) (breakIn t j)
-  alike j h = alike-by j (eqb j i) refl
+  pub path-again : (j : ℕ) → j < n → pathTo t₁ j ≡ pathTo t j
+  path-again = kept t t₁ n few down (λ j h. alike-by j (eqb j i) refl)
 
-  pub path-again : (j : ℕ) → j < n → pathTo (withBreak t i b) j ≡ pathTo t j
-  path-again = kept t i n b few down alike
-
-  pub meant-again : meant (withBreak t i b) i ≡ seen (pathTo t i) b
+  pub meant-again : meant t₁ i ≡ seen (pathTo t i) b
   unfolding meant
-  meant-again = rw (path-again i here, read-back t i b (omega arith) sized)
+  meant-again = rw (path-again i here, stored .here)
 
-  pub meant-beside : (j : ℕ) → j < n → (j ≡ i → ⊥) → meant (withBreak t i b) j ≡ meant t j
+  pub meant-beside : (j : ℕ) → j < n → (j ≡ i → ⊥) → meant t₁ j ≡ meant t j
   unfolding meant
-  meant-beside j h ne = rw (path-again j h, read-other t i b j ne)
+  meant-beside j h ne = rw (path-again j h, stored .others j ne)
 
 -- one record more, the n-th, leading to one before it
 module _ (t : Tables) (n : ℕ) (b : Record) (room : n < 1024) (sized : Sized t) (down : Down (breakIn t) n) where
   pub path-before : (j : ℕ) → j < n → pathTo (withBreak t n b) j ≡ pathTo t j
   path-before =
-      kept t n n b (omega arith) down (λ j h. rw (read-other t n b j (λ e. omega arith)) (record { place = refl; previous = refl }))
+      kept t (withBreak t n b) n (omega arith) down (λ j h. rw (read-other t n b j (λ e. omega arith)) (record { place = refl; previous = refl }))
 
   pub meant-before : (j : ℕ) → j < n → meant (withBreak t n b) j ≡ meant t j
   unfolding meant

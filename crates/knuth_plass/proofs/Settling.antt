@@ -2,25 +2,24 @@
 use mathlib.Core.Path.{_≡_, refl, ap, ap₂, _∙_}
 use mathlib.Core.Bool.{true, false}
 use mathlib.Core.List.{List, [], _∷_, _++_, map-append}
-use Prim.Native.Nat.{ℕ, suc, _+_, _<_}
+use Prim.Native.Nat.{ℕ, suc, _+_, _^_, _≤_, _<_}
 use native.Mathlib.Numerals.{add-one}
 use native.Mathlib.Omega.{arith}
-use lib.Ieee.{Float}
 use lib.ListN.{length, set, take, length-set, length-map, length-append}
 use lib.Seq.{take-suc-set, length-take-le}
 use Rattle.records.specs.Word.{Word, meaning}
 use Rattle.spacing.specs.declared.Setting.{Setting}
 use Rattle.knuth_plass.specs.declared.Break.{Break as Record}
-use Rattle.knuth_plass.specs.declared.Best.the-variants.{Nothing, From}
 use Rattle.knuth_plass.specs.declared.Turn.{Turn}
 use Rattle.knuth_plass.specs.declared.State.{State}
 use Rattle.knuth_plass.specs.declared.Standing.{Standing}
 use Rattle.knuth_plass.specs.KnuthPlass.{Break, Active, least, restart, settled}
-use Rattle.knuth_plass.specs.Table.{Tables, withBreak, placeOf, pathTo, seen, meant, Sound, Ascends}
-use Rattle.knuth_plass.specs.Round.{Limits, Turns, offerIn, BestFits, Fit, Ready, breaksOf, Restarted, Settled}
+use Rattle.knuth_plass.specs.Table.{Tables, breakIn, withBreak, placeOf, pathTo, seen, meant, Sound, Ascends}
+use Rattle.knuth_plass.specs.Round.{Limits, Turns, lessened, nothing, Found, Fit, Ready, breaksOf, Restarted, Settled}
 use Rattle.knuth_plass.proofs.Path.{meant-before, meant-more}
 use Rattle.knuth_plass.proofs.Ascends.{ascends-more, map-below}
 use Rattle.knuth_plass.proofs.Filled.{filled-later, filled-more}
+use Rattle.knuth_plass.proofs.Offers.{offer-some, offer-none}
 use Rattle.knuth_plass.proofs.Over.{fit-all}
 
 abbrev make : List Break → ℕ → Active
@@ -41,6 +40,10 @@ module _ (g : Setting) (turn : Turn) (st : Standing) (t : Tables) (a : List ℕ)
 
   pub kept-room : s .kept < 1024
   kept-room = let r = room in let h = fit .kept in let l = fit .room in omega arith
+
+  -- the line of the break that begins again
+  pub again-columns : (c : Record) → c ≡ lessened (st .reduction) (breakIn t (s .from)) → c .columns < 2 ^ 33
+  again-columns c is = rw is (fit .filled .sound (s .from) (fit .from) .columns)
 
   -- one break more, b, in the tables t₁ and the list a₁
   module _ (b : Record) (d : ℕ) (t₁ : Tables) (a₁ : List ℕ) (sound : Sound (suc (turn .number)) b) (before : b .previous < st .size)
@@ -78,63 +81,62 @@ module _ (g : Setting) (turn : Turn) (st : Standing) (t : Tables) (a : List ℕ)
   breaks-length = let k = kept-room in let l = fit .active in length-map (take (s .kept) a) (meant t) ∙ length-take-le (s .kept) a (omega arith)
 
   -- the reduction is the least break's demerits
-  settled-is : (notes : List ℕ) (active bs cs : List Break) → seen (pathTo t (s .from)) (s .least) ≡ least active → bs ≡ cs → 0 < length cs
-      → record { breaks = bs; reduction = s .least .demerits } ≡ settled g (turn .number) (turn .space) (meaning notes (turn .word)) active cs
-  unfolding seen
+  settled-is : (notes : List ℕ) (active bs cs : List Break) → Found st t s (least active) → bs ≡ cs → 0 < length cs
+      → record { breaks = bs; reduction = s .least } ≡ settled g (turn .number) (turn .space) (meaning notes (turn .word)) active cs
   settled-is notes active bs cs l e h =
-      ap₂ make e (ap (λ (c : Break). c .demerits) l) ∙ settled-some g (turn .number) (turn .space) (meaning notes (turn .word)) active cs h
+      ap₂ make e (l .demerits) ∙ settled-some g (turn .number) (turn .space) (meaning notes (turn .word)) active cs h
 
   -- no offer, and something stays
-  pub settles-none : s .best ≡ Nothing → (s .kept ≡ 0 → ⊥) → Settled g turn t a s t a (record { count = s .kept; size = st .size; reduction = s .least .demerits })
-  unfolding offerIn
+  pub settles-none : nothing ≤ s .best .total → 0 < s .kept → Settled g turn st t a s t a (record { count = s .kept; size = st .size; reduction = s .least })
   settles-none e some = record {
     ready = (let h = fit .kept in let r = fit .room in let f = fit .few in record {
       filled = rw (add-one (turn .number)) (filled-later (turn .number) (st .size) t (fit .filled));
       active = fit .active;
       few = omega arith;
-      some = (let z = some in omega arith);
+      some = some;
       room = omega arith;
       ascends = ascends;
     });
-    is = λ notes active l. rw e (settled-is notes active (breaksOf (s .kept) t a) (breaksOf (s .kept) t a) l refl (rw breaks-length (let z = some in omega arith)));
+    is = λ notes active l. rw (offer-none g (turn .number) t (s .best) e) (settled-is notes active (breaksOf (s .kept) t a) (breaksOf (s .kept) t a) l refl (rw breaks-length some));
   }
 
   -- the best offer is one break more
-  module _ (limits : Limits g) (p e : ℕ) (r : Float) (best : s .best ≡ From r p e) (t₁ : Tables) (a₁ : List ℕ) where
+  module _ (limits : Limits g) (best : s .best .total < nothing) (t₁ : Tables) (a₁ : List ℕ) where
     abbrev offered : Record
-    offered = record { previous = p; word = turn .number; before = false; demerits = e; ratio = r; columns = g .indent; fresh = true }
+    offered =
+        record { previous = s .best .previous; word = turn .number; before = false; demerits = s .best .total; ratio = s .best .ratio; columns = g .indent; fresh = true }
 
     pub settles-offer : t₁ ≡ withBreak t (st .size) offered → a₁ ≡ set a (s .kept) (st .size)
-        → Settled g turn t a s t₁ a₁ (record { count = s .kept + 1; size = st .size + 1; reduction = s .least .demerits })
-    unfolding offerIn seen
+        → Settled g turn st t a s t₁ a₁ (record { count = s .kept + 1; size = st .size + 1; reduction = s .least })
+    unfolding seen
     settles-offer stored put =
         let i = limits .indent in
-        let f : BestFits (turn .number) (st .size) (From r p e) = rw best at (fit .best) in
-        let sound : Sound (suc (turn .number)) offered = record { ratio = f .2; columns = omega arith; demerits = f .1; word = omega arith } in
+        let f = fit .best best in
+        let sound : Sound (suc (turn .number)) offered = record { ratio = f .ratio; columns = omega arith; demerits = f .total; word = omega arith } in
         record {
-          ready = ready-more offered (s .least .demerits) t₁ a₁ sound (f .0) stored put;
-          is = λ notes active l. rw best
-              (settled-is notes active (breaksOf (s .kept + 1) t₁ a₁) (breaksOf (s .kept) t a ++ (seen (placeOf offered ∷ pathTo t p) offered ∷ [])) l
-              (breaks-more offered (s .least .demerits) t₁ a₁ sound (f .0) stored put)
+          ready = ready-more offered (s .least) t₁ a₁ sound (f .previous) stored put;
+          is = λ notes active l. rw (offer-some g (turn .number) t (s .best) best)
+              (settled-is notes active (breaksOf (s .kept + 1) t₁ a₁) (breaksOf (s .kept) t a ++ (seen (placeOf offered ∷ pathTo t (s .best .previous)) offered ∷ [])) l
+              (breaks-more offered (s .least) t₁ a₁ sound (f .previous) stored put)
               (simp length-append (omega arith)));
         }
 
   -- nothing stays, and b begins again
-  pub settles-restart : (b : Record) (t₁ : Tables) (a₁ : List ℕ) → s .best ≡ Nothing → s .kept ≡ 0 → Restarted g turn (s .from) (s .least) b
-      → t₁ ≡ withBreak t (st .size) b → a₁ ≡ set a 0 (st .size) → Settled g turn t a s t₁ a₁ (record { count = 1; size = st .size + 1; reduction = 0 })
-  unfolding offerIn
-  settles-restart b t₁ a₁ e z again stored put =
+  pub settles-restart : (b c : Record) (t₁ : Tables) (a₁ : List ℕ) → nothing ≤ s .best .total → s .kept ≡ 0 → c ≡ lessened (st .reduction) (breakIn t (s .from))
+      → Restarted g turn (s .from) c b → t₁ ≡ withBreak t (st .size) b → a₁ ≡ set a 0 (st .size)
+      → Settled g turn st t a s t₁ a₁ (record { count = 1; size = st .size + 1; reduction = 0 })
+  settles-restart b c t₁ a₁ e z old again stored put =
       let before : b .previous < st .size = rw (again .previous) (fit .from) in
       let put₁ : a₁ ≡ set a (s .kept) (st .size) = rw z put in
       let more = breaks-more b 0 t₁ a₁ (again .sound) before stored put₁ in
       record {
         ready = rw z at (ready-more b 0 t₁ a₁ (again .sound) before stored put₁);
         is = λ notes active l.
-            rw (e, z)
+            rw (offer-none g (turn .number) t (s .best) e, z)
             (ap (λ (bs : List Break). make bs 0)
             (rw z at more
             ∙ ap (λ (c : Break). c ∷ [])
             (ap (λ (n : ℕ). seen (placeOf b ∷ pathTo t n) b) (again .previous)
             ∙ again .is notes (pathTo t (s .from))
-            ∙ ap (restart g (turn .number) (turn .space) (meaning notes (turn .word))) l)));
+            ∙ ap (restart g (turn .number) (turn .space) (meaning notes (turn .word))) (ap (seen (pathTo t (s .from))) old ∙ l .again z))));
       }

@@ -1,7 +1,7 @@
 -- One turn of a round: the break that is next is dropped, or stays with the word on its line and may offer.
-use mathlib.Core.Path.{_≡_, refl}
+use mathlib.Core.Path.{_≡_, refl, sym, _∙_}
 use mathlib.Core.List.{List, [], _∷_, _++_, map-append}
-use Prim.Native.Nat.{ℕ, _+_, _-_, _^_, _≤_, _<_}
+use Prim.Native.Nat.{ℕ, _+_, _-_, _≤_, _<_}
 use native.Mathlib.Numerals.{add-one}
 use native.Mathlib.Omega.{arith}
 use borrow.Author.Tests.{le-leb, lt-leb}
@@ -16,12 +16,12 @@ use Rattle.knuth_plass.specs.declared.Turn.{Turn}
 use Rattle.knuth_plass.specs.declared.State.{State}
 use Rattle.knuth_plass.specs.declared.Standing.{Standing}
 use Rattle.knuth_plass.specs.KnuthPlass.{Place, Break, none, reduced, staying, lesser, offerOf, bestOffer}
-use Rattle.knuth_plass.specs.Table.{Tables, breakIn, withBreak, pathTo, seen, meant, Sound, Ascends}
+use Rattle.knuth_plass.specs.Table.{Tables, Stored, breakIn, pathTo, seen, meant, Sound, Ascends}
 use Rattle.knuth_plass.specs.Round.{Limits, Turns, lineAt, lessened, extended, noted, OfferedIs, Fit, Goes, Answer, rest}
 use Rattle.knuth_plass.proofs.Path.{Alike, path-again, meant-again, meant-beside}
 use Rattle.knuth_plass.proofs.Ascends.{ascends-at, ascends-less, map-left, map-right}
 use Rattle.knuth_plass.proofs.Filled.{filled-again, sound-lessened, sound-extended}
-use Rattle.knuth_plass.proofs.Lowest.{noted-kept, noted-best, noted-holds, least-step}
+use Rattle.knuth_plass.proofs.Lowest.{lower, noted-kept, noted-best, noted-from, noted-found, least-step}
 use Rattle.knuth_plass.proofs.Line.{line-is}
 use Rattle.knuth_plass.proofs.Offers.{lesser-assoc, offer-same}
 
@@ -65,12 +65,11 @@ module _ (g : Setting) (turn : Turn) (st : Standing) (k : ℕ) (t : Tables) (a :
   next = rw here
 
   module _ (b : Record) (is : b ≡ lessened (st .reduction) (breakIn t (getD a k 0))) where
-    least-fits : (noted s (getD a k 0) b .from < st .size) × (noted s (getD a k 0) b .least .columns < 2 ^ 33)
-    least-fits =
-        noted-holds s (getD a k 0) b (λ m c. (m < st .size) × (c .columns < 2 ^ 33)) (fit .from, fit .columns) (within, rw is (sound .columns))
+    from-fits : noted s (getD a k 0) (b .demerits) .from < st .size
+    from-fits = noted-from s (getD a k 0) (b .demerits) (st .size) (fit .from) within
 
     module _ (long : g .width < lineAt g turn b) where
-      pub fit-drops : Fit turn st (k + 1) t a (noted s (getD a k 0) b)
+      pub fit-drops : Fit turn st (k + 1) t a (noted s (getD a k 0) (b .demerits))
       fit-drops =
           let h = fit .kept in
           record {
@@ -78,26 +77,27 @@ module _ (g : Setting) (turn : Turn) (st : Standing) (k : ℕ) (t : Tables) (a :
             active = fit .active;
             few = fit .few;
             room = fit .room;
-            kept = rw (noted-kept s (getD a k 0) b) (omega arith);
+            kept = rw (noted-kept s (getD a k 0) (b .demerits)) (omega arith);
             on = omega arith;
-            ascends = rw (noted-kept s (getD a k 0) b) (ascends-less (getD a k 0) (slice (k + 1) (st .count) a) 0 (st .size) (take (s .kept) a) split);
-            from = least-fits .0;
-            columns = least-fits .1;
-            best = rw (noted-best s (getD a k 0) b) (fit .best);
+            ascends = rw (noted-kept s (getD a k 0) (b .demerits)) (ascends-less (getD a k 0) (slice (k + 1) (st .count) a) 0 (st .size) (take (s .kept) a) split);
+            from = from-fits;
+            best = rw (noted-best s (getD a k 0) (b .demerits)) (fit .best);
           }
 
-      pub goes-drops : (z : Answer) → Goes g turn st z k t a s → Goes g turn st z (k + 1) t a (noted s (getD a k 0) b)
+      pub goes-drops : (z : Answer) → Goes g turn st z k t a s → Goes g turn st z (k + 1) t a (noted s (getD a k 0) (b .demerits))
       unfolding bestOffer lesser
       goes-drops z v =
           let n : rest st k t a ≡ seen (pathTo t (getD a k 0)) b ∷ rest st (k + 1) t a = rw is next in
           record {
-            stayed = rw (noted-kept s (getD a k 0) b) (rw (n, staying-drops g turn (z .notes) b (pathTo t (getD a k 0)) (rest st (k + 1) t a) long) at (v .stayed));
-            best = rw (noted-best s (getD a k 0) b) (rw (n, bestOffer, offer-drops g turn (z .notes) b (pathTo t (getD a k 0)) long, lesser) at (v .best));
-            least = rw (n, least-step s (getD a k 0) b (pathTo t) (rest st (k + 1) t a)) at (v .least);
+            stayed = rw (noted-kept s (getD a k 0) (b .demerits)) (rw (n, staying-drops g turn (z .notes) b (pathTo t (getD a k 0)) (rest st (k + 1) t a) long) at (v .stayed));
+            best = rw (noted-best s (getD a k 0) (b .demerits)) (rw (n, bestOffer, offer-drops g turn (z .notes) b (pathTo t (getD a k 0)) long, lesser) at (v .best));
+            so-far = lower st t s (getD a k 0) b (v .so-far) (v .found);
+            found = noted-found st t s (getD a k 0) b (v .so-far) (v .found) is;
+            least = sym (least-step st t s (getD a k 0) b (v .so-far) (v .found) (rest st (k + 1) t a)) ∙ rw n at (v .least);
           }
 
     module _ (x : ℕ) (best : Best) (t₁ : Tables) (limits : Limits g) (line : x ≡ lineAt g turn b) (fits : x ≤ g .width)
-        (offered : OfferedIs g turn (getD a k 0) b (s .best) best) (stored : t₁ ≡ withBreak t (getD a k 0) (extended x b)) where
+        (offered : OfferedIs g turn (getD a k 0) b (s .best) best) (stored : Stored t (getD a k 0) (extended x b) t₁) where
       alike : Alike (extended x b) (breakIn t (getD a k 0))
       alike = rw is (record { place = refl; previous = refl })
 
@@ -105,13 +105,13 @@ module _ (g : Setting) (turn : Turn) (st : Standing) (k : ℕ) (t : Tables) (a :
       few = let f = turns .few in let h = fit .few in omega arith
 
       paths : (j : ℕ) → j < st .size → pathTo t₁ j ≡ pathTo t j
-      paths j h = rw stored (path-again t (getD a k 0) (st .size) (extended x b) few (fit .filled .sized) (fit .filled .down) within alike j h)
+      paths j h = path-again t (getD a k 0) (st .size) (extended x b) t₁ few stored (fit .filled .down) within alike j h
 
       beside : (j : ℕ) → j < st .size → (j ≡ getD a k 0 → ⊥) → meant t₁ j ≡ meant t j
-      beside j h ne = rw stored (meant-beside t (getD a k 0) (st .size) (extended x b) few (fit .filled .sized) (fit .filled .down) within alike j h ne)
+      beside j h ne = meant-beside t (getD a k 0) (st .size) (extended x b) t₁ few stored (fit .filled .down) within alike j h ne
 
       itself : meant t₁ (getD a k 0) ≡ seen (pathTo t (getD a k 0)) (extended x b)
-      itself = rw stored (meant-again t (getD a k 0) (st .size) (extended x b) few (fit .filled .sized) (fit .filled .down) within alike)
+      itself = meant-again t (getD a k 0) (st .size) (extended x b) t₁ few stored (fit .filled .down) within alike
 
       front : take (s .kept + 1) (set a (s .kept) (getD a k 0)) ≡ take (s .kept) a ++ (getD a k 0 ∷ [])
       front = let h = fit .kept in let l = fit .active in let r = fit .room in rw add-one (take-suc-set a (s .kept) (getD a k 0) (omega arith))
@@ -123,22 +123,21 @@ module _ (g : Setting) (turn : Turn) (st : Standing) (k : ℕ) (t : Tables) (a :
       rest-same = rw (back, map-right (meant t₁) (meant t) (getD a k 0) (slice (k + 1) (st .count) a) 0 (st .size) (take (s .kept) a) split beside)
 
       abbrev state : State
-      state = record { kept = s .kept + 1; from = noted s (getD a k 0) b .from; least = noted s (getD a k 0) b .least; best = best }
+      state = record { kept = s .kept + 1; from = noted s (getD a k 0) (b .demerits) .from; least = noted s (getD a k 0) (b .demerits) .least; best = best }
 
       pub fit-keeps : Fit turn st (k + 1) t₁ (set a (s .kept) (getD a k 0)) state
       fit-keeps =
           let h = fit .kept in
           let w = limits .wide in
           record {
-            filled = rw stored (filled-again (turn .number) (st .size) t (fit .filled) (getD a k 0) (extended x b) few within (sound-extended (turn .number) x b (omega arith) (rw is sound)) (alike .previous));
+            filled = filled-again (turn .number) (st .size) t (fit .filled) (getD a k 0) (extended x b) t₁ within stored (sound-extended (turn .number) x b (omega arith) (rw is sound)) (alike .previous);
             active = simp length-set (fit .active);
             few = fit .few;
             room = fit .room;
             kept = omega arith;
             on = omega arith;
             ascends = rw (front, back, append-snoc) split;
-            from = least-fits .0;
-            columns = least-fits .1;
+            from = from-fits;
             best = offered .fits (st .size) within (fit .best);
           }
 
@@ -163,5 +162,7 @@ module _ (g : Setting) (turn : Turn) (st : Standing) (k : ℕ) (t : Tables) (a :
               offered .is (z .notes) t,
               lesser-assoc,
             ) (rw (n, bestOffer) at (v .best));
-            least = rw (rest-same, paths (noted s (getD a k 0) b .from) (least-fits .0)) (rw (n, least-step s (getD a k 0) b (pathTo t) (rest st (k + 1) t a)) at (v .least));
+            so-far = lower st t s (getD a k 0) b (v .so-far) (v .found);
+            found = record { demerits = noted-found st t s (getD a k 0) b (v .so-far) (v .found) is .demerits; again = λ z. absurd (omega arith) };
+            least = rw rest-same (sym (least-step st t s (getD a k 0) b (v .so-far) (v .found) (rest st (k + 1) t a)) ∙ rw n at (v .least));
           }

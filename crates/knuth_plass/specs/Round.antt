@@ -17,12 +17,11 @@ use Rattle.demerits.specs.Demerits.{wordTerm}
 use Rattle.demerits.specs.Bounds.{within, mostCost}
 use Rattle.knuth_plass.specs.declared.Break.{Break as Record}
 use Rattle.knuth_plass.specs.declared.Best.{Best}
-use Rattle.knuth_plass.specs.declared.Best.the-variants.{Nothing, From}
 use Rattle.knuth_plass.specs.declared.Turn.{Turn}
 use Rattle.knuth_plass.specs.declared.State.{State}
 use Rattle.knuth_plass.specs.declared.Standing.{Standing}
 use Rattle.knuth_plass.specs.KnuthPlass.{stretchOf, Place, Break, Active, Offer, none, offer, after, reduced, staying, lesser, offerOf, bestOffer, leastFrom, least, restart, settled, withOffer, round, firstBreak, roundsFrom, pathOf, startsLine, bestBreaks}
-use Rattle.knuth_plass.specs.Table.{Tables, Sized, placeOf, pathTo, seen, meant, Sound, Filled, Ascends}
+use Rattle.knuth_plass.specs.Table.{Tables, Sized, breakIn, placeOf, pathTo, seen, meant, Sound, Filled, Ascends}
 
 -- ---- what can be asked of a caller
 
@@ -40,8 +39,8 @@ pub record Turns (g : Setting) (turn : Turn) : Type 0 where
   pub small : Small (turn .word)
   pub space : turn .space ≤ 2
   pub few : turn .number < 1024
-  pub floor : turn .floor ≡ (1 + wordTerm (stretchOf g) (turn .word .width)) * (1 + wordTerm (stretchOf g) (turn .word .width))
-  pub low : turn .floor ≤ 90601
+  pub weight : turn .weight ≡ wordTerm (stretchOf g) (turn .word .width)
+  pub light : turn .weight ≤ 300
 
 -- ---- one active break
 
@@ -71,29 +70,33 @@ extended t b = record {
   fresh = false;
 }
 
--- the least break so far, when break n is b
-unfoldable pub noted : State → ℕ → Record → State
-noted s n b = cond (ltb (b .demerits) (s .least .demerits)) (record { kept = s .kept; from = n; least = b; best = s .best }) s
+-- the least break so far, when break n has the demerits d
+unfoldable pub noted : State → ℕ → ℕ → State
+noted s n d = cond (ltb d (s .least)) (record { kept = s .kept; from = n; least = d; best = s .best }) s
 
 -- ---- the best offer so far
 
-unfoldable pub better : Best → ℕ → ℕ → Float → Best
-better Nothing p d r = From r p d
-better (From s q e) p d r = cond (leb e d) (From s q e) (From r p d)
+-- a total that no offer reaches
+abbrev pub nothing : ℕ
+nothing = 2 ^ 40
 
--- no offer of a total from d on is better
-abbrev pub beaten : Best → ℕ → Bool
-beaten Nothing d = false
-beaten (From s q e) d = leb e d
+abbrev pub from : ℕ → ℕ → Float → Best
+from p d r = record { total = d; previous = p; ratio = r }
+
+unfoldable pub better : Best → ℕ → ℕ → Float → Best
+better b p d r = cond (leb (b .total) d) b (from p d r)
 
 -- the offer that it means, behind word i
 unfoldable pub offerIn : Setting → ℕ → Tables → Best → Offer
-offerIn g i t Nothing = none
-offerIn g i t (From r p d) = offer (record { places = after i ∷ pathTo t p; demerits = d; ratio = r; columns = g .indent; fresh = true })
+offerIn g i t b =
+    cond (ltb (b .total) nothing)
+    (offer (record { places = after i ∷ pathTo t (b .previous); demerits = b .total; ratio = b .ratio; columns = g .indent; fresh = true }))
+    none
 
-abbrev pub BestFits : ℕ → ℕ → Best → Type 0
-BestFits i size Nothing = Unit {0}
-BestFits i size (From r p d) = (p < size) × (d ≤ suc i * mostCost) × T (within 1 r)
+pub record BestFits (i size : ℕ) (b : Best) : Type 0 where
+  pub previous : b .previous < size
+  pub total : b .total ≤ suc i * mostCost
+  pub ratio : T (within 1 (b .ratio))
 
 -- a break that may offer: the word is on its line of x columns
 pub record Offers (g : Setting) (turn : Turn) (b : Record) (x : ℕ) : Type 0 where
@@ -108,7 +111,7 @@ pub record OfferedIs (g : Setting) (turn : Turn) (n : ℕ) (b : Record) (best r 
   pub is : (notes : List ℕ) (t : Tables)
       → offerIn g (turn .number) t r
       ≡ lesser (offerIn g (turn .number) t best) (offerOf g (turn .last) (turn .number) (turn .space) (meaning notes (turn .word)) (seen (pathTo t n) b))
-  pub fits : (size : ℕ) → n < size → BestFits (turn .number) size best → BestFits (turn .number) size r
+  pub fits : (size : ℕ) → n < size → (best .total < nothing → BestFits (turn .number) size best) → r .total < nothing → BestFits (turn .number) size r
 
 -- ---- the active breaks
 
@@ -137,8 +140,7 @@ pub record Fit (turn : Turn) (st : Standing) (k : ℕ) (t : Tables) (a : List �
   pub on : k ≤ st .count
   pub ascends : Ascends 0 (st .size) (take (s .kept) a ++ slice k (st .count) a)
   pub from : s .from < st .size
-  pub columns : s .least .columns < 2 ^ 33
-  pub best : BestFits (turn .number) (st .size) (s .best)
+  pub best : s .best .total < nothing → BestFits (turn .number) (st .size) (s .best)
 
 -- what a round comes to, for the notes that its word stands in
 pub record Answer : Type 0 where
@@ -151,19 +153,26 @@ pub record Answer : Type 0 where
 abbrev pub rest : Standing → ℕ → Tables → List ℕ → List Break
 rest st k t a = map (reduced (st .reduction)) (map (meant t) (slice k (st .count) a))
 
+-- the least break so far has the demerits that s has; while nothing stays, its record has not changed
+pub record Found (st : Standing) (t : Tables) (s : State) (b : Break) : Type 0 where
+  pub demerits : s .least ≡ b .demerits
+  pub again : s .kept ≡ 0 → seen (pathTo t (s .from)) (lessened (st .reduction) (breakIn t (s .from))) ≡ b
+
 -- what is done and what is still to do come to the answer
 pub record Goes (g : Setting) (turn : Turn) (st : Standing) (z : Answer) (k : ℕ) (t : Tables) (a : List ℕ) (s : State) : Type 0 where
   pub stayed : map (meant t) (take (s .kept) a) ++ staying g (turn .space) (meaning (z .notes) (turn .word)) (rest st k t a) ≡ z .stayed
   pub best : lesser (offerIn g (turn .number) t (s .best))
       (bestOffer g (turn .last) (turn .number) (turn .space) (meaning (z .notes) (turn .word)) (rest st k t a))
       ≡ z .best
-  pub least : leastFrom (seen (pathTo t (s .from)) (s .least)) (rest st k t a) ≡ z .least
+  pub so-far : Break
+  pub found : Found st t s so-far
+  pub least : leastFrom so-far (rest st k t a) ≡ z .least
 
 -- all are done: what stays, the best offer and the least of the breaks that the round began with
-pub record Done (g : Setting) (turn : Turn) (active : List Break) (t : Tables) (a : List ℕ) (s : State) (notes : List ℕ) : Type 0 where
+pub record Done (g : Setting) (turn : Turn) (st : Standing) (active : List Break) (t : Tables) (a : List ℕ) (s : State) (notes : List ℕ) : Type 0 where
   pub stayed : breaksOf (s .kept) t a ≡ staying g (turn .space) (meaning notes (turn .word)) active
   pub best : offerIn g (turn .number) t (s .best) ≡ bestOffer g (turn .last) (turn .number) (turn .space) (meaning notes (turn .word)) active
-  pub least : seen (pathTo t (s .from)) (s .least) ≡ least active
+  pub found : Found st t s (least active)
 
 -- ---- what becomes of it
 
@@ -175,9 +184,9 @@ pub record Restarted (g : Setting) (turn : Turn) (n : ℕ) (b r : Record) : Type
       → seen (placeOf r ∷ path) r ≡ restart g (turn .number) (turn .space) (meaning notes (turn .word)) (seen path b)
 
 -- the active breaks after a round whose least break, least offer and staying breaks s has
-pub record Settled (g : Setting) (turn : Turn) (t : Tables) (a : List ℕ) (s : State) (t₁ : Tables) (a₁ : List ℕ) (r : Standing) : Type 0 where
+pub record Settled (g : Setting) (turn : Turn) (st : Standing) (t : Tables) (a : List ℕ) (s : State) (t₁ : Tables) (a₁ : List ℕ) (r : Standing) : Type 0 where
   pub ready : Ready (turn .number + 1) r t₁ a₁
-  pub is : (notes : List ℕ) (active : List Break) → seen (pathTo t (s .from)) (s .least) ≡ least active
+  pub is : (notes : List ℕ) (active : List Break) → Found st t s (least active)
       → standing r t₁ a₁
       ≡ settled g (turn .number) (turn .space) (meaning notes (turn .word)) active (withOffer (breaksOf (s .kept) t a) (offerIn g (turn .number) t (s .best)))
 

@@ -47,6 +47,16 @@ numbersOf b = b .previous ∷ b .word ∷ cond (b .before) 1 0 ∷ b .demerits �
 unfoldable pub withBreak : Tables → ℕ → Record → Tables
 withBreak t i b = record { numbers = sets (t .numbers) (i * 8) (numbersOf b); ratios = set (t .ratios) i (b .ratio) }
 
+-- record i with other demerits and a line of x columns that is not fresh
+unfoldable pub withLine : List ℕ → ℕ → ℕ → ℕ → List ℕ
+withLine numbers i d x = sets numbers (i * 8 + 3) (d ∷ x ∷ 0 ∷ [])
+
+-- record i is b now, and the others are as they were
+pub record Stored (t : Tables) (i : ℕ) (b : Record) (t₁ : Tables) : Type 0 where
+  pub sized : Sized t₁
+  pub here : breakIn t₁ i ≡ b
+  pub others : (j : ℕ) → (j ≡ i → ⊥) → breakIn t₁ j ≡ breakIn t j
+
 -- where a record stands
 abbrev pub placeOf : Record → Place
 placeOf b = record { word = b .word; before = b .before }

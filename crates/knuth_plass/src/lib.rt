@@ -1,4 +1,5 @@
 // Knuth-Plass: the best breaks of a paragraph, one round for each word over the active breaks.
+use records::Before;
 use records::Word;
 use spacing::Setting;
 ghost use mathlib.Core.Path.{_≡_};
@@ -9,8 +10,7 @@ ghost use Prim.Native.Nat.{ℕ, _+_, _-_, _*_, _<_, _≤_, _^_};
 ghost use lib.ListN.{length, take, drop, getD, set};
 ghost use Rattle.records.specs.Word.{meaning};
 ghost use Rattle.records.specs.Table.{wordIn, wordsIn};
-ghost use Rattle.demerits.specs.Demerits.{wordTerm};
-ghost use Rattle.knuth_plass.specs.KnuthPlass.{stretchOf, startsLine, reduced, sentenceBehind};
+ghost use Rattle.knuth_plass.specs.KnuthPlass.{startsLine, reduced, sentenceBehind};
 ghost use Rattle.knuth_plass.specs.Table as T;
 ghost use Rattle.knuth_plass.specs.Round as R;
 
@@ -86,33 +86,46 @@ fn store_break(breaks: &mut [usize; 8192], ratios: &mut [f32; 1024], i: usize, b
     ratios[i] = b.ratio;
 }
 
+// What changes in record i where its break stays active: its demerits, and its line, which has the word on it now and is not fresh.
+fn keep_break(breaks: &mut [usize; 8192], i: usize, demerits: u64, columns: usize)
+    requires { ⌜ i < 1024 ⌝ }
+    ensures { λ _. ⌜ now (breaks .exit) ≡ T.withLine (now (breaks .entry)) i demerits columns ⌝ }
+{
+    let k = i * 8 + 3;
+    let k1 = k + 1;
+    let k2 = k + 2;
+    breaks[k] = demerits as usize;
+    breaks[k1] = columns;
+    breaks[k2] = 0;
+}
+
 // ---- a round
 
-// What a round goes by: its word and the word's number, the space that is added before it, what a break after it costs at the least,
-// and whether it is the last.
+// What a round goes by: its word and the word's number, the space that is added before it, what it weighs in the cost of a break after
+// it, and whether it is the last.
 pub struct Turn {
     pub word: Word,
     pub number: usize,
     pub space: usize,
-    pub floor: u64,
+    pub weight: u16,
     pub last: bool,
 }
 
-// The best offer so far: the break it goes on from, its total and its ratio.
-pub enum Best {
-    Nothing,
-    From {
-        ratio: f32,
-        previous: usize,
-        total: u64,
-    },
+// A total that no offer reaches.
+const NOTHING: u64 = 0x100_0000_0000;
+
+// The best offer so far: its total, or NOTHING; the break it goes on from, and its ratio.
+pub struct Best {
+    pub total: u64,
+    pub previous: usize,
+    pub ratio: f32,
 }
 
-// A round so far: how many breaks stay, the first least break with its number, and the best offer.
+// A round so far: how many breaks stay, the number and the demerits of the first least break, and the best offer.
 pub struct State {
     pub kept: usize,
     pub from: usize,
-    pub least: Break,
+    pub least: u64,
     pub best: Best,
 }
 
@@ -146,94 +159,64 @@ fn lessened(b: Break, reduction: u64) -> Break
     }
 }
 
-fn extended(b: Break, t: usize) -> Break
-    ensures { λ r. ⌜ r ≡ R.extended t b ⌝ }
+// The first least break so far, when break n has these demerits.
+fn noted(s: State, n: usize, demerits: u64) -> State
+    ensures { λ r. ⌜ r ≡ R.noted s n demerits ⌝ }
 {
-    Break {
-        previous: b.previous,
-        word: b.word,
-        before: b.before,
-        demerits: b.demerits,
-        ratio: b.ratio,
-        columns: t,
-        fresh: false,
-    }
-}
-
-// The first least break so far, when break n is b.
-fn noted(s: State, n: usize, b: Break) -> State
-    ensures { λ r. ⌜ r ≡ R.noted s n b ⌝ }
-{
-    let least = s.least;
     let best = s.best;
-    if b.demerits < least.demerits {
+    if demerits < s.least {
         return State {
             kept: s.kept,
             from: n,
-            least: b,
+            least: demerits,
             best,
         };
     }
     s
 }
 
+// One of two numbers. With a choice for each number the machine has no branch to foresee where two offers are compared.
+fn either(first: bool, a: usize, b: usize) -> usize
+    ensures { λ r. ⌜ r ≡ cond first a b ⌝ }
+{
+    if first {
+        return a;
+    }
+    b
+}
+
+fn either_total(first: bool, a: u64, b: u64) -> u64
+    ensures { λ r. ⌜ r ≡ cond first a b ⌝ }
+{
+    if first {
+        return a;
+    }
+    b
+}
+
+fn either_ratio(first: bool, a: f32, b: f32) -> f32
+    ensures { λ r. ⌜ r ≡ cond first a b ⌝ }
+{
+    if first {
+        return a;
+    }
+    b
+}
+
 // The lesser of the best offer so far and another, the first where they are equal.
 fn better(best: Best, previous: usize, total: u64, ratio: f32) -> Best
     ensures { λ r. ⌜ r ≡ R.better best previous total ratio ⌝ }
 {
-    match best {
-        Best::Nothing => Best::From {
-            previous,
-            total,
-            ratio,
-        },
-        Best::From {
-            previous: p,
-            total: d,
-            ratio: q,
-        } => {
-            if d <= total {
-                Best::From {
-                    previous: p,
-                    total: d,
-                    ratio: q,
-                }
-            } else {
-                Best::From {
-                    previous,
-                    total,
-                    ratio,
-                }
-            }
-        }
+    let stays = best.total <= total;
+    Best {
+        total: either_total(stays, best.total, total),
+        previous: either(stays, best.previous, previous),
+        ratio: either_ratio(stays, best.ratio, ratio),
     }
 }
 
-// Whether no offer of this total or a greater one is taken.
-fn beaten(best: Best, total: u64) -> bool
-    ensures { λ r. ⌜ r ≡ R.beaten best total ⌝ }
-{
-    match best {
-        Best::Nothing => false,
-        Best::From {
-            ratio: _,
-            previous: _,
-            total: d,
-        } => d <= total,
-    }
-}
-
-// The least that a break after a word of this width costs: what the word alone weighs.
-fn floor(g: Setting, width: usize) -> u64
-    requires { ⌜ R.Limits g × (1 ≤ width) ⌝ }
-    ensures { λ r. ⌜ (r ≡ (1 + wordTerm (stretchOf g) width) * (1 + wordTerm (stretchOf g) width)) × (r ≤ 90601) ⌝ }
-{
-    let weight = 1 + demerits::word_term(g.width - g.goal, width) as u64;
-    weight * weight
-}
-
-// The columns of the line with the word on it. The added space counts on a fresh line too.
-fn reach(g: Setting, turn: Turn, b: Break) -> usize
+// The columns of the line with the word on it, where a tab is in the gap before the word.
+fn reach_by_tab(g: Setting, turn: Turn, b: Break) -> usize
     requires { ⌜ R.Limits g × R.Turns g turn × (b .columns < 2 ^ 33) ⌝ }
     ensures { λ r. ⌜ (r ≡ R.lineAt g turn b) × (r < 2 ^ 36) ⌝ }
 {
@@ -246,12 +229,27 @@ fn reach(g: Setting, turn: Turn, b: Break) -> usize
     b.columns + gap + turn.space + w.width
 }
 
+// The columns of the line with the word on it. The added space counts on a fresh line too. Without a tab every line grows by the same.
+fn reach(g: Setting, turn: Turn, b: Break) -> usize
+    requires { ⌜ R.Limits g × R.Turns g turn × (b .columns < 2 ^ 33) ⌝ }
+    ensures { λ r. ⌜ (r ≡ R.lineAt g turn b) × (r < 2 ^ 36) ⌝ }
+{
+    let w = turn.word;
+    let before = w.before;
+    match before {
+        Before::Absent => {
+            let bare = turn.space + w.width;
+            b.columns + either(b.fresh, bare, w.after + bare)
+        }
+        Before::Count(_) => reach_by_tab(g, turn, b),
+    }
+}
+
 // What break n, with the word on its line of t columns, makes of the best offer so far.
 fn offered(g: Setting, turn: Turn, n: usize, b: Break, t: usize, best: Best) -> Best
     requires { ⌜ R.Offers g turn b t ⌝ }
     ensures { λ r. ⌜ R.OfferedIs g turn n b best r ⌝ }
 {
-    let w = turn.word;
     let stretch = g.width - g.goal;
     if t < g.goal - stretch {
         return best;
@@ -263,11 +261,7 @@ fn offered(g: Setting, turn: Turn, n: usize, b: Break, t: usize, best: Best) -> 
         }
         return better(best, n, 0, 0.0);
     }
-    // Most offers are beaten before their cost is worked out.
-    if beaten(best, turn.floor + b.demerits) {
-        return best;
-    }
-    let o = demerits::compute_demerits(g.goal, t, stretch, w.width, b.ratio);
+    let o = demerits::compute_demerits(g.goal, t, stretch, turn.weight, b.ratio);
     better(best, n, o.cost + b.demerits, o.ratio)
 }
 
@@ -278,31 +272,30 @@ fn visit(
     turn: Turn,
     st: Standing,
     breaks: &mut [usize; 8192],
-    ratios: &mut [f32; 1024],
+    ratios: &[f32; 1024],
     active: &mut [usize; 1024],
     k: usize,
     s: State,
 ) -> State
     requires { ⌜ R.Limits g × R.Turns g turn × R.Fit turn st k (T.tables (now breaks) (now ratios)) (now active) s × (k < st .count) ⌝ }
-    ensures { λ r. ⌜ R.Fit turn st (k + 1) (T.tables (now (breaks .exit)) (now (ratios .exit))) (now (active .exit)) r × ((z : R.Answer) → R.Goes g turn st z k (T.tables (now (breaks .entry)) (now (ratios .entry))) (now (active .entry)) s → R.Goes g turn st z (k + 1) (T.tables (now (breaks .exit)) (now (ratios .exit))) (now (active .exit)) r) ⌝ }
+    ensures { λ r. ⌜ R.Fit turn st (k + 1) (T.tables (now (breaks .exit)) (now (ratios .entry))) (now (active .exit)) r × ((z : R.Answer) → R.Goes g turn st z k (T.tables (now (breaks .entry)) (now (ratios .entry))) (now (active .entry)) s → R.Goes g turn st z (k + 1) (T.tables (now (breaks .exit)) (now (ratios .entry))) (now (active .exit)) r) ⌝ }
 {
     let n = active[k];
     let b = lessened(get_break(breaks, ratios, n), st.reduction);
     let t = reach(g, turn, b);
     let best = s.best;
     let kept = s.kept;
-    let seen = noted(s, n, b);
+    let seen = noted(s, n, b.demerits);
     if g.width < t {
         return seen;
     }
     let better = offered(g, turn, n, b, t, best);
-    store_break(breaks, ratios, n, extended(b, t));
+    keep_break(breaks, n, b.demerits, t);
     active[kept] = n;
-    let least = seen.least;
     State {
         kept: kept + 1,
         from: seen.from,
-        least,
+        least: seen.least,
         best: better,
     }
 }
@@ -313,19 +306,24 @@ fn advance(
     turn: Turn,
     st: Standing,
     breaks: &mut [usize; 8192],
-    ratios: &mut [f32; 1024],
+    ratios: &[f32; 1024],
     active: &mut [usize; 1024],
 ) -> State
     requires { ⌜ R.Limits g × R.Turns g turn × R.Ready (turn .number) st (T.tables (now breaks) (now ratios)) (now active) ⌝ }
-    ensures { λ r. ⌜ R.Fit turn st (st .count) (T.tables (now (breaks .exit)) (now (ratios .exit))) (now (active .exit)) r × ((notes : List ℕ) → R.Done g turn (map (reduced (st .reduction)) (R.breaksOf (st .count) (T.tables (now (breaks .entry)) (now (ratios .entry))) (now (active .entry)))) (T.tables (now (breaks .exit)) (now (ratios .exit))) (now (active .exit)) r notes) ⌝ }
+    ensures { λ r. ⌜ R.Fit turn st (st .count) (T.tables (now (breaks .exit)) (now (ratios .entry))) (now (active .exit)) r × ((notes : List ℕ) → R.Done g turn st (map (reduced (st .reduction)) (R.breaksOf (st .count) (T.tables (now (breaks .entry)) (now (ratios .entry))) (now (active .entry)))) (T.tables (now (breaks .exit)) (now (ratios .entry))) (now (active .exit)) r notes) ⌝ }
 {
     let first = active[0];
-    let least = lessened(get_break(breaks, ratios, first), st.reduction);
+    let b = lessened(get_break(breaks, ratios, first), st.reduction);
+    let best = Best {
+        total: NOTHING,
+        previous: 0,
+        ratio: 0.0,
+    };
     let mut s = State {
         kept: 0,
         from: first,
-        least,
-        best: Best::Nothing,
+        least: b.demerits,
+        best,
     };
     let count = st.count;
     let mut k = 0;
@@ -397,57 +395,49 @@ fn settle(
     s: State,
 ) -> Standing
     requires { ⌜ R.Limits g × R.Turns g turn × R.Fit turn st (st .count) (T.tables (now breaks) (now ratios)) (now active) s ⌝ }
-    ensures { λ r. ⌜ R.Settled g turn (T.tables (now (breaks .entry)) (now (ratios .entry))) (now (active .entry)) s (T.tables (now (breaks .exit)) (now (ratios .exit))) (now (active .exit)) r ⌝ }
+    ensures { λ r. ⌜ R.Settled g turn st (T.tables (now (breaks .entry)) (now (ratios .entry))) (now (active .entry)) s (T.tables (now (breaks .exit)) (now (ratios .exit))) (now (active .exit)) r ⌝ }
 {
     let kept = s.kept;
-    let least = s.least;
     let best = s.best;
     let size = st.size;
-    match best {
-        Best::Nothing => {
-            if kept == 0 {
-                append(
-                    breaks,
-                    ratios,
-                    active,
-                    size,
-                    0,
-                    restarted(g, turn, s.from, least),
-                );
-                Standing {
-                    count: 1,
-                    size: size + 1,
-                    reduction: 0,
-                }
-            } else {
-                Standing {
-                    count: kept,
-                    size,
-                    reduction: least.demerits,
-                }
-            }
-        }
-        Best::From {
-            previous,
-            total,
-            ratio,
-        } => {
-            let b = Break {
-                previous,
-                word: turn.number,
-                before: false,
-                demerits: total,
-                ratio,
-                columns: g.indent,
-                fresh: true,
-            };
-            append(breaks, ratios, active, size, kept, b);
-            Standing {
-                count: kept + 1,
-                size: size + 1,
-                reduction: least.demerits,
-            }
-        }
+    if best.total < NOTHING {
+        let b = Break {
+            previous: best.previous,
+            word: turn.number,
+            before: false,
+            demerits: best.total,
+            ratio: best.ratio,
+            columns: g.indent,
+            fresh: true,
+        };
+        append(breaks, ratios, active, size, kept, b);
+        return Standing {
+            count: kept + 1,
+            size: size + 1,
+            reduction: s.least,
+        };
+    }
+    if 0 < kept {
+        return Standing {
+            count: kept,
+            size,
+            reduction: s.least,
+        };
+    }
+    // Nothing was stored for a break that did not stay: the least one is as it was.
+    let least = lessened(get_break(breaks, ratios, s.from), st.reduction);
+    append(
+        breaks,
+        ratios,
+        active,
+        size,
+        0,
+        restarted(g, turn, s.from, least),
+    );
+    Standing {
+        count: 1,
+        size: size + 1,
+        reduction: 0,
     }
 }
 
@@ -473,7 +463,7 @@ fn round(
         word,
         number: i,
         space,
-        floor: floor(g, word.width),
+        weight: demerits::word_term(g.width - g.goal, word.width),
         last,
     };
     let s = advance(g, turn, st, breaks, ratios, active);

@@ -2,7 +2,7 @@
 use mathlib.Core.Path.{_∙_, ap}
 use lib.Ieee.{Float}
 use borrow.Author.Needs.{needs}
-use Rattle.demerits.specs.Demerits.{cost}
+use Rattle.demerits.specs.Bounds.{costWith}
 use Rattle.demerits.proofs.compute_demerits.Statement.{statement}
 use Rattle.demerits.proofs.compute_demerits.Tie as tie
 
@@ -18,7 +18,7 @@ returns c =
     let q = c .before .ratio .ensures in
     record {
       ratio-is = q .0;
-      cost-is = c .cost .ensures .0 ∙ ap (λ (r : Float). cost r (a .old) (a .stretch) (a .word)) (q .0);
+      cost-is = c .cost .ensures .0 ∙ ap (λ (r : Float). costWith r (a .old) (a .weight)) (q .0);
       ratio-small = q .1;
       cost-small = c .cost .ensures .1;
     }

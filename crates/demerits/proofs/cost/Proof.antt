@@ -2,9 +2,8 @@
 use native.Mathlib.Nat.{lt-of-le-of-lt}
 use native.Mathlib.Omega.{arith}
 use lib.Dec.{lit<}
-use borrow.Author.Needs.{needs}
-use Rattle.demerits.specs.Demerits.{cost}
 use Rattle.demerits.proofs.Terms.{square-le-most}
+use borrow.Author.Needs.{needs}
 use Rattle.demerits.proofs.cost.Statement.{statement}
 use Rattle.demerits.proofs.cost.Tie as tie
 
@@ -13,9 +12,6 @@ line-term-requires c κs = search needs
 
 add-sum : tie.Need-add-sum
 add-sum c = search needs
-
-word-term-requires : tie.Need-word-term-requires
-word-term-requires c κs = search needs
 
 add-sum-2 : tie.Need-add-sum-2
 add-sum-2 c = search needs
@@ -33,9 +29,8 @@ mul-result : tie.Need-mul-result
 mul-result c = record { fits = lt-of-le-of-lt (square-le-most _ _ _ (omega arith) (omega arith) (omega arith)) (lit< tt) }
 
 returns : tie.Need-returns
-unfolding cost
 returns c =
-    (rw (c .before .before .line-term .ensures .0, c .before .word-term .ensures .0, c .ratio-term .ensures .0), square-le-most _ _ _ (omega arith) (omega arith) (omega arith))
+    (rw (c .before .line-term .ensures .0, c .ratio-term .ensures .0), square-le-most _ _ _ (omega arith) (omega arith) (omega arith))
 
 pub cost-spec : {M : Type 1} → statement M
 cost-spec =
@@ -43,7 +38,6 @@ cost-spec =
     (tie.spec
     line-term-requires
     add-sum
-    word-term-requires
     add-sum-2
     ratio-term-requires
     add-sum-3

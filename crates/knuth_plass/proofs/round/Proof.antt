@@ -1,6 +1,7 @@
 -- `knuth_plass::round` meets its contract. The answer of all turns, settled.
 use Rattle.knuth_plass.specs.Table.{tables}
 use Rattle.knuth_plass.proofs.Paragraph.{round-is}
+use native.Mathlib.Omega.{arith}
 use borrow.Author.Needs.{needs}
 use Rattle.knuth_plass.proofs.round.Statement.{statement}
 use Rattle.knuth_plass.proofs.round.Tie as tie
@@ -11,24 +12,31 @@ get-requires c κs = search needs
 added-space-requires : tie.Need-added-space-requires
 added-space-requires c κs = search needs
 
-floor-requires : tie.Need-floor-requires
-floor-requires c κs = let p = c .before .before .pre in (p .0, rw (c .before .get .ensures .is) (p .2))
+sub-word-term : tie.Need-sub-word-term
+sub-word-term c = search needs
+
+word-term-requires : tie.Need-word-term-requires
+word-term-requires c κs = let p = c .before .before .before .pre in let w = p .0 .wide in (omega arith, rw (c .before .before .get .ensures .is) (p .2))
 
 advance-requires : tie.Need-advance-requires
 advance-requires c κs =
-    let p = c .before .before .before .before .before .before .pre in
-    (p .0, record { some = rw (c .before .before .before .before .before .get .ensures .is) (p .2); small = c .before .before .before .before .before .get .ensures .small; space = c .before .before .before .before .added-space .ensures .most; few = p .1; floor = c .before .before .before .floor .ensures .0; low = c .before .before .before .floor .ensures .1 }, p .3)
+    let p = c .before .before .before .before .before .before .before .pre in
+    let w = c .before .before .before .before .before .before .get .ensures in
+    let t = c .before .before .before .word-term .ensures in
+    (p .0, record { some = rw (w .is) (p .2); small = w .small; space = c .before .before .before .before .before .added-space .ensures .most; few = p .1; weight = t .0; light = t .1 }, p .3)
 
 settle-requires : tie.Need-settle-requires
 settle-requires c κs =
-    let p = c .before .before .before .before .before .before .before .before .before .before .pre in
-    (p .0, record { some = rw (c .before .before .before .before .before .before .before .before .before .get .ensures .is) (p .2); small = c .before .before .before .before .before .before .before .before .before .get .ensures .small; space = c .before .before .before .before .before .before .before .before .added-space .ensures .most; few = p .1; floor = c .before .before .before .before .before .before .before .floor .ensures .0; low = c .before .before .before .before .before .before .before .floor .ensures .1 }, c .before .before .before .advance .ensures .0)
+    let p = c .before .before .before .before .before .before .before .before .before .before .before .pre in
+    let w = c .before .before .before .before .before .before .before .before .before .before .get .ensures in
+    let t = c .before .before .before .before .before .before .before .word-term .ensures in
+    (p .0, record { some = rw (w .is) (p .2); small = w .small; space = c .before .before .before .before .before .before .before .before .before .added-space .ensures .most; few = p .1; weight = t .0; light = t .1 }, c .before .before .before .advance .ensures .0)
 
 returns : tie.Need-returns
 returns c =
-    let a = c .before .before .before .before .before .before .before .before .before .before .before .args in
-    rw (← c .before .before .before .before .before .before .before .before .before .before .get .ensures .is)
-    (round-is (a .g) (a .last) (a .sentence) (a .i) _ _ _ (a .st) (tables (c .before .before .before .before .before .before .before .before .before .before .before .args .breaks .now) (c .before .before .before .before .before .before .before .before .before .before .before .args .ratios .now)) (a .active .now) _ _ _ _ _ _ (c .before .before .before .before .before .before .before .before .before .added-space .ensures .is) (c .before .before .before .before .advance .ensures .1) (c .settle .ensures))
+    let a = c .before .before .before .before .before .before .before .before .before .before .before .before .args in
+    rw (← c .before .before .before .before .before .before .before .before .before .before .before .get .ensures .is)
+    (round-is (a .g) (a .last) (a .sentence) (a .i) _ _ _ (a .st) (tables (a .breaks .now) (a .ratios .now)) (a .active .now) _ _ _ _ _ _ (c .before .before .before .before .before .before .before .before .before .before .added-space .ensures .is) (c .before .before .before .before .advance .ensures .1) (c .settle .ensures))
 
 pub round-spec : {M : Type 1} → statement M
 round-spec =
@@ -36,7 +44,8 @@ round-spec =
     (tie.spec
     get-requires
     added-space-requires
-    floor-requires
+    sub-word-term
+    word-term-requires
     advance-requires
     settle-requires
     returns)

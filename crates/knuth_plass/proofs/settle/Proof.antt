@@ -1,54 +1,62 @@
--- `knuth_plass::settle` meets its contract. One law for each way through it: begin again, nothing new, one break more.
-use Rattle.knuth_plass.proofs.Settling.{settles-restart, settles-none, settles-offer}
+-- `knuth_plass::settle` meets its contract. One law for each way through it: one break more, nothing new, begin again.
+use native.Mathlib.Omega.{arith}
+use mathlib.Core.Path.{ap, _∙_}
+use Rattle.knuth_plass.specs.Round.{lessened}
+use Rattle.knuth_plass.proofs.Settling.{settles-restart, settles-none, settles-offer, again-columns}
 use borrow.Author.Needs.{needs}
 use Rattle.knuth_plass.proofs.settle.Statement.{statement}
 use Rattle.knuth_plass.proofs.settle.Tie as tie
 
-enum-told : tie.Need-enum-told
-enum-told c = search needs
-
-restarted-requires : tie.Need-restarted-requires
-restarted-requires c κs = search needs
-
 append-requires : tie.Need-append-requires
 append-requires c κs = search needs
 
-add-t24 : tie.Need-add-t24
-add-t24 c = search needs
+add-t18 : tie.Need-add-t18
+add-t18 c = search needs
 
-enum-known-best : tie.Need-enum-known-best
-enum-known-best c = search needs
-
-append-requires-2 : tie.Need-append-requires-2
-append-requires-2 c κs = search needs
-
-add-t29 : tie.Need-add-t29
-add-t29 c = search needs
-
-add-t30 : tie.Need-add-t30
-add-t30 c = search needs
+add-t19 : tie.Need-add-t19
+add-t19 c = search needs
 
 returns : tie.Need-returns
-returns c = settles-restart (c .before .before .before .before .before .before .before .before .before .args .g) _ _ _ _ _ (c .before .before .before .before .before .before .before .before .before .pre .1) (c .before .before .before .before .before .before .before .before .before .pre .2) _ _ _ (c .before .before .before .before .before .before .enum-told .given .1) (c .before .before .before .before .before .if1 .taken) (c .before .restarted .ensures) (c .append .ensures .0) (c .append .ensures .1)
+returns c = settles-offer (c .before .before .before .before .before .before .before .args .g) _ _ _ _ _ (c .before .before .before .before .before .before .before .pre .1) (c .before .before .before .before .before .before .before .pre .2) (c .before .before .before .before .before .before .before .pre .0) (c .before .before .before .before .if1 .taken) _ _ (c .append .ensures .0) (c .append .ensures .1)
 
 returns-2 : tie.Need-returns-2
-returns-2 c = settles-none (c .before .before .before .before .args .g) _ _ _ _ _ (c .before .before .before .before .pre .1) (c .before .before .before .before .pre .2) (c .before .enum-told .given .1) (c .if1 .left)
+returns-2 c = settles-none (c .before .before .before .before .args .g) _ _ _ _ _ (c .before .before .before .before .pre .1) (c .before .before .before .before .pre .2) (c .before .if1 .left) (c .if2 .taken)
+
+get-break-requires : tie.Need-get-break-requires
+get-break-requires c κs = search needs
+
+lessened-requires : tie.Need-lessened-requires
+lessened-requires c κs = search needs
+
+restarted-requires : tie.Need-restarted-requires
+restarted-requires c κs =
+    let is = c .before .before .before .lessened .ensures ∙ ap (lessened (c .before .before .before .before .before .before .before .before .before .before .before .args .st .reduction)) (c .before .before .before .before .get-break .ensures) in
+    (c .before .before .before .before .before .before .before .before .before .before .before .pre .0, c .before .before .before .before .before .before .before .before .before .before .before .pre .1, again-columns (c .before .before .before .before .before .before .before .before .before .before .before .args .g) _ _ _ _ _ (c .before .before .before .before .before .before .before .before .before .before .before .pre .1) (c .before .before .before .before .before .before .before .before .before .before .before .pre .2) _ is)
+
+append-requires-2 : tie.Need-append-requires-2
+append-requires-2 c κs = let f = c .before .before .before .before .before .before .before .before .before .before .before .before .pre .1 .few in let h = c .before .before .before .before .before .before .before .before .before .before .before .before .pre .2 .few in (omega arith, omega arith)
+
+add-t27 : tie.Need-add-t27
+add-t27 c = let f = c .before .before .before .before .before .before .before .before .before .before .before .before .before .pre .1 .few in let h = c .before .before .before .before .before .before .before .before .before .before .before .before .before .pre .2 .few in omega arith
 
 returns-3 : tie.Need-returns-3
-returns-3 c = settles-offer (c .before .before .before .before .before .before .before .before .args .g) _ _ _ _ _ (c .before .before .before .before .before .before .before .before .pre .1) (c .before .before .before .before .before .before .before .before .pre .2) (c .before .before .before .before .before .before .before .before .pre .0) _ _ _ (c .before .before .before .before .before .best .given .1) _ _ (c .append2 .ensures .0) (c .append2 .ensures .1)
+returns-3 c =
+    let is = c .before .before .before .before .before .lessened .ensures ∙ ap (lessened (c .before .before .before .before .before .before .before .before .before .before .before .before .before .args .st .reduction)) (c .before .before .before .before .before .before .get-break .ensures) in
+    let none = c .before .before .before .before .before .before .before .before .before .if2 .left in
+    settles-restart (c .before .before .before .before .before .before .before .before .before .before .before .before .before .args .g) _ _ _ _ _ (c .before .before .before .before .before .before .before .before .before .before .before .before .before .pre .1) (c .before .before .before .before .before .before .before .before .before .before .before .before .before .pre .2) _ _ _ _ (c .before .before .before .before .before .before .before .before .before .before .if1 .left) (omega arith) is (c .before .restarted .ensures) (c .append2 .ensures .0) (c .append2 .ensures .1)
 
 pub settle-spec : {M : Type 1} → statement M
 settle-spec =
     tie.close
     (tie.spec
-    enum-told
-    restarted-requires
     append-requires
-    add-t24
-    enum-known-best
-    append-requires-2
-    add-t29
-    add-t30
+    add-t18
+    add-t19
     returns
     returns-2
+    get-break-requires
+    lessened-requires
+    restarted-requires
+    append-requires-2
+    add-t27
     returns-3)
