@@ -3,11 +3,11 @@
 use mathlib.Core.Path.{_≡_, refl, sym, ap, _∙_, subst}
 use mathlib.Core.Logic.{inl, inr}
 use Prim.Native.Nat.{ℕ, suc, _+_, _-_, _*_, _/_, _%_, _^_, _≤_, _<_}
-use native.Mathlib.Nat.{le-trans, le-of-eq, lt-of-lt-of-le, lt-of-le-of-lt, zero-add, mul-one, mul-comm, mul-assoc, mul-left-comm, mul-right-comm, mul-pos, mul-le-mul-right, eq-zero-or-pos, div-div-eq-div-mul, div-one, div-eq-of-lt, le-div-iff-mul-le, div-lt-iff-lt-mul, le-of-suc-le-suc}
+use native.Mathlib.Nat.{le-trans, le-of-eq, lt-of-lt-of-le, lt-of-le-of-lt, zero-add, mul-comm, mul-assoc, mul-right-comm, mul-pos, mul-le-mul-right, eq-zero-or-pos, div-div-eq-div-mul, div-eq-of-lt, le-div-iff-mul-le, div-lt-iff-lt-mul, le-of-suc-le-suc}
 use native.Mathlib.Omega.{arith}
 use mathlib.Core.Bool.{Bool, true, false, not, cond}
 use lib.IntN.{ℤ}
-use lib.Dec.{T, ltb, leb→le, lit<, lit≤}
+use lib.Dec.{T, ltb, leb→le, lit<}
 use lib.Pow.{pow-add, pow-pos, pow-mono, shr-shr}
 use lib.Bits.{bitAnd, bitOr, and-mask, or-shifted-r}
 use lib.Ieee.{Float, nan, inf, fin, binary32, up, down, size, toBits, isNan}

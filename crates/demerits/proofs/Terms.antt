@@ -97,7 +97,3 @@ cost-with r old s word w e = rw e
 
 pub square-le-most : (l w d : ℕ) → l ≤ 100 → w ≤ 300 → d ≤ 600 → (1 + l + w + d) * (1 + l + w + d) ≤ mostCost
 square-le-most l w d L W D = let s : 1 + l + w + d ≤ 1001 = omega arith in mul-le-mul s s
-
-pub cost-le : (r old : Float) (s w : ℕ) → T (within 1 r) → T (within 1 old) → 1 ≤ w → s ≤ 2 ^ 24 → cost r old s w ≤ mostCost
-unfolding cost
-cost-le r old s w h k l N = square-le-most (lineTerm r) (wordTerm s w) (ratioTerm r old) (line-le r h) (word-le s w l N) (ratio-le r old h k)

@@ -44,7 +44,7 @@ fn abs(x: f32) -> f32
 
 // How many of an f32's 24 digits stand behind the point. A value below 1 has no whole part: all of them do.
 fn places(exponent: u32) -> u32
-    requires { ⌜ exponent ≤ 150 ⌝ }
+    requires { ⌜ exponent ≤ 136 ⌝ }
     ensures { λ r. ⌜ r ≡ B.places exponent ⌝ }
 {
     if exponent < 127 {

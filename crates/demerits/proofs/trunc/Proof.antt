@@ -1,8 +1,8 @@
 -- `demerits::trunc` meets its contract: each need is a fact of `proofs/Pattern.antt`. Assumes nothing.
 use mathlib.Core.Path.{ap, _∙_}
 use Prim.Native.Nat.{ℕ, _/_, _^_}
-use native.Mathlib.Nat.{le-trans, lt-of-le-of-lt}
-use lib.Dec.{lit≤, lit<}
+use native.Mathlib.Nat.{lt-of-le-of-lt}
+use lib.Dec.{lit<}
 use lib.Ieee.{binary32, toBits}
 use Rattle.demerits.specs.Bounds.{most}
 use Rattle.demerits.proofs.Pattern.{digits, cut-whole, shift-fits, places-few, no-nan}
@@ -14,7 +14,7 @@ float-to-bits-bits : tie.Need-float-to-bits-bits
 float-to-bits-bits c = no-nan (c .args .x) (c .pre)
 
 places-requires : tie.Need-places-requires
-places-requires c κs = le-trans (shift-fits (c .args .x) (c .pre)) (lit≤ tt)
+places-requires c κs = shift-fits (c .args .x) (c .pre)
 
 shr-result : tie.Need-shr-result
 shr-result c = rw (c .places .ensures) (places-few (toBits binary32 (c .before .args .x) / 8388608))
