@@ -8,3 +8,7 @@ pub mod Boundary
 pub mod Extents
 pub mod Paragraphs
 pub mod Next
+pub mod Fronts
+pub mod Indents
+pub mod Starting
+pub mod Meaning

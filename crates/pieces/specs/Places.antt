@@ -1,9 +1,9 @@
--- The next piece as places in the notes: what the code answers. proofs/Places.antt shows that it means the next piece of the definition.
+-- The next piece as places in the notes: what the code answers. proofs/Meaning.antt shows that it means the next piece of the definition.
 use mathlib.Core.Path.{_≡_}
 use mathlib.Core.Bool.{Bool, true, false, cond, not, _||_, _&&_}
-use mathlib.Core.List.{List, [], _∷_, _++_}
+use mathlib.Core.List.{List, [], _∷_}
 use Prim.Native.Nat.{ℕ, _+_, _≤_, _<_}
-use lib.ListN.{length, take, drop, replicate}
+use lib.ListN.{length, take, drop}
 use lib.Seq.{slice}
 use lib.Dec.{ltb, eqb}
 use Rattle.lists.specs.Runs.{joined}
@@ -15,7 +15,7 @@ use Rattle.lines.specs.Classes.{classify}
 use Rattle.lines.specs.declared.Shape.{Shape}
 use Rattle.lines.specs.declared.Class.{Class}
 use Rattle.lines.specs.declared.Class.the-variants.{Blank, Plain, Formatted}
-use Rattle.pieces.specs.Pieces.{Indent, Second, alone, joins, isHeader, further, secondOf, follow, agrees, headerText, printable, noColon}
+use Rattle.pieces.specs.Pieces.{Second, alone, joins, isHeader, further, secondOf, follow, agrees, headerText, printable, noColon}
 use Rattle.options.specs.declared.Part.{Part}
 use Rattle.options.specs.declared.Part.the-variants.{Absent, Given}
 use Rattle.pieces.specs.declared.Rule.{Rule}
@@ -27,10 +27,6 @@ use Rattle.pieces.specs.declared.Margin.{Margin}
 use Rattle.pieces.specs.declared.Paragraph.{Paragraph}
 use Rattle.pieces.specs.declared.Piece.{Piece}
 use Rattle.pieces.specs.declared.Piece.the-variants.{Blank as BlankAt, Plain as PlainAt, Text}
-
--- what an indent in places means
-unfoldable pub indentMeant : List ℕ → Margin → Indent
-indentMeant notes m = record { bytes = slice (m .start) (m .end) notes ++ replicate (m .more) 32; columns = m .columns }
 
 abbrev pub rawBytes : Line → List ℕ
 rawBytes l = l .raw

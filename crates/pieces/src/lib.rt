@@ -12,6 +12,7 @@ ghost use Rattle.options.specs.Opts.{meant};
 ghost use Rattle.lines.specs.Lines.{linesOf};
 ghost use Rattle.lines.specs.Places.{Usable};
 ghost use Rattle.pieces.specs.Pieces.{headerText, agrees};
+ghost use Rattle.pieces.specs.Bounds.{Bounded};
 ghost use Rattle.pieces.specs.Places.{passesRule, secondRule, headerName, startsMail, marginAt, reach, secondAt, paragraphWith, pieceAt, Ready, Shaped, Cleared, LineIs, SecondSound};
 
 // An indent: bytes of the notes from start up to end, then further spaces; and its columns.
@@ -62,7 +63,7 @@ pub struct Classed {
 // The piece that begins at a line's start.
 pub fn next_piece(notes: &[u8], at: usize, o: Options, block: &[u8], next_mail: bool) -> Piece
     requires { ⌜ (at < length (now notes)) × (length (now notes) ≤ 65536) × Usable (now block) o × Cleared o ⌝ }
-    ensures { λ r. ⌜ r ≡ pieceAt (meant (now (block .entry)) o) «next_mail» (now (notes .entry)) at ⌝ }
+    ensures { λ r. ⌜ (r ≡ pieceAt (meant (now (block .entry)) o) «next_mail» (now (notes .entry)) at) × Bounded (o .glue) (now (notes .entry)) at r ⌝ }
 {
     let line = line_at(notes, at, o, block);
     let end = line.end;

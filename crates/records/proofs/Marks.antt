@@ -10,9 +10,8 @@ use lib.Seq.{sets, length-sets, slice, slice-cons}
 use Rattle.lists.proofs.Stores.{sets-slice}
 use Rattle.records.specs.Marks.{Marked}
 
-module _ (marks : List Bool) (i n : ℕ) where
-  pub marks-here : i < n → n ≤ length marks → slice i n marks ≡ getD marks i false ∷ slice (i + 1) n marks
-  marks-here h k = rw add-one (slice-cons i n marks false h k)
+pub marks-here : (marks : List Bool) (i n : ℕ) → i < n → n ≤ length marks → slice i n marks ≡ getD marks i false ∷ slice (i + 1) n marks
+marks-here marks i n h k = rw add-one (slice-cons i n marks false h k)
 
 pub marked : (n : ℕ) (marks breaks marks′ : List Bool) → 1 ≤ n → n ≤ 1024 → length marks ≡ 1024 → length breaks ≡ n - 1
     → marks′ ≡ sets marks 1 breaks → Marked n marks breaks marks′

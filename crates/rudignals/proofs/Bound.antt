@@ -2,7 +2,7 @@
 use mathlib.Core.Path.{_≡_, refl, sym, ap, _∙_}
 use mathlib.Core.Bool.{Bool, true, false, cond, _||_}
 use mathlib.Core.List.{List, [], _∷_, _++_, map}
-use Prim.Native.Nat.{ℕ, _+_, _-_, _*_, _≤_, _<_}
+use Prim.Native.Nat.{ℕ, _+_, _-_, _*_, _≤_}
 use native.Mathlib.Nat.{mul-le-mul}
 use native.Mathlib.Omega.{arith}
 use lib.ListN.{length, replicate, length-append, length-replicate}
@@ -24,15 +24,16 @@ use Rattle.pieces.specs.Pieces.{Row, Indent, Paragraph, rowOf}
 use Rattle.pieces.specs.Places.{taken}
 use Rattle.pieces.specs.declared.Margin.{Margin}
 use Rattle.pieces.specs.declared.Paragraph.{Paragraph as ParagraphAt}
+use Rattle.pieces.specs.Bounds.{MarginWithin, ParagraphWithin}
 use Rattle.pieces.proofs.Following.{taken-more}
+use Rattle.pieces.proofs.Indents.{MarginIs}
+use Rattle.pieces.proofs.Meaning.{TextIs}
 use Rattle.records.specs.Word.{Word}
 use Rattle.words.specs.Words.{bytesOf, rowWords, wordsOf}
 use Rattle.words.proofs.Spelled.{Spelled, row-spelled}
 use Rattle.output.specs.Bound.{bulk, most}
 use Rattle.output.proofs.Bound.{emit-most}
 use Rattle.rudignals.specs.Format.{breaksOf, formatted}
-use Rattle.rudignals.proofs.Indents.{MarginIs}
-use Rattle.rudignals.proofs.Meaning.{TextIs}
 
 -- ---- the words of a line have no more bytes than the line
 
@@ -94,29 +95,30 @@ rows-bulk o mail (l ∷ ls) s =
     let k = row-bulk o mail (rowOf o l) in
     rw (joined-cons, bulk-append, taken-more) (omega arith)
 
-module _ (o : Opts) (notes : List ℕ) (at : ℕ) (p : ParagraphAt) (q : Paragraph) (t : TextIs o notes at p q) (on : at < p .next) (within : p .next ≤ length notes) where
+module _ (o : Opts) (notes : List ℕ) (at : ℕ) (p : ParagraphAt) (q : Paragraph) (t : TextIs o notes at p q) (within : ParagraphWithin (o .glue) notes at p) where
   words-bulk : bulk (wordsOf o q) ≤ p .next - at
   unfolding wordsOf taken
   words-bulk =
       let b = rows-bulk o (q .mail) (linesOf (slice at (p .next) notes)) (lines-shorter (slice at (p .next) notes)) in
       let e = ap length (lines-extents (slice at (p .next) notes)) in
-      let n = length-slice at (p .next) notes within in
-      rw (t .rows .rows, t .are) (omega arith)
+      let n = length-slice at (p .next) notes (within .within) in
+      rw (t .rows .rows) (omega arith)
 
-  margin-most : (m : Margin) (i : Indent) → MarginIs notes at (p .next) m i → length (i .bytes) ≤ p .next - at + 4
-  margin-most m i h =
-      let n = length-slice (m .start) (m .end) notes (omega (arith, h .high)) in
+  margin-most : (m : Margin) (i : Indent) → MarginIs notes m i → MarginWithin at (p .next) m → length (i .bytes) ≤ p .next - at + 4
+  margin-most m i h w =
+      let n = length-slice (m .start) (m .end) notes (omega (arith, w .high, within .within)) in
       let l = length-append (slice (m .start) (m .end) notes) (replicate (m .more) 32) in
       let r = length-replicate {A = ℕ} (m .more) 32 in
       let b = ap length (h .bytes) in
-      omega (arith, h .more, h .low, h .order, h .high)
+      omega (arith, w .more, w .low, w .order, w .high)
 
   -- what emission promises
   pub text-most : length (wordsOf o q) ≤ 1024 → most (q .first .bytes) (q .indent .bytes) (wordsOf o q) + 10000 * at ≤ 10000 * p .next
   text-most few =
       let b = words-bulk in
-      let f = margin-most (p .first) (q .first) (t .first) in
-      let i = margin-most (p .indent) (q .indent) (t .indent) in
+      let f = margin-most (p .first) (q .first) (t .first) (within .first) in
+      let i = margin-most (p .indent) (q .indent) (t .indent) (within .indent) in
+      let on = within .on in
       let n = mul-le-mul {n₁ = length (wordsOf o q)} {n₂ = 1024} few (let z : length (q .indent .bytes) + 2 ≤ p .next - at + 6 = omega arith in z) in
       omega arith
 

@@ -3,9 +3,7 @@ pub mod Boundary
 pub mod Order
 pub mod Extents
 pub mod Demand3
-pub mod Fronts
-pub mod Starting
-pub mod Indents
+pub mod Rows
 pub mod Meaning
 pub mod Bound
 pub mod Steps

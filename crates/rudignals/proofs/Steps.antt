@@ -15,11 +15,13 @@ use Rattle.options.specs.declared.Options.{Options}
 use Rattle.options.proofs.Accepted.{Kept, accepted}
 use Rattle.lines.specs.Places.{Usable}
 use Rattle.lines.proofs.Usable.{usable}
-use Rattle.pieces.specs.Pieces.{Indent, Paragraph, blankLine, plainLine, paragraph}
+use Rattle.pieces.specs.Pieces.{Paragraph, blankLine, plainLine, paragraph}
 use Rattle.pieces.specs.Places.{Cleared, pieceAt}
+use Rattle.pieces.specs.Bounds.{MarginWithin, ParagraphWithin, Bounded}
 use Rattle.pieces.specs.declared.Margin.{Margin}
 use Rattle.pieces.specs.declared.Paragraph.{Paragraph as ParagraphAt}
 use Rattle.pieces.specs.declared.Piece.{Piece as PieceAt}
+use Rattle.pieces.proofs.Meaning.{TextIs, means}
 use Rattle.records.specs.Word.{Word}
 use Rattle.records.specs.Table.{wordsIn}
 use Rattle.records.specs.Marks.{breaksIn, Marked}
@@ -43,8 +45,8 @@ use Rattle.rudignals.specs.Call.{Goes, Put, Stepped, Ready, settingIn, b
 use Rattle.rudignals.specs.declared.Cursor.{Cursor}
 use Rattle.rudignals.specs.declared.Step.{Step}
 use Rattle.rudignals.specs.declared.Step.the-variants.{On, Over}
-use Rattle.rudignals.proofs.Indents.{MarginIs}
-use Rattle.rudignals.proofs.Meaning.{TextIs, Means, means}
+use Rattle.rudignals.proofs.Rows.{text-words}
+use Rattle.rudignals.proofs.Meaning.{PieceGoes, piece-goes}
 use Rattle.rudignals.proofs.Bound.{text-most}
 
 -- ---- what the block's options allow
@@ -59,12 +61,13 @@ module _ (block notes : List ℕ) (o : Options) (ready : Ready block notes o) wh
   pub ready-cleared : Cleared o
   ready-cleared = ready-kept .splitClears
 
-  -- the piece that the code found at a place means
-  pub found-means : (nextMail : Bool) (at : ℕ) (r s : PieceAt) → at < length notes → r ≡ pieceAt (meant block o) nextMail notes at → r ≡ s → Means (meant block o) nextMail notes at s
+  -- the piece that the code found at a place, with the bounds promised of it
+  pub found-goes : (nextMail : Bool) (at : ℕ) (r s : PieceAt) → at < length notes → (r ≡ pieceAt (meant block o) nextMail notes at) × Bounded (o .glue) notes at r → r ≡ s → PieceGoes (meant block o) nextMail notes at s
   unfolding meant
-  found-means nextMail at r s h p q =
+  found-goes nextMail at r s h p q =
       let k = ready-kept in
-      rw (sym q ∙ p) (means (meant block o) nextMail notes at h (k .tabLeast) (k .tabMost) (ready .short) (k .splitClears))
+      let m = means (meant block o) nextMail notes at h (k .tabLeast) (k .tabMost) (ready .short) (k .splitClears) in
+      piece-goes (meant block o) nextMail notes at s (rw (sym q ∙ p .0) m) (rw q at (p .1))
 
 -- ---- blank and plain lines
 
@@ -85,28 +88,31 @@ module _ (o : Opts) (notes out : List ℕ) (c : Cursor) (out′ : List ℕ) (nex
 -- ---- paragraphs
 
 module _ (block notes : List ℕ) (o : Options) (ready : Ready block notes o) (nextMail : Bool) (at : ℕ) (p : ParagraphAt) (q : Paragraph)
-    (goes : Goes (meant block o) nextMail notes at (paragraph q) (p .mail) (p .next)) (text : TextIs (meant block o) notes at p q) where
-  margin-in : (m : Margin) {i : Indent} → MarginIs notes at (p .next) m i → MarginIn (length notes) m
-  margin-in m h = record { order = h .order; end = omega (arith, h .high, goes .within); more = omega (arith, h .more) }
+    (goes : Goes (meant block o) nextMail notes at (paragraph q) (p .mail) (p .next)) (text : TextIs (meant block o) notes at p q) (bounds : ParagraphWithin (meant block o .glue) notes at p) where
+  margin-in : (m : Margin) → MarginWithin at (p .next) m → MarginIn (length notes) m
+  margin-in m h = record { order = h .order; end = omega (arith, h .high, bounds .within); more = omega (arith, h .more) }
+
+  words-are : wordsOf (meant block o) q ≡ wordsFor block notes at o p
+  words-are = text-words (meant block o) notes at p q text
 
   pub text-placed : Placed notes at o p
   unfolding meant
   text-placed =
       let k = ready-kept block notes o ready in
-      let f = text .first in
-      let i = text .indent in
-      let s = paragraph-some (meant block o) (text .lines) q (text .rows) in
+      let f = bounds .first in
+      let i = bounds .indent in
+      let s = paragraph-some (meant block o) _ q (text .rows) in
       record {
-        order = omega (arith, goes .on);
-        within = goes .within;
+        order = omega (arith, bounds .on);
+        within = bounds .within;
         short = ready .short;
-        begins = text .begins;
+        begins = bounds .begins;
         block = block;
-        some = rw (text .words) at s;
+        some = rw words-are at s;
         first = margin-in (p .first) f;
         indent = margin-in (p .indent) i;
-        firstSmall = omega (arith, f .small);
-        indentSmall = omega (arith, i .small);
+        firstSmall = omega (arith, f .columns);
+        indentSmall = omega (arith, i .columns);
         goal = k .goalMost;
         twice = k .widthTwice;
         width = k .widthMost;
@@ -117,13 +123,13 @@ module _ (block notes : List ℕ) (o : Options) (ready : Ready block notes o) (n
   formatted-is : formatted (meant block o) q
       ≡ emit (o .uniform || p .mail) (marginOf notes (p .first)) (marginOf notes (p .indent)) (broken (o .quick || p .mail) (settingIn o p) (wordsFor block notes at o p)) (wordsFor block notes at o p)
   unfolding formatted breaksOf settingOf meant
-  formatted-is = rw (text .words, text .mail, text .first .bytes, text .indent .bytes, text .first .columns, text .indent .columns)
+  formatted-is = rw (words-are, text .mail, text .first .bytes, text .indent .bytes, text .first .columns, text .indent .columns)
 
   most-is : most (marginOf notes (p .first)) (marginOf notes (p .indent)) (wordsFor block notes at o p) ≡ most (q .first .bytes) (q .indent .bytes) (wordsOf (meant block o) q)
-  most-is = rw (text .words, text .first .bytes, text .indent .bytes)
+  most-is = rw (words-are, text .first .bytes, text .indent .bytes)
 
   words-count : length (wordsOf (meant block o) q) ≡ length (wordsFor block notes at o p)
-  words-count = ap length (text .words)
+  words-count = ap length words-are
 
   text-put : (out : List ℕ) (c d : Cursor) (out′ : List ℕ) → c .at ≡ at → c .mail ≡ nextMail → TextPut notes at o p out (c .written) out′ d block → Put (meant block o) notes out c d out′
   unfolding outputOf
@@ -132,7 +138,7 @@ module _ (block notes : List ℕ) (o : Options) (ready : Ready block notes o) (n
     goes = rw (a, m, w .next, w .mail) (goes);
     few = rw words-count (le-ltb 1024 (length (wordsFor block notes at o p)) (w .few));
     wrote = rw formatted-is (w .wrote);
-    most = rw (a, w .next) (omega (arith, w .most, most-is, text-most (meant block o) notes at p q text (goes .on) (goes .within) (omega (arith, words-count, w .few))));
+    most = rw (a, w .next) (omega (arith, w .most, most-is, text-most (meant block o) notes at p q text bounds (omega (arith, words-count, w .few))));
   }
 
   pub text-stepped : (out : List ℕ) (c : Cursor) (out′ : List ℕ) (r : Step) → c .at ≡ at → c .mail ≡ nextMail → TextStepped notes at o p out (c .written) out′ r block → Stepped (meant block o) notes out c out′ r

@@ -23,12 +23,13 @@ use Rattle.pieces.specs.Pieces.{Kind, blankLine, plainLine, paragraph, pieces}
 use Rattle.pieces.specs.Places.{pieceAt}
 use Rattle.pieces.specs.declared.Piece.{Piece as PieceAt}
 use Rattle.pieces.specs.declared.Piece.the-variants.{Blank as BlankAt, Plain as PlainAt, Text}
+use Rattle.pieces.proofs.Meaning.{means, bounded}
 use Rattle.words.specs.Words.{wordsOf}
 use Rattle.output.specs.Emission.{lineFeed}
 use Rattle.rudignals.specs.Answers.{Answer, done, options, long, text, words, room, code, value, numbered}
 use Rattle.rudignals.specs.Format.{mostBytes, outputOf, tooMany, digest, longParagraph, withWords, withText, damageIn, withNotes, withBlock, answer}
 use Rattle.rudignals.specs.Call.{Goes, told, numberOf}
-use Rattle.rudignals.proofs.Meaning.{Means, means}
+use Rattle.rudignals.proofs.Meaning.{PieceGoes, piece-goes}
 use Rattle.rudignals.proofs.Bound.{formatted-most}
 use Rattle.rudignals.proofs.Faults.{fault-small}
 use Rattle.rudignals.proofs.Loop.{outputFrom, longFrom, all-output, all-long, output-none, long-none, output-more, long-more, long-here}
@@ -43,7 +44,7 @@ record Next (o : Opts) (nextMail : Bool) (notes : List ℕ) (at : ℕ) : Type 0 
   goes : Goes o nextMail notes at kind state next
   most : tooMany o kind ≡ false → length (outputOf o kind) + 10000 * at ≤ 10000 * next
 
-next-of : (o : Opts) (nextMail : Bool) (notes : List ℕ) (at : ℕ) (r : PieceAt) → Means o nextMail notes at r → Next o nextMail notes at
+next-of : (o : Opts) (nextMail : Bool) (notes : List ℕ) (at : ℕ) (r : PieceAt) → PieceGoes o nextMail notes at r → Next o nextMail notes at
 unfolding outputOf
 next-of o nextMail notes at (BlankAt next) g = record { kind = blankLine; state = true; next = next; goes = g; most = λ few. omega (arith, g .on) }
 next-of o nextMail notes at (PlainAt end next) g =
@@ -55,7 +56,7 @@ next-of o nextMail notes at (Text p) t = record {
   state = p .mail;
   next = p .next;
   goes = t .goes;
-  most = λ few. formatted-most o notes at p (t .paragraph-is) (t .text) (t .goes .on) (t .goes .within) (ltb-false 1024 (length (wordsOf o (t .paragraph-is))) few);
+  most = λ few. formatted-most o notes at p (t .paragraph-is) (t .text) (t .bounds) (ltb-false 1024 (length (wordsOf o (t .paragraph-is))) few);
 }
 
 -- ---- the notes
@@ -93,7 +94,8 @@ module _ (o : Opts) (notes : List ℕ) (least : 1 ≤ o .tab) (most : o .tab ≤
       go false t rest = small-past nextMail at h (ltb-false at (length notes) t)
       go true t rest =
           let i = ltb-true at (length notes) t in
-          let n = next-of o nextMail notes at (pieceAt o nextMail notes at) (means o nextMail notes at i least most short cleared) in
+          let r = pieceAt o nextMail notes at in
+          let n = next-of o nextMail notes at r (piece-goes o nextMail notes at r (means o nextMail notes at i least most short cleared) (bounded o nextMail notes at i least most short cleared)) in
           small-more nextMail at i n (rest (n .state) (n .next) (n .goes .within) (omega (arith, n .goes .on)))
 
   all-small : Small true 0

@@ -17,12 +17,12 @@ use Rattle.options.specs.declared.Options.{Options}
 use Rattle.options.specs.declared.Block.the-variants.{Accepted}
 use Rattle.lines.specs.Lines.{linesOf}
 use Rattle.pieces.specs.Pieces.{Piece, Kind, nextPiece, pieces}
+use Rattle.pieces.specs.Bounds.{AllBegin}
 use Rattle.pieces.specs.declared.Paragraph.{Paragraph}
 use Rattle.records.specs.Word.{Word}
 use Rattle.records.specs.Table.{wordsIn}
 use Rattle.records.specs.Marks.{breaksIn}
 use Rattle.words.specs.Places.{wordsAt}
-use Rattle.words.specs.Split.{AllBegin}
 use Rattle.spacing.specs.declared.Setting.{Setting}
 use Rattle.output.specs.Bound.{most}
 use Rattle.output.specs.Emission.{emit}

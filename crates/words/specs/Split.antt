@@ -1,27 +1,13 @@
--- What splitting asks and promises: where the words of lines begin, and the table that holds them.
+-- What splitting promises: the table that holds the words.
 use mathlib.Core.Path.{_≡_}
-use mathlib.Core.Bool.{Bool}
-use mathlib.Core.List.{List, [], _∷_}
+use mathlib.Core.List.{List}
 use Prim.Native.Nat.{ℕ, _≤_, _<_}
-use lib.ListN.{length, drop}
-use Rattle.text.specs.Characters.{glyphs}
-use Rattle.lines.specs.Lines.{Line}
-use Rattle.lines.specs.Classes.{from}
+use lib.ListN.{length}
 use Rattle.records.specs.Word.{Word}
 use Rattle.records.specs.Table.{wordIn, wordsIn, AllWithin}
 use Rattle.words.specs.Places.{counted}
 use Rattle.words.specs.declared.Count.{Count}
 use Rattle.words.specs.declared.Count.the-variants.{Words, TooMany}
-
--- a glyph begins at a place of a line, or the line ends there
-pub record Begins (glue : Bool) (start : ℕ) (text : List ℕ) : Type 0 where
-  pub within : start ≤ length text
-  pub glyph : from start (glyphs glue text) ≡ glyphs glue (drop start text)
-
--- so at the start of the first line and at the later start of the others
-unfoldable pub AllBegin : Bool → ℕ → ℕ → List Line → Type 0
-AllBegin glue start later [] = Unit {0}
-AllBegin glue start later (l ∷ ls) = Begins glue start (l .text) × AllBegin glue later later ls
 
 -- the first n records of a table are words that lie in a text of a size
 pub record Kept (size n : ℕ) (t : List ℕ) : Type 0 where

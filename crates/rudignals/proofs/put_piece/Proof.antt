@@ -3,7 +3,7 @@ use mathlib.Core.Path.{refl}
 use native.Mathlib.Omega.{arith}
 use borrow.Author.Needs.{needs}
 use denote.Ref.{now}
-use Rattle.rudignals.proofs.Steps.{ready-usable, ready-cleared, found-means, blank-put, plain-put, text-placed, text-stepped}
+use Rattle.rudignals.proofs.Steps.{ready-usable, ready-cleared, found-goes, blank-put, plain-put, text-placed, text-stepped}
 use Rattle.rudignals.proofs.put_piece.Statement.{statement}
 use Rattle.rudignals.proofs.put_piece.Tie as tie
 
@@ -24,7 +24,7 @@ enum-known-end c = search needs
 emit-line-requires-2 : tie.Need-emit-line-requires-2
 emit-line-requires-2 c κs =
     let p = c .before .before .before .before .before .before .before .before .pre in
-    let m = found-means _ _ _ (p .0) _ _ _ _ (p .2) (c .before .before .before .before .next-piece .ensures) (c .before .before .end .given .1) in
+    let m = found-goes _ _ _ (p .0) _ _ _ _ (p .2) (c .before .before .before .before .next-piece .ensures) (c .before .before .end .given .1) in
     (m .1, omega (arith, m .2, m .0 .within), omega (arith, p .0 .short), p .3)
 
 enum-known-p : tie.Need-enum-known-p
@@ -33,8 +33,8 @@ enum-known-p c = search needs
 put-paragraph-requires : tie.Need-put-paragraph-requires
 put-paragraph-requires c κs =
     let p = c .before .before .before .before .before .before .before .before .before .before .before .before .before .pre in
-    let m = found-means _ _ _ (p .0) _ _ _ _ (p .2) (c .before .before .before .before .before .before .before .before .before .next-piece .ensures) (c .before .before .before .before .before .before .before .p .given .1) in
-    (text-placed _ _ _ (p .0) _ _ _ _ (m .goes) (m .text), p .1, p .3)
+    let m = found-goes _ _ _ (p .0) _ _ _ _ (p .2) (c .before .before .before .before .before .before .before .before .before .next-piece .ensures) (c .before .before .before .before .before .before .before .p .given .1) in
+    (text-placed _ _ _ (p .0) _ _ _ _ (m .goes) (m .text) (m .bounds), p .1, p .3)
 
 same-length : tie.Need-same-length
 same-length c = search needs
@@ -42,7 +42,7 @@ same-length c = search needs
 returns : tie.Need-returns
 returns c =
     let p = c .before .before .before .before .before .before .before .before .before .before .before .pre in
-    let m = found-means _ _ _ (p .0) _ _ _ _ (p .2) (c .before .before .before .before .before .before .before .next-piece .ensures) (c .before .before .before .before .before .next .given .1) in
+    let m = found-goes _ _ _ (p .0) _ _ _ _ (p .2) (c .before .before .before .before .before .before .before .next-piece .ensures) (c .before .before .before .before .before .next .given .1) in
     (blank-put _ _ _ _ _ _ _ m (c .before .before .emit-line .ensures), p .1)
 
 same-length-2 : tie.Need-same-length-2
@@ -51,7 +51,7 @@ same-length-2 c = search needs
 returns-2 : tie.Need-returns-2
 returns-2 c =
     let p = c .before .before .before .before .before .before .before .before .before .before .before .pre in
-    let m = found-means _ _ _ (p .0) _ _ _ _ (p .2) (c .before .before .before .before .before .before .before .next-piece .ensures) (c .before .before .before .before .before .end .given .1) in
+    let m = found-goes _ _ _ (p .0) _ _ _ _ (p .2) (c .before .before .before .before .before .before .before .next-piece .ensures) (c .before .before .before .before .before .end .given .1) in
     (plain-put _ _ _ _ _ _ _ _ m (c .before .before .emit-line2 .ensures), p .1)
 
 same-length-3 : tie.Need-same-length-3
@@ -62,8 +62,8 @@ returns-3 c =
     let p = c .before .before .before .before .before .before .before .before .before .before .before .before .before .before .before .before .pre in
     let a = c .before .before .before .before .before .before .before .before .before .before .before .before .before .before .before .before .args in
     let w = c .before .before .put-paragraph in
-    let m = found-means _ _ _ (p .0) _ _ _ _ (p .2) (c .before .before .before .before .before .before .before .before .before .before .before .before .next-piece .ensures) (c .before .before .before .before .before .before .before .before .before .before .p .given .1) in
-    (text-stepped _ _ _ (p .0) _ _ _ _ (m .goes) (m .text) (now (a .out)) (a .c) (w .last .1 .1 .1 .1 .0) (w .result) refl refl (w .ensures .0 (now (a .block))), w .ensures .1)
+    let m = found-goes _ _ _ (p .0) _ _ _ _ (p .2) (c .before .before .before .before .before .before .before .before .before .before .before .before .next-piece .ensures) (c .before .before .before .before .before .before .before .before .before .before .p .given .1) in
+    (text-stepped _ _ _ (p .0) _ _ _ _ (m .goes) (m .text) (m .bounds) (now (a .out)) (a .c) (w .last .1 .1 .1 .1 .0) (w .result) refl refl (w .ensures .0 (now (a .block))), w .ensures .1)
 
 pub put-piece-spec : {M : Type 1} → statement M
 put-piece-spec =

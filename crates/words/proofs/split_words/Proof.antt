@@ -9,8 +9,9 @@ use denote.Ref.{now}
 use borrow.Author.Needs.{needs}
 use Rattle.options.specs.Opts.{meant}
 use Rattle.lines.specs.Lines.{linesOf}
+use Rattle.pieces.specs.Bounds.{AllBegin}
 use Rattle.words.specs.Places.{wordsAt}
-use Rattle.words.specs.Split.{AllBegin, Filled}
+use Rattle.words.specs.Split.{Filled}
 use Rattle.words.specs.Scan.{wordsFrom}
 use Rattle.text.specs.Characters.{glyphs}
 use Rattle.records.specs.Word.{Word}

@@ -13,20 +13,20 @@ use Rattle.lines.specs.Classes.{classify}
 use Rattle.lines.specs.declared.Shape.{Shape}
 use Rattle.lines.specs.declared.Class.{Class}
 use Rattle.lines.specs.declared.Class.the-variants.{Blank, Plain, Formatted}
 use Rattle.pieces.specs.Pieces.{Indent, second, alone, joins, secondAs, secondOf, indentOf, widened, noIndent}
 use Rattle.pieces.specs.Places.{marginAt, spacesAt}
+use Rattle.pieces.specs.Bounds.{MarginWithin}
 use Rattle.pieces.specs.declared.Margin.{Margin}
-use Rattle.output.specs.Writers.{marginOf}
 
--- an indent in places of a piece that stands from at up to next
-pub record MarginIs (notes : List ℕ) (at next : ℕ) (m : Margin) (i : Indent) : Type 0 where
-  pub bytes : marginOf notes m ≡ i .bytes
+-- an indent in places: bytes of the notes, then spaces
+pub record MarginIs (notes : List ℕ) (m : Margin) (i : Indent) : Type 0 where
+  pub bytes : slice (m .start) (m .end) notes ++ replicate (m .more) 32 ≡ i .bytes
   pub columns : m .columns ≡ i .columns
-  pub low : at ≤ m .start
-  pub order : m .start ≤ m .end
-  pub high : m .end ≤ next
-  pub more : m .more ≤ 4
-  pub small : m .columns ≤ 6553604
+
+-- that of a paragraph that stands from at up to next
+pub record MarginFound (notes : List ℕ) (at next : ℕ) (m : Margin) (i : Indent) : Type 0 where
+  pub is : MarginIs notes m i
+  pub inside : MarginWithin at next m
 
 -- ---- indents
 
@@ -37,37 +37,27 @@ widened-none i =
 
 module _ (notes : List ℕ) (at next : ℕ) where
   pub margin-at : (a more : ℕ) (text : List ℕ) (s : Shape) → text ≡ slice a (a + length text) notes → s .indent ≤ length text → s .columns ≤ 6553600
-      → at ≤ a → a + length text ≤ next → more ≤ 4 → MarginIs notes at next (marginAt a more s) (widened (indentOf text s) more)
+      → at ≤ a → a + length text ≤ next → more ≤ 4 → MarginFound notes at next (marginAt a more s) (widened (indentOf text s) more)
   unfolding indentOf
   margin-at a more text s e i c low high m =
       let b : slice a (a + s .indent) notes ≡ take (s .indent) text =
       slice-is a (s .indent) notes ∙ sym (take-take (s .indent) (length text) (drop a notes) i) ∙ ap (take (s .indent)) (sym (slice-is a (length text) notes)) ∙ ap (take (s .indent)) (sym e) in
       record {
-        bytes = ap (λ (l : List ℕ). l ++ replicate more 32) b;
-        columns = refl;
-        low = low;
-        order = omega arith;
-        high = omega arith;
-        more = m;
-        small = omega arith;
+        is = record { bytes = ap (λ (l : List ℕ). l ++ replicate more 32) b; columns = refl };
+        inside = record { low = low; order = omega arith; high = omega arith; more = m; columns = omega arith };
       }
 
   pub margin-bare : (a : ℕ) (text : List ℕ) (s : Shape) → text ≡ slice a (a + length text) notes → s .indent ≤ length text → s .columns ≤ 6553600
-      → at ≤ a → a + length text ≤ next → MarginIs notes at next (marginAt a 0 s) (indentOf text s)
+      → at ≤ a → a + length text ≤ next → MarginFound notes at next (marginAt a 0 s) (indentOf text s)
   margin-bare a text s e i c low high = rw widened-none at (margin-at a 0 text s e i c low high (omega arith))
 
-  pub margin-spaces : (n : ℕ) → at ≤ next → n ≤ 4 → MarginIs notes at next (spacesAt at n) (widened noIndent n)
+  pub margin-spaces : (n : ℕ) → at ≤ next → n ≤ 4 → MarginFound notes at next (spacesAt at n) (widened noIndent n)
   margin-spaces n h m =
       let z : at + 0 ≡ at = omega arith in
       let b : slice at at notes ≡ [] = rw z at (slice-is at 0 notes) in
       record {
-        bytes = ap (λ (l : List ℕ). l ++ replicate n 32) b;
-        columns = omega arith;
-        low = omega arith;
-        order = omega arith;
-        high = h;
-        more = m;
-        small = omega arith;
+        is = record { bytes = ap (λ (l : List ℕ). l ++ replicate n 32) b; columns = omega arith };
+        inside = record { low = omega arith; order = omega arith; high = h; more = m; columns = omega arith };
       }
 
 -- ---- the second line

@@ -1,15 +1,13 @@
--- A paragraph's lines are formatted, and the words of its first line and of its other lines begin where the code was told.
-use mathlib.Core.Path.{_≡_, refl, sym, ap, ap₂, _∙_}
+-- A paragraph's lines are formatted, and the words of its first line and of its other lines begin where the code was told: at a glyph.
+use mathlib.Core.Path.{_≡_, refl, sym}
 use mathlib.Core.Bool.{Bool, true, false, cond, _&&_, _||_, false≢true}
-use mathlib.Core.List.{List, [], _∷_, _++_, map}
+use mathlib.Core.List.{List, [], _∷_}
 use Prim.Native.Nat.{ℕ, suc, _≤_}
 use native.Mathlib.Omega.{arith}
 use lib.Dec.{eqb}
 use lib.ListN.{take}
 use borrow.Author.Tests.{eqb-true}
-use Rattle.lists.specs.Runs.{joined}
 use Rattle.lists.specs.All.{All}
-use Rattle.lists.proofs.Parts.{joined-nil, joined-cons}
 use Rattle.options.specs.Opts.{Opts}
 use Rattle.lines.specs.Lines.{Line}
 use Rattle.lines.specs.Classes.{classify}
@@ -17,18 +15,20 @@ use Rattle.lines.specs.declared.Shape.{Shape}
 use Rattle.lines.specs.declared.Class.{Class}
 use Rattle.lines.specs.declared.Class.the-variants.{Blank, Plain, Formatted}
 use Rattle.lines.proofs.Shapes.{known}
-use Rattle.pieces.specs.Pieces.{Row, agrees, second, follow, alone, joins, secondAs, secondOf, followSecond, further, rowOf}
+use Rattle.pieces.specs.Pieces.{agrees, second, follow, alone, joins, secondAs, secondOf, followSecond, further}
 use Rattle.pieces.specs.Places.{laterStart, startAt}
-use Rattle.records.specs.Word.{Word}
-use Rattle.words.specs.Words.{rowWords}
-use Rattle.words.specs.Places.{rowsAt, wordsAt}
-use Rattle.words.specs.Split.{Begins, AllBegin}
+use Rattle.pieces.specs.Bounds.{Begins, AllBegin}
 
 -- a formatted line whose words begin at a place
 pub record Starts (o : Opts) (start : ℕ) (l : Line) : Type 0 where
   pub shape : Shape
   pub formatted : classify o (l .text) ≡ Formatted shape
   pub indent : shape .indent ≡ start
+
+-- lines of which the first begins at start, the others at later
+abbrev pub AllStart : Opts → ℕ → ℕ → List Line → Type 0
+AllStart o start later [] = Unit {0}
+AllStart o start later (l ∷ ls) = Starts o start l × All (Starts o later) ls
 
 agree-indent : (a b : Shape) → agrees a b ≡ true → b .indent ≡ a .indent
 unfolding agrees
@@ -80,38 +80,7 @@ module _ (o : Opts) where
       go false true = second-starts s ls
       go false false = follow-starts (agrees s) (s .indent) (agree-indent s) ls
 
-  -- ---- so the rows are those of the code, and a glyph begins at each start
-
-  row-starts : (start : ℕ) (l : Line) → Starts o start l → rowOf o l ≡ record { text = l .text; start = start }
-  unfolding rowOf
-  row-starts start l s = rw (s .formatted, s .indent)
-
-  rows-start : (start : ℕ) (ls : List Line) → All (Starts o start) ls → map (rowOf o) ls ≡ rowsAt start start ls
-  unfolding rowsAt
-  rows-start start [] a = refl
-  rows-start start (l ∷ ls) a = ap₂ (λ (r : Row) (rs : List Row). r ∷ rs) (row-starts start l (a .0)) (rows-start start ls (a .1))
-
-  plain-rows : (start later : ℕ) (l : Line) (ls : List Line) → Starts o start l → All (Starts o later) ls → joined (rowWords o false) (map (rowOf o) (l ∷ ls)) ≡ wordsAt o false start later (l ∷ ls)
-  unfolding wordsAt rowsAt
-  plain-rows start later l ls s a = ap (joined (rowWords o false)) (ap₂ (λ (r : Row) (rs : List Row). r ∷ rs) (row-starts start l s) (rows-start later ls a))
-
-  -- mail's words do not hang on where they begin
-  mail-row : (l : Line) (start : ℕ) → rowWords o true (rowOf o l) ≡ rowWords o true (record { text = l .text; start = start })
-  unfolding rowWords rowOf
-  mail-row l start = refl
-
-  mail-rows : (start later : ℕ) (ls : List Line) → joined (rowWords o true) (map (rowOf o) ls) ≡ wordsAt o true start later ls
-  unfolding wordsAt rowsAt
-  mail-rows start later [] = rw joined-nil
-  mail-rows start later (l ∷ ls) =
-      joined-cons (rowWords o true) (rowOf o l) (map (rowOf o) ls)
-      ∙ ap₂ (λ (a b : List Word). a ++ b) (mail-row l start) (mail-rows later later ls)
-      ∙ sym (joined-cons (rowWords o true) (record { text = l .text; start = start }) (rowsAt later later ls))
-
-  pub rows-words : (mail : Bool) (start later : ℕ) (l : Line) (ls : List Line) → Starts o start l → (mail ≡ false → All (Starts o later) ls)
-      → joined (rowWords o mail) (map (rowOf o) (l ∷ ls)) ≡ wordsAt o mail start later (l ∷ ls)
-  rows-words true start later l ls s a = mail-rows start later (l ∷ ls)
-  rows-words false start later l ls s a = plain-rows start later l ls s (a refl)
+  -- ---- so a glyph begins at each start
 
   module _ (least : 1 ≤ o .tab) (most : o .tab ≤ 100) where
     begin : (start : ℕ) (l : Line) → Starts o start l → Begins (o .glue) start (l .text)
@@ -124,6 +93,7 @@ module _ (o : Opts) where
     all-begin start [] a = tt
     all-begin start (l ∷ ls) a = (begin start l (a .0), all-begin start ls (a .1))
 
-    pub rows-begin : (start later : ℕ) (l : Line) (ls : List Line) → Starts o start l → All (Starts o later) ls → AllBegin (o .glue) start later (l ∷ ls)
+    pub starts-begin : (start later : ℕ) (ls : List Line) → AllStart o start later ls → AllBegin (o .glue) start later ls
     unfolding AllBegin
-    rows-begin start later l ls s a = (begin start l s, all-begin later ls a)
+    starts-begin start later [] a = tt
+    starts-begin start later (l ∷ ls) a = (begin start l (a .0), all-begin later ls (a .1))
