@@ -11,4 +11,6 @@ pub mod Next
 pub mod Fronts
 pub mod Indents
 pub mod Starting
+pub mod Taken
+pub mod Indented
 pub mod Meaning
