@@ -5,6 +5,7 @@ use mathlib.Core.List.{List, [], _∷_, _++_}
 use Prim.Native.Nat.{ℕ, _+_, _≤_}
 use native.Mathlib.Omega.{arith}
 use lib.ListN.{length, length-append}
+use Rattle.lists.specs.Runs.{joined}
 use Rattle.lists.specs.All.{All}
 use Rattle.lists.proofs.All.{all-append}
 use Rattle.lists.proofs.Parts.{joined-append, joined-cons}
@@ -24,7 +25,10 @@ use Rattle.rudignals.proofs.Answers.{answer-done, keep-done}
 
 pub digest-boundary : (o : Opts) (a b : List ℕ) → Closed a → digest o (a ++ 10 ∷ b) ≡ digest o a ++ 10 ∷ digest o b
 unfolding digest outputOf
-digest-boundary o a b c = rw (pieces-boundary o a b c, joined-append (pieceOutput o) (pieces o a), joined-cons (pieceOutput o) (blankPiece emptyLine))
+digest-boundary o a b c =
+    ap (joined (pieceOutput o)) (pieces-boundary o a b c)
+    ∙ joined-append (pieceOutput o) (pieces o a) (blankPiece emptyLine ∷ pieces o b)
+    ∙ ap (λ (l : List ℕ). joined (pieceOutput o) (pieces o a) ++ l) (joined-cons (pieceOutput o) (blankPiece emptyLine) (pieces o b))
 
 -- ---- long paragraphs
 
