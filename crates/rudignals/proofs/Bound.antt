@@ -31,6 +31,7 @@ use Rattle.pieces.proofs.Meaning.{TextIs}
 use Rattle.records.specs.Word.{Word}
 use Rattle.words.specs.Words.{bytesOf, rowWords, wordsOf}
 use Rattle.words.proofs.Spelled.{Spelled, row-spelled}
+use Rattle.output.specs.Emission.{emit}
 use Rattle.output.specs.Bound.{bulk, most}
 use Rattle.output.proofs.Bound.{emit-most}
 use Rattle.rudignals.specs.Format.{breaksOf, formatted}
@@ -112,19 +113,26 @@ module _ (o : Opts) (notes : List ℕ) (at : ℕ) (p : ParagraphAt) (q : Paragra
       let b = ap length (h .bytes) in
       omega (arith, w .more, w .low, w .order, w .high)
 
+  words-most : (first indent : List ℕ) → length first ≤ p .next - at + 4 → length indent ≤ p .next - at + 4 → length (wordsOf o q) ≤ 1024
+      → most first indent (wordsOf o q) + 10000 * at ≤ 10000 * p .next
+  words-most first indent f i few =
+      let b = words-bulk in
+      let on = within .on in
+      let n = mul-le-mul {n₁ = length (wordsOf o q)} {n₂ = 1024} few (let z : length indent + 2 ≤ p .next - at + 6 = omega arith in z) in
+      omega arith
+
+  emitted-most : (first indent : List ℕ) (breaks : List Bool) → length first ≤ p .next - at + 4 → length indent ≤ p .next - at + 4 → length (wordsOf o q) ≤ 1024
+      → length (emit (o .uniform || q .mail) first indent breaks (wordsOf o q)) + 10000 * at ≤ 10000 * p .next
+  emitted-most first indent breaks f i few = omega (arith, emit-most (o .uniform || q .mail) indent first breaks (wordsOf o q), words-most first indent f i few)
+
   -- what emission promises
   pub text-most : length (wordsOf o q) ≤ 1024 → most (q .first .bytes) (q .indent .bytes) (wordsOf o q) + 10000 * at ≤ 10000 * p .next
-  text-most few =
-      let b = words-bulk in
-      let f = margin-most (p .first) (q .first) (t .first) (within .first) in
-      let i = margin-most (p .indent) (q .indent) (t .indent) (within .indent) in
-      let on = within .on in
-      let n = mul-le-mul {n₁ = length (wordsOf o q)} {n₂ = 1024} few (let z : length (q .indent .bytes) + 2 ≤ p .next - at + 6 = omega arith in z) in
-      omega arith
+  text-most few = words-most _ _ (margin-most (p .first) (q .first) (t .first) (within .first)) (margin-most (p .indent) (q .indent) (t .indent) (within .indent)) few
 
   -- and what is defined
   pub formatted-most : length (wordsOf o q) ≤ 1024 → length (formatted o q) + 10000 * at ≤ 10000 * p .next
   unfolding formatted
   formatted-most few =
-      let e = emit-most (o .uniform || q .mail) (q .indent .bytes) (q .first .bytes) (breaksOf o q (wordsOf o q)) (wordsOf o q) in
-      omega (arith, text-most few)
+      let f = margin-most (p .first) (q .first) (t .first) (within .first) in
+      let i = margin-most (p .indent) (q .indent) (t .indent) (within .indent) in
+      emitted-most _ _ (breaksOf o q (wordsOf o q)) (omega (arith, f, i)) (omega (arith, f, i)) few

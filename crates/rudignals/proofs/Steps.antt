@@ -80,10 +80,10 @@ module _ (o : Opts) (notes out : List ℕ) (c : Cursor) (out′ : List ℕ) (nex
       let e : slice (c .at) (c .at) notes ≡ [] = rw z at (slice-is (c .at) 0 notes) in
       record { kind = blankLine; goes = g; few = refl; wrote = rw e at (w .0); most = omega (arith, g .on, w .1) }
 
-  pub plain-put : (end : ℕ) → Goes o (c .mail) notes (c .at) (plainLine (slice (c .at) end notes)) false next × (c .at ≤ end) × (end ≤ next) → Wrote out (c .written) (slice (c .at) end notes ++ lineFeed) out′ n × (n ≤ c .written + (end - c .at) + 1)
-      → Put o notes out c (record { at = next; written = n; mail = false }) out′
+  pub plain-put : (end : ℕ) {bytes : List ℕ} {most : ℕ} → Goes o (c .mail) notes (c .at) (plainLine (slice (c .at) end notes)) false next × (c .at ≤ end) × (end ≤ next) → Wrote out (c .written) bytes out′ n × (n ≤ most)
+      → bytes ≡ slice (c .at) end notes ++ lineFeed → most ≤ c .written + (end - c .at) + 1 → Put o notes out c (record { at = next; written = n; mail = false }) out′
   unfolding outputOf
-  plain-put end g w = record { kind = plainLine (slice (c .at) end notes); goes = g .0; few = refl; wrote = w .0; most = omega (arith, g .0 .on, g .1, g .2, w .1) }
+  plain-put end g w e k = record { kind = plainLine (slice (c .at) end notes); goes = g .0; few = refl; wrote = rw e at (w .0); most = omega (arith, g .0 .on, g .1, g .2, w .1, k) }
 
 -- ---- paragraphs
 

@@ -23,7 +23,7 @@ loop-holds c = (going-first _ _ _, c .before .before .before .pre .1)
 put-piece-requires : tie.Need-put-piece-requires Inv-loop μ-loop
 put-piece-requires c κs =
     let g = c .before .before .before .before .before .before .before .before .loop .inv .0 in
-    (c .before .before .before .before .before .before .before .before .before .before .before .before .pre .0, c .before .before .before .before .before .before .before .before .loop .inv .1, c .before .before .before .before .before .before .if1 .taken, omega (arith, g .most, g .within, c .before .before .before .before .before .before .before .before .before .before .before .before .pre .0 .short))
+    (c .before .before .before .before .before .before .before .before .before .before .before .before .pre .0, c .before .before .before .before .before .before .before .before .loop .inv .1, omega (arith, c .before .before .before .before .before .before .if1 .taken, g .within), omega (arith, g .most, g .within, c .before .before .before .before .before .before .before .before .before .before .before .before .pre .0 .short))
 
 enum-known-d : tie.Need-enum-known-d Inv-loop μ-loop
 enum-known-d c = search needs

@@ -25,7 +25,7 @@ emit-line-requires-2 : tie.Need-emit-line-requires-2
 emit-line-requires-2 c κs =
     let p = c .before .before .before .before .before .before .before .before .pre in
     let m = found-goes _ _ _ (p .0) _ _ _ _ (p .2) (c .before .before .before .before .next-piece .ensures) (c .before .before .end .given .1) in
-    (m .1, omega (arith, m .2, m .0 .within), omega (arith, p .0 .short), p .3)
+    (omega (arith, m .1), omega (arith, m .1, m .2, m .0 .within), omega (arith, p .0 .short), p .3)
 
 enum-known-p : tie.Need-enum-known-p
 enum-known-p c = search needs
@@ -52,7 +52,7 @@ returns-2 : tie.Need-returns-2
 returns-2 c =
     let p = c .before .before .before .before .before .before .before .before .before .before .before .pre in
     let m = found-goes _ _ _ (p .0) _ _ _ _ (p .2) (c .before .before .before .before .before .before .before .next-piece .ensures) (c .before .before .before .before .before .end .given .1) in
-    (plain-put _ _ _ _ _ _ _ _ m (c .before .before .emit-line2 .ensures), p .1)
+    (plain-put _ _ _ _ _ _ _ _ m (c .before .before .emit-line2 .ensures) refl (omega arith), p .1)
 
 same-length-3 : tie.Need-same-length-3
 same-length-3 c = search needs
