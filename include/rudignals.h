@@ -57,6 +57,29 @@ enum rudignals_flag {
 /* Formats notes into output. The pointers of empty parts may be any that are not null; the parts do not overlap. */
 uint64_t rudignals_format(const uint8_t *options, size_t options_len, const uint8_t *notes, size_t notes_len, uint8_t *output, size_t output_len);
 
+/* A block put together: each call writes one field behind the block's first `at` bytes and answers the block's new length. Fields are put
+ * in the tags' order. The caller has the room: 5 bytes for a number, 3 + length for a prefix; RUDIGNALS_MOST_BLOCK for a whole block that
+ * is not refused. */
+#define RUDIGNALS_MOST_PREFIX 255u
+#define RUDIGNALS_MOST_BLOCK (4 * 5 + 2 * (3 + RUDIGNALS_MOST_PREFIX))
+
+static inline size_t rudignals_put_prefix(uint8_t *block, size_t at, enum rudignals_tag tag, const uint8_t *prefix, uint16_t length) {
+    size_t i;
+    block[at] = (uint8_t)tag;
+    block[at + 1] = (uint8_t)(length >> 8);
+    block[at + 2] = (uint8_t)(length & 0xFFu);
+    for (i = 0; i < length; i++)
+        block[at + 3 + i] = prefix[i];
+    return at + 3 + length;
+}
+
+static inline size_t rudignals_put_number(uint8_t *block, size_t at, enum rudignals_tag tag, uint16_t number) {
+    uint8_t value[2];
+    value[0] = (uint8_t)(number >> 8);
+    value[1] = (uint8_t)(number & 0xFFu);
+    return rudignals_put_prefix(block, at, tag, value, 2);
+}
+
 /* An answer taken apart. */
 static inline uint32_t rudignals_code_of(uint64_t answer) { return (uint32_t)(answer >> 32); }
 static inline uint32_t rudignals_number_of(uint64_t answer) { return (uint32_t)(answer & 0xFFFFFFFFu); }
