@@ -2,9 +2,9 @@
  *
  * One call formats one text. It has no precondition: every option block, every text and every output length has an answer, and the call
  * neither allocates, nor keeps a state, nor calls back. It may run on several threads at once. Its working storage is on the stack: tables
- * of 111,616 bytes; 118,816 bytes in all were measured (the same code compiled for Arm, three texts; not measured on x86-64).
+ * of 111,616 bytes; at most 115,895 bytes in all were measured on x86-64 (tests/stack/run, under an emulator).
  *
- * Link with librudignals.a (`rt staticlib rudignals`).
+ * Link with librudignals.a (`rt staticlib rudignals`); examples/host/ is a host to copy from.
  */
 #ifndef RUDIGNALS_H
 #define RUDIGNALS_H

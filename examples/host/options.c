@@ -119,10 +119,9 @@ static bool build_block(struct options *options) {
 
 /* An option given twice is refused, as in the original: of two widths neither is known to be the one that was meant. */
 enum asked read_options(struct options *options, int argc, char **argv) {
-    static const struct options none;
     bool given[OPTIONS] = {false};
     int option;
-    *options = none;
+    *options = (struct options){0};
     while ((option = getopt_long(argc, argv, SHORT, LONG, NULL)) != -1) {
         if (option == '?')
             return ASKED_WRONGLY;
