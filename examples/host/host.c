@@ -24,9 +24,8 @@ struct room {
 
 static void say_failure(const char *name, int reason) { fprintf(stderr, "fmt: %s: %s\n", name, strerror(reason)); }
 
-/* fread goes on over short reads, from a pipe say. Without a buffer of its own it asks for no byte too many. */
+/* fread goes on over short reads, from a pipe say. The stream has no buffer, so no byte too many is asked for. */
 static bool read_stream(FILE *stream, struct notes *notes) {
-    setvbuf(stream, NULL, _IONBF, 0);
     notes->length = fread(notes->bytes, 1, sizeof notes->bytes, stream);
     return !ferror(stream);
 }
@@ -37,6 +36,7 @@ static bool read_file(const char *name, struct notes *notes) {
     int reason;
     if (file == NULL)
         return false;
+    setvbuf(file, NULL, _IONBF, 0);
     whole = read_stream(file, notes);
     reason = errno; /* fclose may put another in its place */
     fclose(file);
@@ -107,24 +107,30 @@ static bool options_accepted(const struct options *options, struct notes *notes,
 static int format_files(const struct options *options, int count, char **names) {
     static struct notes notes;
     struct room room = {NULL, 0};
-    int i, status = FORMATTED;
+    bool accepted, whole = true;
+    int i;
     if (!widen(&room, RUDIGNALS_MOST_NOTES)) {
         say_failure("memory", ENOMEM);
         return FAILED;
     }
-    if (!options_accepted(options, &notes, &room))
-        return FAILED;
-    for (i = 0; i < count; i++)
-        if (!format_file(options, names[i], &notes, &room))
-            status = FAILED;
+    accepted = options_accepted(options, &notes, &room);
+    for (i = 0; accepted && i < count; i++)
+        whole = format_file(options, names[i], &notes, &room) && whole;
     free(room.bytes);
-    return status;
+    return accepted && whole ? FORMATTED : FAILED;
 }
 
+/* Some file systems tell only on closing that a write failed. */
 static int format_all(const struct options *options, int count, char **names) {
     static char standard_input[] = "-";
     char *only[] = {standard_input};
-    return count == 0 ? format_files(options, 1, only) : format_files(options, count, names);
+    int status;
+    setvbuf(stdin, NULL, _IONBF, 0);
+    status = count == 0 ? format_files(options, 1, only) : format_files(options, count, names);
+    if (fclose(stdout) == 0)
+        return status;
+    say_failure("standard output", errno);
+    return FAILED;
 }
 
 int main(int argc, char **argv) {
