@@ -72,7 +72,7 @@ static void measure(void) {
 
 /* Fills the notes with words of 1 to 11 letters, lines of 12 words and, behind each count of lines, an empty line. */
 static void prose(const char *line_start, unsigned lines) {
-    static const char letters[] = "abcdefghijk. ";
+    static const char letters[] = "abcdefghijk";
     unsigned word, line = 0;
     uint32_t random = 2026;
     call.notes_len = 0;
