@@ -4,7 +4,7 @@
 pub struct Draw(pub u64);
 
 impl Draw {
-    fn below(&mut self, n: usize) -> usize {
+    pub fn below(&mut self, n: usize) -> usize {
         self.0 = self.0.wrapping_mul(6364136223846793005).wrapping_add(1442695040888963407);
         (self.0 >> 33) as usize % n
     }
@@ -16,7 +16,7 @@ fault see log water level steady as expected maintenance";
 
 /// Words of ordinary English lengths in sentences of 6 to 15 words, one blank between words and one or two between
 /// sentences, on lines of 60 to 72 columns.
-fn prose(draw: &mut Draw, words: usize) -> Vec<u8> {
+pub fn prose(draw: &mut Draw, words: usize) -> Vec<u8> {
     let vocabulary: Vec<&str> = VOCABULARY.split(' ').collect();
     let (mut text, mut column, mut left) = (String::new(), 0, 6 + draw.below(10));
     for i in 0..words {
@@ -40,7 +40,7 @@ fn prose(draw: &mut Draw, words: usize) -> Vec<u8> {
 }
 
 /// Words of one letter, one blank between them, 36 to a line.
-fn letters(draw: &mut Draw, words: usize) -> Vec<u8> {
+pub fn letters(draw: &mut Draw, words: usize) -> Vec<u8> {
     let mut text = Vec::new();
     for i in 1..=words {
         text.push(b'a' + draw.below(26) as u8);

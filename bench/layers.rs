@@ -1,7 +1,7 @@
 //! Times the layers under the call against the original's own breakers, in one process, on the same paragraphs.
 //!
-//!     driver [MILLISECONDS]            how long each span is timed, by default 150
-//!     driver --once TEXT SPAN CALLS    one span, so often, over the text of that number in TEXTS, for a profiler
+//!     layers [MILLISECONDS]            how long each span is timed, by default 150
+//!     layers --once TEXT SPAN CALLS    one span, so often, over the text of that number in TEXTS, for a profiler
 
 mod spans;
 mod texts;
