@@ -43,7 +43,7 @@ driver() {
     [ "$stamp" != "$(cat "$out/$1.stamp" 2>/dev/null)" ] || return 0
     say "building the driver"
     rm -f "$out/$1.stamp"
-    compile --edition 2021 --crate-name "$1" -L "native=$out" -o "$out/$1" "$2" \
+    compile --edition 2021 --crate-name "$1" -L "native=$(dirname "$3")" -o "$out/$1" "$2" \
         --extern "fmt_cube=$out/libfmt_cube.rlib" --extern "fmt_powf=$out/libfmt_powf.rlib"
     echo "$stamp" >"$out/$1.stamp"
 }

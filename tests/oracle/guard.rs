@@ -1,0 +1,172 @@
+//! The call with its three slices between guard pages: a byte read or written outside ends the run, and every byte of the output is accounted for.
+
+use crate::model::Answer;
+
+#[link(name = "rudignals", kind = "static")]
+extern "C" {
+    fn rudignals_format(
+        options: *const u8,
+        options_len: usize,
+        notes: *const u8,
+        notes_len: usize,
+        output: *mut u8,
+        output_len: usize,
+    ) -> u64;
+}
+
+extern "C" {
+    fn mmap(at: *mut u8, size: usize, prot: i32, flags: i32, fd: i32, from: i64) -> *mut u8;
+    fn mprotect(at: *mut u8, size: usize, prot: i32) -> i32;
+}
+
+/// A guard is as large as the largest page of the machines that this runs on.
+const GUARD: usize = 65536;
+/// So many bytes beside a slice, on the side without a guard, are watched too.
+const MARGIN: usize = 64;
+
+/// Memory that can be read and written, with memory that cannot on both sides.
+struct Area {
+    start: *mut u8,
+    size: usize,
+}
+
+impl Area {
+    fn new(size: usize) -> Area {
+        let size = size.div_ceil(GUARD) * GUARD;
+        const NONE: i32 = 0;
+        const READ_WRITE: i32 = 3;
+        const PRIVATE_ANONYMOUS_UNRESERVED: i32 = 0x4022;
+        unsafe {
+            let all = mmap(std::ptr::null_mut(), size + 2 * GUARD, NONE, PRIVATE_ANONYMOUS_UNRESERVED, -1, 0);
+            assert!(all as isize != -1, "no memory");
+            let start = all.add(GUARD);
+            assert_eq!(mprotect(start, size, READ_WRITE), 0);
+            Area { start, size }
+        }
+    }
+
+    /// A slice against the upper guard or the lower.
+    fn slice(&mut self, size: usize, high: bool) -> &'static mut [u8] {
+        assert!(size <= self.size, "a slice of {size} bytes");
+        unsafe { std::slice::from_raw_parts_mut(self.start.add(if high { self.size - size } else { 0 }), size) }
+    }
+
+    /// The bytes beside such a slice, on its other side.
+    fn margin(&mut self, size: usize, high: bool) -> &'static mut [u8] {
+        let margin = MARGIN.min(self.size - size);
+        let at = if high { self.size - size - margin } else { size };
+        unsafe { std::slice::from_raw_parts_mut(self.start.add(at), margin) }
+    }
+}
+
+/// A call: what is asked, the output's length, and which slices stand against the upper guard (bit 0 block, 1 notes, 2 output).
+#[derive(Clone)]
+pub struct Call {
+    pub block: Vec<u8>,
+    pub notes: Vec<u8>,
+    pub room: usize,
+    pub places: usize,
+}
+
+fn hex(bytes: &[u8]) -> String {
+    match bytes {
+        [] => "-".to_string(),
+        _ => bytes.iter().map(|byte| format!("{byte:02x}")).collect(),
+    }
+}
+
+impl Call {
+    /// As arguments of `--replay`.
+    pub fn replay(&self) -> String {
+        format!("{} {} {} {}", hex(&self.block), hex(&self.notes), self.room, self.places)
+    }
+
+    pub fn parse(args: &[String]) -> Option<Call> {
+        let bytes = |text: &str| -> Option<Vec<u8>> {
+            let digits = if text == "-" { "" } else { text };
+            (0..digits.len()).step_by(2).map(|i| u8::from_str_radix(digits.get(i..i + 2)?, 16).ok()).collect()
+        };
+        let [block, notes, room, places] = args else { return None };
+        Some(Call { block: bytes(block)?, notes: bytes(notes)?, room: room.parse().ok()?, places: places.parse().ok()? })
+    }
+}
+
+/// What is in the output before the call: never 0, and not the same at neighbouring places.
+fn pattern(at: usize) -> u8 {
+    (at as u8).wrapping_mul(37) | 1
+}
+
+fn fill(slice: &mut [u8]) {
+    slice.iter_mut().enumerate().for_each(|(i, b)| *b = pattern(i));
+}
+
+fn is_filled(slice: &[u8], from: usize) -> bool {
+    slice.iter().enumerate().all(|(i, b)| *b == pattern(from + i))
+}
+
+/// A fault put in on purpose, to see that it is found.
+pub const TAMPERS: [&str; 12] = [
+    "none", "behind", "digest", "zeroed", "kept", "number", "code", "notes", "above", "below", "read-above", "read-below",
+];
+
+pub struct Harness {
+    block: Area,
+    notes: Area,
+    output: Area,
+    tamper: &'static str,
+}
+
+impl Harness {
+    pub fn new(tamper: &'static str) -> Harness {
+        Harness { block: Area::new(80_000), notes: Area::new(200_000), output: Area::new(80 << 20), tamper }
+    }
+
+    /// Makes the call; what is wrong with the answer or with any byte, if anything is.
+    pub fn fault(&mut self, call: &Call, expected: &Answer) -> Option<String> {
+        let high = |bit: usize| call.places >> bit & 1 == 1;
+        let block = self.block.slice(call.block.len(), high(0));
+        let notes = self.notes.slice(call.notes.len(), high(1));
+        let output = self.output.slice(call.room, high(2));
+        let margin = self.output.margin(call.room, high(2));
+        block.copy_from_slice(&call.block);
+        notes.copy_from_slice(&call.notes);
+        fill(output);
+        fill(margin);
+        let found = unsafe {
+            let answer =
+                rudignals_format(block.as_ptr(), block.len(), notes.as_ptr(), notes.len(), output.as_mut_ptr(), output.len());
+            self.tampered(answer, notes, output)
+        };
+
+        let (code, number) = expected.numbers(call.room);
+        if found != (code as u64) << 32 | number as u64 {
+            return Some(format!("answer {} {}, expected {code} {number}", found >> 32, found as u32));
+        }
+        let right = match (code, expected) {
+            (0, Answer::Done(digest)) => output[..number] == digest[..] && is_filled(&output[number..], number),
+            (1..=3, _) => is_filled(output, 0),
+            _ => output.iter().all(|b| *b == 0),
+        };
+        let beside = is_filled(margin, 0) && block[..] == call.block && notes[..] == call.notes;
+        (!right || !beside).then(|| format!("code {code}: {}", if right { "a byte outside the output" } else { "the output's bytes" }))
+    }
+
+    unsafe fn tampered(&self, answer: u64, notes: &mut [u8], output: &mut [u8]) -> u64 {
+        let (code, number, size) = (answer >> 32, answer as u32 as usize, output.len());
+        match self.tamper {
+            "behind" if code == 0 && number < size => output[number] ^= 2,
+            "digest" if code == 0 && number > 0 => output[number / 2] ^= 1,
+            "zeroed" if code >= 4 && size > 0 => output[size - 1] = 1,
+            "kept" if (1..=3).contains(&code) && size > 0 => output[0] = 0,
+            "number" if code == 5 => return answer + 1,
+            "code" if code == 3 => return answer ^ 1 << 32,
+            "notes" if !notes.is_empty() => notes[0] ^= 1,
+            "above" => *output.as_mut_ptr().add(size) = 0,
+            "below" => *output.as_mut_ptr().sub(1) = 0,
+            "read-above" => drop(std::ptr::read_volatile(notes.as_ptr().add(notes.len()))),
+            "read-below" => drop(std::ptr::read_volatile(notes.as_ptr().sub(1))),
+            _ => {}
+        }
+        answer
+    }
+}

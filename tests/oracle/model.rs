@@ -1,0 +1,263 @@
+//! The right answer to any call. Refusals are worked out here, from document 01's words alone; digests, paragraphs and their words are
+//! the original's.
+//!
+//! The original has neither keep nor glue, so it is shown notes that document 01 treats alike:
+//! - Glue: U+00A0 is an ordinary character. In its place the original is shown a character of as many bytes that is no blank and that
+//!   occurs nowhere else, and the digest is turned back.
+//! - Keep: a damaged line is a plain line, as is a line with the skip prefix. In its place the original is shown a line that begins with
+//!   the skip prefix (or, where none is given or it has a line feed and so is never found, with a character that occurs nowhere else),
+//!   and in the digest that line is turned back into the damaged one.
+
+pub enum Answer {
+    Done(Vec<u8>),
+    Options(usize),
+    Long,
+    Text(usize),
+    Words(usize),
+}
+
+impl Answer {
+    /// Code and N, for an output of so many bytes.
+    pub fn numbers(&self, room: usize) -> (u32, usize) {
+        match self {
+            Answer::Done(digest) if digest.len() <= room => (0, digest.len()),
+            Answer::Done(digest) => (5, digest.len()),
+            Answer::Options(place) => (1, *place),
+            Answer::Long => (2, 0),
+            Answer::Text(place) => (3, *place),
+            Answer::Words(place) => (4, *place),
+        }
+    }
+}
+
+// ---------------------------------------------------------------- characters
+
+/// The place of the first damaged character: accepted are U+0000 to U+007F in one byte, U+0080 to U+02FF in two, without U+00AD.
+fn damage(bytes: &[u8]) -> Option<usize> {
+    let mut at = 0;
+    while at < bytes.len() {
+        at += match (bytes[at], bytes.get(at + 1)) {
+            (0x00..=0x7f, _) => 1,
+            (0xc2, Some(0xad)) => return Some(at),
+            (0xc2..=0xcb, Some(0x80..=0xbf)) => 2,
+            _ => return Some(at),
+        };
+    }
+    None
+}
+
+// ---------------------------------------------------------------- option block
+
+#[derive(Default)]
+struct Fields {
+    numbers: [Option<usize>; 4], // flags, width, goal, tab
+    prefixes: [Option<String>; 2],
+}
+
+const KEEP: usize = 1 << 8;
+const GLUE: usize = 1 << 9;
+
+impl Fields {
+    fn has(&self, flag: usize) -> bool {
+        self.numbers[0].unwrap_or(0) & flag != 0
+    }
+
+    /// Whether the width and goal rule holds.
+    fn fit(&self) -> bool {
+        let (width, goal) = match (self.numbers[1], self.numbers[2]) {
+            (None, None) => (79, 74),
+            (Some(width), None) if width < 6 => return false,
+            (Some(width), None) => (width, (width * 94 / 100).min(width - 3)),
+            (None, Some(goal)) => ((goal * 100 / 94).max(goal + 3), goal),
+            (Some(width), Some(goal)) => (width, goal),
+        };
+        goal <= width && width <= 2 * goal && width <= 1000
+    }
+}
+
+/// The fields of a block, or the place of its fault.
+fn read(block: &[u8]) -> Result<Fields, usize> {
+    let mut fields = Fields::default();
+    let (mut at, mut last) = (0, 0);
+    while at < block.len() {
+        at += field(&block[at..], &mut last, &mut fields).ok_or(at)?;
+    }
+    if fields.fit() { Ok(fields) } else { Err(block.len()) }
+}
+
+/// Reads the field that the block begins with; its size, if it has no fault.
+fn field(block: &[u8], last: &mut u8, fields: &mut Fields) -> Option<usize> {
+    let tag = *block.first()?;
+    let size = number(block.get(1..3)?);
+    let value = block.get(3..3 + size)?;
+    if !(1..=6).contains(&tag) || tag <= *last {
+        return None;
+    }
+    *last = tag;
+    let index = tag as usize - 1;
+    if tag <= 4 {
+        let range = [0..=1023, 1..=1000, 1..=1000, 0..=100][index].clone();
+        fields.numbers[index] = Some(number(value)).filter(|n| size == 2 && range.contains(n));
+        fields.numbers[index]?;
+    } else {
+        let text = Some(value).filter(|v| size <= 255 && damage(v).is_none())?;
+        fields.prefixes[index - 4] = Some(String::from_utf8(text.to_vec()).unwrap());
+    }
+    Some(3 + size)
+}
+
+fn number(bytes: &[u8]) -> usize {
+    bytes.iter().fold(0, |n, b| n << 8 | *b as usize)
+}
+
+// ---------------------------------------------------------------- the original
+
+/// The original under the last arguments it was given: calls in a row often share them.
+pub struct Original {
+    args: Vec<String>,
+    options: fmt_cube::FmtOptions,
+}
+
+impl Original {
+    pub fn new() -> Original {
+        Original { args: Vec::new(), options: fmt_cube::options(Vec::new()) }
+    }
+
+    fn set(&mut self, fields: &Fields) {
+        let mut args = Vec::new();
+        for (bit, flag) in ["-c", "-t", "-m", "-s", "-u", "-q", "-x", "-X"].iter().enumerate() {
+            if fields.has(1 << bit) {
+                args.push(flag.to_string());
+            }
+        }
+        for (flag, number) in ["-w", "-g", "-T"].iter().zip(&fields.numbers[1..]) {
+            args.extend(number.iter().flat_map(|n| [flag.to_string(), n.to_string()]));
+        }
+        for (flag, text) in ["-p", "-P"].iter().zip(&fields.prefixes) {
+            args.extend(text.iter().flat_map(|text| [flag.to_string(), text.clone()]));
+        }
+        if args != self.args {
+            self.options = fmt_cube::options(args.clone());
+            self.args = args;
+        }
+    }
+
+    /// The right answer.
+    pub fn answer(&mut self, block: &[u8], notes: &[u8]) -> Answer {
+        let mut fields = match read(block) {
+            Ok(fields) => fields,
+            Err(place) => return Answer::Options(place),
+        };
+        if notes.len() > 65536 {
+            return Answer::Long;
+        }
+        if !fields.has(KEEP) {
+            if let Some(place) = damage(notes) {
+                return Answer::Text(place);
+            }
+        }
+        let shown = Shown::new(&mut fields, notes);
+        self.set(&fields);
+        match self.long_paragraph(shown.text.as_bytes()) {
+            Some(line) => Answer::Words(notes.split_inclusive(|b| *b == b'\n').take(line).map(|l| l.len()).sum()),
+            None => Answer::Done(shown.back(fmt_cube::format(&self.options, shown.text.as_bytes()))),
+        }
+    }
+
+    /// The first line of the first paragraph of over 1,024 words. A paragraph has no more words than the notes.
+    fn long_paragraph(&self, notes: &[u8]) -> Option<usize> {
+        if std::str::from_utf8(notes).unwrap().split_whitespace().nth(1024).is_none() {
+            return None;
+        }
+        let mut line = 0;
+        for (lines, words) in fmt_cube::parasplit::counts(&self.options, notes) {
+            if words > 1024 {
+                return Some(line);
+            }
+            line += lines;
+        }
+        None
+    }
+}
+
+/// Notes as the original is shown them, and what turns its digest back.
+struct Shown {
+    text: String,
+    glue: Option<char>,
+    lines: Vec<(String, Vec<u8>)>, // each damaged line's stand-in, and the line
+}
+
+const NO_BREAK: char = '\u{a0}';
+
+impl Shown {
+    fn new(fields: &mut Fields, notes: &[u8]) -> Shown {
+        let spare = |fields: &Fields, n: usize| {
+            let used = |c: char| {
+                let mut of = [0; 2];
+                let bytes = c.encode_utf8(&mut of).as_bytes();
+                notes.windows(2).any(|w| w == bytes) || fields.prefixes.iter().flatten().any(|p| p.contains(c))
+            };
+            ('\u{100}'..='\u{2ff}').rev().filter(|c| !used(*c)).nth(n).expect("a character that is not used")
+        };
+        let mut lines = Vec::new();
+        let mut text = match std::str::from_utf8(notes) {
+            Ok(text) if damage(notes).is_none() => text.to_string(),
+            _ => {
+                let mark = spare(fields, 0);
+                let skip = &mut fields.prefixes[1];
+                *skip = Some(skip.take().filter(|s| !s.contains('\n')).unwrap_or(mark.to_string()));
+                without_damage(notes, &format!("{}{mark}", skip.as_ref().unwrap()), &mut lines)
+            }
+        };
+        let mut glue = None;
+        if fields.has(GLUE) {
+            let stand_in = spare(fields, 1);
+            glue = Some(stand_in);
+            let show = |text: &str| text.replace(NO_BREAK, &stand_in.to_string());
+            text = show(&text);
+            fields.prefixes.iter_mut().flatten().for_each(|p| *p = show(p));
+        }
+        Shown { text, glue, lines }
+    }
+
+    fn back(&self, digest: Vec<u8>) -> Vec<u8> {
+        if self.glue.is_none() && self.lines.is_empty() {
+            return digest;
+        }
+        let mut text = String::from_utf8(digest).unwrap();
+        if let Some(stand_in) = self.glue {
+            text = text.replace(stand_in, &NO_BREAK.to_string());
+        }
+        let mut damaged = self.lines.iter().peekable();
+        let mut back = Vec::new();
+        for line in text.split_terminator('\n') {
+            match damaged.next_if(|(stand_in, _)| line == stand_in) {
+                Some((_, bytes)) => back.extend(bytes),
+                None => back.extend(line.as_bytes()),
+            }
+            back.push(b'\n');
+        }
+        assert!(damaged.next().is_none(), "a damaged line is not in the digest");
+        back
+    }
+}
+
+/// The notes with each damaged line replaced by the stand-in and its number; the damaged lines, as they are to be emitted, in order.
+fn without_damage(notes: &[u8], stand_in: &str, lines: &mut Vec<(String, Vec<u8>)>) -> String {
+    let mut text = String::new();
+    for line in notes.split_inclusive(|b| *b == b'\n') {
+        if damage(line).is_none() {
+            text += std::str::from_utf8(line).unwrap();
+            continue;
+        }
+        let (body, end) = match line.strip_suffix(b"\n") {
+            Some(body) => (body.strip_suffix(b"\r").unwrap_or(body), "\n"),
+            None => (line, ""),
+        };
+        let instead = format!("{stand_in}{}", lines.len());
+        text += &instead;
+        text += end;
+        lines.push((instead, body.to_vec()));
+    }
+    text
+}

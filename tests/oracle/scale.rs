@@ -1,0 +1,214 @@
+//! The library against the original at scale, in one process: every answer and every byte of the output.
+//!
+//!     scale run SEED COUNT TABLES [TAMPER]   TABLES is quick or long; TAMPER puts a fault in on purpose
+//!     scale replay BLOCK NOTES ROOM PLACES   one call, in hexadecimal, as a difference was printed
+//!
+//! Exit: 0 no difference, 1 a difference or a byte read or written outside.
+
+mod asked;
+#[allow(dead_code)]
+mod cases;
+mod guard;
+mod model;
+#[allow(dead_code)]
+mod options;
+#[allow(dead_code)]
+mod texts;
+
+use guard::{Call, Harness, TAMPERS};
+use model::{Answer, Original};
+use std::collections::BTreeMap;
+use std::process::exit;
+use texts::Rng;
+
+/// The run stops at so many differences.
+const ENOUGH: u64 = 100;
+
+extern "C" {
+    fn signal(number: i32, handler: extern "C" fn(i32)) -> usize;
+}
+
+/// The call under way, for a run that ends inside it.
+static mut UNDER_WAY: *const Call = std::ptr::null();
+
+extern "C" fn stopped(_: i32) {
+    // The library has no heap, so that a stop inside it leaves ours in order.
+    let call = unsafe { UNDER_WAY.as_ref() }.map_or(String::new(), |call| call.replay());
+    println!("differ: a byte outside was read or written\nreplay: {call}");
+    exit(1)
+}
+
+struct Run {
+    harness: Harness,
+    original: Original,
+    r: Rng,
+    calls: u64,
+    codes: [u64; 6],
+    differ: u64,
+    least: Option<(Call, String)>,
+}
+
+impl Run {
+    fn new(seed: u64, tamper: &'static str) -> Run {
+        const SEGMENTATION: i32 = 11;
+        const BUS: i32 = 7;
+        unsafe {
+            signal(SEGMENTATION, stopped);
+            signal(BUS, stopped);
+        }
+        let (harness, original) = (Harness::new(tamper), Original::new());
+        Run { harness, original, r: Rng(seed ^ 0x5ca1e), calls: 0, codes: [0; 6], differ: 0, least: None }
+    }
+
+    fn fault(&mut self, call: &Call, expected: &Answer) -> Option<String> {
+        unsafe { UNDER_WAY = call };
+        self.harness.fault(call, expected)
+    }
+
+    /// The lengths of output that a question is asked with: at least one that is enough, where one is, and one that need not be.
+    fn rooms(&mut self, expected: &Answer) -> Vec<usize> {
+        let r = &mut self.r;
+        match expected {
+            Answer::Done(digest) => {
+                let n = digest.len();
+                let enough = match r.below(16) {
+                    0..=7 => n,
+                    8..=9 => n + 1,
+                    10 if n < 1 << 20 => n + r.below(70_000),
+                    _ => n + r.below(200),
+                };
+                let other = match r.below(8) {
+                    0..=3 => n.saturating_sub(1),
+                    4 => 0,
+                    5 => r.below(2 * n + 1),
+                    _ => r.below(n + 1),
+                };
+                vec![enough, other]
+            }
+            _ => vec![[0, 1, r.below(300), r.below(70_000)][if r.chance(3) { 3 } else { r.below(3) }]],
+        }
+    }
+
+    fn ask(&mut self, (block, notes): asked::Asked) {
+        let expected = self.original.answer(&block, &notes);
+        let mut call = Call { block, notes, room: 0, places: 0 };
+        for room in self.rooms(&expected) {
+            call.room = room;
+            call.places = self.r.below(8);
+            self.calls += 1;
+            self.codes[expected.numbers(room).0 as usize] += 1;
+            if let Some(what) = self.fault(&call, &expected) {
+                self.differ += 1;
+                let size = |call: &Call| call.notes.len() + call.block.len();
+                if self.least.as_ref().map_or(true, |(least, _)| size(&call) < size(least)) {
+                    self.least = Some((call.clone(), what));
+                }
+            }
+        }
+    }
+
+    /// A smaller call that differs, found by leaving bytes out, first many, then few.
+    fn shrink(&mut self, mut call: Call, mut what: String) -> (Call, String) {
+        let mut part = call.notes.len().max(call.block.len());
+        while part > 0 {
+            let mut smaller = false;
+            for which in [0, 1] {
+                let mut at = 0;
+                while at < [&call.notes, &call.block][which].len() {
+                    let mut less = call.clone();
+                    let bytes = if which == 0 { &mut less.notes } else { &mut less.block };
+                    bytes.drain(at..(at + part).min(bytes.len()));
+                    match self.differs(&less) {
+                        Some(found) => {
+                            (call, what) = found;
+                            smaller = true;
+                        }
+                        None => at += part,
+                    }
+                }
+            }
+            if !smaller || part > 1 {
+                part /= 2;
+            }
+        }
+        (call, what)
+    }
+
+    /// The call, with as much room as it had, just enough or one byte less, if it differs.
+    fn differs(&mut self, call: &Call) -> Option<(Call, String)> {
+        let expected = self.original.answer(&call.block, &call.notes);
+        let needed = if let Answer::Done(digest) = &expected { digest.len() } else { 0 };
+        for room in [call.room, needed, needed + 1, needed.saturating_sub(1)] {
+            let call = Call { room, ..call.clone() };
+            if let Some(what) = self.fault(&call, &expected) {
+                return Some((call, what));
+            }
+        }
+        None
+    }
+}
+
+fn run(seed: u64, count: u64, long: bool, tamper: &'static str) -> i32 {
+    let mut run = Run::new(seed, tamper);
+    let (step, symbols) = if long { (1, 5) } else { (61, 3) };
+    let mut kinds: BTreeMap<&str, u64> = BTreeMap::new();
+    let mut cases = 0;
+    let tables = asked::tables(seed, step, symbols).into_iter().flat_map(|(name, kind)| kind.map(move |asked| (name, asked)));
+    for (name, asked) in tables.chain(asked::random(seed)) {
+        if cases == count || run.differ >= ENOUGH {
+            break;
+        }
+        *kinds.entry(name).or_default() += 1;
+        cases += 1;
+        run.ask(asked);
+    }
+    for (name, cases) in &kinds {
+        println!("{name}: {cases} cases");
+    }
+    let codes: Vec<String> = run.codes.iter().enumerate().map(|(code, n)| format!("code {code} {n}")).collect();
+    println!("answers: {}", codes.join(", "));
+    println!("scale: seed {seed}, {cases} cases, {} calls, {} differ", run.calls, run.differ);
+    if let Some((call, what)) = run.least.take() {
+        let (call, what) = run.shrink(call, what);
+        println!("differ: {what}\nreplay: {}", call.replay());
+        return 1;
+    }
+    0
+}
+
+fn replay(args: &[String]) -> i32 {
+    let Some(call) = Call::parse(args) else { return usage() };
+    let mut run = Run::new(0, "none");
+    let expected = run.original.answer(&call.block, &call.notes);
+    let (code, number) = expected.numbers(call.room);
+    println!("block:    {:?}\nnotes:    {:?}", call.block.escape_ascii().to_string(), call.notes.escape_ascii().to_string());
+    println!("expected: code {code}, {number}");
+    if let Answer::Done(digest) = &expected {
+        println!("digest:   {:?}", digest.escape_ascii().to_string());
+    }
+    match run.fault(&call, &expected) {
+        Some(what) => println!("differ:   {what}"),
+        None => println!("no difference"),
+    }
+    0
+}
+
+fn usage() -> i32 {
+    eprintln!("usage: run SEED COUNT quick|long [TAMPER] | replay BLOCK NOTES ROOM PLACES");
+    2
+}
+
+fn main() {
+    let args: Vec<String> = std::env::args().skip(1).collect();
+    exit(match args.iter().map(|arg| &arg[..]).collect::<Vec<_>>()[..] {
+        ["run", seed, count, tables, ref more @ ..] => {
+            let tamper = TAMPERS.iter().find(|t| **t == *more.first().unwrap_or(&"none"));
+            match (seed.parse(), count.parse(), tamper) {
+                (Ok(seed), Ok(count), Some(tamper)) => run(seed, count, tables == "long", tamper),
+                _ => usage(),
+            }
+        }
+        ["replay", ..] => replay(&args[1..]),
+        _ => usage(),
+    })
+}
