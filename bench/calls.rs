@@ -128,11 +128,11 @@ fn measure(sort: &Sort, quick: bool, milliseconds: usize) -> Row {
 
 fn print(rows: &[Row]) {
     println!("ns a byte of the notes; best is Knuth-Plass; a ratio below 1 says that it is quicker here");
-    println!("\n{:<34} KiB |     here |     Rust  ratio | with powf  ratio", "text");
+    println!("\n{:<40} KiB |     here |     Rust  ratio | with powf  ratio", "text");
     for row in rows {
         for (size, t) in &row.sizes {
             println!(
-                "{:<34}{:>4} | {:>8.3} | {:>8.3} {:>6.2} | {:>9.3} {:>6.2}",
+                "{:<40}{:>4} | {:>8.3} | {:>8.3} {:>6.2} | {:>9.3} {:>6.2}",
                 row.name, size / KIB, t[0], t[1], t[0] / t[1], t[2], t[0] / t[2]
             );
         }
@@ -140,7 +140,7 @@ fn print(rows: &[Row]) {
     println!("\nFlat: ns a byte here at 1, 4, 16 and 64 KiB, the most over the least, and the same of the Rust");
     for row in rows {
         let cells: String = row.sizes.iter().map(|(_, t)| format!(" {:>8.3}", t[0])).collect();
-        println!("{:<34} |{cells} | {:>5.2} | {:>5.2}", row.name, row.spread(0), row.spread(1));
+        println!("{:<40} |{cells} | {:>5.2} | {:>5.2}", row.name, row.spread(0), row.spread(1));
     }
     println!("\nThe worst");
     let worst = |rows: &mut dyn Iterator<Item = &Row>, of: &dyn Fn(&Row) -> f64| {

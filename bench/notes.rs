@@ -60,10 +60,9 @@ fn licences(draw: &mut Draw, size: usize) -> Option<Vec<u8>> {
     Some(all[from..from + size].to_vec())
 }
 
+/// A paragraph of one line.
 fn joined(lines: Vec<u8>) -> Vec<u8> {
-    let mut line: Vec<u8> = lines.into_iter().map(|b| if b == b'\n' { b' ' } else { b }).collect();
-    line.extend(b"\n\n");
-    line
+    lines.into_iter().map(|b| if b == b'\n' { b' ' } else { b }).chain([b'\n']).collect()
 }
 
 pub fn sorts() -> Vec<Sort> {
@@ -82,7 +81,7 @@ pub fn sorts() -> Vec<Sort> {
     add("prose -s", flags(SPLIT), usual);
     add("prose of 1,024 words", Opts::default(), |d| paragraph(prose(d, 1024), b""));
     add("1,024 words -w 1000 -g 500", sized(1000, 500), |d| paragraph(prose(d, 1024), b""));
-    add("1,024 words on one line", Opts::default(), |d| joined(prose(d, 1024)));
+    add("1,024 words on one line", Opts::default(), |d| paragraph(joined(prose(d, 1024)), b""));
     add("mail -m", flags(MAIL), |d| {
         let mut header = b"Subject: ".to_vec();
         header.extend(prose(d, 12));
@@ -107,12 +106,15 @@ pub fn sorts() -> Vec<Sort> {
     add("an indent of tabs", Opts::default(), |_| [b"\t".repeat(250), b"a\n".to_vec()].concat());
     add("empty lines", Opts::default(), |_| b"\n".to_vec());
     add("one word", Opts::default(), |_| b"a".to_vec());
+    add("two-byte blanks", Opts::default(), |d| {
+        letters(d, 1000).into_iter().flat_map(|b| if b == b' ' { vec![0xc2, 0xa0] } else { vec![b] }).chain([b'\n']).collect()
+    });
     add("two-byte letters", Opts::default(), |d| {
         let notes = prose(d, 100).into_iter().flat_map(|b| if b.is_ascii_lowercase() { vec![0xc3, b + 0x40] } else { vec![b] });
         notes.chain([b'\n']).collect()
     });
     add("prefix of 255 bytes", prefixed(&"x".repeat(255)), |d| paragraph(prose(d, 300), &[b'x'; 255]));
-    add("the same, -w 6", Opts { width: Some(6), ..prefixed(&"x".repeat(255)) }, |d| paragraph(letters(d, 1000), &[b'x'; 255]));
+    add("the same, -w 6, letters", Opts { width: Some(6), ..prefixed(&"x".repeat(255)) }, |d| paragraph(joined(letters(d, 1000)), &[b'x'; 255]));
     add("prefix of 254 blanks, not found", prefixed(&(" ".repeat(254) + "x")), |_| [b" ".repeat(1000), b"a\n".to_vec()].concat());
     let found = Opts { skip: Some(" ".repeat(254) + "y"), ..prefixed(&(" ".repeat(254) + "x")) };
     add("the same, found late", found, |_| [b" ".repeat(1000), b"x a\n".to_vec()].concat());

@@ -1,6 +1,27 @@
 //! The call with its three slices between guard pages: a byte read or written outside ends the run, and every byte of the output is accounted for.
 
-use crate::model::Answer;
+/// The right answer to a call, but for its room.
+pub enum Answer {
+    Done(Vec<u8>),
+    Options(usize),
+    Long,
+    Text(usize),
+    Words(usize),
+}
+
+impl Answer {
+    /// Code and N, for an output of so many bytes.
+    pub fn numbers(&self, room: usize) -> (u32, usize) {
+        match self {
+            Answer::Done(digest) if digest.len() <= room => (0, digest.len()),
+            Answer::Done(digest) => (5, digest.len()),
+            Answer::Options(place) => (1, *place),
+            Answer::Long => (2, 0),
+            Answer::Text(place) => (3, *place),
+            Answer::Words(place) => (4, *place),
+        }
+    }
+}
 
 #[link(name = "rudignals", kind = "static")]
 extern "C" {

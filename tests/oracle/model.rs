@@ -8,27 +8,7 @@
 //!   the skip prefix (or, where none is given or it has a line feed and so is never found, with a character that occurs nowhere else),
 //!   and in the digest that line is turned back into the damaged one.
 
-pub enum Answer {
-    Done(Vec<u8>),
-    Options(usize),
-    Long,
-    Text(usize),
-    Words(usize),
-}
-
-impl Answer {
-    /// Code and N, for an output of so many bytes.
-    pub fn numbers(&self, room: usize) -> (u32, usize) {
-        match self {
-            Answer::Done(digest) if digest.len() <= room => (0, digest.len()),
-            Answer::Done(digest) => (5, digest.len()),
-            Answer::Options(place) => (1, *place),
-            Answer::Long => (2, 0),
-            Answer::Text(place) => (3, *place),
-            Answer::Words(place) => (4, *place),
-        }
-    }
-}
+use parts::guard::Answer;
 
 // ---------------------------------------------------------------- characters
 

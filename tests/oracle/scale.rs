@@ -5,21 +5,14 @@
 //!
 //! Exit: 0 no difference, 1 a difference or a byte read or written outside.
 
-mod asked;
-#[allow(dead_code)]
-mod cases;
-mod guard;
 mod model;
-#[allow(dead_code)]
-mod options;
-#[allow(dead_code)]
-mod texts;
 
-use guard::{Call, Harness, TAMPERS};
-use model::{Answer, Original};
+use model::Original;
+use parts::asked;
+use parts::guard::{Answer, Call, Harness, TAMPERS};
+use parts::texts::Rng;
 use std::collections::BTreeMap;
 use std::process::exit;
-use texts::Rng;
 
 /// The run stops at so many differences.
 const ENOUGH: u64 = 100;

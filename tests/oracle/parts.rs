@@ -1,0 +1,10 @@
+//! The parts of the comparison at scale that know nothing of the original: they are compiled once, also where the original is changed.
+
+pub mod asked;
+#[allow(dead_code)]
+pub mod cases;
+pub mod guard;
+#[allow(dead_code)]
+pub mod options;
+#[allow(dead_code)]
+pub mod texts;
