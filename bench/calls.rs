@@ -6,6 +6,7 @@
 #[allow(dead_code)]
 #[path = "../tests/oracle/options.rs"]
 mod options;
+mod clock;
 mod notes;
 mod programs;
 #[allow(dead_code)]
@@ -14,7 +15,6 @@ mod texts;
 use notes::{Sort, KIB, SIZES};
 use options::{Opts, QUICK};
 use std::hint::black_box;
-use std::time::Instant;
 
 #[link(name = "rudignals", kind = "static")]
 extern "C" {
@@ -66,7 +66,7 @@ fn longest(opts: &Opts, parts: &[Vec<u8>]) -> usize {
     longest
 }
 
-/// The least time of each side over all parts, in ns. The sides take turns, so that none has the machine's quiet moments
+/// The least processor time of each side over all parts, in ns. The sides take turns, so that none has the machine's quiet moments
 /// alone, until each has had its time, and five rounds at least.
 fn least(sides: &mut [Side], milliseconds: usize) -> Vec<f64> {
     let (mut rounds, enough) = (0, milliseconds as f64 * 1e6);
@@ -77,9 +77,9 @@ fn least(sides: &mut [Side], milliseconds: usize) -> Vec<f64> {
             if rounds >= 5 && *spent >= enough {
                 continue;
             }
-            let began = Instant::now();
+            let began = clock::own();
             side();
-            let t = began.elapsed().as_nanos() as f64;
+            let t = (clock::own() - began) * 1e9;
             *spent += t;
             *least = least.min(t);
         }

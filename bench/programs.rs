@@ -1,10 +1,9 @@
 //! Other programs beside whole calls, by throughput on one large file.
 
-use crate::call;
+use crate::{call, clock};
 use crate::texts::{prose, Draw};
 use std::fs::File;
 use std::process::{Command, Stdio};
-use std::time::Instant;
 
 const MIB: usize = 16;
 const PART: usize = 65536;
@@ -25,12 +24,12 @@ fn parts() -> Vec<Vec<u8>> {
     parts
 }
 
-fn least(times: usize, mut f: impl FnMut() -> Option<()>) -> Option<f64> {
+fn least(clock: fn() -> f64, mut f: impl FnMut() -> Option<()>) -> Option<f64> {
     let mut least = f64::MAX;
-    for _ in 0..times {
-        let began = Instant::now();
+    for _ in 0..5 {
+        let began = clock();
         f()?;
-        least = least.min(began.elapsed().as_secs_f64());
+        least = least.min(clock() - began);
     }
     Some(least)
 }
@@ -47,7 +46,7 @@ pub fn print() {
     let path = std::env::temp_dir().join(format!("rudignals-{}.txt", std::process::id()));
     let path = path.to_str().expect("a path");
     std::fs::write(path, parts.concat()).expect("the large file");
-    println!("\nProse of {} bytes at width 79, MB/s; programs from a file to /dev/null with their start, calls in memory, 64 KiB each", bytes);
+    println!("\nProse of {} bytes at width 79, MB/s of processor time; programs from a file to /dev/null with their start, calls in memory, 64 KiB each", bytes);
     let row = |name: &str, found: Option<f64>| match found {
         Some(seconds) => println!("{name:<44} {:>8.1}", bytes as f64 / seconds / 1e6),
         None => println!("{name:<44} left out: not installed"),
@@ -55,13 +54,13 @@ pub fn print() {
     let mut output = vec![0; 2 * PART];
     let none: &[u8] = &[];
     for (name, block) in [("here, quick", &[1, 0, 2, 0, 32][..]), ("here, Knuth-Plass", none)] {
-        row(name, least(5, || Some(parts.iter().for_each(|p| assert_eq!(call(block, p, &mut output).0, 0)))));
+        row(name, least(clock::own, || Some(parts.iter().for_each(|p| assert_eq!(call(block, p, &mut output).0, 0)))));
     }
     for (name, args) in [("the Rust, quick", vec!["-q".to_string()]), ("the Rust, Knuth-Plass", vec![])] {
         let options = fmt_cube::options(args);
-        row(name, least(5, || Some(parts.iter().for_each(|p| drop(fmt_cube::format(&options, p))))));
+        row(name, least(clock::own, || Some(parts.iter().for_each(|p| drop(fmt_cube::format(&options, p))))));
     }
-    row("GNU fmt -w 79 -g 74", least(5, || run(path, "fmt", &["-w", "79", "-g", "74"])));
-    row("par 79", least(5, || run(path, "par", &["79"])));
+    row("GNU fmt -w 79 -g 74", least(clock::children, || run(path, "fmt", &["-w", "79", "-g", "74"])));
+    row("par 79", least(clock::children, || run(path, "par", &["79"])));
     std::fs::remove_file(path).ok();
 }

@@ -135,12 +135,14 @@ fn limits() -> impl Iterator<Item = Asked> {
             }
         }
     }
-    // The longest digest: a prefix of 255 bytes before each of the most words.
+    // The longest digests: a prefix of 255 bytes, or an indent of nearly all the notes, before each of the most words.
     let prefix = "x".repeat(255);
-    let lines = format!("{prefix}{}\n\n", "a ".repeat(1024)).repeat(28);
+    let prefixed = format!("{prefix}{}\n\n", "a ".repeat(1024)).repeat(28);
+    let indented = " ".repeat(65_536 - 2048) + &"a ".repeat(1024);
     for flags in [0, QUICK] {
-        let opts = Opts { flags: Some(flags), width: Some(1), goal: Some(1), prefix: Some(prefix.clone()), ..Opts::default() };
-        all.push((opts.block(), lines.clone().into_bytes()));
+        let opts = Opts { flags: Some(flags), width: Some(1), goal: Some(1), ..Opts::default() };
+        all.push((opts.block(), indented.clone().into_bytes()));
+        all.push((Opts { prefix: Some(prefix.clone()), ..opts }.block(), prefixed.clone().into_bytes()));
     }
     all.into_iter()
 }

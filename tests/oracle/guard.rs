@@ -23,7 +23,7 @@ impl Answer {
     }
 }
 
-#[link(name = "rudignals", kind = "static")]
+#[link(name = "rudignals", kind = "static", modifiers = "-bundle")]
 extern "C" {
     fn rudignals_format(
         options: *const u8,
