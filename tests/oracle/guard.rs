@@ -1,5 +1,10 @@
 //! The call with its three slices between guard pages: a byte read or written outside ends the run, and every byte of the output is accounted for.
 
+use std::fs::File;
+use std::io::{Read, Write};
+use std::os::fd::AsRawFd;
+use std::process::{Child, Command, Stdio};
+
 /// The right answer to a call, but for its room.
 pub enum Answer {
     Done(Vec<u8>),
@@ -52,18 +57,29 @@ struct Area {
 }
 
 impl Area {
-    fn new(size: usize) -> Area {
-        let size = size.div_ceil(GUARD) * GUARD;
+    /// Memory of this process alone, or from that place of a file that is shared.
+    fn new(size: usize, shared: Option<(&File, usize)>) -> Area {
         const NONE: i32 = 0;
         const READ_WRITE: i32 = 3;
         const PRIVATE_ANONYMOUS_UNRESERVED: i32 = 0x4022;
+        const SHARED_FIXED: i32 = 0x11;
+        assert_eq!(size % GUARD, 0);
         unsafe {
             let all = mmap(std::ptr::null_mut(), size + 2 * GUARD, NONE, PRIVATE_ANONYMOUS_UNRESERVED, -1, 0);
             assert!(all as isize != -1, "no memory");
             let start = all.add(GUARD);
-            assert_eq!(mprotect(start, size, READ_WRITE), 0);
+            match shared {
+                None => assert_eq!(mprotect(start, size, READ_WRITE), 0),
+                Some((file, from)) => {
+                    assert_eq!(mmap(start, size, READ_WRITE, SHARED_FIXED, file.as_raw_fd(), from as i64), start)
+                }
+            }
             Area { start, size }
         }
+    }
+
+    fn offset(&self, slice: &[u8]) -> u64 {
+        slice.as_ptr() as u64 - self.start as u64
     }
 
     /// A slice against the upper guard or the lower.
@@ -112,6 +128,12 @@ impl Call {
     }
 }
 
+/// Ends the run at a call that did not come back.
+pub fn outside(call: &Call) -> ! {
+    println!("differ: a byte outside was read or written\nreplay: {}", call.replay());
+    std::process::exit(1)
+}
+
 /// What is in the output before the call: never 0, and not the same at neighbouring places.
 fn pattern(at: usize) -> u8 {
     (at as u8).wrapping_mul(37) | 1
@@ -130,19 +152,70 @@ pub const TAMPERS: [&str; 12] = [
     "none", "behind", "digest", "zeroed", "kept", "number", "code", "notes", "above", "below", "read-above", "read-below",
 ];
 
+/// Where the call is made: in this process, or in a program of its own (shipped.c).
+enum Library {
+    Linked,
+    Apart(Child),
+}
+
 pub struct Harness {
     block: Area,
     notes: Area,
     output: Area,
+    library: Library,
     tamper: &'static str,
 }
 
+/// The sizes of the areas: more than the longest block asked, the longest notes, the longest digest.
+const SIZES: [usize; 3] = [2 * GUARD, 4 * GUARD, 80 << 20];
+
 impl Harness {
+    /// With a fault behind each call, or with "none".
     pub fn new(tamper: &'static str) -> Harness {
-        Harness { block: Area::new(80_000), notes: Area::new(200_000), output: Area::new(80 << 20), tamper }
+        let [block, notes, output] = SIZES.map(|size| Area::new(size, None));
+        Harness { block, notes, output, library: Library::Linked, tamper }
     }
 
-    /// Makes the call; what is wrong with the answer or with any byte, if anything is.
+    /// With the calls made by a program that shares its areas as that file.
+    pub fn apart(path: &str, command: &[&str]) -> Harness {
+        let file = File::options().read(true).write(true).create(true).open(path).expect("the shared file");
+        file.set_len(SIZES.iter().sum::<usize>() as u64).expect("room for the shared file");
+        let mut from = 0;
+        let [block, notes, output] = SIZES.map(|size| {
+            from += size;
+            Area::new(size, Some((&file, from - size)))
+        });
+        let child = Command::new(command[0])
+            .args(&command[1..])
+            .arg(path)
+            .args(SIZES.map(|size| size.to_string()))
+            .stdin(Stdio::piped())
+            .stdout(Stdio::piped())
+            .spawn()
+            .expect("the program");
+        Harness { block, notes, output, library: Library::Apart(child), tamper: "none" }
+    }
+
+    /// The call's answer; none if the program that makes the calls has ended.
+    fn answer(&mut self, block: &[u8], notes: &[u8], output: &mut [u8]) -> Option<u64> {
+        match &mut self.library {
+            Library::Linked => Some(unsafe {
+                rudignals_format(block.as_ptr(), block.len(), notes.as_ptr(), notes.len(), output.as_mut_ptr(), output.len())
+            }),
+            Library::Apart(child) => {
+                let offsets = [self.block.offset(block), self.notes.offset(notes), self.output.offset(output)];
+                let lengths = [block.len(), notes.len(), output.len()];
+                let asked: Vec<u8> =
+                    offsets.iter().zip(lengths).flat_map(|(at, n)| [*at, n as u64]).flat_map(|n| n.to_le_bytes()).collect();
+                let mut answer = [0; 8];
+                child.stdin.as_mut()?.write_all(&asked).ok()?;
+                child.stdout.as_mut()?.read_exact(&mut answer).ok()?;
+                Some(u64::from_le_bytes(answer))
+            }
+        }
+    }
+
+    /// Makes the call; what is wrong with the answer or with any byte, if anything is. Ends the run if the program that makes the calls did.
     pub fn fault(&mut self, call: &Call, expected: &Answer) -> Option<String> {
         let high = |bit: usize| call.places >> bit & 1 == 1;
         let block = self.block.slice(call.block.len(), high(0));
@@ -153,11 +226,8 @@ impl Harness {
         notes.copy_from_slice(&call.notes);
         fill(output);
         fill(margin);
-        let found = unsafe {
-            let answer =
-                rudignals_format(block.as_ptr(), block.len(), notes.as_ptr(), notes.len(), output.as_mut_ptr(), output.len());
-            self.tampered(answer, notes, output)
-        };
+        let Some(answer) = self.answer(block, notes, output) else { outside(call) };
+        let found = unsafe { self.tampered(answer, notes, output) };
 
         let (code, number) = expected.numbers(call.room);
         if found != (code as u64) << 32 | number as u64 {

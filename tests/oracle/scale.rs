@@ -1,6 +1,7 @@
 //! The library against the original at scale, in one process: every answer and every byte of the output.
 //!
 //!     scale run SEED COUNT TABLES [TAMPER]   TABLES is quick or long; TAMPER puts a fault in on purpose
+//!     scale apart FILE SEED COUNT TABLES PROGRAM ...  the calls made by another program (shipped.c), that shares memory as FILE
 //!     scale replay BLOCK NOTES ROOM PLACES   one call, in hexadecimal, as a difference was printed
 //!
 //! Exit: 0 no difference, 1 a difference or a byte read or written outside.
@@ -9,7 +10,7 @@ mod model;
 
 use model::Original;
 use parts::asked;
-use parts::guard::{Answer, Call, Harness, TAMPERS};
+use parts::guard::{outside, Answer, Call, Harness, TAMPERS};
 use parts::texts::Rng;
 use std::collections::BTreeMap;
 use std::process::exit;
@@ -26,9 +27,10 @@ static mut UNDER_WAY: *const Call = std::ptr::null();
 
 extern "C" fn stopped(_: i32) {
     // The library has no heap, so that a stop inside it leaves ours in order.
-    let call = unsafe { UNDER_WAY.as_ref() }.map_or(String::new(), |call| call.replay());
-    println!("differ: a byte outside was read or written\nreplay: {call}");
-    exit(1)
+    match unsafe { UNDER_WAY.as_ref() } {
+        Some(call) => outside(call),
+        None => exit(1),
+    }
 }
 
 struct Run {
@@ -42,14 +44,14 @@ struct Run {
 }
 
 impl Run {
-    fn new(seed: u64, tamper: &'static str) -> Run {
+    fn new(seed: u64, harness: Harness) -> Run {
         const SEGMENTATION: i32 = 11;
         const BUS: i32 = 7;
         unsafe {
             signal(SEGMENTATION, stopped);
             signal(BUS, stopped);
         }
-        let (harness, original) = (Harness::new(tamper), Original::new());
+        let original = Original::new();
         Run { harness, original, r: Rng(seed ^ 0x5ca1e), calls: 0, codes: [0; 6], differ: 0, least: None }
     }
 
@@ -141,8 +143,8 @@ impl Run {
     }
 }
 
-fn run(seed: u64, count: u64, long: bool, tamper: &'static str) -> i32 {
-    let mut run = Run::new(seed, tamper);
+fn run(seed: u64, count: u64, long: bool, harness: Harness) -> i32 {
+    let mut run = Run::new(seed, harness);
     let (step, symbols) = if long { (1, 5) } else { (61, 3) };
     let mut kinds: BTreeMap<&str, u64> = BTreeMap::new();
     let mut cases = 0;
@@ -171,7 +173,7 @@ fn run(seed: u64, count: u64, long: bool, tamper: &'static str) -> i32 {
 
 fn replay(args: &[String]) -> i32 {
     let Some(call) = Call::parse(args) else { return usage() };
-    let mut run = Run::new(0, "none");
+    let mut run = Run::new(0, Harness::new("none"));
     let expected = run.original.answer(&call.block, &call.notes);
     let (code, number) = expected.numbers(call.room);
     println!("block:    {:?}\nnotes:    {:?}", call.block.escape_ascii().to_string(), call.notes.escape_ascii().to_string());
@@ -187,7 +189,7 @@ fn replay(args: &[String]) -> i32 {
 }
 
 fn usage() -> i32 {
-    eprintln!("usage: run SEED COUNT quick|long [TAMPER] | replay BLOCK NOTES ROOM PLACES");
+    eprintln!("usage: see the head of scale.rs");
     2
 }
 
@@ -197,10 +199,14 @@ fn main() {
         ["run", seed, count, tables, ref more @ ..] => {
             let tamper = TAMPERS.iter().find(|t| **t == *more.first().unwrap_or(&"none"));
             match (seed.parse(), count.parse(), tamper) {
-                (Ok(seed), Ok(count), Some(tamper)) => run(seed, count, tables == "long", tamper),
+                (Ok(seed), Ok(count), Some(tamper)) => run(seed, count, tables == "long", Harness::new(tamper)),
                 _ => usage(),
             }
         }
+        ["apart", file, seed, count, tables, ref program @ ..] if !program.is_empty() => match (seed.parse(), count.parse()) {
+            (Ok(seed), Ok(count)) => run(seed, count, tables == "long", Harness::apart(file, program)),
+            _ => usage(),
+        },
         ["replay", ..] => replay(&args[1..]),
         _ => usage(),
     })
