@@ -18,19 +18,30 @@ use std::process::exit;
 /// The run stops at so many differences.
 const ENOUGH: u64 = 100;
 
+/// A call that takes longer does not end; making a difference smaller takes so many trials at most.
+const SECONDS: u32 = 60;
+const TRIALS: u64 = 20_000;
+
 extern "C" {
     fn signal(number: i32, handler: extern "C" fn(i32)) -> usize;
+    fn alarm(seconds: u32) -> u32;
 }
+
+const ALARM: i32 = 14;
+const SEGMENTATION: i32 = 11;
+const BUS: i32 = 7;
 
 /// The call under way, for a run that ends inside it.
 static mut UNDER_WAY: *const Call = std::ptr::null();
 
-extern "C" fn stopped(_: i32) {
+extern "C" fn stopped(number: i32) {
     // The library has no heap, so that a stop inside it leaves ours in order.
     match unsafe { UNDER_WAY.as_ref() } {
-        Some(call) => outside(call),
-        None => exit(1),
+        Some(call) if number != ALARM => outside(call),
+        Some(call) => println!("differ: no answer within {SECONDS} seconds\nreplay: {}", call.replay()),
+        None => {}
     }
+    exit(1)
 }
 
 struct Run {
@@ -40,24 +51,27 @@ struct Run {
     calls: u64,
     codes: [u64; 6],
     differ: u64,
+    trials: u64,
     least: Option<(Call, String)>,
 }
 
 impl Run {
     fn new(seed: u64, harness: Harness) -> Run {
-        const SEGMENTATION: i32 = 11;
-        const BUS: i32 = 7;
-        unsafe {
-            signal(SEGMENTATION, stopped);
-            signal(BUS, stopped);
+        for number in [SEGMENTATION, BUS, ALARM] {
+            unsafe { signal(number, stopped) };
         }
         let original = Original::new();
-        Run { harness, original, r: Rng(seed ^ 0x5ca1e), calls: 0, codes: [0; 6], differ: 0, least: None }
+        Run { harness, original, r: Rng(seed ^ 0x5ca1e), calls: 0, codes: [0; 6], differ: 0, trials: 0, least: None }
     }
 
     fn fault(&mut self, call: &Call, expected: &Answer) -> Option<String> {
-        unsafe { UNDER_WAY = call };
-        self.harness.fault(call, expected)
+        unsafe {
+            UNDER_WAY = call;
+            alarm(SECONDS);
+        }
+        let fault = self.harness.fault(call, expected);
+        unsafe { alarm(0) };
+        fault
     }
 
     /// The lengths of output that a question is asked with: at least one that is enough, where one is, and one that need not be.
@@ -131,6 +145,10 @@ impl Run {
 
     /// The call, with as much room as it had, just enough or one byte less, if it differs.
     fn differs(&mut self, call: &Call) -> Option<(Call, String)> {
+        self.trials += 1;
+        if self.trials > TRIALS {
+            return None;
+        }
         let expected = self.original.answer(&call.block, &call.notes);
         let needed = if let Answer::Done(digest) = &expected { digest.len() } else { 0 };
         for room in [call.room, needed, needed + 1, needed.saturating_sub(1)] {
