@@ -74,12 +74,12 @@ MUTANTS = [
     (BREAKS, "prev_rat: if break_before { 1.0 } else { -1.0 },", "prev_rat: 0.0,"),
     (BREAKS, "(true, args.indent_len + w.word_nchars)", "(true, args.indent_len)"),
     # options
-    (OPTIONS, "if fmt_opts.tabwidth < 1 {", "if fmt_opts.tabwidth < 2 {"),
+    (OPTIONS, "fmt_opts.tabwidth = 1;", "fmt_opts.tabwidth = 2;"),
     (OPTIONS, "fmt_opts.goal * 100 / 94, fmt_opts.goal + 3", "fmt_opts.goal * 100 / 94, fmt_opts.goal + 2"),
     (OPTIONS, "fmt_opts.width * 94 / 100", "fmt_opts.width * 93 / 100"),
     # refusals
     (MODEL, "(0xc2, Some(0xad)) => return Some(at),", "(0xc2, Some(0xac)) => return Some(at),"),
-    (MODEL, "(0xc2..=0xcb,", "(0xc1..=0xcb,"),
+    (MODEL, "(0xc2..=0xcb,", "(0xc3..=0xcb,"),
     (MODEL, "(0xc2..=0xcb,", "(0xc2..=0xcc,"),
     (MODEL, "Some(0x80..=0xbf)) => 2", "Some(0x80..=0xbe)) => 2"),
     (MODEL, "(None, None) => (79, 74)", "(None, None) => (79, 80)"),
@@ -95,7 +95,7 @@ MUTANTS = [
     (MODEL, "[0..=1023, 1..=1000, 1..=1000, 0..=100]", "[0..=1023, 1..=1000, 1..=1000, 1..=100]"),
     (MODEL, "size == 2 &&", "size >= 2 &&"),
     (MODEL, "size <= 255 &&", "size <= 254 &&"),
-    (MODEL, "&& damage(v).is_none())", ")"),
+    (MODEL, "&& damage(v).is_none())", "&& std::str::from_utf8(v).is_ok())"),
     (MODEL, "if notes.len() > 65536 {", "if notes.len() >= 65536 {"),
     (MODEL, "if words > 1024 {", "if words > 1023 {"),
     (MODEL, "if !fields.has(KEEP) {", "if true {"),
