@@ -127,7 +127,7 @@ module _ (o : Opts) (notes : List ℕ) (at : ℕ) (p : ParagraphAt) (q : Paragra
 
   -- what emission promises
   pub text-most : length (wordsOf o q) ≤ 1024 → most (q .first .bytes) (q .indent .bytes) (wordsOf o q) + 10000 * at ≤ 10000 * p .next
-  text-most few = words-most _ _ (margin-most (p .first) (q .first) (t .first) (within .first)) (margin-most (p .indent) (q .indent) (t .indent) (within .indent)) few
+  text-most few = words-most (q .first .bytes) (q .indent .bytes) (margin-most (p .first) (q .first) (t .first) (within .first)) (margin-most (p .indent) (q .indent) (t .indent) (within .indent)) few
 
   -- and what is defined
   pub formatted-most : length (wordsOf o q) ≤ 1024 → length (formatted o q) + 10000 * at ≤ 10000 * p .next
