@@ -117,7 +117,7 @@ static bool build_block(struct options *options) {
     return true;
 }
 
-/* An option given twice is refused, as in the original: of two widths neither is known to be the one that was meant. */
+/* An option given twice is refused: of two widths neither is known to be the one that was meant. */
 enum asked read_options(struct options *options, int argc, char **argv) {
     bool given[OPTIONS] = {false};
     int option;
