@@ -9,9 +9,10 @@ use lib.Dec.{ltb, eqb}
 use lib.ListN.{length, drop}
 use borrow.Author.Tests.{ltb-true, ltb-false, eq-eqb, ne-eqb}
 use Rattle.lists.specs.Runs.{while, every}
-use Rattle.lists.proofs.Runs.{while-end, every-end}
+use Rattle.lists.proofs.Runs.{while-end, every-more, every-end}
+use Rattle.lists.proofs.Parts.{every-nil}
 use Rattle.text.specs.Characters.{glyph, glyphs, isBlank}
-use Rattle.text.proofs.Glyphs.{glyphs-past, glyphs-first}
+use Rattle.text.proofs.Glyphs.{Here, glyphs-past, glyphs-first}
 use Rattle.lines.specs.Classes.{upTo, from}
 use Rattle.lines.specs.Places.{Inside, lineStart, behindAll, Behind, BehindBlanks, BehindPlace}
 use Rattle.lines.specs.declared.Spot.{Spot}
@@ -61,6 +62,18 @@ no-blank glue line at w b = pick (ltb at (length line)) refl
         let h : at ≡ length line = omega (arith, ltb-false at (length line) k) in
         let g = glyphs-past glue line at (omega arith) in
         record { none = rw g; ends = rw (g, eq-eqb at (length line) h) }
+
+-- ---- whether all of a line is blank: what is left from a place on decides it
+
+module _ (glue : Bool) (line : List ℕ) (at : ℕ) where
+  pub all-on : (code next : ℕ) → Here glue true line at code next → every isBlank (glyphs glue (drop at line)) ≡ every isBlank (glyphs glue (drop next line))
+  all-on code next h = rw (h .first) (every-more isBlank _ _ (h .isBlank))
+
+  pub all-stop : at < length line → glyph glue (drop at line) .blank ≡ false → every isBlank (glyphs glue (drop at line)) ≡ false
+  all-stop h b = rw (glyphs-first glue line at h) (every-end isBlank _ _ b)
+
+  pub all-past : length line ≤ at → every isBlank (glyphs glue (drop at line)) ≡ true
+  all-past h = rw (glyphs-past glue line at h) (every-nil isBlank)
 
 -- ---- over blanks: what is left from m on leads where going from the first spot does
 

@@ -4,8 +4,8 @@ ghost use mathlib.Core.Bool.{Bool, true, cond};
 ghost use Prim.Native.Nat.{_+_, _-_, _≤_, _<_};
 ghost use lib.Dec.{eqb};
 ghost use lib.ListN.{length, drop};
-ghost use Rattle.lists.specs.Runs.{begins};
-ghost use Rattle.text.specs.Characters.{widthOf, glyphs};
+ghost use Rattle.lists.specs.Runs.{every, begins};
+ghost use Rattle.text.specs.Characters.{widthOf, glyphs, isBlank};
 ghost use Rattle.options.specs.Opts.{textOf, meant};
 ghost use Rattle.lines.specs.Lines.{body, withoutReturn, firstLine};
 ghost use Rattle.lines.specs.Classes.{nextStop, search, skipFound, somewhere, classify};
@@ -149,9 +149,8 @@ pub fn classify(line: &[u8], o: Options, block: &[u8]) -> Class
 {
     let tab = o.tab;
     let glue = o.glue;
-    let lead = over_blanks(line, Spot { at: 0, column: 0 }, tab, glue);
-    let first = lead.at;
-    if first == line.len() {
+    // No columns yet: a blank line has no use for them.
+    if is_all_blank(line, glue) {
         return Class::Blank;
     }
     let Found::Nowhere = text::first_damage(line) else {
@@ -162,16 +161,47 @@ pub fn classify(line: &[u8], o: Options, block: &[u8]) -> Class
         return Class::Plain;
     }
     let prefix = o.prefix;
-    // Without a prefix the indent is what was measured first.
+    // Without a prefix the indent is the line's first blanks.
     let Part::Given { start, end } = prefix else {
+        let lead = over_blanks(line, Spot { at: 0, column: 0 }, tab, glue);
         return Class::Formatted(Shape {
             prefix: 0,
-            indent: first,
+            indent: lead.at,
             columns: lead.column,
             margin: 0,
         });
     };
     behind_prefix(line, &block[start..end], o.exact, tab, glue)
+}
+
+// Whether nothing but blanks stands in a line. A byte below 0x80, as most are, is a character by itself.
+fn is_all_blank(line: &[u8], glue: bool) -> bool
+    ensures { λ r. ⌜ r ≡ every isBlank (glyphs glue (now (line .entry))) ⌝ }
+{
+    let mut i = 0;
+    while i < line.len() {
+        let b = line[i];
+        if b < 0x80 {
+            if text::is_blank(wide(b), glue) {
+                i += 1;
+            } else {
+                return false;
+            }
+        } else {
+            let Glyph::Blank { code: _, next } = text::glyph_at(line, i, glue) else {
+                return false;
+            };
+            i = next;
+        }
+    }
+    true
+}
+
+// A cast that needs no proof where it is used.
+fn wide(b: u8) -> u32
+    ensures { λ r. ⌜ r ≡ b ⌝ }
+{
+    b as u32
 }
 
 // The class of a line by its prefix, which must be there with more than blanks behind it.

@@ -5,7 +5,6 @@ use mathlib.Core.Bool.{true, false}
 use Prim.Native.Nat.{_≤_}
 use lib.ListN.{length}
 use borrow.Author.Needs.{needs}
-use borrow.Author.Tests.{eq-eqb, ne-eqb}
 use Rattle.lists.specs.Runs.{every}
 use Rattle.lists.proofs.Fronts.{part-between}
 use Rattle.text.specs.Characters.{glyphs, isBlank, isGood}
@@ -15,12 +14,12 @@ use Rattle.lines.proofs.Classes.{class-blank, class-damaged, class-skip
 use Rattle.lines.proofs.classify.Statement.{statement}
 use Rattle.lines.proofs.classify.Tie as tie
 
-over-blanks-requires : tie.Need-over-blanks-requires
-over-blanks-requires c κs = search needs
+is-all-blank-requires : tie.Need-is-all-blank-requires
+is-all-blank-requires c κs = search needs
 
 returns : tie.Need-returns
 unfolding meant
-returns c = class-blank _ _ (c .before .over-blanks .ensures .blank ∙ eq-eqb _ _ (c .if1 .taken))
+returns c = class-blank _ _ (sym (c .before .is-all-blank .ensures) ∙ c .if1 .taken)
 
 first-damage-requires : tie.Need-first-damage-requires
 first-damage-requires c κs = search needs
@@ -33,7 +32,7 @@ enum-told-2 c = search needs
 
 -- the line is not blank
 ink : (c : tie.Else1) → every isBlank (glyphs (c .before .before .before .before .args .o .glue) (now (c .before .before .before .before .args .line))) ≡ false
-ink c = c .before .over-blanks .ensures .blank ∙ ne-eqb _ _ (c .if1 .left)
+ink c = sym (c .before .is-all-blank .ensures) ∙ c .if1 .left
 
 returns-2 : tie.Need-returns-2
 unfolding meant
@@ -61,13 +60,16 @@ enum-known-prefix c = search needs
 enum-told-3 : tie.Need-enum-told-3
 enum-told-3 c = search needs
 
+over-blanks-requires : tie.Need-over-blanks-requires
+over-blanks-requires c κs = search needs
+
 returns-4 : tie.Need-returns-4
 unfolding meant
 returns-4 c =
-    let i = c .before .before in
+    let i = c .before .before .before in
     let k = i .before .before in
     let e = k .before .before .before in
-    class-bare _ _ (ink e) (good k) (sym (i .before .is-skipped .ensures) ∙ i .if2 .left) _ (rw (c .enum-told3 .given .1)) (e .before .over-blanks .ensures .spot)
+    class-bare _ _ (ink e) (good k) (sym (i .before .is-skipped .ensures) ∙ i .if2 .left) _ (rw (c .before .enum-told3 .given .1)) (c .over-blanks .ensures .spot)
 
 -- the prefix lies in the block
 lies : (c : tie.After-prefix)
@@ -98,7 +100,7 @@ pub classify-spec : {M : Type 1} → statement M
 classify-spec =
     tie.close
     (tie.spec
-    over-blanks-requires
+    is-all-blank-requires
     returns
     first-damage-requires
     enum-told
@@ -108,6 +110,7 @@ classify-spec =
     returns-3
     enum-known-prefix
     enum-told-3
+    over-blanks-requires
     returns-4
     sub-behind-prefix
     part-behind-prefix-start
