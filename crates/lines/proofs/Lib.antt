@@ -4,6 +4,7 @@ pub mod Ink
 pub mod Lines
 pub mod Measures
 pub mod Turns
+pub mod Same
 pub mod Prefixes
 pub mod Classes
 pub mod Bounds
