@@ -2,6 +2,7 @@ pub mod Decoder
 pub mod Forms
 pub mod Places
 pub mod Glyphs
+pub mod Letters
 pub mod Glue
 pub mod Damage
 pub mod Rows

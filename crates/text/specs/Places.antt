@@ -1,7 +1,8 @@
 -- How the code's answers at a place mean what stands at the front of the text from there on.
-use mathlib.Core.Bool.{cond}
+use mathlib.Core.Bool.{Bool, cond, _&&_}
 use mathlib.Core.List.{List}
-use Prim.Native.Nat.{ℕ, _+_, _≤_, _<_}
+use Prim.Native.Nat.{ℕ, _+_, _/_, _≤_, _<_}
+use lib.Dec.{ltb, leb, eqb}
 use lib.ListN.{length, getD}
 use Rattle.text.specs.Rfc3629.{Front, front, nothing}
 use Rattle.text.specs.Characters.{Glyph}
@@ -22,3 +23,7 @@ pub record Ascii (s : List ℕ) (from to : ℕ) : Type 0 where
   pub on : from ≤ to
   pub within : to ≤ length s
   pub small : (i : ℕ) → from ≤ i → i < to → getD s i 0 < 0x80
+
+-- a letter of two bytes stands at a place, U+00C0 to U+02FF: each is accepted, and none is blank
+unfoldable pub letterAt : List ℕ → ℕ → Bool
+letterAt s at = ltb (at + 1) (length s) && (leb 0xC3 (getD s at 0) && (leb (getD s at 0) 0xCB && eqb (getD s (at + 1) 0 / 64) 2))

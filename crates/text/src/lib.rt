@@ -5,7 +5,7 @@ ghost use Prim.Native.Nat.{_+_, _-_, _≤_, _<_, _^_};
 ghost use lib.ListN.{length, getD, drop};
 ghost use Rattle.text.specs.Rfc3629.{decode};
 ghost use Rattle.text.specs.Characters.{accepted, character, blankCode, widthOf, glyph, damage};
-ghost use Rattle.text.specs.Places.{readAs, seenAs, Ascii};
+ghost use Rattle.text.specs.Places.{readAs, seenAs, letterAt, Ascii};
 
 // A place, or none.
 pub enum Found {
@@ -199,16 +199,41 @@ pub fn glyph_at(s: &[u8], at: usize, glue: bool) -> Glyph
     }
 }
 
+// Whether a letter of two bytes stands at a place, U+00C0 to U+02FF: each is accepted and none is blank, so that no more need be asked.
+pub fn is_letter(s: &[u8], at: usize) -> bool
+    ensures { λ r. ⌜ r ≡ letterAt (now (s .entry)) at ⌝ }
+{
+    if s.len() <= at {
+        return false;
+    }
+    let a = s[at];
+    if a < 0xC3 {
+        return false;
+    }
+    if 0xCB < a {
+        return false;
+    }
+    let next = at + 1;
+    if s.len() <= next {
+        return false;
+    }
+    s[next] / 64 == 2
+}
+
 // The first place at which no accepted character begins.
 pub fn first_damage(s: &[u8]) -> Found
     ensures { λ r. ⌜ r ≡ damage (now (s .entry)) ⌝ }
 {
     let mut i = ascii_end(s, 0);
     while i < s.len() {
-        let Char::Good { code: _, next } = char_at(s, i) else {
-            return Found::At(i);
-        };
-        i = ascii_end(s, next);
+        if is_letter(s, i) {
+            i += 2;
+        } else {
+            let Char::Good { code: _, next } = char_at(s, i) else {
+                return Found::At(i);
+            };
+            i = ascii_end(s, next);
+        }
     }
     Found::Nowhere
 }
