@@ -5,10 +5,12 @@ use mathlib.Core.List.{List, [], _∷_}
 use Prim.Native.Nat.{ℕ, _+_, _-_, _*_, _≤_, _<_}
 use native.Mathlib.Omega.{arith}
 use lib.ListN.{length, drop}
+use borrow.Author.Tests.{ne-eqb}
 use Rattle.lists.specs.Runs.{while, behind}
 use Rattle.lists.proofs.Runs.{while-more, while-end, behind-more, behind-end}
 use Rattle.text.specs.Characters.{widthOf, Glyph, glyph, glyphs, extent}
 use Rattle.text.proofs.Glyphs.{Here, DamagedHere, glyphs-past}
+use Rattle.text.proofs.Letters.{Letter, letter-least, letter-here}
 use Rattle.words.specs.Words.{isInk, isPunct, widthSum, punctAtEnd}
 use Rattle.words.specs.Scan.{punctCode, OverInk}
 use Rattle.words.specs.declared.Ink.{Ink}
@@ -36,6 +38,9 @@ punct-more p g (h ∷ gs) = refl
 pub narrow : (code w : ℕ) → w ≡ widthOf code → w ≤ 1
 unfolding widthOf
 narrow code w e = omega arith
+
+no-punct : (code : ℕ) → 0xC0 ≤ code → false ≡ punctCode code
+no-punct code h = rw (ne-eqb code 33 (omega arith), ne-eqb code 46 (omega arith), ne-eqb code 63 (omega arith))
 
 -- ---- the ink that is left
 
@@ -76,6 +81,11 @@ module _ {glue : Bool} {s : List ℕ} {at : ℕ} where
   unfolding widthOf
   ink-more w r {code} i h {n} e width punct =
       ink-on w r i (h .first) (h .isBlank) (h .count) (h .on) (h .few) (h .within) (rw (h .hasWidth) (omega arith)) (h .hasWidth) (rw (h .hasCode) punct)
+
+  -- a letter of two bytes, which is no punctuation
+  pub ink-letter : (w : Ink) → InkLeft glue s at w → Letter s (w .end) → InkLeft glue s at (record { end = w .end + 2; width = w .width + 1; punct = false })
+  unfolding widthOf
+  ink-letter w i l = ink-more w (record { end = w .end + 2; width = w .width + 1; punct = false }) i (letter-here s (w .end) l glue) {n = 1} refl refl (no-punct _ (letter-least s (w .end) l))
 
   pub ink-damaged : (w : Ink) → InkLeft glue s at w → w .end < length s → DamagedHere glue s (w .end) → InkLeft glue s at (record { end = w .end + 1; width = w .width + 1; punct = false })
   ink-damaged w i k h =

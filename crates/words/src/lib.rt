@@ -290,29 +290,38 @@ fn over_ink(s: &[u8], at: usize, glue: bool) -> Ink
         punct: false,
     };
     loop {
-        w = over_plain(s, w);
-        let end = w.end;
-        if s.len() <= end {
-            return w;
-        }
-        match text::glyph_at(s, end, glue) {
-            Glyph::Blank { code: _, next: _ } => {
+        let from = w.end;
+        if text::is_letter(s, from) {
+            w = Ink {
+                end: from + 2,
+                width: w.width + 1,
+                punct: false,
+            };
+        } else {
+            w = over_plain(s, w);
+            let end = w.end;
+            if s.len() <= end {
                 return w;
             }
-            Glyph::Ink { code, next } => {
-                w = Ink {
-                    end: next,
-                    width: w.width + text::width(code),
-                    punct: is_punct(code),
-                };
-            }
-            // A damaged byte is one by itself, and as wide as a character.
-            Glyph::Damaged => {
-                w = Ink {
-                    end: end + 1,
-                    width: w.width + 1,
-                    punct: false,
-                };
+            match text::glyph_at(s, end, glue) {
+                Glyph::Blank { code: _, next: _ } => {
+                    return w;
+                }
+                Glyph::Ink { code, next } => {
+                    w = Ink {
+                        end: next,
+                        width: w.width + text::width(code),
+                        punct: is_punct(code),
+                    };
+                }
+                // A damaged byte is one by itself, and as wide as a character.
+                Glyph::Damaged => {
+                    w = Ink {
+                        end: end + 1,
+                        width: w.width + 1,
+                        punct: false,
+                    };
+                }
             }
         }
     }

@@ -7,7 +7,8 @@ use lib.ListN.{length}
 use denote.Ref.{now}
 use borrow.Author.Needs.{needs}
 use Rattle.text.proofs.Glyphs.{Here, ink-here, blank-here, damaged-here}
-use Rattle.words.proofs.InkRuns.{narrow, InkLeft, ink-first, ink-more, ink-damaged, ink-past, ink-stop}
+use Rattle.text.proofs.Letters.{Letter, letter-is}
+use Rattle.words.proofs.InkRuns.{narrow, InkLeft, ink-first, ink-more, ink-letter, ink-damaged, ink-past, ink-stop}
 use Rattle.words.proofs.PlainRuns.{ink-plain}
 use Rattle.words.proofs.over_ink.Statement.{statement}
 use Rattle.words.proofs.over_ink.Tie as tie
@@ -21,12 +22,31 @@ abbrev μ-loop : tie.MeasureT-loop
 loop-holds : tie.Need-loop-holds Inv-loop μ-loop
 loop-holds c = ink-first (search needs)
 
+is-letter-requires : tie.Need-is-letter-requires Inv-loop μ-loop
+is-letter-requires c κs = search needs
+
+-- a letter of two bytes
+letter : (c : tie.Then1 Inv-loop μ-loop) → Letter (now (c .before .before .before .before .args .s)) (c .before .before .loop .w .end)
+letter c = letter-is _ _ (sym (c .before .is-letter .ensures) ∙ c .if1 .taken)
+
+add-t10 : tie.Need-add-t10 Inv-loop μ-loop
+add-t10 c = let l = letter c in search needs
+
+add-t11 : tie.Need-add-t11 Inv-loop μ-loop
+add-t11 c = search needs
+
+loop-less : tie.Need-loop-less Inv-loop μ-loop
+loop-less c = omega (arith, letter (c .before) .within)
+
+loop-again : tie.Need-loop-again Inv-loop μ-loop
+loop-again c = ink-letter _ (c .before .before .before .loop .inv) (letter (c .before))
+
 over-plain-requires : tie.Need-over-plain-requires Inv-loop μ-loop
 over-plain-requires c κs = search needs
 
 -- what is left behind the plain characters
-left : (c : tie.After-over-plain Inv-loop μ-loop) → InkLeft (c .before .before .before .args .glue) (now (c .before .before .before .args .s)) (c .before .before .before .args .at) (c .over-plain .result)
-left c = ink-plain _ (c .before .loop .inv) _ (c .over-plain .ensures)
+left : (c : tie.After-over-plain Inv-loop μ-loop) → InkLeft (c .before .before .before .before .before .args .glue) (now (c .before .before .before .before .before .args .s)) (c .before .before .before .before .before .args .at) (c .over-plain .result)
+left c = ink-plain _ (c .before .before .before .loop .inv) _ (c .over-plain .ensures)
 
 returns : tie.Need-returns Inv-loop μ-loop
 returns c = ink-past _ (left (c .before)) (search needs)
@@ -46,37 +66,37 @@ enum-known-code c = search needs
 width-requires : tie.Need-width-requires Inv-loop μ-loop
 width-requires c κs = search needs
 
-add-t12 : tie.Need-add-t12 Inv-loop μ-loop
-add-t12 c = let h = narrow _ _ (c .before .width .ensures) in let l = left (c .before .before .before .before .before .before .before) in omega arith
+add-t16 : tie.Need-add-t16 Inv-loop μ-loop
+add-t16 c = let h = narrow _ _ (c .before .width .ensures) in let l = left (c .before .before .before .before .before .before .before) in omega arith
 
 is-punct-requires : tie.Need-is-punct-requires Inv-loop μ-loop
 is-punct-requires c κs = search needs
 
 -- the ink that the loop's turn reads
 read : (c : tie.After-code Inv-loop μ-loop)
-    → Here (c .before .before .before .before .before .before .before .args .glue) false (now (c .before .before .before .before .before .before .before .args .s)) (c .before .before .before .before .over-plain .result .end) (c .code .given .0 .0) (c .code .given .0 .1 .0)
+    → Here (c .before .before .before .before .before .before .before .before .before .args .glue) false (now (c .before .before .before .before .before .before .before .before .before .args .s)) (c .before .before .before .before .over-plain .result .end) (c .code .given .0 .0) (c .code .given .0 .1 .0)
 read c = ink-here _ _ _ _ _ (sym (c .before .before .glyph-at .ensures) ∙ c .code .given .1)
 
-loop-less : tie.Need-loop-less Inv-loop μ-loop
-loop-less c = let h = read (c .before .before .before .before) in omega (arith, c .before .before .before .before .before .before .before .before .over-plain .ensures .run .on)
+loop-less-2 : tie.Need-loop-less-2 Inv-loop μ-loop
+loop-less-2 c = let h = read (c .before .before .before .before) in omega (arith, c .before .before .before .before .before .before .before .before .over-plain .ensures .run .on)
 
-loop-again : tie.Need-loop-again Inv-loop μ-loop
-loop-again c = ink-more _ _ (left (c .before .before .before .before .before .before .before .before)) (read (c .before .before .before .before)) (c .before .before .width .ensures) refl (c .is-punct .ensures)
+loop-again-2 : tie.Need-loop-again-2 Inv-loop μ-loop
+loop-again-2 c = ink-more _ _ (left (c .before .before .before .before .before .before .before .before)) (read (c .before .before .before .before)) (c .before .before .width .ensures) refl (c .is-punct .ensures)
 
 enum-told-2 : tie.Need-enum-told-2 Inv-loop μ-loop
 enum-told-2 c = search needs
 
-add-t14 : tie.Need-add-t14 Inv-loop μ-loop
-add-t14 c = search needs
+add-t18 : tie.Need-add-t18 Inv-loop μ-loop
+add-t18 c = search needs
 
-add-t15 : tie.Need-add-t15 Inv-loop μ-loop
-add-t15 c = let l = left (c .before .before .before .before .before) in omega arith
+add-t19 : tie.Need-add-t19 Inv-loop μ-loop
+add-t19 c = let l = left (c .before .before .before .before .before) in omega arith
 
-loop-less-2 : tie.Need-loop-less-2 Inv-loop μ-loop
-loop-less-2 c = omega (arith, c .before .before .before .before .before .over-plain .ensures .run .on)
+loop-less-3 : tie.Need-loop-less-3 Inv-loop μ-loop
+loop-less-3 c = omega (arith, c .before .before .before .before .before .over-plain .ensures .run .on)
 
-loop-again-2 : tie.Need-loop-again-2 Inv-loop μ-loop
-loop-again-2 c = ink-damaged _ (left (c .before .before .before .before .before)) (search needs) (damaged-here _ _ _ (search needs) (sym (c .before .before .before .glyph-at .ensures) ∙ c .before .enum-told2 .given .1))
+loop-again-3 : tie.Need-loop-again-3 Inv-loop μ-loop
+loop-again-3 c = ink-damaged _ (left (c .before .before .before .before .before)) (search needs) (damaged-here _ _ _ (search needs) (sym (c .before .before .before .glyph-at .ensures) ∙ c .before .enum-told2 .given .1))
 
 pub over-ink-spec : {M : Type 1} → statement M
 over-ink-spec =
@@ -85,6 +105,11 @@ over-ink-spec =
     Inv-loop
     μ-loop
     loop-holds
+    is-letter-requires
+    add-t10
+    add-t11
+    loop-less
+    loop-again
     over-plain-requires
     returns
     glyph-at-requires
@@ -92,12 +117,12 @@ over-ink-spec =
     returns-2
     enum-known-code
     width-requires
-    add-t12
+    add-t16
     is-punct-requires
-    loop-less
-    loop-again
-    enum-told-2
-    add-t14
-    add-t15
     loop-less-2
-    loop-again-2)
+    loop-again-2
+    enum-told-2
+    add-t18
+    add-t19
+    loop-less-3
+    loop-again-3)
