@@ -1,4 +1,4 @@
--- The bounds that the contracts of `demerits` promise, and what an offered break's cost and ratio are.
+-- The bounds that the contracts of `demerits` promise.
 use mathlib.Core.Bool.{Bool, true, false, cond}
 use mathlib.Core.Path.{_≡_}
 use Prim.Native.Nat.{ℕ, _+_, _-_, _*_, _≤_}
@@ -38,10 +38,3 @@ apart goal t = cond (ltb t goal) (float (goal - t)) (neg (float (t - goal)))
 -- the cost, where W is given
 abbrev pub costWith : Float → Float → ℕ → ℕ
 costWith r old w = let c = 1 + lineTerm r + w + ratioTerm r old in c * c
-
--- what a break after a word of weight w offers, where the line before has the ratio old: the cost c and the line's own ratio r
-pub record Offered (goal t stretch w : ℕ) (old : Float) (c : ℕ) (r : Float) : Type 0 where
-  pub ratio-is : r ≡ ratio goal t stretch
-  pub cost-is : c ≡ costWith (ratio goal t stretch) old w
-  pub ratio-small : T (within 1 r)
-  pub cost-small : c ≤ mostCost

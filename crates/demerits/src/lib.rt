@@ -15,12 +15,6 @@ const WORD_WEIGHT: u16 = 300;
 // The weight of D: a line with a ratio unlike that of the line before.
 const RATIO_WEIGHT: u16 = 600;
 
-// What a break after a word offers.
-pub struct Offer {
-    pub cost: u64,
-    pub ratio: f32,
-}
-
 // A count of columns as a float. It goes by u16, which the machine converts in one step.
 fn float(n: usize) -> f32
     requires { ⌜ n < 65536 ⌝ }
@@ -138,16 +132,4 @@ pub fn cost(r: f32, old: f32, weight: u16) -> u64
     let sum = 1 + line_term(r) + weight + ratio_term(r, old);
     let wide = sum as u64;
     wide * wide
-}
-
-// What a break offers behind a word of weight W that brings its line to t columns, no farther than the stretch from the goal.
-pub fn compute_demerits(goal: usize, t: usize, stretch: usize, weight: u16, old: f32) -> Offer
-    requires { ⌜ (goal ≤ t + stretch) × (t ≤ goal + stretch) × (stretch ≤ 1000) × (weight ≤ 300) × T (B.within 1 old) ⌝ }
-    ensures { λ o. ⌜ B.Offered goal t stretch weight old (o .cost) (o .ratio) ⌝ }
-{
-    let r = ratio(goal, t, stretch);
-    Offer {
-        cost: cost(r, old, weight),
-        ratio: r,
-    }
 }

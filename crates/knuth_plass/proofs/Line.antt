@@ -1,9 +1,9 @@
 -- A break's line with the word on it: its columns, and what the break offers behind the word.
-use mathlib.Core.Path.{_≡_, refl, sym}
+use mathlib.Core.Path.{_≡_, refl, sym, subst}
 use mathlib.Core.Bool.{Bool, true, false, cond}
 use mathlib.Core.List.{List}
 use Prim.Native.Nat.{ℕ, suc, _+_, _-_, _*_, _≤_, _<_}
-use native.Mathlib.Nat.{add-zero}
+use native.Mathlib.Nat.{add-zero, le-trans, mul-le-mul}
 use native.Mathlib.Omega.{arith}
 use borrow.Author.Tests.{le-leb, lt-leb}
 use lib.Dec.{T}
@@ -11,21 +11,30 @@ use lib.Ieee.{Float}
 use Rattle.records.specs.Word.{meaning}
 use Rattle.spacing.specs.Spacing.{gapWidth}
 use Rattle.spacing.specs.declared.Setting.{Setting}
-use Rattle.demerits.specs.Demerits.{noRatio, ratio, cost}
-use Rattle.demerits.specs.Bounds.{within, mostCost}
+use Rattle.demerits.specs.Demerits.{noRatio, ratio, lineTerm, ratioTerm, cost}
+use Rattle.demerits.specs.Bounds.{within, mostCost, costWith}
+use Rattle.demerits.proofs.Terms.{line-le, ratio-le, cost-with, square-le-most}
 use Rattle.knuth_plass.specs.declared.Break.{Break as Record}
 use Rattle.knuth_plass.specs.declared.Best.{Best}
 use Rattle.records.specs.declared.Before.the-variants.{Absent}
 use Rattle.knuth_plass.specs.declared.Turn.{Turn}
 use Rattle.knuth_plass.specs.KnuthPlass.{Place, none, stretchOf, minimumOf, reached, offerOf}
 use Rattle.knuth_plass.specs.Table.{Tables, pathTo, seen}
-use Rattle.knuth_plass.specs.Round.{lineAt, nothing, from, better, offerIn, Offers, OfferedIs}
-use Rattle.knuth_plass.proofs.Offers.{offer-some, offer-better, fits-better, lesser-none}
+use Rattle.knuth_plass.specs.Round.{lineAt, nothing, from, better, offerIn, Floor, Offers, OfferedIs}
+use Rattle.knuth_plass.proofs.Offers.{better-stays, offer-some, offer-better, fits-better, lesser-none}
 
 -- what a line grows by without a tab
 pub plain-small : (x : Bool) (space width after r : ℕ) → r ≡ cond x (space + width) (after + (space + width)) → r ≤ after + (space + width)
 plain-small true space width after r e = omega arith
 plain-small false space width after r e = omega arith
+
+-- the square of what the word alone weighs
+pub square-small : (w : ℕ) → w ≤ 300 → (1 + w) * (1 + w) ≤ mostCost
+square-small w h = let s : 1 + w ≤ 1001 = omega arith in mul-le-mul s s
+
+-- the cost is never below the floor
+floor-least : (r old : Float) (w f : ℕ) → Floor w f → f ≤ costWith r old w
+floor-least r old w f h = let s : 1 + w ≤ 1 + lineTerm r + w + ratioTerm r old = omega arith in le-trans (h .least) (mul-le-mul s s)
 
 module _ (g : Setting) (turn : Turn) (b : Record) where
   pub line-fresh : b .fresh ≡ true → b .columns + turn .space + turn .word .width ≡ lineAt g turn b
@@ -100,3 +109,13 @@ module _ (g : Setting) (turn : Turn) (n : ℕ) (b : Record) (best : Best) where
           let s = o .sound .demerits in
           let h = o .turns .few in
           offers-some (d + b .demerits) r h (omega arith) w (full-offer d r l e f (omega arith))
+
+      -- the best offer so far is no more than the floor, so it stays
+      pub offered-beaten : (f : ℕ) (r : Float) → turn .last ≡ false → r ≡ ratio (g .goal) x (stretchOf g) → T (within 1 r) → Floor (turn .weight) f
+          → best .total ≤ f + b .demerits → OfferedIs g turn n b best best
+      offered-beaten f r l e w floor h =
+          let d = costWith r (b .ratio) (turn .weight) in
+          let k = floor-least r (b .ratio) (turn .weight) f floor in
+          let small : d ≤ mostCost = square-le-most (lineTerm r) (turn .weight) (ratioTerm r (b .ratio)) (line-le r w) (o .turns .light) (ratio-le r (b .ratio) w (o .sound .ratio)) in
+          let is : d ≡ cost (ratio (g .goal) x (stretchOf g)) (b .ratio) (stretchOf g) (turn .word .width) = rw (← e) (cost-with r (b .ratio) (stretchOf g) (turn .word .width) (turn .weight) (o .turns .weight)) in
+          subst (λ (z : Best). OfferedIs g turn n b best z) (better-stays best n (d + b .demerits) r (omega (arith, k, h))) (offered-full d r l e is small w)

@@ -25,6 +25,11 @@ better-is b p d r e q u f g h = rw (f, g, h) (by (leb (b .total) d)) where
   by true = refl
   by false = refl
 
+-- one that is no less than the best so far is not taken
+pub better-stays : (b : Best) (p d : ℕ) (r : Float) → b .total ≤ d → better b p d r ≡ b
+unfolding better
+better-stays b p d r h = rw (le-leb (b .total) d h)
+
 -- ---- what is chosen
 
 module _ (g : Setting) (i : ℕ) (t : Tables) where

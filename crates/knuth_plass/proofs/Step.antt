@@ -15,14 +15,15 @@ use Rattle.knuth_plass.specs.declared.Best.{Best}
 use Rattle.knuth_plass.specs.declared.Turn.{Turn}
 use Rattle.knuth_plass.specs.declared.State.{State}
 use Rattle.knuth_plass.specs.declared.Standing.{Standing}
-use Rattle.knuth_plass.specs.KnuthPlass.{Place, Break, none, reduced, staying, lesser, offerOf, bestOffer}
-use Rattle.knuth_plass.specs.Table.{Tables, Stored, breakIn, pathTo, seen, meant, Sound, Ascends}
-use Rattle.knuth_plass.specs.Round.{Limits, Turns, lineAt, lessened, extended, noted, OfferedIs, Fit, Goes, Answer, rest}
+use Rattle.knuth_plass.specs.KnuthPlass.{Place, Break, none, minimumOf, reduced, staying, lesser, offerOf, bestOffer}
+use Rattle.knuth_plass.specs.Table.{Tables, tables, Stored, withLine, breakIn, pathTo, seen, meant, Sound, Ascends}
+use Rattle.knuth_plass.specs.Round.{Limits, Turns, lineAt, lessened, extended, noted, stays, Offers, OfferedIs, Fit, Goes, Answer, rest}
 use Rattle.knuth_plass.proofs.Path.{Alike, path-again, meant-again, meant-beside}
 use Rattle.knuth_plass.proofs.Ascends.{ascends-at, ascends-less, map-left, map-right}
 use Rattle.knuth_plass.proofs.Filled.{filled-again, sound-lessened, sound-extended}
 use Rattle.knuth_plass.proofs.Lowest.{lower, noted-kept, noted-best, noted-from, noted-found, least-step}
-use Rattle.knuth_plass.proofs.Line.{line-is}
+use Rattle.knuth_plass.proofs.Line.{line-is, offered-short}
+use Rattle.knuth_plass.proofs.Table.{stored-kept}
 use Rattle.knuth_plass.proofs.Offers.{lesser-assoc, offer-same}
 
 -- ---- the definition, one break on
@@ -59,6 +60,9 @@ module _ (g : Setting) (turn : Turn) (st : Standing) (k : ℕ) (t : Tables) (a :
 
   pub sound : Sound (turn .number) (lessened (st .reduction) (breakIn t (getD a k 0)))
   sound = sound-lessened (turn .number) (st .reduction) (breakIn t (getD a k 0)) (fit .filled .sound (getD a k 0) within)
+
+  pub kept-room : (after : State) (n d : ℕ) → after ≡ noted s n d → after .kept < 1024
+  kept-room after n d e = let f = turns .few in let h = fit .few in let m = fit .room in let u = fit .kept in rw (e, noted-kept s n d) (omega arith)
 
   next : rest st k t a ≡ seen (pathTo t (getD a k 0)) (lessened (st .reduction) (breakIn t (getD a k 0))) ∷ rest st (k + 1) t a
   unfolding reduced meant seen
@@ -166,3 +170,25 @@ module _ (g : Setting) (turn : Turn) (st : Standing) (k : ℕ) (t : Tables) (a :
             found = record { demerits = noted-found st t s (getD a k 0) b (v .so-far) (v .found) is .demerits; again = λ z. absurd (omega arith) };
             least = rw rest-same (sym (least-step st t s (getD a k 0) b (v .so-far) (v .found) (rest st (k + 1) t a)) ∙ rw n at (v .least));
           }
+
+    -- as the code goes on, with what it has stored
+    module _ (x : ℕ) (best : Best) (limits : Limits g) (line : x ≡ lineAt g turn b) (l : List ℕ) (after r : State) (a₁ : List ℕ)
+        (saw : after ≡ noted s (getD a k 0) (b .demerits)) (kept : l ≡ withLine (t .numbers) (getD a k 0) (b .demerits) x)
+        (listed : a₁ ≡ set a (after .kept) (getD a k 0)) (went : r ≡ stays after best) where
+      abbrev Onward : Type 0
+      Onward = Fit turn st (k + 1) (tables l (t .ratios)) a₁ r × ((z : Answer) → Goes g turn st z k t a s → Goes g turn st z (k + 1) (tables l (t .ratios)) a₁ r)
+
+      pub keeps : x ≤ g .width → OfferedIs g turn (getD a k 0) b (s .best) best → Onward
+      keeps fits offered =
+          let stored = stored-kept t (getD a k 0) (st .reduction) x b is room (fit .filled .sized) in
+          rw (went, listed, saw, kept, noted-kept s (getD a k 0) (b .demerits)) (fit-keeps x best _ limits line fits offered stored, goes-keeps x best _ limits line fits offered stored)
+
+    pub offers : (x : ℕ) → Limits g → x ≡ lineAt g turn b → x ≤ g .width → Offers g turn b x
+    offers x limits line fits = record { limits = limits; turns = turns; is = line; fits = fits; sound = rw is sound }
+
+    -- a line too short to end offers nothing
+    pub short-fits : (x : ℕ) → Limits g → x < minimumOf g → x ≤ g .width
+    short-fits x limits h = let o = limits .over in omega arith
+
+    pub short-offers : (x : ℕ) → Limits g → x ≡ lineAt g turn b → x < minimumOf g → OfferedIs g turn (getD a k 0) b (s .best) (s .best)
+    short-offers x limits line h = offered-short g turn (getD a k 0) b (s .best) x (offers x limits line (short-fits x limits h)) h

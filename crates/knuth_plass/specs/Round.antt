@@ -74,6 +74,10 @@ extended t b = record {
 unfoldable pub noted : State → ℕ → ℕ → State
 noted s n d = cond (ltb d (s .least)) (record { kept = s .kept; from = n; least = d; best = s .best }) s
 
+-- one break more stays, and the best offer is now this one
+abbrev pub stays : State → Best → State
+stays s best = record { kept = s .kept + 1; from = s .from; least = s .least; best = best }
+
 -- ---- the best offer so far
 
 -- a total that no offer reaches
@@ -97,6 +101,11 @@ pub record BestFits (i size : ℕ) (b : Best) : Type 0 where
   pub previous : b .previous < size
   pub total : b .total ≤ suc i * mostCost
   pub ratio : T (within 1 (b .ratio))
+
+-- no break after a word of weight w costs less than f
+pub record Floor (w f : ℕ) : Type 0 where
+  pub least : f ≤ (1 + w) * (1 + w)
+  pub small : f ≤ mostCost
 
 -- a break that may offer: the word is on its line of x columns
 pub record Offers (g : Setting) (turn : Turn) (b : Record) (x : ℕ) : Type 0 where

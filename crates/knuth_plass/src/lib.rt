@@ -10,7 +10,7 @@ ghost use Prim.Native.Nat.{ℕ, _+_, _-_, _*_, _<_, _≤_, _^_};
 ghost use lib.ListN.{length, take, drop, getD, set};
 ghost use Rattle.records.specs.Word.{meaning};
 ghost use Rattle.records.specs.Table.{wordIn, wordsIn};
-ghost use Rattle.knuth_plass.specs.KnuthPlass.{startsLine, reduced, sentenceBehind};
+ghost use Rattle.knuth_plass.specs.KnuthPlass.{minimumOf, startsLine, reduced, sentenceBehind};
 ghost use Rattle.knuth_plass.specs.Table as T;
 ghost use Rattle.knuth_plass.specs.Round as R;
 
@@ -245,15 +245,24 @@ fn reach(g: Setting, turn: Turn, b: Break) -> usize
     }
 }
 
-// What break n, with the word on its line of t columns, makes of the best offer so far.
+// What a break after a word of this weight costs at the least: what the word alone weighs. With a small stretch few breaks offer, and
+// whether one is beaten by this much is not to be foreseen: there it is nothing.
+fn floor(stretch: usize, weight: u16) -> u64
+    requires { ⌜ weight ≤ 300 ⌝ }
+    ensures { λ r. ⌜ R.Floor weight r ⌝ }
+{
+    if stretch < 4 {
+        return 0;
+    }
+    let sum = 1 + weight as u64;
+    sum * sum
+}
+
+// What break n, with the word on its line of t columns, no less than the least that may end, makes of the best offer so far.
 fn offered(g: Setting, turn: Turn, n: usize, b: Break, t: usize, best: Best) -> Best
-    requires { ⌜ R.Offers g turn b t ⌝ }
+    requires { ⌜ R.Offers g turn b t × (minimumOf g ≤ t) ⌝ }
     ensures { λ r. ⌜ R.OfferedIs g turn n b best r ⌝ }
 {
-    let stretch = g.width - g.goal;
-    if t < g.goal - stretch {
-        return best;
-    }
     if turn.last {
         // The last line costs nothing, but a break that is not among the least offers none.
         if 0 < b.demerits {
@@ -261,8 +270,38 @@ fn offered(g: Setting, turn: Turn, n: usize, b: Break, t: usize, best: Best) -> 
         }
         return better(best, n, 0, 0.0);
     }
-    let o = demerits::compute_demerits(g.goal, t, stretch, turn.weight, b.ratio);
-    better(best, n, o.cost + b.demerits, o.ratio)
+    let stretch = g.width - g.goal;
+    let ratio = demerits::ratio(g.goal, t, stretch);
+    // Most offers are beaten before their cost is worked out.
+    if best.total <= floor(stretch, turn.weight) + b.demerits {
+        return best;
+    }
+    let cost = demerits::cost(ratio, b.ratio, turn.weight);
+    better(best, n, cost + b.demerits, ratio)
+}
+
+// Break n, which has these demerits, stays active with the word on its line of t columns.
+fn keep(
+    breaks: &mut [usize; 8192],
+    active: &mut [usize; 1024],
+    n: usize,
+    demerits: u64,
+    t: usize,
+    s: State,
+    best: Best,
+) -> State
+    requires { ⌜ (n < 1024) × (s .kept < 1024) ⌝ }
+    ensures { λ r. ⌜ (now (breaks .exit) ≡ T.withLine (now (breaks .entry)) n demerits t) × (now (active .exit) ≡ set (now (active .entry)) (s .kept) n) × (r ≡ R.stays s best) ⌝ }
+{
+    let kept = s.kept;
+    keep_break(breaks, n, demerits, t);
+    active[kept] = n;
+    State {
+        kept: kept + 1,
+        from: s.from,
+        least: s.least,
+        best,
+    }
 }
 
 // One turn of a round: the k-th active break loses the reduction and gets the word on its line. It stays active, and may offer, where
@@ -284,20 +323,16 @@ fn visit(
     let b = lessened(get_break(breaks, ratios, n), st.reduction);
     let t = reach(g, turn, b);
     let best = s.best;
-    let kept = s.kept;
     let seen = noted(s, n, b.demerits);
+    // Most lines are too short to end here, so that this is asked first.
+    if t < g.goal - (g.width - g.goal) {
+        return keep(breaks, active, n, b.demerits, t, seen, best);
+    }
     if g.width < t {
         return seen;
     }
     let better = offered(g, turn, n, b, t, best);
-    keep_break(breaks, n, b.demerits, t);
-    active[kept] = n;
-    State {
-        kept: kept + 1,
-        from: seen.from,
-        least: seen.least,
-        best: better,
-    }
+    keep(breaks, active, n, b.demerits, t, seen, better)
 }
 
 // A round over all active breaks.

@@ -1,33 +1,47 @@
--- `knuth_plass::offered` meets its contract. One law for each way through it: too short, the last word, and any other.
-use mathlib.Core.Path.{refl, _∙_}
-use lib.Ieee.{ofBits}
+-- `knuth_plass::offered` meets its contract. One law for each way through it: the last word, beaten, and any other.
+use mathlib.Core.Path.{refl, ap, _∙_}
+use lib.Ieee.{Float, ofBits}
+use Rattle.demerits.specs.Bounds.{costWith}
 use Rattle.demerits.proofs.Terms.{cost-with}
-use Rattle.knuth_plass.proofs.Line.{offered-short, offered-last-none, offered-last, offered-full}
+use Rattle.knuth_plass.proofs.Line.{offered-last-none, offered-last, offered-beaten, offered-full}
 use borrow.Author.Needs.{needs}
 use Rattle.knuth_plass.proofs.offered.Statement.{statement}
 use Rattle.knuth_plass.proofs.offered.Tie as tie
 
-sub-stretch : tie.Need-sub-stretch
-sub-stretch c = search needs
-
-sub-if1 : tie.Need-sub-if1
-sub-if1 c = search needs
-
 returns : tie.Need-returns
-returns c = let a = c .before .before .before .args in offered-short (a .g) (a .turn) (a .n) (a .b) (a .best) (a .t) (c .before .before .before .pre) (c .if1 .taken)
-
-returns-2 : tie.Need-returns-2
-returns-2 c = let a = c .before .before .before .before .before .before .args in offered-last-none (a .g) (a .turn) (a .n) (a .b) (a .best) (a .t) (c .before .before .before .before .before .before .pre) (c .before .before .before .if1 .left) (c .before .before .if2 .taken) (c .if3 .taken)
+returns c = let a = c .before .before .before .args in let p = c .before .before .before .pre in offered-last-none (a .g) (a .turn) (a .n) (a .b) (a .best) (a .t) (p .0) (p .1) (c .before .before .if1 .taken) (c .if2 .taken)
 
 better-requires : tie.Need-better-requires
 better-requires c κs = search needs
 
-returns-3 : tie.Need-returns-3
+returns-2 : tie.Need-returns-2
 unfolding ofBits
-returns-3 c = let a = c .before .before .before .before .before .before .before .args in rw (c .better .ensures) (offered-last (a .g) (a .turn) (a .n) (a .b) (a .best) (a .t) (c .before .before .before .before .before .before .before .pre) (c .before .before .before .before .if1 .left) _ refl (c .before .before .before .if2 .taken) (c .before .if3 .left))
+returns-2 c =
+    let a = c .before .before .before .before .args in
+    let p = c .before .before .before .before .pre in
+    rw (c .better .ensures) (offered-last (a .g) (a .turn) (a .n) (a .b) (a .best) (a .t) (p .0) (p .1) _ refl (c .before .before .before .if1 .taken) (c .before .if2 .left))
 
-compute-demerits-requires : tie.Need-compute-demerits-requires
-compute-demerits-requires c κs = search needs
+sub-stretch : tie.Need-sub-stretch
+sub-stretch c = search needs
+
+ratio-requires : tie.Need-ratio-requires
+ratio-requires c κs = search needs
+
+floor-requires : tie.Need-floor-requires
+floor-requires c κs = search needs
+
+add-if3 : tie.Need-add-if3
+add-if3 c = search needs
+
+returns-3 : tie.Need-returns-3
+returns-3 c =
+    let a = c .before .before .before .before .before .before .before .args in
+    let p = c .before .before .before .before .before .before .before .pre in
+    let r = c .before .before .before .before .ratio .ensures in
+    offered-beaten (a .g) (a .turn) (a .n) (a .b) (a .best) (a .t) (p .0) (p .1) _ _ (c .before .before .before .before .before .before .if1 .left) (r .0) (r .1) (c .before .before .before .floor .ensures) (c .if3 .taken)
+
+cost-requires : tie.Need-cost-requires
+cost-requires c κs = search needs
 
 add-better : tie.Need-add-better
 add-better c = search needs
@@ -37,23 +51,27 @@ better-requires-2 c κs = search needs
 
 returns-4 : tie.Need-returns-4
 returns-4 c =
-    let a = c .before .before .before .before .before .before .before .before .args in
-    let o = c .before .before .before .compute-demerits .ensures in
-    let cost-is = o .cost-is ∙ cost-with _ _ _ _ _ (c .before .before .before .before .before .before .before .before .pre .turns .weight) in
+    let a = c .before .before .before .before .before .before .before .before .before .before .args in
+    let p = c .before .before .before .before .before .before .before .before .before .before .pre in
+    let r = c .before .before .before .before .before .before .before .ratio .ensures in
+    let o = c .before .before .cost .ensures in
+    let cost-is = o .0 ∙ ap (λ (z : Float). costWith z (a .b .ratio) (a .turn .weight)) (r .0) ∙ cost-with _ _ _ _ _ (p .0 .turns .weight) in
     rw (c .better2 .ensures)
-    (offered-full (a .g) (a .turn) (a .n) (a .b) (a .best) (a .t) (c .before .before .before .before .before .before .before .before .pre) (c .before .before .before .before .before .if1 .left) _ _ (c .before .before .before .before .if2 .left) (o .ratio-is) cost-is (o .cost-small) (o .ratio-small))
+    (offered-full (a .g) (a .turn) (a .n) (a .b) (a .best) (a .t) (p .0) (p .1) _ _ (c .before .before .before .before .before .before .before .before .before .if1 .left) (r .0) cost-is (o .1) (r .1))
 
 pub offered-spec : {M : Type 1} → statement M
 offered-spec =
     tie.close
     (tie.spec
-    sub-stretch
-    sub-if1
     returns
-    returns-2
     better-requires
+    returns-2
+    sub-stretch
+    ratio-requires
+    floor-requires
+    add-if3
     returns-3
-    compute-demerits-requires
+    cost-requires
     add-better
     better-requires-2
     returns-4)
