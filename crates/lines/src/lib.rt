@@ -339,6 +339,14 @@ fn behind(line: &[u8], spot: Spot, tab: usize) -> Spot
     ensures { λ r. ⌜ ((glue : Bool) → Behind glue tab (now (line .entry)) spot r) ⌝ }
 {
     let at = spot.at;
+    let b = line[at];
+    // A byte below 0x80 is a character by itself.
+    if b < 0x80 {
+        return Spot {
+            at: at + 1,
+            column: column_behind(spot.column, wide(b), tab),
+        };
+    }
     let Char::Good { code, next } = text::char_at(line, at) else {
         return Spot {
             at: at + 1,
