@@ -11,30 +11,29 @@ use Rattle.lists.proofs.Parts.{joined-nil, joined-cons}
 use Rattle.text.specs.declared.Found.{Found}
 use Rattle.text.specs.declared.Found.the-variants.{At, Nowhere}
 use Rattle.options.specs.Opts.{Opts}
+use Rattle.options.specs.declared.Options.{Options}
 use Rattle.lines.proofs.Lines.{lines-past}
 use Rattle.pieces.specs.Pieces.{Kind, nextPiece, pieces}
-use Rattle.output.specs.Sink.{Wrote, Left}
+use Rattle.pieces.specs.declared.Paragraph.{Paragraph}
 use Rattle.output.proofs.Sink.{length-written, wrote-nil, left-first, left-then, left-last}
 use Rattle.rudignals.specs.Format.{outputOf, pieceOutput, digest, tooMany, longParagraph}
-use Rattle.rudignals.specs.Call.{piecesFrom, Goes, Put, TooLong, Stepped}
+use Rattle.rudignals.specs.Call.{piecesFrom, outputFrom, longFrom, Goes, Put, TooLong, Stepped, Stands, Going, FinishedFrom, Finished, Reached}
 use Rattle.rudignals.specs.declared.Cursor.{Cursor}
+use Rattle.rudignals.specs.declared.Ahead.{Ahead}
+use Rattle.rudignals.specs.declared.Ahead.the-variants.{Text, End}
+use Rattle.rudignals.specs.declared.Ended.{Ended}
+use Rattle.rudignals.specs.declared.Ended.the-variants.{All, Stopped}
 use Rattle.rudignals.specs.declared.Step.{Step}
 use Rattle.rudignals.specs.declared.Step.the-variants.{On, Over}
 
 -- ---- the pieces from a place on
 
 module _ (o : Opts) where
-  pub outputFrom : Bool → List ℕ → ℕ → List ℕ
-  outputFrom nextMail notes at = joined (pieceOutput o) (piecesFrom o nextMail notes at)
-
-  pub longFrom : Bool → List ℕ → ℕ → Found
-  longFrom nextMail notes at = longParagraph o at (piecesFrom o nextMail notes at)
-
-  pub all-output : (notes : List ℕ) → outputFrom true notes 0 ≡ digest o notes
+  pub all-output : (notes : List ℕ) → outputFrom o true notes 0 ≡ digest o notes
   unfolding outputFrom piecesFrom digest pieces
   all-output notes = refl
 
-  pub all-long : (notes : List ℕ) → longFrom true notes 0 ≡ longParagraph o 0 (pieces o notes)
+  pub all-long : (notes : List ℕ) → longFrom o true notes 0 ≡ longParagraph o 0 (pieces o notes)
   unfolding longFrom piecesFrom pieces
   all-long notes = refl
 
@@ -42,67 +41,86 @@ module _ (o : Opts) where
   unfolding piecesFrom
   none-left nextMail notes at h = rw (lines-past notes at h) (walk-nil (nextPiece o) nextMail)
 
-  pub output-none : (nextMail : Bool) (notes : List ℕ) (at : ℕ) → length notes ≤ at → outputFrom nextMail notes at ≡ []
+  pub output-none : (nextMail : Bool) (notes : List ℕ) (at : ℕ) → length notes ≤ at → outputFrom o nextMail notes at ≡ []
   unfolding outputFrom
   output-none nextMail notes at h = rw (none-left nextMail notes at h) (joined-nil (pieceOutput o))
 
-  pub long-none : (nextMail : Bool) (notes : List ℕ) (at : ℕ) → length notes ≤ at → longFrom nextMail notes at ≡ Nowhere
+  pub long-none : (nextMail : Bool) (notes : List ℕ) (at : ℕ) → length notes ≤ at → longFrom o nextMail notes at ≡ Nowhere
   unfolding longFrom longParagraph
   long-none nextMail notes at h = ap (longParagraph o at) (none-left nextMail notes at h)
 
   module _ {nextMail : Bool} {notes : List ℕ} {at : ℕ} {kind : Kind} {state : Bool} {next : ℕ} (g : Goes o nextMail notes at kind state next) where
-    pub output-more : outputFrom nextMail notes at ≡ outputOf o kind ++ outputFrom state notes next
+    pub output-more : outputFrom o nextMail notes at ≡ outputOf o kind ++ outputFrom o state notes next
     unfolding outputFrom
-    output-more = ap (joined (pieceOutput o)) (g .pieces) ∙ joined-cons (pieceOutput o) (g .piece) (piecesFrom o state notes next) ∙ ap (λ (k : Kind). outputOf o k ++ outputFrom state notes next) (g .is)
+    output-more = ap (joined (pieceOutput o)) (g .pieces) ∙ joined-cons (pieceOutput o) (g .piece) (piecesFrom o state notes next) ∙ ap (λ (k : Kind). outputOf o k ++ outputFrom o state notes next) (g .is)
 
-    long-as : (t : Bool) → tooMany o kind ≡ t → longFrom nextMail notes at ≡ elim t as (λ x. Found) [ true ↦ At at | false ↦ longFrom state notes next ]
+    long-as : (t : Bool) → tooMany o kind ≡ t → longFrom o nextMail notes at ≡ elim t as (λ x. Found) [ true ↦ At at | false ↦ longFrom o state notes next ]
     unfolding longFrom longParagraph
     long-as t e =
         ap (longParagraph o at) (g .pieces)
         ∙ ap (λ (n : ℕ). elim (tooMany o (g .piece .kind)) as (λ x. Found) [ true ↦ At at | false ↦ longParagraph o n (piecesFrom o state notes next) ]) (g .extent)
-        ∙ ap (λ (b : Bool). elim b as (λ x. Found) [ true ↦ At at | false ↦ longFrom state notes next ]) (ap (tooMany o) (g .is) ∙ e)
+        ∙ ap (λ (b : Bool). elim b as (λ x. Found) [ true ↦ At at | false ↦ longFrom o state notes next ]) (ap (tooMany o) (g .is) ∙ e)
 
-    pub long-more : tooMany o kind ≡ false → longFrom nextMail notes at ≡ longFrom state notes next
+    pub long-more : tooMany o kind ≡ false → longFrom o nextMail notes at ≡ longFrom o state notes next
     long-more e = long-as false e
 
-    pub long-here : tooMany o kind ≡ true → longFrom nextMail notes at ≡ At at
+    pub long-here : tooMany o kind ≡ true → longFrom o nextMail notes at ≡ At at
     long-here e = long-as true e
 
--- ---- the loop
+-- ---- the work from a place on
 
--- what the cursor and the output have come to, of notes that are to be written into out₀
-pub record Going (o : Opts) (notes out₀ : List ℕ) (c : Cursor) (out : List ℕ) : Type 0 where
-  pub within : c .at ≤ length notes
-  pub left : Left out₀ 0 (digest o notes) out (c .written) (outputFrom o (c .mail) notes (c .at))
-  pub long : longFrom o (c .mail) notes (c .at) ≡ longParagraph o 0 (pieces o notes)
-  pub most : c .written ≤ 10000 * c .at
+module _ (o : Opts) (notes : List ℕ) where
+  pub going-first : (c : Cursor) (out : List ℕ) → Stands notes c → Going o notes c out c out
+  going-first c out s = record { stands = s; left = left-first out (c .written) (outputFrom o (c .mail) notes (c .at)); long = refl }
 
+  module _ {c₀ : Cursor} {out₀ : List ℕ} {c : Cursor} {out : List ℕ} (g : Going o notes c₀ out₀ c out) where
+    pub going-length : length out ≡ length out₀
+    going-length = sym (length-written (c .written) out (outputFrom o (c .mail) notes (c .at))) ∙ ap length (g .left .bytes) ∙ length-written (c₀ .written) out₀ (outputFrom o (c₀ .mail) notes (c₀ .at))
+
+    pub going-on : {d : Cursor} {out′ : List ℕ} → Put o notes out c d out′ → Going o notes c₀ out₀ d out′
+    going-on {d} {out′} p = record {
+      stands = record { within = p .goes .within; most = omega (arith, g .stands .most, p .most) };
+      left = left-then {d = outputOf o (p .kind)} {e = outputFrom o (d .mail) notes (d .at)} (rw (output-more o (p .goes)) at (g .left)) (p .wrote);
+      long = sym (long-more o (p .goes) (p .few)) ∙ g .long;
+    }
+
+    pub going-further : {d : Cursor} {out′ : List ℕ} → Going o notes c out d out′ → Going o notes c₀ out₀ d out′
+    going-further h = record {
+      stands = h .stands;
+      left = record { count = h .left .count ∙ g .left .count; bytes = h .left .bytes ∙ g .left .bytes };
+      long = h .long ∙ g .long;
+    }
+
+    pub going-finished : (out′ : List ℕ) (r : Ended) → FinishedFrom o notes c out out′ r → FinishedFrom o notes c₀ out₀ out′ r
+    going-finished out′ (All n) f = (sym (g .long) ∙ f .0, left-last (g .left) (f .1))
+    going-finished out′ (Stopped place) f = (sym (g .long) ∙ f .0, f .1 ∙ going-length)
+
+    pub going-over : {out′ : List ℕ} → TooLong o notes out c out′ → FinishedFrom o notes c₀ out₀ out′ (Stopped (c .at))
+    going-over t = (sym (g .long) ∙ long-here o (t .goes) (t .many), ap length (t .same) ∙ going-length)
+
+    pub going-last : length notes ≤ c .at → FinishedFrom o notes c₀ out₀ out (All (c .written))
+    going-last h = (sym (g .long) ∙ long-none o (c .mail) notes (c .at) h, left-last (rw (output-none o (c .mail) notes (c .at) h) at (g .left)) (wrote-nil out (c .written)))
+
+-- from the first place on
 abbrev pub start : Cursor
 start = record { at = 0; written = 0; mail = true }
 
-module _ (o : Opts) (notes out₀ : List ℕ) where
-  pub going-first : Going o notes out₀ start out₀
-  going-first = record { within = omega arith; left = rw (all-output o notes) (left-first out₀ 0 (digest o notes)); long = all-long o notes; most = omega arith }
+pub stands-first : (notes : List ℕ) → Stands notes start
+stands-first notes = record { within = omega arith; most = omega arith }
 
-  module _ {c : Cursor} {out : List ℕ} (g : Going o notes out₀ c out) where
-    pub going-length : length out ≡ length out₀
-    going-length = sym (length-written (c .written) out (outputFrom o (c .mail) notes (c .at))) ∙ ap length (g .left .bytes) ∙ length-written 0 out₀ (digest o notes)
+pub all-finished : (o : Opts) (notes out out′ : List ℕ) (r : Ended) → FinishedFrom o notes start out out′ r → Finished o notes out out′ r
+all-finished o notes out out′ (All n) f = (sym (all-long o notes) ∙ f .0, rw (all-output o notes) at (f .1))
+all-finished o notes out out′ (Stopped place) f = (sym (all-long o notes) ∙ f .0, f .1)
 
-    pub going-on : {d : Cursor} {out′ : List ℕ} → Put o notes out c d out′ → Going o notes out₀ d out′
-    going-on {d} {out′} p = record {
-      within = p .goes .within;
-      left = left-then {d = outputOf o (p .kind)} {e = outputFrom o (d .mail) notes (d .at)} (rw (output-more o (p .goes)) at (g .left)) (p .wrote);
-      long = sym (long-more o (p .goes) (p .few)) ∙ g .long;
-      most = omega (arith, g .most, p .most);
-    }
+-- by what follows the lines
+module _ (block : List ℕ) (o : Options) (notes out₀ out : List ℕ) (c₀ : Cursor) (r : Ahead) (s : Reached block o notes c₀ out₀ out r) where
+  pub reached-text : {c : Cursor} {p : Paragraph} → r ≡ Text c p → Reached block o notes c₀ out₀ out (Text c p)
+  reached-text e = rw e at s
 
-    pub going-over : {out′ : List ℕ} → TooLong o notes out c out′ → longParagraph o 0 (pieces o notes) ≡ At (c .at)
-    going-over t = sym (g .long) ∙ long-here o (t .goes) (t .many)
+  pub reached-end : {n : ℕ} → r ≡ End n → Reached block o notes c₀ out₀ out (End n)
+  reached-end e = rw e at s
 
-    pub going-last : length notes ≤ c .at → (longParagraph o 0 (pieces o notes) ≡ Nowhere) × Wrote out₀ 0 (digest o notes) out (c .written)
-    going-last h = (sym (g .long) ∙ long-none o (c .mail) notes (c .at) h, left-last (rw (output-none o (c .mail) notes (c .at) h) at (g .left)) (wrote-nil out (c .written)))
-
--- by what a piece came to
+-- by what a paragraph came to
 module _ {o : Opts} {notes out : List ℕ} {c : Cursor} {out′ : List ℕ} {r : Step} (s : Stepped o notes out c out′ r) where
   pub stepped-on : {d : Cursor} → r ≡ On d → Put o notes out c d out′
   stepped-on e = rw e at s

@@ -21,6 +21,7 @@ use Rattle.pieces.specs.Bounds.{MarginWithin, ParagraphWithin, Bounded}
 use Rattle.pieces.specs.declared.Margin.{Margin}
 use Rattle.pieces.specs.declared.Paragraph.{Paragraph as ParagraphAt}
 use Rattle.pieces.specs.declared.Piece.{Piece as PieceAt}
+use Rattle.pieces.specs.declared.Piece.the-variants.{Text}
 use Rattle.pieces.proofs.Meaning.{TextIs, means}
 use Rattle.records.specs.Word.{Word}
 use Rattle.records.specs.Table.{wordsIn}
@@ -41,12 +42,12 @@ use Rattle.quick.specs.Quick.{quickBreaks}
 use Rattle.knuth_plass.specs.Table.{tables}
 use Rattle.knuth_plass.specs.Round.{Limits, Lent, BestAre}
 use Rattle.rudignals.specs.Format.{settingOf, breaksOf, formatted, outputOf}
-use Rattle.rudignals.specs.Call.{Goes, Put, Stepped, Ready, settingIn, broken, Broken, wordsFor, Placed, TextPut, TextStepped}
+use Rattle.rudignals.specs.Call.{Goes, Put, Stepped, Ready, Begins, settingIn, broken, Broken, wordsFor, Placed, TextPut, TextStepped}
 use Rattle.rudignals.specs.declared.Cursor.{Cursor}
 use Rattle.rudignals.specs.declared.Step.{Step}
 use Rattle.rudignals.specs.declared.Step.the-variants.{On, Over}
 use Rattle.rudignals.proofs.Rows.{text-words}
-use Rattle.rudignals.proofs.Meaning.{PieceGoes, piece-goes}
+use Rattle.rudignals.proofs.Meaning.{TextGoes, PieceGoes, piece-goes}
 use Rattle.rudignals.proofs.Bound.{text-most}
 
 -- ---- what the block's options allow
@@ -68,6 +69,10 @@ module _ (block notes : List ℕ) (o : Options) (ready : Ready block notes o) wh
       let k = ready-kept in
       let m = means (meant block o) nextMail notes at h (k .tabLeast) (k .tabMost) (ready .short) (k .splitClears) in
       piece-goes (meant block o) nextMail notes at s (rw (sym q ∙ p .0) m) (rw q at (p .1))
+
+pub found-begins : (block notes : List ℕ) (o : Options) (c : Cursor) (p : ParagraphAt) {r : PieceAt} → c .at < length notes → (r ≡ pieceAt (meant block o) (c .mail) notes (c .at)) × Bounded (o .glue) notes (c .at) r → r ≡ Text p
+    → Begins block o notes c p
+found-begins block notes o c p h m e = record { within = h; is = sym e ∙ m .0; bounds = rw e at (m .1) }
 
 -- ---- blank and plain lines
 
@@ -151,6 +156,16 @@ module _ (block notes : List ℕ) (o : Options) (ready : Ready block notes o) (n
     many = rw words-count (lt-ltb 1024 (length (wordsFor block notes at o p)) (w .0));
     same = w .1;
   }
+
+module _ (block notes : List ℕ) (o : Options) (c : Cursor) (p : ParagraphAt) (ready : Ready block notes o) (b : Begins block o notes c p) where
+  begins-goes : TextGoes (meant block o) (c .mail) notes (c .at) p
+  begins-goes = found-goes block notes o ready (c .mail) (c .at) (Text p) (Text p) (b .within) (b .is, b .bounds) refl
+
+  pub begins-placed : Placed notes (c .at) o p
+  begins-placed = let g = begins-goes in text-placed block notes o ready (c .mail) (c .at) p (g .paragraph-is) (g .goes) (g .text) (g .bounds)
+
+  pub begins-stepped : (out out′ : List ℕ) (r : Step) → TextStepped notes (c .at) o p out (c .written) out′ r block → Stepped (meant block o) notes out c out′ r
+  begins-stepped out out′ r w = let g = begins-goes in text-stepped block notes o ready (c .mail) (c .at) p (g .paragraph-is) (g .goes) (g .text) (g .bounds) out c out′ r refl refl w
 
 -- ---- splitting and breaking
 

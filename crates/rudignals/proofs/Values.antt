@@ -28,11 +28,11 @@ use Rattle.words.specs.Words.{wordsOf}
 use Rattle.output.specs.Emission.{lineFeed}
 use Rattle.rudignals.specs.Answers.{Answer, done, options, long, text, words, room, code, value, numbered}
 use Rattle.rudignals.specs.Format.{mostBytes, outputOf, tooMany, digest, longParagraph, withWords, withText, damageIn, withNotes, withBlock, answer}
-use Rattle.rudignals.specs.Call.{Goes, told, numberOf}
+use Rattle.rudignals.specs.Call.{outputFrom, longFrom, Goes, told, numberOf}
 use Rattle.rudignals.proofs.Meaning.{PieceGoes, piece-goes}
 use Rattle.rudignals.proofs.Bound.{formatted-most}
 use Rattle.rudignals.proofs.Faults.{fault-small}
-use Rattle.rudignals.proofs.Loop.{outputFrom, longFrom, all-output, all-long, output-none, long-none, output-more, long-more, long-here}
+use Rattle.rudignals.proofs.Loop.{all-output, all-long, output-none, long-none, output-more, long-more, long-here}
 
 -- ---- a piece
 

@@ -7,6 +7,7 @@ use Prim.Native.Nat.{ℕ, _+_, _*_, _^_, _≤_, _<_}
 use lib.Ieee.{Float}
 use lib.ListN.{length, drop}
 use lib.Seq.{slice}
+use Rattle.lists.specs.Runs.{joined}
 use Rattle.lists.specs.Walk.{walk}
 use Rattle.text.specs.Characters.{damage}
 use Rattle.text.specs.declared.Found.{Found}
@@ -17,8 +18,10 @@ use Rattle.options.specs.declared.Options.{Options}
 use Rattle.options.specs.declared.Block.the-variants.{Accepted}
 use Rattle.lines.specs.Lines.{linesOf}
 use Rattle.pieces.specs.Pieces.{Piece, Kind, nextPiece, pieces}
-use Rattle.pieces.specs.Bounds.{AllBegin}
+use Rattle.pieces.specs.Places.{pieceAt}
+use Rattle.pieces.specs.Bounds.{AllBegin, Bounded}
 use Rattle.pieces.specs.declared.Paragraph.{Paragraph}
+use Rattle.pieces.specs.declared.Piece.the-variants.{Text as TextAt}
 use Rattle.records.specs.Word.{Word}
 use Rattle.records.specs.Table.{wordsIn}
 use Rattle.records.specs.Marks.{breaksIn}
@@ -26,17 +29,19 @@ use Rattle.words.specs.Places.{wordsAt}
 use Rattle.spacing.specs.declared.Setting.{Setting}
 use Rattle.output.specs.Bound.{most}
 use Rattle.output.specs.Emission.{emit}
-use Rattle.output.specs.Sink.{Wrote}
+use Rattle.output.specs.Sink.{Wrote, Left}
 use Rattle.output.specs.Writers.{marginOf, MarginIn}
 use Rattle.quick.specs.Quick.{quickBreaks}
 use Rattle.knuth_plass.specs.KnuthPlass.{bestBreaks}
 use Rattle.knuth_plass.specs.Table.{tables}
 use Rattle.knuth_plass.specs.Round.{Lent}
 use Rattle.rudignals.specs.Answers.{Answer, done, options, long, text, words, room, outputAfter}
-use Rattle.rudignals.specs.Format.{extentOf, tooMany, outputOf, digest, longParagraph}
+use Rattle.rudignals.specs.Format.{extentOf, tooMany, outputOf, pieceOutput, digest, longParagraph}
 use Rattle.rudignals.specs.declared.Answer.{Answer as Told}
 use Rattle.rudignals.specs.declared.Answer.the-variants.{Done, Options as Refused, Long, Text, Words, Room}
 use Rattle.rudignals.specs.declared.Cursor.{Cursor}
+use Rattle.rudignals.specs.declared.Ahead.{Ahead}
+use Rattle.rudignals.specs.declared.Ahead.the-variants.{Text as AheadText, End}
 use Rattle.rudignals.specs.declared.Step.{Step}
 use Rattle.rudignals.specs.declared.Step.the-variants.{On, Over}
 use Rattle.rudignals.specs.declared.Ended.{Ended}
@@ -75,6 +80,13 @@ damageFor keep notes = elim keep [ true ↦ Nowhere | false ↦ damage notes ]
 -- the pieces from a place on
 unfoldable pub piecesFrom : Opts → Bool → List ℕ → ℕ → List Piece
 piecesFrom o nextMail notes at = walk (nextPiece o) nextMail (linesOf (drop at notes))
+
+-- their output, and the first of them that has too many words
+unfoldable pub outputFrom : Opts → Bool → List ℕ → ℕ → List ℕ
+outputFrom o nextMail notes at = joined (pieceOutput o) (piecesFrom o nextMail notes at)
+
+unfoldable pub longFrom : Opts → Bool → List ℕ → ℕ → Found
+longFrom o nextMail notes at = longParagraph o at (piecesFrom o nextMail notes at)
 
 -- the first of them is of a kind and stands from at up to next; the others stand behind it
 pub record Goes (o : Opts) (nextMail : Bool) (notes : List ℕ) (at : ℕ) (kind : Kind) (state : Bool) (next : ℕ) : Type 0 where
@@ -175,7 +187,33 @@ TextStepped notes at o p out written out′ Over block = (1024 < length (wordsFo
 
 -- ---- the notes
 
--- all pieces were written; or the work stopped at a paragraph of too many words
+-- a place within the notes; no byte of them makes more than 10,000
+pub record Stands (notes : List ℕ) (c : Cursor) : Type 0 where
+  pub within : c .at ≤ length notes
+  pub most : c .written ≤ 10000 * c .at
+
+-- the paragraph that `next_piece` finds at a place
+pub record Begins (block : List ℕ) (o : Options) (notes : List ℕ) (c : Cursor) (p : Paragraph) : Type 0 where
+  pub within : c .at < length notes
+  pub is : TextAt p ≡ pieceAt (meant block o) (c .mail) notes (c .at)
+  pub bounds : Bounded (o .glue) notes (c .at) (TextAt p)
+
+-- what the cursor and the output have come to, from the cursor c₀ and out₀ on
+pub record Going (o : Opts) (notes : List ℕ) (c₀ : Cursor) (out₀ : List ℕ) (c : Cursor) (out : List ℕ) : Type 0 where
+  pub stands : Stands notes c
+  pub left : Left out₀ (c₀ .written) (outputFrom o (c₀ .mail) notes (c₀ .at)) out (c .written) (outputFrom o (c .mail) notes (c .at))
+  pub long : longFrom o (c .mail) notes (c .at) ≡ longFrom o (c₀ .mail) notes (c₀ .at)
+
+-- all pieces from a place on were written; or the work stopped at a paragraph of too many words
+abbrev pub FinishedFrom : Opts → List ℕ → Cursor → List ℕ → List ℕ → Ended → Type 0
+FinishedFrom o notes c out out′ (All n) = (longFrom o (c .mail) notes (c .at) ≡ Nowhere) × Wrote out (c .written) (outputFrom o (c .mail) notes (c .at)) out′ n
+FinishedFrom o notes c out out′ (Stopped place) = (longFrom o (c .mail) notes (c .at) ≡ At place) × (length out′ ≡ length out)
+
+-- the lines from a place on were written, up to a paragraph or to the end
+abbrev pub Reached : List ℕ → Options → List ℕ → Cursor → List ℕ → List ℕ → Ahead → Type 0
+Reached block o notes c₀ out₀ out (AheadText c p) = Going (meant block o) notes c₀ out₀ c out × Begins block o notes c p × (c₀ .at ≤ c .at)
+Reached block o notes c₀ out₀ out (End n) = FinishedFrom (meant block o) notes c₀ out₀ out (All n)
+
 abbrev pub Finished : Opts → List ℕ → List ℕ → List ℕ → Ended → Type 0
 Finished o notes out out′ (All n) = (longParagraph o 0 (pieces o notes) ≡ Nowhere) × Wrote out 0 (digest o notes) out′ n
 Finished o notes out out′ (Stopped place) = (longParagraph o 0 (pieces o notes) ≡ At place) × (length out′ ≡ length out)

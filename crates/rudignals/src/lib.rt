@@ -20,7 +20,7 @@ ghost use Rattle.knuth_plass.specs.Table.{tables};
 ghost use Rattle.knuth_plass.specs.Round.{Limits, Wide, Lent};
 ghost use Rattle.rudignals.specs.Answers.{numbered, outputAfter};
 ghost use Rattle.rudignals.specs.Format.{answer, withNotes, withWords, longParagraph};
-ghost use Rattle.rudignals.specs.Call.{numberOf, damageFor, Answers, Stepped, Scratch, Ready, settingIn, Broken, Placed, TextStepped, Finished};
+ghost use Rattle.rudignals.specs.Call.{numberOf, damageFor, Answers, Stands, Begins, Reached, Scratch, Ready, settingIn, Broken, Placed, TextStepped, Finished, FinishedFrom};
 
 // What the call answers: the digest's length, or a refusal with what is told of it.
 pub enum Answer {
@@ -39,7 +39,13 @@ struct Cursor {
     mail: bool,
 }
 
-// What came of a piece: the work goes on behind it, or it has too many words.
+// What follows the lines behind a place: a paragraph, where the cursor stands, or the end of the notes.
+enum Ahead {
+    Text { c: Cursor, p: Paragraph },
+    End(usize),
+}
+
+// What came of a paragraph: the work goes on behind it, or it has too many words.
 enum Step {
     On(Cursor),
     Over,
@@ -111,27 +117,12 @@ fn damage_in(keep: bool, notes: &[u8]) -> Found
     text::first_damage(notes)
 }
 
-// Formats the notes. All working storage is declared here, and lent from here on.
+// Formats the notes.
 fn format_notes(o: Options, block: &[u8], notes: &[u8], out: &mut [u8]) -> Answer
     requires { ⌜ Ready (now block) (now notes) o ⌝ }
     ensures { λ r. ⌜ Answers (withWords (meant (now (block .entry)) o) (now (notes .entry)) (length (now (out .entry))) (longParagraph (meant (now (block .entry)) o) 0 (pieces (meant (now (block .entry)) o) (now (notes .entry))))) (now (out .entry)) r (now (out .exit)) ⌝ }
 {
-    let mut table = [0u32; 8192];
-    let mut breaks = [0usize; 8192];
-    let mut ratios = [0f32; 1024];
-    let mut active = [0usize; 1024];
-    let mut marks = [false; 1024];
-    match put_all(
-        o,
-        block,
-        notes,
-        out,
-        &mut table,
-        &mut breaks,
-        &mut ratios,
-        &mut active,
-        &mut marks,
-    ) {
+    match put_all(o, block, notes, out) {
         Ended::Stopped(place) => {
             clear(out);
             Answer::Words(place)
@@ -147,10 +138,92 @@ fn format_notes(o: Options, block: &[u8], notes: &[u8], out: &mut [u8]) -> Answe
 }
 
 // Writes what fits of all pieces, and counts what is needed. It goes on when no room is left: too many words, found later, take precedence.
-fn put_all(
+fn put_all(o: Options, block: &[u8], notes: &[u8], out: &mut [u8]) -> Ended
+    requires { ⌜ Ready (now block) (now notes) o ⌝ }
+    ensures { λ r. ⌜ Finished (meant (now (block .entry)) o) (now (notes .entry)) (now (out .entry)) (now (out .exit)) r ⌝ }
+{
+    let start = Cursor {
+        at: 0,
+        written: 0,
+        mail: true,
+    };
+    match put_lines(o, block, notes, start, out) {
+        Ahead::End(needed) => Ended::All(needed),
+        Ahead::Text { c, p } => put_from(o, block, notes, c, p, out),
+    }
+}
+
+// Writes the lines from a place on, blank and plain ones, up to the next paragraph.
+fn put_lines(o: Options, block: &[u8], notes: &[u8], from: Cursor, out: &mut [u8]) -> Ahead
+    requires { ⌜ Ready (now block) (now notes) o × Stands (now notes) from ⌝ }
+    ensures { λ r. ⌜ Reached (now (block .entry)) o (now (notes .entry)) from (now (out .entry)) (now (out .exit)) r ⌝ }
+{
+    let mut c = from;
+    while c.at < notes.len() {
+        let at = c.at;
+        match pieces::next_piece(notes, at, o, block, c.mail) {
+            Piece::Blank { next } => {
+                c = Cursor {
+                    at: next,
+                    written: output::emit_line(notes, at, at, out, c.written),
+                    mail: true,
+                };
+            }
+            Piece::Plain { end, next } => {
+                c = Cursor {
+                    at: next,
+                    written: output::emit_line(notes, at, end, out, c.written),
+                    mail: false,
+                };
+            }
+            Piece::Text(p) => {
+                return Ahead::Text { c, p };
+            }
+        }
+    }
+    Ahead::End(c.written)
+}
+
+// Writes everything from the first paragraph on. All working storage is declared here, and lent from here on: notes without a
+// paragraph do without.
+fn put_from(
     o: Options,
     block: &[u8],
     notes: &[u8],
+    c: Cursor,
+    p: Paragraph,
+    out: &mut [u8],
+) -> Ended
+    requires { ⌜ Ready (now block) (now notes) o × Stands (now notes) c × Begins (now block) o (now notes) c p ⌝ }
+    ensures { λ r. ⌜ FinishedFrom (meant (now (block .entry)) o) (now (notes .entry)) c (now (out .entry)) (now (out .exit)) r ⌝ }
+{
+    let mut table = [0u32; 8192];
+    let mut breaks = [0usize; 8192];
+    let mut ratios = [0f32; 1024];
+    let mut active = [0usize; 1024];
+    let mut marks = [false; 1024];
+    put_texts(
+        o,
+        block,
+        notes,
+        c,
+        p,
+        out,
+        &mut table,
+        &mut breaks,
+        &mut ratios,
+        &mut active,
+        &mut marks,
+    )
+}
+
+// Paragraph by paragraph, each with the lines behind it.
+fn put_texts(
+    o: Options,
+    block: &[u8],
+    notes: &[u8],
+    first: Cursor,
+    head: Paragraph,
     out: &mut [u8],
     table: &mut [u32; 8192],
     breaks: &mut [usize; 8192],
@@ -158,65 +231,15 @@ fn put_all(
     active: &mut [usize; 1024],
     marks: &mut [bool; 1024],
 ) -> Ended
-    requires { ⌜ Ready (now block) (now notes) o × Scratch (now table) (now breaks) (now ratios) (now active) (now marks) ⌝ }
-    ensures { λ r. ⌜ Finished (meant (now (block .entry)) o) (now (notes .entry)) (now (out .entry)) (now (out .exit)) r ⌝ }
+    requires { ⌜ Ready (now block) (now notes) o × Stands (now notes) first × Begins (now block) o (now notes) first head × Scratch (now table) (now breaks) (now ratios) (now active) (now marks) ⌝ }
+    ensures { λ r. ⌜ FinishedFrom (meant (now (block .entry)) o) (now (notes .entry)) first (now (out .entry)) (now (out .exit)) r ⌝ }
 {
-    let mut c = Cursor {
-        at: 0,
-        written: 0,
-        mail: true,
-    };
-    while c.at < notes.len() {
-        let Step::On(d) = put_piece(
-            o,
-            block,
+    let mut c = first;
+    let mut p = head;
+    loop {
+        let Step::On(behind) = put_paragraph(
             notes,
-            c,
-            out,
-            table,
-            breaks,
-            ratios,
-            active,
-            marks,
-        ) else {
-            return Ended::Stopped(c.at);
-        };
-        c = d;
-    }
-    Ended::All(c.written)
-}
-
-// Writes the piece that begins where the cursor stands.
-fn put_piece(
-    o: Options,
-    block: &[u8],
-    notes: &[u8],
-    c: Cursor,
-    out: &mut [u8],
-    table: &mut [u32; 8192],
-    breaks: &mut [usize; 8192],
-    ratios: &mut [f32; 1024],
-    active: &mut [usize; 1024],
-    marks: &mut [bool; 1024],
-) -> Step
-    requires { ⌜ Ready (now block) (now notes) o × Scratch (now table) (now breaks) (now ratios) (now active) (now marks) × (c .at < length (now notes)) × (c .written < 2 ^ 62) ⌝ }
-    ensures { λ r. ⌜ Stepped (meant (now (block .entry)) o) (now (notes .entry)) (now (out .entry)) c (now (out .exit)) r × Scratch (now (table .exit)) (now (breaks .exit)) (now (ratios .exit)) (now (active .exit)) (now (marks .exit)) ⌝ }
-{
-    let at = c.at;
-    match pieces::next_piece(notes, at, o, block, c.mail) {
-        Piece::Blank { next } => Step::On(Cursor {
-            at: next,
-            written: output::emit_line(notes, at, at, out, c.written),
-            mail: true,
-        }),
-        Piece::Plain { end, next } => Step::On(Cursor {
-            at: next,
-            written: output::emit_line(notes, at, end, out, c.written),
-            mail: false,
-        }),
-        Piece::Text(p) => put_paragraph(
-            notes,
-            at,
+            c.at,
             o,
             p,
             out,
@@ -226,7 +249,18 @@ fn put_piece(
             ratios,
             active,
             marks,
-        ),
+        ) else {
+            return Ended::Stopped(c.at);
+        };
+        match put_lines(o, block, notes, behind, out) {
+            Ahead::End(needed) => {
+                return Ended::All(needed);
+            }
+            Ahead::Text { c: d, p: q } => {
+                c = d;
+                p = q;
+            }
+        }
     }
 }
 

@@ -1,12 +1,11 @@
 -- `rudignals::format_notes` meets its contract.
-use mathlib.Core.Path.{refl}
 use borrow.Author.Needs.{needs}
 use Rattle.rudignals.proofs.Replies.{words-answer, done-answer, room-answer}
 use Rattle.rudignals.proofs.format_notes.Statement.{statement}
 use Rattle.rudignals.proofs.format_notes.Tie as tie
 
 put-all-requires : tie.Need-put-all-requires
-put-all-requires c κs = (c .before .before .before .before .before .before .before .before .before .pre, record { sized = refl; lent = record { tables = record { numbers = refl; ratios = refl }; active = refl; all = refl } })
+put-all-requires c κs = search needs
 
 enum-known-place : tie.Need-enum-known-place
 enum-known-place c = search needs

@@ -1,0 +1,109 @@
+-- `rudignals::put_texts` meets its contract. Invariant: what is left of the work from the first paragraph on, the paragraph ahead, and the
+-- storage.
+use Prim.Native.Nat.{_-_}
+use native.Mathlib.Omega.{arith}
+use borrow.Author.Needs.{needs}
+use denote.Ref.{now}
+use lib.ListN.{length}
+use Rattle.output.proofs.Sink.{wrote-length}
+use Rattle.options.specs.Opts.{meant}
+use Rattle.rudignals.specs.Call.{Going, Begins, Scratch}
+use Rattle.rudignals.specs.declared.Ended.the-variants.{All}
+use Rattle.rudignals.proofs.Loop.{going-first, going-length, going-on, going-further, going-finished, going-over, stepped-on, stepped-over, reached-text, reached-end}
+use Rattle.rudignals.proofs.Steps.{begins-placed, begins-stepped}
+use Rattle.rudignals.proofs.put_texts.Statement.{statement}
+use Rattle.rudignals.proofs.put_texts.Tie as tie
+
+abbrev Inv-loop : tie.InvT-loop
+Inv-loop o block notes out₀ table₀ breaks₀ ratios₀ active₀ marks₀ first head out table breaks ratios active marks c p =
+    Going (meant block o) notes first out₀ c out × Begins block o notes c p × Scratch table breaks ratios active marks
+
+abbrev μ-loop : tie.MeasureT-loop
+μ-loop o block notes out₀ table₀ breaks₀ ratios₀ active₀ marks₀ first head out table breaks ratios active marks c p = length notes - c .at
+
+loop-holds : tie.Need-loop-holds Inv-loop μ-loop
+loop-holds c =
+    let p = c .before .before .before .pre in
+    (going-first _ _ _ _ (p .1), p .2, p .3)
+
+put-paragraph-requires : tie.Need-put-paragraph-requires Inv-loop μ-loop
+put-paragraph-requires c κs =
+    let p = c .before .before .before .before .before .before .before .before .before .before .pre in
+    let i = c .before .before .before .before .before .before .loop .inv in
+    (begins-placed _ _ _ _ _ (p .0) (i .1), i .2, omega (arith, p .0 .short, i .0 .stands .most, i .0 .stands .within))
+
+enum-known-behind : tie.Need-enum-known-behind Inv-loop μ-loop
+enum-known-behind c = search needs
+
+enum-told : tie.Need-enum-told Inv-loop μ-loop
+enum-told c = search needs
+
+same-length : tie.Need-same-length Inv-loop μ-loop
+same-length c =
+    let i = c .before .before .before .before .before .before .before .before .before .before .before .loop .inv in
+    let t = stepped-over (begins-stepped _ _ _ _ _ (c .before .before .before .before .before .before .before .before .before .before .before .before .before .before .before .pre .0) (i .1) _ _ (c .before .before .before .before .put-paragraph .result) (c .before .before .before .before .put-paragraph .ensures .0 (now (c .before .before .before .before .before .before .before .before .before .before .before .before .before .before .before .args .block)))) (c .enum-told .given .1) in
+    going-over _ _ (i .0) t .1
+
+returns : tie.Need-returns Inv-loop μ-loop
+returns c =
+    let i = c .before .before .before .before .before .before .before .before .before .before .before .loop .inv in
+    let t = stepped-over (begins-stepped _ _ _ _ _ (c .before .before .before .before .before .before .before .before .before .before .before .before .before .before .before .pre .0) (i .1) _ _ (c .before .before .before .before .put-paragraph .result) (c .before .before .before .before .put-paragraph .ensures .0 (now (c .before .before .before .before .before .before .before .before .before .before .before .before .before .before .before .args .block)))) (c .enum-told .given .1) in
+    going-over _ _ (i .0) t
+
+put-lines-requires : tie.Need-put-lines-requires Inv-loop μ-loop
+put-lines-requires c κs =
+    let i = c .before .before .before .before .before .before .before .before .before .before .before .before .before .loop .inv in
+    let s = stepped-on (begins-stepped _ _ _ _ _ (c .before .before .before .before .before .before .before .before .before .before .before .before .before .before .before .before .before .pre .0) (i .1) _ _ (c .before .before .before .before .before .before .put-paragraph .result) (c .before .before .before .before .before .before .put-paragraph .ensures .0 (now (c .before .before .before .before .before .before .before .before .before .before .before .before .before .before .before .before .before .args .block)))) (c .before .before .behind .given .1) in
+    (c .before .before .before .before .before .before .before .before .before .before .before .before .before .before .before .before .before .pre .0, going-on _ _ (i .0) s .stands)
+
+enum-known-needed : tie.Need-enum-known-needed Inv-loop μ-loop
+enum-known-needed c = search needs
+
+same-length-2 : tie.Need-same-length-2 Inv-loop μ-loop
+same-length-2 c =
+    let i = c .before .before .before .before .before .before .before .before .before .before .before .before .before .before .before .before .before .before .before .loop .inv in
+    let s = stepped-on (begins-stepped _ _ _ _ _ (c .before .before .before .before .before .before .before .before .before .before .before .before .before .before .before .before .before .before .before .before .before .before .before .pre .0) (i .1) _ _ (c .before .before .before .before .before .before .before .before .before .before .before .before .put-paragraph .result) (c .before .before .before .before .before .before .before .before .before .before .before .before .put-paragraph .ensures .0 (now (c .before .before .before .before .before .before .before .before .before .before .before .before .before .before .before .before .before .before .before .before .before .before .before .args .block)))) (c .before .before .before .before .before .before .before .before .behind .given .1) in
+    wrote-length (going-finished _ _ (going-on _ _ (i .0) s) _ (All _) (reached-end _ _ _ _ _ _ (c .before .before .before .before .before .put-lines .result) (c .before .before .before .before .before .put-lines .ensures) (c .before .needed .given .1)) .1)
+
+returns-2 : tie.Need-returns-2 Inv-loop μ-loop
+returns-2 c =
+    let i = c .before .before .before .before .before .before .before .before .before .before .before .before .before .before .before .before .before .before .before .loop .inv in
+    let s = stepped-on (begins-stepped _ _ _ _ _ (c .before .before .before .before .before .before .before .before .before .before .before .before .before .before .before .before .before .before .before .before .before .before .before .pre .0) (i .1) _ _ (c .before .before .before .before .before .before .before .before .before .before .before .before .put-paragraph .result) (c .before .before .before .before .before .before .before .before .before .before .before .before .put-paragraph .ensures .0 (now (c .before .before .before .before .before .before .before .before .before .before .before .before .before .before .before .before .before .before .before .before .before .before .before .args .block)))) (c .before .before .before .before .before .before .before .before .behind .given .1) in
+    going-finished _ _ (going-on _ _ (i .0) s) _ (All _) (reached-end _ _ _ _ _ _ (c .before .before .before .before .before .put-lines .result) (c .before .before .before .before .before .put-lines .ensures) (c .before .needed .given .1))
+
+enum-known-d : tie.Need-enum-known-d Inv-loop μ-loop
+enum-known-d c = search needs
+
+loop-less : tie.Need-loop-less Inv-loop μ-loop
+loop-less c =
+    let i = c .before .before .before .before .before .before .before .before .before .before .before .before .before .before .before .before .before .before .before .loop .inv in
+    let s = stepped-on (begins-stepped _ _ _ _ _ (c .before .before .before .before .before .before .before .before .before .before .before .before .before .before .before .before .before .before .before .before .before .before .before .pre .0) (i .1) _ _ (c .before .before .before .before .before .before .before .before .before .before .before .before .put-paragraph .result) (c .before .before .before .before .before .before .before .before .before .before .before .before .put-paragraph .ensures .0 (now (c .before .before .before .before .before .before .before .before .before .before .before .before .before .before .before .before .before .before .before .before .before .before .before .args .block)))) (c .before .before .before .before .before .before .before .before .behind .given .1) in
+    let t = reached-text _ _ _ _ _ _ (c .before .before .before .before .before .put-lines .result) (c .before .before .before .before .before .put-lines .ensures) (c .before .d .given .1) in
+    omega (arith, s .goes .on, t .2, t .0 .stands .within)
+
+loop-again : tie.Need-loop-again Inv-loop μ-loop
+loop-again c =
+    let i = c .before .before .before .before .before .before .before .before .before .before .before .before .before .before .before .before .before .before .before .loop .inv in
+    let s = stepped-on (begins-stepped _ _ _ _ _ (c .before .before .before .before .before .before .before .before .before .before .before .before .before .before .before .before .before .before .before .before .before .before .before .pre .0) (i .1) _ _ (c .before .before .before .before .before .before .before .before .before .before .before .before .put-paragraph .result) (c .before .before .before .before .before .before .before .before .before .before .before .before .put-paragraph .ensures .0 (now (c .before .before .before .before .before .before .before .before .before .before .before .before .before .before .before .before .before .before .before .before .before .before .before .args .block)))) (c .before .before .before .before .before .before .before .before .behind .given .1) in
+    let t = reached-text _ _ _ _ _ _ (c .before .before .before .before .before .put-lines .result) (c .before .before .before .before .before .put-lines .ensures) (c .before .d .given .1) in
+    (going-further _ _ (going-on _ _ (i .0) s) (t .0), t .1, c .before .before .before .before .before .before .before .before .before .before .before .before .put-paragraph .ensures .1)
+
+pub put-texts-spec : {M : Type 1} → statement M
+put-texts-spec =
+    tie.close
+    (tie.spec
+    Inv-loop
+    μ-loop
+    loop-holds
+    put-paragraph-requires
+    enum-known-behind
+    enum-told
+    same-length
+    returns
+    put-lines-requires
+    enum-known-needed
+    same-length-2
+    returns-2
+    enum-known-d
+    loop-less
+    loop-again)
