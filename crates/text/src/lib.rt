@@ -5,7 +5,7 @@ ghost use Prim.Native.Nat.{_+_, _-_, _≤_, _<_, _^_};
 ghost use lib.ListN.{length, getD, drop};
 ghost use Rattle.text.specs.Rfc3629.{decode};
 ghost use Rattle.text.specs.Characters.{accepted, character, blankCode, widthOf, glyph, damage};
-ghost use Rattle.text.specs.Places.{readAs, seenAs, letterAt, Ascii};
+ghost use Rattle.text.specs.Places.{readAs, seenAs, letterAt, Pair, Ascii};
 
 // A place, or none.
 pub enum Found {
@@ -220,19 +220,38 @@ pub fn is_letter(s: &[u8], at: usize) -> bool
     s[next] / 64 == 2
 }
 
-// The first place at which no accepted character begins.
+// Whether an accepted character of two bytes stands at a place, U+0080 to U+02FF: each of them but the soft hyphen.
+fn is_pair(s: &[u8], at: usize) -> bool
+    requires { ⌜ at < length (now s) ⌝ }
+    ensures { λ r. ⌜ (r ≡ true → Pair (now (s .entry)) at) ⌝ }
+{
+    let next = at + 1;
+    if s.len() <= next {
+        return false;
+    }
+    let a = s[at];
+    let b = s[next];
+    if a == 0xC2 {
+        return (b / 64 == 2) & (b != 0xAD);
+    }
+    (0xC3 <= a) & (a <= 0xCB) & (b / 64 == 2)
+}
+
+// The first place at which no accepted character begins. Most are of one or two bytes; what else there is, is read in full.
 pub fn first_damage(s: &[u8]) -> Found
     ensures { λ r. ⌜ r ≡ damage (now (s .entry)) ⌝ }
 {
-    let mut i = ascii_end(s, 0);
+    let mut i = 0;
     while i < s.len() {
-        if is_letter(s, i) {
+        if s[i] < 0x80 {
+            i = ascii_end(s, i + 1);
+        } else if is_pair(s, i) {
             i += 2;
         } else {
             let Char::Good { code: _, next } = char_at(s, i) else {
                 return Found::At(i);
             };
-            i = ascii_end(s, next);
+            i = next;
         }
     }
     Found::Nowhere

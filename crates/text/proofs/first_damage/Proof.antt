@@ -8,9 +8,9 @@ use native.Mathlib.Omega.{arith}
 use lib.ListN.{length, drop}
 use Rattle.text.specs.Characters.{blankCode, damage}
 use Rattle.text.proofs.Glyphs.{Here, char-here, char-damaged-here}
-use Rattle.text.proofs.Letters.{Letter, letter-is, letter-here}
+use Rattle.text.proofs.Letters.{pair-here}
 use Rattle.text.proofs.Damage.{later, later-zero, damage-past, damage-here, damage-on}
-use Rattle.text.proofs.Asciis.{damage-run}
+use Rattle.text.proofs.Asciis.{ascii-one, ascii-more, damage-run}
 use Rattle.text.proofs.first_damage.Statement.{statement}
 use Rattle.text.proofs.first_damage.Tie as tie
 
@@ -20,27 +20,40 @@ Inv-loop s i₀ i = (i ≤ length s) × (later i (damage (drop i s)) ≡ damage 
 abbrev μ-loop : tie.MeasureT-loop
 μ-loop s i₀ i = length s - i
 
+loop-holds : tie.Need-loop-holds Inv-loop μ-loop
+loop-holds c = (omega arith, later-zero _)
+
+shared-slice-read-if1 : tie.Need-shared-slice-read-if1 Inv-loop μ-loop
+shared-slice-read-if1 c = search needs
+
+add-ascii-end : tie.Need-add-ascii-end Inv-loop μ-loop
+add-ascii-end c = search needs
+
 ascii-end-requires : tie.Need-ascii-end-requires Inv-loop μ-loop
 ascii-end-requires c κs = search needs
 
-loop-holds : tie.Need-loop-holds Inv-loop μ-loop
-loop-holds c = let a = c .ascii-end .ensures in (a .within, sym (damage-run _ _ _ a) ∙ later-zero _)
-
-is-letter-requires : tie.Need-is-letter-requires Inv-loop μ-loop
-is-letter-requires c κs = search needs
-
--- a letter of two bytes
-letter : (c : tie.Then1 Inv-loop μ-loop) → Letter (now (c .before .before .before .before .before .before .args .s)) (c .before .before .before .loop .i)
-letter c = letter-is _ _ (sym (c .before .is-letter .ensures) ∙ c .if1 .taken)
-
-add-i : tie.Need-add-i Inv-loop μ-loop
-add-i c = let l = letter c in search needs
-
 loop-less : tie.Need-loop-less Inv-loop μ-loop
-loop-less c = omega (arith, letter c .within)
+loop-less c = omega (arith, c .ascii-end .ensures .on, c .before .before .before .loop-test .taken)
 
 loop-again : tie.Need-loop-again Inv-loop μ-loop
-loop-again c = let h = letter-here _ _ (letter c) false in (h .within, sym (damage-on _ _ h) ∙ c .before .before .before .loop .inv .1)
+loop-again c =
+    let l = c .before .before .before .before .loop in
+    let a = ascii-more (ascii-one (c .before .before .before .loop-test .taken) (c .before .if1 .taken)) (c .ascii-end .ensures) in
+    (a .within, sym (damage-run _ _ _ a) ∙ l .inv .1)
+
+is-pair-requires : tie.Need-is-pair-requires Inv-loop μ-loop
+is-pair-requires c κs = search needs
+
+add-i : tie.Need-add-i Inv-loop μ-loop
+add-i c = let p = c .before .is-pair .ensures (c .if2 .taken) in search needs
+
+loop-less-2 : tie.Need-loop-less-2 Inv-loop μ-loop
+loop-less-2 c = omega (arith, c .before .is-pair .ensures (c .if2 .taken) .within)
+
+loop-again-2 : tie.Need-loop-again-2 Inv-loop μ-loop
+loop-again-2 c =
+    let h = pair-here _ _ (c .before .is-pair .ensures (c .if2 .taken)) false in
+    (h .within, sym (damage-on _ _ h) ∙ c .before .before .before .before .before .loop .inv .1)
 
 char-at-requires : tie.Need-char-at-requires Inv-loop μ-loop
 char-at-requires c κs = search needs
@@ -53,28 +66,23 @@ enum-told c = search needs
 
 returns : tie.Need-returns Inv-loop μ-loop
 returns c =
-    let l = c .before .before .before .before .before .before in
-    sym (damage-here (now (c .before .before .before .before .before .before .before .before .before .args .s)) (l .loop .i) (char-damaged-here false _ _ (c .before .before .before .before .before .loop-test .taken) (sym (c .before .before .char-at .ensures) ∙ c .enum-told .given .1))) ∙ l .loop .inv .1
+    let l = c .before .before .before .before .before .before .before .before in
+    sym (damage-here (now (c .before .before .before .before .before .before .before .before .before .before .args .s)) (l .loop .i) (char-damaged-here false _ _ (c .before .before .before .before .before .before .before .loop-test .taken) (sym (c .before .before .char-at .ensures) ∙ c .enum-told .given .1))) ∙ l .loop .inv .1
 
 -- the character that the turn reads
-read : (c : tie.After-next Inv-loop μ-loop)
-    → Here false (blankCode false (c .next .given .0 .0)) (now (c .before .before .before .before .before .before .before .before .before .args .s)) (c .before .before .before .before .before .before .loop .i) (c .next .given .0 .0) (c .next .given .0 .1 .0)
-read c = char-here false _ _ _ _ (sym (c .before .before .char-at .ensures) ∙ c .next .given .1)
+read : (c : tie.After-known-told Inv-loop μ-loop) → Here false (blankCode false (c .before .next .given .0 .0)) (now (c .before .before .before .before .before .before .before .before .before .before .before .args .s)) (c .before .before .before .before .before .before .before .before .before .loop .i) (c .before .next .given .0 .0) (c .before .next .given .0 .1 .0)
+read c = char-here false _ _ _ _ (sym (c .before .before .before .char-at .ensures) ∙ c .before .next .given .1)
 
-ascii-end-requires-2 : tie.Need-ascii-end-requires-2 Inv-loop μ-loop
-ascii-end-requires-2 c κs = read (c .before) .within
+loop-less-3 : tie.Need-loop-less-3 Inv-loop μ-loop
+loop-less-3 c = let r = read c in omega (arith, r .within, r .on)
 
-loop-less-2 : tie.Need-loop-less-2 Inv-loop μ-loop
-loop-less-2 c = let r = read (c .before .before) in omega (arith, c .ascii-end2 .ensures .on)
-
-loop-again-2 : tie.Need-loop-again-2 Inv-loop μ-loop
-loop-again-2 c =
-    let l = c .before .before .before .before .before .before .before .before .loop in
-    let a = c .ascii-end2 .ensures in
-    (a .within, sym (damage-run _ _ _ a) ∙ sym (damage-on (now (c .before .before .before .before .before .before .before .before .before .before .before .args .s)) (l .i) (read (c .before .before))) ∙ l .inv .1)
+loop-again-3 : tie.Need-loop-again-3 Inv-loop μ-loop
+loop-again-3 c =
+    let r = read c in
+    (r .within, sym (damage-on _ _ r) ∙ c .before .before .before .before .before .before .before .before .before .loop .inv .1)
 
 returns-2 : tie.Need-returns-2 Inv-loop μ-loop
-returns-2 c = sym (damage-past (now (c .before .before .before .before .args .s)) (c .before .loop .i) (c .loop-test .left)) ∙ c .before .loop .inv .1
+returns-2 c = sym (damage-past (now (c .before .before .before .args .s)) (c .before .loop .i) (c .loop-test .left)) ∙ c .before .loop .inv .1
 
 pub first-damage-spec : {M : Type 1} → statement M
 first-damage-spec =
@@ -82,17 +90,20 @@ first-damage-spec =
     (tie.spec
     Inv-loop
     μ-loop
-    ascii-end-requires
     loop-holds
-    is-letter-requires
-    add-i
+    shared-slice-read-if1
+    add-ascii-end
+    ascii-end-requires
     loop-less
     loop-again
+    is-pair-requires
+    add-i
+    loop-less-2
+    loop-again-2
     char-at-requires
     enum-known-next
     enum-told
     returns
-    ascii-end-requires-2
-    loop-less-2
-    loop-again-2
+    loop-less-3
+    loop-again-3
     returns-2)
