@@ -1,51 +1,16 @@
--- The laws of copying: a byte more, eight bytes more, a space more, the last bytes once again, and a text that is clipped to the room there is.
+-- The laws of copying: a byte or a block more, which may begin among the bytes that are written already; a space more; and a text that is
+-- clipped to the room there is.
 use mathlib.Core.Path.{_≡_, refl, sym, ap, _∙_}
 use mathlib.Core.List.{List, [], _∷_, _++_}
 use Prim.Native.Nat.{ℕ, zero, suc, min, _+_, _-_, _≤_, _<_}
 use native.Mathlib.Nat.{suc-min-suc}
-use native.Mathlib.Numerals.{add-one}
 use native.Mathlib.Omega.{arith}
 use lib.ListN.{length, getD, take, drop, set, replicate, length-take, length-drop, length-replicate, getD-replicate}
-use lib.Seq.{slice, length-slice, take-nil, take-suc, take-all, take-take}
+use lib.Seq.{slice, length-slice, take-nil, take-all, take-take}
 use Rattle.lists.proofs.Fronts.{part-to-end}
-use Rattle.lists.proofs.Joins.{slice-join}
-use Rattle.lists.proofs.Slices.{slice-is}
+use Rattle.lists.proofs.Slices.{slice-is, slice-one}
 use Rattle.output.specs.Sink.{paint, written, Wrote}
-use Rattle.output.proofs.Sink.{written-nil, wrote-byte, wrote-then, wrote-length, wrote-part}
-
--- ---- from the front on
-
-pub copied-byte : {o o′ : List ℕ} (text : List ℕ) (n : ℕ) → n < length text → n < length o → Wrote o 0 (take n text) o′ n → Wrote o 0 (take (n + 1) text) (set o′ n (getD text n 0)) (n + 1)
-copied-byte {o} {o′} text n h k w =
-    let e : take (n + 1) text ≡ take n text ++ (getD text n 0 ∷ []) = rw add-one (take-suc text n 0 h) in
-    rw e (wrote-then w (wrote-byte o′ n (getD text n 0) (omega (arith, wrote-length w))))
-
-pub copied-all : {o o′ : List ℕ} (text : List ℕ) (n : ℕ) → n ≤ length text → length text ≤ n → Wrote o 0 (take n text) o′ n → Wrote o 0 text o′ (length text)
-copied-all text n h k w =
-    let e : n ≡ length text = omega arith in
-    rw (e, take-all (length text) text (omega arith)) at w
-
--- a part from place k on has eight bytes
-pub eight-from : (k : ℕ) (xs : List ℕ) → k + 8 ≤ length xs → 8 ≤ length (take (length xs - k) (drop k xs))
-eight-from k xs h = rw (part-to-end k xs, length-drop k xs) (omega arith)
-
--- a part of the room, lent from place k on, has come home with eight bytes of the text from there
-home : (text o ys : List ℕ) (k : ℕ) → k ≤ length o → Wrote (take (length o - k) (drop k o)) 0 (take 8 (take (length text - k) (drop k text))) ys 8
-    → Wrote o k (take 8 (drop k text)) (take k o ++ (ys ++ drop (length o - k) (drop k o))) (k + 8)
-home text o ys k h w = wrote-part o k k (take 8 (drop k text)) ys 8 (omega arith) (rw (part-to-end k text) at w)
-
-pub copied-eight : {o o′ : List ℕ} (text ys : List ℕ) (k : ℕ) → k + 8 ≤ length text → length text ≤ length o → Wrote o 0 (take k text) o′ k
-    → Wrote (take (length o′ - k) (drop k o′)) 0 (take 8 (take (length text - k) (drop k text))) ys 8
-    → Wrote o 0 (take (k + 8) text) (take k o′ ++ (ys ++ drop (length o′ - k) (drop k o′))) (k + 8)
-copied-eight {o} {o′} text ys k h l w q =
-    let e : take k text ++ slice k (k + 8) text ≡ take (k + 8) text = slice-join 0 k (k + 8) text (omega arith) (omega arith) h in
-    rw (← e, slice-is k 8 text) (wrote-then w (home text o′ ys k (omega (arith, wrote-length w)) q))
-
--- ---- spaces
-
-pub copied-space : {o o′ : List ℕ} (count n : ℕ) → n < count → n < length o → Wrote o 0 (take n (replicate count 32)) o′ n
-    → Wrote o 0 (take (n + 1) (replicate count 32)) (set o′ n 32) (n + 1)
-copied-space count n h k w = rw (getD-replicate {A = ℕ} count n 32 0 h) at (copied-byte (replicate count 32) n (rw (length-replicate {A = ℕ} count 32) h) k w)
+use Rattle.output.proofs.Sink.{written-nil, wrote-byte, wrote-length, wrote-part}
 
 -- ---- over what is written already
 
@@ -64,15 +29,55 @@ over (suc j) (suc k) d [] h = refl
 over (suc j) (suc k) [] (x ∷ o) h = written-nil (suc j) (x ∷ o)
 over (suc j) (suc k) (y ∷ d) (x ∷ o) h = ap (λ (l : List ℕ). y ∷ l) (over j k d o (omega arith))
 
--- the last eight bytes, of which some may be written already
-pub copied-last : {o o′ : List ℕ} (text ys : List ℕ) (j k : ℕ) → j + 8 ≡ length text → j ≤ k → length text ≤ length o → Wrote o 0 (take k text) o′ k
-    → Wrote (take (length o′ - j) (drop j o′)) 0 (take 8 (take (length text - j) (drop j text))) ys 8
-    → Wrote o 0 text (take j o′ ++ (ys ++ drop (length o′ - j) (drop j o′))) (length text)
+-- the text up to place k is written, and then a piece of it from place j on, which begins there or before and reaches at least as far
+pub covered : {o o′ o″ : List ℕ} (text : List ℕ) (j k m : ℕ) → j ≤ k → k ≤ j + m → j + m ≤ length text → Wrote o 0 (take k text) o′ k
+    → Wrote o′ j (slice j (j + m) text) o″ (j + m) → Wrote o 0 (take (j + m) text) o″ (j + m)
 unfolding written
-copied-last {o} {o′} text ys j k e h l w q =
-    let v = home text o′ ys j (omega (arith, wrote-length w)) q in
-    let t : take 8 (drop j text) ≡ drop j text = take-all 8 (drop j text) (simp length-drop (omega arith)) in
-    record { count = omega arith; bytes = v .bytes ∙ rw (t, w .bytes) (over j k text o h) }
+covered {o} text j k m h l t w v =
+    record { count = simp length-take (omega arith); bytes = v .bytes ∙ rw (w .bytes, ← take-take k (j + m) text l) (over j k (take (j + m) text) o h) }
+
+-- ---- a byte, and a block of bytes
+
+pub byte-over : {o o′ : List ℕ} (text : List ℕ) (j k : ℕ) → j ≤ k → k ≤ j + 1 → j < length text → j < length o → Wrote o 0 (take k text) o′ k
+    → Wrote o 0 (take (j + 1) text) (set o′ j (getD text j 0)) (j + 1)
+byte-over {o} {o′} text j k h l t r w = covered text j k 1 h l (omega arith) w (rw (slice-one 0 text j t) (wrote-byte o′ j (getD text j 0) (omega (arith, wrote-length w))))
+
+pub copied-byte : {o o′ : List ℕ} (text : List ℕ) (n : ℕ) → n < length text → n < length o → Wrote o 0 (take n text) o′ n → Wrote o 0 (take (n + 1) text) (set o′ n (getD text n 0)) (n + 1)
+copied-byte text n h k w = byte-over text n n (omega arith) (omega arith) h k w
+
+-- a part from place j on has so many bytes
+pub block-from : (j m : ℕ) (xs : List ℕ) → j + m ≤ length xs → m ≤ length (take (length xs - j) (drop j xs))
+block-from j m xs h = rw (part-to-end j xs, length-drop j xs) (omega arith)
+
+-- a part of the room, lent from place j on, has come home with a block of the text from there
+pub block-home : (text o ys : List ℕ) (j m : ℕ) → j ≤ length o → Wrote (take (length o - j) (drop j o)) 0 (take m (take (length text - j) (drop j text))) ys m
+    → Wrote o j (slice j (j + m) text) (take j o ++ (ys ++ drop (length o - j) (drop j o))) (j + m)
+block-home text o ys j m h q = wrote-part o j j (slice j (j + m) text) ys m (omega arith) (rw (slice-is j m text) (rw (part-to-end j text) at q))
+
+pub block-over : {o o′ : List ℕ} (text ys : List ℕ) (j k m : ℕ) → j ≤ k → k ≤ j + m → j + m ≤ length text → j ≤ length o → Wrote o 0 (take k text) o′ k
+    → Wrote (take (length o′ - j) (drop j o′)) 0 (take m (take (length text - j) (drop j text))) ys m
+    → Wrote o 0 (take (j + m) text) (take j o′ ++ (ys ++ drop (length o′ - j) (drop j o′))) (j + m)
+block-over {o} {o′} text ys j k m h l t r w q = covered text j k m h l t w (block-home text o′ ys j m (omega (arith, wrote-length w)) q)
+
+-- so the whole text is written
+pub copied-all : {o o′ : List ℕ} (text : List ℕ) (n : ℕ) → n ≤ length text → length text ≤ n → Wrote o 0 (take n text) o′ n → Wrote o 0 text o′ (length text)
+copied-all text n h k w =
+    let e : n ≡ length text = omega arith in
+    rw (e, take-all (length text) text (omega arith)) at w
+
+-- the block that ends with the text, of which some may be written already
+pub block-last : {o o′ : List ℕ} (text ys : List ℕ) (k m : ℕ) → m ≤ length text → length text - m ≤ k → k ≤ length text → length text ≤ length o
+    → Wrote o 0 (take k text) o′ k
+    → Wrote (take (length o′ - (length text - m)) (drop (length text - m) o′)) 0 (take m (take (length text - (length text - m)) (drop (length text - m) text))) ys m
+    → Wrote o 0 text (take (length text - m) o′ ++ (ys ++ drop (length o′ - (length text - m)) (drop (length text - m) o′))) (length text)
+block-last text ys k m h l t r w q =
+    copied-all text (length text - m + m) (omega arith) (omega arith) (block-over text ys (length text - m) k m l (omega arith) (omega arith) (omega arith) w q)
+
+-- ---- spaces
+
+pub copied-space : {o o′ : List ℕ} (count n : ℕ) → n < count → n < length o → Wrote o 0 (take n (replicate count 32)) o′ n
+    → Wrote o 0 (take (n + 1) (replicate count 32)) (set o′ n 32) (n + 1)
+copied-space count n h k w = rw (getD-replicate {A = ℕ} count n 32 0 h) at (copied-byte (replicate count 32) n (rw (length-replicate {A = ℕ} count 32) h) k w)
 
 -- ---- as far as there is room
 

@@ -34,10 +34,25 @@ fn lesser(a: usize, b: usize) -> usize
     b
 }
 
-// The first eight bytes of a text, all read before the first is stored, so that they move as one.
-fn copy_eight(text: &[u8], rest: &mut [u8])
-    requires { ⌜ (8 ≤ length (now text)) × (8 ≤ length (now rest)) ⌝ }
-    ensures { λ _. ⌜ Wrote (now (rest .entry)) 0 (take 8 (now (text .entry))) (now (rest .exit)) 8 ⌝ }
+// The first four bytes of a text, all read before the first is stored, so that they move as one.
+fn copy_four(text: &[u8], rest: &mut [u8])
+    requires { ⌜ (4 ≤ length (now text)) × (4 ≤ length (now rest)) ⌝ }
+    ensures { λ _. ⌜ Wrote (now (rest .entry)) 0 (take 4 (now (text .entry))) (now (rest .exit)) 4 ⌝ }
+{
+    let b0 = text[0];
+    let b1 = text[1];
+    let b2 = text[2];
+    let b3 = text[3];
+    rest[0] = b0;
+    rest[1] = b1;
+    rest[2] = b2;
+    rest[3] = b3;
+}
+
+// The first sixteen bytes, likewise.
+fn copy_sixteen(text: &[u8], rest: &mut [u8])
+    requires { ⌜ (16 ≤ length (now text)) × (16 ≤ length (now rest)) ⌝ }
+    ensures { λ _. ⌜ Wrote (now (rest .entry)) 0 (take 16 (now (text .entry))) (now (rest .exit)) 16 ⌝ }
 {
     let b0 = text[0];
     let b1 = text[1];
@@ -47,6 +62,14 @@ fn copy_eight(text: &[u8], rest: &mut [u8])
     let b5 = text[5];
     let b6 = text[6];
     let b7 = text[7];
+    let b8 = text[8];
+    let b9 = text[9];
+    let b10 = text[10];
+    let b11 = text[11];
+    let b12 = text[12];
+    let b13 = text[13];
+    let b14 = text[14];
+    let b15 = text[15];
     rest[0] = b0;
     rest[1] = b1;
     rest[2] = b2;
@@ -55,31 +78,66 @@ fn copy_eight(text: &[u8], rest: &mut [u8])
     rest[5] = b5;
     rest[6] = b6;
     rest[7] = b7;
+    rest[8] = b8;
+    rest[9] = b9;
+    rest[10] = b10;
+    rest[11] = b11;
+    rest[12] = b12;
+    rest[13] = b13;
+    rest[14] = b14;
+    rest[15] = b15;
 }
 
-// A text of eight bytes or more. The last eight may be partly written already; they are the same bytes.
-fn copy_long(text: &[u8], rest: &mut [u8])
-    requires { ⌜ (8 ≤ length (now text)) × (length (now text) ≤ length (now rest)) ⌝ }
+// A text of at most three bytes: its first, middle and last byte, which of a shorter one are partly the same.
+fn copy_few(text: &[u8], rest: &mut [u8])
+    requires { ⌜ (length (now text) ≤ 3) × (length (now text) ≤ length (now rest)) ⌝ }
     ensures { λ _. ⌜ Wrote (now (rest .entry)) 0 (now (text .entry)) (now (rest .exit)) (length (now (text .entry))) ⌝ }
 {
-    let last = text.len() - 8;
+    if text.len() == 0 {
+        return;
+    }
+    let middle = text.len() / 2;
+    let last = text.len() - 1;
+    rest[0] = text[0];
+    rest[middle] = text[middle];
+    rest[last] = text[last];
+}
+
+// Four bytes of a text from a place on, to the same place.
+fn copy_four_at(text: &[u8], at: usize, rest: &mut [u8])
+    requires { ⌜ (at + 4 ≤ length (now text)) × (at + 4 ≤ length (now rest)) ⌝ }
+    ensures { λ _. ⌜ Wrote (now (rest .entry)) at (slice at (at + 4) (now (text .entry))) (now (rest .exit)) (at + 4) ⌝ }
+{
+    copy_four(&text[at..], &mut rest[at..]);
+}
+
+// A text of four to fifteen bytes: four blocks, the last of which ends with it. Where they overlap, they have the same bytes, so that no
+// branch asks how long a word is.
+fn copy_short(text: &[u8], rest: &mut [u8])
+    requires { ⌜ (4 ≤ length (now text)) × (length (now text) < 16) × (length (now text) ≤ length (now rest)) ⌝ }
+    ensures { λ _. ⌜ Wrote (now (rest .entry)) 0 (now (text .entry)) (now (rest .exit)) (length (now (text .entry))) ⌝ }
+{
+    let last = text.len() - 4;
+    let second = lesser(4, last);
+    let third = lesser(8, last);
+    copy_four_at(text, 0, rest);
+    copy_four_at(text, second, rest);
+    copy_four_at(text, third, rest);
+    copy_four_at(text, last, rest);
+}
+
+// A text of sixteen bytes or more: blocks from its front on, and one that ends with it.
+fn copy_long(text: &[u8], rest: &mut [u8])
+    requires { ⌜ (16 ≤ length (now text)) × (length (now text) ≤ length (now rest)) ⌝ }
+    ensures { λ _. ⌜ Wrote (now (rest .entry)) 0 (now (text .entry)) (now (rest .exit)) (length (now (text .entry))) ⌝ }
+{
+    let last = text.len() - 16;
     let mut k = 0;
     while k < last {
-        copy_eight(&text[k..], &mut rest[k..]);
-        k += 8;
+        copy_sixteen(&text[k..], &mut rest[k..]);
+        k += 16;
     }
-    copy_eight(&text[last..], &mut rest[last..]);
-}
-
-fn copy_short(text: &[u8], rest: &mut [u8])
-    requires { ⌜ length (now text) ≤ length (now rest) ⌝ }
-    ensures { λ _. ⌜ Wrote (now (rest .entry)) 0 (now (text .entry)) (now (rest .exit)) (length (now (text .entry))) ⌝ }
-{
-    let mut k = 0;
-    while k < text.len() {
-        rest[k] = text[k];
-        k += 1;
-    }
+    copy_sixteen(&text[last..], &mut rest[last..]);
 }
 
 // A text, to where there is room for it.
@@ -87,7 +145,11 @@ fn copy(text: &[u8], rest: &mut [u8])
     requires { ⌜ length (now text) ≤ length (now rest) ⌝ }
     ensures { λ _. ⌜ Wrote (now (rest .entry)) 0 (now (text .entry)) (now (rest .exit)) (length (now (text .entry))) ⌝ }
 {
-    if text.len() < 8 {
+    if text.len() < 4 {
+        copy_few(text, rest);
+        return;
+    }
+    if text.len() < 16 {
         copy_short(text, rest);
         return;
     }

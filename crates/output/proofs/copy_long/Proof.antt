@@ -7,7 +7,7 @@ use denote.Ref.{now}
 use lib.ListN.{length, take, drop}
 use Rattle.output.specs.Sink.{Wrote}
 use Rattle.output.proofs.Sink.{wrote-nil, wrote-length}
-use Rattle.output.proofs.Copies.{eight-from, copied-eight, copied-last}
+use Rattle.output.proofs.Copies.{block-from, block-over, block-last}
 use Rattle.output.proofs.copy_long.Statement.{statement}
 use Rattle.output.proofs.copy_long.Tie as tie
 
@@ -23,29 +23,29 @@ sub-last c = omega arith
 loop-holds : tie.Need-loop-holds Inv-loop μ-loop
 loop-holds c = (omega arith, wrote-nil _ 0)
 
-sub-copy-eight : tie.Need-sub-copy-eight Inv-loop μ-loop
-sub-copy-eight c = omega (arith, wrote-length (c .before .loop .inv .1), c .before .before .before .before .pre .0, c .before .before .before .before .pre .1)
+sub-copy-sixteen : tie.Need-sub-copy-sixteen Inv-loop μ-loop
+sub-copy-sixteen c = omega (arith, wrote-length (c .before .loop .inv .1), c .before .before .before .before .pre .0, c .before .before .before .before .pre .1)
 
-part-copy-eight-start : tie.Need-part-copy-eight-start Inv-loop μ-loop
-part-copy-eight-start c = omega (arith, wrote-length (c .before .loop .inv .1), c .before .before .before .before .pre .0, c .before .before .before .before .pre .1)
+part-copy-sixteen-start : tie.Need-part-copy-sixteen-start Inv-loop μ-loop
+part-copy-sixteen-start c = omega (arith, wrote-length (c .before .loop .inv .1), c .before .before .before .before .pre .0, c .before .before .before .before .pre .1)
 
-part-copy-eight-end : tie.Need-part-copy-eight-end Inv-loop μ-loop
-part-copy-eight-end c = omega (arith, wrote-length (c .before .loop .inv .1), c .before .before .before .before .pre .0, c .before .before .before .before .pre .1)
+part-copy-sixteen-end : tie.Need-part-copy-sixteen-end Inv-loop μ-loop
+part-copy-sixteen-end c = omega (arith, wrote-length (c .before .loop .inv .1), c .before .before .before .before .pre .0, c .before .before .before .before .pre .1)
 
-sub-copy-eight-2 : tie.Need-sub-copy-eight-2 Inv-loop μ-loop
-sub-copy-eight-2 c = omega (arith, wrote-length (c .before .before .loop .inv .1), c .before .before .before .before .before .pre .0, c .before .before .before .before .before .pre .1)
+sub-copy-sixteen-2 : tie.Need-sub-copy-sixteen-2 Inv-loop μ-loop
+sub-copy-sixteen-2 c = omega (arith, wrote-length (c .before .before .loop .inv .1), c .before .before .before .before .before .pre .0, c .before .before .before .before .before .pre .1)
 
-part-copy-eight-start-2 : tie.Need-part-copy-eight-start-2 Inv-loop μ-loop
-part-copy-eight-start-2 c = omega (arith, wrote-length (c .before .before .loop .inv .1), c .before .before .before .before .before .pre .0, c .before .before .before .before .before .pre .1)
+part-copy-sixteen-start-2 : tie.Need-part-copy-sixteen-start-2 Inv-loop μ-loop
+part-copy-sixteen-start-2 c = omega (arith, wrote-length (c .before .before .loop .inv .1), c .before .before .before .before .before .pre .0, c .before .before .before .before .before .pre .1)
 
-part-copy-eight-end-2 : tie.Need-part-copy-eight-end-2 Inv-loop μ-loop
-part-copy-eight-end-2 c = omega (arith, wrote-length (c .before .before .loop .inv .1), c .before .before .before .before .before .pre .0, c .before .before .before .before .before .pre .1)
+part-copy-sixteen-end-2 : tie.Need-part-copy-sixteen-end-2 Inv-loop μ-loop
+part-copy-sixteen-end-2 c = omega (arith, wrote-length (c .before .before .loop .inv .1), c .before .before .before .before .before .pre .0, c .before .before .before .before .before .pre .1)
 
-copy-eight-requires : tie.Need-copy-eight-requires Inv-loop μ-loop
-copy-eight-requires c κs =
+copy-sixteen-requires : tie.Need-copy-sixteen-requires Inv-loop μ-loop
+copy-sixteen-requires c κs =
     let l = c .before .before .before .loop in
     let s = c .before .before .before .before .before .before in
-    (eight-from (l .k) (now (s .args .text)) (omega arith), eight-from (l .k) (l .rest) (omega (arith, wrote-length (l .inv .1), s .pre .1)))
+    (block-from (l .k) 16 (now (s .args .text)) (omega arith), block-from (l .k) 16 (l .rest) (omega (arith, wrote-length (l .inv .1), s .pre .1)))
 
 add-k : tie.Need-add-k Inv-loop μ-loop
 add-k c = omega arith
@@ -56,43 +56,44 @@ loop-less c = omega arith
 loop-again : tie.Need-loop-again Inv-loop μ-loop
 loop-again c =
     let s = c .before .before .before .before .before .before .before .before .before in
-    (omega arith, copied-eight (now (s .args .text)) _ (c .before .before .before .before .before .before .loop .k) (omega arith) (s .pre .1) (c .before .before .before .before .before .before .loop .inv .1) (c .before .before .copy-eight .ensures))
+    let l = c .before .before .before .before .before .before .loop in
+    (omega arith, block-over (now (s .args .text)) _ (l .k) (l .k) 16 (omega arith) (omega arith) (omega arith) (omega (arith, s .pre .1)) (l .inv .1) (c .before .before .copy-sixteen .ensures))
 
-sub-copy-eight-3 : tie.Need-sub-copy-eight-3 Inv-loop μ-loop
-sub-copy-eight-3 c = omega (arith, wrote-length (c .before .loop .inv .1), c .before .before .before .before .pre .0, c .before .before .before .before .pre .1)
+sub-copy-sixteen-3 : tie.Need-sub-copy-sixteen-3 Inv-loop μ-loop
+sub-copy-sixteen-3 c = omega (arith, wrote-length (c .before .loop .inv .1), c .before .before .before .before .pre .0, c .before .before .before .before .pre .1)
 
-part-copy-eight-start-3 : tie.Need-part-copy-eight-start-3 Inv-loop μ-loop
-part-copy-eight-start-3 c = omega (arith, wrote-length (c .before .loop .inv .1), c .before .before .before .before .pre .0, c .before .before .before .before .pre .1)
+part-copy-sixteen-start-3 : tie.Need-part-copy-sixteen-start-3 Inv-loop μ-loop
+part-copy-sixteen-start-3 c = omega (arith, wrote-length (c .before .loop .inv .1), c .before .before .before .before .pre .0, c .before .before .before .before .pre .1)
 
-part-copy-eight-end-3 : tie.Need-part-copy-eight-end-3 Inv-loop μ-loop
-part-copy-eight-end-3 c = omega (arith, wrote-length (c .before .loop .inv .1), c .before .before .before .before .pre .0, c .before .before .before .before .pre .1)
+part-copy-sixteen-end-3 : tie.Need-part-copy-sixteen-end-3 Inv-loop μ-loop
+part-copy-sixteen-end-3 c = omega (arith, wrote-length (c .before .loop .inv .1), c .before .before .before .before .pre .0, c .before .before .before .before .pre .1)
 
-sub-copy-eight-4 : tie.Need-sub-copy-eight-4 Inv-loop μ-loop
-sub-copy-eight-4 c = omega (arith, wrote-length (c .before .before .loop .inv .1), c .before .before .before .before .before .pre .0, c .before .before .before .before .before .pre .1)
+sub-copy-sixteen-4 : tie.Need-sub-copy-sixteen-4 Inv-loop μ-loop
+sub-copy-sixteen-4 c = omega (arith, wrote-length (c .before .before .loop .inv .1), c .before .before .before .before .before .pre .0, c .before .before .before .before .before .pre .1)
 
-part-copy-eight-start-4 : tie.Need-part-copy-eight-start-4 Inv-loop μ-loop
-part-copy-eight-start-4 c = omega (arith, wrote-length (c .before .before .loop .inv .1), c .before .before .before .before .before .pre .0, c .before .before .before .before .before .pre .1)
+part-copy-sixteen-start-4 : tie.Need-part-copy-sixteen-start-4 Inv-loop μ-loop
+part-copy-sixteen-start-4 c = omega (arith, wrote-length (c .before .before .loop .inv .1), c .before .before .before .before .before .pre .0, c .before .before .before .before .before .pre .1)
 
-part-copy-eight-end-4 : tie.Need-part-copy-eight-end-4 Inv-loop μ-loop
-part-copy-eight-end-4 c = omega (arith, wrote-length (c .before .before .loop .inv .1), c .before .before .before .before .before .pre .0, c .before .before .before .before .before .pre .1)
+part-copy-sixteen-end-4 : tie.Need-part-copy-sixteen-end-4 Inv-loop μ-loop
+part-copy-sixteen-end-4 c = omega (arith, wrote-length (c .before .before .loop .inv .1), c .before .before .before .before .before .pre .0, c .before .before .before .before .before .pre .1)
 
-copy-eight-requires-2 : tie.Need-copy-eight-requires-2 Inv-loop μ-loop
-copy-eight-requires-2 c κs =
+copy-sixteen-requires-2 : tie.Need-copy-sixteen-requires-2 Inv-loop μ-loop
+copy-sixteen-requires-2 c κs =
     let l = c .before .before .before .loop in
     let s = c .before .before .before .before .before .before in
     let t = now (s .args .text) in
-    (eight-from (length t - 8) t (omega (arith, s .pre .0)), eight-from (length t - 8) (l .rest) (omega (arith, wrote-length (l .inv .1), s .pre .0, s .pre .1)))
+    (block-from (length t - 16) 16 t (omega (arith, s .pre .0)), block-from (length t - 16) 16 (l .rest) (omega (arith, wrote-length (l .inv .1), s .pre .0, s .pre .1)))
 
--- with the last eight bytes all is written
+-- with the last sixteen bytes all is written
 done : (c : tie.After-slice-known3 Inv-loop μ-loop)
     → let t = now (c .before .before .before .before .before .before .before .before .before .args .text) in
     let o = c .before .before .before .before .before .before .loop .rest in
-    Wrote (now (c .before .before .before .before .before .before .before .before .before .args .rest)) 0 t (take (length t - 8) o ++ (c .before .before .copy-eight2 .last .1 .0 ++ drop (length o - (length t - 8)) (drop (length t - 8) o))) (length t)
+    Wrote (now (c .before .before .before .before .before .before .before .before .before .args .rest)) 0 t (take (length t - 16) o ++ (c .before .before .copy-sixteen2 .last .1 .0 ++ drop (length o - (length t - 16)) (drop (length t - 16) o))) (length t)
 done c =
     let s = c .before .before .before .before .before .before .before .before .before in
     let l = c .before .before .before .before .before .before .loop in
     let t = now (s .args .text) in
-    copied-last t _ (length t - 8) (l .k) (omega (arith, s .pre .0)) (omega arith) (s .pre .1) (l .inv .1) (c .before .before .copy-eight2 .ensures)
+    block-last t _ (l .k) 16 (s .pre .0) (omega arith) (omega arith) (s .pre .1) (l .inv .1) (c .before .before .copy-sixteen2 .ensures)
 
 same-length : tie.Need-same-length Inv-loop μ-loop
 same-length c = wrote-length (done c)
@@ -108,22 +109,22 @@ copy-long-spec =
     μ-loop
     sub-last
     loop-holds
-    sub-copy-eight
-    part-copy-eight-start
-    part-copy-eight-end
-    sub-copy-eight-2
-    part-copy-eight-start-2
-    part-copy-eight-end-2
-    copy-eight-requires
+    sub-copy-sixteen
+    part-copy-sixteen-start
+    part-copy-sixteen-end
+    sub-copy-sixteen-2
+    part-copy-sixteen-start-2
+    part-copy-sixteen-end-2
+    copy-sixteen-requires
     add-k
     loop-less
     loop-again
-    sub-copy-eight-3
-    part-copy-eight-start-3
-    part-copy-eight-end-3
-    sub-copy-eight-4
-    part-copy-eight-start-4
-    part-copy-eight-end-4
-    copy-eight-requires-2
+    sub-copy-sixteen-3
+    part-copy-sixteen-start-3
+    part-copy-sixteen-end-3
+    sub-copy-sixteen-4
+    part-copy-sixteen-start-4
+    part-copy-sixteen-end-4
+    copy-sixteen-requires-2
     same-length
     returns)

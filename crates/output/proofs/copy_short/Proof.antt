@@ -1,55 +1,59 @@
--- `output::copy_short` meets its contract. Invariant: the text up to the place reached is written.
-use Prim.Native.Nat.{_≤_, _-_}
+-- `output::copy_short` meets its contract: each block begins where the one before it ends, or in it.
 use native.Mathlib.Omega.{arith}
 use borrow.Author.Needs.{needs}
-use lib.ListN.{length, take}
-use Rattle.output.specs.Sink.{Wrote}
-use Rattle.output.proofs.Sink.{wrote-nil, wrote-length}
-use Rattle.output.proofs.Copies.{copied-byte, copied-all}
+use denote.Ref.{now}
+use lib.ListN.{length}
+use Prim.Native.Nat.{_+_, _-_}
+use Rattle.output.proofs.Copies.{covered, copied-all}
 use Rattle.output.proofs.copy_short.Statement.{statement}
 use Rattle.output.proofs.copy_short.Tie as tie
 
-abbrev Inv-loop : tie.InvT-loop
-Inv-loop text rest₀ k₀ rest k = (k ≤ length text) × Wrote rest₀ 0 (take k text) rest k
+sub-last : tie.Need-sub-last
+sub-last c = search needs
 
-abbrev μ-loop : tie.MeasureT-loop
-μ-loop text rest₀ k₀ rest k = length text - k
+lesser-requires : tie.Need-lesser-requires
+lesser-requires c κs = search needs
 
-loop-holds : tie.Need-loop-holds Inv-loop μ-loop
-loop-holds c = (omega arith, wrote-nil _ 0)
+lesser-requires-2 : tie.Need-lesser-requires-2
+lesser-requires-2 c κs = search needs
 
-shared-slice-read-rest : tie.Need-shared-slice-read-rest Inv-loop μ-loop
-shared-slice-read-rest c = omega arith
+copy-four-at-requires : tie.Need-copy-four-at-requires
+copy-four-at-requires c κs = search needs
 
-slice-write-rest : tie.Need-slice-write-rest Inv-loop μ-loop
-slice-write-rest c = omega (arith, wrote-length (c .before .before .loop .inv .1), c .before .before .before .pre)
+copy-four-at-requires-2 : tie.Need-copy-four-at-requires-2
+copy-four-at-requires-2 c κs = search needs
 
-add-k : tie.Need-add-k Inv-loop μ-loop
-add-k c = omega arith
+copy-four-at-requires-3 : tie.Need-copy-four-at-requires-3
+copy-four-at-requires-3 c κs = search needs
 
-loop-less : tie.Need-loop-less Inv-loop μ-loop
-loop-less c = omega arith
+copy-four-at-requires-4 : tie.Need-copy-four-at-requires-4
+copy-four-at-requires-4 c κs = search needs
 
-loop-again : tie.Need-loop-again Inv-loop μ-loop
-loop-again c = (omega arith, copied-byte _ _ (omega arith) (omega (arith, c .before .before .before .pre)) (c .before .before .loop .inv .1))
+same-length : tie.Need-same-length
+same-length c = search needs
 
-same-length : tie.Need-same-length Inv-loop μ-loop
-same-length c = wrote-length (c .before .loop .inv .1)
-
-returns : tie.Need-returns Inv-loop μ-loop
-returns c = copied-all _ (c .before .loop .k) (omega arith) (omega arith) (c .before .loop .inv .1)
+returns : tie.Need-returns
+returns c =
+    let t = now (c .before .before .before .before .before .before .before .before .before .before .before .before .before .before .before .before .before .before .before .before .args .text) in
+    let second = c .before .before .before .before .before .before .before .before .before .before .before .before .before .before .before .before .before .lesser in
+    let third = c .before .before .before .before .before .before .before .before .before .before .before .before .before .before .before .before .lesser2 in
+    copied-all t (length t - 4 + 4) (omega arith) (omega arith)
+    (covered t (length t - 4) (third .result + 4) 4 (omega arith) (omega arith) (omega arith)
+    (covered t (third .result) (second .result + 4) 4 (omega arith) (omega arith) (omega arith)
+    (covered t (second .result) 4 4 (omega arith) (omega arith) (omega arith) (c .before .before .before .before .before .before .before .before .before .before .before .before .before .before .copy-four-at .ensures) (c .before .before .before .before .before .before .before .before .before .before .copy-four-at2 .ensures))
+    (c .before .before .before .before .before .before .copy-four-at3 .ensures))
+    (c .before .before .copy-four-at4 .ensures))
 
 pub copy-short-spec : {M : Type 1} → statement M
 copy-short-spec =
     tie.close
     (tie.spec
-    Inv-loop
-    μ-loop
-    loop-holds
-    shared-slice-read-rest
-    slice-write-rest
-    add-k
-    loop-less
-    loop-again
+    sub-last
+    lesser-requires
+    lesser-requires-2
+    copy-four-at-requires
+    copy-four-at-requires-2
+    copy-four-at-requires-3
+    copy-four-at-requires-4
     same-length
     returns)
