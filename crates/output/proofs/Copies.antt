@@ -5,7 +5,7 @@ use mathlib.Core.List.{List, [], _∷_, _++_}
 use Prim.Native.Nat.{ℕ, zero, suc, min, _+_, _-_, _≤_, _<_}
 use native.Mathlib.Nat.{suc-min-suc}
 use native.Mathlib.Omega.{arith}
-use lib.ListN.{length, getD, take, drop, set, replicate, length-take, length-drop, length-replicate, getD-replicate}
+use lib.ListN.{length, getD, take, drop, set, replicate, length-take, length-replicate, getD-replicate}
 use lib.Seq.{slice, length-slice, take-nil, take-all, take-take}
 use Rattle.lists.proofs.Fronts.{part-to-end}
 use Rattle.lists.proofs.Slices.{slice-is, slice-one}
@@ -45,33 +45,16 @@ byte-over {o} {o′} text j k h l t r w = covered text j k 1 h l (omega arith) w
 pub copied-byte : {o o′ : List ℕ} (text : List ℕ) (n : ℕ) → n < length text → n < length o → Wrote o 0 (take n text) o′ n → Wrote o 0 (take (n + 1) text) (set o′ n (getD text n 0)) (n + 1)
 copied-byte text n h k w = byte-over text n n (omega arith) (omega arith) h k w
 
--- a part from place j on has so many bytes
-pub block-from : (j m : ℕ) (xs : List ℕ) → j + m ≤ length xs → m ≤ length (take (length xs - j) (drop j xs))
-block-from j m xs h = rw (part-to-end j xs, length-drop j xs) (omega arith)
-
 -- a part of the room, lent from place j on, has come home with a block of the text from there
 pub block-home : (text o ys : List ℕ) (j m : ℕ) → j ≤ length o → Wrote (take (length o - j) (drop j o)) 0 (take m (take (length text - j) (drop j text))) ys m
     → Wrote o j (slice j (j + m) text) (take j o ++ (ys ++ drop (length o - j) (drop j o))) (j + m)
 block-home text o ys j m h q = wrote-part o j j (slice j (j + m) text) ys m (omega arith) (rw (slice-is j m text) (rw (part-to-end j text) at q))
-
-pub block-over : {o o′ : List ℕ} (text ys : List ℕ) (j k m : ℕ) → j ≤ k → k ≤ j + m → j + m ≤ length text → j ≤ length o → Wrote o 0 (take k text) o′ k
-    → Wrote (take (length o′ - j) (drop j o′)) 0 (take m (take (length text - j) (drop j text))) ys m
-    → Wrote o 0 (take (j + m) text) (take j o′ ++ (ys ++ drop (length o′ - j) (drop j o′))) (j + m)
-block-over {o} {o′} text ys j k m h l t r w q = covered text j k m h l t w (block-home text o′ ys j m (omega (arith, wrote-length w)) q)
 
 -- so the whole text is written
 pub copied-all : {o o′ : List ℕ} (text : List ℕ) (n : ℕ) → n ≤ length text → length text ≤ n → Wrote o 0 (take n text) o′ n → Wrote o 0 text o′ (length text)
 copied-all text n h k w =
     let e : n ≡ length text = omega arith in
     rw (e, take-all (length text) text (omega arith)) at w
-
--- the block that ends with the text, of which some may be written already
-pub block-last : {o o′ : List ℕ} (text ys : List ℕ) (k m : ℕ) → m ≤ length text → length text - m ≤ k → k ≤ length text → length text ≤ length o
-    → Wrote o 0 (take k text) o′ k
-    → Wrote (take (length o′ - (length text - m)) (drop (length text - m) o′)) 0 (take m (take (length text - (length text - m)) (drop (length text - m) text))) ys m
-    → Wrote o 0 text (take (length text - m) o′ ++ (ys ++ drop (length o′ - (length text - m)) (drop (length text - m) o′))) (length text)
-block-last text ys k m h l t r w q =
-    copied-all text (length text - m + m) (omega arith) (omega arith) (block-over text ys (length text - m) k m l (omega arith) (omega arith) (omega arith) w q)
 
 -- ---- spaces
 

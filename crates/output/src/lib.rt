@@ -126,18 +126,29 @@ fn copy_short(text: &[u8], rest: &mut [u8])
     copy_four_at(text, last, rest);
 }
 
-// A text of sixteen bytes or more: blocks from its front on, and one that ends with it.
+// Sixteen bytes of a text from a place on, to the same place.
+fn copy_sixteen_at(text: &[u8], at: usize, rest: &mut [u8])
+    requires { ⌜ (at + 16 ≤ length (now text)) × (at + 16 ≤ length (now rest)) ⌝ }
+    ensures { λ _. ⌜ Wrote (now (rest .entry)) at (slice at (at + 16) (now (text .entry))) (now (rest .exit)) (at + 16) ⌝ }
+{
+    copy_sixteen(&text[at..], &mut rest[at..]);
+}
+
+// A text of sixteen bytes or more: two blocks a turn as long as more is left than two, then one, and one that ends with the text.
 fn copy_long(text: &[u8], rest: &mut [u8])
     requires { ⌜ (16 ≤ length (now text)) × (length (now text) ≤ length (now rest)) ⌝ }
     ensures { λ _. ⌜ Wrote (now (rest .entry)) 0 (now (text .entry)) (now (rest .exit)) (length (now (text .entry))) ⌝ }
 {
     let last = text.len() - 16;
     let mut k = 0;
-    while k < last {
-        copy_sixteen(&text[k..], &mut rest[k..]);
-        k += 16;
+    while k + 16 < last {
+        let second = k + 16;
+        copy_sixteen_at(text, k, rest);
+        copy_sixteen_at(text, second, rest);
+        k = second + 16;
     }
-    copy_sixteen(&text[last..], &mut rest[last..]);
+    copy_sixteen_at(text, lesser(k, last), rest);
+    copy_sixteen_at(text, last, rest);
 }
 
 // A text, to where there is room for it.
