@@ -118,10 +118,11 @@ fn measure(sort: &Sort, quick: bool, milliseconds: usize) -> Row {
     let opts = with_breaker(&sort.opts, quick);
     let mut sizes = Vec::new();
     for size in SIZES {
-        let Some(parts) = sort.parts(size) else { continue };
-        let bytes: usize = parts.iter().map(|p| p.len()).sum();
-        let found = least(&mut sides(&opts, &parts), milliseconds);
-        sizes.push((size, found.into_iter().map(|t| t / bytes as f64).collect()));
+        if let Some(parts) = sort.parts(size) {
+            let bytes: usize = parts.iter().map(|p| p.len()).sum();
+            let found = least(&mut sides(&opts, &parts), milliseconds);
+            sizes.push((size, found.into_iter().map(|t| t / bytes as f64).collect()));
+        }
     }
     Row { name: title(sort, quick), sizes }
 }

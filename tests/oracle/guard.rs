@@ -2,7 +2,7 @@
 
 use std::fs::File;
 use std::io::{Read, Write};
-use std::os::fd::AsRawFd;
+use std::os::unix::io::AsRawFd;
 use std::process::{Child, Command, Stdio};
 
 /// The right answer to a call, but for its room.
@@ -123,7 +123,10 @@ impl Call {
             let digits = if text == "-" { "" } else { text };
             (0..digits.len()).step_by(2).map(|i| u8::from_str_radix(digits.get(i..i + 2)?, 16).ok()).collect()
         };
-        let [block, notes, room, places] = args else { return None };
+        let (block, notes, room, places) = match args {
+            [block, notes, room, places] => (block, notes, room, places),
+            _ => return None,
+        };
         Some(Call { block: bytes(block)?, notes: bytes(notes)?, room: room.parse().ok()?, places: places.parse().ok()? })
     }
 }
@@ -226,7 +229,7 @@ impl Harness {
         notes.copy_from_slice(&call.notes);
         fill(output);
         fill(margin);
-        let Some(answer) = self.answer(block, notes, output) else { outside(call) };
+        let answer = self.answer(block, notes, output).unwrap_or_else(|| outside(call));
         let found = unsafe { self.tampered(answer, notes, output) };
 
         let (code, number) = expected.numbers(call.room);

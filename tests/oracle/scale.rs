@@ -190,7 +190,10 @@ fn run(seed: u64, count: u64, long: bool, harness: Harness) -> i32 {
 }
 
 fn replay(args: &[String]) -> i32 {
-    let Some(call) = Call::parse(args) else { return usage() };
+    let call = match Call::parse(args) {
+        Some(call) => call,
+        None => return usage(),
+    };
     let mut run = Run::new(0, Harness::new("none"));
     let expected = run.original.answer(&call.block, &call.notes);
     let (code, number) = expected.numbers(call.room);
