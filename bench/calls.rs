@@ -8,13 +8,14 @@
 mod options;
 mod clock;
 mod notes;
+mod opaque;
 mod programs;
 #[allow(dead_code)]
 mod texts;
 
 use notes::{Sort, KIB, SIZES};
+use opaque::black_box;
 use options::{Opts, QUICK};
-use std::hint::black_box;
 
 #[link(name = "rudignals", kind = "static")]
 extern "C" {

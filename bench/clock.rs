@@ -1,5 +1,6 @@
 //! Processor time, in seconds: what other programs take on the same machine is not in it.
 
+#[derive(Clone, Copy)]
 #[repr(C)]
 struct Time {
     seconds: i64,
@@ -26,7 +27,7 @@ pub fn own() -> f64 {
 /// Of all programs run from here, so far: user and system time, which stand first in the record.
 pub fn children() -> f64 {
     const CHILDREN: i32 = -1;
-    let mut usage = [const { zero() }; 9];
+    let mut usage = [zero(); 9];
     assert_eq!(unsafe { getrusage(CHILDREN, &mut usage) }, 0);
     usage[..2].iter().map(|t| t.seconds as f64 + t.part as f64 * 1e-6).sum()
 }

@@ -3,6 +3,7 @@
 //!     layers [MILLISECONDS]            how long each span is timed, by default 150
 //!     layers --once TEXT SPAN CALLS    one span, so often, over the text of that number in TEXTS, for a profiler
 
+mod opaque;
 mod spans;
 mod texts;
 

@@ -1,7 +1,7 @@
 //! What is timed: this repository's layers and the original's functions, each over the paragraphs of a text.
 
+use crate::opaque::black_box;
 use crate::texts::{group, Draw, Kind, GROUPS};
-use std::hint::black_box;
 use std::ops::Range;
 
 type Table = [u32; 8192];
