@@ -3,8 +3,8 @@ ghost use mathlib.Core.Path.{_≡_};
 ghost use mathlib.Core.Bool.{true, false, cond, _&&_, _||_};
 ghost use mathlib.Core.List.{List, [], _++_};
 ghost use Prim.Native.Nat.{ℕ, _+_, _-_, _*_, _^_, _≤_, _<_};
-ghost use lib.Dec.{ltb};
-ghost use lib.ListN.{length};
+ghost use lib.Dec.{ltb, eqb};
+ghost use lib.ListN.{length, getD};
 ghost use lib.Seq.{slice};
 ghost use Rattle.text.specs.Characters.{glyphs};
 ghost use Rattle.options.specs.Opts.{meant};
@@ -223,11 +223,25 @@ fn over_blanks(s: &[u8], at: usize, tab: usize, glue: bool) -> Blanks
     };
     loop {
         let end = b.end;
-        let Glyph::Blank { code, next } = text::glyph_at(s, end, glue) else {
-            return b;
-        };
-        b = behind_blank(b, code, next, tab);
+        if is_tab(s, end) {
+            b = behind_blank(b, 9, end + 1, tab);
+        } else {
+            let Glyph::Blank { code, next } = text::glyph_at(s, end, glue) else {
+                return b;
+            };
+            b = behind_blank(b, code, next, tab);
+        }
     }
+}
+
+// Whether a tab stands at a place, which need not be decoded.
+fn is_tab(s: &[u8], at: usize) -> bool
+    ensures { λ r. ⌜ (r ≡ true → (at < length (now (s .entry))) × (getD (now (s .entry)) at 0 ≡ 9)) ⌝ }
+{
+    if s.len() <= at {
+        return false;
+    }
+    s[at] == 9
 }
 
 // Whether a space stands at a place, and a plain character behind it.
@@ -303,6 +317,9 @@ fn over_ink(s: &[u8], at: usize, glue: bool) -> Ink
             if s.len() <= end {
                 return w;
             }
+            if ends_word(s[end]) {
+                return w;
+            }
             match text::glyph_at(s, end, glue) {
                 Glyph::Blank { code: _, next: _ } => {
                     return w;
@@ -325,6 +342,13 @@ fn over_ink(s: &[u8], at: usize, glue: bool) -> Ink
             }
         }
     }
+}
+
+// Whether a byte is a space or a tab, at which most words end.
+fn ends_word(b: u8) -> bool
+    ensures { λ r. ⌜ r ≡ (eqb b 32 || eqb b 9) ⌝ }
+{
+    (b == 32) | (b == 9)
 }
 
 // Ink with the plain characters behind it, which most are: ASCII from `!` on, each a character of one column.

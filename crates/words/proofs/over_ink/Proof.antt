@@ -10,6 +10,7 @@ use Rattle.text.proofs.Glyphs.{Here, ink-here, blank-here, damaged-here}
 use Rattle.text.proofs.Letters.{Letter, letter-is}
 use Rattle.words.proofs.InkRuns.{narrow, InkLeft, ink-first, ink-more, ink-letter, ink-damaged, ink-past, ink-stop}
 use Rattle.words.proofs.PlainRuns.{ink-plain}
+use Rattle.words.proofs.UsualBlanks.{ends-here}
 use Rattle.words.proofs.over_ink.Statement.{statement}
 use Rattle.words.proofs.over_ink.Tie as tie
 
@@ -51,14 +52,23 @@ left c = ink-plain _ (c .before .before .before .loop .inv) _ (c .over-plain .en
 returns : tie.Need-returns Inv-loop μ-loop
 returns c = ink-past _ (left (c .before)) (search needs)
 
+shared-slice-read-ends-word : tie.Need-shared-slice-read-ends-word Inv-loop μ-loop
+shared-slice-read-ends-word c = search needs
+
+ends-word-requires : tie.Need-ends-word-requires Inv-loop μ-loop
+ends-word-requires c κs = search needs
+
+returns-2 : tie.Need-returns-2 Inv-loop μ-loop
+returns-2 c = ink-stop _ (left (c .before .before .before .before)) (ends-here _ _ _ (c .before .before .before .if2 .left) (sym (c .before .ends-word .ensures) ∙ c .if3 .taken))
+
 glyph-at-requires : tie.Need-glyph-at-requires Inv-loop μ-loop
 glyph-at-requires c κs = search needs
 
 enum-told : tie.Need-enum-told Inv-loop μ-loop
 enum-told c = search needs
 
-returns-2 : tie.Need-returns-2 Inv-loop μ-loop
-returns-2 c = ink-stop _ (left (c .before .before .before .before)) (blank-here _ _ _ _ _ (sym (c .before .before .glyph-at .ensures) ∙ c .enum-told .given .1))
+returns-3 : tie.Need-returns-3 Inv-loop μ-loop
+returns-3 c = ink-stop _ (left (c .before .before .before .before .before .before .before)) (blank-here _ _ _ _ _ (sym (c .before .before .glyph-at .ensures) ∙ c .enum-told .given .1))
 
 enum-known-code : tie.Need-enum-known-code Inv-loop μ-loop
 enum-known-code c = search needs
@@ -66,37 +76,37 @@ enum-known-code c = search needs
 width-requires : tie.Need-width-requires Inv-loop μ-loop
 width-requires c κs = search needs
 
-add-t16 : tie.Need-add-t16 Inv-loop μ-loop
-add-t16 c = let h = narrow _ _ (c .before .width .ensures) in let l = left (c .before .before .before .before .before .before .before) in omega arith
+add-t19 : tie.Need-add-t19 Inv-loop μ-loop
+add-t19 c = let h = narrow _ _ (c .before .width .ensures) in let l = left (c .before .before .before .before .before .before .before .before .before .before) in omega arith
 
 is-punct-requires : tie.Need-is-punct-requires Inv-loop μ-loop
 is-punct-requires c κs = search needs
 
 -- the ink that the loop's turn reads
 read : (c : tie.After-code Inv-loop μ-loop)
-    → Here (c .before .before .before .before .before .before .before .before .before .args .glue) false (now (c .before .before .before .before .before .before .before .before .before .args .s)) (c .before .before .before .before .over-plain .result .end) (c .code .given .0 .0) (c .code .given .0 .1 .0)
+    → Here (c .before .before .before .before .before .before .before .before .before .before .before .before .args .glue) false (now (c .before .before .before .before .before .before .before .before .before .before .before .before .args .s)) (c .before .before .before .before .before .before .before .over-plain .result .end) (c .code .given .0 .0) (c .code .given .0 .1 .0)
 read c = ink-here _ _ _ _ _ (sym (c .before .before .glyph-at .ensures) ∙ c .code .given .1)
 
 loop-less-2 : tie.Need-loop-less-2 Inv-loop μ-loop
-loop-less-2 c = let h = read (c .before .before .before .before) in omega (arith, c .before .before .before .before .before .before .before .before .over-plain .ensures .run .on)
+loop-less-2 c = let h = read (c .before .before .before .before) in omega (arith, c .before .before .before .before .before .before .before .before .before .before .before .over-plain .ensures .run .on)
 
 loop-again-2 : tie.Need-loop-again-2 Inv-loop μ-loop
-loop-again-2 c = ink-more _ _ (left (c .before .before .before .before .before .before .before .before)) (read (c .before .before .before .before)) (c .before .before .width .ensures) refl (c .is-punct .ensures)
+loop-again-2 c = ink-more _ _ (left (c .before .before .before .before .before .before .before .before .before .before .before)) (read (c .before .before .before .before)) (c .before .before .width .ensures) refl (c .is-punct .ensures)
 
 enum-told-2 : tie.Need-enum-told-2 Inv-loop μ-loop
 enum-told-2 c = search needs
 
-add-t18 : tie.Need-add-t18 Inv-loop μ-loop
-add-t18 c = search needs
+add-t21 : tie.Need-add-t21 Inv-loop μ-loop
+add-t21 c = search needs
 
-add-t19 : tie.Need-add-t19 Inv-loop μ-loop
-add-t19 c = let l = left (c .before .before .before .before .before) in omega arith
+add-t22 : tie.Need-add-t22 Inv-loop μ-loop
+add-t22 c = let l = left (c .before .before .before .before .before .before .before .before) in omega arith
 
 loop-less-3 : tie.Need-loop-less-3 Inv-loop μ-loop
-loop-less-3 c = omega (arith, c .before .before .before .before .before .over-plain .ensures .run .on)
+loop-less-3 c = omega (arith, c .before .before .before .before .before .before .before .before .over-plain .ensures .run .on)
 
 loop-again-3 : tie.Need-loop-again-3 Inv-loop μ-loop
-loop-again-3 c = ink-damaged _ (left (c .before .before .before .before .before)) (search needs) (damaged-here _ _ _ (search needs) (sym (c .before .before .before .glyph-at .ensures) ∙ c .before .enum-told2 .given .1))
+loop-again-3 c = ink-damaged _ (left (c .before .before .before .before .before .before .before .before)) (search needs) (damaged-here _ _ _ (search needs) (sym (c .before .before .before .glyph-at .ensures) ∙ c .before .enum-told2 .given .1))
 
 pub over-ink-spec : {M : Type 1} → statement M
 over-ink-spec =
@@ -112,17 +122,20 @@ over-ink-spec =
     loop-again
     over-plain-requires
     returns
+    shared-slice-read-ends-word
+    ends-word-requires
+    returns-2
     glyph-at-requires
     enum-told
-    returns-2
+    returns-3
     enum-known-code
     width-requires
-    add-t16
+    add-t19
     is-punct-requires
     loop-less-2
     loop-again-2
     enum-told-2
-    add-t18
-    add-t19
+    add-t21
+    add-t22
     loop-less-3
     loop-again-3)
