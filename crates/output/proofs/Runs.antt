@@ -56,12 +56,12 @@ module _ {notes table : List ℕ} {n : ℕ} {marks : List Bool} {l : Layout} {at
   run-first h k = record { on = omega arith; few = k; order = omega arith; within = h; is = rw slice-empty }
 
   pub run-more : {r : Run} {w : Record} {added : ℕ} → Laid notes table n marks l → Runs notes table n marks l at punct i r → r .next < n → Got table (r .next) w
-      → added ≡ addedSpace (l .uniform) (w .first) (w .sentence) (r .punct) → Joins notes w (getD marks (r .next) false) added (r .end)
+      → added ≡ addedSpace (l .uniform) (w .first) (w .sentence) (r .punct) → getD marks (r .next) false ≡ false → Joins notes w false added (r .end)
       → Runs notes table n marks l at punct i (record { next = r .next + 1; end = w .end; punct = w .punct })
-  run-more {r} {w} {added} laid run more got a j =
+  run-more {r} {w} {added} laid run more got a f j =
       let behind = emittedFrom notes table n marks l (w .punct) (r .next + 1) in
       let within = turn-within laid got more in
-      let here : placed (getD marks (r .next) false) (addedSpace (l .uniform) (w .first) (w .sentence) (r .punct)) (marginOf notes (l .indent)) (meaning notes w) ≡ slice (r .end) (w .end) notes = rw (← a) (j .is (marginOf notes (l .indent))) in
+      let here : placed (getD marks (r .next) false) (addedSpace (l .uniform) (w .first) (w .sentence) (r .punct)) (marginOf notes (l .indent)) (meaning notes w) ≡ slice (r .end) (w .end) notes = rw (f, ← a) (j .is (marginOf notes (l .indent))) in
       record {
         on = omega (arith, run .on);
         few = omega arith;

@@ -296,14 +296,11 @@ fn all_spaces(notes: &[u8], at: usize, count: usize) -> bool
     notes[at + 1] == 32
 }
 
-// Whether a word's bytes, with what goes before it, do not stand in the notes from end on.
-fn apart(notes: &[u8], w: Word, fresh: bool, added: usize, end: usize) -> bool
+// Whether the bytes of a word that stays on its line, with what goes before it, do not stand in the notes from end on.
+fn apart(notes: &[u8], w: Word, added: usize, end: usize) -> bool
     requires { ⌜ Within (length (now notes)) w × (end ≤ length (now notes)) × (length (now notes) < 2 ^ 32) × (added ≤ 2) ⌝ }
-    ensures { λ r. ⌜ (r ≡ false → Joins (now (notes .entry)) w fresh added end) ⌝ }
+    ensures { λ r. ⌜ (r ≡ false → Joins (now (notes .entry)) w false added end) ⌝ }
 {
-    if fresh {
-        return true;
-    }
     if end + added != w.from {
         return true;
     }
@@ -331,10 +328,12 @@ fn run_from(
     };
     while r.next < n {
         let j = r.next;
+        if marks[j] {
+            return r;
+        }
         let w = records::get(table, j);
         let added = spacing::added_space(l.uniform, w.first, w.sentence, r.punct);
-        let fresh = marks[j];
-        if apart(notes, w, fresh, added, r.end) {
+        if apart(notes, w, added, r.end) {
             return r;
         }
         r = Run {

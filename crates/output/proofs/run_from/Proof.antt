@@ -1,6 +1,5 @@
 -- `output::run_from` meets its contract. Invariant: the contract itself, of the run so far.
 use Prim.Native.Nat.{_-_}
-use native.Mathlib.Omega.{arith}
 use borrow.Author.Needs.{needs}
 use Rattle.output.specs.Runs.{Runs}
 use Rattle.output.proofs.Emission.{turn-within}
@@ -17,22 +16,25 @@ abbrev μ-loop : tie.MeasureT-loop
 loop-holds : tie.Need-loop-holds Inv-loop μ-loop
 loop-holds c = run-first (c .before .pre .1) (c .before .pre .2)
 
+element-copy-out-if2 : tie.Need-element-copy-out-if2 Inv-loop μ-loop
+element-copy-out-if2 c = search needs
+
+returns : tie.Need-returns Inv-loop μ-loop
+returns c = c .before .before .before .before .loop .inv
+
 get-requires : tie.Need-get-requires Inv-loop μ-loop
 get-requires c κs = search needs
 
 added-space-requires : tie.Need-added-space-requires Inv-loop μ-loop
 added-space-requires c κs = search needs
 
-element-copy-out-fresh : tie.Need-element-copy-out-fresh Inv-loop μ-loop
-element-copy-out-fresh c = search needs
-
 apart-requires : tie.Need-apart-requires Inv-loop μ-loop
 apart-requires c κs =
-    let p = c .before .before .before .before .before .before .before .pre .0 in
-    (turn-within p (c .before .before .get .ensures) (c .before .before .before .if1 .taken), c .before .before .before .before .before .loop .inv .within, p .small, c .before .added-space .ensures .most)
+    let p = c .before .before .before .before .before .before .before .before .pre .0 in
+    (turn-within p (c .before .get .ensures) (c .before .before .before .before .if1 .taken), c .before .before .before .before .before .before .loop .inv .within, p .small, c .added-space .ensures .most)
 
-returns : tie.Need-returns Inv-loop μ-loop
-returns c = search needs
+returns-2 : tie.Need-returns-2 Inv-loop μ-loop
+returns-2 c = c .before .before .before .before .before .before .before .before .loop .inv
 
 add-t18 : tie.Need-add-t18 Inv-loop μ-loop
 add-t18 c = search needs
@@ -41,17 +43,10 @@ loop-less : tie.Need-loop-less Inv-loop μ-loop
 loop-less c = search needs
 
 loop-again : tie.Need-loop-again Inv-loop μ-loop
-loop-again c =
-    run-more
-    (c .before .before .before .before .before .before .before .before .before .pre .0)
-    (c .before .before .before .before .before .before .before .loop .inv)
-    (c .before .before .before .before .before .if1 .taken)
-    (c .before .before .before .before .get .ensures)
-    (c .before .before .before .added-space .ensures .is)
-    (c .before .apart .ensures (c .if2 .left))
+loop-again c = run-more (c .before .before .before .before .before .before .before .before .before .before .pre .0) (c .before .before .before .before .before .before .before .before .loop .inv) (c .before .before .before .before .before .before .if1 .taken) (c .before .before .before .get .ensures) (c .before .before .added-space .ensures .is) (c .before .before .before .before .if2 .left) (c .before .apart .ensures (c .if3 .left))
 
-returns-2 : tie.Need-returns-2 Inv-loop μ-loop
-returns-2 c = search needs
+returns-3 : tie.Need-returns-3 Inv-loop μ-loop
+returns-3 c = c .before .before .loop .inv
 
 pub run-from-spec : {M : Type 1} → statement M
 run-from-spec =
@@ -60,12 +55,13 @@ run-from-spec =
     Inv-loop
     μ-loop
     loop-holds
+    element-copy-out-if2
+    returns
     get-requires
     added-space-requires
-    element-copy-out-fresh
     apart-requires
-    returns
+    returns-2
     add-t18
     loop-less
     loop-again
-    returns-2)
+    returns-3)
