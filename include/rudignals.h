@@ -2,7 +2,7 @@
  *
  * One call formats one text. It has no precondition: every option block, every text and every output length has an answer, and the call
  * neither allocates, nor keeps a state, nor calls back. It may run on several threads at once. Its working storage is on the stack: tables
- * of 111,616 bytes; at most 112,999 bytes in all were measured on x86-64 (tests/stack/run, under an emulator).
+ * of 111,616 bytes; at most 113,575 bytes in all were measured on x86-64 (tests/stack/run, under an emulator).
  *
  * Link with librudignals.a (`rt staticlib rudignals`); examples/host/ is a host to copy from.
  */
