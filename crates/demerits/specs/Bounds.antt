@@ -1,10 +1,9 @@
 -- The bounds that the contracts of `demerits` promise.
 use mathlib.Core.Bool.{Bool, true, false, cond}
-use mathlib.Core.Path.{_≡_}
 use Prim.Native.Nat.{ℕ, _+_, _-_, _*_, _≤_}
 use lib.Dec.{T, leb, ltb}
 use lib.Ieee.{Float, nan, inf, fin, up, down, neg}
-use Rattle.demerits.specs.Demerits.{float, ratio, lineTerm, ratioTerm}
+use Rattle.demerits.specs.Demerits.{float, lineTerm, ratioTerm}
 
 -- the greatest value that is ever truncated: the weight of D
 abbrev pub most : ℕ

@@ -60,10 +60,6 @@ module _ (p s : List ℕ) (i : ℕ) where
   unfolding begins
   begins-done h = rw (drop-none 0 p i h)
 
-  pub begins-short : i < length p → length s ≤ i → begins (drop i p) (drop i s) ≡ false
-  unfolding begins
-  begins-short h k = rw (drop-here 0 p i h, drop-none 0 s i k)
-
   module _ (h : i < length p) (k : i < length s) where
     pub begins-other : (getD s i 0 ≡ getD p i 0 → ⊥) → begins (drop i p) (drop i s) ≡ false
     unfolding begins

@@ -7,10 +7,11 @@ use native.Mathlib.Nat.{suc-min-suc}
 use native.Mathlib.Omega.{arith}
 use lib.ListN.{length, getD, take, drop, set, replicate, length-take, length-replicate, getD-replicate}
 use lib.Seq.{slice, length-slice, take-nil, take-all, take-take}
-use Rattle.lists.proofs.Fronts.{part-to-end}
+use Rattle.lists.proofs.Joins.{slice-join}
 use Rattle.lists.proofs.Slices.{slice-is, slice-one}
+use Rattle.lists.proofs.Views.{drop-here}
 use Rattle.output.specs.Sink.{paint, written, Wrote}
-use Rattle.output.proofs.Sink.{written-nil, wrote-byte, wrote-length, wrote-part}
+use Rattle.output.proofs.Sink.{written-nil, wrote-byte, wrote-length, wrote-then}
 
 -- ---- over what is written already
 
@@ -45,10 +46,22 @@ byte-over {o} {o′} text j k h l t r w = covered text j k 1 h l (omega arith) w
 pub copied-byte : {o o′ : List ℕ} (text : List ℕ) (n : ℕ) → n < length text → n < length o → Wrote o 0 (take n text) o′ n → Wrote o 0 (take (n + 1) text) (set o′ n (getD text n 0)) (n + 1)
 copied-byte text n h k w = byte-over text n n (omega arith) (omega arith) h k w
 
--- a part of the room, lent from place j on, has come home with a block of the text from there
-pub block-home : (text o ys : List ℕ) (j m : ℕ) → j ≤ length o → Wrote (take (length o - j) (drop j o)) 0 (take m (take (length text - j) (drop j text))) ys m
-    → Wrote o j (slice j (j + m) text) (take j o ++ (ys ++ drop (length o - j) (drop j o))) (j + m)
-block-home text o ys j m h q = wrote-part o j j (slice j (j + m) text) ys m (omega arith) (rw (slice-is j m text) (rw (part-to-end j text) at q))
+pub four-here : (text : List ℕ) (at : ℕ) → at + 4 ≤ length text
+    → getD text at 0 ∷ getD text (at + 1) 0 ∷ getD text (at + 2) 0 ∷ getD text (at + 3) 0 ∷ [] ≡ slice at (at + 4) text
+four-here text at h =
+    let second : at + 1 + 1 ≡ at + 2 = omega arith in
+    let third : at + 2 + 1 ≡ at + 3 = omega arith in
+    sym (slice-is at 4 text ∙ rw (drop-here 0 text at (omega arith), drop-here 0 text (at + 1) (omega arith), second, drop-here 0 text (at + 2) (omega arith), third, drop-here 0 text (at + 3) (omega arith)))
+
+pub byte-to : (o : List ℕ) (n n′ x : ℕ) → n < length o → n′ ≡ n + 1 → Wrote o n (x ∷ []) (set o n x) n′
+byte-to o n n′ x h e = rw e (wrote-byte o n x h)
+
+-- a block, and one behind it
+pub block-behind : {o o′ o″ : List ℕ} (text : List ℕ) (at k m : ℕ) → at + (k + m) ≤ length text → Wrote o at (slice at (at + k) text) o′ (at + k)
+    → Wrote o′ (at + k) (slice (at + k) (at + k + m) text) o″ (at + k + m) → Wrote o at (slice at (at + (k + m)) text) o″ (at + (k + m))
+block-behind text at k m h p q =
+    let e : at + (k + m) ≡ at + k + m = omega arith in
+    rw e (rw (slice-join at (at + k) (at + k + m) text (omega arith) (omega arith) (omega arith)) at (wrote-then p q))
 
 -- so the whole text is written
 pub copied-all : {o o′ : List ℕ} (text : List ℕ) (n : ℕ) → n ≤ length text → length text ≤ n → Wrote o 0 (take n text) o′ n → Wrote o 0 text o′ (length text)

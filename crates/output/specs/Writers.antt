@@ -1,6 +1,6 @@
 -- What the writers write: an indent's bytes, and a word with what stands before it.
 use mathlib.Core.Bool.{Bool, true, false}
-use mathlib.Core.List.{List, _++_}
+use mathlib.Core.List.{List, [], _∷_, _++_}
 use Prim.Native.Nat.{ℕ, _≤_, _<_, _^_}
 use mathlib.Core.Path.{_≡_}
 use lib.ListN.{length, drop, replicate}
@@ -9,8 +9,13 @@ use Rattle.pieces.specs.declared.Margin.{Margin}
 use Rattle.records.specs.Word.{Word}
 use Rattle.records.specs.Table.{wordsIn, AllWithin}
 use Rattle.records.specs.Marks.{breaksIn}
+use Rattle.output.specs.declared.Four.{Four}
 use Rattle.output.specs.declared.Layout.{Layout}
 use Rattle.output.specs.Emission.{lineFeed, emitRest, emit}
+
+-- four bytes, in order
+abbrev pub fourOf : Four → List ℕ
+fourOf f = f .b0 ∷ f .b1 ∷ f .b2 ∷ f .b3 ∷ []
 
 -- an indent: bytes of the notes, then spaces
 abbrev pub marginOf : List ℕ → Margin → List ℕ

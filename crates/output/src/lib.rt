@@ -13,7 +13,7 @@ ghost use Rattle.records.specs.Table.{Within};
 ghost use Rattle.output.specs.Bound.{mostEmitted};
 ghost use Rattle.output.specs.Emission.{lineFeed};
 ghost use Rattle.output.specs.Sink.{Wrote};
-ghost use Rattle.output.specs.Writers.{marginOf, MarginIn, placed, Laid, emitted, emittedFrom};
+ghost use Rattle.output.specs.Writers.{fourOf, marginOf, MarginIn, placed, Laid, emitted, emittedFrom};
 ghost use Rattle.output.specs.Runs.{Joins, Runs};
 
 // How a paragraph is laid out: uniform spacing, and its two indents.
@@ -34,58 +34,34 @@ fn lesser(a: usize, b: usize) -> usize
     b
 }
 
-// The first four bytes of a text, all read before the first is stored, so that they move as one.
-fn copy_four(text: &[u8], rest: &mut [u8])
-    requires { ⌜ (4 ≤ length (now text)) × (4 ≤ length (now rest)) ⌝ }
-    ensures { λ _. ⌜ Wrote (now (rest .entry)) 0 (take 4 (now (text .entry))) (now (rest .exit)) 4 ⌝ }
-{
-    let b0 = text[0];
-    let b1 = text[1];
-    let b2 = text[2];
-    let b3 = text[3];
-    rest[0] = b0;
-    rest[1] = b1;
-    rest[2] = b2;
-    rest[3] = b3;
+// Four bytes that move as one: all are read before the first is stored.
+struct Four {
+    b0: u8,
+    b1: u8,
+    b2: u8,
+    b3: u8,
 }
 
-// The first sixteen bytes, likewise.
-fn copy_sixteen(text: &[u8], rest: &mut [u8])
-    requires { ⌜ (16 ≤ length (now text)) × (16 ≤ length (now rest)) ⌝ }
-    ensures { λ _. ⌜ Wrote (now (rest .entry)) 0 (take 16 (now (text .entry))) (now (rest .exit)) 16 ⌝ }
+fn four_at(text: &[u8], at: usize) -> Four
+    requires { ⌜ at + 4 ≤ length (now text) ⌝ }
+    ensures { λ r. ⌜ fourOf r ≡ slice at (at + 4) (now (text .entry)) ⌝ }
 {
-    let b0 = text[0];
-    let b1 = text[1];
-    let b2 = text[2];
-    let b3 = text[3];
-    let b4 = text[4];
-    let b5 = text[5];
-    let b6 = text[6];
-    let b7 = text[7];
-    let b8 = text[8];
-    let b9 = text[9];
-    let b10 = text[10];
-    let b11 = text[11];
-    let b12 = text[12];
-    let b13 = text[13];
-    let b14 = text[14];
-    let b15 = text[15];
-    rest[0] = b0;
-    rest[1] = b1;
-    rest[2] = b2;
-    rest[3] = b3;
-    rest[4] = b4;
-    rest[5] = b5;
-    rest[6] = b6;
-    rest[7] = b7;
-    rest[8] = b8;
-    rest[9] = b9;
-    rest[10] = b10;
-    rest[11] = b11;
-    rest[12] = b12;
-    rest[13] = b13;
-    rest[14] = b14;
-    rest[15] = b15;
+    Four {
+        b0: text[at],
+        b1: text[at + 1],
+        b2: text[at + 2],
+        b3: text[at + 3],
+    }
+}
+
+fn put_four(four: Four, at: usize, rest: &mut [u8])
+    requires { ⌜ at + 4 ≤ length (now rest) ⌝ }
+    ensures { λ _. ⌜ Wrote (now (rest .entry)) at (fourOf four) (now (rest .exit)) (at + 4) ⌝ }
+{
+    rest[at] = four.b0;
+    rest[at + 1] = four.b1;
+    rest[at + 2] = four.b2;
+    rest[at + 3] = four.b3;
 }
 
 // A text of at most three bytes: its first, middle and last byte, which of a shorter one are partly the same.
@@ -104,11 +80,11 @@ fn copy_few(text: &[u8], rest: &mut [u8])
 }
 
 // Four bytes of a text from a place on, to the same place.
-fn copy_four_at(text: &[u8], at: usize, rest: &mut [u8])
+fn copy_four(text: &[u8], at: usize, rest: &mut [u8])
     requires { ⌜ (at + 4 ≤ length (now text)) × (at + 4 ≤ length (now rest)) ⌝ }
     ensures { λ _. ⌜ Wrote (now (rest .entry)) at (slice at (at + 4) (now (text .entry))) (now (rest .exit)) (at + 4) ⌝ }
 {
-    copy_four(&text[at..], &mut rest[at..]);
+    put_four(four_at(text, at), at, rest);
 }
 
 // A text of four to fifteen bytes: four blocks, the last of which ends with it. Where they overlap, they have the same bytes, so that no
@@ -120,18 +96,28 @@ fn copy_short(text: &[u8], rest: &mut [u8])
     let last = text.len() - 4;
     let second = lesser(4, last);
     let third = lesser(8, last);
-    copy_four_at(text, 0, rest);
-    copy_four_at(text, second, rest);
-    copy_four_at(text, third, rest);
-    copy_four_at(text, last, rest);
+    copy_four(text, 0, rest);
+    copy_four(text, second, rest);
+    copy_four(text, third, rest);
+    copy_four(text, last, rest);
 }
 
-// Sixteen bytes of a text from a place on, to the same place.
-fn copy_sixteen_at(text: &[u8], at: usize, rest: &mut [u8])
+// Sixteen bytes, likewise: read before the first is stored, they too move as one.
+fn copy_sixteen(text: &[u8], at: usize, rest: &mut [u8])
     requires { ⌜ (at + 16 ≤ length (now text)) × (at + 16 ≤ length (now rest)) ⌝ }
     ensures { λ _. ⌜ Wrote (now (rest .entry)) at (slice at (at + 16) (now (text .entry))) (now (rest .exit)) (at + 16) ⌝ }
 {
-    copy_sixteen(&text[at..], &mut rest[at..]);
+    let second = at + 4;
+    let third = at + 8;
+    let fourth = at + 12;
+    let a = four_at(text, at);
+    let b = four_at(text, second);
+    let c = four_at(text, third);
+    let d = four_at(text, fourth);
+    put_four(a, at, rest);
+    put_four(b, second, rest);
+    put_four(c, third, rest);
+    put_four(d, fourth, rest);
 }
 
 // A text of sixteen bytes or more: two blocks a turn as long as more is left than two, then one, and one that ends with the text.
@@ -143,12 +129,12 @@ fn copy_long(text: &[u8], rest: &mut [u8])
     let mut k = 0;
     while k + 16 < last {
         let second = k + 16;
-        copy_sixteen_at(text, k, rest);
-        copy_sixteen_at(text, second, rest);
+        copy_sixteen(text, k, rest);
+        copy_sixteen(text, second, rest);
         k = second + 16;
     }
-    copy_sixteen_at(text, lesser(k, last), rest);
-    copy_sixteen_at(text, last, rest);
+    copy_sixteen(text, lesser(k, last), rest);
+    copy_sixteen(text, last, rest);
 }
 
 // A text, to where there is room for it.

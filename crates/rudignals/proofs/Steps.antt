@@ -100,7 +100,7 @@ module _ (block notes : List ℕ) (o : Options) (ready : Ready block notes o) (n
   words-are : wordsOf (meant block o) q ≡ wordsFor block notes at o p
   words-are = text-words (meant block o) notes at p q text
 
-  pub text-placed : Placed notes at o p
+  text-placed : Placed notes at o p
   unfolding meant
   text-placed =
       let k = ready-kept block notes o ready in

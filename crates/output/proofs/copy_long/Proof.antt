@@ -28,11 +28,11 @@ add-loop c = omega arith
 add-second : tie.Need-add-second Inv-loop μ-loop
 add-second c = omega arith
 
-copy-sixteen-at-requires : tie.Need-copy-sixteen-at-requires Inv-loop μ-loop
-copy-sixteen-at-requires c κs = (omega arith, omega (arith, c .before .before .before .before .before .pre .1, wrote-length (c .before .before .loop .inv .1)))
+copy-sixteen-requires : tie.Need-copy-sixteen-requires Inv-loop μ-loop
+copy-sixteen-requires c κs = (omega arith, omega (arith, c .before .before .before .before .before .pre .1, wrote-length (c .before .before .loop .inv .1)))
 
-copy-sixteen-at-requires-2 : tie.Need-copy-sixteen-at-requires-2 Inv-loop μ-loop
-copy-sixteen-at-requires-2 c κs = (omega arith, omega (arith, c .before .before .before .before .before .before .before .before .before .pre .1, wrote-length (c .before .before .before .before .before .before .loop .inv .1), wrote-length (c .before .before .before .copy-sixteen-at .ensures)))
+copy-sixteen-requires-2 : tie.Need-copy-sixteen-requires-2 Inv-loop μ-loop
+copy-sixteen-requires-2 c κs = (omega arith, omega (arith, c .before .before .before .before .before .before .before .before .before .pre .1, wrote-length (c .before .before .before .before .before .before .loop .inv .1), wrote-length (c .before .before .before .copy-sixteen .ensures)))
 
 add-k : tie.Need-add-k Inv-loop μ-loop
 add-k c = omega arith
@@ -44,21 +44,21 @@ loop-again : tie.Need-loop-again Inv-loop μ-loop
 loop-again c =
     let t = now (c .before .before .before .before .before .before .before .before .before .before .before .before .args .text) in
     let l = c .before .before .before .before .before .before .before .before .before .loop in
-    let first = covered t (l .k) (l .k) 16 (omega arith) (omega arith) (omega arith) (l .inv .1) (c .before .before .before .before .before .before .copy-sixteen-at .ensures) in
-    (omega arith, covered t (l .k + 16) (l .k + 16) 16 (omega arith) (omega arith) (omega arith) first (c .before .before .copy-sixteen-at2 .ensures))
+    let first = covered t (l .k) (l .k) 16 (omega arith) (omega arith) (omega arith) (l .inv .1) (c .before .before .before .before .before .before .copy-sixteen .ensures) in
+    (omega arith, covered t (l .k + 16) (l .k + 16) 16 (omega arith) (omega arith) (omega arith) first (c .before .before .copy-sixteen2 .ensures))
 
 lesser-requires : tie.Need-lesser-requires Inv-loop μ-loop
 lesser-requires c κs = search needs
 
-copy-sixteen-at-requires-3 : tie.Need-copy-sixteen-at-requires-3 Inv-loop μ-loop
-copy-sixteen-at-requires-3 c κs = (omega (arith, c .before .before .before .before .before .before .pre .0), omega (arith, c .before .before .before .before .before .before .pre .0, c .before .before .before .before .before .before .pre .1, wrote-length (c .before .before .before .loop .inv .1)))
+copy-sixteen-requires-3 : tie.Need-copy-sixteen-requires-3 Inv-loop μ-loop
+copy-sixteen-requires-3 c κs = (omega (arith, c .before .before .before .before .before .before .pre .0), omega (arith, c .before .before .before .before .before .before .pre .0, c .before .before .before .before .before .before .pre .1, wrote-length (c .before .before .before .loop .inv .1)))
 
-copy-sixteen-at-requires-4 : tie.Need-copy-sixteen-at-requires-4 Inv-loop μ-loop
-copy-sixteen-at-requires-4 c κs =
-    (omega (arith, c .before .before .before .before .before .before .before .before .before .before .pre .0), omega (arith, c .before .before .before .before .before .before .before .before .before .before .pre .0, c .before .before .before .before .before .before .before .before .before .before .pre .1, wrote-length (c .before .before .before .before .before .before .before .loop .inv .1), wrote-length (c .before .before .before .copy-sixteen-at3 .ensures)))
+copy-sixteen-requires-4 : tie.Need-copy-sixteen-requires-4 Inv-loop μ-loop
+copy-sixteen-requires-4 c κs =
+    (omega (arith, c .before .before .before .before .before .before .before .before .before .before .pre .0), omega (arith, c .before .before .before .before .before .before .before .before .before .before .pre .0, c .before .before .before .before .before .before .before .before .before .before .pre .1, wrote-length (c .before .before .before .before .before .before .before .loop .inv .1), wrote-length (c .before .before .before .copy-sixteen3 .ensures)))
 
 same-length : tie.Need-same-length Inv-loop μ-loop
-same-length c = omega (arith, wrote-length (c .before .before .before .before .before .before .before .before .before .before .loop .inv .1), wrote-length (c .before .before .before .before .before .before .copy-sixteen-at3 .ensures), wrote-length (c .before .before .copy-sixteen-at4 .ensures))
+same-length c = omega (arith, wrote-length (c .before .before .before .before .before .before .before .before .before .before .loop .inv .1), wrote-length (c .before .before .before .before .before .before .copy-sixteen3 .ensures), wrote-length (c .before .before .copy-sixteen4 .ensures))
 
 returns : tie.Need-returns Inv-loop μ-loop
 returns c =
@@ -69,8 +69,8 @@ returns c =
     let h = s .pre .0 in
     copied-all t (length t - 16 + 16) (omega arith) (omega arith)
     (covered t (length t - 16) (r .result + 16) 16 (omega arith) (omega arith) (omega arith)
-    (covered t (r .result) (l .k) 16 (omega arith) (omega arith) (omega arith) (l .inv .1) (c .before .before .before .before .before .before .copy-sixteen-at3 .ensures))
-    (c .before .before .copy-sixteen-at4 .ensures))
+    (covered t (r .result) (l .k) 16 (omega arith) (omega arith) (omega arith) (l .inv .1) (c .before .before .before .before .before .before .copy-sixteen3 .ensures))
+    (c .before .before .copy-sixteen4 .ensures))
 
 pub copy-long-spec : {M : Type 1} → statement M
 copy-long-spec =
@@ -82,13 +82,13 @@ copy-long-spec =
     loop-holds
     add-loop
     add-second
-    copy-sixteen-at-requires
-    copy-sixteen-at-requires-2
+    copy-sixteen-requires
+    copy-sixteen-requires-2
     add-k
     loop-less
     loop-again
     lesser-requires
-    copy-sixteen-at-requires-3
-    copy-sixteen-at-requires-4
+    copy-sixteen-requires-3
+    copy-sixteen-requires-4
     same-length
     returns)

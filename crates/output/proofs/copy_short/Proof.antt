@@ -17,17 +17,17 @@ lesser-requires c κs = search needs
 lesser-requires-2 : tie.Need-lesser-requires-2
 lesser-requires-2 c κs = search needs
 
-copy-four-at-requires : tie.Need-copy-four-at-requires
-copy-four-at-requires c κs = search needs
+copy-four-requires : tie.Need-copy-four-requires
+copy-four-requires c κs = search needs
 
-copy-four-at-requires-2 : tie.Need-copy-four-at-requires-2
-copy-four-at-requires-2 c κs = search needs
+copy-four-requires-2 : tie.Need-copy-four-requires-2
+copy-four-requires-2 c κs = search needs
 
-copy-four-at-requires-3 : tie.Need-copy-four-at-requires-3
-copy-four-at-requires-3 c κs = search needs
+copy-four-requires-3 : tie.Need-copy-four-requires-3
+copy-four-requires-3 c κs = search needs
 
-copy-four-at-requires-4 : tie.Need-copy-four-at-requires-4
-copy-four-at-requires-4 c κs = search needs
+copy-four-requires-4 : tie.Need-copy-four-requires-4
+copy-four-requires-4 c κs = search needs
 
 same-length : tie.Need-same-length
 same-length c = search needs
@@ -40,9 +40,9 @@ returns c =
     copied-all t (length t - 4 + 4) (omega arith) (omega arith)
     (covered t (length t - 4) (third .result + 4) 4 (omega arith) (omega arith) (omega arith)
     (covered t (third .result) (second .result + 4) 4 (omega arith) (omega arith) (omega arith)
-    (covered t (second .result) 4 4 (omega arith) (omega arith) (omega arith) (c .before .before .before .before .before .before .before .before .before .before .before .before .before .before .copy-four-at .ensures) (c .before .before .before .before .before .before .before .before .before .before .copy-four-at2 .ensures))
-    (c .before .before .before .before .before .before .copy-four-at3 .ensures))
-    (c .before .before .copy-four-at4 .ensures))
+    (covered t (second .result) 4 4 (omega arith) (omega arith) (omega arith) (c .before .before .before .before .before .before .before .before .before .before .before .before .before .before .copy-four .ensures) (c .before .before .before .before .before .before .before .before .before .before .copy-four2 .ensures))
+    (c .before .before .before .before .before .before .copy-four3 .ensures))
+    (c .before .before .copy-four4 .ensures))
 
 pub copy-short-spec : {M : Type 1} → statement M
 copy-short-spec =
@@ -51,9 +51,9 @@ copy-short-spec =
     sub-last
     lesser-requires
     lesser-requires-2
-    copy-four-at-requires
-    copy-four-at-requires-2
-    copy-four-at-requires-3
-    copy-four-at-requires-4
+    copy-four-requires
+    copy-four-requires-2
+    copy-four-requires-3
+    copy-four-requires-4
     same-length
     returns)
