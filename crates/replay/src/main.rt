@@ -2,18 +2,16 @@
 // output under code 0; each line of data/cases.txt, written from document 01, a block, notes, the whole number that the call answers and
 // all bytes of the output slice afterwards. Writes how many lines each has and how many of them the call answers so.
 use libc::STDOUT_FILENO;
-ghost use Prim.Native.Nat.{_+_, _≤_, _<_};
+ghost use Prim.Native.Nat.{_+_, _*_, _≤_, _<_};
 ghost use mathlib.Core.Path.{_≡_};
 ghost use lib.ListN.{length};
 
-// A line's field: how many bytes it has, and the place behind it and what parts it from the next.
-struct Field {
-    len: usize,
-    next: usize,
-}
-
-struct Line {
-    right: bool,
+// Where the fields of a line begin, and the next line.
+struct Row {
+    block: usize,
+    notes: usize,
+    number: usize,
+    want: usize,
     next: usize,
 }
 
@@ -76,79 +74,90 @@ fn field_end(text: &[u8], at: usize) -> usize
     i
 }
 
-fn read_field(text: &[u8], at: usize, out: &mut [u8]) -> Field
-    ensures { λ r. ⌜ (r .len ≤ length (now (out .exit))) × (at ≤ r .next) × (at < length (now (text .entry)) → at < r .next) ⌝ }
+// The place behind a field and what parts it from the next.
+fn next_field(text: &[u8], at: usize) -> usize
+    requires { ⌜ at ≤ length (now text) ⌝ }
+    ensures { λ r. ⌜ (at ≤ r) × (r ≤ length (now (text .entry))) × (at < length (now (text .entry)) → at < r) ⌝ }
 {
-    if text.len() <= at {
-        return Field { len: 0, next: at };
-    }
     let end = field_end(text, at);
-    Field {
-        len: decode(&text[at..end], out),
-        next: end + 1,
+    if end < text.len() {
+        return end + 1;
     }
+    end
 }
 
-fn same(a: &[u8], b: &[u8]) -> bool {
-    if a.len() != b.len() {
-        return false;
+// How many bytes a field spells.
+fn field_bytes(text: &[u8], at: usize) -> usize
+    requires { ⌜ at ≤ length (now text) ⌝ }
+    ensures { λ r. ⌜ at + 2 * r ≤ length (now (text .entry)) ⌝ }
+{
+    (field_end(text, at) - at) / 2
+}
+
+fn read_field(text: &[u8], at: usize, out: &mut [u8]) -> usize
+    requires { ⌜ at ≤ length (now text) ⌝ }
+    ensures { λ r. ⌜ r ≤ length (now (out .exit)) ⌝ }
+{
+    let end = field_end(text, at);
+    decode(&text[at..end], out)
+}
+
+// The number that a field spells, of its last sixteen digits.
+fn read_number(text: &[u8], at: usize) -> u64
+    requires { ⌜ at ≤ length (now text) ⌝ }
+{
+    let end = field_end(text, at);
+    let mut number: u64 = 0;
+    let mut i = at;
+    while i < end {
+        number = number % 0x1000_0000_0000_0000 * 16 + digit(text[i]) as u64;
+        i += 1;
     }
-    let mut i = 0;
-    while i < a.len() {
-        if a[i] != b[i] {
+    number
+}
+
+// Whether a field spells the first bytes of the output.
+fn spells(text: &[u8], at: usize, output: &[u8], size: usize) -> bool
+    requires { ⌜ (at + 2 * size ≤ length (now text)) × (size ≤ length (now output)) ⌝ }
+{
+    let mut k = 0;
+    while k < size {
+        let i = at + k * 2;
+        let j = i + 1;
+        if output[k] != digit(text[i]) * 16 + digit(text[j]) {
             return false;
         }
-        i += 1;
+        k += 1;
     }
     true
 }
 
-// One line: the call with its block and notes, and room for more than its output.
-fn replay(
-    text: &[u8],
-    at: usize,
-    block: &mut [u8],
-    notes: &mut [u8],
-    want: &mut [u8],
-    output: &mut [u8],
-) -> Line
-    requires { ⌜ at < length (now text) ⌝ }
-    ensures { λ r. ⌜ at < r .next ⌝ }
+// Behind the number, which a line of the Rust's list has not.
+fn behind_number(text: &[u8], at: usize, whole: bool) -> usize
+    requires { ⌜ at ≤ length (now text) ⌝ }
+    ensures { λ r. ⌜ (at ≤ r) × (r ≤ length (now (text .entry))) ⌝ }
 {
-    let first = read_field(text, at, block);
-    let second = read_field(text, first.next, notes);
-    let third = read_field(text, second.next, want);
-    let b = first.len;
-    let n = second.len;
-    let w = third.len;
-    let answer = rudignals::rudignals_format(&block[..b], &notes[..n], output);
-    let next = third.next;
-    if answer != w as u64 {
-        return Line { right: false, next };
+    if whole {
+        return next_field(text, at);
     }
-    if output.len() < w {
-        return Line { right: false, next };
-    }
-    Line {
-        right: same(&output[..w], &want[..w]),
-        next,
-    }
+    at
 }
 
-// The bytes of an answer, most significant first.
-fn octets(answer: u64) -> [u8; 8]
-    ensures { λ r. ⌜ 8 ≡ length r ⌝ }
+fn row_at(text: &[u8], at: usize, whole: bool) -> Row
+    requires { ⌜ at < length (now text) ⌝ }
+    ensures { λ r. ⌜ (r .block ≤ length (now (text .entry))) × (r .notes ≤ length (now (text .entry))) × (r .number ≤ length (now (text .entry))) × (r .want ≤ length (now (text .entry))) × (at < r .next) ⌝ }
 {
-    [
-        (answer / 0x100_0000_0000_0000 % 256) as u8,
-        (answer / 0x1_0000_0000_0000 % 256) as u8,
-        (answer / 0x100_0000_0000 % 256) as u8,
-        (answer / 0x1_0000_0000 % 256) as u8,
-        (answer / 0x100_0000 % 256) as u8,
-        (answer / 0x1_0000 % 256) as u8,
-        (answer / 0x100 % 256) as u8,
-        (answer % 256) as u8,
-    ]
+    let notes = next_field(text, at);
+    let number = next_field(text, notes);
+    let want = behind_number(text, number, whole);
+    let next = next_field(text, want);
+    Row {
+        block: at,
+        notes,
+        number,
+        want,
+        next,
+    }
 }
 
 // Fills the output with dots, so that what a call leaves unchanged is seen.
@@ -161,73 +170,42 @@ fn dot(output: &mut [u8]) {
 }
 
 // The call on the front parts of its slices, the output filled with dots before it.
-fn ask(block: &[u8], b: usize, notes: &[u8], n: usize, output: &mut [u8], w: usize) -> u64
-    requires { ⌜ (b ≤ length (now block)) × (n ≤ length (now notes)) × (w ≤ length (now output)) ⌝ }
+fn ask(block: &[u8], b: usize, notes: &[u8], n: usize, output: &mut [u8]) -> u64
+    requires { ⌜ (b ≤ length (now block)) × (n ≤ length (now notes)) ⌝ }
 {
     dot(output);
-    rudignals::rudignals_format(&block[..b], &notes[..n], &mut output[..w])
+    rudignals::rudignals_format(&block[..b], &notes[..n], output)
 }
 
-fn same_front(a: &[u8], b: &[u8], w: usize) -> bool
-    requires { ⌜ (w ≤ length (now a)) × (w ≤ length (now b)) ⌝ }
+// The number that a line wants: its own or, of the Rust's, code 0 with the output's length.
+fn wanted(text: &[u8], at: usize, whole: bool, size: usize) -> u64
+    requires { ⌜ at ≤ length (now text) ⌝ }
 {
-    same(&a[..w], &b[..w])
-}
-
-fn same_number(answer: u64, number: &[u8]) -> bool {
-    let told = octets(answer);
-    same(&told, number)
-}
-
-// One line with a whole answer: option block, notes, the number that the call gives, and all bytes of the output slice afterwards.
-fn replay_whole(
-    text: &[u8],
-    at: usize,
-    block: &mut [u8],
-    notes: &mut [u8],
-    number: &mut [u8],
-    want: &mut [u8],
-    output: &mut [u8],
-) -> Line
-    requires { ⌜ at < length (now text) ⌝ }
-    ensures { λ r. ⌜ at < r .next ⌝ }
-{
-    let first = read_field(text, at, block);
-    let second = read_field(text, first.next, notes);
-    let third = read_field(text, second.next, number);
-    let fourth = read_field(text, third.next, want);
-    let w = lesser(fourth.len, output.len());
-    let answer = ask(block, first.len, notes, second.len, output, w);
-    if same_number(answer, number) {
-        return Line {
-            right: same_front(output, want, w),
-            next: fourth.next,
-        };
+    if whole {
+        return read_number(text, at);
     }
-    Line {
-        right: false,
-        next: fourth.next,
-    }
+    size as u64
 }
 
-// A line of either list.
-fn replay_line(
+// The call of one line, with an output slice of the length that it wants.
+fn answered(
     text: &[u8],
-    at: usize,
+    row: Row,
     whole: bool,
     block: &mut [u8],
     notes: &mut [u8],
-    number: &mut [u8],
-    want: &mut [u8],
     output: &mut [u8],
-) -> Line
-    requires { ⌜ at < length (now text) ⌝ }
-    ensures { λ r. ⌜ at < r .next ⌝ }
+) -> bool
+    requires { ⌜ (row .block ≤ length (now text)) × (row .notes ≤ length (now text)) × (row .number ≤ length (now text)) × (row .want ≤ length (now text)) ⌝ }
 {
-    if whole {
-        return replay_whole(text, at, block, notes, number, want, output);
+    let b = read_field(text, row.block, block);
+    let n = read_field(text, row.notes, notes);
+    let size = lesser(field_bytes(text, row.want), output.len());
+    let answer = ask(block, b, notes, n, &mut output[..size]);
+    if answer != wanted(text, row.number, whole, size) {
+        return false;
     }
-    replay(text, at, block, notes, want, output)
+    spells(text, row.want, output, size)
 }
 
 // All lines of the text up to a place.
@@ -237,8 +215,6 @@ fn replay_all(
     whole: bool,
     block: &mut [u8],
     notes: &mut [u8],
-    number: &mut [u8],
-    want: &mut [u8],
     output: &mut [u8],
 ) -> Tally
     requires { ⌜ to ≤ length (now text) ⌝ }
@@ -247,10 +223,11 @@ fn replay_all(
     let mut lines: usize = 0;
     let mut right: usize = 0;
     while at < to {
-        let line = replay_line(text, at, whole, block, notes, number, want, output);
-        at = line.next;
+        let row = row_at(text, at, whole);
+        let next = row.next;
         lines += 1;
-        right += one_if(line.right);
+        right += one_if(answered(text, row, whole, block, notes, output));
+        at = next;
     }
     Tally { lines, right }
 }
@@ -317,8 +294,6 @@ fn replay_file(
     text: &mut [u8],
     block: &mut [u8],
     notes: &mut [u8],
-    number: &mut [u8],
-    want: &mut [u8],
     output: &mut [u8],
 ) -> Tally {
     let mut held = 0;
@@ -328,7 +303,7 @@ fn replay_file(
     while turns < 64 {
         let got = fill_up(fd, text, held);
         let end = whole_lines(text, got);
-        let part = replay_all(text, end, whole, block, notes, number, want, output);
+        let part = replay_all(text, end, whole, block, notes, output);
         lines = wrapping_add(lines, part.lines);
         right = wrapping_add(right, part.right);
         to_front(text, end, got);
@@ -343,43 +318,28 @@ fn wrapping_add(a: usize, b: usize) -> usize {
 }
 
 // A list's name, how many lines it has, and how many of them were answered rightly.
-fn tell(tally: Tally, name: &[u8]) {
+fn tell(name: &[u8], tally: Tally) {
     io::write_all(STDOUT_FILENO, name);
+    io::write_all(STDOUT_FILENO, b": ");
     io::print_decimal(STDOUT_FILENO, tally.lines as u64);
     io::write_all(STDOUT_FILENO, b" lines, ");
     io::print_decimal(STDOUT_FILENO, tally.right as u64);
     io::write_all(STDOUT_FILENO, b" answered so\n");
 }
 
-fn main() {
+fn replay_list(name: &[u8], whole: bool) {
     let mut text = room_for_lines();
     let mut block = io::buffer();
     let mut notes = room_for_digest();
-    let mut number = [0u8; 8];
-    let mut want = room_for_digest();
     let mut output = room_for_digest();
-    let fd = os::open_read(b"vectors.txt");
-    let rust = replay_file(
-        fd,
-        false,
-        &mut text,
-        &mut block,
-        &mut notes,
-        &mut number,
-        &mut want,
-        &mut output,
+    let fd = os::open_read(name);
+    tell(
+        name,
+        replay_file(fd, whole, &mut text, &mut block, &mut notes, &mut output),
     );
-    tell(rust, b"vectors.txt: ");
-    let cases = os::open_read(b"cases.txt");
-    let own = replay_file(
-        cases,
-        true,
-        &mut text,
-        &mut block,
-        &mut notes,
-        &mut number,
-        &mut want,
-        &mut output,
-    );
-    tell(own, b"cases.txt: ");
+}
+
+fn main() {
+    replay_list(b"vectors.txt", false);
+    replay_list(b"cases.txt", true);
 }

@@ -4,10 +4,6 @@ use lib.Seq.{length-take-le}
 use borrow.Author.Needs.{needs}
 use Rattle.replay.proofs.ask.Statement.{statement}
 use Rattle.replay.proofs.ask.Tie as tie
-use Rattle.replay.proofs.ask.Reads as reads
-use Rattle.replay.proofs.ask.Lts as lts
-use Rattle.replay.proofs.dot.Reads as dot-reads
-use Rattle.rudignals.proofs.rudignals_format.Reads as rudignals-format-reads
 
 dot-requires : tie.Need-dot-requires
 dot-requires c κs = search needs
@@ -17,12 +13,6 @@ slice-aggregate-rudignals-format c = sym (length-take-le _ _ (c .before .before 
 
 slice-aggregate-rudignals-format-2 : tie.Need-slice-aggregate-rudignals-format-2
 slice-aggregate-rudignals-format-2 c = sym (length-take-le _ _ (c .before .before .before .before .before .before .before .before .before .pre .1))
-
-slice-relend-prefix-rudignals-format : tie.Need-slice-relend-prefix-rudignals-format
-slice-relend-prefix-rudignals-format c = search needs
-
-slice-aggregate-rudignals-format-3 : tie.Need-slice-aggregate-rudignals-format-3
-slice-aggregate-rudignals-format-3 c = sym (length-take-le _ _ (search needs))
 
 rudignals-format-requires : tie.Need-rudignals-format-requires
 rudignals-format-requires c κs = search needs
@@ -40,8 +30,6 @@ ask-spec =
     dot-requires
     slice-aggregate-rudignals-format
     slice-aggregate-rudignals-format-2
-    slice-relend-prefix-rudignals-format
-    slice-aggregate-rudignals-format-3
     rudignals-format-requires
     same-length
     returns)

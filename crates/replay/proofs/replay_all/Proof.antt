@@ -5,25 +5,24 @@ use lib.ListN.{length}
 use borrow.Author.Needs.{needs}
 use Rattle.replay.proofs.replay_all.Statement.{statement}
 use Rattle.replay.proofs.replay_all.Tie as tie
-use Rattle.replay.proofs.replay_all.Reads as reads
-use Rattle.replay.proofs.replay_all.Lts as lts
-use Rattle.replay.proofs.one_if.Reads as one-if-reads
-use Rattle.replay.proofs.replay_line.Reads as replay-line-reads
 
 abbrev Inv-loop : tie.InvT-loop
-Inv-loop text to whole block₀ notes₀ number₀ want₀ output₀ at₀ lines₀ right₀ block notes number want output at lines right = (lines ≤ at) × (right ≤ lines) × (length block ≡ length block₀) × (length notes ≡ length notes₀) × (length number ≡ length number₀) × (length want ≡ length want₀) × (length output ≡ length output₀)
+Inv-loop text to whole block₀ notes₀ output₀ at₀ lines₀ right₀ block notes output at lines right = (lines ≤ at) × (right ≤ lines) × (length block ≡ length block₀) × (length notes ≡ length notes₀) × (length output ≡ length output₀)
 
 abbrev μ-loop : tie.MeasureT-loop
-μ-loop text to whole block₀ notes₀ number₀ want₀ output₀ at₀ lines₀ right₀ block notes number want output at lines right = to - at
+μ-loop text to whole block₀ notes₀ output₀ at₀ lines₀ right₀ block notes output at lines right = to - at
 
 loop-holds : tie.Need-loop-holds Inv-loop μ-loop
 loop-holds c = search needs
 
-replay-line-requires : tie.Need-replay-line-requires Inv-loop μ-loop
-replay-line-requires c κs = search needs
+row-at-requires : tie.Need-row-at-requires Inv-loop μ-loop
+row-at-requires c κs = search needs
 
 add-lines : tie.Need-add-lines Inv-loop μ-loop
 add-lines c = search needs
+
+answered-requires : tie.Need-answered-requires Inv-loop μ-loop
+answered-requires c κs = search needs
 
 one-if-requires : tie.Need-one-if-requires Inv-loop μ-loop
 one-if-requires c κs = search needs
@@ -46,12 +45,6 @@ same-length-2 c = search needs
 same-length-3 : tie.Need-same-length-3 Inv-loop μ-loop
 same-length-3 c = search needs
 
-same-length-4 : tie.Need-same-length-4 Inv-loop μ-loop
-same-length-4 c = search needs
-
-same-length-5 : tie.Need-same-length-5 Inv-loop μ-loop
-same-length-5 c = search needs
-
 returns : tie.Need-returns Inv-loop μ-loop
 returns c = search needs
 
@@ -62,8 +55,9 @@ replay-all-spec =
     Inv-loop
     μ-loop
     loop-holds
-    replay-line-requires
+    row-at-requires
     add-lines
+    answered-requires
     one-if-requires
     add-right
     loop-less
@@ -71,6 +65,4 @@ replay-all-spec =
     same-length
     same-length-2
     same-length-3
-    same-length-4
-    same-length-5
     returns)

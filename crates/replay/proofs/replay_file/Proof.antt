@@ -1,23 +1,17 @@
--- `replay::replay_file` reads and replays inside its slices.
+-- `replay::replay_file` ends: there are so many turns.
 use mathlib.Core.Path.{_≡_}
 use Prim.Native.Nat.{_-_, _≤_}
 use lib.ListN.{length}
 use borrow.Author.Needs.{needs}
 use Rattle.replay.proofs.replay_file.Statement.{statement}
 use Rattle.replay.proofs.replay_file.Tie as tie
-use Rattle.replay.proofs.replay_file.Reads as reads
-use Rattle.replay.proofs.replay_file.Lts as lts
-use Rattle.replay.proofs.fill_up.Reads as fill-up-reads
-use Rattle.replay.proofs.replay_all.Reads as replay-all-reads
-use Rattle.replay.proofs.to_front.Reads as to-front-reads
-use Rattle.replay.proofs.whole_lines.Reads as whole-lines-reads
-use Rattle.replay.proofs.wrapping_add.Reads as wrapping-add-reads
 
 abbrev Inv-loop : tie.InvT-loop
-Inv-loop fd whole text₀ block₀ notes₀ number₀ want₀ output₀ held₀ turns₀ lines₀ right₀ text block notes number want output held turns lines right = (held ≤ length text) × (turns ≤ 64) × (length text ≡ length text₀) × (length block ≡ length block₀) × (length notes ≡ length notes₀) × (length number ≡ length number₀) × (length want ≡ length want₀) × (length output ≡ length output₀)
+Inv-loop fd whole text₀ block₀ notes₀ output₀ held₀ turns₀ lines₀ right₀ text block notes output held turns lines right =
+    (held ≤ length text) × (length text ≡ length text₀) × (length block ≡ length block₀) × (length notes ≡ length notes₀) × (length output ≡ length output₀)
 
 abbrev μ-loop : tie.MeasureT-loop
-μ-loop fd whole text₀ block₀ notes₀ number₀ want₀ output₀ held₀ turns₀ lines₀ right₀ text block notes number want output held turns lines right = 64 - turns
+μ-loop fd whole text₀ block₀ notes₀ output₀ held₀ turns₀ lines₀ right₀ text block notes output held turns lines right = 64 - turns
 
 loop-holds : tie.Need-loop-holds Inv-loop μ-loop
 loop-holds c = search needs
@@ -64,12 +58,6 @@ same-length-3 c = search needs
 same-length-4 : tie.Need-same-length-4 Inv-loop μ-loop
 same-length-4 c = search needs
 
-same-length-5 : tie.Need-same-length-5 Inv-loop μ-loop
-same-length-5 c = search needs
-
-same-length-6 : tie.Need-same-length-6 Inv-loop μ-loop
-same-length-6 c = search needs
-
 returns : tie.Need-returns Inv-loop μ-loop
 returns c = search needs
 
@@ -94,6 +82,4 @@ replay-file-spec =
     same-length-2
     same-length-3
     same-length-4
-    same-length-5
-    same-length-6
     returns)
