@@ -8,7 +8,7 @@ use lib.Dec.{T, leb, ltb, eqb, leb→le, le→leb, eqb→eq, lit<}
 use lib.Ieee.{Float, nan, inf, fin, binary32, up, down, unlike, round, sum, sub, mul, div, ofInt}
 use lib.Ieee.Fits.{down-pos}
 use lib.Ieee.Exact.{HasValue}
-use Rattle.demerits.specs.Bounds.{within, upTo}
+use Rattle.demerits.specs.Contracts.Bounds.{within, upTo}
 use Rattle.demerits.specs.Demerits.{abs, float}
 use Rattle.demerits.proofs.Rounding.{abs-round, round-within}
 

@@ -15,7 +15,7 @@ use lib.Ieee.Digits.{size-lt, size-le, size-reaches}
 use lib.Ieee.Fits.{down-pos, kept-lt}
 use lib.Ieee.Nearest.{div-same}
 use borrow.Author.Tests.{ltb-true, ltb-false}
-use Rattle.demerits.specs.Bounds.{upTo, most, places}
+use Rattle.demerits.specs.Contracts.Bounds.{upTo, most, places}
 use Rattle.demerits.specs.Demerits.{whole}
 
 -- ---- the arithmetic of a pattern b = k * 2 ^ 23 + q

@@ -11,7 +11,7 @@ use lib.Ieee.Fits.{eq→eqb}
 use lib.Ieee.Back.{round-whole}
 use lib.Ieee.Bits.{is-true}
 use borrow.Author.Tests.{ne-eqb, le-leb, lt-leb, ltb-true, ltb-false}
-use Rattle.demerits.specs.Bounds.{within, apart}
+use Rattle.demerits.specs.Contracts.Bounds.{within, apart}
 use Rattle.demerits.specs.Demerits.{float, noRatio, ratio}
 use Rattle.demerits.proofs.Rounding.{neg-round, round-within}
 use Rattle.demerits.proofs.Operations.{div-within}

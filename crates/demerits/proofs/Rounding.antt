@@ -10,7 +10,7 @@ use lib.Ieee.Fits.{down-pos, round-is}
 use lib.Ieee.Exact.{HasValue}
 use lib.Ieee.Back.{round-whole}
 use lib.Ieee.Order.{transfer, round-mono, kept, drop}
-use Rattle.demerits.specs.Bounds.{within}
+use Rattle.demerits.specs.Contracts.Bounds.{within}
 use Rattle.demerits.specs.Demerits.{abs}
 
 -- ---- what turns the sign s of a value into t turns that of a rounded fraction

@@ -8,7 +8,7 @@ use lib.Dec.{T, leb, lit≤, lit<}
 use lib.Ieee.{Float, binary32, mul, sub, div, ofInt}
 use lib.Ieee.Back.{round-whole}
 use borrow.Author.Tests.{leb-true, leb-false, le-leb, lt-leb}
-use Rattle.demerits.specs.Bounds.{within, upTo, mostCost, costWith}
+use Rattle.demerits.specs.Contracts.Bounds.{within, upTo, mostCost, costWith}
 use Rattle.demerits.specs.Demerits.{abs, cube, float, term, lineTerm, wordTerm, ratioTerm, cost}
 use Rattle.demerits.proofs.Operations.{abs-upTo, upTo-more, float-upTo, mul-within, mul-upTo, sub-within, div-within}
 use Rattle.demerits.proofs.Ratios.{quotient-within}

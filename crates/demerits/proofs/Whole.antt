@@ -7,7 +7,7 @@ use native.Mathlib.Omega.{arith}
 use lib.Dec.{T, leb→le}
 use lib.Ieee.{Float, fin, up, down, toUnsigned}
 use lib.Ieee.Fits.{down-pos}
-use Rattle.demerits.specs.Bounds.{upTo}
+use Rattle.demerits.specs.Contracts.Bounds.{upTo}
 use Rattle.demerits.specs.Demerits.{whole}
 
 pub whole-le : (n : ℕ) (x : Float) → T (upTo n x) → whole x ≤ n

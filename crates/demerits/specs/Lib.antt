@@ -1,3 +1,3 @@
 pub mod Demerits
-pub mod Bounds
-pub mod Examples
+pub mod Contracts
+pub mod Trials

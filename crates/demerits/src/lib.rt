@@ -3,7 +3,7 @@ ghost use mathlib.Core.Path.{_≡_};
 ghost use Prim.Native.Nat.{_+_, _-_, _≤_, _<_};
 ghost use lib.Dec.{T};
 ghost use lib.Ieee.{binary32, mul};
-ghost use Rattle.demerits.specs.Bounds as B;
+ghost use Rattle.demerits.specs.Contracts.Bounds as B;
 ghost use Rattle.demerits.specs.Demerits as S;
 
 // The weight of L: a line far from its goal.

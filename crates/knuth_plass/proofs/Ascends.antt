@@ -4,7 +4,7 @@ use mathlib.Core.List.{List, [], _∷_, _++_, map}
 use Prim.Native.Nat.{ℕ, zero, suc, _+_, _≤_, _<_}
 use native.Mathlib.Omega.{arith}
 use lib.ListN.{length, getD}
-use Rattle.knuth_plass.specs.Table.{Ascends}
+use Rattle.knuth_plass.specs.Contracts.Table.{Ascends}
 
 weaker : (lo lo₁ hi : ℕ) (xs : List ℕ) → lo ≤ lo₁ → Ascends lo₁ hi xs → Ascends lo hi xs
 weaker lo lo₁ hi [] h a = omega arith

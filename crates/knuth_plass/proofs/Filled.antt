@@ -6,8 +6,8 @@ use native.Mathlib.Omega.{arith}
 use borrow.Author.Tests.{eqb-true, eqb-false}
 use lib.Dec.{eqb}
 use Rattle.knuth_plass.specs.declared.Break.{Break as Record}
-use Rattle.knuth_plass.specs.Table.{Tables, breakIn, withBreak, Stored, Sound, Filled}
-use Rattle.knuth_plass.specs.Round.{lessened, extended}
+use Rattle.knuth_plass.specs.Contracts.Table.{Tables, breakIn, withBreak, Stored, Sound, Filled}
+use Rattle.knuth_plass.specs.Contracts.Round.{lessened, extended}
 use Rattle.knuth_plass.proofs.Table.{sized-with, stored-with}
 
 pub sound-lessened : (i k : ℕ) (b : Record) → Sound i b → Sound i (lessened k b)

@@ -12,15 +12,15 @@ use Rattle.records.specs.Word.{meaning}
 use Rattle.spacing.specs.Spacing.{gapWidth}
 use Rattle.spacing.specs.declared.Setting.{Setting}
 use Rattle.demerits.specs.Demerits.{noRatio, ratio, lineTerm, ratioTerm, cost}
-use Rattle.demerits.specs.Bounds.{within, mostCost, costWith}
+use Rattle.demerits.specs.Contracts.Bounds.{within, mostCost, costWith}
 use Rattle.demerits.proofs.Terms.{line-le, ratio-le, cost-with, square-le-most}
 use Rattle.knuth_plass.specs.declared.Break.{Break as Record}
 use Rattle.knuth_plass.specs.declared.Best.{Best}
 use Rattle.records.specs.declared.Before.the-variants.{Absent}
 use Rattle.knuth_plass.specs.declared.Turn.{Turn}
 use Rattle.knuth_plass.specs.KnuthPlass.{Place, none, stretchOf, minimumOf, reached, offerOf}
-use Rattle.knuth_plass.specs.Table.{Tables, pathTo, seen}
-use Rattle.knuth_plass.specs.Round.{lineAt, nothing, from, better, offerIn, Floor, Offers, OfferedIs}
+use Rattle.knuth_plass.specs.Contracts.Table.{Tables, pathTo, seen}
+use Rattle.knuth_plass.specs.Contracts.Round.{lineAt, nothing, from, better, offerIn, Floor, Offers, OfferedIs}
 use Rattle.knuth_plass.proofs.Offers.{better-stays, offer-some, offer-better, fits-better, lesser-none}
 
 -- what a line grows by without a tab

@@ -13,8 +13,8 @@ use Rattle.knuth_plass.specs.declared.Break.{Break as Record}
 use Rattle.knuth_plass.specs.declared.State.{State}
 use Rattle.knuth_plass.specs.declared.Standing.{Standing}
 use Rattle.knuth_plass.specs.KnuthPlass.{Break, leastFrom, least}
-use Rattle.knuth_plass.specs.Table.{Tables, breakIn, pathTo, seen, meant, lesserIn}
-use Rattle.knuth_plass.specs.Round.{lessened, noted, Found, breaksOf, Listed, LeastIs}
+use Rattle.knuth_plass.specs.Contracts.Table.{Tables, breakIn, pathTo, seen, meant, lesserIn}
+use Rattle.knuth_plass.specs.Contracts.Round.{lessened, noted, Found, breaksOf, Listed, LeastIs}
 use Rattle.knuth_plass.proofs.Ascends.{ascends-each}
 
 abbrev with : State → ℕ → ℕ → State

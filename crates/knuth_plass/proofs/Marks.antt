@@ -11,7 +11,7 @@ use lib.ListN.{length, getD, set}
 use lib.Seq.{getD-set-same, getD-set-other}
 use Rattle.knuth_plass.specs.declared.Break.{Break as Record}
 use Rattle.knuth_plass.specs.KnuthPlass.{startsLine}
-use Rattle.knuth_plass.specs.Table.{Tables, breakIn, pathTo, startOf, Leads}
+use Rattle.knuth_plass.specs.Contracts.Table.{Tables, breakIn, pathTo, startOf, Leads}
 use Rattle.knuth_plass.proofs.Path.{path-here, path-start}
 
 or-false : (a : Bool) → (a || false) ≡ a

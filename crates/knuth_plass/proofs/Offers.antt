@@ -8,11 +8,11 @@ use borrow.Author.Tests.{le-leb, lt-leb, leb-true, leb-false, lt-ltb, le-ltb, lt
 use lib.Dec.{T, leb, ltb}
 use lib.Ieee.{Float}
 use Rattle.spacing.specs.declared.Setting.{Setting}
-use Rattle.demerits.specs.Bounds.{within, mostCost}
+use Rattle.demerits.specs.Contracts.Bounds.{within, mostCost}
 use Rattle.knuth_plass.specs.declared.Best.{Best}
 use Rattle.knuth_plass.specs.KnuthPlass.{Break, Offer, none, offer, after, lesser}
-use Rattle.knuth_plass.specs.Table.{Tables, pathTo}
-use Rattle.knuth_plass.specs.Round.{nothing, from, better, offerIn, BestFits}
+use Rattle.knuth_plass.specs.Contracts.Table.{Tables, pathTo}
+use Rattle.knuth_plass.specs.Contracts.Round.{nothing, from, better, offerIn, BestFits}
 
 -- ---- as the code chooses
 

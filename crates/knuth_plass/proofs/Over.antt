@@ -16,8 +16,8 @@ use Rattle.knuth_plass.specs.declared.Turn.{Turn}
 use Rattle.knuth_plass.specs.declared.State.{State}
 use Rattle.knuth_plass.specs.declared.Standing.{Standing}
 use Rattle.knuth_plass.specs.KnuthPlass.{Break, reduced, staying, lesser, bestOffer, leastFrom, least}
-use Rattle.knuth_plass.specs.Table.{Tables, breakIn, pathTo, seen, meant, Ascends}
-use Rattle.knuth_plass.specs.Round.{Turns, lessened, nothing, offerIn, Ready, breaksOf, Fit, Goes, Answer, Done}
+use Rattle.knuth_plass.specs.Contracts.Table.{Tables, breakIn, pathTo, seen, meant, Ascends}
+use Rattle.knuth_plass.specs.Contracts.Round.{Turns, lessened, nothing, offerIn, Ready, breaksOf, Fit, Goes, Answer, Done}
 use Rattle.knuth_plass.proofs.Ascends.{ascends-first}
 use Rattle.knuth_plass.proofs.Offers.{lesser-none}
 

@@ -11,7 +11,7 @@ use lib.Ieee.{Float}
 use lib.ListN.{length, set, take, drop, length-set}
 use lib.Seq.{take-suc-set}
 use Rattle.records.specs.Word.{Word, meaning}
-use Rattle.records.specs.Table.{wordIn, wordsIn}
+use Rattle.records.specs.Contracts.Table.{wordIn, wordsIn}
 use Rattle.records.specs.declared.Word.{Word as WordRecord}
 use Rattle.records.proofs.Table.{words-drop, words-end}
 use Rattle.spacing.specs.Spacing.{addedSpace}
@@ -22,8 +22,8 @@ use Rattle.knuth_plass.specs.declared.State.{State}
 use Rattle.knuth_plass.specs.declared.Standing.{Standing}
 use Rattle.knuth_plass.specs.declared.Turn.{Turn}
 use Rattle.knuth_plass.specs.KnuthPlass.{Break, Active, Offer, reduced, settled, withOffer, round, isLast, sentenceBehind, firstBreak, roundsFrom}
-use Rattle.knuth_plass.specs.Table.{Tables, Sized, withBreak, seen, meant, Sound}
-use Rattle.knuth_plass.specs.Round.{Limits, Ready, breaksOf, standing, Done, Settled, RoundIs, begin, RoundsAre}
+use Rattle.knuth_plass.specs.Contracts.Table.{Tables, Sized, withBreak, seen, meant, Sound}
+use Rattle.knuth_plass.specs.Contracts.Round.{Limits, Ready, breaksOf, standing, Done, Settled, RoundIs, begin, RoundsAre}
 use Rattle.knuth_plass.proofs.Table.{sized-with, read-back}
 use Rattle.knuth_plass.proofs.Path.{path-start}
 

@@ -8,7 +8,7 @@ use borrow.Author.Tests.{eqb-true, eqb-false}
 use lib.Dec.{eqb}
 use Rattle.knuth_plass.specs.declared.Break.{Break as Record}
 use Rattle.knuth_plass.specs.KnuthPlass.{Place}
-use Rattle.knuth_plass.specs.Table.{Tables, Sized, Stored, placeOf, pathIn, pathTo, breakIn, withBreak, seen, meant, Leads}
+use Rattle.knuth_plass.specs.Contracts.Table.{Tables, Sized, Stored, placeOf, pathIn, pathTo, breakIn, withBreak, seen, meant, Leads}
 use Rattle.knuth_plass.proofs.Table.{read-back, read-other}
 
 -- two records that stand at the same place and lead to the same one

@@ -7,7 +7,7 @@ use native.Mathlib.Omega.{arith}
 use borrow.Author.Tests.{ltb-true, ltb-false, leb-true}
 use lib.Dec.{leb, ltb}
 use lib.ListN.{length, getD}
-use Rattle.lists.specs.All.{All}
+use Rattle.lists.specs.Theorems.All.{All}
 use Rattle.lists.proofs.All.{all-append, all-weaken}
 use Rattle.records.specs.Word.{Word}
 use Rattle.spacing.specs.Spacing.{addedSpace}

@@ -11,8 +11,8 @@ use Rattle.spacing.specs.declared.Setting.{Setting}
 use Rattle.knuth_plass.specs.declared.Break.{Break as Record}
 use Rattle.knuth_plass.specs.declared.Turn.{Turn}
 use Rattle.knuth_plass.specs.KnuthPlass.{minimumOf, restart}
-use Rattle.knuth_plass.specs.Table.{seen}
-use Rattle.knuth_plass.specs.Round.{Limits, Turns, lineAt, Restarted}
+use Rattle.knuth_plass.specs.Contracts.Table.{seen}
+use Rattle.knuth_plass.specs.Contracts.Round.{Limits, Turns, lineAt, Restarted}
 use Rattle.knuth_plass.proofs.Line.{line-is}
 
 module _ (g : Setting) (turn : Turn) (n : ℕ) (b : Record) (limits : Limits g) (turns : Turns g turn) where

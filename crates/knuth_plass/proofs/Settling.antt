@@ -14,8 +14,8 @@ use Rattle.knuth_plass.specs.declared.Turn.{Turn}
 use Rattle.knuth_plass.specs.declared.State.{State}
 use Rattle.knuth_plass.specs.declared.Standing.{Standing}
 use Rattle.knuth_plass.specs.KnuthPlass.{Break, Active, least, restart, settled}
-use Rattle.knuth_plass.specs.Table.{Tables, breakIn, withBreak, placeOf, pathTo, seen, meant, Sound, Ascends}
-use Rattle.knuth_plass.specs.Round.{Limits, Turns, lessened, nothing, Found, Fit, Ready, breaksOf, Restarted, Settled}
+use Rattle.knuth_plass.specs.Contracts.Table.{Tables, breakIn, withBreak, placeOf, pathTo, seen, meant, Sound, Ascends}
+use Rattle.knuth_plass.specs.Contracts.Round.{Limits, Turns, lessened, nothing, Found, Fit, Ready, breaksOf, Restarted, Settled}
 use Rattle.knuth_plass.proofs.Path.{meant-before, meant-more}
 use Rattle.knuth_plass.proofs.Ascends.{ascends-more, map-below}
 use Rattle.knuth_plass.proofs.Filled.{filled-later, filled-more}

@@ -16,8 +16,8 @@ use Rattle.knuth_plass.specs.declared.Turn.{Turn}
 use Rattle.knuth_plass.specs.declared.State.{State}
 use Rattle.knuth_plass.specs.declared.Standing.{Standing}
 use Rattle.knuth_plass.specs.KnuthPlass.{Place, Break, none, minimumOf, reduced, staying, lesser, offerOf, bestOffer}
-use Rattle.knuth_plass.specs.Table.{Tables, tables, Stored, withLine, breakIn, pathTo, seen, meant, Sound, Ascends}
-use Rattle.knuth_plass.specs.Round.{Limits, Turns, lineAt, lessened, extended, noted, stays, Offers, OfferedIs, Fit, Goes, Answer, rest}
+use Rattle.knuth_plass.specs.Contracts.Table.{Tables, tables, Stored, withLine, breakIn, pathTo, seen, meant, Sound, Ascends}
+use Rattle.knuth_plass.specs.Contracts.Round.{Limits, Turns, lineAt, lessened, extended, noted, stays, Offers, OfferedIs, Fit, Goes, Answer, rest}
 use Rattle.knuth_plass.proofs.Path.{Alike, path-again, meant-again, meant-beside}
 use Rattle.knuth_plass.proofs.Ascends.{ascends-at, ascends-less, map-left, map-right}
 use Rattle.knuth_plass.proofs.Filled.{filled-again, sound-lessened, sound-extended}

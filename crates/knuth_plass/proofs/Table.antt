@@ -11,8 +11,8 @@ use lib.ListN.{getD, set, length-set}
 use lib.Seq.{sets, length-sets, getD-set-same, getD-set-other}
 use Rattle.lists.proofs.Stores.{sets-other, sets-within}
 use Rattle.knuth_plass.specs.declared.Break.{Break as Record}
-use Rattle.knuth_plass.specs.Table.{Tables, tables, Sized, numberAt, breakIn, numbersOf, withBreak, withLine, Stored}
-use Rattle.knuth_plass.specs.Round.{lessened, extended}
+use Rattle.knuth_plass.specs.Contracts.Table.{Tables, tables, Sized, numberAt, breakIn, numbersOf, withBreak, withLine, Stored}
+use Rattle.knuth_plass.specs.Contracts.Round.{lessened, extended}
 
 bit-back : (a : Bool) → eqb (cond a 1 0) 1 ≡ a
 bit-back true = refl

@@ -9,13 +9,13 @@ use lib.ListN.{length, getD, drop, length-drop}
 use lib.Seq.{slice}
 use Rattle.lists.proofs.Remaining.{slice-here, slice-none}
 use Rattle.records.specs.Word.{Word, meaning}
-use Rattle.records.specs.Table.{wordIn, wordsIn}
+use Rattle.records.specs.Contracts.Table.{wordIn, wordsIn}
 use Rattle.records.proofs.Table.{words-drop, words-length}
 use Rattle.spacing.specs.declared.Setting.{Setting}
 use Rattle.knuth_plass.specs.declared.Standing.{Standing}
 use Rattle.knuth_plass.specs.KnuthPlass.{Place, Break, Active, least, roundsFrom, pathOf, startsLine, marksFrom, bestBreaks}
-use Rattle.knuth_plass.specs.Table.{Tables, pathTo, seen, meant, Leads, Marked}
-use Rattle.knuth_plass.specs.Round.{begin, RoundsAre, Listed, LeastIs, BestAre}
+use Rattle.knuth_plass.specs.Contracts.Table.{Tables, pathTo, seen, meant, Leads, Marked}
+use Rattle.knuth_plass.specs.Contracts.Round.{begin, RoundsAre, Listed, LeastIs, BestAre}
 
 marks-are : (marks : List Bool) (n : ℕ) (path : List Place) (i : ℕ) (ws : List Word) → n ≤ length marks → length ws ≡ n - i
     → ((j : ℕ) → j < n → getD marks j false ≡ startsLine j path) → slice i n marks ≡ marksFrom path i ws

@@ -1,3 +1,2 @@
 pub mod KnuthPlass
-pub mod Table
-pub mod Round
+pub mod Contracts

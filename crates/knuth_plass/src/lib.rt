@@ -9,10 +9,10 @@ ghost use lib.Dec.{eqb};
 ghost use Prim.Native.Nat.{ℕ, _+_, _-_, _*_, _<_, _≤_, _^_};
 ghost use lib.ListN.{length, take, drop, getD, set};
 ghost use Rattle.records.specs.Word.{meaning};
-ghost use Rattle.records.specs.Table.{wordIn, wordsIn};
+ghost use Rattle.records.specs.Contracts.Table.{wordIn, wordsIn};
 ghost use Rattle.knuth_plass.specs.KnuthPlass.{minimumOf, startsLine, reduced, sentenceBehind};
-ghost use Rattle.knuth_plass.specs.Table as T;
-ghost use Rattle.knuth_plass.specs.Round as R;
+ghost use Rattle.knuth_plass.specs.Contracts.Table as T;
+ghost use Rattle.knuth_plass.specs.Contracts.Round as R;
 
 // A break place: the number of the previous break, the word and whether it stands before or after it; its demerits and the ratio of
 // the line that it ends; the columns of the line that it begins, and whether nothing but the indent stands on that line.

@@ -12,7 +12,7 @@ use Rattle.lists.proofs.Parts.{while-append}
 use Rattle.lists.proofs.Walk.{each-step}
 use Rattle.lists.proofs.Extents.{each-append}
 use Rattle.lines.specs.Lines.{Line, noFeed, body, withoutReturn, firstLine, linesOf}
-use Rattle.lines.specs.Closed.{Closed}
+use Rattle.lines.specs.Theorems.Closed.{Closed}
 
 -- the first line of a closed text is ended
 ended : (x : ℕ) (r : List ℕ) → Closed (x ∷ r) → length (body (x ∷ r)) < length (x ∷ r)

@@ -16,7 +16,7 @@ use Rattle.options.specs.Opts.{Opts, Text, absent, given, textOf}
 use Rattle.options.specs.declared.Part.{Part}
 use Rattle.options.specs.declared.Part.the-variants.{Given}
 use Rattle.lines.specs.Classes.{upTo, from, columnsOf, search, prefixFound, sizeOf, skipFound, somewhere, shapeAt, classBehind, classify}
-use Rattle.lines.specs.Places.{lineStart, behindAll, shapeBehind, classAt, BehindBlanks, BehindPlace}
+use Rattle.lines.specs.Contracts.Places.{lineStart, behindAll, shapeBehind, classAt, BehindBlanks, BehindPlace}
 use Rattle.lines.specs.declared.Spot.{Spot}
 use Rattle.lines.specs.declared.Shape.{Shape}
 use Rattle.lines.specs.declared.Class.{Class}

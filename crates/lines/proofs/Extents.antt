@@ -7,7 +7,7 @@ use native.Mathlib.Omega.{arith}
 use lib.Dec.{eqb, ltb}
 use lib.ListN.{length, length-take}
 use Rattle.lists.specs.Runs.{every, joined}
-use Rattle.lists.specs.All.{All}
+use Rattle.lists.specs.Theorems.All.{All}
 use Rattle.lists.proofs.Parts.{every-nil, every-cons, every-while}
 use Rattle.lists.proofs.Extents.{each-joined, each-all}
 use Rattle.lines.specs.Lines.{Line, noFeed, body, withoutReturn, firstLine, linesOf}

@@ -8,7 +8,7 @@ use lib.Dec.{eqb}
 use lib.ListN.{length}
 use borrow.Author.Tests.{ne-eqb}
 use Rattle.lists.specs.Runs.{while, behind, every}
-use Rattle.lists.specs.All.{All}
+use Rattle.lists.specs.Theorems.All.{All}
 use Rattle.lists.proofs.Parts.{while-behind, every-nil, every-behind}
 use Rattle.lists.proofs.All.{all-front}
 use Rattle.lists.proofs.Walk.{each-nil}

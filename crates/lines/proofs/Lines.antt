@@ -17,7 +17,7 @@ use Rattle.lists.proofs.Views.{drop-none}
 use Rattle.lists.proofs.RunsAt.{while-within, while-front, run-past, run-end, run-more}
 use Rattle.text.proofs.Rows.{allAt, all-each}
 use Rattle.lines.specs.Lines.{noFeed, body, withoutReturn, firstLine, linesOf}
-use Rattle.lines.specs.Places.{extentOf}
+use Rattle.lines.specs.Contracts.Places.{extentOf}
 use Rattle.lines.specs.declared.Extent.{Extent}
 
 -- ---- the body

@@ -13,7 +13,7 @@ use Rattle.lists.proofs.Runs.{while-more, every-more}
 use Rattle.text.specs.Characters.{widthOf, Glyph, glyph, glyphs, isBlank, extent}
 use Rattle.text.proofs.Glyphs.{Here, DamagedHere}
 use Rattle.lines.specs.Classes.{upTo, from, nextStop, columnBehind, columnsOf}
-use Rattle.lines.specs.Places.{Inside, behindAll, Behind}
+use Rattle.lines.specs.Contracts.Places.{Inside, behindAll, Behind}
 use Rattle.lines.specs.declared.Spot.{Spot}
 
 -- ---- columns

@@ -14,7 +14,7 @@ use Rattle.lists.proofs.Parts.{every-nil}
 use Rattle.text.specs.Characters.{glyph, glyphs, isBlank}
 use Rattle.text.proofs.Glyphs.{Here, glyphs-past, glyphs-first}
 use Rattle.lines.specs.Classes.{upTo, from}
-use Rattle.lines.specs.Places.{Inside, lineStart, behindAll, Behind, BehindBlanks, BehindPlace}
+use Rattle.lines.specs.Contracts.Places.{Inside, lineStart, behindAll, Behind, BehindBlanks, BehindPlace}
 use Rattle.lines.specs.declared.Spot.{Spot}
 use Rattle.lines.proofs.Measures.{behind-none, upTo-zero, from-zero, blanks-on, every-on, upTo-on, from-on}
 

@@ -6,7 +6,7 @@ use Rattle.options.specs.declared.Part.{Part}
 use Rattle.options.specs.declared.Part.the-variants.{Absent, Given}
 use Rattle.options.specs.declared.Options.{Options}
 use Rattle.options.proofs.Accepted.{Prefix, Kept}
-use Rattle.lines.specs.Places.{Lies, Usable}
+use Rattle.lines.specs.Contracts.Places.{Lies, Usable}
 
 lies : (block : List ℕ) (p : Part) → ((start end : ℕ) → p ≡ Given start end → Prefix block start end) → Lies block p
 lies block Absent h = tt

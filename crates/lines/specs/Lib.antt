@@ -1,4 +1,4 @@
 pub mod Lines
 pub mod Classes
-pub mod Closed
-pub mod Places
+pub mod Contracts
+pub mod Theorems

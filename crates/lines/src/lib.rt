@@ -9,7 +9,7 @@ ghost use Rattle.text.specs.Characters.{widthOf, glyphs, isBlank};
 ghost use Rattle.options.specs.Opts.{textOf, meant};
 ghost use Rattle.lines.specs.Lines.{body, withoutReturn, firstLine};
 ghost use Rattle.lines.specs.Classes.{nextStop, search, skipFound, somewhere, classify};
-ghost use Rattle.lines.specs.Places.{extentOf, Lies, Usable, Inside, classAt, Behind, BehindBlanks, BehindPlace};
+ghost use Rattle.lines.specs.Contracts.Places.{extentOf, Lies, Usable, Inside, classAt, Behind, BehindBlanks, BehindPlace};
 use options::Options;
 use options::Part;
 use text::Char;

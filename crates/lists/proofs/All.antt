@@ -4,7 +4,7 @@ use mathlib.Core.List.{List, [], _∷_, _++_, map, List·Memᴰ·head, List·Mem
 use Prim.Native.Nat.{ℕ, zero, suc}
 use lib.ListN.{take, drop}
 use Rattle.lists.specs.Runs.{joined}
-use Rattle.lists.specs.All.{All, _∈_}
+use Rattle.lists.specs.Theorems.All.{All, _∈_}
 use Rattle.lists.proofs.Parts.{joined-nil, joined-cons}
 
 module _ {A : Type 0} (P : A → Type 0) where

@@ -6,7 +6,7 @@ use native.Mathlib.Omega.{arith}
 use lib.ListN.{length, take, drop, length-drop, take-append-drop}
 use Rattle.lists.specs.Walk.{Turn, walk, piece, each}
 use Rattle.lists.specs.Runs.{joined}
-use Rattle.lists.specs.All.{All}
+use Rattle.lists.specs.Theorems.All.{All}
 use Rattle.lists.proofs.Walk.{walk-nil, walk-step, walk-append}
 use Rattle.lists.proofs.Parts.{joined-nil, joined-cons}
 

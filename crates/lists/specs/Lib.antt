@@ -1,3 +1,3 @@
 pub mod Walk
 pub mod Runs
-pub mod All
+pub mod Theorems

@@ -13,7 +13,7 @@ use Rattle.lists.proofs.Views.{drop-none}
 use Rattle.text.specs.declared.Found.the-variants.{At, Nowhere}
 use Rattle.options.specs.declared.Part.the-variants.{Absent, Given}
 use Rattle.options.specs.OptionBlock.{number, Field, tagOf, sizeOf, valueOf, nextField, fields, allowed, wellFormed, firstFault, partOf}
-use Rattle.options.specs.Places.{fieldAt}
+use Rattle.options.specs.Contracts.Places.{fieldAt}
 
 -- the first of some fields decides, or the others do
 module _ (f : Field) (fs : List Field) where

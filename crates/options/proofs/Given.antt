@@ -12,7 +12,7 @@ use Rattle.lists.proofs.Slices.{slice-is}
 use Rattle.text.specs.declared.Found.the-variants.{At, Nowhere}
 use Rattle.options.specs.declared.Part.the-variants.{Absent, Given}
 use Rattle.options.specs.OptionBlock.{number, fields, allowed, wellFormed, firstFault, partOf}
-use Rattle.options.specs.Places.{fieldAt}
+use Rattle.options.specs.Contracts.Places.{fieldAt}
 use Rattle.options.proofs.Fields.{rest, rest-all, well-order, well-cut, well-value, fault-none, fault-here, fault-later, part-none, part-here, part-later}
 
 -- the value of a tag's field, as a part of the block

@@ -12,7 +12,7 @@ use Rattle.lists.specs.Runs.{every}
 use Rattle.text.specs.Characters.{glyphs, isGood, damage}
 use Rattle.text.specs.declared.Found.the-variants.{At, Nowhere}
 use Rattle.options.specs.OptionBlock.{number, allowed}
-use Rattle.options.specs.Places.{numberText, prefixText}
+use Rattle.options.specs.Contracts.Places.{numberText, prefixText}
 
 -- the number at a place
 pub number-here : (s : List ℕ) (at : ℕ) → number (drop at s) ≡ getD s at 0 * 256 + getD s (at + 1) 0

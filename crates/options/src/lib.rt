@@ -6,7 +6,7 @@ ghost use lib.Dec.{eqb};
 ghost use lib.ListN.{length, getD, drop};
 ghost use Rattle.text.specs.declared.Found.the-variants.{Nowhere};
 ghost use Rattle.options.specs.OptionBlock.{number, fields, allowed, wellFormed, firstFault, partOf, numberAt, widthFrom, goalFrom, leastWidth, fits, bit, optionsOf, settled, readBlock};
-ghost use Rattle.options.specs.Places.{fieldAt, numberText, prefixText};
+ghost use Rattle.options.specs.Contracts.Places.{fieldAt, numberText, prefixText};
 use text::Found;
 
 // The tags of the fields.

@@ -6,14 +6,14 @@ use native.Mathlib.Nat.{suc-mul}
 use native.Mathlib.Omega.{arith}
 use lib.ListN.{length, length-append, length-replicate}
 use Rattle.records.specs.Word.{Word}
-use Rattle.records.specs.Table.{wordsIn}
-use Rattle.records.specs.Marks.{breaksIn}
+use Rattle.records.specs.Contracts.Table.{wordsIn}
+use Rattle.records.specs.Contracts.Marks.{breaksIn}
 use Rattle.spacing.proofs.Laws.{added-most}
 use Rattle.output.specs.declared.Layout.{Layout}
-use Rattle.output.specs.Bound.{bulk, most, mostEmitted}
+use Rattle.output.specs.Contracts.Bound.{bulk, most, mostEmitted}
 use Rattle.output.specs.Emission.{spaceBefore, emitRest, emit}
-use Rattle.output.specs.Sink.{Wrote}
-use Rattle.output.specs.Writers.{marginOf, emitted}
+use Rattle.output.specs.Contracts.Sink.{Wrote}
+use Rattle.output.specs.Contracts.Writers.{marginOf, emitted}
 
 space-most : (uniform punct : Bool) (w : Word) → length (spaceBefore uniform punct w) ≤ length (w .blanks) + 2
 unfolding spaceBefore

@@ -10,7 +10,7 @@ use lib.Seq.{slice, length-slice, take-nil, take-all, take-take}
 use Rattle.lists.proofs.Joins.{slice-join}
 use Rattle.lists.proofs.Slices.{slice-is, slice-one}
 use Rattle.lists.proofs.Views.{drop-here}
-use Rattle.output.specs.Sink.{paint, written, Wrote}
+use Rattle.output.specs.Contracts.Sink.{paint, written, Wrote}
 use Rattle.output.proofs.Sink.{written-nil, wrote-byte, wrote-length, wrote-then}
 
 -- ---- over what is written already

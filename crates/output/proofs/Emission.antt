@@ -9,14 +9,14 @@ use lib.Seq.{slice, length-slice}
 use Rattle.lists.proofs.Joins.{slice-join}
 use Rattle.records.specs.declared.Word.{Word as Record}
 use Rattle.records.specs.Word.{Word, meaning}
-use Rattle.records.specs.Table.{wordIn, wordsIn, Within, Got}
+use Rattle.records.specs.Contracts.Table.{wordIn, wordsIn, Within, Got}
 use Rattle.records.proofs.Table.{words-drop, words-end}
 use Rattle.records.proofs.Marks.{marks-here}
 use Rattle.spacing.specs.Spacing.{addedSpace}
 use Rattle.output.specs.declared.Layout.{Layout}
 use Rattle.output.specs.Emission.{lineFeed, spaceBefore, emitRest, emit}
-use Rattle.output.specs.Sink.{Wrote}
-use Rattle.output.specs.Writers.{marginOf, placed, Laid, emitted, emittedFrom}
+use Rattle.output.specs.Contracts.Sink.{Wrote}
+use Rattle.output.specs.Contracts.Writers.{marginOf, placed, Laid, emitted, emittedFrom}
 use Rattle.output.proofs.Sink.{wrote-then}
 use Rattle.output.proofs.Writers.{margin-most}
 

@@ -5,12 +5,12 @@ use mathlib.Core.List.{List, [], _∷_, _++_}
 use Prim.Native.Nat.{ℕ, suc, _+_, _<_}
 use native.Mathlib.Omega.{arith}
 use lib.ListN.{length, length-append, length-replicate}
-use Rattle.lists.specs.All.{All}
+use Rattle.lists.specs.Theorems.All.{All}
 use Rattle.records.specs.Word.{Word}
 use Rattle.spacing.specs.Spacing.{addedSpace}
 use Rattle.spacing.proofs.Added.{added-some}
 use Rattle.output.specs.Emission.{lineFeed, spaceBefore, emitRest, emit}
-use Rattle.output.specs.Order.{laidOut, InOrder}
+use Rattle.output.specs.Theorems.Order.{laidOut, InOrder}
 
 -- what stands before a word on its line is at least one byte, if blanks stand before it where no space is added
 pub space-some : (uniform previousPunct : Bool) (w : Word) → (uniform ≡ false → w .newLine ≡ false → 0 < length (w .blanks)) → 0 < length (spaceBefore uniform previousPunct w)

@@ -11,13 +11,13 @@ use Rattle.lists.proofs.Joins.{slice-join}
 use Rattle.lists.proofs.Slices.{slice-one}
 use Rattle.records.specs.declared.Word.{Word as Record}
 use Rattle.records.specs.Word.{meaning}
-use Rattle.records.specs.Table.{Within, Got}
+use Rattle.records.specs.Contracts.Table.{Within, Got}
 use Rattle.spacing.specs.Spacing.{addedSpace}
 use Rattle.output.specs.declared.Layout.{Layout}
 use Rattle.output.specs.declared.Run.{Run}
-use Rattle.output.specs.Sink.{Wrote, Left}
-use Rattle.output.specs.Writers.{marginOf, placed, Laid, emitted, emittedFrom}
-use Rattle.output.specs.Runs.{Joins, Runs}
+use Rattle.output.specs.Contracts.Sink.{Wrote, Left}
+use Rattle.output.specs.Contracts.Writers.{marginOf, placed, Laid, emitted, emittedFrom}
+use Rattle.output.specs.Contracts.Runs.{Joins, Runs}
 use Rattle.output.proofs.Sink.{wrote-then, left-then}
 use Rattle.output.proofs.Emission.{joined, turn-within, rest-turn, emit-first}
 

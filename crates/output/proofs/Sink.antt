@@ -6,7 +6,7 @@ use native.Mathlib.Nat.{suc-add, zero-add, zero-min, min-zero, suc-min-suc}
 use native.Mathlib.Omega.{arith}
 use lib.ListN.{length, take, drop, set, length-append, length-take, length-drop, take-append-drop, drop-of-length-le}
 use lib.Seq.{take-all}
-use Rattle.output.specs.Sink.{paint, written, Wrote, Left}
+use Rattle.output.specs.Contracts.Sink.{paint, written, Wrote, Left}
 
 -- ---- written
 

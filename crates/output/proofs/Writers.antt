@@ -5,7 +5,7 @@ use native.Mathlib.Omega.{arith}
 use lib.ListN.{length, length-append, length-replicate}
 use lib.Seq.{length-slice}
 use Rattle.pieces.specs.declared.Margin.{Margin}
-use Rattle.output.specs.Writers.{marginOf, MarginIn}
+use Rattle.output.specs.Contracts.Writers.{marginOf, MarginIn}
 
 -- an indent is at most as long as the notes and its spaces
 pub margin-most : (notes : List ℕ) (m : Margin) → MarginIn (length notes) m → length (marginOf notes m) ≤ length notes + 2 ^ 32

@@ -1,6 +1,3 @@
-pub mod Bound
 pub mod Emission
-pub mod Order
-pub mod Runs
-pub mod Sink
-pub mod Writers
+pub mod Contracts
+pub mod Theorems

@@ -9,12 +9,12 @@ ghost use Prim.Native.Nat.{_+_, _-_, _≤_, _<_, _^_, min};
 ghost use lib.ListN.{length, take, replicate};
 ghost use lib.Seq.{slice};
 ghost use Rattle.records.specs.Word.{meaning};
-ghost use Rattle.records.specs.Table.{Within};
-ghost use Rattle.output.specs.Bound.{mostEmitted};
+ghost use Rattle.records.specs.Contracts.Table.{Within};
+ghost use Rattle.output.specs.Contracts.Bound.{mostEmitted};
 ghost use Rattle.output.specs.Emission.{lineFeed};
-ghost use Rattle.output.specs.Sink.{Wrote};
-ghost use Rattle.output.specs.Writers.{fourOf, marginOf, MarginIn, placed, Laid, emitted, emittedFrom};
-ghost use Rattle.output.specs.Runs.{Joins, Runs};
+ghost use Rattle.output.specs.Contracts.Sink.{Wrote};
+ghost use Rattle.output.specs.Contracts.Writers.{fourOf, marginOf, MarginIn, placed, Laid, emitted, emittedFrom};
+ghost use Rattle.output.specs.Contracts.Runs.{Joins, Runs};
 
 // How a paragraph is laid out: uniform spacing, and its two indents.
 pub struct Layout {

@@ -10,7 +10,7 @@ use Rattle.lists.specs.Walk.{walk, last}
 use Rattle.lists.proofs.Walk.{walk-step, walk-append}
 use Rattle.options.specs.Opts.{Opts}
 use Rattle.lines.specs.Lines.{Line, linesOf}
-use Rattle.lines.specs.Closed.{Closed}
+use Rattle.lines.specs.Theorems.Closed.{Closed}
 use Rattle.lines.specs.Classes.{classify}
 use Rattle.lines.specs.declared.Shape.{Shape}
 use Rattle.lines.specs.declared.Class.{Class}

@@ -7,7 +7,7 @@ use native.Mathlib.Omega.{arith}
 use lib.ListN.{length, take, length-append}
 use Rattle.lists.specs.Walk.{walk}
 use Rattle.lists.specs.Runs.{every, joined}
-use Rattle.lists.specs.All.{All}
+use Rattle.lists.specs.Theorems.All.{All}
 use Rattle.lists.proofs.Parts.{joined-cons}
 use Rattle.lists.proofs.All.{all-drop, all-take}
 use Rattle.lists.proofs.Extents.{walk-joined, walk-all}

@@ -18,7 +18,7 @@ use Rattle.lines.specs.declared.Class.{Class}
 use Rattle.lines.specs.declared.Class.the-variants.{Blank, Plain, Formatted}
 use Rattle.lines.proofs.Lines.{lines-past}
 use Rattle.pieces.specs.Pieces.{follow}
-use Rattle.pieces.specs.Places.{taken, rawBytes, reach, LineIs}
+use Rattle.pieces.specs.Contracts.Places.{taken, rawBytes, reach, LineIs}
 use Rattle.pieces.specs.declared.Classed.{Classed}
 
 pub taken-none : taken [] ≡ 0

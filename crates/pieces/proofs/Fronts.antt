@@ -12,9 +12,9 @@ use Rattle.lists.specs.Runs.{while}
 use Rattle.lists.proofs.Runs.{while-more, while-end}
 use Rattle.lists.proofs.Slices.{slice-is}
 use Rattle.lines.specs.Lines.{Line, noFeed, body, firstLine, linesOf}
-use Rattle.lines.specs.Places.{extentOf}
+use Rattle.lines.specs.Contracts.Places.{extentOf}
 use Rattle.lines.proofs.Lines.{lines-past, line-here}
-use Rattle.pieces.specs.Places.{taken}
+use Rattle.pieces.specs.Contracts.Places.{taken}
 use Rattle.pieces.proofs.Following.{taken-none, taken-more}
 
 -- a run that ends inside the front of a list is the list's

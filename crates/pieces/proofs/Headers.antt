@@ -11,7 +11,7 @@ use Rattle.pieces.specs.Pieces.{printable, noColon, headerText, fromWord
 use borrow.Author.Tests.{le-leb, lt-leb, lt-ltb, le-ltb, eq-eqb, ne-eqb}
 use native.Mathlib.Omega.{arith}
 use mathlib.Core.Bool.{and-false}
-use Rattle.pieces.specs.Places.{headerName}
+use Rattle.pieces.specs.Contracts.Places.{headerName}
 
 module _ (b : ℕ) where
   pub name-low : b < 33 → headerName b ≡ false

@@ -10,14 +10,14 @@ use lib.Seq.{slice}
 use borrow.Author.Tests.{ltb-true, ltb-false}
 use Rattle.options.specs.Opts.{Opts}
 use Rattle.lines.specs.Lines.{Line, firstLine, linesOf}
-use Rattle.lines.specs.Places.{extentOf}
+use Rattle.lines.specs.Contracts.Places.{extentOf}
 use Rattle.lines.specs.Classes.{classify}
 use Rattle.lines.specs.declared.Shape.{Shape}
 use Rattle.lines.specs.declared.Class.the-variants.{Formatted}
 use Rattle.lines.proofs.Lines.{lines-past, line-here}
 use Rattle.lines.proofs.Shapes.{known}
 use Rattle.pieces.specs.Pieces.{Indent, agrees, follow, Second, alone, joins, secondOf, followSecond, further, indentOf, laterIndent, firstIndent, indentFor}
-use Rattle.pieces.specs.Places.{taken, marginAt, spacesAt, laterAt, indentAt}
+use Rattle.pieces.specs.Contracts.Places.{taken, marginAt, spacesAt, laterAt, indentAt}
 use Rattle.pieces.specs.declared.Margin.{Margin}
 use Rattle.pieces.proofs.Following.{taken-more}
 use Rattle.pieces.proofs.Reach.{further-is}

@@ -14,8 +14,8 @@ use Rattle.lines.specs.declared.Shape.{Shape}
 use Rattle.lines.specs.declared.Class.{Class}
 use Rattle.lines.specs.declared.Class.the-variants.{Blank, Plain, Formatted}
 use Rattle.pieces.specs.Pieces.{Indent, second, alone, joins, secondAs, secondOf, indentOf, widened, noIndent}
-use Rattle.pieces.specs.Places.{marginAt, spacesAt}
-use Rattle.pieces.specs.Bounds.{MarginWithin}
+use Rattle.pieces.specs.Contracts.Places.{marginAt, spacesAt}
+use Rattle.pieces.specs.Contracts.Bounds.{MarginWithin}
 use Rattle.pieces.specs.declared.Margin.{Margin}
 
 -- an indent in places: bytes of the notes, then spaces

@@ -11,15 +11,15 @@ use Rattle.lists.specs.Walk.{Turn}
 use Rattle.options.specs.Opts.{Opts, meant}
 use Rattle.options.specs.declared.Options.{Options}
 use Rattle.lines.specs.Lines.{Line, firstLine, linesOf}
-use Rattle.lines.specs.Places.{Usable}
+use Rattle.lines.specs.Contracts.Places.{Usable}
 use Rattle.lines.specs.Classes.{classify}
 use Rattle.lines.specs.declared.Shape.{Shape}
 use Rattle.lines.specs.declared.Class.{Class}
 use Rattle.lines.specs.declared.Class.the-variants.{Blank, Plain, Formatted}
 use Rattle.lines.proofs.Extents.{lines-feedless}
 use Rattle.pieces.specs.Pieces.{Paragraph, Kind, Piece, blankLine, plainLine, paragraph, isHeader, further, firstIndent, indentFor, rowOf, paragraphAt, pieceAs, nextPiece}
-use Rattle.pieces.specs.Places.{taken, startAt, paragraphWith, pieceFrom, pieceAt, Cleared}
-use Rattle.pieces.specs.Bounds.{Bounded}
+use Rattle.pieces.specs.Contracts.Places.{taken, startAt, paragraphWith, pieceFrom, pieceAt, Cleared}
+use Rattle.pieces.specs.Contracts.Bounds.{Bounded}
 use Rattle.pieces.specs.declared.Paragraph.{Paragraph as ParagraphAt}
 use Rattle.pieces.specs.declared.Piece.{Piece as PieceAt}
 use Rattle.pieces.specs.declared.Piece.the-variants.{Blank as BlankAt, Plain as PlainAt, Text}

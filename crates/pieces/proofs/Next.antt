@@ -14,7 +14,7 @@ use Rattle.lines.specs.declared.Shape.{Shape}
 use Rattle.lines.specs.declared.Class.{Class}
 use Rattle.lines.specs.declared.Class.the-variants.{Blank, Plain, Formatted}
 use Rattle.pieces.specs.Pieces.{isHeader}
-use Rattle.pieces.specs.Places.{LineIs, pieceFrom, pieceAt, paragraphWith, startsMail}
+use Rattle.pieces.specs.Contracts.Places.{LineIs, pieceFrom, pieceAt, paragraphWith, startsMail}
 use Rattle.pieces.specs.declared.Classed.{Classed}
 use Rattle.pieces.specs.declared.Paragraph.{Paragraph}
 use Rattle.pieces.specs.declared.Piece.the-variants.{Blank as BlankAt, Plain as PlainAt, Text}

@@ -12,12 +12,12 @@ use Rattle.options.specs.declared.Part.{Part}
 use Rattle.options.specs.declared.Part.the-variants.{Absent, Given}
 use Rattle.options.specs.declared.Options.{Options}
 use Rattle.lines.specs.Lines.{Line, firstLine, linesOf}
-use Rattle.lines.specs.Places.{Usable}
+use Rattle.lines.specs.Contracts.Places.{Usable}
 use Rattle.lines.specs.declared.Shape.{Shape}
 use Rattle.lines.specs.declared.Class.the-variants.{Formatted}
 use Rattle.lines.proofs.Shapes.{known}
 use Rattle.pieces.specs.Pieces.{Second, alone, joins, continues, agrees, notAtStart, follow, followSecond, secondOf, further}
-use Rattle.pieces.specs.Places.{taken, marginAt, spacesAt, laterAt, laterStart, indentAt, startAt, paragraphWith, reach, secondPlace, secondAt, passesRule, isGiven, LineIs, Shaped, Joined}
+use Rattle.pieces.specs.Contracts.Places.{taken, marginAt, spacesAt, laterAt, laterStart, indentAt, startAt, paragraphWith, reach, secondPlace, secondAt, passesRule, isGiven, LineIs, Shaped, Joined}
 use Rattle.pieces.specs.declared.Classed.{Classed}
 use Rattle.pieces.specs.declared.Paragraph.{Paragraph}
 use Rattle.pieces.specs.declared.Rule.the-variants.{Mail, Like}

@@ -8,12 +8,12 @@ use lib.Seq.{slice, take-all, length-slice}
 use Rattle.lists.proofs.Slices.{slice-is}
 use Rattle.options.specs.Opts.{Opts}
 use Rattle.lines.specs.Lines.{firstLine}
-use Rattle.lines.specs.Places.{extentOf}
+use Rattle.lines.specs.Contracts.Places.{extentOf}
 use Rattle.lines.specs.Classes.{classify}
 use Rattle.lines.specs.declared.Extent.{Extent}
 use Rattle.lines.specs.declared.Class.{Class}
 use Rattle.lines.proofs.Lines.{LineHere, line-here}
-use Rattle.pieces.specs.Places.{LineIs}
+use Rattle.pieces.specs.Contracts.Places.{LineIs}
 
 module _ (notes : List ℕ) (at : ℕ) (e : Extent) (inside : at < length notes)
     (ends : e ≡ extentOf (firstLine (take (length notes - at) (drop at notes)))) where

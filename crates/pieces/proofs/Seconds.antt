@@ -12,7 +12,7 @@ use Rattle.lines.specs.declared.Class.{Class}
 use Rattle.lines.specs.declared.Class.the-variants.{Blank, Plain, Formatted}
 use Rattle.lines.proofs.Lines.{lines-past}
 use Rattle.pieces.specs.Pieces.{Second, alone, joins, second, secondAs, secondOf}
-use Rattle.pieces.specs.Places.{secondPlace, secondAt, secondRule, LineIs, Joined, SecondSound}
+use Rattle.pieces.specs.Contracts.Places.{secondPlace, secondAt, secondRule, LineIs, Joined, SecondSound}
 use Rattle.pieces.specs.declared.Second.{Second as SecondAt}
 use Rattle.pieces.specs.declared.Classed.{Classed}
 use Rattle.pieces.specs.declared.Second.the-variants.{Alone, Joins}

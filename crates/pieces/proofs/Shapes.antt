@@ -11,7 +11,7 @@ use Rattle.options.specs.declared.Part.{Part}
 use Rattle.options.specs.declared.Part.the-variants.{Absent, Given}
 use Rattle.pieces.specs.declared.Rule.the-variants.{Mail, Like}
 use Rattle.pieces.specs.Pieces.{agrees, headerText}
-use Rattle.pieces.specs.Places.{passesRule, secondRule, startsMail}
+use Rattle.pieces.specs.Contracts.Places.{passesRule, secondRule, startsMail}
 
 module _ (a b : Shape) where
   pub agree-not : (a .indent ≡ b .indent → ⊥) → false ≡ agrees a b

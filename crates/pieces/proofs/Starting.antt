@@ -7,7 +7,7 @@ use native.Mathlib.Omega.{arith}
 use lib.Dec.{eqb}
 use lib.ListN.{take}
 use borrow.Author.Tests.{eqb-true}
-use Rattle.lists.specs.All.{All}
+use Rattle.lists.specs.Theorems.All.{All}
 use Rattle.options.specs.Opts.{Opts}
 use Rattle.lines.specs.Lines.{Line}
 use Rattle.lines.specs.Classes.{classify}
@@ -16,8 +16,8 @@ use Rattle.lines.specs.declared.Class.{Class}
 use Rattle.lines.specs.declared.Class.the-variants.{Blank, Plain, Formatted}
 use Rattle.lines.proofs.Shapes.{known}
 use Rattle.pieces.specs.Pieces.{agrees, second, follow, alone, joins, secondAs, secondOf, followSecond, further}
-use Rattle.pieces.specs.Places.{laterStart, startAt}
-use Rattle.pieces.specs.Bounds.{Begins, AllBegin}
+use Rattle.pieces.specs.Contracts.Places.{laterStart, startAt}
+use Rattle.pieces.specs.Contracts.Bounds.{Begins, AllBegin}
 
 -- a formatted line whose words begin at a place
 pub record Starts (o : Opts) (start : ℕ) (l : Line) : Type 0 where

@@ -6,9 +6,9 @@ use native.Mathlib.Omega.{arith}
 use lib.ListN.{length, take, drop}
 use lib.Seq.{slice}
 use Rattle.lines.specs.Lines.{Line, firstLine, linesOf}
-use Rattle.lines.specs.Places.{extentOf}
+use Rattle.lines.specs.Contracts.Places.{extentOf}
 use Rattle.lines.proofs.Lines.{line-here}
-use Rattle.pieces.specs.Places.{taken}
+use Rattle.pieces.specs.Contracts.Places.{taken}
 use Rattle.pieces.proofs.Following.{taken-none, taken-more}
 use Rattle.pieces.proofs.Fronts.{lines-front}
 

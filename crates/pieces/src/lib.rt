@@ -10,10 +10,10 @@ ghost use lib.ListN.{length, drop};
 ghost use Rattle.lists.specs.Runs.{while};
 ghost use Rattle.options.specs.Opts.{meant};
 ghost use Rattle.lines.specs.Lines.{linesOf};
-ghost use Rattle.lines.specs.Places.{Usable};
+ghost use Rattle.lines.specs.Contracts.Places.{Usable};
 ghost use Rattle.pieces.specs.Pieces.{headerText, agrees};
-ghost use Rattle.pieces.specs.Bounds.{Bounded};
-ghost use Rattle.pieces.specs.Places.{passesRule, secondRule, headerName, startsMail, marginAt, reach, secondAt, paragraphWith, pieceAt, Ready, Shaped, Cleared, LineIs, SecondSound};
+ghost use Rattle.pieces.specs.Contracts.Bounds.{Bounded};
+ghost use Rattle.pieces.specs.Contracts.Places.{passesRule, secondRule, headerName, startsMail, marginAt, reach, secondAt, paragraphWith, pieceAt, Ready, Shaped, Cleared, LineIs, SecondSound};
 
 // An indent: bytes of the notes from start up to end, then further spaces; and its columns.
 pub struct Margin {

@@ -11,7 +11,7 @@ use lib.ListN.{length, drop, set, length-drop}
 use lib.Seq.{sets}
 use Rattle.records.specs.declared.Word.{Word as Record}
 use Rattle.records.specs.Word.{Word, meaning}
-use Rattle.records.specs.Table.{wordIn, wordsIn}
+use Rattle.records.specs.Contracts.Table.{wordIn, wordsIn}
 use Rattle.records.proofs.Table.{words-drop, words-end, words-length}
 use Rattle.spacing.specs.Spacing.{gapAt, gapWidth, addedSpace}
 use Rattle.spacing.specs.declared.Setting.{Setting}

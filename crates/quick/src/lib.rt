@@ -6,10 +6,10 @@ ghost use mathlib.Core.Bool.{cond};
 ghost use mathlib.Core.List.{List};
 ghost use Prim.Native.Nat.{ℕ, _+_, _≤_, _<_, _^_};
 ghost use lib.ListN.{length};
-ghost use Rattle.records.specs.Table.{wordsIn, Small};
-ghost use Rattle.records.specs.Marks.{Marked};
+ghost use Rattle.records.specs.Contracts.Table.{wordsIn, Small};
+ghost use Rattle.records.specs.Contracts.Marks.{Marked};
 ghost use Rattle.spacing.specs.Spacing.{gapWidth, addedSpace};
-ghost use Rattle.spacing.specs.Bounds.{Fair};
+ghost use Rattle.spacing.specs.Contracts.Bounds.{Fair};
 ghost use Rattle.quick.specs.Quick.{quickBreaks};
 
 // The column that a word reaches if it goes on the line; punct is the mark of the word before it.

@@ -8,7 +8,7 @@ use native.Mathlib.Omega.{arith}
 use lib.ListN.{length, getD}
 use lib.Seq.{sets, length-sets, slice, slice-cons}
 use Rattle.lists.proofs.Stores.{sets-slice}
-use Rattle.records.specs.Marks.{Marked}
+use Rattle.records.specs.Contracts.Marks.{Marked}
 
 pub marks-here : (marks : List Bool) (i n : ℕ) → i < n → n ≤ length marks → slice i n marks ≡ getD marks i false ∷ slice (i + 1) n marks
 marks-here marks i n h k = rw add-one (slice-cons i n marks false h k)

@@ -18,7 +18,7 @@ use Rattle.records.specs.declared.Before.{Before}
 use Rattle.records.specs.declared.Before.the-variants.{Absent, Count}
 use Rattle.records.specs.declared.Word.{Word as Record}
 use Rattle.records.specs.Word.{meaning}
-use Rattle.records.specs.Table.{number, numberOf, beforeOf, marksOf, numbersOf, stored, wordIn, withWord, recordsOf, wordsIn, Within, AllWithin}
+use Rattle.records.specs.Contracts.Table.{number, numberOf, beforeOf, marksOf, numbersOf, stored, wordIn, withWord, recordsOf, wordsIn, Within, AllWithin}
 
 -- ---- a field, as a number and back
 

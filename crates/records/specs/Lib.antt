@@ -1,3 +1,2 @@
 pub mod Word
-pub mod Table
-pub mod Marks
+pub mod Contracts

@@ -2,7 +2,7 @@
 ghost use mathlib.Core.Path.{_≡_};
 ghost use mathlib.Core.Bool.{cond};
 ghost use Prim.Native.Nat.{_*_, _<_, _≤_, _^_};
-ghost use Rattle.records.specs.Table.{number, numberOf, beforeOf, withWord, stored, Small, Got};
+ghost use Rattle.records.specs.Contracts.Table.{number, numberOf, beforeOf, withWord, stored, Small, Got};
 
 // The count of blanks before a gap's first tab, which may be absent.
 pub enum Before {

@@ -8,7 +8,7 @@ use native.Mathlib.Omega.{arith}
 use lib.ListN.{length, replicate, length-append, length-replicate}
 use lib.Seq.{slice, length-slice}
 use Rattle.lists.specs.Runs.{joined}
-use Rattle.lists.specs.All.{All}
+use Rattle.lists.specs.Theorems.All.{All}
 use Rattle.lists.proofs.Parts.{joined-nil, joined-cons, joined-append}
 use Rattle.lists.proofs.Extents.{each-all}
 use Rattle.text.specs.Characters.{Glyph, glyphs}
@@ -16,15 +16,15 @@ use Rattle.text.proofs.Glyphs.{glyphs-joined}
 use Rattle.options.specs.Opts.{Opts}
 use Rattle.lines.specs.Lines.{Line, body, firstLine, linesOf}
 use Rattle.lines.specs.Classes.{upTo, from}
-use Rattle.lines.specs.Places.{extentOf}
+use Rattle.lines.specs.Contracts.Places.{extentOf}
 use Rattle.lines.proofs.Lines.{lengths}
 use Rattle.lines.proofs.Extents.{lines-extents}
 use Rattle.lines.proofs.Ink.{upTo-from}
 use Rattle.pieces.specs.Pieces.{Row, Indent, Paragraph, rowOf}
-use Rattle.pieces.specs.Places.{taken}
+use Rattle.pieces.specs.Contracts.Places.{taken}
 use Rattle.pieces.specs.declared.Margin.{Margin}
 use Rattle.pieces.specs.declared.Paragraph.{Paragraph as ParagraphAt}
-use Rattle.pieces.specs.Bounds.{MarginWithin, ParagraphWithin}
+use Rattle.pieces.specs.Contracts.Bounds.{MarginWithin, ParagraphWithin}
 use Rattle.pieces.proofs.Following.{taken-more}
 use Rattle.pieces.proofs.Indents.{MarginIs}
 use Rattle.pieces.proofs.Meaning.{TextIs}
@@ -32,7 +32,7 @@ use Rattle.records.specs.Word.{Word}
 use Rattle.words.specs.Words.{bytesOf, rowWords, wordsOf}
 use Rattle.words.proofs.Spelled.{Spelled, row-spelled}
 use Rattle.output.specs.Emission.{emit}
-use Rattle.output.specs.Bound.{bulk, most}
+use Rattle.output.specs.Contracts.Bound.{bulk, most}
 use Rattle.output.proofs.Bound.{emit-most}
 use Rattle.rudignals.specs.Format.{breaksOf, formatted}
 

@@ -6,7 +6,7 @@ use Prim.Native.Nat.{ℕ, _+_, _≤_}
 use native.Mathlib.Omega.{arith}
 use lib.ListN.{length, length-append}
 use Rattle.lists.specs.Runs.{joined}
-use Rattle.lists.specs.All.{All}
+use Rattle.lists.specs.Theorems.All.{All}
 use Rattle.lists.proofs.All.{all-append}
 use Rattle.lists.proofs.Parts.{joined-append, joined-cons}
 use Rattle.text.specs.declared.Found.{Found}
@@ -15,7 +15,7 @@ use Rattle.options.specs.Opts.{Opts, meant}
 use Rattle.options.specs.OptionBlock.{readBlock}
 use Rattle.options.specs.declared.Options.{Options}
 use Rattle.options.specs.declared.Block.the-variants.{Accepted}
-use Rattle.lines.specs.Closed.{Closed}
+use Rattle.lines.specs.Theorems.Closed.{Closed}
 use Rattle.lines.proofs.Boundary.{emptyLine}
 use Rattle.pieces.specs.Pieces.{Piece, pieces}
 use Rattle.pieces.proofs.Boundary.{blankPiece, pieces-boundary}

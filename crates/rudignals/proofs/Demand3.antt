@@ -1,7 +1,7 @@
 -- Demand 3, in the customer's sentences. Each statement is about the definitions of specs/ alone, no code, and is proved with nothing
 -- assumed; where a proof is long it stands in the file cited. The words of the statements: `answer` and `done` (specs/Format.antt and
--- Answers.antt; `done bytes` is code 0 with those bytes), `Closed` (lines/specs), `Blanks` (text/specs), `InOrder` (output/specs/Order.antt),
--- `rowInk` (words/specs/Ink.antt), `All` and `∈` (lists/specs/All.antt), `joined` (lists/specs/Runs.antt).
+-- Answers.antt; `done bytes` is code 0 with those bytes), `Closed` (lines/specs), `Blanks` (text/specs), `InOrder` (output/specs/Theorems/Order.antt),
+-- `rowInk` (words/specs/Theorems/Ink.antt), `All` and `∈` (lists/specs/Theorems/All.antt), `joined` (lists/specs/Runs.antt).
 use mathlib.Core.Path.{_≡_, refl}
 use mathlib.Core.Bool.{Bool, true, false, _||_}
 use mathlib.Core.List.{List, [], _∷_, _++_, map}
@@ -11,24 +11,24 @@ use native.Mathlib.Omega.{arith}
 use lib.ListN.{length, length-append}
 use Rattle.lists.specs.Walk.{walk}
 use Rattle.lists.specs.Runs.{joined}
-use Rattle.lists.specs.All.{All, _∈_}
+use Rattle.lists.specs.Theorems.All.{All, _∈_}
 use Rattle.lists.proofs.All.{all-weaken}
 use Rattle.text.specs.Characters.{damage}
-use Rattle.text.specs.Blanks.{Blanks}
+use Rattle.text.specs.Theorems.Blanks.{Blanks}
 use Rattle.text.specs.declared.Found.the-variants.{At}
 use Rattle.options.specs.Opts.{Opts, meant}
 use Rattle.options.specs.OptionBlock.{readBlock}
 use Rattle.options.specs.declared.Options.{Options}
 use Rattle.options.specs.declared.Block.the-variants.{Accepted}
 use Rattle.lines.specs.Lines.{Line, linesOf}
-use Rattle.lines.specs.Closed.{Closed}
+use Rattle.lines.specs.Theorems.Closed.{Closed}
 use Rattle.pieces.specs.Pieces.{Paragraph, Piece, Row, plainLine, paragraph, rowOf, nextPiece, pieces}
 use Rattle.pieces.proofs.Extents.{walk-lines, pieces-lines}
 use Rattle.records.specs.Word.{Word}
 use Rattle.words.specs.Words.{rowWords, wordsOf}
-use Rattle.words.specs.Ink.{rowInk}
+use Rattle.words.specs.Theorems.Ink.{rowInk}
 use Rattle.words.proofs.Order.{Whole, row-ink, paragraph-whole}
-use Rattle.output.specs.Order.{InOrder}
+use Rattle.output.specs.Theorems.Order.{InOrder}
 use Rattle.rudignals.specs.Answers.{done, numbered}
 use Rattle.rudignals.specs.Format.{pieceOutput, digest, extentOf, answer}
 use Rattle.rudignals.proofs.Answers.{answer-done}

@@ -6,7 +6,7 @@ use Prim.Native.Nat.{ℕ, _<_}
 use lib.ListN.{length}
 use Rattle.lists.specs.Walk.{walk}
 use Rattle.lists.specs.Runs.{joined}
-use Rattle.lists.specs.All.{All}
+use Rattle.lists.specs.Theorems.All.{All}
 use Rattle.lists.proofs.Parts.{joined-joined, joined-append, joined-cons}
 use Rattle.text.specs.Characters.{damage}
 use Rattle.text.specs.declared.Found.the-variants.{At}

@@ -17,7 +17,7 @@ use Rattle.pieces.specs.Pieces.{Kind, nextPiece, pieces}
 use Rattle.pieces.specs.declared.Paragraph.{Paragraph}
 use Rattle.output.proofs.Sink.{length-written, wrote-nil, left-first, left-then, left-last}
 use Rattle.rudignals.specs.Format.{outputOf, pieceOutput, digest, tooMany, longParagraph}
-use Rattle.rudignals.specs.Call.{piecesFrom, outputFrom, longFrom, Goes, Put, TooLong, Stepped, Stands, Going, FinishedFrom, Finished, Reached}
+use Rattle.rudignals.specs.Contracts.Call.{piecesFrom, outputFrom, longFrom, Goes, Put, TooLong, Stepped, Stands, Going, FinishedFrom, Finished, Reached}
 use Rattle.rudignals.specs.declared.Cursor.{Cursor}
 use Rattle.rudignals.specs.declared.Ahead.{Ahead}
 use Rattle.rudignals.specs.declared.Ahead.the-variants.{Text, End}

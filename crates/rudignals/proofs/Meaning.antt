@@ -10,14 +10,14 @@ use Rattle.lists.proofs.Walk.{walk-step}
 use Rattle.options.specs.Opts.{Opts}
 use Rattle.lines.specs.Lines.{Line}
 use Rattle.pieces.specs.Pieces.{Paragraph, Kind, blankLine, plainLine, paragraph, nextPiece}
-use Rattle.pieces.specs.Places.{taken}
-use Rattle.pieces.specs.Bounds.{ParagraphWithin, Bounded}
+use Rattle.pieces.specs.Contracts.Places.{taken}
+use Rattle.pieces.specs.Contracts.Bounds.{ParagraphWithin, Bounded}
 use Rattle.pieces.specs.declared.Paragraph.{Paragraph as ParagraphAt}
 use Rattle.pieces.specs.declared.Piece.{Piece as PieceAt}
 use Rattle.pieces.specs.declared.Piece.the-variants.{Blank as BlankAt, Plain as PlainAt, Text}
 use Rattle.pieces.proofs.Meaning.{turnAt, TurnIs, TextIs, Means}
 use Rattle.rudignals.specs.Format.{extentOf}
-use Rattle.rudignals.specs.Call.{piecesFrom, Goes}
+use Rattle.rudignals.specs.Contracts.Call.{piecesFrom, Goes}
 
 -- a paragraph in places, the piece that it is, and what its places and numbers keep to
 pub record TextGoes (o : Opts) (nextMail : Bool) (notes : List ℕ) (at : ℕ) (p : ParagraphAt) : Type 0 where

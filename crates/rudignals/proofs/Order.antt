@@ -5,9 +5,9 @@ use mathlib.Core.List.{List, _∷_}
 use mathlib.Core.Logic.{_⊎_, inl, inr}
 use Prim.Native.Nat.{ℕ, _<_}
 use lib.ListN.{length}
-use Rattle.lists.specs.All.{_∈_}
+use Rattle.lists.specs.Theorems.All.{_∈_}
 use Rattle.lists.proofs.All.{all-at, all-weaken}
-use Rattle.text.specs.Blanks.{Blanks}
+use Rattle.text.specs.Theorems.Blanks.{Blanks}
 use Rattle.text.proofs.Blanks.{blanks-spaces}
 use Rattle.options.specs.Opts.{Opts}
 use Rattle.lines.specs.Lines.{Line}
@@ -18,7 +18,7 @@ use Rattle.words.specs.Words.{wordsOf}
 use Rattle.words.proofs.Order.{Whole, paragraph-some, paragraph-whole}
 use Rattle.spacing.specs.Spacing.{addedSpace}
 use Rattle.output.specs.Emission.{spaceBefore}
-use Rattle.output.specs.Order.{InOrder}
+use Rattle.output.specs.Theorems.Order.{InOrder}
 use Rattle.output.proofs.Order.{space-some, emit-order}
 use Rattle.rudignals.specs.Format.{breaksOf, formatted, outputOf, pieceOutput}
 

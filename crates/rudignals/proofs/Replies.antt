@@ -13,11 +13,11 @@ use Rattle.options.specs.declared.Options.{Options}
 use Rattle.options.specs.declared.Block.{Block}
 use Rattle.options.specs.declared.Block.the-variants.{Accepted, Fault}
 use Rattle.pieces.specs.Pieces.{pieces}
-use Rattle.output.specs.Sink.{Wrote}
+use Rattle.output.specs.Contracts.Sink.{Wrote}
 use Rattle.output.proofs.Sink.{written-fits, wrote-length}
 use Rattle.rudignals.specs.Answers.{outputAfter}
 use Rattle.rudignals.specs.Format.{mostBytes, digest, longParagraph, withWords, withText, withNotes, answer}
-use Rattle.rudignals.specs.Call.{Answers, damageFor, Finished}
+use Rattle.rudignals.specs.Contracts.Call.{Answers, damageFor, Finished}
 use Rattle.rudignals.specs.declared.Answer.{Answer as Told}
 use Rattle.rudignals.specs.declared.Answer.the-variants.{Done, Options as Refused, Long, Text, Words, Room}
 use Rattle.rudignals.specs.declared.Ended.{Ended}

@@ -5,7 +5,7 @@ use mathlib.Core.List.{List, [], _∷_, _++_, map}
 use Prim.Native.Nat.{ℕ}
 use lib.Seq.{slice}
 use Rattle.lists.specs.Runs.{joined}
-use Rattle.lists.specs.All.{All}
+use Rattle.lists.specs.Theorems.All.{All}
 use Rattle.lists.proofs.Parts.{joined-nil, joined-cons}
 use Rattle.options.specs.Opts.{Opts}
 use Rattle.lines.specs.Lines.{Line, linesOf}
@@ -15,7 +15,7 @@ use Rattle.pieces.proofs.Starting.{Starts, AllStart}
 use Rattle.pieces.proofs.Meaning.{TextIs}
 use Rattle.records.specs.Word.{Word}
 use Rattle.words.specs.Words.{rowWords, wordsOf}
-use Rattle.words.specs.Places.{rowsAt, wordsAt}
+use Rattle.words.specs.Contracts.Places.{rowsAt, wordsAt}
 
 module _ (o : Opts) where
   row-starts : (start : ℕ) (l : Line) → Starts o start l → rowOf o l ≡ record { text = l .text; start = start }

@@ -13,36 +13,36 @@ use Rattle.lists.proofs.Slices.{slice-is}
 use Rattle.options.specs.Opts.{Opts, meant}
 use Rattle.options.specs.declared.Options.{Options}
 use Rattle.options.proofs.Accepted.{Kept, accepted}
-use Rattle.lines.specs.Places.{Usable}
+use Rattle.lines.specs.Contracts.Places.{Usable}
 use Rattle.lines.proofs.Usable.{usable}
 use Rattle.pieces.specs.Pieces.{Paragraph, blankLine, plainLine, paragraph}
-use Rattle.pieces.specs.Places.{Cleared, pieceAt}
-use Rattle.pieces.specs.Bounds.{MarginWithin, ParagraphWithin, Bounded}
+use Rattle.pieces.specs.Contracts.Places.{Cleared, pieceAt}
+use Rattle.pieces.specs.Contracts.Bounds.{MarginWithin, ParagraphWithin, Bounded}
 use Rattle.pieces.specs.declared.Margin.{Margin}
 use Rattle.pieces.specs.declared.Paragraph.{Paragraph as ParagraphAt}
 use Rattle.pieces.specs.declared.Piece.{Piece as PieceAt}
 use Rattle.pieces.specs.declared.Piece.the-variants.{Text}
 use Rattle.pieces.proofs.Meaning.{TextIs, means}
 use Rattle.records.specs.Word.{Word}
-use Rattle.records.specs.Table.{wordsIn}
-use Rattle.records.specs.Marks.{breaksIn, Marked}
+use Rattle.records.specs.Contracts.Table.{wordsIn}
+use Rattle.records.specs.Contracts.Marks.{breaksIn, Marked}
 use Rattle.words.specs.Words.{wordsOf}
-use Rattle.words.specs.Places.{counted}
-use Rattle.words.specs.Split.{Split}
+use Rattle.words.specs.Contracts.Places.{counted}
+use Rattle.words.specs.Contracts.Split.{Split}
 use Rattle.words.specs.declared.Count.{Count}
 use Rattle.words.specs.declared.Count.the-variants.{Words, TooMany}
 use Rattle.words.proofs.Order.{paragraph-some}
 use Rattle.spacing.specs.declared.Setting.{Setting}
-use Rattle.output.specs.Bound.{most, mostEmitted}
+use Rattle.output.specs.Contracts.Bound.{most, mostEmitted}
 use Rattle.output.specs.Emission.{lineFeed, emit}
-use Rattle.output.specs.Sink.{Wrote}
-use Rattle.output.specs.Writers.{marginOf, MarginIn, emitted}
+use Rattle.output.specs.Contracts.Sink.{Wrote}
+use Rattle.output.specs.Contracts.Writers.{marginOf, MarginIn, emitted}
 use Rattle.output.specs.declared.Layout.{Layout}
 use Rattle.quick.specs.Quick.{quickBreaks}
-use Rattle.knuth_plass.specs.Table.{tables}
-use Rattle.knuth_plass.specs.Round.{Limits, Lent, BestAre}
+use Rattle.knuth_plass.specs.Contracts.Table.{tables}
+use Rattle.knuth_plass.specs.Contracts.Round.{Limits, Lent, BestAre}
 use Rattle.rudignals.specs.Format.{settingOf, breaksOf, formatted, outputOf}
-use Rattle.rudignals.specs.Call.{Goes, Put, Stepped, Ready, Begins, settingIn, broken, Broken, wordsFor, Placed, TextPut, TextStepped}
+use Rattle.rudignals.specs.Contracts.Call.{Goes, Put, Stepped, Ready, Begins, settingIn, broken, Broken, wordsFor, Placed, TextPut, TextStepped}
 use Rattle.rudignals.specs.declared.Cursor.{Cursor}
 use Rattle.rudignals.specs.declared.Step.{Step}
 use Rattle.rudignals.specs.declared.Step.the-variants.{On, Over}

@@ -20,7 +20,7 @@ use Rattle.options.specs.declared.Block.{Block}
 use Rattle.options.specs.declared.Block.the-variants.{Accepted, Fault}
 use Rattle.options.proofs.Accepted.{accepted}
 use Rattle.pieces.specs.Pieces.{Kind, blankLine, plainLine, paragraph, pieces}
-use Rattle.pieces.specs.Places.{pieceAt}
+use Rattle.pieces.specs.Contracts.Places.{pieceAt}
 use Rattle.pieces.specs.declared.Piece.{Piece as PieceAt}
 use Rattle.pieces.specs.declared.Piece.the-variants.{Blank as BlankAt, Plain as PlainAt, Text}
 use Rattle.pieces.proofs.Meaning.{means, bounded}
@@ -28,7 +28,7 @@ use Rattle.words.specs.Words.{wordsOf}
 use Rattle.output.specs.Emission.{lineFeed}
 use Rattle.rudignals.specs.Answers.{Answer, done, options, long, text, words, room, code, value, numbered}
 use Rattle.rudignals.specs.Format.{mostBytes, outputOf, tooMany, digest, longParagraph, withWords, withText, damageIn, withNotes, withBlock, answer}
-use Rattle.rudignals.specs.Call.{outputFrom, longFrom, Goes, told, numberOf}
+use Rattle.rudignals.specs.Contracts.Call.{outputFrom, longFrom, Goes, told, numberOf}
 use Rattle.rudignals.proofs.Meaning.{PieceGoes, piece-goes}
 use Rattle.rudignals.proofs.Bound.{formatted-most}
 use Rattle.rudignals.proofs.Faults.{fault-small}

@@ -1,5 +1,4 @@
 pub mod Answers
 pub mod Format
-pub mod Call
-pub mod Computing
-pub mod MarkedTexts
+pub mod Contracts
+pub mod Trials

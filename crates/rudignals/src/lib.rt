@@ -16,11 +16,11 @@ ghost use Rattle.options.specs.Opts.{meant};
 ghost use Rattle.options.specs.OptionBlock.{readBlock};
 ghost use Rattle.options.specs.declared.Block.the-variants.{Accepted};
 ghost use Rattle.pieces.specs.Pieces.{pieces};
-ghost use Rattle.knuth_plass.specs.Table.{tables};
-ghost use Rattle.knuth_plass.specs.Round.{Limits, Wide, Lent};
+ghost use Rattle.knuth_plass.specs.Contracts.Table.{tables};
+ghost use Rattle.knuth_plass.specs.Contracts.Round.{Limits, Wide, Lent};
 ghost use Rattle.rudignals.specs.Answers.{numbered, outputAfter};
 ghost use Rattle.rudignals.specs.Format.{answer, withNotes, withWords, longParagraph};
-ghost use Rattle.rudignals.specs.Call.{numberOf, damageFor, Answers, Stands, Begins, Reached, Scratch, Ready, settingIn, Broken, Placed, TextStepped, Finished, FinishedFrom};
+ghost use Rattle.rudignals.specs.Contracts.Call.{numberOf, damageFor, Answers, Stands, Begins, Reached, Scratch, Ready, settingIn, Broken, Placed, TextStepped, Finished, FinishedFrom};
 
 // What the call answers: the digest's length, or a refusal with what is told of it.
 pub enum Answer {

@@ -5,11 +5,11 @@ use Prim.Native.Nat.{ℕ, _+_, _≤_, _<_}
 use native.Mathlib.Nat.{div-add-mod', mod-lt, add-mul, one-mul}
 use native.Mathlib.Omega.{arith}
 use Rattle.lines.specs.Classes.{nextStop}
-use Rattle.records.specs.Table.{numberOf}
+use Rattle.records.specs.Contracts.Table.{numberOf}
 use Rattle.records.specs.declared.Before.{Before}
 use Rattle.records.specs.declared.Before.the-variants.{Absent, Count}
 use Rattle.spacing.specs.Spacing.{gapWidth, addedSpace}
-use Rattle.spacing.specs.Bounds.{GapIs, AddedIs}
+use Rattle.spacing.specs.Contracts.Bounds.{GapIs, AddedIs}
 
 -- the next stop behind a column
 module _ (tab column : ℕ) (some : 1 ≤ tab) where

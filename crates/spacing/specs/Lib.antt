@@ -1,2 +1,2 @@
 pub mod Spacing
-pub mod Bounds
+pub mod Contracts

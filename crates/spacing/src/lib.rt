@@ -4,8 +4,8 @@ ghost use mathlib.Core.Path.{_≡_};
 ghost use mathlib.Core.Bool.{cond};
 ghost use Prim.Native.Nat.{_+_, _≤_, _<_, _^_};
 ghost use Rattle.lines.specs.Classes.{nextStop};
-ghost use Rattle.records.specs.Table.{numberOf};
-ghost use Rattle.spacing.specs.Bounds.{GapIs, AddedIs};
+ghost use Rattle.records.specs.Contracts.Table.{numberOf};
+ghost use Rattle.spacing.specs.Contracts.Bounds.{GapIs, AddedIs};
 
 // What a paragraph is broken with: width limit, goal, tab width, uniform spacing, and the columns of its first indent and its indent.
 pub struct Setting {

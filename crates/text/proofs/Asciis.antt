@@ -8,7 +8,7 @@ use borrow.Author.Tests.{ltb-true, ltb-false}
 use lib.Dec.{ltb}
 use lib.ListN.{length, getD, drop}
 use Rattle.text.specs.Characters.{damage}
-use Rattle.text.specs.Places.{Ascii}
+use Rattle.text.specs.Contracts.Places.{Ascii}
 use Rattle.text.proofs.Rows.{allAt, all-each}
 use Rattle.text.proofs.Glyphs.{ascii-here}
 use Rattle.text.proofs.Damage.{later, damage-on}

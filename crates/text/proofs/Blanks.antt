@@ -7,12 +7,12 @@ use lib.Dec.{eqb}
 use lib.ListN.{replicate}
 use borrow.Author.Tests.{eqb-true}
 use Rattle.lists.specs.Runs.{every, joined, while}
-use Rattle.lists.specs.All.{All}
+use Rattle.lists.specs.Theorems.All.{All}
 use Rattle.lists.proofs.Parts.{every-nil, every-cons, every-append, joined-nil, joined-cons}
 use Rattle.text.specs.Rfc3629.{encode}
 use Rattle.text.specs.Characters.{blankCode, Glyph, glyphs, isBlank, isGood, extent, damage}
 use Rattle.text.specs.declared.Found.the-variants.{At, Nowhere}
-use Rattle.text.specs.Blanks.{spaceCode, Blanks}
+use Rattle.text.specs.Theorems.Blanks.{spaceCode, Blanks}
 use Rattle.text.proofs.Extents.{Sound}
 use Rattle.text.proofs.Glue.{every-good}
 

@@ -8,7 +8,7 @@ use lib.Seq.{take-all}
 use borrow.Author.Tests.{lt-ltb, le-ltb}
 use Rattle.lists.proofs.Views.{drop-here, drop-none}
 use Rattle.text.specs.Rfc3629.{encode, Front, front, nothing, decode}
-use Rattle.text.specs.Places.{readAs}
+use Rattle.text.specs.Contracts.Places.{readAs}
 use Rattle.text.specs.declared.Char.the-variants.{Good, Damaged}
 use Rattle.text.proofs.Decoder.{Octets, one, two, three, four, octets-of, number-four, Scalar, scalar-plain, scalar-true, sound, complete}
 

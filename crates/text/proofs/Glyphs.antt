@@ -15,7 +15,7 @@ use Rattle.lists.proofs.Views.{drop-here, drop-none}
 use Rattle.lists.proofs.Slices.{slice-is, slice-one}
 use Rattle.text.specs.Rfc3629.{Front, front, nothing}
 use Rattle.text.specs.Characters.{accepted, character, blankCode, widthOf, Glyph, glyphAs, glyph, glyphs, isGood}
-use Rattle.text.specs.Places.{readAs, seenAs}
+use Rattle.text.specs.Contracts.Places.{readAs, seenAs}
 use Rattle.text.specs.declared.Char.the-variants.{Good, Damaged}
 use Rattle.text.specs.declared.Glyph.{Glyph as Seen}
 use Rattle.text.specs.declared.Glyph.the-variants.{Ink, Blank, Damaged as Broken}

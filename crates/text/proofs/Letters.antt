@@ -10,7 +10,7 @@ use lib.ListN.{length, getD, drop}
 use lib.Seq.{getD-drop}
 use borrow.Author.Tests.{ltb-true, lt-ltb, leb-true, le-leb, lt-leb, eqb-true, eqb-false, not-true, ne-eqb}
 use Rattle.text.specs.Characters.{accepted, character, blankCode}
-use Rattle.text.specs.Places.{readAs, letterAt, pairCode, Pair}
+use Rattle.text.specs.Contracts.Places.{readAs, letterAt, pairCode, Pair}
 use Rattle.text.specs.declared.Char.the-variants.{Good}
 use Rattle.text.proofs.Forms.{lead, is-two}
 use Rattle.text.proofs.Places.{acceptedOnly, char-decode}

@@ -7,7 +7,7 @@ use native.Mathlib.Omega.{arith}
 use lib.Seq.{length-take-le}
 use Rattle.text.specs.Rfc3629.{Front, front, nothing, decode}
 use Rattle.text.specs.Characters.{accepted, onlyAccepted, character, blankCode, glyphAs, glyph}
-use Rattle.text.specs.Places.{readAs, seenAs}
+use Rattle.text.specs.Contracts.Places.{readAs, seenAs}
 use Rattle.text.specs.declared.Char.{Char}
 use Rattle.text.specs.declared.Char.the-variants.{Good, Damaged}
 use Rattle.text.specs.declared.Glyph.{Glyph as Seen}

@@ -5,7 +5,7 @@ ghost use Prim.Native.Nat.{_+_, _-_, _≤_, _<_, _^_};
 ghost use lib.ListN.{length, getD, drop};
 ghost use Rattle.text.specs.Rfc3629.{decode};
 ghost use Rattle.text.specs.Characters.{accepted, character, blankCode, widthOf, glyph, damage};
-ghost use Rattle.text.specs.Places.{readAs, seenAs, letterAt, Pair, Ascii};
+ghost use Rattle.text.specs.Contracts.Places.{readAs, seenAs, letterAt, Pair, Ascii};
 
 // A place, or none.
 pub enum Found {

@@ -14,15 +14,15 @@ use Rattle.text.proofs.Glyph.{the-type}
 use denote.Enum.Declared.{tagOf}
 use types.Run.{OneOf}
 use Rattle.text.specs.Characters.{blankCode, Glyph, glyph, glyphs, isBlank, extent}
-use Rattle.text.specs.Places.{seenAs}
+use Rattle.text.specs.Contracts.Places.{seenAs}
 use Rattle.text.specs.declared.Glyph.{Glyph as Seen}
 use Rattle.text.proofs.Glyphs.{Here, glyphs-past, glyphs-first, not-blank, ascii-here}
 use Rattle.lines.specs.Classes.{nextStop}
-use Rattle.records.specs.Table.{numberOf}
+use Rattle.records.specs.Contracts.Table.{numberOf}
 use Rattle.records.specs.declared.Before.{Before}
 use Rattle.records.specs.declared.Before.the-variants.{Absent, Count}
 use Rattle.words.specs.Words.{Gap, gapTab, gapFrom, gapOf}
-use Rattle.words.specs.Scan.{gapIn, gapBehind, OverBlanks, OneSpace}
+use Rattle.words.specs.Contracts.Scan.{gapIn, gapBehind, OverBlanks, OneSpace}
 use Rattle.words.specs.declared.Blanks.{Blanks}
 use Rattle.words.proofs.PlainRuns.{plain-here}
 

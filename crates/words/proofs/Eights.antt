@@ -9,7 +9,7 @@ use lib.Dec.{leb}
 use lib.ListN.{getD, length}
 use lib.Bits.{bitAnd, and-block, and-le-l, and-le-r, and-zero-r}
 use lib.Count.{under, trailingZeros, trailing-le}
-use Rattle.words.specs.Scan.{number, eightAt, Plain}
+use Rattle.words.specs.Contracts.Scan.{number, eightAt, Plain}
 
 -- ---- the high bit of a digit
 

@@ -9,11 +9,11 @@ use borrow.Author.Tests.{le-leb, lt-leb}
 use lib.ListN.{length, take, length-append, length-take}
 use lib.Seq.{take-take}
 use Rattle.records.specs.Word.{Word, meaning}
-use Rattle.records.specs.Table.{wordIn, withWord, recordsOf, wordsIn, Within}
+use Rattle.records.specs.Contracts.Table.{wordIn, withWord, recordsOf, wordsIn, Within}
 use Rattle.records.specs.declared.Word.{Word as Record}
 use Rattle.records.proofs.Table.{length-with, read-back, read-other, within-more, words-length, words-more}
-use Rattle.words.specs.Split.{Kept, Filled, Split}
-use Rattle.words.specs.Places.{counted}
+use Rattle.words.specs.Contracts.Split.{Kept, Filled, Split}
+use Rattle.words.specs.Contracts.Places.{counted}
 use Rattle.words.specs.declared.Count.{Count}
 use Rattle.words.specs.declared.Count.the-variants.{Words, TooMany}
 

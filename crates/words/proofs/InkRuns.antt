@@ -12,7 +12,7 @@ use Rattle.text.specs.Characters.{widthOf, Glyph, glyph, glyphs, extent}
 use Rattle.text.proofs.Glyphs.{Here, DamagedHere, glyphs-past}
 use Rattle.text.proofs.Letters.{Letter, letter-least, letter-here}
 use Rattle.words.specs.Words.{isInk, isPunct, widthSum, punctAtEnd}
-use Rattle.words.specs.Scan.{punctCode, OverInk}
+use Rattle.words.specs.Contracts.Scan.{punctCode, OverInk}
 use Rattle.words.specs.declared.Ink.{Ink}
 
 abbrev inkAt : Bool → List ℕ → ℕ → List Glyph

@@ -14,11 +14,11 @@ use Rattle.text.specs.Characters.{Glyph, glyph, glyphs, isBlank, extent}
 use Rattle.text.proofs.Glyphs.{bytes-of, glyphs-past, glyphs-first}
 use Rattle.options.specs.Opts.{Opts}
 use Rattle.records.specs.Word.{meaning}
-use Rattle.records.specs.Table.{numberOf, Small, Within}
+use Rattle.records.specs.Contracts.Table.{numberOf, Small, Within}
 use Rattle.records.specs.declared.Word.{Word as Record}
 use Rattle.records.specs.declared.Before.the-variants.{Absent}
 use Rattle.words.specs.Words.{Run, isInk, runOf, bytesOf, widthSum, Gap, noGap, gapOf, hasTab, punctAtEnd, wideGap, wordOf, mailWord}
-use Rattle.words.specs.Scan.{gapIn, OverBlanks, OverInk, wordAt, mailAt, wordsFrom, NextWord}
+use Rattle.words.specs.Contracts.Scan.{gapIn, OverBlanks, OverInk, wordAt, mailAt, wordsFrom, NextWord}
 use Rattle.words.specs.declared.Blanks.{Blanks}
 use Rattle.words.specs.declared.Ink.{Ink}
 use Rattle.words.proofs.WordRuns.{run-bytes, words-none, wordFor, words-one}

@@ -6,11 +6,11 @@ use Prim.Native.Nat.{ℕ, _<_}
 use native.Mathlib.Omega.{arith}
 use lib.ListN.{length, length-append}
 use Rattle.lists.specs.Runs.{every, joined}
-use Rattle.lists.specs.All.{All}
+use Rattle.lists.specs.Theorems.All.{All}
 use Rattle.lists.proofs.Parts.{every-nil, every-cons, every-append, joined-nil, joined-cons, joined-append}
 use Rattle.lists.proofs.All.{all-front, all-back, all-map, all-weaken, all-joined}
 use Rattle.text.specs.Characters.{Glyph, glyphs, isBlank}
-use Rattle.text.specs.Blanks.{Blanks}
+use Rattle.text.specs.Theorems.Blanks.{Blanks}
 use Rattle.text.proofs.Extents.{Sound, glyphs-sound}
 use Rattle.text.proofs.Glyphs.{glyphs-joined}
 use Rattle.text.proofs.Blanks.{blanks-none, blanks-glyphs}
@@ -24,7 +24,7 @@ use Rattle.pieces.specs.Pieces.{Row, Paragraph, startAs, rowOf}
 use Rattle.pieces.proofs.Extents.{Feedless, Rows}
 use Rattle.records.specs.Word.{Word}
 use Rattle.words.specs.Words.{isInk, glyphBytes, bytesOf, rowWords, wordsOf}
-use Rattle.words.specs.Ink.{inkOf, rowInk}
+use Rattle.words.specs.Theorems.Ink.{inkOf, rowInk}
 use Rattle.words.proofs.Spelled.{Begins, Spelled, row-spelled}
 
 abbrev pub textOf : Word → List ℕ

@@ -11,7 +11,7 @@ use borrow.Author.Tests.{lt-leb, le-leb, ne-eqb, ltb-true, ltb-false}
 use lib.Dec.{ltb}
 use Rattle.text.specs.Characters.{blankCode, widthOf}
 use Rattle.text.proofs.Glyphs.{Here, ascii-here}
-use Rattle.words.specs.Scan.{punctCode, Plain, OverPlain}
+use Rattle.words.specs.Contracts.Scan.{punctCode, Plain, OverPlain}
 use Rattle.words.specs.declared.Ink.{Ink}
 use Rattle.words.proofs.InkRuns.{InkLeft, ink-more}
 

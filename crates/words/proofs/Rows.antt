@@ -12,16 +12,16 @@ use Rattle.text.specs.Characters.{Glyph, glyphs}
 use Rattle.options.specs.Opts.{Opts, meant}
 use Rattle.options.specs.declared.Options.{Options}
 use Rattle.lines.specs.Lines.{Line, firstLine, linesOf}
-use Rattle.lines.specs.Places.{extentOf}
+use Rattle.lines.specs.Contracts.Places.{extentOf}
 use Rattle.lines.specs.declared.Extent.{Extent}
 use Rattle.lines.proofs.Lines.{LineHere, lines-past, line-here}
 use Rattle.pieces.specs.Pieces.{Row}
-use Rattle.pieces.specs.Bounds.{Begins, AllBegin}
+use Rattle.pieces.specs.Contracts.Bounds.{Begins, AllBegin}
 use Rattle.records.specs.Word.{Word}
 use Rattle.words.specs.Words.{Run, wordOf, lineWords, rowWords}
-use Rattle.words.specs.Places.{rowsAt, wordsAt}
-use Rattle.words.specs.Scan.{wordsFrom}
-use Rattle.words.specs.Split.{Filled, Split}
+use Rattle.words.specs.Contracts.Places.{rowsAt, wordsAt}
+use Rattle.words.specs.Contracts.Scan.{wordsFrom}
+use Rattle.words.specs.Contracts.Split.{Filled, Split}
 use Rattle.words.specs.declared.Count.{Count}
 use Rattle.words.proofs.Filling.{filled-split}
 

@@ -17,7 +17,7 @@ use Rattle.text.proofs.Glyphs.{glyphs-joined}
 use Rattle.options.specs.Opts.{Opts}
 use Rattle.records.specs.Word.{Word}
 use Rattle.words.specs.Words.{Run, isInk, runOf, runs, glyphBytes, bytesOf, punctAtEnd, wordOf, lineWords, mailWord, mailWords}
-use Rattle.words.specs.Scan.{wordsFrom}
+use Rattle.words.specs.Contracts.Scan.{wordsFrom}
 
 -- ---- bytes
 

@@ -1,6 +1,6 @@
 -- `demerits::line_term` meets its contract. Assumes nothing.
 use lib.Dec.{lit≤}
-use Rattle.demerits.specs.Bounds.{most}
+use Rattle.demerits.specs.Contracts.Bounds.{most}
 use Rattle.demerits.proofs.Terms.{weighted-upTo, line-le}
 use Rattle.demerits.proofs.line_term.Statement.{statement}
 use Rattle.demerits.proofs.line_term.Tie as tie

@@ -1,7 +1,7 @@
 -- `demerits::ratio_term` meets its contract. Assumes nothing.
 use lib.Dec.{lit≤}
 use lib.Ieee.{ofBits, ofInt}
-use Rattle.demerits.specs.Bounds.{most}
+use Rattle.demerits.specs.Contracts.Bounds.{most}
 use Rattle.demerits.proofs.Terms.{weighted-upTo, change-within, ratio-le}
 use Rattle.demerits.proofs.ratio_term.Statement.{statement}
 use Rattle.demerits.proofs.ratio_term.Tie as tie

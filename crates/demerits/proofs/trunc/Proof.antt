@@ -4,7 +4,7 @@ use Prim.Native.Nat.{ℕ, _/_, _^_}
 use native.Mathlib.Nat.{lt-of-le-of-lt}
 use lib.Dec.{lit<}
 use lib.Ieee.{binary32, toBits}
-use Rattle.demerits.specs.Bounds.{most}
+use Rattle.demerits.specs.Contracts.Bounds.{most}
 use Rattle.demerits.proofs.Pattern.{digits, cut-whole, shift-fits, places-few, no-nan}
 use Rattle.demerits.proofs.Whole.{whole-le}
 use Rattle.demerits.proofs.trunc.Statement.{statement}

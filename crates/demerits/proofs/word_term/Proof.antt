@@ -2,7 +2,7 @@
 use mathlib.Core.Path.{_∙_}
 use native.Mathlib.Omega.{arith}
 use lib.Dec.{lit≤}
-use Rattle.demerits.specs.Bounds.{most}
+use Rattle.demerits.specs.Contracts.Bounds.{most}
 use Rattle.demerits.proofs.Terms.{weighted-upTo, word-tight, word-any, word-within, word-le}
 use borrow.Author.Needs.{needs}
 use Rattle.demerits.proofs.word_term.Statement.{statement}

@@ -5,8 +5,8 @@ use Prim.Native.Nat.{ℕ, _-_}
 use native.Mathlib.Omega.{arith}
 use borrow.Author.Needs.{needs}
 use Rattle.knuth_plass.specs.KnuthPlass.{reduced}
-use Rattle.knuth_plass.specs.Table.{tables}
-use Rattle.knuth_plass.specs.Round.{lessened, breaksOf, Fit, Goes}
+use Rattle.knuth_plass.specs.Contracts.Table.{tables}
+use Rattle.knuth_plass.specs.Contracts.Round.{lessened, breaksOf, Fit, Goes}
 use Rattle.knuth_plass.proofs.Over.{answer, first-room, fit-first, goes-first, fit-end, done}
 use Rattle.knuth_plass.proofs.advance.Statement.{statement}
 use Rattle.knuth_plass.proofs.advance.Tie as tie

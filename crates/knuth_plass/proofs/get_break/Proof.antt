@@ -1,5 +1,5 @@
 -- `knuth_plass::get_break` meets its contract. The record is put together from its numbers.
-use Rattle.knuth_plass.specs.Table.{breakIn}
+use Rattle.knuth_plass.specs.Contracts.Table.{breakIn}
 use borrow.Author.Needs.{needs}
 use Rattle.knuth_plass.proofs.get_break.Statement.{statement}
 use Rattle.knuth_plass.proofs.get_break.Tie as tie

@@ -5,8 +5,8 @@ use Prim.Native.Nat.{_≤_, _<_, _-_}
 use native.Mathlib.Omega.{arith}
 use lib.Seq.{slice}
 use Rattle.knuth_plass.specs.KnuthPlass.{leastFrom, least as leastOf}
-use Rattle.knuth_plass.specs.Table.{tables, meant}
-use Rattle.knuth_plass.specs.Round.{breaksOf}
+use Rattle.knuth_plass.specs.Contracts.Table.{tables, meant}
+use Rattle.knuth_plass.specs.Contracts.Round.{breaksOf}
 use Rattle.knuth_plass.proofs.Lowest.{active-below, least-begins, least-goes, least-found}
 use Rattle.knuth_plass.proofs.least.Statement.{statement}
 use Rattle.knuth_plass.proofs.least.Tie as tie

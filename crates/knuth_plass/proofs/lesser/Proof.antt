@@ -1,5 +1,5 @@
 -- `knuth_plass::lesser` meets its contract. One law for each way through it.
-use Rattle.knuth_plass.specs.Table.{tables}
+use Rattle.knuth_plass.specs.Contracts.Table.{tables}
 use Rattle.knuth_plass.proofs.Lowest.{lesser-second, lesser-first}
 use borrow.Author.Needs.{needs}
 use Rattle.knuth_plass.proofs.lesser.Statement.{statement}

@@ -5,7 +5,7 @@ use Prim.Native.Nat.{ℕ, _≤_, _<_}
 use native.Mathlib.Omega.{arith}
 use lib.ListN.{length, getD}
 use Rattle.knuth_plass.specs.KnuthPlass.{startsLine}
-use Rattle.knuth_plass.specs.Table.{tables, pathTo}
+use Rattle.knuth_plass.specs.Contracts.Table.{tables, pathTo}
 use Rattle.knuth_plass.proofs.Marks.{step-back, at-start}
 use Rattle.knuth_plass.proofs.mark_path.Statement.{statement}
 use Rattle.knuth_plass.proofs.mark_path.Tie as tie

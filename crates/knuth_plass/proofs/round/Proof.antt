@@ -1,5 +1,5 @@
 -- `knuth_plass::round` meets its contract. The answer of all turns, settled.
-use Rattle.knuth_plass.specs.Table.{tables}
+use Rattle.knuth_plass.specs.Contracts.Table.{tables}
 use Rattle.knuth_plass.proofs.Paragraph.{round-is}
 use native.Mathlib.Omega.{arith}
 use borrow.Author.Needs.{needs}

@@ -7,11 +7,11 @@ use native.Mathlib.Omega.{arith}
 use lib.Ieee.{ofBits}
 use lib.ListN.{drop}
 use Rattle.records.specs.Word.{meaning}
-use Rattle.records.specs.Table.{wordIn, wordsIn}
+use Rattle.records.specs.Contracts.Table.{wordIn, wordsIn}
 use Rattle.records.specs.declared.Word.{Word as WordRecord}
 use Rattle.knuth_plass.specs.KnuthPlass.{Active, roundsFrom}
-use Rattle.knuth_plass.specs.Table.{tables}
-use Rattle.knuth_plass.specs.Round.{Ready, standing, begin}
+use Rattle.knuth_plass.specs.Contracts.Table.{tables}
+use Rattle.knuth_plass.specs.Contracts.Round.{Ready, standing, begin}
 use Rattle.knuth_plass.proofs.Paragraph.{ready-first, begins, rounds-next, rounds-are}
 use Rattle.knuth_plass.proofs.rounds.Statement.{statement}
 use Rattle.knuth_plass.proofs.rounds.Tie as tie

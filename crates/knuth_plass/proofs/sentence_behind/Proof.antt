@@ -1,6 +1,6 @@
 -- `knuth_plass::sentence_behind` meets its contract. The next word's marks, or true where there is none.
 use Rattle.records.specs.Word.{meaning}
-use Rattle.records.specs.Table.{wordIn}
+use Rattle.records.specs.Contracts.Table.{wordIn}
 use Rattle.knuth_plass.proofs.Paragraph.{behind-last, behind-next}
 use borrow.Author.Needs.{needs}
 use Rattle.knuth_plass.proofs.sentence_behind.Statement.{statement}

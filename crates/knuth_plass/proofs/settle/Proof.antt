@@ -1,7 +1,7 @@
 -- `knuth_plass::settle` meets its contract. One law for each way through it: one break more, nothing new, begin again.
 use native.Mathlib.Omega.{arith}
 use mathlib.Core.Path.{ap, _∙_}
-use Rattle.knuth_plass.specs.Round.{lessened}
+use Rattle.knuth_plass.specs.Contracts.Round.{lessened}
 use Rattle.knuth_plass.proofs.Settling.{settles-restart, settles-none, settles-offer, again-columns}
 use borrow.Author.Needs.{needs}
 use Rattle.knuth_plass.proofs.settle.Statement.{statement}

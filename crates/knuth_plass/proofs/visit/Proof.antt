@@ -1,8 +1,8 @@
 -- `knuth_plass::visit` meets its contract. One law for each way through it: the break stays on a short line, is dropped, or stays and may offer.
 use mathlib.Core.Path.{ap, _∙_}
 use Prim.Native.Nat.{_<_}
-use Rattle.knuth_plass.specs.Table.{tables}
-use Rattle.knuth_plass.specs.Round.{lineAt, lessened}
+use Rattle.knuth_plass.specs.Contracts.Table.{tables}
+use Rattle.knuth_plass.specs.Contracts.Round.{lineAt, lessened}
 use Rattle.knuth_plass.proofs.Step.{room, sound, kept-room, fit-drops, goes-drops, keeps, offers, short-fits, short-offers}
 use borrow.Author.Needs.{needs}
 use Rattle.knuth_plass.proofs.visit.Statement.{statement}

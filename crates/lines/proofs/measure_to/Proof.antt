@@ -4,7 +4,7 @@ use Prim.Native.Nat.{_-_}
 use native.Mathlib.Omega.{arith}
 use mathlib.Core.Bool.{false}
 use lib.ListN.{length}
-use Rattle.lines.specs.Places.{Inside}
+use Rattle.lines.specs.Contracts.Places.{Inside}
 use Rattle.lines.proofs.Turns.{Left, left-first, left-then, left-last}
 use Rattle.lines.proofs.measure_to.Statement.{statement}
 use Rattle.lines.proofs.measure_to.Tie as tie

@@ -7,7 +7,7 @@ use native.Mathlib.Omega.{arith}
 use lib.ListN.{length}
 use borrow.Author.Needs.{needs}
 use Rattle.text.proofs.Glyphs.{Here, blank-here, not-blank}
-use Rattle.lines.specs.Places.{Inside}
+use Rattle.lines.specs.Contracts.Places.{Inside}
 use Rattle.lines.proofs.Measures.{behind-char}
 use Rattle.lines.proofs.Turns.{no-blank, LeftBlanks, blanks-first, blanks-then, blanks-last}
 use Rattle.lines.proofs.over_blanks.Statement.{statement}

@@ -4,7 +4,7 @@ use native.Mathlib.Omega.{arith}
 use borrow.Author.Needs.{needs}
 use denote.Ref.{now}
 use lib.ListN.{length, take}
-use Rattle.output.specs.Sink.{Wrote}
+use Rattle.output.specs.Contracts.Sink.{Wrote}
 use Rattle.output.proofs.Sink.{wrote-nil, wrote-length}
 use Rattle.output.proofs.Copies.{covered, copied-all}
 use Rattle.output.proofs.copy_long.Statement.{statement}

@@ -4,8 +4,8 @@ use Prim.Native.Nat.{_≤_, _-_, _+_, _*_, _^_}
 use native.Mathlib.Omega.{arith}
 use borrow.Author.Needs.{needs}
 use lib.ListN.{length}
-use Rattle.output.specs.Sink.{Left}
-use Rattle.output.specs.Writers.{emittedFrom}
+use Rattle.output.specs.Contracts.Sink.{Left}
+use Rattle.output.specs.Contracts.Writers.{emittedFrom}
 use Rattle.output.proofs.Sink.{wrote-length, wrote-part, left-first, left-last}
 use Rattle.output.proofs.Emission.{turn-within, turn-most, rest-end}
 use Rattle.output.proofs.Runs.{turn-left}

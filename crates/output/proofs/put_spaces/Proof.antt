@@ -3,7 +3,7 @@ use Prim.Native.Nat.{_≤_, _-_}
 use native.Mathlib.Omega.{arith}
 use borrow.Author.Needs.{needs}
 use lib.ListN.{take, replicate}
-use Rattle.output.specs.Sink.{Wrote}
+use Rattle.output.specs.Contracts.Sink.{Wrote}
 use Rattle.output.proofs.Sink.{wrote-nil, wrote-length}
 use Rattle.output.proofs.Copies.{copied-space, spaces-wrote}
 use Rattle.output.proofs.put_spaces.Statement.{statement}

@@ -1,7 +1,7 @@
 -- `output::run_from` meets its contract. Invariant: the contract itself, of the run so far.
 use Prim.Native.Nat.{_-_}
 use borrow.Author.Needs.{needs}
-use Rattle.output.specs.Runs.{Runs}
+use Rattle.output.specs.Contracts.Runs.{Runs}
 use Rattle.output.proofs.Emission.{turn-within}
 use Rattle.output.proofs.Runs.{run-first, run-more}
 use Rattle.output.proofs.run_from.Statement.{statement}

@@ -5,7 +5,7 @@ use native.Mathlib.Omega.{arith}
 use lib.ListN.{length}
 use borrow.Author.Needs.{needs}
 use Rattle.options.specs.Opts.{meant}
-use Rattle.pieces.specs.Places.{reach, passesRule}
+use Rattle.pieces.specs.Contracts.Places.{reach, passesRule}
 use Rattle.pieces.proofs.Headers.{not-not}
 use Rattle.pieces.proofs.Following.{other-keys, reach-past, reach-other, reach-fails, reach-joins}
 use Rattle.pieces.proofs.follow.Statement.{statement}

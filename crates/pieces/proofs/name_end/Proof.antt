@@ -6,7 +6,7 @@ use lib.ListN.{length, drop}
 use borrow.Author.Needs.{needs}
 use Rattle.lists.specs.Runs.{while}
 use Rattle.lists.proofs.RunsAt.{run-past, run-end, run-more}
-use Rattle.pieces.specs.Places.{headerName}
+use Rattle.pieces.specs.Contracts.Places.{headerName}
 use Rattle.pieces.proofs.Headers.{name-low, name-high, name-colon, name-more}
 use Rattle.pieces.proofs.name_end.Statement.{statement}
 use Rattle.pieces.proofs.name_end.Tie as tie

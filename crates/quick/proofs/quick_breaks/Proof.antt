@@ -7,7 +7,7 @@ use borrow.Author.Needs.{needs}
 use denote.Ref.{now}
 use lib.ListN.{length, length-set}
 use lib.Seq.{sets}
-use Rattle.records.specs.Table.{wordsIn}
+use Rattle.records.specs.Contracts.Table.{wordsIn}
 use Rattle.records.proofs.Marks.{marked}
 use Rattle.quick.specs.Quick.{quickBreaks}
 use Rattle.quick.proofs.Laws.{breaksFrom, breaks-first, breaks-end, breaks-length, column-most, turn}

@@ -1,6 +1,6 @@
 -- `records::get` meets its contract.
 use borrow.Author.Needs.{needs}
-use Rattle.records.specs.Table.{wordIn}
+use Rattle.records.specs.Contracts.Table.{wordIn}
 use Rattle.records.proofs.get.Statement.{statement}
 use Rattle.records.proofs.get.Tie as tie
 

@@ -6,7 +6,7 @@ use Prim.Native.Nat.{ℕ}
 use borrow.Author.Needs.{needs}
 use Rattle.text.specs.Characters.{damage}
 use Rattle.text.specs.declared.Found.{Found}
-use Rattle.rudignals.specs.Call.{damageFor}
+use Rattle.rudignals.specs.Contracts.Call.{damageFor}
 use Rattle.rudignals.proofs.damage_in.Statement.{statement}
 use Rattle.rudignals.proofs.damage_in.Tie as tie
 

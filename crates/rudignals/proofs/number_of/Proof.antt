@@ -3,7 +3,7 @@ use mathlib.Core.Path.{_≡_, sym, ap}
 use Prim.Native.Nat.{_<_, _^_}
 use native.Mathlib.Omega.{arith}
 use borrow.Author.Needs.{needs}
-use Rattle.rudignals.specs.Call.{numberOf}
+use Rattle.rudignals.specs.Contracts.Call.{numberOf}
 use Rattle.rudignals.specs.declared.Answer.{Answer}
 use Rattle.rudignals.proofs.number_of.Statement.{statement}
 use Rattle.rudignals.proofs.number_of.Tie as tie

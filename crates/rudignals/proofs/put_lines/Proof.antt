@@ -5,7 +5,7 @@ use borrow.Author.Needs.{needs}
 use lib.ListN.{length}
 use mathlib.Core.Path.{refl}
 use Rattle.options.specs.Opts.{meant}
-use Rattle.rudignals.specs.Call.{Going}
+use Rattle.rudignals.specs.Contracts.Call.{Going}
 use Rattle.rudignals.proofs.Loop.{going-first, going-length, going-on, going-last}
 use Rattle.rudignals.proofs.Steps.{ready-usable, ready-cleared, found-goes, found-begins, blank-put, plain-put}
 use Rattle.rudignals.proofs.put_lines.Statement.{statement}

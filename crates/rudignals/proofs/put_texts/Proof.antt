@@ -7,7 +7,7 @@ use denote.Ref.{now}
 use lib.ListN.{length}
 use Rattle.output.proofs.Sink.{wrote-length}
 use Rattle.options.specs.Opts.{meant}
-use Rattle.rudignals.specs.Call.{Going, Begins, Scratch}
+use Rattle.rudignals.specs.Contracts.Call.{Going, Begins, Scratch}
 use Rattle.rudignals.specs.declared.Ended.the-variants.{All}
 use Rattle.rudignals.proofs.Loop.{going-first, going-length, going-on, going-further, going-finished, going-over, stepped-on, stepped-over, reached-text, reached-end}
 use Rattle.rudignals.proofs.Steps.{begins-placed, begins-stepped}

@@ -1,7 +1,7 @@
 -- `rudignals::rudignals_format` meets its contract.
 use mathlib.Core.Path.{ap, _∙_}
 use borrow.Author.Needs.{needs}
-use Rattle.rudignals.specs.Call.{numberOf}
+use Rattle.rudignals.specs.Contracts.Call.{numberOf}
 use Rattle.rudignals.proofs.Values.{told-number, told-fits}
 use Rattle.rudignals.proofs.rudignals_format.Statement.{statement}
 use Rattle.rudignals.proofs.rudignals_format.Tie as tie

@@ -2,7 +2,7 @@
 use Prim.Native.Nat.{_-_}
 use lib.ListN.{length}
 use borrow.Author.Needs.{needs}
-use Rattle.text.specs.Places.{Ascii}
+use Rattle.text.specs.Contracts.Places.{Ascii}
 use Rattle.text.proofs.Asciis.{ascii-none, ascii-more}
 use Rattle.text.proofs.ascii_eights.Statement.{statement}
 use Rattle.text.proofs.ascii_eights.Tie as tie

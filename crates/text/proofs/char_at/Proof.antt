@@ -3,7 +3,7 @@ use denote.Ref.{now}
 use mathlib.Core.Path.{_≡_, ap, _∙_}
 use lib.ListN.{drop}
 use Rattle.text.specs.Characters.{character}
-use Rattle.text.specs.Places.{readAs}
+use Rattle.text.specs.Contracts.Places.{readAs}
 use Rattle.text.proofs.Places.{acceptedOnly, char-decode}
 use borrow.Author.Needs.{needs}
 use Rattle.text.proofs.char_at.Statement.{statement}

@@ -5,7 +5,7 @@ use mathlib.Core.Path.{_≡_}
 use Prim.Native.Nat.{ℕ}
 use native.Mathlib.Omega.{arith}
 use Rattle.text.specs.Rfc3629.{decode}
-use Rattle.text.specs.Places.{readAs}
+use Rattle.text.specs.Contracts.Places.{readAs}
 use Rattle.text.specs.declared.Char.the-variants.{Damaged}
 use Rattle.text.proofs.Forms.{Four, no-four, is-four}
 use Rattle.text.proofs.four.Statement.{statement}

@@ -3,7 +3,7 @@ use denote.Ref.{now}
 use mathlib.Core.Path.{_≡_, ap, _∙_}
 use lib.ListN.{drop}
 use Rattle.text.specs.Characters.{glyph}
-use Rattle.text.specs.Places.{seenAs}
+use Rattle.text.specs.Contracts.Places.{seenAs}
 use Rattle.text.proofs.Places.{seenChar, seen-char}
 use borrow.Author.Needs.{needs}
 use Rattle.text.proofs.glyph_at.Statement.{statement}

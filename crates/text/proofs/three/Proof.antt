@@ -7,7 +7,7 @@ use Prim.Native.Nat.{ℕ}
 use native.Mathlib.Omega.{arith}
 use borrow.Author.Tests.{leb-true, leb-false}
 use Rattle.text.specs.Rfc3629.{decode}
-use Rattle.text.specs.Places.{readAs}
+use Rattle.text.specs.Contracts.Places.{readAs}
 use Rattle.text.specs.declared.Char.the-variants.{Damaged}
 use Rattle.text.proofs.Forms.{Three, no-three, is-three}
 use Rattle.text.proofs.three.Statement.{statement}

@@ -1,6 +1,6 @@
 -- `words::eight` meets its contract: byte before byte.
 use borrow.Author.Needs.{needs}
-use Rattle.words.specs.Scan.{number}
+use Rattle.words.specs.Contracts.Scan.{number}
 use Rattle.words.proofs.eight.Statement.{statement}
 use Rattle.words.proofs.eight.Tie as tie
 

@@ -2,7 +2,7 @@
 use Prim.Native.Nat.{_-_}
 use lib.ListN.{length}
 use borrow.Author.Needs.{needs}
-use Rattle.words.specs.Scan.{Plain}
+use Rattle.words.specs.Contracts.Scan.{Plain}
 use Rattle.words.proofs.PlainRuns.{plain-more}
 use Rattle.words.proofs.plain_end.Statement.{statement}
 use Rattle.words.proofs.plain_end.Tie as tie

@@ -10,8 +10,8 @@ use denote.Ref.{now}
 use borrow.Author.Needs.{needs}
 use Rattle.text.specs.Characters.{glyphs}
 use Rattle.options.specs.Opts.{meant}
-use Rattle.records.specs.Table.{wordsIn}
-use Rattle.words.specs.Scan.{wordsFrom, NextWord}
+use Rattle.records.specs.Contracts.Table.{wordsIn}
+use Rattle.words.specs.Contracts.Scan.{wordsFrom, NextWord}
 use Rattle.words.proofs.NextWord.{next-small}
 use Rattle.words.proofs.Filling.{Filling, filling-first, filling-more, filling-done, filling-full}
 use Rattle.words.proofs.split_line.Statement.{statement}

@@ -9,13 +9,13 @@ use denote.Ref.{now}
 use borrow.Author.Needs.{needs}
 use Rattle.options.specs.Opts.{meant}
 use Rattle.lines.specs.Lines.{linesOf}
-use Rattle.pieces.specs.Bounds.{AllBegin}
-use Rattle.words.specs.Places.{wordsAt}
-use Rattle.words.specs.Split.{Filled}
-use Rattle.words.specs.Scan.{wordsFrom}
+use Rattle.pieces.specs.Contracts.Bounds.{AllBegin}
+use Rattle.words.specs.Contracts.Places.{wordsAt}
+use Rattle.words.specs.Contracts.Split.{Filled}
+use Rattle.words.specs.Contracts.Scan.{wordsFrom}
 use Rattle.text.specs.Characters.{glyphs}
 use Rattle.records.specs.Word.{Word}
-use Rattle.records.specs.Table.{wordsIn}
+use Rattle.records.specs.Contracts.Table.{wordsIn}
 use Rattle.words.proofs.Filling.{Filling, filling-none, filling-line, filling-over, filling-done}
 use Rattle.words.proofs.Rows.{LineAt, line-at, lines-end, filled-words}
 use Rattle.words.proofs.split_words.Statement.{statement}

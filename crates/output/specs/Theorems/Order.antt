@@ -3,7 +3,7 @@ use mathlib.Core.Path.{_≡_}
 use mathlib.Core.List.{List, [], _∷_, _++_}
 use Prim.Native.Nat.{ℕ, suc}
 use lib.ListN.{length}
-use Rattle.lists.specs.All.{All}
+use Rattle.lists.specs.Theorems.All.{All}
 use Rattle.records.specs.Word.{Word}
 use Rattle.output.specs.Emission.{lineFeed}
 

@@ -2,7 +2,7 @@
 use mathlib.Core.Bool.{Bool}
 use mathlib.Core.Path.{_≡_}
 use Prim.Native.Nat.{ℕ, _+_, _≤_, _<_, _^_}
-use Rattle.records.specs.Table.{numberOf}
+use Rattle.records.specs.Contracts.Table.{numberOf}
 use Rattle.records.specs.declared.Before.{Before}
 use Rattle.spacing.specs.declared.Setting.{Setting}
 use Rattle.spacing.specs.Spacing.{gapWidth, addedSpace}

@@ -9,7 +9,7 @@ use lib.Dec.{ltb, eqb}
 use Rattle.lists.specs.Runs.{joined}
 use Rattle.options.specs.Opts.{Opts}
 use Rattle.lines.specs.Lines.{Line, firstLine, linesOf}
-use Rattle.lines.specs.Places.{Usable}
+use Rattle.lines.specs.Contracts.Places.{Usable}
 use Rattle.options.specs.declared.Options.{Options}
 use Rattle.lines.specs.Classes.{classify}
 use Rattle.lines.specs.declared.Shape.{Shape}

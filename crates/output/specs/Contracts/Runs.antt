@@ -9,7 +9,7 @@ use Rattle.records.specs.declared.Word.{Word as Record}
 use Rattle.records.specs.Word.{meaning}
 use Rattle.output.specs.declared.Layout.{Layout}
 use Rattle.output.specs.declared.Run.{Run}
-use Rattle.output.specs.Writers.{placed, emittedFrom}
+use Rattle.output.specs.Contracts.Writers.{placed, emittedFrom}
 
 -- a word, with what goes before it, is the notes from a place on
 pub record Joins (notes : List ℕ) (w : Record) (fresh : Bool) (added at : ℕ) : Type 0 where

@@ -10,7 +10,7 @@ use lib.ListN.{length, replicate}
 use Rattle.lists.specs.Runs.{every}
 use Rattle.rudignals.specs.Answers.{Answer, numbered, outputAfter}
 use Rattle.rudignals.specs.Format.{answer}
-use Rattle.rudignals.specs.Computing.{everything}
+use Rattle.rudignals.specs.Trials.Computing.{everything}
 
 abbrev pub bytes : String → List ℕ
 bytes nil = []

@@ -8,20 +8,20 @@ use lib.Ieee.{Float}
 use lib.ListN.{length, getD, take, drop}
 use lib.Seq.{slice}
 use Rattle.records.specs.Word.{Word, meaning}
-use Rattle.records.specs.Table.{Small, wordIn, wordsIn}
-use Rattle.records.specs.Marks.{breaksIn}
+use Rattle.records.specs.Contracts.Table.{Small, wordIn, wordsIn}
+use Rattle.records.specs.Contracts.Marks.{breaksIn}
 use Rattle.records.specs.declared.Word.{Word as WordRecord}
 use Rattle.spacing.specs.Spacing.{gapWidth}
 use Rattle.spacing.specs.declared.Setting.{Setting}
 use Rattle.demerits.specs.Demerits.{wordTerm}
-use Rattle.demerits.specs.Bounds.{within, mostCost}
+use Rattle.demerits.specs.Contracts.Bounds.{within, mostCost}
 use Rattle.knuth_plass.specs.declared.Break.{Break as Record}
 use Rattle.knuth_plass.specs.declared.Best.{Best}
 use Rattle.knuth_plass.specs.declared.Turn.{Turn}
 use Rattle.knuth_plass.specs.declared.State.{State}
 use Rattle.knuth_plass.specs.declared.Standing.{Standing}
 use Rattle.knuth_plass.specs.KnuthPlass.{stretchOf, Place, Break, Active, Offer, none, offer, after, reduced, staying, lesser, offerOf, bestOffer, leastFrom, least, restart, settled, withOffer, round, firstBreak, roundsFrom, pathOf, startsLine, bestBreaks}
-use Rattle.knuth_plass.specs.Table.{Tables, Sized, breakIn, placeOf, pathTo, seen, meant, Sound, Filled, Ascends}
+use Rattle.knuth_plass.specs.Contracts.Table.{Tables, Sized, breakIn, placeOf, pathTo, seen, meant, Sound, Filled, Ascends}
 
 -- ---- what can be asked of a caller
 

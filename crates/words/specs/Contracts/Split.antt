@@ -4,8 +4,8 @@ use mathlib.Core.List.{List}
 use Prim.Native.Nat.{ℕ, _≤_, _<_}
 use lib.ListN.{length}
 use Rattle.records.specs.Word.{Word}
-use Rattle.records.specs.Table.{wordIn, wordsIn, AllWithin}
-use Rattle.words.specs.Places.{counted}
+use Rattle.records.specs.Contracts.Table.{wordIn, wordsIn, AllWithin}
+use Rattle.words.specs.Contracts.Places.{counted}
 use Rattle.words.specs.declared.Count.{Count}
 use Rattle.words.specs.declared.Count.the-variants.{Words, TooMany}
 

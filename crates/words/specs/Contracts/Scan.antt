@@ -9,7 +9,7 @@ use Rattle.lists.specs.Runs.{while, behind}
 use Rattle.text.specs.Characters.{Glyph, glyphs, isBlank, extent}
 use Rattle.options.specs.Opts.{Opts}
 use Rattle.records.specs.Word.{Word, meaning}
-use Rattle.records.specs.Table.{numberOf, Within}
+use Rattle.records.specs.Contracts.Table.{numberOf, Within}
 use Rattle.records.specs.declared.Word.{Word as Record}
 use Rattle.records.specs.declared.Before.the-variants.{Absent}
 use Rattle.words.specs.Words.{isInk, runs, widthSum, Gap, gapTab, gapOf, hasTab, punctAtEnd, lineWords, mailWords}

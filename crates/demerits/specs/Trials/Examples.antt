@@ -3,7 +3,7 @@ use mathlib.Core.Path.{_≡_, refl}
 use mathlib.Core.Bool.{true}
 use lib.IntN.{pos}
 use lib.Ieee.{fin, sub, div, mul, ofInt}
-use Rattle.demerits.specs.Bounds.{mostCost}
+use Rattle.demerits.specs.Contracts.Bounds.{mostCost}
 use Rattle.demerits.specs.Demerits.{noRatio, ratio, term, lineTerm, wordTerm, ratioTerm, cost}
 
 -- goal 74, stretch 5, t 70, word 3, old ratio 0: 51, 37, 38, cost 16,129

@@ -7,8 +7,8 @@ use lib.ListN.{length, drop, replicate}
 use lib.Seq.{slice}
 use Rattle.pieces.specs.declared.Margin.{Margin}
 use Rattle.records.specs.Word.{Word}
-use Rattle.records.specs.Table.{wordsIn, AllWithin}
-use Rattle.records.specs.Marks.{breaksIn}
+use Rattle.records.specs.Contracts.Table.{wordsIn, AllWithin}
+use Rattle.records.specs.Contracts.Marks.{breaksIn}
 use Rattle.output.specs.declared.Four.{Four}
 use Rattle.output.specs.declared.Layout.{Layout}
 use Rattle.output.specs.Emission.{lineFeed, emitRest, emit}

@@ -18,23 +18,23 @@ use Rattle.options.specs.declared.Options.{Options}
 use Rattle.options.specs.declared.Block.the-variants.{Accepted}
 use Rattle.lines.specs.Lines.{linesOf}
 use Rattle.pieces.specs.Pieces.{Piece, Kind, nextPiece, pieces}
-use Rattle.pieces.specs.Places.{pieceAt}
-use Rattle.pieces.specs.Bounds.{AllBegin, Bounded}
+use Rattle.pieces.specs.Contracts.Places.{pieceAt}
+use Rattle.pieces.specs.Contracts.Bounds.{AllBegin, Bounded}
 use Rattle.pieces.specs.declared.Paragraph.{Paragraph}
 use Rattle.pieces.specs.declared.Piece.the-variants.{Text as TextAt}
 use Rattle.records.specs.Word.{Word}
-use Rattle.records.specs.Table.{wordsIn}
-use Rattle.records.specs.Marks.{breaksIn}
-use Rattle.words.specs.Places.{wordsAt}
+use Rattle.records.specs.Contracts.Table.{wordsIn}
+use Rattle.records.specs.Contracts.Marks.{breaksIn}
+use Rattle.words.specs.Contracts.Places.{wordsAt}
 use Rattle.spacing.specs.declared.Setting.{Setting}
-use Rattle.output.specs.Bound.{most}
+use Rattle.output.specs.Contracts.Bound.{most}
 use Rattle.output.specs.Emission.{emit}
-use Rattle.output.specs.Sink.{Wrote, Left}
-use Rattle.output.specs.Writers.{marginOf, MarginIn}
+use Rattle.output.specs.Contracts.Sink.{Wrote, Left}
+use Rattle.output.specs.Contracts.Writers.{marginOf, MarginIn}
 use Rattle.quick.specs.Quick.{quickBreaks}
 use Rattle.knuth_plass.specs.KnuthPlass.{bestBreaks}
-use Rattle.knuth_plass.specs.Table.{tables}
-use Rattle.knuth_plass.specs.Round.{Lent}
+use Rattle.knuth_plass.specs.Contracts.Table.{tables}
+use Rattle.knuth_plass.specs.Contracts.Round.{Lent}
 use Rattle.rudignals.specs.Answers.{Answer, done, options, long, text, words, room, outputAfter}
 use Rattle.rudignals.specs.Format.{extentOf, tooMany, outputOf, pieceOutput, digest, longParagraph}
 use Rattle.rudignals.specs.declared.Answer.{Answer as Told}

@@ -4,9 +4,9 @@ use Prim.Native.Nat.{ℕ, _+_, _*_}
 use lib.ListN.{length}
 use Rattle.pieces.specs.declared.Margin.{Margin}
 use Rattle.records.specs.Word.{Word}
-use Rattle.records.specs.Table.{wordsIn}
+use Rattle.records.specs.Contracts.Table.{wordsIn}
 use Rattle.output.specs.declared.Layout.{Layout}
-use Rattle.output.specs.Writers.{marginOf}
+use Rattle.output.specs.Contracts.Writers.{marginOf}
 
 -- the bytes of the words and of the blanks before them
 unfoldable pub bulk : List Word → ℕ

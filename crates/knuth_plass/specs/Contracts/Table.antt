@@ -8,7 +8,7 @@ use lib.Dec.{T, eqb, ltb}
 use lib.Ieee.{Float, nan}
 use lib.ListN.{length, getD, set}
 use lib.Seq.{sets}
-use Rattle.demerits.specs.Bounds.{within, mostCost}
+use Rattle.demerits.specs.Contracts.Bounds.{within, mostCost}
 use Rattle.knuth_plass.specs.declared.Break.{Break as Record}
 use Rattle.knuth_plass.specs.KnuthPlass.{Place, Break}
 

@@ -1,0 +1,2 @@
+-- Texts and numbers of the papers, computed.
+pub mod Examples

@@ -1,0 +1,5 @@
+-- What the contracts of the code cite: no part of what must be believed of the call.
+pub mod Bound
+pub mod Runs
+pub mod Sink
+pub mod Writers

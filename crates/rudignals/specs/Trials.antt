@@ -1,0 +1,3 @@
+-- Texts and numbers of the papers, computed.
+pub mod Computing
+pub mod MarkedTexts
