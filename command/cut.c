@@ -1,0 +1,39 @@
+/* Where notes may be cut: right before and right behind a blank line.
+ *
+ * A blank line is a full boundary (`a-blank-line-is-a-full-boundary` in crates/rudignals/proofs/Demand3.antt): the lines before it, an empty
+ * line and the lines behind it, each formatted by itself, are what the whole would have become. A paragraph ends there, and next-mail is
+ * true behind it as at the start. The theorem speaks of notes in which nothing is refused. What is refused is found by the part too: a line
+ * feed ends its line even inside a broken character, so the first damaged character of the whole is that of the first damaged part, and
+ * no paragraph reaches over a blank line.
+ *
+ * Which lines are blank depends on the options: U+00A0 is no blank under glue. A line of ASCII's blanks alone, an empty one or one of a
+ * carriage return among them, is blank under all options, and no other line is cut at. A last line without a line feed is not either. */
+#include "command.h"
+
+#include <string.h>
+
+static bool is_blank(uint8_t byte) { return byte == ' ' || (byte >= '\t' && byte <= '\r'); }
+
+static bool all_blank(const uint8_t *from, const uint8_t *to) {
+    while (from < to && is_blank(*from))
+        from++;
+    return from == to;
+}
+
+/* The place behind the line that begins at a place, or 0 if its line feed is not there. */
+static size_t line_end(const uint8_t *bytes, size_t length, size_t at) {
+    const uint8_t *feed = memchr(bytes + at, '\n', length - at);
+    return feed == NULL ? 0 : (size_t)(feed - bytes) + 1;
+}
+
+static size_t last_cut(const uint8_t *bytes, size_t length) {
+    size_t cut = 0, at = 0, end;
+    while (at <= MOST_PART && (end = line_end(bytes, length, at)) != 0) {
+        if (all_blank(bytes + at, bytes + end))
+            cut = end <= MOST_PART ? end : at;
+        at = end;
+    }
+    return cut;
+}
+
+size_t first_part(const uint8_t *bytes, size_t length, bool ended) { return ended && length <= MOST_PART ? length : last_cut(bytes, length); }

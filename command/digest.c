@@ -1,0 +1,101 @@
+/* A file of any length, formatted part by part. All of it is in memory before a byte is written: a file is formatted whole or refused whole. */
+#include "command.h"
+
+#include <stdlib.h>
+
+/* The file's part that is being formatted. */
+struct part {
+    const uint8_t *bytes;
+    size_t length;
+    unsigned long lines_before;
+};
+
+static unsigned long feeds(const uint8_t *bytes, size_t length) {
+    unsigned long count = 0;
+    size_t i;
+    for (i = 0; i < length; i++)
+        count += bytes[i] == '\n';
+    return count;
+}
+
+/* A column is a character: bytes from 80 to BF continue one. That is exact, since the library names the first damaged character and all
+ * before it are whole. */
+static unsigned long column_of(const uint8_t *bytes, size_t place) {
+    unsigned long column = 1;
+    for (; place > 0 && bytes[place - 1] != '\n'; place--)
+        column += (bytes[place - 1] & 0xC0u) != 0x80u;
+    return column;
+}
+
+/* Of the whole file the lowest code counts, and the first place with it, as in one call. */
+static void refuse(struct refusal *refusal, const struct part *part, uint32_t code, size_t place) {
+    if (refusal->code != RUDIGNALS_DONE && refusal->code <= code)
+        return;
+    refusal->code = code;
+    refusal->line = part->lines_before + feeds(part->bytes, place) + 1;
+    refusal->column = column_of(part->bytes, place);
+    refusal->byte = place < part->length ? part->bytes[place] : 0;
+}
+
+/* Room for so many bytes more. It grows at least to twice its length, so that copying costs little in all. */
+static bool make_room(struct digest *digest, size_t more) {
+    size_t wanted = digest->length + more, room = 2 * digest->room;
+    uint8_t *wider;
+    if (wanted <= digest->room)
+        return true;
+    if (room < wanted)
+        room = wanted;
+    wider = realloc(digest->bytes, room);
+    if (wider == NULL)
+        return false;
+    digest->bytes = wider;
+    digest->room = room;
+    return true;
+}
+
+static uint64_t ask(struct digest *digest, const struct options *options, const struct part *part) {
+    return rudignals_format(options->block, options->block_len, part->bytes, part->length, digest->bytes + digest->length, digest->room - digest->length);
+}
+
+/* Begins with twice the part's length, which is mostly enough. Asks again with the length needed if not; if that is not to be had the first
+ * answer stands. */
+static uint64_t ask_with_room(struct digest *digest, const struct options *options, const struct part *part) {
+    uint64_t answer;
+    if (!make_room(digest, 2 * part->length + 1))
+        return (uint64_t)RUDIGNALS_ROOM << 32;
+    answer = ask(digest, options, part);
+    if (rudignals_code_of(answer) == RUDIGNALS_ROOM && make_room(digest, rudignals_number_of(answer)))
+        answer = ask(digest, options, part);
+    return answer;
+}
+
+/* Once something is refused no more is kept, but a lower code may still come. */
+static void add_part(struct digest *digest, const struct options *options, const struct part *part) {
+    uint64_t answer = ask_with_room(digest, options, part);
+    uint32_t code = rudignals_code_of(answer);
+    if (code == RUDIGNALS_TEXT || code == RUDIGNALS_WORDS)
+        refuse(&digest->refusal, part, code, rudignals_number_of(answer));
+    else if (code != RUDIGNALS_DONE)
+        refuse(&digest->refusal, part, code, 0);
+    else if (digest->refusal.code == RUDIGNALS_DONE)
+        digest->length += rudignals_number_of(answer);
+}
+
+bool make_digest(struct digest *digest, const struct options *options, struct window *window) {
+    struct part part = {window->bytes, 0, 0};
+    digest->length = 0;
+    digest->refusal.code = RUDIGNALS_DONE;
+    do {
+        if (!fill_window(window))
+            return false;
+        part.length = first_part(window->bytes, window->length, window->ended);
+        if (part.length == 0 && window->length > 0) {
+            refuse(&digest->refusal, &part, RUDIGNALS_LONG, 0);
+            return true; /* no lower code can follow */
+        }
+        add_part(digest, options, &part);
+        part.lines_before += feeds(part.bytes, part.length);
+        drop_bytes(window, part.length);
+    } while (!window->ended || window->length > 0);
+    return true;
+}

@@ -1,0 +1,77 @@
+/* What the library refuses, in words: what was given, the rule, and what to do. */
+#include "command.h"
+
+#include <stdlib.h>
+#include <string.h>
+
+#define ACCEPTED "U+0000 to U+02FF but U+00AD, in UTF-8"
+
+static void say_option(const struct options *options, int option, const char *rule) {
+    const char *value = options->value[option];
+    say("--%s %s: must be %s", name_of(option), *value == '\0' ? "''" : value, rule);
+}
+
+/* A prefix may be long, or of bytes that spoil a terminal, and is not shown. */
+static void say_prefix(const struct options *options, int option) {
+    size_t length = strlen(options->value[option]);
+    if (length > RUDIGNALS_MOST_PREFIX)
+        say("--%s: must have at most %u bytes, and has %lu", name_of(option), RUDIGNALS_MOST_PREFIX, (unsigned long)length);
+    else
+        say("--%s: must be of accepted characters (" ACCEPTED ")", name_of(option));
+}
+
+/* Each number is in its range, and width and goal do not go together: goal <= width <= 2 * goal. */
+static void say_width_and_goal(const struct options *options) {
+    const char *width = options->value['w'], *goal = options->value['g'];
+    unsigned long most;
+    if (goal == NULL) {
+        say_option(options, 'w', "6 to 1000 without --goal");
+    } else if (width == NULL) {
+        say_option(options, 'g', "3 to 940 without --width");
+    } else {
+        most = strtoul(width, NULL, 10);
+        say("--goal %s: must be %lu to %lu with --width %s", goal, (most + 1) / 2, most, width);
+    }
+}
+
+static void say_field(const struct options *options, uint8_t tag) {
+    switch (tag) {
+    case RUDIGNALS_TAG_WIDTH: say_option(options, 'w', "1 to 1000"); break;
+    case RUDIGNALS_TAG_GOAL: say_option(options, 'g', "1 to 1000"); break;
+    case RUDIGNALS_TAG_TAB: say_option(options, 'T', "0 to 100"); break;
+    case RUDIGNALS_TAG_PREFIX: say_prefix(options, 'p'); break;
+    default: say_prefix(options, 'P');
+    }
+}
+
+/* The empty text is refused for its options alone: so they are known to be right before a file is touched. N is the start of the faulty
+ * field, where its tag stands, or the block's length if width and goal do not go together. */
+bool options_accepted(const struct options *options) {
+    uint8_t none[1] = {0};
+    uint64_t answer = rudignals_format(options->block, options->block_len, none, 0, none, 0);
+    uint32_t place = rudignals_number_of(answer);
+    if (rudignals_code_of(answer) == RUDIGNALS_DONE)
+        return true;
+    if (place == options->block_len)
+        say_width_and_goal(options);
+    else
+        say_field(options, options->block[place]);
+    return false;
+}
+
+#define AT "%s: line %lu, column %lu: "
+
+void say_refusal(const char *name, const struct refusal *at) {
+    switch (at->code) {
+    case RUDIGNALS_LONG:
+        say(AT "more than %u bytes from here on have no empty line; put one between paragraphs", name, at->line, at->column, RUDIGNALS_MOST_NOTES);
+        break;
+    case RUDIGNALS_TEXT:
+        say(AT "byte %02X begins no accepted character (" ACCEPTED "); --keep leaves such a line as it is", name, at->line, at->column, (unsigned)at->byte);
+        break;
+    case RUDIGNALS_WORDS:
+        say(AT "the paragraph that begins here has more than %u words; part it by an empty line", name, at->line, at->column, RUDIGNALS_MOST_WORDS);
+        break;
+    default: say("%s: no memory for the formatted text", name);
+    }
+}

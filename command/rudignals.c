@@ -1,0 +1,79 @@
+/* The command: finds the subcommand and calls it. */
+#include "command.h"
+
+#include <signal.h>
+#include <string.h>
+
+/* A subcommand: its name, and what it does, for --help. The function run_NAME stands in the file NAME.c. */
+#define SUBCOMMANDS(X) X(format, "reformat the paragraphs of notes; also called fmt")
+
+#define DECLARED(name, does) int run_##name(int argc, char **argv);
+SUBCOMMANDS(DECLARED)
+
+struct subcommand {
+    const char *name;
+    const char *subject;
+    int (*run)(int argc, char **argv);
+};
+
+#define ROW(name, does) {#name, "rudignals " #name, run_##name},
+static const struct subcommand TABLE[] = {SUBCOMMANDS(ROW){NULL, NULL, NULL}};
+
+#define LINE(name, does) "  " #name "  " does "\n",
+static const char *const HELP[] = {
+    "Usage: rudignals SUBCOMMAND [OPTION]... [FILE]...\n"
+    "A paragraph formatter for operators' notes: nothing in them goes missing.\n"
+    "\n",
+    SUBCOMMANDS(LINE)
+    "\n"
+    "rudignals SUBCOMMAND --help tells more; rudignals --version shows the version.\n"
+    "Exit status: 0 done; 1 something was refused, not read or not written; 2 a\n"
+    "wrong call.\n",
+    NULL,
+};
+
+static bool is(const char *word, const char *name) { return strcmp(word, name) == 0; }
+
+static int run(const struct subcommand *chosen, int argc, char **argv) {
+    subject = chosen->subject;
+    return close_output(chosen->run(argc, argv));
+}
+
+static int run_named(int argc, char **argv) {
+    const struct subcommand *row = TABLE;
+    while (row->name != NULL && !is(argv[0], row->name))
+        row++;
+    if (row->name != NULL)
+        return run(row, argc, argv);
+    say("%s: no such subcommand", argv[0]);
+    return wrong_call();
+}
+
+static int run_asked(int argc, char **argv) {
+    if (argc < 2) {
+        say("a subcommand is missing");
+        return wrong_call();
+    }
+    if (is(argv[1], "--help") || is(argv[1], "-h"))
+        return close_output(show(HELP));
+    if (is(argv[1], "--version") || is(argv[1], "-V"))
+        return close_output(show_version());
+    return run_named(argc - 1, argv + 1);
+}
+
+/* The name behind the last slash. */
+static const char *name_in(const char *path) {
+    const char *slash = strrchr(path, '/');
+    return slash == NULL ? path : slash + 1;
+}
+
+/* A closed pipe is to be told like any other failure to write, so it must not end the program. */
+int main(int argc, char **argv) {
+    static const struct subcommand fmt = {"fmt", "fmt", run_format};
+    signal(SIGPIPE, SIG_IGN);
+    if (argc > 0 && is(name_in(argv[0]), fmt.name)) {
+        called = fmt.name;
+        return run(&fmt, argc, argv);
+    }
+    return run_asked(argc, argv);
+}
