@@ -1,0 +1,111 @@
+"""Files and streams, whole and broken."""
+import fcntl
+import os
+import platform
+import shutil
+import subprocess
+import time
+
+from .calls import FMT, RUDIGNALS, SOURCES, expect, link, run
+from .words import DAMAGED, LONG
+
+
+def several(folder):
+    """Several files, each by itself; what is wrong with one leaves the others."""
+    for name, text in [("one", b"a\nb"), ("two", b"c\nd\n"), ("bad", b"ok\n\xb0\n"), ("-c", b"e\nf\n")]:
+        (folder / name).write_bytes(text)
+    expect("two files", run(["one", "two"], cwd=folder), (0, b"a b\nc d\n", ""))
+    expect("options behind files", run(["one", "-s", "two"], cwd=folder), (0, b"a\nb\nc\nd\n", ""))
+    expect("a width and files", run(["-6", "one", "two"], cwd=folder), (0, b"a b\nc d\n", ""))
+    expect("standard input among files", run(["one", "-", "two"], b"x\ny\n", cwd=folder), (0, b"a b\nx y\nc d\n", ""))
+    expect("standard input twice", run(["-", "-"], b"x\ny\n"), (0, b"x y\n", ""))
+    expect("a file named as an option", run(["--", "-c"], cwd=folder), (0, b"e f\n", ""))
+    expect("a missing file", run(["one", "none", "two"], cwd=folder), (1, b"a b\nc d\n", "fmt: none: No such file or directory\n"))
+    expect("a folder", run([".", "two"], cwd=folder), (1, b"c d\n", "fmt: .: Is a directory\n"))
+    expect("a refused file", run(["one", "bad", "two"], cwd=folder), (1, b"a b\nc d\n", "fmt: bad: line 2, column 1: byte B0 " + DAMAGED))
+    expect("refused options, before any file", run(["-w", "5", "none"], cwd=folder)[2], "fmt: --width 5: must be 6 to 1000 without --goal\n")
+    if os.getuid() != 0:
+        (folder / "two").chmod(0)
+        expect("a file not to be read", run(["two"], cwd=folder), (1, b"", "fmt: two: Permission denied\n"))
+
+
+def read_in_pieces():
+    child = subprocess.Popen([FMT], stdin=subprocess.PIPE, stdout=subprocess.PIPE)
+    for piece in b"a b", b"c\nd", b"\n":
+        child.stdin.write(piece)
+        child.stdin.flush()
+        time.sleep(0.05)
+    expect("notes that come in pieces", (child.communicate()[0], child.returncode), (b"a bc d\n", 0))
+
+
+def endless():
+    """Notes that must be refused are not read to their end."""
+    expect("an endless file", run(["/dev/zero"]), (1, b"", "fmt: /dev/zero: line 1, column 1: " + LONG))
+    reading, writing = os.pipe()
+    fcntl.fcntl(writing, getattr(fcntl, "F_SETPIPE_SZ", 1031), 262144)
+    os.write(writing, b"a" * 200000)
+    os.close(writing)
+    expect("a long pipe", run([], reading), (1, b"", "fmt: standard input: line 1, column 1: " + LONG))
+    with open(reading, "rb") as rest:
+        expect("no more read than the window has", len(rest.read()), 200000 - 2 * 65536)
+
+
+def not_written():
+    with open("/dev/full", "wb") as full:
+        for program, arguments in (FMT, []), (FMT, ["--help"]), (FMT, ["-V"]), (RUDIGNALS, ["--help"]), (FMT, ["-", "none"]):
+            name = os.path.basename(program)
+            told = f"{name}: standard output: No space left on device\n"
+            expect(f"a full device, {arguments}", run(arguments, b"a\n", program, stdout=full), (1, None, told))
+    reading, writing = os.pipe()
+    os.close(reading)
+    for notes in b"a\n", b"a\n\n" * 100000:
+        expect("a pipe that nobody reads", run([], notes, stdout=writing), (1, None, "fmt: standard output: Broken pipe\n"))
+    os.close(writing)
+
+
+def closed(folder):
+    (folder / "notes").write_bytes(b"a\n")
+    for name, arguments, sign in ("input", "", "<&-"), ("output", "", ">&-"), ("output", "notes", ">&-"), ("output", "--help", ">&-"):
+        done = subprocess.run(["sh", "-c", f'exec "$0" {arguments} {sign}', FMT], input=b"", stderr=subprocess.PIPE, cwd=folder)
+        expect(f"standard {name} closed, {arguments}", (done.returncode, done.stderr), (1, b"fmt: standard %s: Bad file descriptor\n" % name.encode()))
+    expect("the file is as it was", (folder / "notes").read_bytes(), b"a\n")
+
+
+def no_memory(folder):
+    """The same command with memory that does not grow over 200,000 bytes."""
+    (folder / "poor.c").write_text(
+        "#include <stddef.h>\nvoid *__real_realloc(void *, size_t);\nvoid *__wrap_realloc(void *, size_t);\n"
+        "void *__wrap_realloc(void *old, size_t n) { return n > 200000 ? NULL : __real_realloc(old, n); }\n"
+    )
+    poor = link(folder, "poor", "-Wl,--wrap=realloc", *SOURCES, str(folder / "poor.c"))
+    cases = [("one part", b" " * 2000 + b"a " * 1000), ("some parts", b"a\n\n" * 90000), ("the next room", b"a" * 65000 + b"\n\n" + b"b" * 65000)]
+    for what, notes in cases:
+        (folder / "grows").write_bytes(notes)
+        words = "rudignals: grows: no memory for the formatted text\n"
+        expect(f"no memory, {what}", run(["format", "-w6", "grows", "-"], b"x\ny\n", poor, cwd=folder), (1, b"x y\n", words))
+
+
+def copied(folder):
+    """The program itself: it may be copied, and linked to, anywhere. On another processor a script calls an emulator, and only links go."""
+    other = folder / "elsewhere"
+    other.mkdir()
+    (other / "fmt").symlink_to(RUDIGNALS)
+    (other / "twice").symlink_to(other / "fmt")
+    expect("a link named fmt", run([], b"a\nb\n", str(other / "fmt")), (0, b"a b\n", ""))
+    expect("a link of another name", run(["format"], b"a\nb\n", str(other / "twice")), (0, b"a b\n", ""))
+    if platform.machine() == "x86_64":
+        expect("the program itself", open(RUDIGNALS, "rb").read(4), b"\x7fELF")
+        for name, arguments in ("copy", ["format"]), ("fmt", []):
+            (other / name).unlink(missing_ok=True)
+            shutil.copy(RUDIGNALS, other / name)
+            expect(f"a copy named {name}", run(arguments, b"a\nb\n", str(other / name)), (0, b"a b\n", ""))
+
+
+def run_all(folder):
+    several(folder)
+    read_in_pieces()
+    endless()
+    not_written()
+    closed(folder)
+    no_memory(folder)
+    copied(folder)
