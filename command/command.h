@@ -39,7 +39,8 @@ int show_version(void);
 
 /* A file's bytes from some place on: a blank line that begins within the first part is seen whole, unless it is longer than any part. */
 struct window {
-    FILE *stream;
+    int file;
+    bool opened; /* by us: standard input is not, and stays open */
     uint8_t bytes[2 * MOST_PART];
     size_t length;
     bool ended; /* no byte follows */

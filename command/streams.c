@@ -1,27 +1,32 @@
 /* What comes in and what goes out. */
+#define _POSIX_C_SOURCE 200809L
 #include "command.h"
 
 #include <errno.h>
+#include <fcntl.h>
 #include <string.h>
+#include <unistd.h>
 
-/* Streams have no buffer of their own: the window is one, and no byte is asked for that it has no room for. */
 bool open_window(struct window *window, const char *name) {
     window->length = 0;
     window->ended = false;
-    window->stream = strcmp(name, "-") == 0 ? stdin : fopen(name, "rb");
-    if (window->stream == NULL)
-        return false;
-    setvbuf(window->stream, NULL, _IONBF, 0);
-    return true;
+    window->opened = strcmp(name, "-") != 0;
+    window->file = window->opened ? open(name, O_RDONLY) : STDIN_FILENO;
+    return window->file >= 0;
 }
 
-/* fread goes on over short reads, from a pipe say. */
+/* A read may give less than asked for, from a pipe say. */
 bool fill_window(struct window *window) {
-    size_t space = sizeof window->bytes - window->length;
-    size_t got = window->ended ? 0 : fread(window->bytes + window->length, 1, space, window->stream);
-    window->length += got;
-    window->ended = got < space;
-    return !ferror(window->stream);
+    ssize_t got;
+    while (!window->ended && window->length < sizeof window->bytes) {
+        got = read(window->file, window->bytes + window->length, sizeof window->bytes - window->length);
+        if (got < 0 && errno != EINTR)
+            return false;
+        window->ended = got == 0;
+        if (got > 0)
+            window->length += (size_t)got;
+    }
+    return true;
 }
 
 void drop_bytes(struct window *window, size_t count) {
@@ -30,8 +35,8 @@ void drop_bytes(struct window *window, size_t count) {
 }
 
 void close_window(struct window *window) {
-    if (window->stream != stdin)
-        fclose(window->stream);
+    if (window->opened)
+        close(window->file);
 }
 
 static bool written(bool well) {

@@ -30,7 +30,7 @@ int main(int argc, char **argv) {
     uint8_t *output = malloc(room), *wider;
     uint64_t answer;
     if (argc > 1)
-        block_len = rudignals_put_number(block, block_len, RUDIGNALS_TAG_WIDTH, strtoul(argv[1], NULL, 10) <= 1000 ? strtoul(argv[1], NULL, 10) : 0);
+        block_len = rudignals_put_number(block, block_len, RUDIGNALS_TAG_WIDTH, strtoul(argv[1], NULL, 10));
     if (output == NULL || ferror(stdin))
         return 1;
 

@@ -68,6 +68,9 @@ def closed(folder):
     for name, arguments, sign in ("input", "", "<&-"), ("output", "", ">&-"), ("output", "notes", ">&-"), ("output", "--help", ">&-"):
         done = subprocess.run(["sh", "-c", f'exec "$0" {arguments} {sign}', FMT], input=b"", stderr=subprocess.PIPE, cwd=folder)
         expect(f"standard {name} closed, {arguments}", (done.returncode, done.stderr), (1, b"fmt: standard %s: Bad file descriptor\n" % name.encode()))
+    done = subprocess.run(["sh", "-c", 'exec "$0" notes - <&-', FMT], stdout=subprocess.PIPE, stderr=subprocess.PIPE, cwd=folder)
+    wanted = (1, b"a\n", b"fmt: standard input: Bad file descriptor\n")
+    expect("standard input closed, behind a file", (done.returncode, done.stdout, done.stderr), wanted)
     expect("the file is as it was", (folder / "notes").read_bytes(), b"a\n")
 
 
