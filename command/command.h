@@ -26,9 +26,9 @@ void say(const char *sentence, ...);
 void say_failure(const char *name, int reason);
 /* Behind the words for a wrong call: where to read on. Answers the exit status. */
 int wrong_call(void);
-/* Shows texts on standard output, up to a null. Answers the exit status. */
-int show(const char *const texts[]);
 int show_version(void);
+/* The exit status behind texts that were put to standard output. */
+int shown(void);
 
 /* ---- streams.c: what comes in and what goes out */
 

@@ -24,8 +24,8 @@ static const char LIMITS[] = "\n"
                              "written; 2 a wrong call.\n";
 
 static int show_help(void) {
-    const char *const texts[] = {"Usage: ", subject, USAGE, OPTIONS_HELP, LIMITS, NULL};
-    return show(texts);
+    printf("Usage: %s%s%s%s", subject, USAGE, OPTIONS_HELP, LIMITS);
+    return shown();
 }
 
 /* The file is closed before anything is written: if standard output was closed from the start it may have got that number. */
@@ -43,13 +43,13 @@ static bool read_digest(const struct options *options, const char *name, struct 
 
 /* Each file's digest is out before the next file is read, as in the original. */
 static bool format_file(const struct options *options, const char *name, struct window *window, struct digest *digest) {
-    const char *shown = strcmp(name, "-") == 0 ? "standard input" : name;
+    const char *label = strcmp(name, "-") == 0 ? "standard input" : name;
     if (!read_digest(options, name, window, digest)) {
-        say_failure(shown, errno);
+        say_failure(label, errno);
         return false;
     }
     if (digest->refusal.code != RUDIGNALS_DONE) {
-        say_refusal(shown, &digest->refusal);
+        say_refusal(label, &digest->refusal);
         return false;
     }
     return write_out(digest->bytes, digest->length);

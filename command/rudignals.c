@@ -12,25 +12,29 @@ SUBCOMMANDS(DECLARED)
 
 struct subcommand {
     const char *name;
+    const char *does;
     const char *subject;
     int (*run)(int argc, char **argv);
 };
 
-#define ROW(name, does) {#name, "rudignals " #name, run_##name},
-static const struct subcommand TABLE[] = {SUBCOMMANDS(ROW){NULL, NULL, NULL}};
+#define ROW(name, does) {#name, does, "rudignals " #name, run_##name},
+static const struct subcommand TABLE[] = {SUBCOMMANDS(ROW){NULL, NULL, NULL, NULL}};
 
-#define LINE(name, does) "  " #name "  " does "\n",
-static const char *const HELP[] = {
-    "Usage: rudignals SUBCOMMAND [OPTION]... [FILE]...\n"
-    "A paragraph formatter for operators' notes: nothing in them goes missing.\n"
-    "\n",
-    SUBCOMMANDS(LINE)
-    "\n"
-    "rudignals SUBCOMMAND --help tells more; rudignals --version shows the version.\n"
-    "Exit status: 0 done; 1 something was refused, not read or not written; 2 a\n"
-    "wrong call.\n",
-    NULL,
-};
+static int show_help(void) {
+    const struct subcommand *row;
+    fputs("Usage: rudignals SUBCOMMAND [OPTION]... [FILE]...\n"
+          "A paragraph formatter for operators' notes: nothing in them goes missing.\n"
+          "\n",
+          stdout);
+    for (row = TABLE; row->name != NULL; row++)
+        printf("  %-10s %s\n", row->name, row->does);
+    fputs("\n"
+          "rudignals SUBCOMMAND --help tells more; rudignals --version shows the version.\n"
+          "Exit status: 0 done; 1 something was refused, not read or not written; 2 a\n"
+          "wrong call.\n",
+          stdout);
+    return shown();
+}
 
 static bool is(const char *word, const char *name) { return strcmp(word, name) == 0; }
 
@@ -55,7 +59,7 @@ static int run_asked(int argc, char **argv) {
         return wrong_call();
     }
     if (is(argv[1], "--help") || is(argv[1], "-h"))
-        return close_output(show(HELP));
+        return close_output(show_help());
     if (is(argv[1], "--version") || is(argv[1], "-V"))
         return close_output(show_version());
     return run_named(argc - 1, argv + 1);
@@ -69,7 +73,7 @@ static const char *name_in(const char *path) {
 
 /* A closed pipe is to be told like any other failure to write, so it must not end the program. */
 int main(int argc, char **argv) {
-    static const struct subcommand fmt = {"fmt", "fmt", run_format};
+    static const struct subcommand fmt = {"fmt", NULL, "fmt", run_format};
     signal(SIGPIPE, SIG_IGN);
     if (argc > 0 && is(name_in(argv[0]), fmt.name)) {
         called = fmt.name;

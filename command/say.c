@@ -23,14 +23,9 @@ int wrong_call(void) {
     return WRONG_CALL;
 }
 
-int show(const char *const texts[]) {
-    for (; *texts != NULL; texts++)
-        if (!write_out(*texts, strlen(*texts)))
-            return FAILED;
-    return WELL;
+int show_version(void) {
+    puts("rudignals " RUDIGNALS_VERSION);
+    return shown();
 }
 
-int show_version(void) {
-    static const char *const texts[] = {"rudignals ", RUDIGNALS_VERSION, "\n", NULL};
-    return show(texts);
-}
+int shown(void) { return write_out("", 0) ? WELL : FAILED; }

@@ -10,6 +10,7 @@ REFUSED = "digest: the notes were refused\n"
 
 def digest(folder):
     """Status 0 and a digest, or status 1; a digest that reads like a refusal is one."""
+    subprocess.run([DIGEST], input=b"", stdout=subprocess.DEVNULL, check=True)  # builds what is not built, and says so
     through = folder / "through"
     through.symlink_to(DIGEST)
     for notes in b"refused 3 0\n", b"digest: x\n", b"":
