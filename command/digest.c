@@ -54,7 +54,8 @@ static bool make_room(struct digest *digest, size_t more) {
 }
 
 static uint64_t ask(struct digest *digest, const struct options *options, const struct part *part) {
-    return rudignals_format(options->block, options->block_len, part->bytes, part->length, digest->bytes + digest->length, digest->room - digest->length);
+    return rudignals_format(options->block, options->block_len, part->bytes, part->length, digest->bytes + digest->length,
+                            digest->room - digest->length);
 }
 
 /* Begins with twice the part's length, which is mostly enough. Asks again with the length needed if not; if that is not to be had the first

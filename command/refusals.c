@@ -67,7 +67,8 @@ void say_refusal(const char *name, const struct refusal *at) {
         say(AT "more than %u bytes from here on have no empty line; put one between paragraphs", name, at->line, at->column, RUDIGNALS_MOST_NOTES);
         break;
     case RUDIGNALS_TEXT:
-        say(AT "byte %02X begins no accepted character (" ACCEPTED "); --keep leaves such a line as it is", name, at->line, at->column, (unsigned)at->byte);
+        say(AT "byte %02X begins no accepted character (" ACCEPTED "); --keep leaves such a line as it is", name, at->line, at->column,
+            (unsigned)at->byte);
         break;
     case RUDIGNALS_WORDS:
         say(AT "the paragraph that begins here has more than %u words; part it by an empty line", name, at->line, at->column, RUDIGNALS_MOST_WORDS);

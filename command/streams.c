@@ -45,7 +45,9 @@ static bool written(bool well) {
     return well;
 }
 
-bool write_out(const void *bytes, size_t length) { return written(fwrite(bytes, 1, length, stdout) == length && fflush(stdout) == 0 && !ferror(stdout)); }
+bool write_out(const void *bytes, size_t length) {
+    return written(fwrite(bytes, 1, length, stdout) == length && fflush(stdout) == 0 && !ferror(stdout));
+}
 
 /* Some file systems tell only on closing that a write failed. A failure that was told before is not told again. */
 int close_output(int status) {

@@ -21,24 +21,31 @@ def blank():
     return random.choice(["\n", "\n", "\n", "\r\n", "  \n", "\t\r\n", "\n\n\n", "\v\f\n"])
 
 
+# indents of a paragraph's first line and of the others: flush, indented, hanging, quoted, commented, and what looks like mail
+INDENTS = [("", ""), ("  ", "  "), ("    ", "  "), ("", "\t"), ("> ", "> "), ("  > ", "  > "), ("# ", "# "), ("From ", ""), ("To: ", " ")]
+
+
 def paragraph():
-    """Lines of one kind: flush, indented, hanging, quoted, commented."""
-    first, later = random.choice([("", ""), ("  ", "  "), ("    ", "  "), ("", "\t"), ("> ", "> "), ("  > ", "  > "), ("# ", "# "), ("From ", ""), ("To: ", " ")])
+    first, later = random.choice(INDENTS)
     return line(first) + "".join(line(later) for _ in range(random.randint(0, 9)))
+
+
+def header():
+    return random.choice(["To: ", "Subject: ", "Received: "]) + line() + line("  ") * random.randint(0, 2)
 
 
 def message():
     """A letter of a mail folder."""
-    head = "From ops@site Mon Nov 15\n" + "".join(f"{random.choice(['To', 'Subject', 'Received'])}: " + line() + line("  ") * random.randint(0, 2) for _ in range(3))
+    head = "From ops@site Mon Nov 15\n" + header() + header() + header()
     return head + "\n" + blank().join(paragraph() for _ in range(random.randint(1, 5)))
 
 
-def joined(make, size, stretch):
-    """Some of them, up to a size; a blank line stands between two neighbours or not, but no stretch without one is longer than told."""
+def joined(make, size, stretch, often):
+    """Pieces up to a size. A blank line stands between two neighbours as often as told, and where a stretch without one would get too long."""
     out, length, run = [], 0, 0
     while length < size:
         piece = make()
-        if run + len(piece.encode()) > stretch or random.random() < 0.3:
+        if run + len(piece.encode()) > stretch or random.random() < often:
             out.append(blank())
             run = 0
         out.append(piece)
@@ -48,13 +55,13 @@ def joined(make, size, stretch):
 
 
 def generated(part=65536):
-    """Names and notes. Behind a quarter of a part a blank line is sure to come, and behind most of it in the last, where few come by chance."""
+    """Names and notes, for parts of so many bytes."""
     size = 40 * part if part < 65536 else 1200000
     return [
-        ("prose", joined(paragraph, size, part // 16)),
-        ("mail", joined(message, size, part // 4)),
-        ("endless lines", joined(lambda: line() if random.random() < 0.8 else line("  "), size, 8 * 1024 if part > 8192 else part - 512)),
-        ("empty lines", b"".join(random.choice([b"\n", b"\r\n", b"a\n", b" \n", b"b c.\n"]) for _ in range(size // 2))),
+        ("prose", joined(paragraph, size, part // 16, 0.3)),
+        ("mail", joined(message, size, part // 4, 0.3)),
+        ("few empty lines", joined(lambda: line(random.choice(["", "", "", "  "])), size, part, 0.0001)),
+        ("many empty lines", b"".join(random.choice([b"\n", b"\r\n", b"a\n", b" \n", b"b c.\n"]) for _ in range(size // 2))),
     ]
 
 
@@ -106,6 +113,6 @@ def real():
 
 
 def some_marked(notes):
-    """Some lines begin with @@, in which no other line has it."""
+    """Some lines begin with @@, in the place of two letters, and no other has it."""
     rows = notes.replace(b"@", b"a").split(b"\n")
-    return b"\n".join(b"@@" + row if i % 7 == 3 and row.strip() else row for i, row in enumerate(rows))
+    return b"\n".join(b"@@" + row[2:] if i % 7 == 3 and row[:2].isalpha() else row for i, row in enumerate(rows))
