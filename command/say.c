@@ -2,17 +2,35 @@
 #include "command.h"
 
 #include <stdarg.h>
+#include <stdlib.h>
 #include <string.h>
 
 const char *called = "rudignals";
 const char *subject = "rudignals";
 
+/* Control characters, in the name of a file say, could spoil a terminal or look like another message. */
+static void make_plain(char *text) {
+    for (; *text != '\0'; text++)
+        if ((unsigned char)*text < ' ' || *text == 127)
+            *text = '?';
+}
+
+/* A name may be of any length. The line goes out in one piece; without memory, the sentence without its values. */
 void say(const char *sentence, ...) {
-    va_list values;
+    va_list values, again;
+    size_t room;
+    char *text;
     va_start(values, sentence);
-    fprintf(stderr, "%s: ", called);
-    vfprintf(stderr, sentence, values);
-    fputc('\n', stderr);
+    va_copy(again, values);
+    room = (size_t)vsnprintf(NULL, 0, sentence, values) + 1;
+    text = malloc(room);
+    if (text != NULL) {
+        vsnprintf(text, room, sentence, again);
+        make_plain(text);
+    }
+    fprintf(stderr, "%s: %s\n", called, text == NULL ? sentence : text);
+    free(text);
+    va_end(again);
     va_end(values);
 }
 

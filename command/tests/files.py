@@ -21,6 +21,7 @@ def several(folder):
     expect("standard input twice", run(["-", "-"], b"x\ny\n"), (0, b"x y\n", ""))
     expect("a file named as an option", run(["--", "-c"], cwd=folder), (0, b"e f\n", ""))
     expect("a missing file", run(["one", "none", "two"], cwd=folder), (1, b"a b\nc d\n", "fmt: none: No such file or directory\n"))
+    expect("an odd name", run(["a\nb\x1b[31m"], cwd=folder), (1, b"", "fmt: a?b?[31m: No such file or directory\n"))
     expect("a folder", run([".", "two"], cwd=folder), (1, b"c d\n", "fmt: .: Is a directory\n"))
     expect("a refused file", run(["one", "bad", "two"], cwd=folder), (1, b"a b\nc d\n", "fmt: bad: line 2, column 1: byte B0 " + DAMAGED))
     expect("refused options, before any file", run(["-w", "5", "none"], cwd=folder)[2], "fmt: --width 5: must be 6 to 1000 without --goal\n")

@@ -16,6 +16,7 @@ REFUSED_OPTIONS = [
     (["-w", "2000"], "--width 2000: must be 1 to 1000\n"),
     (["-w", "65546"], "--width 65546: must be 1 to 1000\n"),
     (["-w", "18446744073709551626"], "--width 18446744073709551626: must be 1 to 1000\n"),
+    (["-w", "1" * 70000], "--width " + "1" * 70000 + ": must be 1 to 1000\n"),
     (["-w", "ten"], "--width ten: must be 1 to 1000\n"),
     (["-w", "10x"], "--width 10x: must be 1 to 1000\n"),
     (["-60x"], "--width 60x: must be 1 to 1000\n"),
