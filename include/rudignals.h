@@ -1,10 +1,7 @@
-/* Rudignals: a paragraph formatter for operators' notes.
+/* Rudignals: a paragraph formatter for operators' notes. The rules are in docs/RULES.md, the call's manual page is rudignals(3).
  *
- * One call formats one text. It has no precondition: every option block, every text and every output length has an answer, and the call
- * neither allocates, nor keeps a state, nor calls back. It may run on several threads at once. Its working storage is on the stack: tables
- * of 111,616 bytes; at most 113,575 bytes in all were measured on x86-64 (tests/stack/run, under an emulator).
- *
- * Link with librudignals.a (`rt staticlib rudignals`); examples/host/ is a host to copy from.
+ * Installed, it is linked by `cc program.c $(pkg-config --cflags --libs rudignals)`; else by the path of librudignals.a. The library needs
+ * `memset` and no other symbol.
  */
 #ifndef RUDIGNALS_H
 #define RUDIGNALS_H
@@ -16,73 +13,126 @@
 extern "C" {
 #endif
 
-/* What a call answers, in the answer's upper 32 bits; N is in the lower 32. The lowest code that applies is given. */
-enum rudignals_code {
-    RUDIGNALS_DONE = 0,    /* N bytes were written; the output behind them is unchanged */
-    RUDIGNALS_OPTIONS = 1, /* the option block is faulty at place N; output unchanged */
-    RUDIGNALS_LONG = 2,    /* the notes have over RUDIGNALS_MOST_NOTES bytes; N is 0; output unchanged */
-    RUDIGNALS_TEXT = 3,    /* keep is off and a damaged character begins at place N; output unchanged */
-    RUDIGNALS_WORDS = 4,   /* the paragraph whose first line starts at place N has over 1,024 words; output all zero */
-    RUDIGNALS_ROOM = 5     /* the digest has N bytes, more than the output; output all zero */
-};
+/* The version of this header and of the library that it came with. Programs built for one work with every later one of the same MAJOR. */
+#define RUDIGNALS_VERSION_MAJOR 1
+#define RUDIGNALS_VERSION_MINOR 0
+#define RUDIGNALS_VERSION_PATCH 0
+#define RUDIGNALS_VERSION "1.0.0"
 
+/* Notes of more bytes are refused, and so is a paragraph of more words. */
 #define RUDIGNALS_MOST_NOTES 65536u
 #define RUDIGNALS_MOST_WORDS 1024u
 
-/* The option block: tagged fields, tags ascending and none twice. A field is its tag (one byte), the length of its value (two bytes, most
- * significant first) and the value; numbers are two bytes, most significant first. A missing field means not given. The empty block means
- * defaults: width 79, goal 74, tab width 8. */
+/* What a call answers, in the upper 32 bits of its number; N is the lower 32. Where several apply, the lowest is given.
+ *
+ *   Code      Given when                                N                                               Output afterwards
+ *   0 done    nothing below applies                     how many bytes the digest has                   the digest, and behind it unchanged
+ *   1 options the option block is faulty                the place of the first faulty field's tag; or   unchanged
+ *                                                       options_len, which is no place in the block,
+ *                                                       if each field is right but width and goal clash
+ *   2 long    notes_len is over RUDIGNALS_MOST_NOTES    0                                               unchanged
+ *   3 text    keep is off and the notes have            the place of the first one's first byte         unchanged
+ *             a damaged character
+ *   4 words   a paragraph has over                      the place where the first such paragraph's      all zero
+ *             RUDIGNALS_MOST_WORDS words                first line begins
+ *   5 room    the digest has over output_len bytes      how many bytes it has                           all zero
+ *
+ * Places are counted in bytes from 0: in the block for code 1, in the notes for codes 3 and 4. */
+enum rudignals_code {
+    RUDIGNALS_DONE = 0,
+    RUDIGNALS_OPTIONS = 1,
+    RUDIGNALS_LONG = 2,
+    RUDIGNALS_TEXT = 3,
+    RUDIGNALS_WORDS = 4,
+    RUDIGNALS_ROOM = 5
+};
+
+/* The fields of an option block. A field is its tag (one byte), the length of its value (two bytes, most significant first) and the value;
+ * a number has two bytes likewise. Tags ascend and none stands twice. A field that is missing was not given; the empty block is the
+ * defaults. rudignals_put_number and rudignals_put_prefix, below, write fields. */
 enum rudignals_tag {
-    RUDIGNALS_TAG_FLAGS = 1,  /* a number: a sum of the flags below */
-    RUDIGNALS_TAG_WIDTH = 2,  /* a number, 1 to 1,000; width alone is at least 6 */
-    RUDIGNALS_TAG_GOAL = 3,   /* a number, 1 to 1,000; goal <= width <= 2 * goal must hold */
-    RUDIGNALS_TAG_TAB = 4,    /* a number, 0 to 100; 0 acts as 1 */
-    RUDIGNALS_TAG_PREFIX = 5, /* 0 to 255 bytes of undamaged characters: only lines with it are formatted */
-    RUDIGNALS_TAG_SKIP = 6    /* likewise: lines with it are not formatted */
+    /* a number: the sum of the flags below; 0 by default */
+    RUDIGNALS_TAG_FLAGS = 1,
+    /* Numbers, 1 to 1,000: the most columns of a line, and the columns aimed at. Neither given: 79 and 74. Both: goal <= width <= 2 * goal.
+     * Width alone: 6 to 1,000, and goal = min(width * 94 / 100, width - 3). Goal alone: 3 to 940, and width = max(goal * 100 / 94, goal + 3).
+     * Quotients are rounded down. */
+    RUDIGNALS_TAG_WIDTH = 2,
+    RUDIGNALS_TAG_GOAL = 3,
+    /* a number, 0 to 100: the columns between tab stops; 8 by default, and 0 acts as 1 */
+    RUDIGNALS_TAG_TAB = 4,
+    /* 0 to RUDIGNALS_MOST_PREFIX bytes of undamaged characters: only lines with it are formatted, and it is put before each line again */
+    RUDIGNALS_TAG_PREFIX = 5,
+    /* likewise: lines with it are not formatted; an empty one is found in every line */
+    RUDIGNALS_TAG_SKIP = 6
 };
 
 enum rudignals_flag {
-    RUDIGNALS_CROWN = 1,        /* the first two lines of a paragraph may have indents of their own; clears tagged */
-    RUDIGNALS_TAGGED = 2,       /* likewise, and they must differ */
-    RUDIGNALS_MAIL = 4,         /* mail headers are kept apart */
-    RUDIGNALS_SPLIT = 8,        /* lines are split and never joined; clears crown and tagged */
-    RUDIGNALS_UNIFORM = 16,     /* one space between words, two between sentences */
-    RUDIGNALS_QUICK = 32,       /* lines are filled one by one */
-    RUDIGNALS_EXACT_PREFIX = 64,
-    RUDIGNALS_EXACT_SKIP = 128, /* the prefix stands at the line's start, not behind blanks */
-    RUDIGNALS_KEEP = 256,       /* a line with a damaged character is kept as it is instead of refused */
-    RUDIGNALS_GLUE = 512        /* U+00A0 is an ordinary character and no blank */
+    RUDIGNALS_CROWN = 1,         /* the first two lines of a paragraph may have indents of their own; clears tagged */
+    RUDIGNALS_TAGGED = 2,        /* likewise, and they must differ */
+    RUDIGNALS_MAIL = 4,          /* mail headers are paragraphs of their own kind */
+    RUDIGNALS_SPLIT = 8,         /* lines are split and never joined; clears crown and tagged */
+    RUDIGNALS_UNIFORM = 16,      /* one space between words, two between sentences */
+    RUDIGNALS_QUICK = 32,        /* lines are filled one by one, not weighed against each other */
+    RUDIGNALS_EXACT_PREFIX = 64, /* the prefix stands at the line's start, not behind blanks */
+    RUDIGNALS_EXACT_SKIP = 128,  /* likewise the skip prefix */
+    RUDIGNALS_KEEP = 256,        /* a line with a damaged character is kept as it is, not refused */
+    RUDIGNALS_GLUE = 512         /* U+00A0 is an ordinary character and no blank */
 };
 
-/* Formats notes into output. The pointers of empty parts may be any that are not null; the parts do not overlap. */
+/* Formats notes into output, and answers code * 2^32 + N as in the table above.
+ *
+ * There is no precondition: every block, every text and every output length has an answer. A null pointer with length 0 is an empty part.
+ * The output overlaps neither of the other two. The call keeps no state, takes no memory from a heap and calls nothing back; it may run on
+ * several threads at once.
+ *
+ * Its working storage is on the stack, 111,616 bytes of tables. The most that was measured for a whole call on x86-64 (tests/stack/run):
+ * 113,575 bytes in a statically linked program, 115,703 in a dynamically linked one, where the first call also resolves `memset`. There a
+ * thread of 118 KiB was enough and one of 116 KiB was not. Give a thread 256 KiB: the tests fail above that. */
 uint64_t rudignals_format(const uint8_t *options, size_t options_len, const uint8_t *notes, size_t notes_len, uint8_t *output, size_t output_len);
 
-/* A block put together: each call writes one field behind the block's first `at` bytes and answers the block's new length. Fields are put
- * in the tags' order. The caller has the room: 5 bytes for a number, 3 + length for a prefix; RUDIGNALS_MOST_BLOCK for a whole block that
- * is not refused. */
+/* An answer's two halves. */
+static inline uint32_t rudignals_code_of(uint64_t answer) { return (uint32_t)(answer >> 32); }
+static inline uint32_t rudignals_number_of(uint64_t answer) { return (uint32_t)(answer & 0xFFFFFFFFu); }
+
+/* No digest of so many bytes of notes is longer, whatever the options: 10,000 bytes for each byte of the notes (a theorem, `digest-most` in
+ * crates/rudignals/proofs/Values.antt). A host that lends this room never gets code 5. */
+#define RUDIGNALS_MOST_DIGEST(notes_len) ((size_t)10000 * (size_t)(notes_len))
+
+/* The longest prefix, and the room for a block into which each of the six fields is put once, whatever is put. */
 #define RUDIGNALS_MOST_PREFIX 255u
 #define RUDIGNALS_MOST_BLOCK (4 * 5 + 2 * (3 + RUDIGNALS_MOST_PREFIX))
 
-static inline size_t rudignals_put_prefix(uint8_t *block, size_t at, enum rudignals_tag tag, const uint8_t *prefix, uint16_t length) {
-    size_t i;
-    block[at] = (uint8_t)tag;
+/* The first three bytes of a field, for the two functions below. */
+static inline void rudignals_put_head(uint8_t *block, size_t at, enum rudignals_tag tag, unsigned length) {
+    block[at] = (uint8_t)((unsigned)tag > 255u ? 0u : (unsigned)tag);
     block[at + 1] = (uint8_t)(length >> 8);
     block[at + 2] = (uint8_t)(length & 0xFFu);
+}
+
+/* Puts a number behind the block's first `at` bytes, and answers the block's new length. Writes 5 bytes. A number that two bytes cannot
+ * hold, and one for a tag that takes a prefix, is put as 65,535, which the library refuses for every tag: code 1, N = at. */
+static inline size_t rudignals_put_number(uint8_t *block, size_t at, enum rudignals_tag tag, uint64_t number) {
+    if (number > 65535u || tag > RUDIGNALS_TAG_TAB)
+        number = 65535u;
+    rudignals_put_head(block, at, tag, 2u);
+    block[at + 3] = (uint8_t)(number >> 8);
+    block[at + 4] = (uint8_t)(number & 0xFFu);
+    return at + 5;
+}
+
+/* Puts a prefix likewise. Writes 3 + length bytes, 258 at most. In the place of a prefix that is too long, and of one for a tag that takes
+ * a number, stands a length of 65,535 and no value, 3 bytes, which the library refuses for every tag: code 1, N = at. */
+static inline size_t rudignals_put_prefix(uint8_t *block, size_t at, enum rudignals_tag tag, const uint8_t *prefix, size_t length) {
+    size_t i;
+    if (length > RUDIGNALS_MOST_PREFIX || tag < RUDIGNALS_TAG_PREFIX) {
+        rudignals_put_head(block, at, tag, 65535u);
+        return at + 3;
+    }
+    rudignals_put_head(block, at, tag, (unsigned)length);
     for (i = 0; i < length; i++)
         block[at + 3 + i] = prefix[i];
     return at + 3 + length;
 }
-
-static inline size_t rudignals_put_number(uint8_t *block, size_t at, enum rudignals_tag tag, uint16_t number) {
-    uint8_t value[2];
-    value[0] = (uint8_t)(number >> 8);
-    value[1] = (uint8_t)(number & 0xFFu);
-    return rudignals_put_prefix(block, at, tag, value, 2);
-}
-
-/* An answer taken apart. */
-static inline uint32_t rudignals_code_of(uint64_t answer) { return (uint32_t)(answer >> 32); }
-static inline uint32_t rudignals_number_of(uint64_t answer) { return (uint32_t)(answer & 0xFFFFFFFFu); }
 
 #ifdef __cplusplus
 }

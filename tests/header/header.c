@@ -1,0 +1,266 @@
+/* The header and the border of the call, as a host meets them: compiled as C11 and as C++17, with the caller under sanitizers. What is
+ * expected is written from docs/RULES.md and the header's own words. Says the first thing that is not so and exits 1. */
+#include "rudignals.h"
+
+#include <stdio.h>
+#include <stdlib.h>
+#include <string.h>
+
+#define NOTES ((const uint8_t *)"a b\nc\n")
+#define NOTES_LEN 6u
+#define DIGEST "a b c\n"
+#define MARK 0xA5
+
+static unsigned long checks;
+
+#define CHECK(true_that) check((true_that), #true_that, __LINE__)
+
+static void check(int holds, const char *words, int line) {
+    checks++;
+    if (holds)
+        return;
+    fprintf(stderr, "header.c:%d: not so: %s\n", line, words);
+    exit(1);
+}
+
+static uint64_t told(uint32_t code, uint32_t number) { return ((uint64_t)code << 32) + number; }
+
+/* memcmp may not be given null, and the parts here are. */
+static int all_are(const uint8_t *bytes, size_t length, uint8_t value) {
+    size_t i;
+    for (i = 0; i < length && bytes[i] == value; i++)
+        ;
+    return i == length;
+}
+
+/* ---- a null pointer with length 0 is an empty part */
+
+static void null_block(void) {
+    uint8_t output[8];
+    memset(output, MARK, sizeof output);
+    CHECK(rudignals_format(NULL, 0, NOTES, NOTES_LEN, output, sizeof output) == told(RUDIGNALS_DONE, 6));
+    CHECK(memcmp(output, DIGEST, 6) == 0 && all_are(output + 6, 2, MARK));
+}
+
+static void null_notes(void) {
+    uint8_t block[RUDIGNALS_MOST_BLOCK], output[4];
+    unsigned flags;
+    memset(output, MARK, sizeof output);
+    CHECK(rudignals_format(NULL, 0, NULL, 0, output, sizeof output) == told(RUDIGNALS_DONE, 0));
+    for (flags = 0; flags < 1024; flags++) {
+        size_t len = rudignals_put_number(block, 0, RUDIGNALS_TAG_FLAGS, flags);
+        len = rudignals_put_prefix(block, len, RUDIGNALS_TAG_PREFIX, NULL, 0);
+        len = rudignals_put_prefix(block, len, RUDIGNALS_TAG_SKIP, NULL, 0);
+        CHECK(len == 11);
+        CHECK(rudignals_format(block, len, NULL, 0, output, sizeof output) == told(RUDIGNALS_DONE, 0));
+        CHECK(rudignals_format(block, len, NULL, 0, NULL, 0) == told(RUDIGNALS_DONE, 0));
+    }
+    CHECK(all_are(output, sizeof output, MARK));
+}
+
+static void null_output(void) {
+    static uint8_t notes[RUDIGNALS_MOST_NOTES + 1];
+    uint8_t block[5];
+    size_t i, len = rudignals_put_number(block, 0, RUDIGNALS_TAG_FLAGS, 1024);
+    CHECK(rudignals_format(NULL, 0, NULL, 0, NULL, 0) == told(RUDIGNALS_DONE, 0));
+    CHECK(rudignals_format(block, len, NOTES, NOTES_LEN, NULL, 0) == told(RUDIGNALS_OPTIONS, 0));
+    for (i = 0; i < sizeof notes; i++)
+        notes[i] = i % 2 == 0 ? 'a' : ' ';
+    CHECK(rudignals_format(NULL, 0, notes, sizeof notes, NULL, 0) == told(RUDIGNALS_LONG, 0));
+    CHECK(rudignals_format(NULL, 0, (const uint8_t *)"a\n\xB0", 3, NULL, 0) == told(RUDIGNALS_TEXT, 2));
+    notes[0] = '\n';
+    CHECK(rudignals_format(NULL, 0, notes, RUDIGNALS_MOST_NOTES, NULL, 0) == told(RUDIGNALS_WORDS, 1));
+    CHECK(rudignals_format(NULL, 0, NOTES, NOTES_LEN, NULL, 0) == told(RUDIGNALS_ROOM, 6));
+}
+
+/* ---- the table of codes: N, and the output afterwards */
+
+static void codes(void) {
+    static uint8_t notes[RUDIGNALS_MOST_NOTES + 1];
+    uint8_t block[16], output[5];
+    size_t i, len;
+    memset(output, MARK, sizeof output);
+    len = rudignals_put_number(block, 0, RUDIGNALS_TAG_WIDTH, 60);
+    len = rudignals_put_number(block, len, RUDIGNALS_TAG_TAB, 101);
+    CHECK(rudignals_format(block, len, NOTES, NOTES_LEN, output, sizeof output) == told(RUDIGNALS_OPTIONS, 5));
+    len = rudignals_put_number(block, 0, RUDIGNALS_TAG_WIDTH, 60);
+    len = rudignals_put_number(block, len, RUDIGNALS_TAG_GOAL, 29);
+    CHECK(rudignals_format(block, len, NOTES, NOTES_LEN, output, sizeof output) == told(RUDIGNALS_OPTIONS, 10)); /* no place in the block */
+    CHECK(rudignals_format(NULL, 0, notes, sizeof notes, output, sizeof output) == told(RUDIGNALS_LONG, 0));
+    CHECK(rudignals_format(NULL, 0, (const uint8_t *)"ab\xC2", 3, output, sizeof output) == told(RUDIGNALS_TEXT, 2));
+    CHECK(all_are(output, sizeof output, MARK));
+    for (i = 0; i < sizeof notes; i++)
+        notes[i] = i % 2 == 0 ? 'a' : ' ';
+    notes[3] = notes[4] = notes[5] = '\n'; /* the breaks between 1,024 words of one letter are a byte each, and one is at the end */
+    CHECK(rudignals_format(NULL, 0, notes, 6 + 2 * 1024, output, sizeof output) == told(RUDIGNALS_ROOM, 6 + 2 * 1024));
+    CHECK(all_are(output, sizeof output, 0));
+    memset(output, MARK, sizeof output);
+    CHECK(rudignals_format(NULL, 0, notes, 6 + 2 * 1025, output, sizeof output) == told(RUDIGNALS_WORDS, 6));
+    CHECK(all_are(output, sizeof output, 0));
+    memset(output, MARK, sizeof output);
+    CHECK(rudignals_format(NULL, 0, NOTES, NOTES_LEN, output, sizeof output) == told(RUDIGNALS_ROOM, 6));
+    CHECK(all_are(output, sizeof output, 0));
+    CHECK(rudignals_code_of(told(5, 6)) == 5 && rudignals_number_of(told(5, 6)) == 6);
+}
+
+/* ---- what is put too large is refused */
+
+/* the room is a block of memory of its own, so that a byte too many is seen */
+static uint64_t with_number(enum rudignals_tag tag, uint64_t number) {
+    uint8_t *block = (uint8_t *)malloc(5);
+    uint8_t output[8];
+    uint64_t answer;
+    if (block == NULL)
+        abort();
+    CHECK(rudignals_put_number(block, 0, tag, number) == 5);
+    answer = rudignals_format(block, 5, NOTES, NOTES_LEN, output, sizeof output);
+    free(block);
+    return answer;
+}
+
+static int number_refused(enum rudignals_tag tag, uint64_t number) {
+    uint64_t answer = with_number(tag, number);
+    CHECK(rudignals_code_of(answer) == RUDIGNALS_DONE || rudignals_code_of(answer) == RUDIGNALS_OPTIONS);
+    return rudignals_code_of(answer) == RUDIGNALS_OPTIONS;
+}
+
+static void numbers(void) {
+    static const uint64_t large[] = {65535, 65536, 65546, 65536 + 60, 0x100000000u + 60, (uint64_t)-60, (uint64_t)-1};
+    uint64_t n;
+    size_t i;
+    for (n = 0; n < 2000; n++) {
+        CHECK(number_refused(RUDIGNALS_TAG_FLAGS, n) == (n >= 1024));
+        CHECK(number_refused(RUDIGNALS_TAG_WIDTH, n) == (n < 6 || n > 1000));
+        CHECK(number_refused(RUDIGNALS_TAG_GOAL, n) == (n < 3 || n > 940));
+        CHECK(number_refused(RUDIGNALS_TAG_TAB, n) == (n > 100));
+        CHECK(number_refused(RUDIGNALS_TAG_PREFIX, n) && number_refused(RUDIGNALS_TAG_SKIP, n));
+    }
+    for (i = 0; i < sizeof large / sizeof large[0]; i++) {
+        int tag;
+        for (tag = 1; tag <= 6; tag++)
+            CHECK(with_number((enum rudignals_tag)tag, large[i]) == told(RUDIGNALS_OPTIONS, 0));
+    }
+    for (n = 0; n < 256; n++)
+        if (n < 1 || n > 6)
+            CHECK(number_refused((enum rudignals_tag)n, 60));
+}
+
+static void width_and_goal(void) {
+    uint8_t block[10];
+    unsigned width, goal;
+    for (width = 0; width <= 1001; width++)
+        for (goal = 0; goal <= 1001; goal++) {
+            size_t len = rudignals_put_number(block, 0, RUDIGNALS_TAG_WIDTH, width);
+            int in_range = width >= 1 && width <= 1000 && goal >= 1 && goal <= 1000;
+            uint32_t place = width < 1 || width > 1000 ? 0 : in_range ? 10 : 5;
+            uint64_t answer;
+            len = rudignals_put_number(block, len, RUDIGNALS_TAG_GOAL, goal);
+            answer = rudignals_format(block, len, NULL, 0, NULL, 0);
+            CHECK(answer == (in_range && goal <= width && width <= 2 * goal ? told(RUDIGNALS_DONE, 0) : told(RUDIGNALS_OPTIONS, place)));
+        }
+}
+
+static uint64_t with_prefix(enum rudignals_tag tag, size_t length, size_t put) {
+    static uint8_t prefix[70000];
+    uint8_t *block = (uint8_t *)malloc(5 + put + 5);
+    size_t len;
+    uint64_t answer;
+    if (block == NULL)
+        abort();
+    memset(prefix, '>', sizeof prefix);
+    len = rudignals_put_number(block, 0, RUDIGNALS_TAG_FLAGS, RUDIGNALS_KEEP);
+    CHECK(rudignals_put_prefix(block, len, tag, prefix, length) == 5 + put);
+    answer = rudignals_format(block, 5 + put, NOTES, NOTES_LEN, NULL, 0);
+    /* a field behind it changes nothing */
+    len = rudignals_put_number(block, 5 + put, RUDIGNALS_TAG_TAB, 8);
+    CHECK(rudignals_code_of(answer) != RUDIGNALS_OPTIONS || rudignals_format(block, len, NOTES, NOTES_LEN, NULL, 0) == answer);
+    free(block);
+    return answer;
+}
+
+static void prefixes(void) {
+    static const size_t large[] = {256, 257, 65535, 65536, 65538, SIZE_MAX};
+    size_t length, i;
+    for (length = 0; length <= 255; length++) {
+        /* both lines are without the prefix, or empty behind it; the empty prefix is found in every line */
+        CHECK(with_prefix(RUDIGNALS_TAG_PREFIX, length, 3 + length) == told(RUDIGNALS_ROOM, 6));
+        CHECK(with_prefix(RUDIGNALS_TAG_SKIP, length, 3 + length) == told(RUDIGNALS_ROOM, 6));
+    }
+    for (i = 0; i < sizeof large / sizeof large[0]; i++) {
+        CHECK(with_prefix(RUDIGNALS_TAG_PREFIX, large[i], 3) == told(RUDIGNALS_OPTIONS, 5));
+        CHECK(with_prefix(RUDIGNALS_TAG_SKIP, large[i], 3) == told(RUDIGNALS_OPTIONS, 5));
+    }
+    for (length = 0; length <= 4; length++)
+        for (i = 1; i <= 4; i++)
+            CHECK(with_prefix((enum rudignals_tag)i, length, 3) == told(RUDIGNALS_OPTIONS, 5));
+}
+
+/* The six fields put once, each as long as it gets, are within RUDIGNALS_MOST_BLOCK, and they are what is documented. */
+static void whole_block(void) {
+    uint8_t *block = (uint8_t *)malloc(RUDIGNALS_MOST_BLOCK);
+    uint8_t prefix[RUDIGNALS_MOST_PREFIX], output[6];
+    size_t len;
+    if (block == NULL)
+        abort();
+    memset(prefix, '#', sizeof prefix);
+    len = rudignals_put_number(block, 0, RUDIGNALS_TAG_FLAGS, 0x1A4);
+    len = rudignals_put_number(block, len, RUDIGNALS_TAG_WIDTH, 1000);
+    len = rudignals_put_number(block, len, RUDIGNALS_TAG_GOAL, 500);
+    len = rudignals_put_number(block, len, RUDIGNALS_TAG_TAB, 100);
+    CHECK(memcmp(block, "\1\0\2\1\xA4\2\0\2\3\xE8\3\0\2\1\xF4\4\0\2\0\x64", len) == 0);
+    len = rudignals_put_prefix(block, len, RUDIGNALS_TAG_PREFIX, prefix, sizeof prefix);
+    CHECK(memcmp(block + 20, "\5\0\xFF#", 4) == 0);
+    len = rudignals_put_prefix(block, len, RUDIGNALS_TAG_SKIP, prefix, sizeof prefix);
+    CHECK(len == RUDIGNALS_MOST_BLOCK);
+    CHECK(rudignals_format(block, len, NOTES, NOTES_LEN, output, sizeof output) == told(RUDIGNALS_DONE, 6));
+    CHECK(memcmp(output, NOTES, 6) == 0);
+    free(block);
+}
+
+/* ---- the most that a digest can have: an indent as long as may be before each of 1,024 words */
+
+static uint32_t longest(size_t notes_len) {
+    static uint8_t notes[RUDIGNALS_MOST_NOTES];
+    uint8_t block[5];
+    size_t words = notes_len / 2 < RUDIGNALS_MOST_WORDS ? notes_len / 4 : RUDIGNALS_MOST_WORDS, i;
+    uint64_t answer;
+    rudignals_put_number(block, 0, RUDIGNALS_TAG_WIDTH, 6);
+    memset(notes, ' ', notes_len);
+    for (i = 0; i < words; i++)
+        notes[notes_len - 1 - 2 * i] = 'a';
+    answer = rudignals_format(block, 5, notes, notes_len, NULL, 0);
+    CHECK(rudignals_code_of(answer) == RUDIGNALS_ROOM);
+    return rudignals_number_of(answer);
+}
+
+static void most(void) {
+    size_t notes_len;
+    uint32_t digest = 0;
+    for (notes_len = 8; notes_len <= RUDIGNALS_MOST_NOTES; notes_len *= 2) {
+        digest = longest(notes_len);
+        CHECK(digest <= RUDIGNALS_MOST_DIGEST(notes_len));
+    }
+    printf("header: the longest digest tried: %lu bytes of %lu; at most %lu are promised\n", (unsigned long)digest, (unsigned long)RUDIGNALS_MOST_NOTES,
+           (unsigned long)RUDIGNALS_MOST_DIGEST(RUDIGNALS_MOST_NOTES));
+}
+
+static void version(void) {
+    char words[32];
+    snprintf(words, sizeof words, "%d.%d.%d", RUDIGNALS_VERSION_MAJOR, RUDIGNALS_VERSION_MINOR, RUDIGNALS_VERSION_PATCH);
+    CHECK(strcmp(words, RUDIGNALS_VERSION) == 0);
+}
+
+int main(void) {
+    null_block();
+    null_notes();
+    null_output();
+    codes();
+    numbers();
+    width_and_goal();
+    prefixes();
+    whole_block();
+    most();
+    version();
+    printf("header: %lu checks, version %s\n", checks, RUDIGNALS_VERSION);
+    return 0;
+}
