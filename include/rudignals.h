@@ -94,9 +94,9 @@ uint64_t rudignals_format(const uint8_t *options, size_t options_len, const uint
 static inline uint32_t rudignals_code_of(uint64_t answer) { return (uint32_t)(answer >> 32); }
 static inline uint32_t rudignals_number_of(uint64_t answer) { return (uint32_t)(answer & 0xFFFFFFFFu); }
 
-/* No digest of so many bytes of notes is longer, whatever the options: 10,000 bytes for each byte of the notes (a theorem, `digest-most` in
- * crates/rudignals/proofs/Values.antt). A host that lends this room never gets code 5. */
-#define RUDIGNALS_MOST_DIGEST(notes_len) ((size_t)10000 * (size_t)(notes_len))
+/* No digest of so many bytes of notes is longer, whatever the options: 1,040 bytes for each byte of the notes (a theorem, `digest-most` in
+ * crates/rudignals/proofs/Values.antt; 992 for each were seen). A host that lends this room never gets code 5. */
+#define RUDIGNALS_MOST_DIGEST(notes_len) ((size_t)1040 * (size_t)(notes_len))
 
 /* The longest prefix, and the room for a block into which each of the six fields is put once, whatever is put. */
 #define RUDIGNALS_MOST_PREFIX 255u

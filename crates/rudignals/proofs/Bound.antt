@@ -1,12 +1,14 @@
--- How long a piece's output gets: at most 10,000 bytes for each byte of the notes that it takes, if it has no more than 1,024 words.
+-- How long a piece's output gets: at most 1,040 bytes for each byte of the notes that it takes, if it has no more than 1,024 words.
 use mathlib.Core.Path.{_≡_, refl, sym, ap, _∙_}
 use mathlib.Core.Bool.{Bool, true, false, cond, _||_}
 use mathlib.Core.List.{List, [], _∷_, _++_, map}
 use Prim.Native.Nat.{ℕ, _+_, _-_, _*_, _≤_}
 use native.Mathlib.Nat.{mul-le-mul}
 use native.Mathlib.Omega.{arith}
+use lib.Dec.{ltb}
 use lib.ListN.{length, replicate, length-append, length-replicate}
 use lib.Seq.{slice, length-slice}
+use borrow.Author.Tests.{ltb-true, ltb-false}
 use Rattle.lists.specs.Runs.{joined}
 use Rattle.lists.specs.Theorems.All.{All}
 use Rattle.lists.proofs.Parts.{joined-nil, joined-cons, joined-append}
@@ -31,6 +33,7 @@ use Rattle.pieces.proofs.Meaning.{TextIs}
 use Rattle.records.specs.Word.{Word}
 use Rattle.words.specs.Words.{bytesOf, rowWords, wordsOf}
 use Rattle.words.proofs.Spelled.{Spelled, row-spelled}
+use Rattle.words.proofs.Order.{Whole, paragraph-whole}
 use Rattle.output.specs.Emission.{emit}
 use Rattle.output.specs.Contracts.Bound.{bulk, most}
 use Rattle.output.proofs.Bound.{emit-most}
@@ -96,6 +99,28 @@ rows-bulk o mail (l ∷ ls) s =
     let k = row-bulk o mail (rowOf o l) in
     rw (joined-cons, bulk-append, taken-more) (omega arith)
 
+-- each word has a byte: there are no more words than bytes
+words-bytes : (glue uniform : Bool) (ws : List Word) → All (Whole glue uniform) ws → length ws ≤ bulk ws
+unfolding bulk
+words-bytes glue uniform [] a = omega arith
+words-bytes glue uniform (w ∷ ws) a = omega (arith, a .0 .some, words-bytes glue uniform ws (a .1))
+
+-- ---- a paragraph
+
+-- no more than 1,024 words, nor than there are bytes, each with no more bytes before it than there are and six: 1,030 for each byte
+before-words : (words each bytes : ℕ) → words ≤ 1024 → words ≤ bytes → each ≤ bytes + 6 → words * each ≤ 1030 * bytes
+before-words words each bytes few fewer e = go (ltb bytes 1024) refl
+  where
+    go : (t : Bool) → ltb bytes 1024 ≡ t → words * each ≤ 1030 * bytes
+    go true t =
+        let b = ltb-true bytes 1024 t in
+        let m = mul-le-mul {n₁ = words} {n₂ = bytes} fewer (let z : each ≤ 1030 = omega arith in z) in
+        omega arith
+    go false t =
+        let b = ltb-false bytes 1024 t in
+        let m = mul-le-mul {n₁ = words} {n₂ = 1024} few e in
+        omega arith
+
 module _ (o : Opts) (notes : List ℕ) (at : ℕ) (p : ParagraphAt) (q : Paragraph) (t : TextIs o notes at p q) (within : ParagraphWithin (o .glue) notes at p) where
   words-bulk : bulk (wordsOf o q) ≤ p .next - at
   unfolding wordsOf taken
@@ -104,6 +129,11 @@ module _ (o : Opts) (notes : List ℕ) (at : ℕ) (p : ParagraphAt) (q : Paragra
       let e = ap length (lines-extents (slice at (p .next) notes)) in
       let n = length-slice at (p .next) notes (within .within) in
       rw (t .rows .rows) (omega arith)
+
+  words-few : length (wordsOf o q) ≤ p .next - at
+  words-few =
+      let w = paragraph-whole o (linesOf (slice at (p .next) notes)) q (t .rows) in
+      omega (arith, words-bulk, words-bytes (o .glue) (o .uniform || q .mail) (wordsOf o q) w)
 
   margin-most : (m : Margin) (i : Indent) → MarginIs notes m i → MarginWithin at (p .next) m → length (i .bytes) ≤ p .next - at + 4
   margin-most m i h w =
@@ -114,23 +144,23 @@ module _ (o : Opts) (notes : List ℕ) (at : ℕ) (p : ParagraphAt) (q : Paragra
       omega (arith, w .more, w .low, w .order, w .high)
 
   words-most : (first indent : List ℕ) → length first ≤ p .next - at + 4 → length indent ≤ p .next - at + 4 → length (wordsOf o q) ≤ 1024
-      → most first indent (wordsOf o q) + 10000 * at ≤ 10000 * p .next
+      → most first indent (wordsOf o q) + 1040 * at ≤ 1040 * p .next
   words-most first indent f i few =
       let b = words-bulk in
       let on = within .on in
-      let n = mul-le-mul {n₁ = length (wordsOf o q)} {n₂ = 1024} few (let z : length indent + 2 ≤ p .next - at + 6 = omega arith in z) in
+      let n = before-words (length (wordsOf o q)) (length indent + 2) (p .next - at) few words-few (omega arith) in
       omega arith
 
   emitted-most : (first indent : List ℕ) (breaks : List Bool) → length first ≤ p .next - at + 4 → length indent ≤ p .next - at + 4 → length (wordsOf o q) ≤ 1024
-      → length (emit (o .uniform || q .mail) first indent breaks (wordsOf o q)) + 10000 * at ≤ 10000 * p .next
+      → length (emit (o .uniform || q .mail) first indent breaks (wordsOf o q)) + 1040 * at ≤ 1040 * p .next
   emitted-most first indent breaks f i few = omega (arith, emit-most (o .uniform || q .mail) indent first breaks (wordsOf o q), words-most first indent f i few)
 
   -- what emission promises
-  pub text-most : length (wordsOf o q) ≤ 1024 → most (q .first .bytes) (q .indent .bytes) (wordsOf o q) + 10000 * at ≤ 10000 * p .next
+  pub text-most : length (wordsOf o q) ≤ 1024 → most (q .first .bytes) (q .indent .bytes) (wordsOf o q) + 1040 * at ≤ 1040 * p .next
   text-most few = words-most (q .first .bytes) (q .indent .bytes) (margin-most (p .first) (q .first) (t .first) (within .first)) (margin-most (p .indent) (q .indent) (t .indent) (within .indent)) few
 
   -- and what is defined
-  pub formatted-most : length (wordsOf o q) ≤ 1024 → length (formatted o q) + 10000 * at ≤ 10000 * p .next
+  pub formatted-most : length (wordsOf o q) ≤ 1024 → length (formatted o q) + 1040 * at ≤ 1040 * p .next
   unfolding formatted
   formatted-most few =
       let f = margin-most (p .first) (q .first) (t .first) (within .first) in

@@ -1,4 +1,4 @@
--- What an answer tells is small: a fault's place is, other places lie in the notes, and a digest has at most 10,000 bytes for each byte of
+-- What an answer tells is small: a fault's place is, other places lie in the notes, and a digest has at most 1,040 bytes for each byte of
 -- the notes. So code and value can be read back from the number.
 use mathlib.Core.Path.{_≡_, refl, sym, ap, _∙_}
 use mathlib.Core.Bool.{Bool, true, false, cond, _||_}
@@ -42,7 +42,7 @@ record Next (o : Opts) (nextMail : Bool) (notes : List ℕ) (at : ℕ) : Type 0 
   state : Bool
   next : ℕ
   goes : Goes o nextMail notes at kind state next
-  most : tooMany o kind ≡ false → length (outputOf o kind) + 10000 * at ≤ 10000 * next
+  most : tooMany o kind ≡ false → length (outputOf o kind) + 1040 * at ≤ 1040 * next
 
 next-of : (o : Opts) (nextMail : Bool) (notes : List ℕ) (at : ℕ) (r : PieceAt) → PieceGoes o nextMail notes at r → Next o nextMail notes at
 unfolding outputOf
@@ -64,7 +64,7 @@ next-of o nextMail notes at (Text p) t = record {
 module _ (o : Opts) (notes : List ℕ) (least : 1 ≤ o .tab) (most : o .tab ≤ 100) (short : length notes ≤ 65536) (cleared : o .split ≡ true → (o .crown || o .tagged) ≡ false) where
   -- from a place on: the output's length, and the place of a paragraph of too many words
   record Small (nextMail : Bool) (at : ℕ) : Type 0 where
-    output : longFrom o nextMail notes at ≡ Nowhere → length (outputFrom o nextMail notes at) + 10000 * at ≤ 10000 * length notes
+    output : longFrom o nextMail notes at ≡ Nowhere → length (outputFrom o nextMail notes at) + 1040 * at ≤ 1040 * length notes
     place : (n : ℕ) → longFrom o nextMail notes at ≡ At n → n ≤ length notes
 
   small-past : (nextMail : Bool) (at : ℕ) → at ≤ length notes → length notes ≤ at → Small nextMail at
@@ -101,30 +101,30 @@ module _ (o : Opts) (notes : List ℕ) (least : 1 ≤ o .tab) (most : o .tab ≤
   all-small : Small true 0
   all-small = small (length notes) true 0 (omega arith) (omega arith)
 
-  -- without a paragraph of too many words, the digest has less than 2 to the 32nd bytes
-  pub digest-most : longParagraph o 0 (pieces o notes) ≡ Nowhere → length (digest o notes) ≤ 655360000
+  -- without a paragraph of too many words, the digest has at most so many bytes for each byte of the notes
+  pub digest-most : longParagraph o 0 (pieces o notes) ≡ Nowhere → length (digest o notes) ≤ 1040 * length notes
   digest-most e = let s = all-small .output (all-long o notes ∙ e) in omega (arith, ap length (all-output o notes))
 
   pub long-within : (n : ℕ) → longParagraph o 0 (pieces o notes) ≡ At n → n ≤ length notes
   long-within n e = all-small .place n (all-long o notes ∙ e)
 
-  notes-value : (space : ℕ) → value (withNotes o notes space) ≤ 655360000
+  notes-value : (space : ℕ) → value (withNotes o notes space) ≤ 68157440
   notes-value space = size (ltb mostBytes (length notes)) refl
     where
-      fit : (b : Bool) → length (digest o notes) ≤ 655360000 → value (cond b (done (digest o notes)) (room (length (digest o notes)))) ≤ 655360000
+      fit : (b : Bool) → length (digest o notes) ≤ 68157440 → value (cond b (done (digest o notes)) (room (length (digest o notes)))) ≤ 68157440
       fit true h = h
       fit false h = h
 
-      count : (f : Found) → longParagraph o 0 (pieces o notes) ≡ f → value (withWords o notes space f) ≤ 655360000
+      count : (f : Found) → longParagraph o 0 (pieces o notes) ≡ f → value (withWords o notes space f) ≤ 68157440
       count (At n) e = omega (arith, long-within n e)
-      count Nowhere e = fit (leb (length (digest o notes)) space) (digest-most e)
+      count Nowhere e = fit (leb (length (digest o notes)) space) (omega (arith, short, digest-most e))
 
-      damaged : (keep : Bool) (f : Found) → elim keep as (λ t. Found) [ true ↦ Nowhere | false ↦ damage notes ] ≡ f → value (withText o notes space f) ≤ 655360000
+      damaged : (keep : Bool) (f : Found) → elim keep as (λ t. Found) [ true ↦ Nowhere | false ↦ damage notes ] ≡ f → value (withText o notes space f) ≤ 68157440
       damaged keep Nowhere e = count (longParagraph o 0 (pieces o notes)) refl
       damaged true (At n) e = absurd (let z : _≡_ {A = ℕ} 0 1 = cc in omega arith)
       damaged false (At n) e = omega (arith, damage-some false notes n e .1)
 
-      size : (b : Bool) → ltb mostBytes (length notes) ≡ b → value (elim b as (λ t. Answer) [ true ↦ long | false ↦ withText o notes space (damageIn o notes) ]) ≤ 655360000
+      size : (b : Bool) → ltb mostBytes (length notes) ≡ b → value (elim b as (λ t. Answer) [ true ↦ long | false ↦ withText o notes space (damageIn o notes) ]) ≤ 68157440
       size true e = omega arith
       size false e = damaged (o .keep) (damageIn o notes) refl
 
@@ -133,17 +133,17 @@ module _ (o : Opts) (notes : List ℕ) (least : 1 ≤ o .tab) (most : o .tab ≤
 long-value : (o : Opts) (notes : List ℕ) (space : ℕ) → 65536 < length notes → value (withNotes o notes space) ≡ 0
 long-value o notes space h = rw (withNotes, lt-ltb mostBytes (length notes) h)
 
-pub answer-value : (block notes : List ℕ) (space : ℕ) → value (answer block notes space) ≤ 655360000
+pub answer-value : (block notes : List ℕ) (space : ℕ) → value (answer block notes space) ≤ 68157440
 unfolding answer meant
 answer-value block notes space = go (readBlock block) refl
   where
-    short : (o : Options) → readBlock block ≡ Accepted o → (t : Bool) → ltb 65536 (length notes) ≡ t → value (withNotes (meant block o) notes space) ≤ 655360000
+    short : (o : Options) → readBlock block ≡ Accepted o → (t : Bool) → ltb 65536 (length notes) ≡ t → value (withNotes (meant block o) notes space) ≤ 68157440
     short o e true t = omega (arith, long-value (meant block o) notes space (ltb-true 65536 (length notes) t))
     short o e false t =
         let k = accepted block o e in
         notes-value (meant block o) notes (k .tabLeast) (k .tabMost) (ltb-false 65536 (length notes) t) (k .splitClears) space
 
-    go : (b : Block) → readBlock block ≡ b → value (withBlock block notes space b) ≤ 655360000
+    go : (b : Block) → readBlock block ≡ b → value (withBlock block notes space b) ≤ 68157440
     go (Fault place) e = omega (arith, fault-small block place e)
     go (Accepted o) e = short o e (ltb 65536 (length notes)) refl
 

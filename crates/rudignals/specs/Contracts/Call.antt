@@ -103,7 +103,7 @@ pub record Put (o : Opts) (notes out : List ℕ) (c d : Cursor) (out′ : List �
   pub goes : Goes o (c .mail) notes (c .at) kind (d .mail) (d .at)
   pub few : tooMany o kind ≡ false
   pub wrote : Wrote out (c .written) (outputOf o kind) out′ (d .written)
-  pub most : d .written + 10000 * c .at ≤ c .written + 10000 * d .at
+  pub most : d .written + 1040 * c .at ≤ c .written + 1040 * d .at
 
 -- a paragraph has too many words, and the output is as it was
 pub record TooLong (o : Opts) (notes out : List ℕ) (c : Cursor) (out′ : List ℕ) : Type 0 where
@@ -187,10 +187,10 @@ TextStepped notes at o p out written out′ Over block = (1024 < length (wordsFo
 
 -- ---- the notes
 
--- a place within the notes; no byte of them makes more than 10,000
+-- a place within the notes; no byte of them makes more than 1,040
 pub record Stands (notes : List ℕ) (c : Cursor) : Type 0 where
   pub within : c .at ≤ length notes
-  pub most : c .written ≤ 10000 * c .at
+  pub most : c .written ≤ 1040 * c .at
 
 -- the paragraph that `next_piece` finds at a place
 pub record Begins (block : List ℕ) (o : Options) (notes : List ℕ) (c : Cursor) (p : Paragraph) : Type 0 where
