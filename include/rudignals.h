@@ -37,7 +37,8 @@ extern "C" {
  *             RUDIGNALS_MOST_WORDS words                first line begins
  *   5 room    the digest has over output_len bytes      how many bytes it has                           all zero
  *
- * Places are counted in bytes from 0: in the block for code 1, in the notes for codes 3 and 4. */
+ * Places are counted in bytes from 0: in the block for code 1, in the notes for codes 3 and 4. Accepted are the characters U+0000 to U+02FF
+ * but U+00AD, in UTF-8; where none of them begins stands a damaged one. */
 enum rudignals_code {
     RUDIGNALS_DONE = 0,
     RUDIGNALS_OPTIONS = 1,
@@ -110,7 +111,8 @@ static inline void rudignals_put_head(uint8_t *block, size_t at, enum rudignals_
 }
 
 /* Puts a number behind the block's first `at` bytes, and answers the block's new length. Writes 5 bytes. A number that two bytes cannot
- * hold, and one for a tag that takes a prefix, is put as 65,535, which the library refuses for every tag: code 1, N = at. */
+ * hold, and one for a tag that takes a prefix, is put as 65,535, which the library refuses for every tag: code 1, and N = at if the fields
+ * before are right. */
 static inline size_t rudignals_put_number(uint8_t *block, size_t at, enum rudignals_tag tag, uint64_t number) {
     if (number > 65535u || tag > RUDIGNALS_TAG_TAB)
         number = 65535u;
@@ -121,7 +123,7 @@ static inline size_t rudignals_put_number(uint8_t *block, size_t at, enum rudign
 }
 
 /* Puts a prefix likewise. Writes 3 + length bytes, 258 at most. In the place of a prefix that is too long, and of one for a tag that takes
- * a number, stands a length of 65,535 and no value, 3 bytes, which the library refuses for every tag: code 1, N = at. */
+ * a number, stands a length of 65,535 and no value, 3 bytes, which the library refuses for every tag likewise. */
 static inline size_t rudignals_put_prefix(uint8_t *block, size_t at, enum rudignals_tag tag, const uint8_t *prefix, size_t length) {
     size_t i;
     if (length > RUDIGNALS_MOST_PREFIX || tag < RUDIGNALS_TAG_PREFIX) {
