@@ -8,21 +8,21 @@ use lib.Dec.{T, leb, ltb, eqb, leb→le, le→leb, eqb→eq, lit<}
 use lib.Ieee.{Float, nan, inf, fin, binary32, up, down, unlike, round, sum, sub, mul, div, ofInt}
 use lib.Ieee.Fits.{down-pos}
 use lib.Ieee.Exact.{HasValue}
-use Rattle.demerits.specs.Contracts.Bounds.{within, upTo}
+use Rattle.demerits.specs.Contracts.Bounds.{within, atMost}
 use Rattle.demerits.specs.Demerits.{abs, float}
 use Rattle.demerits.proofs.Rounding.{abs-round, round-within}
 
 -- ---- a value with no sign
-pub abs-upTo : (n : ℕ) (x : Float) → T (within n x) → T (upTo n (abs x))
+pub abs-upTo : (n : ℕ) (x : Float) → T (within n x) → T (atMost n (abs x))
 abs-upTo n (fin s m e) h = h
 
-pub upTo-more : (n k : ℕ) (x : Float) → n ≤ k → T (upTo n x) → T (upTo k x)
+pub upTo-more : (n k : ℕ) (x : Float) → n ≤ k → T (atMost n x) → T (atMost k x)
 upTo-more n k (fin false m e) l h = le→leb (m * up e) (k * down e) (le-trans (leb→le (m * up e) (n * down e) h) (mul-le-mul-right (down e) l))
 
-round-upTo : (n a c : ℕ) → n ≤ 2 ^ 24 → 0 < c → a ≤ n * c → T (upTo n (round binary32 false a c))
-round-upTo n a c N C h = subst (λ (z : Float). T (upTo n z)) (abs-round false a c) (abs-upTo n (round binary32 false a c) (round-within false n a c N C h))
+round-upTo : (n a c : ℕ) → n ≤ 2 ^ 24 → 0 < c → a ≤ n * c → T (atMost n (round binary32 false a c))
+round-upTo n a c N C h = subst (λ (z : Float). T (atMost n z)) (abs-round false a c) (abs-upTo n (round binary32 false a c) (round-within false n a c N C h))
 
-pub float-upTo : (n : ℕ) → n ≤ 2 ^ 24 → T (upTo n (float n))
+pub float-upTo : (n : ℕ) → n ≤ 2 ^ 24 → T (atMost n (float n))
 unfolding ofInt
 float-upTo n N = round-upTo n n 1 N (lit< tt) (le-of-eq (sym (mul-one n)))
 
@@ -35,7 +35,7 @@ unfolding mul
 mul-within p q (fin s m e) (fin t n d) N h k =
     round-within (unlike s t) (p * q) (m * up e * (n * up d)) (down e * down d) N (mul-pos (down-pos e) (down-pos d)) (product-le p q (m * up e) (down e) (n * up d) (down d) h k)
 
-pub mul-upTo : (p q : ℕ) (x y : Float) → p * q ≤ 2 ^ 24 → T (upTo p x) → T (upTo q y) → T (upTo (p * q) (mul binary32 x y))
+pub mul-upTo : (p q : ℕ) (x y : Float) → p * q ≤ 2 ^ 24 → T (atMost p x) → T (atMost q y) → T (atMost (p * q) (mul binary32 x y))
 unfolding mul
 mul-upTo p q (fin false m e) (fin false n d) N h k =
     round-upTo (p * q) (m * up e * (n * up d)) (down e * down d) N (mul-pos (down-pos e) (down-pos d)) (product-le p q (m * up e) (down e) (n * up d) (down d) h k)

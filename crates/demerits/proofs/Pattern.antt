@@ -15,7 +15,7 @@ use lib.Ieee.Digits.{size-lt, size-le, size-reaches}
 use lib.Ieee.Fits.{down-pos, kept-lt}
 use lib.Ieee.Nearest.{div-same}
 use borrow.Author.Tests.{ltb-true, ltb-false}
-use Rattle.demerits.specs.Contracts.Bounds.{upTo, most, places}
+use Rattle.demerits.specs.Contracts.Bounds.{atMost, mostTruncated, places}
 use Rattle.demerits.specs.Demerits.{whole}
 
 -- ---- the arithmetic of a pattern b = k * 2 ^ 23 + q
@@ -64,7 +64,7 @@ split-of n = (refl, kept-lt 24 n, λ (p : 0 < size n - 24). le-div-iff-mul-le (p
     room : (z : ℕ) → 0 < z - 24 → 23 + (z - 24) < z
     room z h = omega arith
 
-few : (n : ℕ) → n ≤ most * 2 ^ 149 → dropped n ≤ 135
+few : (n : ℕ) → n ≤ mostTruncated * 2 ^ 149 → dropped n ≤ 135
 unfolding dropped
 few n h = let s : size n ≤ 159 = size-le n 159 (lt-of-le-of-lt h (lit< tt)) in omega arith
 
@@ -119,63 +119,63 @@ units-whole m e =
     same : (a b c : ℕ) → a * c * b ≡ a * (b * c)
     same a b c = mul-assoc a c b ∙ ap (λ (x : ℕ). a * x) (mul-comm c b)
 
-units-le : (m : ℕ) (e : ℤ) → m * up e ≤ most * down e → inUnits m e ≤ most * 2 ^ 149
+units-le : (m : ℕ) (e : ℤ) → m * up e ≤ mostTruncated * down e → inUnits m e ≤ mostTruncated * 2 ^ 149
 unfolding inUnits
 units-le m e h = le-of-suc-le-suc (div-lt-iff-lt-mul (down-pos e) .1 (below (m * up e) (down e) (2 ^ 149) (down-pos e) h))
   where
-    below : (a b c : ℕ) → 0 < b → a ≤ most * b → a * c < suc (most * c) * b
-    below a b c B h = omega (arith, native.Mathlib.Nat.suc-mul (most * c) b, mul-right-comm most b c, mul-le-mul-right c h)
+    below : (a b c : ℕ) → 0 < b → a ≤ mostTruncated * b → a * c < suc (mostTruncated * c) * b
+    below a b c B h = omega (arith, native.Mathlib.Nat.suc-mul (mostTruncated * c) b, mul-right-comm mostTruncated b c, mul-le-mul-right c h)
 
 bits-are : (m : ℕ) (e : ℤ) → toBits binary32 (fin false m e) ≡ dropped (inUnits m e) * 8388608 + inUnits m e / 2 ^ dropped (inUnits m e)
 unfolding toBits dropped inUnits
 bits-are m e = let n = m * up e * 2 ^ 149 / down e in ap (λ (x : ℕ). x + n / 2 ^ (size n - 24)) (zero-add ((size n - 24) * 8388608))
 
-module _ (m : ℕ) (e : ℤ) (h : m * up e ≤ most * down e) where
+module _ (m : ℕ) (e : ℤ) (h : m * up e ≤ mostTruncated * down e) where
   the-split : Split (dropped (inUnits m e)) (inUnits m e / 2 ^ dropped (inUnits m e)) (toBits binary32 (fin false m e))
   the-split = subst (λ (b : ℕ). Split (dropped (inUnits m e)) (inUnits m e / 2 ^ dropped (inUnits m e)) b) (sym (bits-are m e)) (split-of (inUnits m e))
 
   the-few : dropped (inUnits m e) ≤ 135
   the-few = few (inUnits m e) (units-le m e h)
 
-small : (x : Float) → T (upTo most x) → toBits binary32 x / 8388608 < 127 → 0 ≡ whole x
+small : (x : Float) → T (atMost mostTruncated x) → toBits binary32 x / 8388608 < 127 → 0 ≡ whole x
 small nan u l = absurd u
 small (inf s) u l = absurd u
 small (fin true m e) u l = absurd u
 small (fin false m e) u l =
-    let h = leb→le (m * up e) (most * down e) u in
+    let h = leb→le (m * up e) (mostTruncated * down e) u in
     let n = inUnits m e in
     sym (div-eq-of-lt (lt-of-lt-of-le (covers n (dropped n) (unfold dropped in native.Mathlib.Nat.le-refl (size n - 24))) (pow-mono (room (dropped n) (low-field (dropped n) (n / 2 ^ dropped n) (toBits binary32 (fin false m e)) (the-split m e h) l))))) ∙ units-whole m e
   where
     room : (k : ℕ) → k ≤ 125 → 24 + k ≤ 149
     room k h = omega arith
 
-large : (x : Float) → T (upTo most x) → 127 ≤ toBits binary32 x / 8388608 → digits (toBits binary32 x) / 2 ^ (150 - toBits binary32 x / 8388608) ≡ whole x
+large : (x : Float) → T (atMost mostTruncated x) → 127 ≤ toBits binary32 x / 8388608 → digits (toBits binary32 x) / 2 ^ (150 - toBits binary32 x / 8388608) ≡ whole x
 large nan u l = absurd u
 large (inf s) u l = absurd u
 large (fin true m e) u l = absurd u
 large (fin false m e) u l =
-    let h = leb→le (m * up e) (most * down e) u in
+    let h = leb→le (m * up e) (mostTruncated * down e) u in
     let n = inUnits m e in
     cut-is n (toBits binary32 (fin false m e)) (dropped n) (n / 2 ^ dropped n) (the-split m e h) refl (the-few m e h) l ∙ units-whole m e
 
-pub shift-fits : (x : Float) → T (upTo most x) → toBits binary32 x / 8388608 ≤ 136
+pub shift-fits : (x : Float) → T (atMost mostTruncated x) → toBits binary32 x / 8388608 ≤ 136
 shift-fits nan u = absurd u
 shift-fits (inf s) u = absurd u
 shift-fits (fin true m e) u = absurd u
 shift-fits (fin false m e) u =
-    let h = leb→le (m * up e) (most * down e) u in
+    let h = leb→le (m * up e) (mostTruncated * down e) u in
     let n = inUnits m e in
     high-field (dropped n) (n / 2 ^ dropped n) (toBits binary32 (fin false m e)) (the-split m e h) (the-few m e h)
 
 -- the digits before the point are the whole part
-pub cut-whole : (x : Float) → T (upTo most x) → digits (toBits binary32 x) / 2 ^ places (toBits binary32 x / 8388608) ≡ whole x
+pub cut-whole : (x : Float) → T (atMost mostTruncated x) → digits (toBits binary32 x) / 2 ^ places (toBits binary32 x / 8388608) ≡ whole x
 cut-whole x u = by (ltb (toBits binary32 x / 8388608) 127) refl
   where
     by : (y : Bool) → ltb (toBits binary32 x / 8388608) 127 ≡ y → digits (toBits binary32 x) / 2 ^ cond y 24 (150 - toBits binary32 x / 8388608) ≡ whole x
     by true e = none-left (toBits binary32 x) ∙ small x u (ltb-true (toBits binary32 x / 8388608) 127 e)
     by false e = large x u (ltb-false (toBits binary32 x / 8388608) 127 e)
 
-pub no-nan : (x : Float) → T (upTo most x) → T (not (isNan x))
+pub no-nan : (x : Float) → T (atMost mostTruncated x) → T (not (isNan x))
 unfolding isNan
 no-nan nan u = absurd u
 no-nan (inf s) u = tt

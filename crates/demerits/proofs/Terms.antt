@@ -8,8 +8,8 @@ use lib.Dec.{T, leb, lit≤, lit<}
 use lib.Ieee.{Float, binary32, mul, sub, div, ofInt}
 use lib.Ieee.Back.{round-whole}
 use borrow.Author.Tests.{leb-true, leb-false, le-leb, lt-leb}
-use Rattle.demerits.specs.Contracts.Bounds.{within, upTo, mostCost, costWith}
-use Rattle.demerits.specs.Demerits.{abs, cube, float, term, lineTerm, wordTerm, ratioTerm, cost}
+use Rattle.demerits.specs.Contracts.Bounds.{within, atMost, mostCost}
+use Rattle.demerits.specs.Demerits.{abs, cube, float, term, lineTerm, wordTerm, ratioTerm, cost, costWith}
 use Rattle.demerits.proofs.Operations.{abs-upTo, upTo-more, float-upTo, mul-within, mul-upTo, sub-within, div-within}
 use Rattle.demerits.proofs.Ratios.{quotient-within}
 use Rattle.demerits.proofs.Whole.{whole-le}
@@ -28,7 +28,7 @@ module _ (n k b : ℕ) (x : Float) (N : k * (b * b * b) ≤ n) (K : k ≤ 2 ^ 16
   cube-within : T (within (b * b * b) (cube x))
   cube-within = mul-within (b * b) b (mul binary32 x x) x (le-trans cube-le (lit≤ tt)) (mul-within b b x x (le-trans square-le (lit≤ tt)) h h) h
 
-  pub weighted-upTo : T (upTo n (weighted k x))
+  pub weighted-upTo : T (atMost n (weighted k x))
   weighted-upTo =
       upTo-more (k * (b * b * b)) n (weighted k x) N
       (mul-upTo k (b * b * b) (float k) (abs (cube x)) (le-trans (mul-le-mul K cube-le) (lit≤ tt)) (float-upTo k (le-trans K (lit≤ tt))) (abs-upTo (b * b * b) (cube x) cube-within))

@@ -7,17 +7,17 @@ use native.Mathlib.Omega.{arith}
 use lib.Dec.{T, leb→le}
 use lib.Ieee.{Float, fin, up, down, toUnsigned}
 use lib.Ieee.Fits.{down-pos}
-use Rattle.demerits.specs.Contracts.Bounds.{upTo}
+use Rattle.demerits.specs.Contracts.Bounds.{atMost}
 use Rattle.demerits.specs.Demerits.{whole}
 
-pub whole-le : (n : ℕ) (x : Float) → T (upTo n x) → whole x ≤ n
+pub whole-le : (n : ℕ) (x : Float) → T (atMost n x) → whole x ≤ n
 whole-le n (fin false m e) h = le-of-suc-le-suc (div-lt-iff-lt-mul (down-pos e) .1 (lt-of-le-of-lt (leb→le (m * up e) (n * down e) h) (more n (down e) (down-pos e))))
   where
     more : (a b : ℕ) → 0 < b → a * b < suc a * b
     more a b h = omega (arith, suc-mul a b)
 
 -- ---- Rust's `as` gives the same, at any width that holds the bound
-pub whole-as : (w k : ℕ) (x : Float) → k < 2 ^ w → T (upTo k x) → whole x ≡ toUnsigned w x
+pub whole-as : (w k : ℕ) (x : Float) → k < 2 ^ w → T (atMost k x) → whole x ≡ toUnsigned w x
 unfolding toUnsigned
 whole-as w k (fin false m e) W h = sym (capped (m * up e / down e) (2 ^ w) (whole-le k (fin false m e) h) W)
   where

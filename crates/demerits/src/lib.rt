@@ -49,7 +49,7 @@ fn places(exponent: u32) -> u32
 
 // The whole part of x, from its own bits: the exponent, and 23 digits behind a first one that is not written.
 pub fn trunc(x: f32) -> u16
-    requires { ⌜ T (B.upTo B.most x) ⌝ }
+    requires { ⌜ T (B.atMost B.mostTruncated x) ⌝ }
     ensures { λ r. ⌜ r ≡ S.whole x ⌝ }
 {
     let bits = f32::to_bits(x);
@@ -60,7 +60,7 @@ pub fn trunc(x: f32) -> u16
 
 // The whole part of k * |cube(x)|, where cube(x) is (x * x) * x.
 fn term(k: u16, x: f32) -> u16
-    requires { ⌜ T (B.upTo B.most (mul binary32 (S.float k) (S.abs (S.cube x)))) ⌝ }
+    requires { ⌜ T (B.atMost B.mostTruncated (mul binary32 (S.float k) (S.abs (S.cube x)))) ⌝ }
     ensures { λ r. ⌜ r ≡ S.term k x ⌝ }
 {
     trunc((k as f32) * abs(x * x * x))
@@ -127,7 +127,7 @@ pub fn ratio_term(r: f32, old: f32) -> u16
 // The cost of a break after a word of weight W, of a line with the ratio r, where the line before has the ratio old.
 pub fn cost(r: f32, old: f32, weight: u16) -> u64
     requires { ⌜ T (B.within 1 r) × T (B.within 1 old) × (weight ≤ 300) ⌝ }
-    ensures { λ c. ⌜ (c ≡ B.costWith r old weight) × (c ≤ B.mostCost) ⌝ }
+    ensures { λ c. ⌜ (c ≡ S.costWith r old weight) × (c ≤ B.mostCost) ⌝ }
 {
     let sum = 1 + line_term(r) + weight + ratio_term(r, old);
     let wide = sum as u64;

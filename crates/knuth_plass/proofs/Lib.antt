@@ -13,3 +13,4 @@ pub mod Settling
 pub mod Paragraph
 pub mod Whole
 pub mod Reduction
+pub mod Unique

@@ -11,8 +11,8 @@ use lib.Ieee.{Float}
 use Rattle.records.specs.Word.{meaning}
 use Rattle.spacing.specs.Spacing.{gapWidth}
 use Rattle.spacing.specs.declared.Setting.{Setting}
-use Rattle.demerits.specs.Demerits.{noRatio, ratio, lineTerm, ratioTerm, cost}
-use Rattle.demerits.specs.Contracts.Bounds.{within, mostCost, costWith}
+use Rattle.demerits.specs.Demerits.{noRatio, ratio, lineTerm, ratioTerm, cost, costWith}
+use Rattle.demerits.specs.Contracts.Bounds.{within, mostCost}
 use Rattle.demerits.proofs.Terms.{line-le, ratio-le, cost-with, square-le-most}
 use Rattle.knuth_plass.specs.declared.Break.{Break as Record}
 use Rattle.knuth_plass.specs.declared.Best.{Best}
@@ -20,7 +20,7 @@ use Rattle.records.specs.declared.Before.the-variants.{Absent}
 use Rattle.knuth_plass.specs.declared.Turn.{Turn}
 use Rattle.knuth_plass.specs.KnuthPlass.{Place, none, stretchOf, minimumOf, reached, offerOf}
 use Rattle.knuth_plass.specs.Contracts.Table.{Tables, pathTo, seen}
-use Rattle.knuth_plass.specs.Contracts.Round.{lineAt, nothing, from, better, offerIn, Floor, Offers, OfferedIs}
+use Rattle.knuth_plass.specs.Contracts.Round.{lineAt, nothing, bestFrom, better, offerIn, Floor, Offers, OfferedIs}
 use Rattle.knuth_plass.proofs.Offers.{better-stays, offer-some, offer-better, fits-better, lesser-none}
 
 -- what a line grows by without a tab
@@ -68,7 +68,7 @@ module _ (g : Setting) (turn : Turn) (n : ℕ) (b : Record) (best : Best) where
 
   offers-some : (d : ℕ) (r : Float) → turn .number < 1024 → d ≤ suc (turn .number) * mostCost → T (within 1 r)
       → ((notes : List ℕ) (t : Tables)
-      → offerOf g (turn .last) (turn .number) (turn .space) (meaning notes (turn .word)) (seen (pathTo t n) b) ≡ offerIn g (turn .number) t (from n d r))
+      → offerOf g (turn .last) (turn .number) (turn .space) (meaning notes (turn .word)) (seen (pathTo t n) b) ≡ offerIn g (turn .number) t (bestFrom n d r))
       → OfferedIs g turn n b best (better best n d r)
   offers-some d r f h w e = record {
     is = λ notes t. rw (e notes t) (offer-better g (turn .number) t best n d r (omega arith));
@@ -96,11 +96,11 @@ module _ (g : Setting) (turn : Turn) (n : ℕ) (b : Record) (best : Best) where
 
       full-offer : (d : ℕ) (r : Float) → turn .last ≡ false → r ≡ ratio (g .goal) x (stretchOf g)
           → d ≡ cost (ratio (g .goal) x (stretchOf g)) (b .ratio) (stretchOf g) (turn .word .width) → d + b .demerits < nothing
-          → (notes : List ℕ) (t : Tables) → offerOf g (turn .last) (turn .number) (turn .space) (meaning notes (turn .word)) (seen (pathTo t n) b) ≡ offerIn g (turn .number) t (from n (d + b .demerits) r)
+          → (notes : List ℕ) (t : Tables) → offerOf g (turn .last) (turn .number) (turn .space) (meaning notes (turn .word)) (seen (pathTo t n) b) ≡ offerIn g (turn .number) t (bestFrom n (d + b .demerits) r)
       unfolding offerOf seen meaning
       full-offer d r l e f few notes t =
           rw (offerOf, line-is g turn b notes (pathTo t n), ← o .is, le-leb x (g .width) (o .fits), le-leb (minimumOf g) x long, l, line-is g turn b notes (pathTo t n), ← o .is, ← f, ← e)
-          (sym (offer-some g (turn .number) t (from n (d + b .demerits) r) few))
+          (sym (offer-some g (turn .number) t (bestFrom n (d + b .demerits) r) few))
 
       pub offered-full : (d : ℕ) (r : Float) → turn .last ≡ false → r ≡ ratio (g .goal) x (stretchOf g)
           → d ≡ cost (ratio (g .goal) x (stretchOf g)) (b .ratio) (stretchOf g) (turn .word .width) → d ≤ mostCost → T (within 1 r)

@@ -13,8 +13,8 @@ use Rattle.knuth_plass.specs.declared.Break.{Break as Record}
 use Rattle.knuth_plass.specs.declared.State.{State}
 use Rattle.knuth_plass.specs.declared.Standing.{Standing}
 use Rattle.knuth_plass.specs.KnuthPlass.{Break, leastFrom, least}
-use Rattle.knuth_plass.specs.Contracts.Table.{Tables, breakIn, pathTo, seen, meant, lesserIn}
-use Rattle.knuth_plass.specs.Contracts.Round.{lessened, noted, Found, breaksOf, Listed, LeastIs}
+use Rattle.knuth_plass.specs.Contracts.Table.{Tables, breakIn, pathTo, seen, breakMeant, lesserIn}
+use Rattle.knuth_plass.specs.Contracts.Round.{lessened, noted, LeastFound, breaksListed, Listed, LeastIs}
 use Rattle.knuth_plass.proofs.Ascends.{ascends-each}
 
 abbrev with : State → ℕ → ℕ → State
@@ -52,14 +52,14 @@ module _ (s : State) (n d : ℕ) where
     by false = h
 
 -- c is the least so far, and b is next
-module _ (st : Standing) (t : Tables) (s : State) (n : ℕ) (b : Record) (c : Break) (found : Found st t s c) where
+module _ (st : Standing) (t : Tables) (s : State) (n : ℕ) (b : Record) (c : Break) (found : LeastFound st t s c) where
   abbrev pub lower : Break
   lower = cond (ltb (b .demerits) (s .least)) (seen (pathTo t n) b) c
 
-  pub noted-found : b ≡ lessened (st .reduction) (breakIn t n) → Found st t (noted s n (b .demerits)) lower
+  pub noted-found : b ≡ lessened (st .reduction) (breakIn t n) → LeastFound st t (noted s n (b .demerits)) lower
   unfolding noted seen
   noted-found is = by (ltb (b .demerits) (s .least)) where
-    by : (x : Bool) → Found st t (cond x (with s n (b .demerits)) s) (cond x (seen (pathTo t n) b) c)
+    by : (x : Bool) → LeastFound st t (cond x (with s n (b .demerits)) s) (cond x (seen (pathTo t n) b) c)
     by true = record { demerits = refl; again = λ z. ap (seen (pathTo t n)) (sym is) }
     by false = found
 
@@ -83,10 +83,10 @@ lesser-below t m n size h k = by (ltb (breakIn t n .demerits) (breakIn t m .deme
   by true = k
   by false = h
 
-least-next : (t : Tables) (m n : ℕ) (bs : List Break) → leastFrom (meant t m) (meant t n ∷ bs) ≡ leastFrom (meant t (lesserIn t m n)) bs
-unfolding leastFrom meant seen
+least-next : (t : Tables) (m n : ℕ) (bs : List Break) → leastFrom (breakMeant t m) (breakMeant t n ∷ bs) ≡ leastFrom (breakMeant t (lesserIn t m n)) bs
+unfolding leastFrom breakMeant seen
 least-next t m n bs = ap (λ (c : Break). leastFrom c bs) (by (ltb (breakIn t n .demerits) (breakIn t m .demerits))) where
-  by : (x : Bool) → cond x (meant t n) (meant t m) ≡ meant t (cond x n m)
+  by : (x : Bool) → cond x (breakMeant t n) (breakMeant t m) ≡ breakMeant t (cond x n m)
   by true = refl
   by false = refl
 
@@ -97,17 +97,17 @@ module _ (st : Standing) (t : Tables) (a : List ℕ) (l : Listed st a) where
   pub active-below : (k : ℕ) → k < st .count → getD a k 0 < st .size
   active-below k h = rw (getD-take (st .count) a k 0 h) at (ascends-each 0 (st .size) (take (st .count) a) k (l .ascends) (rw (length-take-le (st .count) a few) h))
 
-  pub least-begins : leastFrom (meant t (getD a 0 0)) (map (meant t) (slice 1 (st .count) a)) ≡ least (breaksOf (st .count) t a)
+  pub least-begins : leastFrom (breakMeant t (getD a 0 0)) (map (breakMeant t) (slice 1 (st .count) a)) ≡ least (breaksListed (st .count) t a)
   unfolding least
-  least-begins = sym (ap (λ (ns : List ℕ). least (map (meant t) ns)) (slice-here a 0 (st .count) 0 (l .some) few))
+  least-begins = sym (ap (λ (ns : List ℕ). least (map (breakMeant t) ns)) (slice-here a 0 (st .count) 0 (l .some) few))
 
   pub least-goes : (k m r : ℕ) → k < st .count → r ≡ lesserIn t m (getD a k 0) → m < st .size
-      → (r < st .size) × (leastFrom (meant t r) (map (meant t) (slice (k + 1) (st .count) a)) ≡ leastFrom (meant t m) (map (meant t) (slice k (st .count) a)))
+      → (r < st .size) × (leastFrom (breakMeant t r) (map (breakMeant t) (slice (k + 1) (st .count) a)) ≡ leastFrom (breakMeant t m) (map (breakMeant t) (slice k (st .count) a)))
   least-goes k m r h e w = (
     rw e (lesser-below t m (getD a k 0) (st .size) w (active-below k h)),
-    rw (e, slice-here a k (st .count) 0 h few) (sym (least-next t m (getD a k 0) (map (meant t) (slice (k + 1) (st .count) a)))),
+    rw (e, slice-here a k (st .count) 0 h few) (sym (least-next t m (getD a k 0) (map (breakMeant t) (slice (k + 1) (st .count) a)))),
   )
 
-  pub least-found : (k m : ℕ) → st .count ≤ k → m < st .size → leastFrom (meant t m) (map (meant t) (slice k (st .count) a)) ≡ least (breaksOf (st .count) t a) → LeastIs st t a m
+  pub least-found : (k m : ℕ) → st .count ≤ k → m < st .size → leastFrom (breakMeant t m) (map (breakMeant t) (slice k (st .count) a)) ≡ least (breaksListed (st .count) t a) → LeastIs st t a m
   unfolding leastFrom
   least-found k m h w e = record { within = w; is = rw (slice-none a k (st .count) h) at e }

@@ -12,16 +12,16 @@ use Rattle.demerits.specs.Contracts.Bounds.{within, mostCost}
 use Rattle.knuth_plass.specs.declared.Best.{Best}
 use Rattle.knuth_plass.specs.KnuthPlass.{Break, Offer, none, offer, after, lesser}
 use Rattle.knuth_plass.specs.Contracts.Table.{Tables, pathTo}
-use Rattle.knuth_plass.specs.Contracts.Round.{nothing, from, better, offerIn, BestFits}
+use Rattle.knuth_plass.specs.Contracts.Round.{nothing, bestFrom, better, offerIn, BestFits}
 
 -- ---- as the code chooses
 
 -- a choice for each number is a choice between the two
 pub better-is : (b : Best) (p d : ℕ) (r : Float) (e q : ℕ) (u : Float) → e ≡ cond (leb (b .total) d) (b .total) d → q ≡ cond (leb (b .total) d) (b .previous) p
-    → u ≡ cond (leb (b .total) d) (b .ratio) r → from q e u ≡ better b p d r
+    → u ≡ cond (leb (b .total) d) (b .ratio) r → bestFrom q e u ≡ better b p d r
 unfolding better
 better-is b p d r e q u f g h = rw (f, g, h) (by (leb (b .total) d)) where
-  by : (x : Bool) → from (cond x (b .previous) p) (cond x (b .total) d) (cond x (b .ratio) r) ≡ cond x b (from p d r)
+  by : (x : Bool) → bestFrom (cond x (b .previous) p) (cond x (b .total) d) (cond x (b .ratio) r) ≡ cond x b (bestFrom p d r)
   by true = refl
   by false = refl
 
@@ -45,12 +45,12 @@ module _ (g : Setting) (i : ℕ) (t : Tables) where
   unfolding offerIn
   offer-none b h = rw (le-ltb (b .total) nothing h)
 
-  pub offer-better : (b : Best) (p d : ℕ) (r : Float) → d < nothing → offerIn g i t (better b p d r) ≡ lesser (offerIn g i t b) (offerIn g i t (from p d r))
+  pub offer-better : (b : Best) (p d : ℕ) (r : Float) → d < nothing → offerIn g i t (better b p d r) ≡ lesser (offerIn g i t b) (offerIn g i t (bestFrom p d r))
   unfolding better lesser
   offer-better b p d r few = by (leb (b .total) d) (ltb (b .total) nothing) refl refl where
-    by : (x y : Bool) → leb (b .total) d ≡ x → ltb (b .total) nothing ≡ y → offerIn g i t (cond x b (from p d r)) ≡ lesser (offerIn g i t b) (offerIn g i t (from p d r))
-    by true true e f = rw (offer-some b (ltb-true (b .total) nothing f), offer-some (from p d r) few, lesser, e)
-    by false true e f = rw (offer-some b (ltb-true (b .total) nothing f), offer-some (from p d r) few, lesser, e)
+    by : (x y : Bool) → leb (b .total) d ≡ x → ltb (b .total) nothing ≡ y → offerIn g i t (cond x b (bestFrom p d r)) ≡ lesser (offerIn g i t b) (offerIn g i t (bestFrom p d r))
+    by true true e f = rw (offer-some b (ltb-true (b .total) nothing f), offer-some (bestFrom p d r) few, lesser, e)
+    by false true e f = rw (offer-some b (ltb-true (b .total) nothing f), offer-some (bestFrom p d r) few, lesser, e)
     by true false e f = let h = leb-true (b .total) d e in let k = ltb-false (b .total) nothing f in absurd (omega arith)
     by false false e f = rw (offer-none b (ltb-false (b .total) nothing f), lesser)
 
@@ -58,7 +58,7 @@ pub fits-better : (i size : ℕ) (b : Best) (p d : ℕ) (r : Float) → (b .tota
     → better b p d r .total < nothing → BestFits i size (better b p d r)
 unfolding better
 fits-better i size b p d r f h k w = by (leb (b .total) d) where
-  by : (x : Bool) → cond x b (from p d r) .total < nothing → BestFits i size (cond x b (from p d r))
+  by : (x : Bool) → cond x b (bestFrom p d r) .total < nothing → BestFits i size (cond x b (bestFrom p d r))
   by true z = f z
   by false z = record { previous = h; total = k; ratio = w }
 

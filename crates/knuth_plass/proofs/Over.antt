@@ -16,8 +16,8 @@ use Rattle.knuth_plass.specs.declared.Turn.{Turn}
 use Rattle.knuth_plass.specs.declared.State.{State}
 use Rattle.knuth_plass.specs.declared.Standing.{Standing}
 use Rattle.knuth_plass.specs.KnuthPlass.{Break, reduced, staying, lesser, bestOffer, leastFrom, least}
-use Rattle.knuth_plass.specs.Contracts.Table.{Tables, breakIn, pathTo, seen, meant, Ascends}
-use Rattle.knuth_plass.specs.Contracts.Round.{Turns, lessened, nothing, offerIn, Ready, breaksOf, Fit, Goes, Answer, Done}
+use Rattle.knuth_plass.specs.Contracts.Table.{Tables, breakIn, pathTo, seen, breakMeant, Ascends}
+use Rattle.knuth_plass.specs.Contracts.Round.{Turns, lessened, nothing, offerIn, RoundReady, breaksListed, Fit, RoundGoes, Outcome, Done}
 use Rattle.knuth_plass.proofs.Ascends.{ascends-first}
 use Rattle.knuth_plass.proofs.Offers.{lesser-none}
 
@@ -33,7 +33,7 @@ least-again b bs = ap (λ (c : Break). leastFrom c bs) (by (ltb (b .demerits) (b
 abbrev begun : ℕ → ℕ → Float → State
 begun n d r = record { kept = 0; from = n; least = d; best = record { total = nothing; previous = 0; ratio = r } }
 
-abbrev pub answer : Setting → Turn → List Break → List ℕ → Answer
+abbrev pub answer : Setting → Turn → List Break → List ℕ → Outcome
 answer g turn active notes = record {
   notes = notes;
   stayed = staying g (turn .space) (meaning notes (turn .word)) active;
@@ -41,7 +41,7 @@ answer g turn active notes = record {
   least = least active;
 }
 
-module _ (g : Setting) (turn : Turn) (st : Standing) (t : Tables) (a : List ℕ) (turns : Turns g turn) (ready : Ready (turn .number) st t a) where
+module _ (g : Setting) (turn : Turn) (st : Standing) (t : Tables) (a : List ℕ) (turns : Turns g turn) (ready : RoundReady (turn .number) st t a) where
   few : st .count ≤ length a
   few = let f = turns .few in let h = ready .few in let r = ready .room in let l = ready .active in omega arith
 
@@ -68,8 +68,8 @@ module _ (g : Setting) (turn : Turn) (st : Standing) (t : Tables) (a : List ℕ)
       best = λ h. absurd (omega arith);
     }
 
-    pub goes-first : (notes : List ℕ) → Goes g turn st (answer g turn (map (reduced (st .reduction)) (breaksOf (st .count) t a)) notes) 0 t a (begun (getD a 0 0) (b .demerits) r)
-    unfolding lesser offerIn least reduced meant seen
+    pub goes-first : (notes : List ℕ) → RoundGoes g turn st (answer g turn (map (reduced (st .reduction)) (breaksListed (st .count) t a)) notes) 0 t a (begun (getD a 0 0) (b .demerits) r)
+    unfolding lesser offerIn least reduced breakMeant seen
     goes-first notes = record {
       stayed = refl;
       best = refl;
@@ -88,12 +88,12 @@ module _ (turn : Turn) (st : Standing) (t : Tables) (a : List ℕ) (k : ℕ) (s 
   pub fit-all : Fit turn st k t a s → Ascends 0 (st .size) (take (s .kept) a)
   fit-all fit = rw (← append-nil (take (s .kept) a), ← slice-none a k (st .count) all) (fit .ascends)
 
-  pub done : (g : Setting) (active : List Break) (notes : List ℕ) → Goes g turn st (answer g turn active notes) k t a s → Done g turn st active t a s notes
+  pub done : (g : Setting) (active : List Break) (notes : List ℕ) → RoundGoes g turn st (answer g turn active notes) k t a s → Done g turn st active t a s notes
   unfolding staying bestOffer leastFrom
   done g active notes v =
       let e = slice-none a k (st .count) all in
       record {
-        stayed = sym (append-nil (breaksOf (s .kept) t a)) ∙ rw e at (v .stayed);
+        stayed = sym (append-nil (breaksListed (s .kept) t a)) ∙ rw e at (v .stayed);
         best = sym (lesser-none (offerIn g (turn .number) t (s .best))) ∙ rw e at (v .best);
         found = rw (sym (rw e at (v .least))) (v .found);
       }

@@ -22,8 +22,8 @@ use Rattle.knuth_plass.specs.declared.State.{State}
 use Rattle.knuth_plass.specs.declared.Standing.{Standing}
 use Rattle.knuth_plass.specs.declared.Turn.{Turn}
 use Rattle.knuth_plass.specs.KnuthPlass.{Break, Active, Offer, reduced, settled, withOffer, round, isLast, sentenceBehind, firstBreak, roundsFrom}
-use Rattle.knuth_plass.specs.Contracts.Table.{Tables, Sized, withBreak, seen, meant, Sound}
-use Rattle.knuth_plass.specs.Contracts.Round.{Limits, Ready, breaksOf, standing, Done, Settled, RoundIs, begin, RoundsAre}
+use Rattle.knuth_plass.specs.Contracts.Table.{Tables, Sized, withBreak, seen, breakMeant, Sound}
+use Rattle.knuth_plass.specs.Contracts.Round.{Limits, RoundReady, breaksListed, standing, Done, Settled, RoundIs, begin, RoundsAre}
 use Rattle.knuth_plass.proofs.Table.{sized-with, read-back}
 use Rattle.knuth_plass.proofs.Path.{path-start}
 
@@ -34,13 +34,13 @@ module _ (g : Setting) (last sentence : Bool) (i : ℕ) (w : WordRecord) (space 
   turn = record { word = w; number = i; space = space; weight = weight; last = last }
 
   pub round-is : (t₁ : Tables) (a₁ : List ℕ) (s : State) (t₂ : Tables) (a₂ : List ℕ) (r : Standing) → space ≡ addedSpace (g .uniform) (w .first) sentence false
-      → ((notes : List ℕ) → Done g turn st (map (reduced (st .reduction)) (breaksOf (st .count) t a)) t₁ a₁ s notes) → Settled g turn st t₁ a₁ s t₂ a₂ r
+      → ((notes : List ℕ) → Done g turn st (map (reduced (st .reduction)) (breaksListed (st .count) t a)) t₁ a₁ s notes) → Settled g turn st t₁ a₁ s t₂ a₂ r
       → RoundIs g last sentence i w st t a t₂ a₂ r
   unfolding round meaning
   round-is t₁ a₁ s t₂ a₂ r e done settles = record {
     ready = settles .ready;
     is = λ notes.
-        let active = map (reduced (st .reduction)) (breaksOf (st .count) t a) in
+        let active = map (reduced (st .reduction)) (breaksListed (st .count) t a) in
         settles .is notes active (done notes .found)
         ∙ ap₂ (λ (bs : List Break) (o : Offer). settled g i space (meaning notes w) active (withOffer bs o)) (done notes .stayed) (done notes .best)
         ∙ rw e;
@@ -78,7 +78,7 @@ module _ (table : List ℕ) (n i : ℕ) (notes : List ℕ) where
     unfolding roundsFrom
     rounds-done h = rw (words-end notes n table i h)
 
-pub rounds-are : (g : Setting) (n i : ℕ) (table : List ℕ) (t : Tables) (a : List ℕ) (st : Standing) (sentence : Bool) → i ≤ n → n ≤ i → Ready i st t a
+pub rounds-are : (g : Setting) (n i : ℕ) (table : List ℕ) (t : Tables) (a : List ℕ) (st : Standing) (sentence : Bool) → i ≤ n → n ≤ i → RoundReady i st t a
     → ((notes : List ℕ) → roundsFrom g sentence i (standing st t a) (drop i (wordsIn notes n table)) ≡ roundsFrom g false 1 (begin g (meaning notes (wordIn table 0))) (drop 1 (wordsIn notes n table)))
     → RoundsAre g n table t a st
 rounds-are g n i table t a st sentence h k ready is =
@@ -101,7 +101,7 @@ module _ (g : Setting) (w : WordRecord) (r : Float) (zero-ratio : r ≡ noRatio)
   sound : Sound 1 start
   sound = let f = limits .first in rw zero-ratio (record { ratio = tt; columns = omega arith; demerits = omega arith; word = omega arith })
 
-  pub ready-first : t₁ ≡ withBreak t 0 start → a₁ ≡ set a 0 0 → Ready 1 one t₁ a₁
+  pub ready-first : t₁ ≡ withBreak t 0 start → a₁ ≡ set a 0 0 → RoundReady 1 one t₁ a₁
   ready-first stored put = record {
     filled = rw stored (record {
       sized = sized-with t 0 start sized;
@@ -116,5 +116,5 @@ module _ (g : Setting) (w : WordRecord) (r : Float) (zero-ratio : r ≡ noRatio)
   }
 
   pub begins : t₁ ≡ withBreak t 0 start → a₁ ≡ set a 0 0 → (notes : List ℕ) → standing one t₁ a₁ ≡ begin g (meaning notes w)
-  unfolding begin firstBreak meant seen meaning
+  unfolding begin firstBreak breakMeant seen meaning
   begins stored put notes = rw (front put, path-start t₁ 0 (omega arith), stored, read-back t 0 start (omega arith) sized, zero-ratio)

@@ -8,7 +8,7 @@ use borrow.Author.Tests.{eqb-true, eqb-false}
 use lib.Dec.{eqb}
 use Rattle.knuth_plass.specs.declared.Break.{Break as Record}
 use Rattle.knuth_plass.specs.KnuthPlass.{Place}
-use Rattle.knuth_plass.specs.Contracts.Table.{Tables, Sized, Stored, placeOf, pathIn, pathTo, breakIn, withBreak, seen, meant, Leads}
+use Rattle.knuth_plass.specs.Contracts.Table.{Tables, Sized, Stored, placeOf, pathIn, pathTo, breakIn, withBreak, seen, breakMeant, Leads}
 use Rattle.knuth_plass.proofs.Table.{read-back, read-other}
 
 -- two records that stand at the same place and lead to the same one
@@ -54,12 +54,12 @@ module _ (t : Tables) (i n : ℕ) (b : Record) (t₁ : Tables) (few : n ≤ 1024
   pub path-again : (j : ℕ) → j < n → pathTo t₁ j ≡ pathTo t j
   path-again = kept t t₁ n few down (λ j h. alike-by j (eqb j i) refl)
 
-  pub meant-again : meant t₁ i ≡ seen (pathTo t i) b
-  unfolding meant
+  pub meant-again : breakMeant t₁ i ≡ seen (pathTo t i) b
+  unfolding breakMeant
   meant-again = rw (path-again i here, stored .here)
 
-  pub meant-beside : (j : ℕ) → j < n → (j ≡ i → ⊥) → meant t₁ j ≡ meant t j
-  unfolding meant
+  pub meant-beside : (j : ℕ) → j < n → (j ≡ i → ⊥) → breakMeant t₁ j ≡ breakMeant t j
+  unfolding breakMeant
   meant-beside j h ne = rw (path-again j h, stored .others j ne)
 
 -- one record more, the n-th, leading to one before it
@@ -68,8 +68,8 @@ module _ (t : Tables) (n : ℕ) (b : Record) (room : n < 1024) (sized : Sized t)
   path-before =
       kept t (withBreak t n b) n (omega arith) down (λ j h. rw (read-other t n b j (λ e. omega arith)) (record { place = refl; previous = refl }))
 
-  pub meant-before : (j : ℕ) → j < n → meant (withBreak t n b) j ≡ meant t j
-  unfolding meant
+  pub meant-before : (j : ℕ) → j < n → breakMeant (withBreak t n b) j ≡ breakMeant t j
+  unfolding breakMeant
   meant-before j h = rw (path-before j h, read-other t n b j (λ e. omega arith))
 
   pub path-more : 0 < n → b .previous < n → pathTo (withBreak t n b) n ≡ placeOf b ∷ pathTo t (b .previous)
@@ -81,8 +81,8 @@ module _ (t : Tables) (n : ℕ) (b : Record) (room : n < 1024) (sized : Sized t)
       (path-same 1023 1024 (breakIn t) (breakIn (withBreak t n b)) n (b .previous) h (omega arith) (omega arith) down
       (λ j g. rw (read-other t n b j (λ e. omega arith)) (record { place = refl; previous = refl }))))
 
-  pub meant-more : 0 < n → b .previous < n → meant (withBreak t n b) n ≡ seen (placeOf b ∷ pathTo t (b .previous)) b
-  unfolding meant
+  pub meant-more : 0 < n → b .previous < n → breakMeant (withBreak t n b) n ≡ seen (placeOf b ∷ pathTo t (b .previous)) b
+  unfolding breakMeant
   meant-more z h = rw (path-more z h, read-back t n b room sized)
 
 -- the path of a record is its place and the path of the one before

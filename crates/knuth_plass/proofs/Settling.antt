@@ -14,8 +14,8 @@ use Rattle.knuth_plass.specs.declared.Turn.{Turn}
 use Rattle.knuth_plass.specs.declared.State.{State}
 use Rattle.knuth_plass.specs.declared.Standing.{Standing}
 use Rattle.knuth_plass.specs.KnuthPlass.{Break, Active, least, restart, settled}
-use Rattle.knuth_plass.specs.Contracts.Table.{Tables, breakIn, withBreak, placeOf, pathTo, seen, meant, Sound, Ascends}
-use Rattle.knuth_plass.specs.Contracts.Round.{Limits, Turns, lessened, nothing, Found, Fit, Ready, breaksOf, Restarted, Settled}
+use Rattle.knuth_plass.specs.Contracts.Table.{Tables, breakIn, withBreak, placeOf, pathTo, seen, breakMeant, Sound, Ascends}
+use Rattle.knuth_plass.specs.Contracts.Round.{Limits, Turns, lessened, nothing, LeastFound, Fit, RoundReady, breaksListed, Restarted, Settled}
 use Rattle.knuth_plass.proofs.Path.{meant-before, meant-more}
 use Rattle.knuth_plass.proofs.Ascends.{ascends-more, map-below}
 use Rattle.knuth_plass.proofs.Filled.{filled-later, filled-more}
@@ -51,7 +51,7 @@ module _ (g : Setting) (turn : Turn) (st : Standing) (t : Tables) (a : List ℕ)
     front : take (s .kept + 1) a₁ ≡ take (s .kept) a ++ (st .size ∷ [])
     front = let k = kept-room in let l = fit .active in rw (put, add-one) (take-suc-set a (s .kept) (st .size) (omega arith))
 
-    ready-more : Ready (turn .number + 1) (record { count = s .kept + 1; size = st .size + 1; reduction = d }) t₁ a₁
+    ready-more : RoundReady (turn .number + 1) (record { count = s .kept + 1; size = st .size + 1; reduction = d }) t₁ a₁
     ready-more =
         let h = fit .kept in
         let r = fit .room in
@@ -65,23 +65,23 @@ module _ (g : Setting) (turn : Turn) (st : Standing) (t : Tables) (a : List ℕ)
           ascends = rw (front, add-one (st .size)) (ascends-more 0 (st .size) (take (s .kept) a) ascends);
         }
 
-    breaks-more : breaksOf (s .kept + 1) t₁ a₁ ≡ breaksOf (s .kept) t a ++ (seen (placeOf b ∷ pathTo t (b .previous)) b ∷ [])
+    breaks-more : breaksListed (s .kept + 1) t₁ a₁ ≡ breaksListed (s .kept) t a ++ (seen (placeOf b ∷ pathTo t (b .previous)) b ∷ [])
     breaks-more =
         let z = fit .from in
         rw (
           front,
           map-append,
           stored,
-          map-below (meant (withBreak t (st .size) b)) (meant t) 0 (st .size) (take (s .kept) a) ascends (λ j l h. meant-before t (st .size) b room (fit .filled .sized) (fit .filled .down) j h),
+          map-below (breakMeant (withBreak t (st .size) b)) (breakMeant t) 0 (st .size) (take (s .kept) a) ascends (λ j l h. meant-before t (st .size) b room (fit .filled .sized) (fit .filled .down) j h),
           meant-more t (st .size) b room (fit .filled .sized) (fit .filled .down) (omega arith) before,
         )
 
   -- what stays is as many as are kept
-  breaks-length : length (breaksOf (s .kept) t a) ≡ s .kept
-  breaks-length = let k = kept-room in let l = fit .active in length-map (take (s .kept) a) (meant t) ∙ length-take-le (s .kept) a (omega arith)
+  breaks-length : length (breaksListed (s .kept) t a) ≡ s .kept
+  breaks-length = let k = kept-room in let l = fit .active in length-map (take (s .kept) a) (breakMeant t) ∙ length-take-le (s .kept) a (omega arith)
 
   -- the reduction is the least break's demerits
-  settled-is : (notes : List ℕ) (active bs cs : List Break) → Found st t s (least active) → bs ≡ cs → 0 < length cs
+  settled-is : (notes : List ℕ) (active bs cs : List Break) → LeastFound st t s (least active) → bs ≡ cs → 0 < length cs
       → record { breaks = bs; reduction = s .least } ≡ settled g (turn .number) (turn .space) (meaning notes (turn .word)) active cs
   settled-is notes active bs cs l e h =
       ap₂ make e (l .demerits) ∙ settled-some g (turn .number) (turn .space) (meaning notes (turn .word)) active cs h
@@ -97,7 +97,7 @@ module _ (g : Setting) (turn : Turn) (st : Standing) (t : Tables) (a : List ℕ)
       room = omega arith;
       ascends = ascends;
     });
-    is = λ notes active l. rw (offer-none g (turn .number) t (s .best) e) (settled-is notes active (breaksOf (s .kept) t a) (breaksOf (s .kept) t a) l refl (rw breaks-length some));
+    is = λ notes active l. rw (offer-none g (turn .number) t (s .best) e) (settled-is notes active (breaksListed (s .kept) t a) (breaksListed (s .kept) t a) l refl (rw breaks-length some));
   }
 
   -- the best offer is one break more
@@ -116,7 +116,7 @@ module _ (g : Setting) (turn : Turn) (st : Standing) (t : Tables) (a : List ℕ)
         record {
           ready = ready-more offered (s .least) t₁ a₁ sound (f .previous) stored put;
           is = λ notes active l. rw (offer-some g (turn .number) t (s .best) best)
-              (settled-is notes active (breaksOf (s .kept + 1) t₁ a₁) (breaksOf (s .kept) t a ++ (seen (placeOf offered ∷ pathTo t (s .best .previous)) offered ∷ [])) l
+              (settled-is notes active (breaksListed (s .kept + 1) t₁ a₁) (breaksListed (s .kept) t a ++ (seen (placeOf offered ∷ pathTo t (s .best .previous)) offered ∷ [])) l
               (breaks-more offered (s .least) t₁ a₁ sound (f .previous) stored put)
               (simp length-append (omega arith)));
         }

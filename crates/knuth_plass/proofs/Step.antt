@@ -16,8 +16,8 @@ use Rattle.knuth_plass.specs.declared.Turn.{Turn}
 use Rattle.knuth_plass.specs.declared.State.{State}
 use Rattle.knuth_plass.specs.declared.Standing.{Standing}
 use Rattle.knuth_plass.specs.KnuthPlass.{Place, Break, none, minimumOf, reduced, staying, lesser, offerOf, bestOffer}
-use Rattle.knuth_plass.specs.Contracts.Table.{Tables, tables, Stored, withLine, breakIn, pathTo, seen, meant, Sound, Ascends}
-use Rattle.knuth_plass.specs.Contracts.Round.{Limits, Turns, lineAt, lessened, extended, noted, stays, Offers, OfferedIs, Fit, Goes, Answer, rest}
+use Rattle.knuth_plass.specs.Contracts.Table.{Tables, tables, Stored, withLine, breakIn, pathTo, seen, breakMeant, Sound, Ascends}
+use Rattle.knuth_plass.specs.Contracts.Round.{Limits, Turns, lineAt, lessened, extended, noted, stays, Offers, OfferedIs, Fit, RoundGoes, Outcome, rest}
 use Rattle.knuth_plass.proofs.Path.{Alike, path-again, meant-again, meant-beside}
 use Rattle.knuth_plass.proofs.Ascends.{ascends-at, ascends-less, map-left, map-right}
 use Rattle.knuth_plass.proofs.Filled.{filled-again, sound-lessened, sound-extended}
@@ -65,7 +65,7 @@ module _ (g : Setting) (turn : Turn) (st : Standing) (k : ℕ) (t : Tables) (a :
   kept-room after n d e = let f = turns .few in let h = fit .few in let m = fit .room in let u = fit .kept in rw (e, noted-kept s n d) (omega arith)
 
   next : rest st k t a ≡ seen (pathTo t (getD a k 0)) (lessened (st .reduction) (breakIn t (getD a k 0))) ∷ rest st (k + 1) t a
-  unfolding reduced meant seen
+  unfolding reduced breakMeant seen
   next = rw here
 
   module _ (b : Record) (is : b ≡ lessened (st .reduction) (breakIn t (getD a k 0))) where
@@ -88,7 +88,7 @@ module _ (g : Setting) (turn : Turn) (st : Standing) (k : ℕ) (t : Tables) (a :
             best = rw (noted-best s (getD a k 0) (b .demerits)) (fit .best);
           }
 
-      pub goes-drops : (z : Answer) → Goes g turn st z k t a s → Goes g turn st z (k + 1) t a (noted s (getD a k 0) (b .demerits))
+      pub goes-drops : (z : Outcome) → RoundGoes g turn st z k t a s → RoundGoes g turn st z (k + 1) t a (noted s (getD a k 0) (b .demerits))
       unfolding bestOffer lesser
       goes-drops z v =
           let n : rest st k t a ≡ seen (pathTo t (getD a k 0)) b ∷ rest st (k + 1) t a = rw is next in
@@ -111,10 +111,10 @@ module _ (g : Setting) (turn : Turn) (st : Standing) (k : ℕ) (t : Tables) (a :
       paths : (j : ℕ) → j < st .size → pathTo t₁ j ≡ pathTo t j
       paths j h = path-again t (getD a k 0) (st .size) (extended x b) t₁ few stored (fit .filled .down) within alike j h
 
-      beside : (j : ℕ) → j < st .size → (j ≡ getD a k 0 → ⊥) → meant t₁ j ≡ meant t j
+      beside : (j : ℕ) → j < st .size → (j ≡ getD a k 0 → ⊥) → breakMeant t₁ j ≡ breakMeant t j
       beside j h ne = meant-beside t (getD a k 0) (st .size) (extended x b) t₁ few stored (fit .filled .down) within alike j h ne
 
-      itself : meant t₁ (getD a k 0) ≡ seen (pathTo t (getD a k 0)) (extended x b)
+      itself : breakMeant t₁ (getD a k 0) ≡ seen (pathTo t (getD a k 0)) (extended x b)
       itself = meant-again t (getD a k 0) (st .size) (extended x b) t₁ few stored (fit .filled .down) within alike
 
       front : take (s .kept + 1) (set a (s .kept) (getD a k 0)) ≡ take (s .kept) a ++ (getD a k 0 ∷ [])
@@ -124,7 +124,7 @@ module _ (g : Setting) (turn : Turn) (st : Standing) (k : ℕ) (t : Tables) (a :
       back = let h = fit .kept in slice-set a (k + 1) (st .count) (s .kept) (getD a k 0) (omega arith) (omega arith)
 
       rest-same : rest st (k + 1) t₁ (set a (s .kept) (getD a k 0)) ≡ rest st (k + 1) t a
-      rest-same = rw (back, map-right (meant t₁) (meant t) (getD a k 0) (slice (k + 1) (st .count) a) 0 (st .size) (take (s .kept) a) split beside)
+      rest-same = rw (back, map-right (breakMeant t₁) (breakMeant t) (getD a k 0) (slice (k + 1) (st .count) a) 0 (st .size) (take (s .kept) a) split beside)
 
       abbrev state : State
       state = record { kept = s .kept + 1; from = noted s (getD a k 0) (b .demerits) .from; least = noted s (getD a k 0) (b .demerits) .least; best = best }
@@ -145,7 +145,7 @@ module _ (g : Setting) (turn : Turn) (st : Standing) (k : ℕ) (t : Tables) (a :
             best = offered .fits (st .size) within (fit .best);
           }
 
-      pub goes-keeps : (z : Answer) → Goes g turn st z k t a s → Goes g turn st z (k + 1) t₁ (set a (s .kept) (getD a k 0)) state
+      pub goes-keeps : (z : Outcome) → RoundGoes g turn st z k t a s → RoundGoes g turn st z (k + 1) t₁ (set a (s .kept) (getD a k 0)) state
       unfolding bestOffer
       goes-keeps z v =
           let n : rest st k t a ≡ seen (pathTo t (getD a k 0)) b ∷ rest st (k + 1) t a = rw is next in
@@ -155,7 +155,7 @@ module _ (g : Setting) (turn : Turn) (st : Standing) (k : ℕ) (t : Tables) (a :
               front,
               rest-same,
               map-append,
-              map-left (meant t₁) (meant t) (getD a k 0) (slice (k + 1) (st .count) a) 0 (st .size) (take (s .kept) a) split beside,
+              map-left (breakMeant t₁) (breakMeant t) (getD a k 0) (slice (k + 1) (st .count) a) 0 (st .size) (take (s .kept) a) split beside,
               itself,
               append-snoc,
               line,
@@ -176,7 +176,7 @@ module _ (g : Setting) (turn : Turn) (st : Standing) (k : ℕ) (t : Tables) (a :
         (saw : after ≡ noted s (getD a k 0) (b .demerits)) (kept : l ≡ withLine (t .numbers) (getD a k 0) (b .demerits) x)
         (listed : a₁ ≡ set a (after .kept) (getD a k 0)) (went : r ≡ stays after best) where
       abbrev Onward : Type 0
-      Onward = Fit turn st (k + 1) (tables l (t .ratios)) a₁ r × ((z : Answer) → Goes g turn st z k t a s → Goes g turn st z (k + 1) (tables l (t .ratios)) a₁ r)
+      Onward = Fit turn st (k + 1) (tables l (t .ratios)) a₁ r × ((z : Outcome) → RoundGoes g turn st z k t a s → RoundGoes g turn st z (k + 1) (tables l (t .ratios)) a₁ r)
 
       pub keeps : x ≤ g .width → OfferedIs g turn (getD a k 0) b (s .best) best → Onward
       keeps fits offered =

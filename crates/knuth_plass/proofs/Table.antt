@@ -11,7 +11,7 @@ use lib.ListN.{getD, set, length-set}
 use lib.Seq.{sets, length-sets, getD-set-same, getD-set-other}
 use Rattle.lists.proofs.Stores.{sets-other, sets-within}
 use Rattle.knuth_plass.specs.declared.Break.{Break as Record}
-use Rattle.knuth_plass.specs.Contracts.Table.{Tables, tables, Sized, numberAt, breakIn, numbersOf, withBreak, withLine, Stored}
+use Rattle.knuth_plass.specs.Contracts.Table.{Tables, tables, Sized, breakNumber, breakIn, breakNumbers, withBreak, withLine, Stored}
 use Rattle.knuth_plass.specs.Contracts.Round.{lessened, extended}
 
 bit-back : (a : Bool) → eqb (cond a 1 0) 1 ≡ a
@@ -29,7 +29,7 @@ pub stored-break : (l : List ℕ) (rs : List Float) (i : ℕ) (b : Record) (p q 
     (set (set (set (set (set (set l (i * 8) (b .previous)) (i * 8 + 1) (b .word)) (i * 8 + 2) p) (i * 8 + 3) (b .demerits)) (i * 8 + 4) (b .columns)) (i * 8 + 5) q)
     (set rs i (b .ratio))
     ≡ withBreak (tables l rs) i b
-unfolding withBreak numbersOf
+unfolding withBreak breakNumbers
 stored-break l rs i b p q e f = rw (stored l (i * 8) (b .previous) (b .word) p (b .demerits) (b .columns) q, e, f)
 
 -- three stores one by one
@@ -43,16 +43,16 @@ module _ (t : Tables) (i : ℕ) (b : Record) where
   sized-with s = record { numbers = simp length-sets (s .numbers); ratios = simp length-set (s .ratios) }
 
   module _ (room : i < 1024) (sized : Sized t) where
-    number-back : (j : ℕ) → j < 6 → numberAt (withBreak t i b .numbers) i j ≡ getD (numbersOf b) j 0
-    unfolding withBreak numbersOf
-    number-back j h = let n = sized .numbers in sets-within 0 (t .numbers) (i * 8) (numbersOf b) j h (omega arith)
+    number-back : (j : ℕ) → j < 6 → breakNumber (withBreak t i b .numbers) i j ≡ getD (breakNumbers b) j 0
+    unfolding withBreak breakNumbers
+    number-back j h = let n = sized .numbers in sets-within 0 (t .numbers) (i * 8) (breakNumbers b) j h (omega arith)
 
     ratio-back : getD (withBreak t i b .ratios) i nan ≡ b .ratio
     unfolding withBreak
     ratio-back = let n = sized .ratios in getD-set-same (t .ratios) i (b .ratio) nan (omega arith)
 
     pub read-back : breakIn (withBreak t i b) i ≡ b
-    unfolding breakIn numbersOf
+    unfolding breakIn breakNumbers
     read-back =
         rw (
           number-back 0 (omega arith),
@@ -67,9 +67,9 @@ module _ (t : Tables) (i : ℕ) (b : Record) where
         )
 
   module _ (j : ℕ) (other : j ≡ i → ⊥) where
-    other-number : (a : ℕ) → a < 8 → numberAt (withBreak t i b .numbers) j a ≡ numberAt (t .numbers) j a
-    unfolding withBreak numbersOf
-    other-number a h = sets-other 0 (t .numbers) (i * 8) (numbersOf b) (j * 8 + a) (λ b g e. other (omega arith))
+    other-number : (a : ℕ) → a < 8 → breakNumber (withBreak t i b .numbers) j a ≡ breakNumber (t .numbers) j a
+    unfolding withBreak breakNumbers
+    other-number a h = sets-other 0 (t .numbers) (i * 8) (breakNumbers b) (j * 8 + a) (λ b g e. other (omega arith))
 
     other-ratio : getD (withBreak t i b .ratios) j nan ≡ getD (t .ratios) j nan
     unfolding withBreak

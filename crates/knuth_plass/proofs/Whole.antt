@@ -14,7 +14,7 @@ use Rattle.records.proofs.Table.{words-drop, words-length}
 use Rattle.spacing.specs.declared.Setting.{Setting}
 use Rattle.knuth_plass.specs.declared.Standing.{Standing}
 use Rattle.knuth_plass.specs.KnuthPlass.{Place, Break, Active, least, roundsFrom, pathOf, startsLine, marksFrom, bestBreaks}
-use Rattle.knuth_plass.specs.Contracts.Table.{Tables, pathTo, seen, meant, Leads, Marked}
+use Rattle.knuth_plass.specs.Contracts.Table.{Tables, pathTo, seen, breakMeant, Leads, MarkedUpTo}
 use Rattle.knuth_plass.specs.Contracts.Round.{begin, RoundsAre, Listed, LeastIs, BestAre}
 
 marks-are : (marks : List Bool) (n : ℕ) (path : List Place) (i : ℕ) (ws : List Word) → n ≤ length marks → length ws ≡ n - i
@@ -44,10 +44,10 @@ module _ (g : Setting) (n : ℕ) (table : List ℕ) (t : Tables) (a : List ℕ) 
         (r .filled .down j p l, omega arith)
 
     path-is : (notes : List ℕ) → pathTo t last ≡ least (roundsFrom g false 1 (begin g (meaning notes (wordIn table 0))) (drop 1 (wordsIn notes n table)) .breaks) .places
-    unfolding meant seen
+    unfolding breakMeant seen
     path-is notes = ap (λ (b : Break). b .places) (found .is ∙ ap (λ (b : Active). least (b .breaks)) (rounds .is notes))
 
-    pub best-are : (old marks : List Bool) → 1 ≤ n → Marked n old marks (λ (j : ℕ). startsLine j (pathTo t last)) → BestAre g n table old t a marks
+    pub best-are : (old marks : List Bool) → 1 ≤ n → MarkedUpTo n old marks (λ (j : ℕ). startsLine j (pathTo t last)) → BestAre g n table old t a marks
     unfolding bestBreaks pathOf begin
     best-are old marks some m = record {
       breaks = λ notes.

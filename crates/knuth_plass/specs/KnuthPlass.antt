@@ -1,7 +1,7 @@
 -- Document 01, "Knuth-Plass": one round for each word behind the first, over the active breaks in order; the least path.
 use mathlib.Core.Bool.{Bool, true, false, cond, not, _&&_, _||_}
 use mathlib.Core.List.{List, [], _∷_, _++_, map}
-use Prim.Native.Nat.{ℕ, zero, suc, _+_, _-_}
+use Prim.Native.Nat.{ℕ, suc, _+_, _-_}
 use lib.Dec.{leb, ltb, eqb}
 use lib.IntN.{pos}
 use lib.Ieee.{Float, fin}
@@ -102,6 +102,7 @@ unfoldable pub leastFrom : Break → List Break → Break
 leastFrom b [] = b
 leastFrom b (c ∷ cs) = leastFrom (cond (ltb (c .demerits) (b .demerits)) c b) cs
 
+-- stands in for the least of no breaks, which is never read: a round begins with a break and leaves one or more
 abbrev pub noBreak : Break
 noBreak = record { places = []; demerits = 0; ratio = noRatio; columns = 0; fresh = false }
 
@@ -118,16 +119,20 @@ restart g i s w b =
     (record { places = beforeWord i ∷ b .places; demerits = 0; ratio = fin false 1 (pos 0); columns = g .indent + w .width; fresh = false })
     (breakAfter g i b 0 (fin true 1 (pos 0)))
 
--- the active breaks and the reduction that the next round begins with
+-- what a round begins with: the active breaks, and the reduction that they are still to lose
 pub record Active : Type 0 where
   pub breaks : List Break
   pub reduction : ℕ
 
--- the reduction is the round's least active demerits; behind a restart it is 0
+-- What a round ends with. There are two lists of breaks: `active` are those that the round began with, less the last reduction; the
+-- other are those that it leaves, the staying ones and the new one behind them. If it leaves none, it restarts from the least of
+-- `active`, and the reduction is 0. Else the reduction is the least demerits of `active`: of all that were active when it began, also
+-- of those that do not stay.
 abbrev pub settled : Setting → ℕ → ℕ → Word → List Break → List Break → Active
 settled g i s w active [] = record { breaks = restart g i s w (least active) ∷ []; reduction = 0 }
 settled g i s w active (b ∷ bs) = record { breaks = b ∷ bs; reduction = least active .demerits }
 
+-- one round. The sentence mark is handed in, for it looks at the word before; S uses no previous punct
 unfoldable pub round : Setting → Bool → Bool → ℕ → Word → Active → Active
 round g lastWord sentence i w a =
     let s = addedSpace (g .uniform) (w .newLine) sentence false in
@@ -140,16 +145,19 @@ abbrev pub isLast : List Word → Bool
 isLast [] = true
 isLast (w ∷ ws) = false
 
--- a word's sentence mark: its own sentence-start, or (it is new-line and the previous word ends-punct)
+-- The sentence mark of the word behind v, worked out in the round of v: its own sentence-start, or (it is new-line and v ends-punct).
+-- Behind the last word there is no round, and the mark is never read: either value would do.
 abbrev pub sentenceBehind : Word → List Word → Bool
 sentenceBehind v [] = true
 sentenceBehind v (w ∷ ws) = w .sentenceStart || w .newLine && v .endsPunct
 
+-- from the i-th word on; `sentence` is the mark of the first word of the list
 unfoldable pub roundsFrom : Setting → Bool → ℕ → Active → List Word → Active
 roundsFrom g sentence i a [] = a
 roundsFrom g sentence i a (w ∷ ws) = roundsFrom g (sentenceBehind w ws) (suc i) (round g (isLast ws) sentence i w a) ws
 
--- at the end the first active break of least demerits gives the path; the sentence mark of the paragraph's second word is false
+-- At the end the first active break of least demerits gives the path. Rounds begin with the paragraph's second word, number 1, whose
+-- sentence mark is false. (A paragraph has a word: the first line is not read.)
 unfoldable pub pathOf : Setting → List Word → List Place
 pathOf g [] = []
 pathOf g (w ∷ ws) = least (roundsFrom g false 1 (record { breaks = firstBreak g w ∷ []; reduction = 0 }) ws .breaks) .places
@@ -165,7 +173,8 @@ unfoldable pub marksFrom : List Place → ℕ → List Word → List Bool
 marksFrom path i [] = []
 marksFrom path i (w ∷ ws) = startsLine i path ∷ marksFrom path (suc i) ws
 
--- for each word behind the first: does a new line start with it? A break behind the last word adds nothing.
+-- For each word behind the first: does a new line start with it? A break behind the last word adds nothing: no word has its number.
+-- (A paragraph has a word: the first line is not read.)
 unfoldable pub bestBreaks : Setting → List Word → List Bool
 bestBreaks g [] = []
 bestBreaks g (w ∷ ws) = marksFrom (pathOf g (w ∷ ws)) 1 ws

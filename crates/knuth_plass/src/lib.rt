@@ -44,7 +44,7 @@ fn wide(x: usize) -> u64
 // Number j of record i.
 fn number(breaks: &[usize; 8192], i: usize, j: usize) -> usize
     requires { ⌜ (i < 1024) × (j < 8) ⌝ }
-    ensures { λ r. ⌜ r ≡ T.numberAt (now (breaks .entry)) i j ⌝ }
+    ensures { λ r. ⌜ r ≡ T.breakNumber (now (breaks .entry)) i j ⌝ }
 {
     let k = i * 8 + j;
     breaks[k]
@@ -317,7 +317,7 @@ fn visit(
     s: State,
 ) -> State
     requires { ⌜ R.Limits g × R.Turns g turn × R.Fit turn st k (T.tables (now breaks) (now ratios)) (now active) s × (k < st .count) ⌝ }
-    ensures { λ r. ⌜ R.Fit turn st (k + 1) (T.tables (now (breaks .exit)) (now (ratios .entry))) (now (active .exit)) r × ((z : R.Answer) → R.Goes g turn st z k (T.tables (now (breaks .entry)) (now (ratios .entry))) (now (active .entry)) s → R.Goes g turn st z (k + 1) (T.tables (now (breaks .exit)) (now (ratios .entry))) (now (active .exit)) r) ⌝ }
+    ensures { λ r. ⌜ R.Fit turn st (k + 1) (T.tables (now (breaks .exit)) (now (ratios .entry))) (now (active .exit)) r × ((z : R.Outcome) → R.RoundGoes g turn st z k (T.tables (now (breaks .entry)) (now (ratios .entry))) (now (active .entry)) s → R.RoundGoes g turn st z (k + 1) (T.tables (now (breaks .exit)) (now (ratios .entry))) (now (active .exit)) r) ⌝ }
 {
     let n = active[k];
     let b = lessened(get_break(breaks, ratios, n), st.reduction);
@@ -344,8 +344,8 @@ fn advance(
     ratios: &[f32; 1024],
     active: &mut [usize; 1024],
 ) -> State
-    requires { ⌜ R.Limits g × R.Turns g turn × R.Ready (turn .number) st (T.tables (now breaks) (now ratios)) (now active) ⌝ }
-    ensures { λ r. ⌜ R.Fit turn st (st .count) (T.tables (now (breaks .exit)) (now (ratios .entry))) (now (active .exit)) r × ((notes : List ℕ) → R.Done g turn st (map (reduced (st .reduction)) (R.breaksOf (st .count) (T.tables (now (breaks .entry)) (now (ratios .entry))) (now (active .entry)))) (T.tables (now (breaks .exit)) (now (ratios .entry))) (now (active .exit)) r notes) ⌝ }
+    requires { ⌜ R.Limits g × R.Turns g turn × R.RoundReady (turn .number) st (T.tables (now breaks) (now ratios)) (now active) ⌝ }
+    ensures { λ r. ⌜ R.Fit turn st (st .count) (T.tables (now (breaks .exit)) (now (ratios .entry))) (now (active .exit)) r × ((notes : List ℕ) → R.Done g turn st (map (reduced (st .reduction)) (R.breaksListed (st .count) (T.tables (now (breaks .entry)) (now (ratios .entry))) (now (active .entry)))) (T.tables (now (breaks .exit)) (now (ratios .entry))) (now (active .exit)) r notes) ⌝ }
 {
     let first = active[0];
     let b = lessened(get_break(breaks, ratios, first), st.reduction);
@@ -488,7 +488,7 @@ fn round(
     ratios: &mut [f32; 1024],
     active: &mut [usize; 1024],
 ) -> Standing
-    requires { ⌜ R.Limits g × (i < 1024) × (1 ≤ wordIn (now table) i .width) × R.Ready i st (T.tables (now breaks) (now ratios)) (now active) ⌝ }
+    requires { ⌜ R.Limits g × (i < 1024) × (1 ≤ wordIn (now table) i .width) × R.RoundReady i st (T.tables (now breaks) (now ratios)) (now active) ⌝ }
     ensures { λ r. ⌜ R.RoundIs g last sentence i (wordIn (now (table .entry)) i) st (T.tables (now (breaks .entry)) (now (ratios .entry))) (now (active .entry)) (T.tables (now (breaks .exit)) (now (ratios .exit))) (now (active .exit)) r ⌝ }
 {
     let word = records::get(table, i);
@@ -623,7 +623,7 @@ fn starts(b: Break) -> usize
 
 fn clear(marks: &mut [bool; 1024], n: usize)
     requires { ⌜ (n ≤ 1024) × (length (now marks) ≡ 1024) ⌝ }
-    ensures { λ _. ⌜ T.Marked n (now (marks .entry)) (now (marks .exit)) (λ (j : ℕ). false) ⌝ }
+    ensures { λ _. ⌜ T.MarkedUpTo n (now (marks .entry)) (now (marks .exit)) (λ (j : ℕ). false) ⌝ }
 {
     let mut i = 0;
     while i < n {
@@ -635,7 +635,7 @@ fn clear(marks: &mut [bool; 1024], n: usize)
 // A break behind the last word starts no line.
 fn mark(marks: &mut [bool; 1024], n: usize, at: usize)
     requires { ⌜ (n ≤ 1024) × (length (now marks) ≡ 1024) ⌝ }
-    ensures { λ _. ⌜ T.Marked n (now (marks .entry)) (now (marks .exit)) (λ (j : ℕ). getD (now (marks .entry)) j false || eqb at j) ⌝ }
+    ensures { λ _. ⌜ T.MarkedUpTo n (now (marks .entry)) (now (marks .exit)) (λ (j : ℕ). getD (now (marks .entry)) j false || eqb at j) ⌝ }
 {
     if at < n {
         marks[at] = true;
@@ -651,7 +651,7 @@ fn mark_path(
     last: usize,
 )
     requires { ⌜ (n ≤ 1024) × (last < 1024) × (length (now marks) ≡ 1024) × T.Leads (T.tables (now breaks) (now ratios)) last ⌝ }
-    ensures { λ _. ⌜ T.Marked n (now (marks .entry)) (now (marks .exit)) (λ (j : ℕ). getD (now (marks .entry)) j false || startsLine j (T.pathTo (T.tables (now (breaks .entry)) (now (ratios .entry))) last)) ⌝ }
+    ensures { λ _. ⌜ T.MarkedUpTo n (now (marks .entry)) (now (marks .exit)) (λ (j : ℕ). getD (now (marks .entry)) j false || startsLine j (T.pathTo (T.tables (now (breaks .entry)) (now (ratios .entry))) last)) ⌝ }
 {
     let mut at = last;
     while 0 < at {

@@ -10,7 +10,7 @@ use lib.Seq.{drop-drop}
 use Rattle.text.specs.Rfc3629.{Front, front, nothing}
 use Rattle.text.specs.Characters.{character, widthOf, Glyph, glyphAs, glyph, glyphs, isTab, extent}
 use Rattle.text.proofs.Glyphs.{Bytes, glyphs-past, glyphs-first, glyphs-induct}
-use Rattle.lines.specs.Classes.{from, nextStop, columnBehind, columnsOf}
+use Rattle.lines.specs.Classes.{glyphsFrom, nextStop, columnBehind, columnsOf}
 use Rattle.lines.proofs.Measures.{next-stop, from-zero, from-more}
 
 -- ---- columns
@@ -68,7 +68,7 @@ module _ (tab : ℕ) (least : 1 ≤ tab) where
 -- the second part stands behind the bytes of the first
 pub record Parted (glue : Bool) (line : List ℕ) (gs a b : List Glyph) : Type 0 where
   pub rest : glyphs glue (drop (extent a) line) ≡ b
-  pub place : from (extent a) gs ≡ b
+  pub place : glyphsFrom (extent a) gs ≡ b
 
 module _ (glue : Bool) where
   first-glyph : (ys : List ℕ) (b : Bytes glue ys) → glyphs glue ys ≡ glyph glue ys ∷ glyphs glue (drop (b .n) ys)

@@ -15,8 +15,8 @@ use Rattle.text.specs.declared.Found.the-variants.{At, Nowhere}
 use Rattle.options.specs.Opts.{Opts, Text, absent, given, textOf}
 use Rattle.options.specs.declared.Part.{Part}
 use Rattle.options.specs.declared.Part.the-variants.{Given}
-use Rattle.lines.specs.Classes.{upTo, from, columnsOf, search, prefixFound, sizeOf, skipFound, somewhere, shapeAt, classBehind, classify}
-use Rattle.lines.specs.Contracts.Places.{lineStart, behindAll, shapeBehind, classAt, BehindBlanks, BehindPlace}
+use Rattle.lines.specs.Classes.{glyphsBefore, glyphsFrom, columnsOf, search, prefixFound, prefixSize, skipFound, somewhere, shapeAt, classBehind, classify}
+use Rattle.lines.specs.Contracts.Places.{lineStart, behindAll, classAt, BehindBlanks, BehindPlace}
 use Rattle.lines.specs.declared.Spot.{Spot}
 use Rattle.lines.specs.declared.Shape.{Shape}
 use Rattle.lines.specs.declared.Class.{Class}
@@ -29,25 +29,21 @@ from-start : (tab : ℕ) (gs : List Glyph) → behindAll tab lineStart gs ≡ re
 unfolding behindAll
 from-start tab gs = ap (λ (n : ℕ). record { at = n; column = columnsOf tab 0 gs }) (omega arith)
 
--- the definition's shape, by spots
-shape-at : (o : Opts) (gs : List Glyph) (place : ℕ) → shapeAt o gs place ≡ shapeBehind (o .tab) (sizeOf (o .prefix)) gs place
-unfolding shapeAt shapeBehind
-shape-at o gs place =
-    let end = place + sizeOf (o .prefix) in
-    let margin = upTo end gs in
-    let blanks = while isBlank (from end gs) in
-    rw (← behind-append (o .tab) lineStart margin blanks, from-start (o .tab) (margin ++ blanks), from-start (o .tab) margin)
-
 module _ (tab size : ℕ) (gs : List Glyph) (place : ℕ) (m r : Spot) where
   -- from the spots at the prefix's end and behind the blanks there
-  pub shape-is : m ≡ behindAll tab lineStart (upTo (place + size) gs) → r ≡ behindAll tab m (while isBlank (from (place + size) gs))
-      → _≡_ {A = Shape} (record { prefix = place; indent = r .at; columns = r .column; margin = m .column }) (shapeBehind tab size gs place)
-  unfolding shapeBehind
-  shape-is e f = rw (← e, ← f)
+  pub shape-is : m ≡ behindAll tab lineStart (glyphsBefore (place + size) gs) → r ≡ behindAll tab m (while isBlank (glyphsFrom (place + size) gs))
+      → _≡_ {A = Shape} (record { «prefix_place» = place; «indent_end» = r .at; «indent_length» = r .column; «prefix_length» = m .column }) (shapeAt tab size gs place)
+  unfolding shapeAt
+  shape-is e f =
+      let front = glyphsBefore (place + size) gs in
+      let blanks = while isBlank (glyphsFrom (place + size) gs) in
+      let f′ : r ≡ record { at = extent (front ++ blanks); column = columnsOf tab 0 (front ++ blanks) } =
+      f ∙ ap (λ (x : Spot). behindAll tab x blanks) e ∙ sym (behind-append tab lineStart front blanks) ∙ from-start tab (front ++ blanks) in
+      rw (e ∙ from-start tab front, f′)
 
 -- without a prefix
 pub shape-bare : (tab : ℕ) (gs : List Glyph) (r : Spot) → r ≡ behindAll tab lineStart (while isBlank gs)
-    → _≡_ {A = Shape} (record { prefix = 0; indent = r .at; columns = r .column; margin = 0 }) (shapeBehind tab 0 gs 0)
+    → _≡_ {A = Shape} (record { «prefix_place» = 0; «indent_end» = r .at; «indent_length» = r .column; «prefix_length» = 0 }) (shapeAt tab 0 gs 0)
 shape-bare tab gs r e = shape-is tab 0 gs 0 lineStart r (rw upTo-zero (behind-none tab lineStart)) (rw from-zero e)
 
 -- ---- classes
@@ -55,14 +51,14 @@ shape-bare tab gs r e = shape-is tab 0 gs 0 lineStart r (rw upTo-zero (behind-no
 -- a prefix that is found, and the spots at its end and behind the blanks there
 module _ (glue : Bool) (tab size place : ℕ) (line : List ℕ) (m r : Spot) (f : Found)
     (found : f ≡ At place) (b : BehindPlace glue tab line (place + size) m) (w : BehindBlanks glue tab line m r) where
-  blank-behind : every isBlank (from (place + size) (glyphs glue line)) ≡ eqb (r .at) (length line)
+  blank-behind : every isBlank (glyphsFrom (place + size) (glyphs glue line)) ≡ eqb (r .at) (length line)
   blank-behind = rw (← b .rest) (w .blank)
 
   pub class-ended : r .at ≡ length line → Plain ≡ classAt tab size (glyphs glue line) f
   class-ended h = rw (found, blank-behind, eq-eqb (r .at) (length line) h)
 
   pub class-shaped : (r .at ≡ length line → ⊥)
-      → Formatted (record { prefix = place; indent = r .at; columns = r .column; margin = m .column }) ≡ classAt tab size (glyphs glue line) f
+      → Formatted (record { «prefix_place» = place; «indent_end» = r .at; «indent_length» = r .column; «prefix_length» = m .column }) ≡ classAt tab size (glyphs glue line) f
   class-shaped h =
       rw (found, blank-behind, ne-eqb (r .at) (length line) h)
       (ap Formatted (shape-is tab size (glyphs glue line) place m r (b .spot) (rw (b .rest) at (w .spot))))
@@ -84,23 +80,23 @@ module _ (o : Opts) (line : List ℕ) where
         where
           pick : (f : Found) → Plain ≡ classBehind o line (glyphs (o .glue) line) f
           pick Nowhere = refl
-          pick (At place) = rw (e, or-true (every isBlank (from (place + sizeOf (o .prefix)) (glyphs (o .glue) line))))
+          pick (At place) = rw (e, or-true (every isBlank (glyphsFrom (place + prefixSize (o .prefix)) (glyphs (o .glue) line))))
 
       module _ (unskipped : somewhere (skipFound (o .exactSkip) (o .skip) line (glyphs (o .glue) line)) ≡ false) where
-        class-prefixed : classAt (o .tab) (sizeOf (o .prefix)) (glyphs (o .glue) line) (prefixFound (o .exactPrefix) (o .prefix) line (glyphs (o .glue) line)) ≡ classify o line
+        class-prefixed : classAt (o .tab) (prefixSize (o .prefix)) (glyphs (o .glue) line) (prefixFound (o .exactPrefix) (o .prefix) line (glyphs (o .glue) line)) ≡ classify o line
         unfolding classify
         class-prefixed = rw (ink, good) (pick (prefixFound (o .exactPrefix) (o .prefix) line (glyphs (o .glue) line)))
           where
-            pick : (f : Found) → classAt (o .tab) (sizeOf (o .prefix)) (glyphs (o .glue) line) f ≡ classBehind o line (glyphs (o .glue) line) f
+            pick : (f : Found) → classAt (o .tab) (prefixSize (o .prefix)) (glyphs (o .glue) line) f ≡ classBehind o line (glyphs (o .glue) line) f
             pick Nowhere = refl
-            pick (At place) = rw (unskipped, or-false (every isBlank (from (place + sizeOf (o .prefix)) (glyphs (o .glue) line))), shape-at o (glyphs (o .glue) line) place)
+            pick (At place) = rw (unskipped, or-false (every isBlank (glyphsFrom (place + prefixSize (o .prefix)) (glyphs (o .glue) line))))
 
-        class-with : (t : Text) → o .prefix ≡ t → classAt (o .tab) (sizeOf t) (glyphs (o .glue) line) (prefixFound (o .exactPrefix) t line (glyphs (o .glue) line)) ≡ classify o line
-        class-with t h = ap (λ (u : Text). classAt (o .tab) (sizeOf u) (glyphs (o .glue) line) (prefixFound (o .exactPrefix) u line (glyphs (o .glue) line))) (sym h) ∙ class-prefixed
+        class-with : (t : Text) → o .prefix ≡ t → classAt (o .tab) (prefixSize t) (glyphs (o .glue) line) (prefixFound (o .exactPrefix) t line (glyphs (o .glue) line)) ≡ classify o line
+        class-with t h = ap (λ (u : Text). classAt (o .tab) (prefixSize u) (glyphs (o .glue) line) (prefixFound (o .exactPrefix) u line (glyphs (o .glue) line))) (sym h) ∙ class-prefixed
 
         -- without a prefix, from the spot behind the line's first blanks
         pub class-bare : (r : Spot) → o .prefix ≡ absent → r ≡ behindAll (o .tab) lineStart (while isBlank (glyphs (o .glue) line))
-            → Formatted (record { prefix = 0; indent = r .at; columns = r .column; margin = 0 }) ≡ classify o line
+            → Formatted (record { «prefix_place» = 0; «indent_end» = r .at; «indent_length» = r .column; «prefix_length» = 0 }) ≡ classify o line
         class-bare r h e = ap Formatted (shape-bare (o .tab) (glyphs (o .glue) line) r e) ∙ rw (from-zero (glyphs (o .glue) line), ink) at (class-with absent h)
 
         pub class-given : (p : List ℕ) (k : Class) → o .prefix ≡ given p

@@ -18,7 +18,7 @@ use Rattle.text.proofs.Blanks.{damaged-ink}
 use Rattle.text.specs.declared.Found.{Found}
 use Rattle.text.specs.declared.Found.the-variants.{At, Nowhere}
 use Rattle.options.specs.Opts.{Opts}
-use Rattle.lines.specs.Classes.{upTo, from, prefixFound, sizeOf, skipFound, somewhere, shapeAt, classBehind, classify}
+use Rattle.lines.specs.Classes.{glyphsBefore, glyphsFrom, prefixFound, prefixSize, skipFound, somewhere, shapeAt, classBehind, classify}
 use Rattle.lines.specs.declared.Shape.{Shape}
 use Rattle.lines.specs.declared.Class.the-variants.{Blank, Plain, Formatted}
 
@@ -32,68 +32,68 @@ damaged-plain o line e = rw (damaged-ink (o .glue) (glyphs (o .glue) line) (glyp
 
 -- ---- the glyphs before a place and from it on
 
-pub upTo-from : (place : ℕ) (gs : List Glyph) → upTo place gs ++ from place gs ≡ gs
-unfolding upTo from
+pub upTo-from : (place : ℕ) (gs : List Glyph) → glyphsBefore place gs ++ glyphsFrom place gs ≡ gs
+unfolding glyphsBefore glyphsFrom
 upTo-from place [] = refl
 upTo-from place (g ∷ gs) = go (eqb place 0) (upTo-from (place - length (g .bytes)) gs)
   where
-    go : (t : Bool) → upTo (place - length (g .bytes)) gs ++ from (place - length (g .bytes)) gs ≡ gs
-        → elim t as (λ b. List Glyph) [ true ↦ [] | false ↦ g ∷ upTo (place - length (g .bytes)) gs ]
-        ++ elim t as (λ b. List Glyph) [ true ↦ g ∷ gs | false ↦ from (place - length (g .bytes)) gs ]
+    go : (t : Bool) → glyphsBefore (place - length (g .bytes)) gs ++ glyphsFrom (place - length (g .bytes)) gs ≡ gs
+        → elim t as (λ b. List Glyph) [ true ↦ [] | false ↦ g ∷ glyphsBefore (place - length (g .bytes)) gs ]
+        ++ elim t as (λ b. List Glyph) [ true ↦ g ∷ gs | false ↦ glyphsFrom (place - length (g .bytes)) gs ]
         ≡ g ∷ gs
     go true h = refl
     go false h = ap (λ (l : List Glyph). g ∷ l) h
 
-from-start : (gs : List Glyph) → from 0 gs ≡ gs
-unfolding from
+from-start : (gs : List Glyph) → glyphsFrom 0 gs ≡ gs
+unfolding glyphsFrom
 from-start [] = refl
 from-start (g ∷ gs) = refl
 
 -- from where some glyphs end: the glyphs behind them
-from-extent : (glue : Bool) (front rest : List Glyph) → All (Sound glue) front → from (extent front) (front ++ rest) ≡ rest
-unfolding extent from
+from-extent : (glue : Bool) (front rest : List Glyph) → All (Sound glue) front → glyphsFrom (extent front) (front ++ rest) ≡ rest
+unfolding extent glyphsFrom
 from-extent glue [] rest s = from-start rest
 from-extent glue (g ∷ front) rest s =
     let h = s .0 .some in
     let k : length (g .bytes) + extent front - length (g .bytes) ≡ extent front = omega arith in
-    rw (from, ne-eqb (length (g .bytes) + extent front) 0 (λ e. omega arith), k) (from-extent glue front rest (s .1))
+    rw (glyphsFrom, ne-eqb (length (g .bytes) + extent front) 0 (λ e. omega arith), k) (from-extent glue front rest (s .1))
 
 -- ---- a formatted line
 
 -- what is at or behind the indent's end: the glyphs behind the prefix without their leading blanks
 from-indent : (o : Opts) (line : List ℕ) (place : ℕ)
-    → (let gs = glyphs (o .glue) line in from (shapeAt o gs place .indent) gs ≡ behind isBlank (from (place + sizeOf (o .prefix)) gs))
+    → (let gs = glyphs (o .glue) line in glyphsFrom (shapeAt (o .tab) (prefixSize (o .prefix)) gs place .«indent_end») gs ≡ behind isBlank (glyphsFrom (place + prefixSize (o .prefix)) gs))
 unfolding shapeAt
 from-indent o line place =
     let gs = glyphs (o .glue) line in
-    let end = place + sizeOf (o .prefix) in
-    let rest = from end gs in
-    let parts : upTo end gs ++ while isBlank rest ++ behind isBlank rest ≡ gs = append-assoc (upTo end gs) (while isBlank rest) (behind isBlank rest) ∙ rw while-behind (upTo-from end gs) in
-    let sound : All (Sound (o .glue)) (upTo end gs ++ while isBlank rest) = all-front _ (upTo end gs ++ while isBlank rest) (behind isBlank rest) (rw parts (glyphs-sound (o .glue) line)) in
-    ap (from (extent (upTo end gs ++ while isBlank rest))) (sym parts) ∙ from-extent (o .glue) _ (behind isBlank rest) sound
+    let end = place + prefixSize (o .prefix) in
+    let rest = glyphsFrom end gs in
+    let parts : glyphsBefore end gs ++ while isBlank rest ++ behind isBlank rest ≡ gs = append-assoc (glyphsBefore end gs) (while isBlank rest) (behind isBlank rest) ∙ rw while-behind (upTo-from end gs) in
+    let sound : All (Sound (o .glue)) (glyphsBefore end gs ++ while isBlank rest) = all-front _ (glyphsBefore end gs ++ while isBlank rest) (behind isBlank rest) (rw parts (glyphs-sound (o .glue) line)) in
+    ap (glyphsFrom (extent (glyphsBefore end gs ++ while isBlank rest))) (sym parts) ∙ from-extent (o .glue) _ (behind isBlank rest) sound
 
 pub formatted-ink : (o : Opts) (line : List ℕ) (s : Shape) → classify o line ≡ Formatted s
-    → (every isBlank (glyphs (o .glue) line) ≡ false) × (every isBlank (from (s .indent) (glyphs (o .glue) line)) ≡ false)
+    → (every isBlank (glyphs (o .glue) line) ≡ false) × (every isBlank (glyphsFrom (s .«indent_end») (glyphs (o .glue) line)) ≡ false)
 unfolding classify
 formatted-ink o line s e = blank (every isBlank gs) (every isGood gs) (prefixFound (o .exactPrefix) (o .prefix) line gs) e
   where
     gs : List Glyph
     gs = glyphs (o .glue) line
 
-    behind-prefix : (place : ℕ) (b c : Bool) → every isBlank (from (place + sizeOf (o .prefix)) gs) ≡ b → cond (b || c) Plain (Formatted (shapeAt o gs place)) ≡ Formatted s
-        → every isBlank (from (s .indent) gs) ≡ false
+    behind-prefix : (place : ℕ) (b c : Bool) → every isBlank (glyphsFrom (place + prefixSize (o .prefix)) gs) ≡ b → cond (b || c) Plain (Formatted (shapeAt (o .tab) (prefixSize (o .prefix)) gs place)) ≡ Formatted s
+        → every isBlank (glyphsFrom (s .«indent_end») gs) ≡ false
     behind-prefix place true c h e = cc
     behind-prefix place false true h e = cc
     behind-prefix place false false h e =
-        let k : shapeAt o gs place ≡ s = cc in
-        ap (λ (t : Shape). every isBlank (from (t .indent) gs)) (sym k) ∙ ap (every isBlank) (from-indent o line place) ∙ every-behind isBlank (from (place + sizeOf (o .prefix)) gs) ∙ h
+        let k : shapeAt (o .tab) (prefixSize (o .prefix)) gs place ≡ s = cc in
+        ap (λ (t : Shape). every isBlank (glyphsFrom (t .«indent_end») gs)) (sym k) ∙ ap (every isBlank) (from-indent o line place) ∙ every-behind isBlank (glyphsFrom (place + prefixSize (o .prefix)) gs) ∙ h
 
-    found : (f : Found) → classBehind o line gs f ≡ Formatted s → every isBlank (from (s .indent) gs) ≡ false
+    found : (f : Found) → classBehind o line gs f ≡ Formatted s → every isBlank (glyphsFrom (s .«indent_end») gs) ≡ false
     found Nowhere e = cc
     found (At place) e = behind-prefix place _ (somewhere (skipFound (o .exactSkip) (o .skip) line gs)) refl e
 
     blank : (b g : Bool) (f : Found) → cond b Blank (cond g (classBehind o line gs f) Plain) ≡ Formatted s
-        → (b ≡ false) × (every isBlank (from (s .indent) gs) ≡ false)
+        → (b ≡ false) × (every isBlank (glyphsFrom (s .«indent_end») gs) ≡ false)
     blank true g f e = (cc, cc)
     blank false true f e = (refl, found f e)
     blank false false f e = (refl, cc)

@@ -17,7 +17,7 @@ use Rattle.lists.proofs.Views.{drop-none}
 use Rattle.lists.proofs.RunsAt.{while-within, while-front, run-past, run-end, run-more}
 use Rattle.text.proofs.Rows.{allAt, all-each}
 use Rattle.lines.specs.Lines.{noFeed, body, withoutReturn, firstLine, linesOf}
-use Rattle.lines.specs.Contracts.Places.{extentOf}
+use Rattle.lines.specs.Contracts.Places.{lengthsOf}
 use Rattle.lines.specs.declared.Extent.{Extent}
 
 -- ---- the body
@@ -101,12 +101,12 @@ return-front (x ∷ y ∷ xs) = ap (λ (l : List ℕ). x ∷ l) (return-front (y
 -- ---- the first line
 
 module _ (s : List ℕ) (n : ℕ) (ends : n ≡ length (body s)) where
-  pub line-last : n ≡ length s → _≡_ {A = Extent} (record { text = n; whole = n }) (extentOf (firstLine s))
-  unfolding extentOf firstLine
+  pub line-last : n ≡ length s → _≡_ {A = Extent} (record { text = n; whole = n }) (lengthsOf (firstLine s))
+  unfolding lengthsOf firstLine
   line-last h = rw (le-ltb (length (body s)) (length s) (omega arith), take-all (suc (length (body s))) s (omega arith), ← ends, ← h)
 
-  pub line-fed : (t : ℕ) → n < length s → t ≡ length (withoutReturn (take n s)) → _≡_ {A = Extent} (record { text = t; whole = n + 1 }) (extentOf (firstLine s))
-  unfolding extentOf firstLine
+  pub line-fed : (t : ℕ) → n < length s → t ≡ length (withoutReturn (take n s)) → _≡_ {A = Extent} (record { text = t; whole = n + 1 }) (lengthsOf (firstLine s))
+  unfolding lengthsOf firstLine
   line-fed t h e =
       let b : body s ≡ take n s = body-front s ∙ ap (λ (k : ℕ). take k s) (sym ends) in
       rw (lt-ltb (length (body s)) (length s) (omega arith), length-take-le (suc (length (body s))) s (omega arith), ← ends, b, ← e, add-one)
@@ -146,12 +146,12 @@ raw-count : (s : List ℕ) → length (firstLine s .raw) ≡ min (suc (length (b
 unfolding firstLine
 raw-count s = length-take (suc (length (body s))) s
 
-whole-is : (s : List ℕ) (e : Extent) → e ≡ extentOf (firstLine s) → length (firstLine s .raw) ≡ e .whole
-unfolding extentOf
+whole-is : (s : List ℕ) (e : Extent) → e ≡ lengthsOf (firstLine s) → length (firstLine s .raw) ≡ e .whole
+unfolding lengthsOf
 whole-is s e h = rw h
 
-pub lengths : (s : List ℕ) (e : Extent) → e ≡ extentOf (firstLine s) → Lengths s e
-unfolding extentOf
+pub lengths : (s : List ℕ) (e : Extent) → e ≡ lengthsOf (firstLine s) → Lengths s e
+unfolding lengthsOf
 lengths s e h =
     let b = body-within s in
     let r = raw-count s in
@@ -179,7 +179,7 @@ module _ (notes : List ℕ) (at : ℕ) where
   lines-past h = rw (drop-none 0 notes at h) (each-nil _ _)
 
   -- from the answer of first_line
-  pub line-here : (e : Extent) → at < length notes → e ≡ extentOf (firstLine (drop at notes)) → LineHere notes at e
+  pub line-here : (e : Extent) → at < length notes → e ≡ lengthsOf (firstLine (drop at notes)) → LineHere notes at e
   line-here e h q =
       let l = lengths (drop at notes) e q in
       let d : length (drop at notes) ≡ length notes - at = length-drop at notes in

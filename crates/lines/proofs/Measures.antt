@@ -12,7 +12,7 @@ use Rattle.lists.specs.Runs.{while, every}
 use Rattle.lists.proofs.Runs.{while-more, every-more}
 use Rattle.text.specs.Characters.{widthOf, Glyph, glyph, glyphs, isBlank, extent}
 use Rattle.text.proofs.Glyphs.{Here, DamagedHere}
-use Rattle.lines.specs.Classes.{upTo, from, nextStop, columnBehind, columnsOf}
+use Rattle.lines.specs.Classes.{glyphsBefore, glyphsFrom, nextStop, columnBehind, columnsOf}
 use Rattle.lines.specs.Contracts.Places.{Inside, behindAll, Behind}
 use Rattle.lines.specs.declared.Spot.{Spot}
 
@@ -55,24 +55,24 @@ behind-append tab m (g ∷ a) b =
 
 -- ---- before and from a place
 
-pub upTo-zero : (gs : List Glyph) → upTo 0 gs ≡ []
-unfolding upTo
+pub upTo-zero : (gs : List Glyph) → glyphsBefore 0 gs ≡ []
+unfolding glyphsBefore
 upTo-zero [] = refl
 upTo-zero (g ∷ gs) = refl
 
-pub from-zero : (gs : List Glyph) → from 0 gs ≡ gs
-unfolding from
+pub from-zero : (gs : List Glyph) → glyphsFrom 0 gs ≡ gs
+unfolding glyphsFrom
 from-zero [] = refl
 from-zero (g ∷ gs) = refl
 
 module _ (place : ℕ) (g : Glyph) (gs : List Glyph) (some : 0 < place) where
-  pub upTo-more : upTo place (g ∷ gs) ≡ g ∷ upTo (place - length (g .bytes)) gs
-  unfolding upTo
-  upTo-more = rw (ne-eqb place 0 (omega arith), upTo)
+  pub upTo-more : glyphsBefore place (g ∷ gs) ≡ g ∷ glyphsBefore (place - length (g .bytes)) gs
+  unfolding glyphsBefore
+  upTo-more = rw (ne-eqb place 0 (omega arith), glyphsBefore)
 
-  pub from-more : from place (g ∷ gs) ≡ from (place - length (g .bytes)) gs
-  unfolding from
-  from-more = rw (ne-eqb place 0 (omega arith), from)
+  pub from-more : glyphsFrom place (g ∷ gs) ≡ glyphsFrom (place - length (g .bytes)) gs
+  unfolding glyphsFrom
+  from-more = rw (ne-eqb place 0 (omega arith), glyphsFrom)
 
 -- ---- one glyph on: r is the spot behind the glyph at m
 
@@ -114,8 +114,8 @@ module _ (glue : Bool) (tab : ℕ) (line : List ℕ) (m r : Spot) (st : Behind g
     less : (place - m .at) - length (glyph glue (drop (m .at) line) .bytes) ≡ place - r .at
     less = omega (arith, st .count, st .on)
 
-    pub upTo-on : behindAll tab m (upTo (place - m .at) (glyphs glue (drop (m .at) line))) ≡ behindAll tab r (upTo (place - r .at) (glyphs glue (drop (r .at) line)))
+    pub upTo-on : behindAll tab m (glyphsBefore (place - m .at) (glyphs glue (drop (m .at) line))) ≡ behindAll tab r (glyphsBefore (place - r .at) (glyphs glue (drop (r .at) line)))
     upTo-on = rw (st .first, upTo-more (place - m .at) (glyph glue (drop (m .at) line)) (glyphs glue (drop (r .at) line)) (omega arith), less) (past _)
 
-    pub from-on : from (place - m .at) (glyphs glue (drop (m .at) line)) ≡ from (place - r .at) (glyphs glue (drop (r .at) line))
+    pub from-on : glyphsFrom (place - m .at) (glyphs glue (drop (m .at) line)) ≡ glyphsFrom (place - r .at) (glyphs glue (drop (r .at) line))
     from-on = rw (st .first, from-more (place - m .at) (glyph glue (drop (m .at) line)) (glyphs glue (drop (r .at) line)) (omega arith), less)

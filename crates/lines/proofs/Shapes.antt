@@ -16,7 +16,7 @@ use Rattle.text.specs.declared.Found.{Found}
 use Rattle.text.specs.declared.Found.the-variants.{At, Nowhere}
 use Rattle.text.proofs.Glyphs.{glyphs-past, glyphs-first}
 use Rattle.options.specs.Opts.{Opts, Text, absent, given}
-use Rattle.lines.specs.Classes.{upTo, from, prefixFound, sizeOf, skipFound, somewhere, shapeAt, classBehind, classify}
+use Rattle.lines.specs.Classes.{glyphsBefore, glyphsFrom, prefixFound, prefixSize, skipFound, somewhere, shapeAt, classBehind, classify}
 use Rattle.lines.specs.declared.Shape.{Shape}
 use Rattle.lines.specs.declared.Class.the-variants.{Blank, Plain, Formatted}
 use Rattle.lines.proofs.Prefixes.{search-within}
@@ -28,8 +28,8 @@ record Formed (o : Opts) (line : List ℕ) (s : Shape) : Type 0 where
   at : ℕ
   good : every isGood (glyphs (o .glue) line) ≡ true
   found : prefixFound (o .exactPrefix) (o .prefix) line (glyphs (o .glue) line) ≡ At at
-  text : every isBlank (from (at + sizeOf (o .prefix)) (glyphs (o .glue) line)) ≡ false
-  shape : shapeAt o (glyphs (o .glue) line) at ≡ s
+  text : every isBlank (glyphsFrom (at + prefixSize (o .prefix)) (glyphs (o .glue) line)) ≡ false
+  shape : shapeAt (o .tab) (prefixSize (o .prefix)) (glyphs (o .glue) line) at ≡ s
 
 plain-formatted : (s : Shape) → Plain ≡ Formatted s → ⊥
 plain-formatted s e = let z : _≡_ {A = ℕ} 0 1 = cc in omega arith
@@ -53,9 +53,9 @@ module _ (o : Opts) (line : List ℕ) (s : Shape) where
 
       place : (f : Found) → every isGood gs ≡ true → found ≡ f → classBehind o line gs f ≡ Formatted s → Formed o line s
       place Nowhere g e c = absurd (plain-formatted s c)
-      place (At at) g e c = end (every isBlank (from (at + sizeOf (o .prefix)) gs)) skipped refl c
+      place (At at) g e c = end (every isBlank (glyphsFrom (at + prefixSize (o .prefix)) gs)) skipped refl c
         where
-          end : (t u : Bool) → every isBlank (from (at + sizeOf (o .prefix)) gs) ≡ t → cond (t || u) Plain (Formatted (shapeAt o gs at)) ≡ Formatted s → Formed o line s
+          end : (t u : Bool) → every isBlank (glyphsFrom (at + prefixSize (o .prefix)) gs) ≡ t → cond (t || u) Plain (Formatted (shapeAt (o .tab) (prefixSize (o .prefix)) gs at)) ≡ Formatted s → Formed o line s
           end true u b k = absurd (plain-formatted s k)
           end false true b k = absurd (plain-formatted s k)
           end false false b k = record { at = at; good = g; found = e; text = b; shape = cc }
@@ -66,7 +66,7 @@ module _ (o : Opts) (line : List ℕ) (s : Shape) where
       pick false true b g c = place found g refl c
 
   -- the prefix that is found lies in the line
-  prefix-within : (t : Text) (at : ℕ) → prefixFound (o .exactPrefix) t line (glyphs (o .glue) line) ≡ At at → at + sizeOf t ≤ length line
+  prefix-within : (t : Text) (at : ℕ) → prefixFound (o .exactPrefix) t line (glyphs (o .glue) line) ≡ At at → at + prefixSize t ≤ length line
   prefix-within absent at e = let z : 0 ≡ at = cc in omega arith
   prefix-within (given p) at e = omega (arith, search-within (o .exactPrefix) (o .glue) p line 0 at e)
 
@@ -80,35 +80,35 @@ first-is glue line at g gs e = pick (ltb at (length line)) refl
 
 -- what callers may know of it
 pub record Known (o : Opts) (line : List ℕ) (s : Shape) : Type 0 where
-  pub prefix : s .prefix + sizeOf (o .prefix) ≤ length line
-  pub indent : s .indent < length line
-  pub columns : s .columns ≤ 100 * length line
-  pub margin : s .margin ≤ s .columns
+  pub prefix : s .«prefix_place» + prefixSize (o .prefix) ≤ length line
+  pub indent : s .«indent_end» < length line
+  pub columns : s .«indent_length» ≤ 100 * length line
+  pub margin : s .«prefix_length» ≤ s .«indent_length»
   pub good : every isGood (glyphs (o .glue) line) ≡ true
-  pub rest : from (s .indent) (glyphs (o .glue) line) ≡ glyphs (o .glue) (drop (s .indent) line)
-  pub ink : glyph (o .glue) (drop (s .indent) line) .blank ≡ false
+  pub rest : glyphsFrom (s .«indent_end») (glyphs (o .glue) line) ≡ glyphs (o .glue) (drop (s .«indent_end») line)
+  pub ink : glyph (o .glue) (drop (s .«indent_end») line) .blank ≡ false
 
 -- the same of the definition's shape
 module _ (o : Opts) (least : 1 ≤ o .tab) (most : o .tab ≤ 100) (line : List ℕ) (at : ℕ) (good : every isGood (glyphs (o .glue) line) ≡ true)
     (found : prefixFound (o .exactPrefix) (o .prefix) line (glyphs (o .glue) line) ≡ At at)
-    (text : every isBlank (from (at + sizeOf (o .prefix)) (glyphs (o .glue) line)) ≡ false) where
-  known-at : Known o line (shapeAt o (glyphs (o .glue) line) at)
+    (text : every isBlank (glyphsFrom (at + prefixSize (o .prefix)) (glyphs (o .glue) line)) ≡ false) where
+  known-at : Known o line (shapeAt (o .tab) (prefixSize (o .prefix)) (glyphs (o .glue) line) at)
   unfolding shapeAt
   known-at =
       let gs = glyphs (o .glue) line in
-      let end = at + sizeOf (o .prefix) in
-      let margin = upTo end gs in
-      let indent = margin ++ while isBlank (from end gs) in
-      let behindIndent = behind isBlank (from end gs) in
-      let f = behind-first isBlank (from end gs) text in
-      let whole : indent ++ behindIndent ≡ gs = append-assoc margin (while isBlank (from end gs)) behindIndent ∙ rw (while-behind isBlank (from end gs)) (upTo-from end gs) in
+      let end = at + prefixSize (o .prefix) in
+      let margin = glyphsBefore end gs in
+      let indent = margin ++ while isBlank (glyphsFrom end gs) in
+      let behindIndent = behind isBlank (glyphsFrom end gs) in
+      let f = behind-first isBlank (glyphsFrom end gs) text in
+      let whole : indent ++ behindIndent ≡ gs = append-assoc margin (while isBlank (glyphsFrom end gs)) behindIndent ∙ rw (while-behind isBlank (glyphsFrom end gs)) (upTo-from end gs) in
       let p = parted (o .glue) line indent behindIndent whole in
       let h = first-is (o .glue) line (extent indent) (f .0) (f .1) (p .rest ∙ f .2) in
       record {
-        prefix = prefix-within o line (shapeAt o gs at) (o .prefix) at found;
+        prefix = prefix-within o line (shapeAt (o .tab) (prefixSize (o .prefix)) gs at) (o .prefix) at found;
         indent = h .0;
         columns = omega (arith, rw whole at (columns-front (o .tab) least 0 indent behindIndent), columns-near (o .tab) least most (o .glue) line 0);
-        margin = columns-front (o .tab) least 0 margin (while isBlank (from end gs));
+        margin = columns-front (o .tab) least 0 margin (while isBlank (glyphsFrom end gs));
         good = good;
         rest = p .place ∙ sym (p .rest);
         ink = rw (h .1) (f .3);

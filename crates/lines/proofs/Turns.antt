@@ -13,7 +13,7 @@ use Rattle.lists.proofs.Runs.{while-end, every-more, every-end}
 use Rattle.lists.proofs.Parts.{every-nil}
 use Rattle.text.specs.Characters.{glyph, glyphs, isBlank}
 use Rattle.text.proofs.Glyphs.{Here, glyphs-past, glyphs-first}
-use Rattle.lines.specs.Classes.{upTo, from}
+use Rattle.lines.specs.Classes.{glyphsBefore, glyphsFrom}
 use Rattle.lines.specs.Contracts.Places.{Inside, lineStart, behindAll, Behind, BehindBlanks, BehindPlace}
 use Rattle.lines.specs.declared.Spot.{Spot}
 use Rattle.lines.proofs.Measures.{behind-none, upTo-zero, from-zero, blanks-on, every-on, upTo-on, from-on}
@@ -21,8 +21,8 @@ use Rattle.lines.proofs.Measures.{behind-none, upTo-zero, from-zero, bl
 -- ---- up to a place: what is left to measure from m on leads where measuring from the line's start does
 
 pub record Left (glue : Bool) (tab : ℕ) (line : List ℕ) (place : ℕ) (m : Spot) : Type 0 where
-  pub spot : behindAll tab m (upTo (place - m .at) (glyphs glue (drop (m .at) line))) ≡ behindAll tab lineStart (upTo place (glyphs glue line))
-  pub rest : from (place - m .at) (glyphs glue (drop (m .at) line)) ≡ from place (glyphs glue line)
+  pub spot : behindAll tab m (glyphsBefore (place - m .at) (glyphs glue (drop (m .at) line))) ≡ behindAll tab lineStart (glyphsBefore place (glyphs glue line))
+  pub rest : glyphsFrom (place - m .at) (glyphs glue (drop (m .at) line)) ≡ glyphsFrom place (glyphs glue line)
 
 module _ {glue : Bool} {tab : ℕ} {line : List ℕ} {place : ℕ} where
   pub left-first : Left glue tab line place lineStart

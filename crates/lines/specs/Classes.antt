@@ -13,14 +13,16 @@ use Rattle.lines.specs.declared.Shape.{Shape}
 use Rattle.lines.specs.declared.Class.{Class}
 use Rattle.lines.specs.declared.Class.the-variants.{Blank, Plain, Formatted}
 
--- the glyphs before a place, and those from it on
-unfoldable pub upTo : ℕ → List Glyph → List Glyph
-upTo place [] = []
-upTo place (g ∷ gs) = elim (eqb place 0) [ true ↦ [] | false ↦ g ∷ upTo (place - length (g .bytes)) gs ]
+-- Places are counted in bytes, and a line is a list of glyphs, each of one byte or more: a place cuts the list where so many bytes
+-- have gone by. Every place that is asked for below is where a glyph begins. (Inside a glyph it would count as behind it.)
+-- The glyphs before a place, and those from it on:
+unfoldable pub glyphsBefore : ℕ → List Glyph → List Glyph
+glyphsBefore place [] = []
+glyphsBefore place (g ∷ gs) = elim (eqb place 0) [ true ↦ [] | false ↦ g ∷ glyphsBefore (place - length (g .bytes)) gs ]
 
-unfoldable pub from : ℕ → List Glyph → List Glyph
-from place [] = []
-from place (g ∷ gs) = elim (eqb place 0) [ true ↦ g ∷ gs | false ↦ from (place - length (g .bytes)) gs ]
+unfoldable pub glyphsFrom : ℕ → List Glyph → List Glyph
+glyphsFrom place [] = []
+glyphsFrom place (g ∷ gs) = elim (eqb place 0) [ true ↦ g ∷ gs | false ↦ glyphsFrom (place - length (g .bytes)) gs ]
 
 -- the next tab stop behind a column: always at least one column on
 unfoldable pub nextStop : ℕ → ℕ → ℕ
@@ -47,14 +49,14 @@ search exact p xs place (g ∷ gs) =
       ]
     ]
 
--- without a prefix, its place and its length are 0
+-- the prefix's place, if it is found; without a prefix, place and length are 0
 abbrev pub prefixFound : Bool → Text → List ℕ → List Glyph → Found
 prefixFound exact absent line gs = At 0
 prefixFound exact (given p) line gs = search exact p line 0 gs
 
-abbrev pub sizeOf : Text → ℕ
-sizeOf absent = 0
-sizeOf (given p) = length p
+abbrev pub prefixSize : Text → ℕ
+prefixSize absent = 0
+prefixSize (given p) = length p
 
 -- a skip prefix that is not given is found in no line
 abbrev pub skipFound : Bool → Text → List ℕ → List Glyph → Found
@@ -65,25 +67,26 @@ abbrev pub somewhere : Found → Bool
 somewhere (At place) = true
 somewhere Nowhere = false
 
--- a formatted line, its prefix at a place: the indent ends at the first non-blank at or behind the prefix's end
-unfoldable pub shapeAt : Opts → List Glyph → ℕ → Shape
-shapeAt o gs place =
-    let end = place + sizeOf (o .prefix) in
-    let margin = upTo end gs in
-    let indent = margin ++ while isBlank (from end gs) in
+-- A formatted line with a prefix of so many bytes at a place: the indent ends at the first non-blank at or behind the prefix's end.
+-- Prefix place and indent end are places, in bytes; indent length and prefix length are columns.
+unfoldable pub shapeAt : ℕ → ℕ → List Glyph → ℕ → Shape
+shapeAt tab size gs place =
+    let end = place + size in
+    let toPrefixEnd = glyphsBefore end gs in
+    let toIndentEnd = toPrefixEnd ++ while isBlank (glyphsFrom end gs) in
     record {
-      prefix = place;
-      indent = extent indent;
-      columns = columnsOf (o .tab) 0 indent;
-      margin = columnsOf (o .tab) 0 margin;
+      «prefix_place» = place;
+      «indent_end» = extent toIndentEnd;
+      «indent_length» = columnsOf tab 0 toIndentEnd;
+      «prefix_length» = columnsOf tab 0 toPrefixEnd;
     }
 
 -- prefix not found, only blanks behind the prefix, or skip prefix found: plain; else formatted
 abbrev pub classBehind : Opts → List ℕ → List Glyph → Found → Class
 classBehind o line gs Nowhere = Plain
 classBehind o line gs (At place) =
-    cond (every isBlank (from (place + sizeOf (o .prefix)) gs) || somewhere (skipFound (o .exactSkip) (o .skip) line gs)) Plain
-    (Formatted (shapeAt o gs place))
+    cond (every isBlank (glyphsFrom (place + prefixSize (o .prefix)) gs) || somewhere (skipFound (o .exactSkip) (o .skip) line gs)) Plain
+    (Formatted (shapeAt (o .tab) (prefixSize (o .prefix)) gs place))
 
 -- the class, first that fits: all blank; a damaged character (a call with keep off has refused it); the prefixes
 unfoldable pub classify : Opts → List ℕ → Class

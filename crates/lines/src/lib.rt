@@ -9,7 +9,7 @@ ghost use Rattle.text.specs.Characters.{widthOf, glyphs, isBlank};
 ghost use Rattle.options.specs.Opts.{textOf, meant};
 ghost use Rattle.lines.specs.Lines.{body, withoutReturn, firstLine};
 ghost use Rattle.lines.specs.Classes.{nextStop, search, skipFound, somewhere, classify};
-ghost use Rattle.lines.specs.Contracts.Places.{extentOf, Lies, Usable, Inside, classAt, Behind, BehindBlanks, BehindPlace};
+ghost use Rattle.lines.specs.Contracts.Places.{lengthsOf, Lies, Usable, Inside, classAt, Behind, BehindBlanks, BehindPlace};
 use options::Options;
 use options::Part;
 use text::Char;
@@ -25,10 +25,10 @@ pub struct Extent {
 // Of a formatted line: the place of its prefix, the end of its indent (both in bytes), the indent's columns, and the columns up to
 // the prefix's end.
 pub struct Shape {
-    pub prefix: usize,
-    pub indent: usize,
-    pub columns: usize,
-    pub margin: usize,
+    pub prefix_place: usize,
+    pub indent_end: usize,
+    pub indent_length: usize,
+    pub prefix_length: usize,
 }
 
 pub enum Class {
@@ -45,7 +45,7 @@ struct Spot {
 
 // The first line of what is left of the notes.
 pub fn first_line(s: &[u8]) -> Extent
-    ensures { λ r. ⌜ r ≡ extentOf (firstLine (now (s .entry))) ⌝ }
+    ensures { λ r. ⌜ r ≡ lengthsOf (firstLine (now (s .entry))) ⌝ }
 {
     let end = body_end(s);
     let text = without_return(&s[..end]);
@@ -210,10 +210,10 @@ pub fn classify(line: &[u8], o: Options, block: &[u8]) -> Class
     let Part::Given { start, end } = prefix else {
         let lead = over_blanks(line, Spot { at: 0, column: 0 }, tab, glue);
         return Class::Formatted(Shape {
-            prefix: 0,
-            indent: lead.at,
-            columns: lead.column,
-            margin: 0,
+            prefix_place: 0,
+            indent_end: lead.at,
+            indent_length: lead.column,
+            prefix_length: 0,
         });
     };
     behind_prefix(line, &block[start..end], o.exact, tab, glue)
@@ -264,10 +264,10 @@ fn behind_prefix(line: &[u8], p: &[u8], exact: bool, tab: usize, glue: bool) -> 
         return Class::Plain;
     }
     Class::Formatted(Shape {
-        prefix: place,
-        indent: at,
-        columns: indent.column,
-        margin: margin.column,
+        prefix_place: place,
+        indent_end: at,
+        indent_length: indent.column,
+        prefix_length: margin.column,
     })
 }
 

@@ -1,48 +1,48 @@
--- A walk whose items hold what their turns take: the items joined are the list. And what each turn gives, all items have.
+-- A walk whose items hold what their strides take: the items joined are the list. And what each stride gives, all items have.
 use mathlib.Core.Path.{_≡_}
 use mathlib.Core.List.{List, [], _∷_, _++_}
 use Prim.Native.Nat.{ℕ, zero, suc, _≤_, _<_}
 use native.Mathlib.Omega.{arith}
 use lib.ListN.{length, take, drop, length-drop, take-append-drop}
-use Rattle.lists.specs.Walk.{Turn, walk, piece, each}
+use Rattle.lists.specs.Walk.{Stride, walk, piece, each}
 use Rattle.lists.specs.Runs.{joined}
 use Rattle.lists.specs.Theorems.All.{All}
 use Rattle.lists.proofs.Walk.{walk-nil, walk-step, walk-append}
 use Rattle.lists.proofs.Parts.{joined-nil, joined-cons}
 
-module _ {A B S : Type 0} (turn : S → List A → Turn B S) where
-  module _ (held : B → List A) (holds : (s : S) (xs : List A) → 0 < length xs → held (turn s xs .item) ≡ take (suc (turn s xs .more)) xs) where
-    joined-upto : (k : ℕ) (s : S) (xs : List A) → length xs ≤ k → joined held (walk turn s xs) ≡ xs
+module _ {A B S : Type 0} (stride : S → List A → Stride B S) where
+  module _ (held : B → List A) (holds : (s : S) (xs : List A) → 0 < length xs → held (stride s xs .item) ≡ take (suc (stride s xs .more)) xs) where
+    joined-upto : (k : ℕ) (s : S) (xs : List A) → length xs ≤ k → joined held (walk stride s xs) ≡ xs
     joined-upto zero s [] h = rw (walk-nil, joined-nil)
     joined-upto zero s (x ∷ xs) h = absurd (omega arith)
     joined-upto (suc k) s [] h = rw (walk-nil, joined-nil)
     joined-upto (suc k) s (x ∷ xs) h =
-        let n = turn s (x ∷ xs) .more in
+        let n = stride s (x ∷ xs) .more in
         let d = length-drop n xs in
         rw (
-          walk-step turn s (x ∷ xs) (omega arith),
+          walk-step stride s (x ∷ xs) (omega arith),
           joined-cons,
           holds s (x ∷ xs) (omega arith),
-          joined-upto k (turn s (x ∷ xs) .state) (drop n xs) (omega arith),
+          joined-upto k (stride s (x ∷ xs) .state) (drop n xs) (omega arith),
           take-append-drop n xs,
         )
 
-    pub walk-joined : (s : S) (xs : List A) → joined held (walk turn s xs) ≡ xs
+    pub walk-joined : (s : S) (xs : List A) → joined held (walk stride s xs) ≡ xs
     walk-joined s xs = joined-upto (length xs) s xs (omega arith)
 
-  -- P is what each turn gives of a list that is Fit; and behind a turn a list is Fit
+  -- P is what each stride gives of a list that is Fit; and behind a stride a list is Fit
   module _ (P : B → Type 0) (Fit : List A → Type 0) (fit-drop : (n : ℕ) (xs : List A) → Fit xs → Fit (drop n xs))
-      (gives : (s : S) (xs : List A) → 0 < length xs → Fit xs → P (turn s xs .item)) where
-    all-upto : (k : ℕ) (s : S) (xs : List A) → length xs ≤ k → Fit xs → All P (walk turn s xs)
+      (gives : (s : S) (xs : List A) → 0 < length xs → Fit xs → P (stride s xs .item)) where
+    all-upto : (k : ℕ) (s : S) (xs : List A) → length xs ≤ k → Fit xs → All P (walk stride s xs)
     all-upto zero s [] h f = rw walk-nil tt
     all-upto zero s (x ∷ xs) h f = absurd (omega arith)
     all-upto (suc k) s [] h f = rw walk-nil tt
     all-upto (suc k) s (x ∷ xs) h f =
-        let n = turn s (x ∷ xs) .more in
+        let n = stride s (x ∷ xs) .more in
         let d = length-drop n xs in
-        rw (walk-step turn s (x ∷ xs) (omega arith)) (gives s (x ∷ xs) (omega arith) f, all-upto k (turn s (x ∷ xs) .state) (drop n xs) (omega arith) (fit-drop (suc n) (x ∷ xs) f))
+        rw (walk-step stride s (x ∷ xs) (omega arith)) (gives s (x ∷ xs) (omega arith) f, all-upto k (stride s (x ∷ xs) .state) (drop n xs) (omega arith) (fit-drop (suc n) (x ∷ xs) f))
 
-    pub walk-all : (s : S) (xs : List A) → Fit xs → All P (walk turn s xs)
+    pub walk-all : (s : S) (xs : List A) → Fit xs → All P (walk stride s xs)
     walk-all s xs f = all-upto (length xs) s xs (omega arith) f
 
 -- the same of a walk without a state

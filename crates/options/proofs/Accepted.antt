@@ -15,7 +15,7 @@ use Rattle.options.specs.declared.Part.{Part}
 use Rattle.options.specs.declared.Part.the-variants.{Absent, Given}
 use Rattle.options.specs.declared.Options.{Options}
 use Rattle.options.specs.declared.Block.the-variants.{Accepted, Fault}
-use Rattle.options.specs.OptionBlock.{number, fields, firstFault, partOf, numberAt, leastWidth, fits, bit, optionsOf, settled, readBlock}
+use Rattle.options.specs.OptionBlock.{number, fields, firstFault, partOf, numberAt, leastWidth, fits, bit, optionsOf, judged, readBlock}
 use Rattle.options.proofs.Values.{number-two, text-true, prefix-true, allowed-tab, allowed-prefix}
 use Rattle.options.proofs.Given.{Value, fault-place, part-value}
 use Rattle.options.proofs.Settled.{least-width, fits-true}
@@ -99,7 +99,7 @@ module _ (block : List ℕ) where
       rule true q f a = let s : optionsOf block (fields block) ≡ o = cc in rw (← s) (kept f q)
       rule false q f a = absurd (accepted-fault o _ (sym a))
 
-      settle : (f : Found) → firstFault (fields block) ≡ f → settled block (fields block) f ≡ Accepted o → Kept block o
+      settle : (f : Found) → firstFault (fields block) ≡ f → judged block (fields block) f ≡ Accepted o → Kept block o
       settle (At place) q a = absurd (accepted-fault o place (sym a))
       settle Nowhere q a = rule (keeps block) refl q a
 
@@ -111,7 +111,7 @@ module _ (block : List ℕ) where
       rule true o a = absurd (accepted-fault o place a)
       rule false o a = let q : length block ≡ place = cc in omega arith
 
-      settle : (f : Found) → firstFault (fields block) ≡ f → settled block (fields block) f ≡ Fault place → place ≤ length block
+      settle : (f : Found) → firstFault (fields block) ≡ f → judged block (fields block) f ≡ Fault place → place ≤ length block
       settle (At p) q a =
           let s : p ≡ place = cc in
           let h = fault-place block p q in

@@ -1,10 +1,12 @@
 -- Document 01, "Option block": tagged fields, each a one-byte tag, a two-byte length and a value; the faults; width and goal.
+-- A value that is given is kept as the places in the block between which it stands, `Given start end`: so the code hands it on. A number
+-- is read there by `number (drop start block)`, and a prefix's bytes by `meant` in Opts, whose options all later sections read.
 use mathlib.Core.Bool.{Bool, true, false, cond, not, _&&_, _||_}
 use mathlib.Core.List.{List, [], _∷_}
 use Prim.Native.Nat.{ℕ, _+_, _-_, _*_, _/_, _%_, _^_, min, max}
 use lib.Dec.{leb, ltb, eqb}
 use lib.ListN.{length, getD, take, drop}
-use Rattle.lists.specs.Walk.{Turn, walk}
+use Rattle.lists.specs.Walk.{Stride, walk}
 use Rattle.lists.specs.Runs.{every}
 use Rattle.text.specs.Characters.{glyphs, isGood}
 use Rattle.text.specs.declared.Found.{Found}
@@ -34,12 +36,13 @@ sizeOf f = number (drop 1 (f .bytes))
 unfoldable pub valueOf : Field → List ℕ
 valueOf f = take (sizeOf f) (drop 3 (f .bytes))
 
--- the fields in order: each begins behind the one before it
+-- The fields in order: each begins behind the one before it, and takes its tag and, besides, two bytes of length and its value. (The walk
+-- goes on behind a faulty field too, but only the first fault counts.)
 pub record Start : Type 0 where
   pub place : ℕ
   pub previous : ℕ
 
-unfoldable pub nextField : Start → List ℕ → Turn Field Start
+unfoldable pub nextField : Start → List ℕ → Stride Field Start
 nextField s xs =
     let f : Field = record { place = s .place; previous = s .previous; bytes = xs } in
     record { item = f; more = 2 + sizeOf f; state = record { place = s .place + 3 + sizeOf f; previous = tagOf f } }
@@ -91,7 +94,7 @@ goalFrom block (Given start end) Absent = let w = number (drop start block) in m
 goalFrom block Absent (Given start end) = number (drop start block)
 goalFrom block (Given s e) (Given start end) = number (drop start block)
 
--- the least width: width alone must be at least 6
+-- the least width: width alone must be at least 6; else 1, which every width is
 abbrev pub leastWidth : Part → Part → ℕ
 leastWidth Absent goal = 1
 leastWidth (Given s e) Absent = 6
@@ -128,12 +131,13 @@ optionsOf block fs =
       skip = partOf 6 fs;
     }
 
-abbrev pub settled : List ℕ → List Field → Found → Block
-settled block fs (At place) = Fault place
-settled block fs Nowhere =
+-- a fault in a field goes before the width and goal rule
+abbrev pub judged : List ℕ → List Field → Found → Block
+judged block fs (At place) = Fault place
+judged block fs Nowhere =
     let o = optionsOf block fs in
     cond (fits (leastWidth (partOf 2 fs) (partOf 3 fs)) (o .width) (o .goal)) (Accepted o) (Fault (length block))
 
 -- the accepted options, or the fault's place: the first faulty field's start, or the block's length where the width and goal rule fails
 unfoldable pub readBlock : List ℕ → Block
-readBlock block = let fs = fields block in settled block fs (firstFault fs)
+readBlock block = let fs = fields block in judged block fs (firstFault fs)

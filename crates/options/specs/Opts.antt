@@ -29,7 +29,7 @@ pub record Opts : Type 0 where
   pub prefix : Text
   pub skip : Text
 
--- the code's options hold the prefixes as parts of the block
+-- the options as read (OptionBlock) hold the prefixes as places in the block; their bytes are what stands there
 abbrev pub textOf : List ℕ → Part → Text
 textOf block Absent = absent
 textOf block (Given start end) = given (slice start end block)

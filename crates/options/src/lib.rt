@@ -5,7 +5,7 @@ ghost use Prim.Native.Nat.{_+_, _-_, _/_, _%_, _≤_, _<_, min, max};
 ghost use lib.Dec.{eqb};
 ghost use lib.ListN.{length, getD, drop};
 ghost use Rattle.text.specs.declared.Found.the-variants.{Nowhere};
-ghost use Rattle.options.specs.OptionBlock.{number, fields, allowed, wellFormed, firstFault, partOf, numberAt, widthFrom, goalFrom, leastWidth, fits, bit, optionsOf, settled, readBlock};
+ghost use Rattle.options.specs.OptionBlock.{number, fields, allowed, wellFormed, firstFault, partOf, numberAt, widthFrom, goalFrom, leastWidth, fits, bit, optionsOf, judged, readBlock};
 ghost use Rattle.options.specs.Contracts.Places.{fieldAt, numberText, prefixText};
 use text::Found;
 
@@ -158,7 +158,7 @@ fn is_prefix(value: &[u8]) -> bool
 
 // The options of a block whose fields are all well formed, if they keep the width and goal rule.
 fn settle(block: &[u8]) -> Block
-    ensures { λ r. ⌜ r ≡ settled (now (block .entry)) (fields (now (block .entry))) Nowhere ⌝ }
+    ensures { λ r. ⌜ r ≡ judged (now (block .entry)) (fields (now (block .entry))) Nowhere ⌝ }
 {
     let least = least_width(part_of(block, WIDTH), part_of(block, GOAL));
     let o = options_of(block);

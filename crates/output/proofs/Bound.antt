@@ -10,7 +10,7 @@ use Rattle.records.specs.Contracts.Table.{wordsIn}
 use Rattle.records.specs.Contracts.Marks.{breaksIn}
 use Rattle.spacing.proofs.Laws.{added-most}
 use Rattle.output.specs.declared.Layout.{Layout}
-use Rattle.output.specs.Contracts.Bound.{bulk, most, mostEmitted}
+use Rattle.output.specs.Contracts.Bound.{bulk, longest, mostEmitted}
 use Rattle.output.specs.Emission.{spaceBefore, emitRest, emit}
 use Rattle.output.specs.Contracts.Sink.{Wrote}
 use Rattle.output.specs.Contracts.Writers.{marginOf, emitted}
@@ -37,7 +37,7 @@ module _ (uniform : Bool) (indent : List ℕ) where
       rw (length-append, length-append, suc-mul) (omega arith)
 
   pub emit-most : (first : List ℕ) (breaks : List Bool) (ws : List Word)
-      → length (emit uniform first indent breaks ws) ≤ most first indent ws
+      → length (emit uniform first indent breaks ws) ≤ longest first indent ws
   unfolding emit bulk
   emit-most first breaks [] = omega arith
   emit-most first breaks (w ∷ ws) = let r = rest-most false breaks ws in rw (length-append, length-append, suc-mul) (omega arith)

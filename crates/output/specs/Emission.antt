@@ -14,7 +14,8 @@ lineFeed = 10 ∷ []
 unfoldable pub spaceBefore : Bool → Bool → Word → List ℕ
 spaceBefore uniform previousPunct w = replicate (addedSpace uniform (w .newLine) (w .sentenceStart) previousPunct) 32 ++ w .blanks
 
--- the words behind the first; on a fresh line, behind a line feed and the indent, a word is bare; at the end a line feed
+-- The words behind the first; on a fresh line, behind a line feed and the indent, a word is bare; at the end a line feed. (There is a
+-- break for each of these words: the second line, with words and no break for them, is not reached.)
 unfoldable pub emitRest : Bool → List ℕ → Bool → List Bool → List Word → List ℕ
 emitRest uniform indent previousPunct breaks [] = lineFeed
 emitRest uniform indent previousPunct [] (w ∷ ws) = spaceBefore uniform previousPunct w ++ (w .text ++ emitRest uniform indent (w .endsPunct) [] ws)
@@ -22,7 +23,7 @@ emitRest uniform indent previousPunct (b ∷ bs) (w ∷ ws) =
     elim b as (λ x. List ℕ) [ true ↦ lineFeed ++ indent | false ↦ spaceBefore uniform previousPunct w ]
     ++ (w .text ++ emitRest uniform indent (w .endsPunct) bs ws)
 
--- first indent and first word; previous punct is false behind it, even if it ends so. (A paragraph has a word.)
+-- first indent and first word; previous punct is false behind it, even if it ends so. (A paragraph has a word: the first line is not reached.)
 unfoldable pub emit : Bool → List ℕ → List ℕ → List Bool → List Word → List ℕ
 emit uniform first indent breaks [] = lineFeed
 emit uniform first indent breaks (w ∷ ws) = first ++ (w .text ++ emitRest uniform indent false breaks ws)

@@ -6,8 +6,8 @@ use Prim.Native.Nat.{ℕ, suc, _<_}
 use native.Mathlib.Omega.{arith}
 use lib.ListN.{length}
 use lib.Seq.{take-append-le}
-use Rattle.lists.specs.Walk.{walk, last}
-use Rattle.lists.proofs.Walk.{walk-step, walk-append}
+use Rattle.lists.specs.Walk.{walk}
+use Rattle.lists.proofs.Walk.{last, walk-step, walk-append}
 use Rattle.options.specs.Opts.{Opts}
 use Rattle.lines.specs.Lines.{Line, linesOf}
 use Rattle.lines.specs.Theorems.Closed.{Closed}
@@ -17,7 +17,7 @@ use Rattle.lines.specs.declared.Class.{Class}
 use Rattle.lines.specs.declared.Class.the-variants.{Blank, Plain, Formatted}
 use Rattle.lines.proofs.Boundary.{lines-append, emptyLine, lines-feed}
 use Rattle.lines.proofs.Ink.{empty-blank}
-use Rattle.pieces.specs.Pieces.{Piece, blankLine, plainLine, isHeader, further, paragraphAt, pieceAs, nextPiece, pieces}
+use Rattle.pieces.specs.Pieces.{Piece, blankLine, plainLine, startsMail, further, paragraphAt, pieceAs, nextPiece, pieces}
 use Rattle.pieces.proofs.Reach.{Stops, blank-stops, plain-stops, further-le, further-append, indent-append}
 
 abbrev pub blankPiece : Line → Piece
@@ -33,7 +33,7 @@ module _ (o : Opts) where
     paragraph-append : (nextMail : Bool) (s : Shape) (k : Line) (ls : List Line) → paragraphAt o nextMail s k (ls ++ l ∷ after) ≡ paragraphAt o nextMail s k ls
     unfolding paragraphAt
     paragraph-append nextMail s k ls =
-        let mail = isHeader o nextMail s (k .text) in
+        let mail = startsMail (o .mail) nextMail s (k .text) in
         rw (further-append o l after stops mail s ls, indent-append o l after stops mail (k .text) s ls, take-append-le (further o mail s ls) ls (l ∷ after) (further-le o mail s ls))
 
     next-append : (nextMail : Bool) (ls : List Line) → 0 < length ls → nextPiece o nextMail (ls ++ l ∷ after) ≡ nextPiece o nextMail ls
@@ -54,7 +54,7 @@ module _ (o : Opts) where
       go : (c : Class) → pieceAs o nextMail k ls c .more < suc (length ls)
       go Blank = omega arith
       go Plain = omega arith
-      go (Formatted s) = let h = further-le o (isHeader o nextMail s (k .text)) s ls in omega arith
+      go (Formatted s) = let h = further-le o (startsMail (o .mail) nextMail s (k .text)) s ls in omega arith
 
   pub pieces-stop : (l : Line) (after : List Line) → Stops o l → (nextMail : Bool) (before : List Line)
       → walk (nextPiece o) nextMail (before ++ l ∷ after) ≡ walk (nextPiece o) nextMail before ++ walk (nextPiece o) (last (nextPiece o) nextMail before) (l ∷ after)

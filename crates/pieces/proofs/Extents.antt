@@ -18,7 +18,7 @@ use Rattle.lines.specs.declared.Shape.{Shape}
 use Rattle.lines.specs.declared.Class.{Class}
 use Rattle.lines.specs.declared.Class.the-variants.{Blank, Plain, Formatted}
 use Rattle.lines.proofs.Extents.{lines-some, lines-feedless}
-use Rattle.pieces.specs.Pieces.{Paragraph, Kind, Piece, blankLine, plainLine, paragraph, rowOf, isHeader, further, paragraphAt, pieceAs, nextPiece, pieces}
+use Rattle.pieces.specs.Pieces.{Paragraph, Kind, Piece, blankLine, plainLine, paragraph, rowOf, startsMail, further, paragraphAt, pieceAs, nextPiece, pieces}
 
 abbrev pub linesIn : Piece → List Line
 linesIn q = q .lines
@@ -83,7 +83,7 @@ next-rows o nextMail (l ∷ ls) h f = go (classify o (l .text)) refl
     go Blank e = tt
     go Plain e = tt
     go (Formatted s) e =
-        let n = further o (isHeader o nextMail s (l .text)) s ls in
+        let n = further o (startsMail (o .mail) nextMail s (l .text)) s ls in
         record { rows = refl; feedless = (f .0, all-take Feedless n ls (f .1)); head = l; tail = take n ls; begin = refl; shape = s; formatted = e }
 
 pub pieces-rows : (o : Opts) (notes : List ℕ) → All (OfPiece o) (pieces o notes)

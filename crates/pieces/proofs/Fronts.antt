@@ -12,7 +12,7 @@ use Rattle.lists.specs.Runs.{while}
 use Rattle.lists.proofs.Runs.{while-more, while-end}
 use Rattle.lists.proofs.Slices.{slice-is}
 use Rattle.lines.specs.Lines.{Line, noFeed, body, firstLine, linesOf}
-use Rattle.lines.specs.Contracts.Places.{extentOf}
+use Rattle.lines.specs.Contracts.Places.{lengthsOf}
 use Rattle.lines.proofs.Lines.{lines-past, line-here}
 use Rattle.pieces.specs.Contracts.Places.{taken}
 use Rattle.pieces.proofs.Following.{taken-none, taken-more}
@@ -71,24 +71,24 @@ module _ (notes : List ℕ) where
     cut-line = ap firstLine (slice-is i (w + m) notes) ∙ first-take (w + m) (drop i notes) (omega arith)
 
     cut-lines : linesOf (slice i (i + (w + m)) notes) ≡ firstLine (drop i notes) ∷ linesOf (slice (i + w) (i + w + m) notes)
-    unfolding extentOf
+    unfolding lengthsOf
     cut-lines =
         let s = take (i + (w + m)) notes in
         let l : length s ≡ i + (w + m) = length-take-le (i + (w + m)) notes (omega arith) in
-        let here = line-here s i (extentOf (firstLine (drop i s))) (omega arith) refl in
+        let here = line-here s i (lengthsOf (firstLine (drop i s))) (omega arith) refl in
         let n : i + length (firstLine (slice i (i + (w + m)) notes) .raw) ≡ i + w = rw (cut-line, raw) in
         let b : i + (w + m) ≡ i + w + m = omega arith in
         here .first ∙ ap₂ (λ (x : Line) (ys : List Line). x ∷ ys) cut-line (ap (λ (j : ℕ). linesOf (drop j s)) n ∙ ap (λ (j : ℕ). linesOf (slice (i + w) j notes)) b)
 
   pub lines-front : (k i : ℕ) → i ≤ length notes → Front notes k i (taken (take k (linesOf (drop i notes))))
-  unfolding extentOf
+  unfolding lengthsOf
   lines-front zero i h = front-none zero i h refl refl
   lines-front (suc k) i h = go (ltb i (length notes)) refl (lines-front k)
     where
       go : (t : Bool) → ltb i (length notes) ≡ t → ((j : ℕ) → j ≤ length notes → Front notes k j (taken (take k (linesOf (drop j notes))))) → Front notes (suc k) i (taken (take (suc k) (linesOf (drop i notes))))
       go false e rest = let p = lines-past notes i (ltb-false i (length notes) e) in front-none (suc k) i h (rw p) (rw p)
       go true e rest =
-          let here = line-here notes i (extentOf (firstLine (drop i notes))) (ltb-true i (length notes) e) refl in
+          let here = line-here notes i (lengthsOf (firstLine (drop i notes))) (ltb-true i (length notes) e) refl in
           let w = length (firstLine (drop i notes) .raw) in
           let f = rest (i + w) (here .within) in
           let m = taken (take k (linesOf (drop (i + w) notes))) in

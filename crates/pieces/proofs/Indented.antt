@@ -10,7 +10,7 @@ use lib.Seq.{slice}
 use borrow.Author.Tests.{ltb-true, ltb-false}
 use Rattle.options.specs.Opts.{Opts}
 use Rattle.lines.specs.Lines.{Line, firstLine, linesOf}
-use Rattle.lines.specs.Contracts.Places.{extentOf}
+use Rattle.lines.specs.Contracts.Places.{lengthsOf}
 use Rattle.lines.specs.Classes.{classify}
 use Rattle.lines.specs.declared.Shape.{Shape}
 use Rattle.lines.specs.declared.Class.the-variants.{Formatted}
@@ -57,7 +57,7 @@ module _ (o : Opts) (notes : List ℕ) (at : ℕ) (inside : at < length notes) w
         go false h = rw (two, e)
 
     joins-is : (text : List ℕ) (b : Shape) → secondOf o s rest ≡ joins text b → (o .crown || o .tagged) ≡ true → MarginFound notes at (endOf o false s notes at) (marginAt behind 0 b) (indentOf text b)
-    unfolding restAt extentOf behindAt
+    unfolding restAt lengthsOf behindAt
     joins-is text b e two = go (ltb behind (length notes)) refl
       where
         same : {x y : Line} {xs ys : List Line} → x ∷ xs ≡ y ∷ ys → x ≡ y
@@ -70,7 +70,7 @@ module _ (o : Opts) (notes : List ℕ) (at : ℕ) (inside : at < length notes) w
             absurd (omega (arith, ap length (sym p ∙ n .are)))
         go true h =
             let n = second-is o s rest text b e in
-            let l = line-here notes behind (extentOf (firstLine (drop behind notes))) (ltb-true behind (length notes) h) refl in
+            let l = line-here notes behind (lengthsOf (firstLine (drop behind notes))) (ltb-true behind (length notes) h) refl in
             let x : firstLine (drop behind notes) .text ≡ text = ap (λ (y : Line). y .text) (same (sym (l .first) ∙ n .are)) ∙ n .is in
             let k = known o text b least most (n .formatted) in
             let size : length (firstLine (drop behind notes) .text) ≡ length text = ap length x in

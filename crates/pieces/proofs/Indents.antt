@@ -13,7 +13,7 @@ use Rattle.lines.specs.Classes.{classify}
 use Rattle.lines.specs.declared.Shape.{Shape}
 use Rattle.lines.specs.declared.Class.{Class}
 use Rattle.lines.specs.declared.Class.the-variants.{Blank, Plain, Formatted}
-use Rattle.pieces.specs.Pieces.{Indent, second, alone, joins, secondAs, secondOf, indentOf, widened, noIndent}
+use Rattle.pieces.specs.Pieces.{Indent, secondRule, alone, joins, secondAs, secondOf, indentOf, widened, noIndent}
 use Rattle.pieces.specs.Contracts.Places.{marginAt, spacesAt}
 use Rattle.pieces.specs.Contracts.Bounds.{MarginWithin}
 use Rattle.pieces.specs.declared.Margin.{Margin}
@@ -36,18 +36,18 @@ widened-none i =
     rw (append-nil (i .bytes), c)
 
 module _ (notes : List ℕ) (at next : ℕ) where
-  pub margin-at : (a more : ℕ) (text : List ℕ) (s : Shape) → text ≡ slice a (a + length text) notes → s .indent ≤ length text → s .columns ≤ 6553600
+  pub margin-at : (a more : ℕ) (text : List ℕ) (s : Shape) → text ≡ slice a (a + length text) notes → s .«indent_end» ≤ length text → s .«indent_length» ≤ 6553600
       → at ≤ a → a + length text ≤ next → more ≤ 4 → MarginFound notes at next (marginAt a more s) (widened (indentOf text s) more)
   unfolding indentOf
   margin-at a more text s e i c low high m =
-      let b : slice a (a + s .indent) notes ≡ take (s .indent) text =
-      slice-is a (s .indent) notes ∙ sym (take-take (s .indent) (length text) (drop a notes) i) ∙ ap (take (s .indent)) (sym (slice-is a (length text) notes)) ∙ ap (take (s .indent)) (sym e) in
+      let b : slice a (a + s .«indent_end») notes ≡ take (s .«indent_end») text =
+      slice-is a (s .«indent_end») notes ∙ sym (take-take (s .«indent_end») (length text) (drop a notes) i) ∙ ap (take (s .«indent_end»)) (sym (slice-is a (length text) notes)) ∙ ap (take (s .«indent_end»)) (sym e) in
       record {
         is = record { bytes = ap (λ (l : List ℕ). l ++ replicate more 32) b; columns = refl };
         inside = record { low = low; order = omega arith; high = omega arith; more = m; columns = omega arith };
       }
 
-  pub margin-bare : (a : ℕ) (text : List ℕ) (s : Shape) → text ≡ slice a (a + length text) notes → s .indent ≤ length text → s .columns ≤ 6553600
+  pub margin-bare : (a : ℕ) (text : List ℕ) (s : Shape) → text ≡ slice a (a + length text) notes → s .«indent_end» ≤ length text → s .«indent_length» ≤ 6553600
       → at ≤ a → a + length text ≤ next → MarginFound notes at next (marginAt a 0 s) (indentOf text s)
   margin-bare a text s e i c low high = rw widened-none at (margin-at a 0 text s e i c low high (omega arith))
 
@@ -84,4 +84,4 @@ second-is o s (l ∷ ls) text b e = go (classify o (l .text)) refl e
     go : (k : Class) → classify o (l .text) ≡ k → secondAs o s (l .text) k ≡ joins text b → SecondIs o (l ∷ ls) text b
     go Blank k h = absurd (let z : _≡_ {A = ℕ} 0 1 = cc in omega arith)
     go Plain k h = absurd (let z : _≡_ {A = ℕ} 0 1 = cc in omega arith)
-    go (Formatted c) k h = join (second o s c) c k h
+    go (Formatted c) k h = join (secondRule (o .tagged) s c) c k h

@@ -7,7 +7,7 @@ use Prim.Native.Nat.{ℕ, suc, _+_, _≤_, _<_}
 use native.Mathlib.Omega.{arith}
 use lib.ListN.{length, take, drop}
 use lib.Seq.{slice}
-use Rattle.lists.specs.Walk.{Turn}
+use Rattle.lists.specs.Walk.{Stride}
 use Rattle.options.specs.Opts.{Opts, meant}
 use Rattle.options.specs.declared.Options.{Options}
 use Rattle.lines.specs.Lines.{Line, firstLine, linesOf}
@@ -17,7 +17,7 @@ use Rattle.lines.specs.declared.Shape.{Shape}
 use Rattle.lines.specs.declared.Class.{Class}
 use Rattle.lines.specs.declared.Class.the-variants.{Blank, Plain, Formatted}
 use Rattle.lines.proofs.Extents.{lines-feedless}
-use Rattle.pieces.specs.Pieces.{Paragraph, Kind, Piece, blankLine, plainLine, paragraph, isHeader, further, firstIndent, indentFor, rowOf, paragraphAt, pieceAs, nextPiece}
+use Rattle.pieces.specs.Pieces.{Paragraph, Kind, Piece, blankLine, plainLine, paragraph, startsMail, further, firstIndent, indentFor, rowOf, paragraphAt, pieceAs, nextPiece}
 use Rattle.pieces.specs.Contracts.Places.{taken, startAt, paragraphWith, pieceFrom, pieceAt, Cleared}
 use Rattle.pieces.specs.Contracts.Bounds.{Bounded}
 use Rattle.pieces.specs.declared.Paragraph.{Paragraph as ParagraphAt}
@@ -32,7 +32,7 @@ use Rattle.pieces.proofs.Indented.{endOf, first-is, indent-is}
 -- ---- what a piece in places means
 
 -- the turn of the pieces at a place of the notes
-abbrev pub turnAt : Opts → Bool → List ℕ → ℕ → Turn Piece Bool
+abbrev pub turnAt : Opts → Bool → List ℕ → ℕ → Stride Piece Bool
 turnAt o nextMail notes at = nextPiece o nextMail (linesOf (drop at notes))
 
 -- it gives a piece of a kind, whose lines stand from at up to next, and a state; the lines left are those behind next
@@ -78,17 +78,17 @@ module _ (o : Opts) (nextMail : Bool) (notes : List ℕ) (at : ℕ) (inside : at
   abbrev rest : List Line
   rest = restAt notes at
 
-  turn-is : (t : Turn Piece Bool) (kind : Kind) (next : ℕ) → nextPiece o nextMail (line ∷ rest) ≡ t → t .item .kind ≡ kind → t .item .lines ≡ line ∷ take (t .more) rest → Lines notes at inside (t .more) next
+  turn-is : (t : Stride Piece Bool) (kind : Kind) (next : ℕ) → nextPiece o nextMail (line ∷ rest) ≡ t → t .item .kind ≡ kind → t .item .lines ≡ line ∷ take (t .more) rest → Lines notes at inside (t .more) next
       → TurnIs o nextMail notes at kind (t .state) next
   turn-is t kind next e k ls n =
       let f = here notes at inside .first in
       let u : turnAt o nextMail notes at ≡ t = ap (nextPiece o nextMail) f ∙ e in
       record {
         some = rw f (omega arith);
-        kind-is = ap (λ (x : Turn Piece Bool). x .item .kind) u ∙ k;
-        state-is = ap (λ (x : Turn Piece Bool). x .state) u;
-        extent = ap (λ (x : Turn Piece Bool). at + taken (x .item .lines)) u ∙ ap (λ (ys : List Line). at + taken ys) ls ∙ n .count;
-        behind = ap (λ (x : Turn Piece Bool). drop (suc (x .more)) (linesOf (drop at notes))) u ∙ ap (drop (suc (t .more))) f ∙ n .more;
+        kind-is = ap (λ (x : Stride Piece Bool). x .item .kind) u ∙ k;
+        state-is = ap (λ (x : Stride Piece Bool). x .state) u;
+        extent = ap (λ (x : Stride Piece Bool). at + taken (x .item .lines)) u ∙ ap (λ (ys : List Line). at + taken ys) ls ∙ n .count;
+        behind = ap (λ (x : Stride Piece Bool). drop (suc (x .more)) (linesOf (drop at notes))) u ∙ ap (drop (suc (t .more))) f ∙ n .more;
       }
 
   as-class : (k : Class) → classify o (line .text) ≡ k → nextPiece o nextMail (line ∷ rest) ≡ pieceAs o nextMail line rest k
@@ -121,12 +121,12 @@ module _ (o : Opts) (nextMail : Bool) (notes : List ℕ) (at : ℕ) (inside : at
       rows = map (rowOf o) (line ∷ take (further o mail s rest) rest);
     }
 
-    starts-are : (mail : Bool) → mail ≡ false → AllStart o (s .indent) (startAt o mail s rest) (line ∷ take (further o mail s rest) rest)
+    starts-are : (mail : Bool) → mail ≡ false → AllStart o (s .«indent_end») (startAt o mail s rest) (line ∷ take (further o mail s rest) rest)
     starts-are true e = absurd (true≢false e)
     starts-are false e = (record { shape = s; formatted = formed; indent = refl }, further-starts o s rest)
 
-    starts-in : (mail : Bool) → mail ≡ false → AllStart o (s .indent) (startAt o mail s rest) (linesOf (slice at (endOf o mail s notes at) notes))
-    starts-in mail e = subst (AllStart o (s .indent) (startAt o mail s rest)) (lines-are notes at inside (further o mail s rest) .are) (starts-are mail e)
+    starts-in : (mail : Bool) → mail ≡ false → AllStart o (s .«indent_end») (startAt o mail s rest) (linesOf (slice at (endOf o mail s notes at) notes))
+    starts-in mail e = subst (AllStart o (s .«indent_end») (startAt o mail s rest)) (lines-are notes at inside (further o mail s rest) .are) (starts-are mail e)
 
     rows-are : (mail : Bool) → Rows o (linesOf (slice at (endOf o mail s notes at) notes)) (meant-by mail)
     unfolding meant-by
@@ -134,10 +134,10 @@ module _ (o : Opts) (nextMail : Bool) (notes : List ℕ) (at : ℕ) (inside : at
         let n = lines-are notes at inside (further o mail s rest) .are in
         record { rows = ap (map (rowOf o)) n; feedless = lines-feedless (slice at (endOf o mail s notes at) notes); head = line; tail = _; begin = sym n; shape = s; formatted = formed }
 
-    text-found : Found o nextMail notes at (Text (paragraphWith o (isHeader o nextMail s (line .text)) at behind s rest))
+    text-found : Found o nextMail notes at (Text (paragraphWith o (startsMail (o .mail) nextMail s (line .text)) at behind s rest))
     unfolding meant-by paragraphWith paragraphAt
     text-found =
-        let mail = isHeader o nextMail s (line .text) in
+        let mail = startsMail (o .mail) nextMail s (line .text) in
         let n = lines-are notes at inside (further o mail s rest) in
         let f = first-is o notes at inside least most short cleared s formed mail in
         let i = indent-is o notes at inside least most short cleared s formed mail in

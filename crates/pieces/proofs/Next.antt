@@ -13,8 +13,8 @@ use Rattle.lines.specs.Lines.{firstLine, linesOf}
 use Rattle.lines.specs.declared.Shape.{Shape}
 use Rattle.lines.specs.declared.Class.{Class}
 use Rattle.lines.specs.declared.Class.the-variants.{Blank, Plain, Formatted}
-use Rattle.pieces.specs.Pieces.{isHeader}
-use Rattle.pieces.specs.Contracts.Places.{LineIs, pieceFrom, pieceAt, paragraphWith, startsMail}
+use Rattle.pieces.specs.Pieces.{startsMail}
+use Rattle.pieces.specs.Contracts.Places.{LineIs, pieceFrom, pieceAt, paragraphWith}
 use Rattle.pieces.specs.declared.Classed.{Classed}
 use Rattle.pieces.specs.declared.Paragraph.{Paragraph}
 use Rattle.pieces.specs.declared.Piece.the-variants.{Blank as BlankAt, Plain as PlainAt, Text}
@@ -42,12 +42,12 @@ module _ (block notes : List ℕ) (o : Options) (nextMail : Bool) (at : ℕ) (li
       let n : line .end - at ≡ length (firstLine (drop at notes) .text) = omega arith in
       ap (λ (k : ℕ). take k (drop at notes)) n ∙ sym (slice-is at (length (firstLine (drop at notes) .text)) notes) ∙ ap (λ (k : ℕ). slice at k notes) (sym e) ∙ sym (here .text)
 
-  header : mail ≡ isHeader (meant block o) nextMail s (firstLine (drop at notes) .text)
-  unfolding isHeader startsMail meant
+  header : mail ≡ startsMail (meant block o .mail) nextMail s (firstLine (drop at notes) .text)
+  unfolding meant
   header = starts ∙ ap (startsMail (o .mail) nextMail s) text-part
 
   pub piece-text : (p : Paragraph) → p ≡ paragraphWith (meant block o) mail at (line .next) s (linesOf (drop (line .next) notes)) → Text p ≡ pieceAt (meant block o) nextMail notes at
   piece-text p e =
       ap Text (e ∙ ap (λ (m : Bool). paragraphWith (meant block o) m at (line .next) s (linesOf (drop (line .next) notes))) header
-      ∙ ap (λ (n : ℕ). paragraphWith (meant block o) (isHeader (meant block o) nextMail s (firstLine (drop at notes) .text)) at n s (linesOf (drop (line .next) notes))) (here .next))
+      ∙ ap (λ (n : ℕ). paragraphWith (meant block o) (startsMail (meant block o .mail) nextMail s (firstLine (drop at notes) .text)) at n s (linesOf (drop (line .next) notes))) (here .next))
       ∙ of-class (meant block o) nextMail notes at line here (Formatted s) shape

@@ -30,9 +30,9 @@ use Rattle.pieces.specs.declared.Margin.{Margin}
 -- the code's rules are those of the definition
 pub mail-rule : (block : List ℕ) (o : Options) → passesRule Mail (o .prefix) ≡ continues (meant block o)
 unfolding passesRule continues meant
-mail-rule block o = fun-ext (λ s. ap (λ (t : Bool). ltb 0 (s .indent) && t) (pick (o .prefix) s))
+mail-rule block o = fun-ext (λ s. ap (λ (t : Bool). ltb 0 (s .«indent_end») && t) (pick (o .prefix) s))
   where
-    pick : (p : Part) (s : Shape) → not (isGiven p) || ltb 0 (s .prefix) ≡ notAtStart (textOf block p) s
+    pick : (p : Part) (s : Shape) → not (isGiven p) || ltb 0 (s .«prefix_place») ≡ notAtStart (textOf block p) s
     pick Absent s = refl
     pick (Given start end) s = refl
 
@@ -79,11 +79,11 @@ indent-two o at next s ls two e = pick (o .crown || o .tagged) ∙ ap (λ (t : B
     pick true = refl
     pick false = refl
 
-start-two : (o : Opts) (s : Shape) (ls : List Line) (two : Bool) → (o .crown || o .tagged) ≡ two → startAt o false s ls ≡ cond two (laterStart s (secondOf o s ls)) (s .indent)
+start-two : (o : Opts) (s : Shape) (ls : List Line) (two : Bool) → (o .crown || o .tagged) ≡ two → startAt o false s ls ≡ cond two (laterStart s (secondOf o s ls)) (s .«indent_end»)
 unfolding startAt
-start-two o s ls two e = pick (o .crown || o .tagged) ∙ ap (λ (t : Bool). cond t (laterStart s (secondOf o s ls)) (s .indent)) e
+start-two o s ls two e = pick (o .crown || o .tagged) ∙ ap (λ (t : Bool). cond t (laterStart s (secondOf o s ls)) (s .«indent_end»)) e
   where
-    pick : (t : Bool) → elim t as (λ x. ℕ) [ true ↦ laterStart s (secondOf o s ls) | false ↦ s .indent ] ≡ cond t (laterStart s (secondOf o s ls)) (s .indent)
+    pick : (t : Bool) → elim t as (λ x. ℕ) [ true ↦ laterStart s (secondOf o s ls) | false ↦ s .«indent_end» ] ≡ cond t (laterStart s (secondOf o s ls)) (s .«indent_end»)
     pick true = refl
     pick false = refl
 
@@ -95,10 +95,10 @@ module _ (o : Opts) (notes : List ℕ) (at next : ℕ) (s : Shape) where
   mail-reach false e = rw (further-mail o s (linesOf (drop next notes)) e)
 
   pub mail-is : (r : ℕ) → r ≡ cond (o .split) next (reach o (continues o) notes next)
-      → _≡_ {A = Paragraph} (record { next = r; mail = true; first = spacesAt at 0; indent = spacesAt at 2; start = s .indent; later = s .indent })
+      → _≡_ {A = Paragraph} (record { next = r; mail = true; first = spacesAt at 0; indent = spacesAt at 2; start = s .«indent_end»; later = s .«indent_end» })
       (paragraphWith o true at next s (linesOf (drop next notes)))
   unfolding paragraphWith indentAt startAt
-  mail-is r e = ap (λ (n : ℕ). record { next = n; mail = true; first = spacesAt at 0; indent = spacesAt at 2; start = s .indent; later = s .indent }) (e ∙ mail-reach (o .split) refl)
+  mail-is r e = ap (λ (n : ℕ). record { next = n; mail = true; first = spacesAt at 0; indent = spacesAt at 2; start = s .«indent_end»; later = s .«indent_end» }) (e ∙ mail-reach (o .split) refl)
 
   module _ (bare : (o .crown || o .tagged) ≡ false) where
     plain-reach : (t : Bool) → o .split ≡ t → cond t next (reach o (agrees s) notes next) ≡ next + taken (take (further o false s (linesOf (drop next notes))) (linesOf (drop next notes)))
@@ -109,11 +109,11 @@ module _ (o : Opts) (notes : List ℕ) (at next : ℕ) (s : Shape) where
     plain-indent : marginAt at 0 s ≡ indentAt o false at next s (linesOf (drop next notes))
     plain-indent = sym (indent-two o at next s (linesOf (drop next notes)) false bare)
 
-    plain-start : s .indent ≡ startAt o false s (linesOf (drop next notes))
+    plain-start : s .«indent_end» ≡ startAt o false s (linesOf (drop next notes))
     plain-start = sym (start-two o s (linesOf (drop next notes)) false bare)
 
     pub plain-is : (r : ℕ) → r ≡ cond (o .split) next (reach o (agrees s) notes next)
-        → _≡_ {A = Paragraph} (record { next = r; mail = false; first = marginAt at 0 s; indent = marginAt at 0 s; start = s .indent; later = s .indent })
+        → _≡_ {A = Paragraph} (record { next = r; mail = false; first = marginAt at 0 s; indent = marginAt at 0 s; start = s .«indent_end»; later = s .«indent_end» })
         (paragraphWith o false at next s (linesOf (drop next notes)))
     unfolding paragraphWith
     plain-is r e = rw (← plain-reach (o .split) refl, ← plain-indent, ← plain-start, ← e)
@@ -133,7 +133,7 @@ module _ (o : Opts) (notes : List ℕ) (at next : ℕ) (s : Shape) where
     alone-is (joins text t) place e = absurd (let z : _≡_ {A = ℕ} 0 1 = cc in omega arith)
 
     pub hang-alone : (more : ℕ) → more ≡ cond (o .tagged) 4 0 → Alone ≡ secondAt o s notes next
-        → _≡_ {A = Paragraph} (record { next = next; mail = false; first = marginAt at 0 s; indent = marginAt at more s; start = s .indent; later = s .indent })
+        → _≡_ {A = Paragraph} (record { next = next; mail = false; first = marginAt at 0 s; indent = marginAt at more s; start = s .«indent_end»; later = s .«indent_end» })
         (paragraphWith o false at next s (linesOf (drop next notes)))
     unfolding paragraphWith secondAt
     hang-alone more m e =
@@ -147,19 +147,19 @@ module _ (o : Opts) (notes : List ℕ) (at next : ℕ) (s : Shape) where
     hang-count behind text u h j = let c = j .count in rw (hang-further, h, j .first, taken-more) (omega arith)
 
     pub hang-joins : (behind r : ℕ) (t : Shape) → Joins behind t ≡ secondAt o s notes next → Joined notes next behind t → r ≡ reach o (agrees t) notes behind
-        → _≡_ {A = Paragraph} (record { next = r; mail = false; first = marginAt at 0 s; indent = marginAt next 0 t; start = s .indent; later = t .indent })
+        → _≡_ {A = Paragraph} (record { next = r; mail = false; first = marginAt at 0 s; indent = marginAt next 0 t; start = s .«indent_end»; later = t .«indent_end» })
         (paragraphWith o false at next s (linesOf (drop next notes)))
     unfolding paragraphWith secondAt
     hang-joins behind r t e j q = go (secondOf o s (linesOf (drop next notes))) refl e
       where
         go : (x : Second) → secondOf o s (linesOf (drop next notes)) ≡ x → Joins behind t ≡ secondPlace (next + length (firstLine (drop next notes) .raw)) x
-            → _≡_ {A = Paragraph} (record { next = r; mail = false; first = marginAt at 0 s; indent = marginAt next 0 t; start = s .indent; later = t .indent })
+            → _≡_ {A = Paragraph} (record { next = r; mail = false; first = marginAt at 0 s; indent = marginAt next 0 t; start = s .«indent_end»; later = t .«indent_end» })
             (paragraphWith o false at next s (linesOf (drop next notes)))
         go alone h p = absurd (let z : _≡_ {A = ℕ} 0 1 = cc in omega arith)
         go (joins text u) h p =
             let ut : u ≡ t = cc in
             let i : indentAt o false at next s (linesOf (drop next notes)) ≡ marginAt next 0 t = hang-indent ∙ ap (laterAt o at next s) h ∙ ap (marginAt next 0) ut in
-            let b : startAt o false s (linesOf (drop next notes)) ≡ t .indent = hang-start ∙ ap (laterStart s) h ∙ ap (λ (x : Shape). x .indent) ut in
+            let b : startAt o false s (linesOf (drop next notes)) ≡ t .«indent_end» = hang-start ∙ ap (laterStart s) h ∙ ap (λ (x : Shape). x .«indent_end») ut in
             let n = q ∙ hang-count behind text t (h ∙ ap (joins text) ut) j in
             rw (← n, i, b)
 
@@ -175,27 +175,27 @@ cond-left false a b r e h = h
 -- the same of the code's options
 module _ (block notes : List ℕ) (o : Options) (at next : ℕ) (s : Shape) where
   pub mail-from : (r : ℕ) → r ≡ cond (o .split) next (reach (meant block o) (passesRule Mail (o .prefix)) notes next)
-      → _≡_ {A = Paragraph} (record { next = r; mail = true; first = spacesAt at 0; indent = spacesAt at 2; start = s .indent; later = s .indent })
+      → _≡_ {A = Paragraph} (record { next = r; mail = true; first = spacesAt at 0; indent = spacesAt at 2; start = s .«indent_end»; later = s .«indent_end» })
       (paragraphWith (meant block o) true at next s (linesOf (drop next notes)))
   unfolding meant
   mail-from r e = mail-is (meant block o) notes at next s r (e ∙ ap (λ (f : Shape → Bool). cond (o .split) next (reach (meant block o) f notes next)) (mail-rule block o))
 
   pub plain-from : (o .crown || o .tagged) ≡ false → (r : ℕ) → r ≡ cond (o .split) next (reach (meant block o) (passesRule (Like s) (o .prefix)) notes next)
-      → _≡_ {A = Paragraph} (record { next = r; mail = false; first = marginAt at 0 s; indent = marginAt at 0 s; start = s .indent; later = s .indent })
+      → _≡_ {A = Paragraph} (record { next = r; mail = false; first = marginAt at 0 s; indent = marginAt at 0 s; start = s .«indent_end»; later = s .«indent_end» })
       (paragraphWith (meant block o) false at next s (linesOf (drop next notes)))
   unfolding meant
   plain-from bare r e = plain-is (meant block o) notes at next s bare r (e ∙ ap (λ (f : Shape → Bool). cond (o .split) next (reach (meant block o) f notes next)) (like-rule s (o .prefix)))
 
   module _ (hangs : (o .crown || o .tagged) ≡ true) (whole : o .split ≡ false) where
     pub alone-from : (more : ℕ) → more ≡ cond (o .tagged) 4 0 → Alone ≡ secondAt (meant block o) s notes next
-        → _≡_ {A = Paragraph} (record { next = next; mail = false; first = marginAt at 0 s; indent = marginAt at more s; start = s .indent; later = s .indent })
+        → _≡_ {A = Paragraph} (record { next = next; mail = false; first = marginAt at 0 s; indent = marginAt at more s; start = s .«indent_end»; later = s .«indent_end» })
         (paragraphWith (meant block o) false at next s (linesOf (drop next notes)))
     unfolding meant
     alone-from = hang-alone (meant block o) notes at next s hangs whole
 
     pub joins-from : (behind r : ℕ) (t : Shape) → Joins behind t ≡ secondAt (meant block o) s notes next → Joined notes next behind t
         → r ≡ reach (meant block o) (passesRule (Like t) (o .prefix)) notes behind
-        → _≡_ {A = Paragraph} (record { next = r; mail = false; first = marginAt at 0 s; indent = marginAt next 0 t; start = s .indent; later = t .indent })
+        → _≡_ {A = Paragraph} (record { next = r; mail = false; first = marginAt at 0 s; indent = marginAt next 0 t; start = s .«indent_end»; later = t .«indent_end» })
         (paragraphWith (meant block o) false at next s (linesOf (drop next notes)))
     unfolding meant
     joins-from behind r t e j q =

@@ -8,7 +8,7 @@ use lib.Seq.{slice, take-all, length-slice}
 use Rattle.lists.proofs.Slices.{slice-is}
 use Rattle.options.specs.Opts.{Opts}
 use Rattle.lines.specs.Lines.{firstLine}
-use Rattle.lines.specs.Contracts.Places.{extentOf}
+use Rattle.lines.specs.Contracts.Places.{lengthsOf}
 use Rattle.lines.specs.Classes.{classify}
 use Rattle.lines.specs.declared.Extent.{Extent}
 use Rattle.lines.specs.declared.Class.{Class}
@@ -16,19 +16,19 @@ use Rattle.lines.proofs.Lines.{LineHere, line-here}
 use Rattle.pieces.specs.Contracts.Places.{LineIs}
 
 module _ (notes : List ℕ) (at : ℕ) (e : Extent) (inside : at < length notes)
-    (ends : e ≡ extentOf (firstLine (take (length notes - at) (drop at notes)))) where
-  from-here : e ≡ extentOf (firstLine (drop at notes))
-  from-here = ends ∙ ap (λ (l : List ℕ). extentOf (firstLine l)) (take-all (length notes - at) (drop at notes) (omega (arith, length-drop at notes)))
+    (ends : e ≡ lengthsOf (firstLine (take (length notes - at) (drop at notes)))) where
+  from-here : e ≡ lengthsOf (firstLine (drop at notes))
+  from-here = ends ∙ ap (λ (l : List ℕ). lengthsOf (firstLine l)) (take-all (length notes - at) (drop at notes) (omega (arith, length-drop at notes)))
 
   pub part-line : LineHere notes at e
   part-line = line-here notes at e inside from-here
 
   whole-is : e .whole ≡ length (firstLine (drop at notes) .raw)
-  unfolding extentOf
+  unfolding lengthsOf
   whole-is = ap (λ (x : Extent). x .whole) from-here
 
   text-is : e .text ≡ length (firstLine (drop at notes) .text)
-  unfolding extentOf
+  unfolding lengthsOf
   text-is = ap (λ (x : Extent). x .text) from-here
 
   pub line-is : (o : Opts) (k : Class) → k ≡ classify o (take (at + e .text - at) (drop at notes)) → LineIs o notes at (record { end = at + e .text; next = at + e .whole; class = k })

@@ -11,16 +11,12 @@ use Rattle.lines.specs.declared.Shape.{Shape}
 use Rattle.lines.specs.declared.Class.{Class}
 use Rattle.lines.specs.declared.Class.the-variants.{Blank, Plain, Formatted}
 use Rattle.lines.proofs.Lines.{lines-past}
-use Rattle.pieces.specs.Pieces.{Second, alone, joins, second, secondAs, secondOf}
-use Rattle.pieces.specs.Contracts.Places.{secondPlace, secondAt, secondRule, LineIs, Joined, SecondSound}
+use Rattle.pieces.specs.Pieces.{Second, alone, joins, secondRule, secondAs, secondOf}
+use Rattle.pieces.specs.Contracts.Places.{secondPlace, secondAt, LineIs, Joined, SecondSound}
 use Rattle.pieces.specs.declared.Second.{Second as SecondAt}
 use Rattle.pieces.specs.declared.Classed.{Classed}
 use Rattle.pieces.specs.declared.Second.the-variants.{Alone, Joins}
 use Rattle.pieces.proofs.Following.{Other}
-
-second-rule : (o : Opts) (a b : Shape) → secondRule (o .tagged) a b ≡ second o a b
-unfolding secondRule second
-second-rule o a b = refl
 
 module _ (o : Opts) (a : Shape) (notes : List ℕ) (at : ℕ) where
   pub second-past : length notes ≤ at → Alone ≡ secondAt o a notes at
@@ -44,15 +40,15 @@ module _ (o : Opts) (a : Shape) (notes : List ℕ) (at : ℕ) where
         go (Formatted s) n e = absurd n
 
     module _ (s : Shape) (shape : line .class ≡ Formatted s) where
-      shaped : secondPlace place (cond (second o a s) (joins (firstLine (drop at notes) .text) s) alone) ≡ secondAt o a notes at
+      shaped : secondPlace place (cond (secondRule (o .tagged) a s) (joins (firstLine (drop at notes) .text) s) alone) ≡ secondAt o a notes at
       shaped = ap (λ (k : Class). secondPlace place (secondAs o a (firstLine (drop at notes) .text) k)) (sym shape) ∙ second-is
 
       pub second-not : secondRule (o .tagged) a s ≡ false → Alone ≡ secondAt o a notes at
-      second-not h = ap (λ (t : Bool). secondPlace place (cond t (joins (firstLine (drop at notes) .text) s) alone)) (sym (sym (second-rule o a s) ∙ h)) ∙ shaped
+      second-not h = ap (λ (t : Bool). secondPlace place (cond t (joins (firstLine (drop at notes) .text) s) alone)) (sym h) ∙ shaped
 
       pub second-joins : secondRule (o .tagged) a s ≡ true → Joins (line .next) s ≡ secondAt o a notes at
       unfolding place
-      second-joins h = ap (λ (n : ℕ). Joins n s) (here .next) ∙ ap (λ (t : Bool). secondPlace place (cond t (joins (firstLine (drop at notes) .text) s) alone)) (sym (sym (second-rule o a s) ∙ h)) ∙ shaped
+      second-joins h = ap (λ (n : ℕ). Joins n s) (here .next) ∙ ap (λ (t : Bool). secondPlace place (cond t (joins (firstLine (drop at notes) .text) s) alone)) (sym h) ∙ shaped
 
 pub joined-of : (notes : List ℕ) (at : ℕ) (r : SecondAt) {n : ℕ} {s : Shape} → SecondSound notes at r → r ≡ Joins n s → Joined notes at n s
 joined-of notes at r h e = subst (SecondSound notes at) e h

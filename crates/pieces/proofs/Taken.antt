@@ -6,7 +6,7 @@ use native.Mathlib.Omega.{arith}
 use lib.ListN.{length, take, drop}
 use lib.Seq.{slice}
 use Rattle.lines.specs.Lines.{Line, firstLine, linesOf}
-use Rattle.lines.specs.Contracts.Places.{extentOf}
+use Rattle.lines.specs.Contracts.Places.{lengthsOf}
 use Rattle.lines.proofs.Lines.{line-here}
 use Rattle.pieces.specs.Contracts.Places.{taken}
 use Rattle.pieces.proofs.Following.{taken-none, taken-more}
@@ -33,9 +33,9 @@ module _ (notes : List ℕ) (at : ℕ) where
       pub within : behindAt ≤ length notes
 
     pub here : Here
-    unfolding lineAt restAt behindAt extentOf
+    unfolding lineAt restAt behindAt lengthsOf
     here =
-        let h = line-here notes at (extentOf (firstLine (drop at notes))) inside refl in
+        let h = line-here notes at (lengthsOf (firstLine (drop at notes))) inside refl in
         record { first = h .first; text = h .text; shorter = h .shorter; on = h .on; within = h .within }
 
     -- n lines behind the first

@@ -4,7 +4,7 @@ use mathlib.Core.List.{List, [], _∷_, _++_, map}
 use Prim.Native.Nat.{ℕ, suc, _+_}
 use lib.Dec.{leb, ltb, eqb}
 use lib.ListN.{length, take, drop, replicate}
-use Rattle.lists.specs.Walk.{Turn, walk}
+use Rattle.lists.specs.Walk.{Stride, walk}
 use Rattle.lists.specs.Runs.{while, every, begins}
 use Rattle.options.specs.Opts.{Opts, Text, absent, given}
 use Rattle.lines.specs.Lines.{Line, linesOf}
@@ -57,26 +57,26 @@ headerText line =
     begins fromWord line || (ltb (length name) (length line) && ltb 0 (length name) && every printable name)
 
 -- a mail paragraph starts here: flag set, next-mail true, indent end 0
-unfoldable pub isHeader : Opts → Bool → Shape → List ℕ → Bool
-isHeader o nextMail s line = o .mail && nextMail && eqb (s .indent) 0 && headerText line
+unfoldable pub startsMail : Bool → Bool → Shape → List ℕ → Bool
+startsMail mail nextMail s line = mail && nextMail && eqb (s .«indent_end») 0 && headerText line
 
 abbrev pub notAtStart : Text → Shape → Bool
 notAtStart absent s = true
-notAtStart (given p) s = ltb 0 (s .prefix)
+notAtStart (given p) s = ltb 0 (s .«prefix_place»)
 
 -- it continues with lines whose indent end is above 0 and, if a prefix is given, whose prefix place is above 0
 unfoldable pub continues : Opts → Shape → Bool
-continues o s = ltb 0 (s .indent) && notAtStart (o .prefix) s
+continues o s = ltb 0 (s .«indent_end») && notAtStart (o .prefix) s
 
 -- ---- plain, crown and tagged
 
 -- plain: further lines agree in indent end, prefix place, indent length and prefix length
 unfoldable pub agrees : Shape → Shape → Bool
-agrees a b = eqb (a .indent) (b .indent) && eqb (a .prefix) (b .prefix) && eqb (a .columns) (b .columns) && eqb (a .margin) (b .margin)
+agrees a b = eqb (a .«indent_end») (b .«indent_end») && eqb (a .«prefix_place») (b .«prefix_place») && eqb (a .«indent_length») (b .«indent_length») && eqb (a .«prefix_length») (b .«prefix_length»)
 
 -- crown: the second line must agree in prefix place and prefix length; tagged: and have another indent end or indent length
-unfoldable pub second : Opts → Shape → Shape → Bool
-second o a b = eqb (a .prefix) (b .prefix) && eqb (a .margin) (b .margin) && not (o .tagged && eqb (a .indent) (b .indent) && eqb (a .columns) (b .columns))
+unfoldable pub secondRule : Bool → Shape → Shape → Bool
+secondRule tagged a b = eqb (a .«prefix_place») (b .«prefix_place») && eqb (a .«prefix_length») (b .«prefix_length») && not (tagged && eqb (a .«indent_end») (b .«indent_end») && eqb (a .«indent_length») (b .«indent_length»))
 
 -- ---- how far a paragraph reaches
 
@@ -94,7 +94,7 @@ pub data Second : Type 0 where
 abbrev pub secondAs : Opts → Shape → List ℕ → Class → Second
 secondAs o a text Blank = alone
 secondAs o a text Plain = alone
-secondAs o a text (Formatted b) = cond (second o a b) (joins text b) alone
+secondAs o a text (Formatted b) = cond (secondRule (o .tagged) a b) (joins text b) alone
 
 unfoldable pub secondOf : Opts → Shape → List Line → Second
 secondOf o a [] = alone
@@ -119,7 +119,7 @@ further o mail a ls =
 -- ---- indents
 
 unfoldable pub indentOf : List ℕ → Shape → Indent
-indentOf text s = record { bytes = take (s .indent) text; columns = s .columns }
+indentOf text s = record { bytes = take (s .«indent_end») text; columns = s .«indent_length» }
 
 abbrev pub widened : Indent → ℕ → Indent
 widened i n = record { bytes = i .bytes ++ replicate n 32; columns = i .columns + n }
@@ -145,17 +145,18 @@ indentFor o mail text s ls =
 
 -- ---- pieces
 
+-- the indent end of a formatted line; a paragraph has lines of no other class, so the other two are not reached
 abbrev pub startAs : Class → ℕ
 startAs Blank = 0
 startAs Plain = 0
-startAs (Formatted s) = s .indent
+startAs (Formatted s) = s .«indent_end»
 
 unfoldable pub rowOf : Opts → Line → Row
 rowOf o l = record { text = l .text; start = startAs (classify o (l .text)) }
 
-unfoldable pub paragraphAt : Opts → Bool → Shape → Line → List Line → Turn Piece Bool
+unfoldable pub paragraphAt : Opts → Bool → Shape → Line → List Line → Stride Piece Bool
 paragraphAt o nextMail s l ls =
-    let mail = isHeader o nextMail s (l .text) in
+    let mail = startsMail (o .mail) nextMail s (l .text) in
     let n = further o mail s ls in
     let taken = l ∷ take n ls in
     let p : Paragraph = record {
@@ -167,12 +168,13 @@ paragraphAt o nextMail s l ls =
     record { item = record { kind = paragraph p; lines = taken }; more = n; state = mail }
 
 -- a blank line sets next-mail true, a plain line false; next-mail after a paragraph tells whether it was mail
-abbrev pub pieceAs : Opts → Bool → Line → List Line → Class → Turn Piece Bool
+abbrev pub pieceAs : Opts → Bool → Line → List Line → Class → Stride Piece Bool
 pieceAs o nextMail l ls Blank = record { item = record { kind = blankLine; lines = l ∷ [] }; more = 0; state = true }
 pieceAs o nextMail l ls Plain = record { item = record { kind = plainLine (l .text); lines = l ∷ [] }; more = 0; state = false }
 pieceAs o nextMail l ls (Formatted s) = paragraphAt o nextMail s l ls
 
-unfoldable pub nextPiece : Opts → Bool → List Line → Turn Piece Bool
+-- (a stride is asked of a list that has an element, so [] is not reached)
+unfoldable pub nextPiece : Opts → Bool → List Line → Stride Piece Bool
 nextPiece o nextMail [] = record { item = record { kind = blankLine; lines = [] }; more = 0; state = nextMail }
 nextPiece o nextMail (l ∷ ls) = pieceAs o nextMail l ls (classify o (l .text))
 

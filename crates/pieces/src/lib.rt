@@ -11,9 +11,9 @@ ghost use Rattle.lists.specs.Runs.{while};
 ghost use Rattle.options.specs.Opts.{meant};
 ghost use Rattle.lines.specs.Lines.{linesOf};
 ghost use Rattle.lines.specs.Contracts.Places.{Usable};
-ghost use Rattle.pieces.specs.Pieces.{headerText, agrees};
+ghost use Rattle.pieces.specs.Pieces.{headerText, startsMail, agrees, secondRule};
 ghost use Rattle.pieces.specs.Contracts.Bounds.{Bounded};
-ghost use Rattle.pieces.specs.Contracts.Places.{passesRule, secondRule, headerName, startsMail, marginAt, reach, secondAt, paragraphWith, pieceAt, Ready, Shaped, Cleared, LineIs, SecondSound};
+ghost use Rattle.pieces.specs.Contracts.Places.{passesRule, headerName, marginAt, reach, secondAt, paragraphWith, pieceAt, PieceReady, Shaped, Cleared, LineIs, SecondSound};
 
 // An indent: bytes of the notes from start up to end, then further spaces; and its columns.
 pub struct Margin {
@@ -103,7 +103,7 @@ fn mail_paragraph(
     o: Options,
     block: &[u8],
 ) -> Paragraph
-    requires { ⌜ Ready (now notes) (now block) o next ⌝ }
+    requires { ⌜ PieceReady (now notes) (now block) o next ⌝ }
     ensures { λ r. ⌜ r ≡ paragraphWith (meant (now (block .entry)) o) true at next s (linesOf (drop next (now (notes .entry)))) ⌝ }
 {
     let bare = Margin {
@@ -123,8 +123,8 @@ fn mail_paragraph(
         mail: true,
         first: bare,
         indent: two,
-        start: s.indent,
-        later: s.indent,
+        start: s.indent_end,
+        later: s.indent_end,
     }
 }
 
@@ -137,7 +137,7 @@ fn plain_paragraph(
     o: Options,
     block: &[u8],
 ) -> Paragraph
-    requires { ⌜ Ready (now notes) (now block) o next × Shaped (now notes) at s × ((o .crown || o .tagged) ≡ false) ⌝ }
+    requires { ⌜ PieceReady (now notes) (now block) o next × Shaped (now notes) at s × ((o .crown || o .tagged) ≡ false) ⌝ }
     ensures { λ r. ⌜ r ≡ paragraphWith (meant (now (block .entry)) o) false at next s (linesOf (drop next (now (notes .entry)))) ⌝ }
 {
     Paragraph {
@@ -145,8 +145,8 @@ fn plain_paragraph(
         mail: false,
         first: margin_at(at, 0, s),
         indent: margin_at(at, 0, s),
-        start: s.indent,
-        later: s.indent,
+        start: s.indent_end,
+        later: s.indent_end,
     }
 }
 
@@ -159,7 +159,7 @@ fn hanging_paragraph(
     o: Options,
     block: &[u8],
 ) -> Paragraph
-    requires { ⌜ Ready (now notes) (now block) o next × Shaped (now notes) at s × ((o .crown || o .tagged) ≡ true) × (o .split ≡ false) ⌝ }
+    requires { ⌜ PieceReady (now notes) (now block) o next × Shaped (now notes) at s × ((o .crown || o .tagged) ≡ true) × (o .split ≡ false) ⌝ }
     ensures { λ r. ⌜ r ≡ paragraphWith (meant (now (block .entry)) o) false at next s (linesOf (drop next (now (notes .entry)))) ⌝ }
 {
     let Second::Joins {
@@ -173,8 +173,8 @@ fn hanging_paragraph(
             mail: false,
             first: margin_at(at, 0, s),
             indent: margin_at(at, more, s),
-            start: s.indent,
-            later: s.indent,
+            start: s.indent_end,
+            later: s.indent_end,
         };
     };
     Paragraph {
@@ -182,14 +182,14 @@ fn hanging_paragraph(
         mail: false,
         first: margin_at(at, 0, s),
         indent: margin_at(next, 0, shape),
-        start: s.indent,
-        later: shape.indent,
+        start: s.indent_end,
+        later: shape.indent_end,
     }
 }
 
 // The line that begins at a place: the end of its text, the place behind it, and its class.
 fn line_at(notes: &[u8], at: usize, o: Options, block: &[u8]) -> Classed
-    requires { ⌜ Ready (now notes) (now block) o at × (at < length (now notes)) ⌝ }
+    requires { ⌜ PieceReady (now notes) (now block) o at × (at < length (now notes)) ⌝ }
     ensures { λ r. ⌜ LineIs (meant (now (block .entry)) o) (now (notes .entry)) at r ⌝ }
 {
     let e = lines::first_line(&notes[at..]);
@@ -213,7 +213,7 @@ fn further_spaces(tagged: bool) -> usize
 
 // The second line, if it is there and joins.
 fn second_line(notes: &[u8], at: usize, s: Shape, o: Options, block: &[u8]) -> Second
-    requires { ⌜ Ready (now notes) (now block) o at ⌝ }
+    requires { ⌜ PieceReady (now notes) (now block) o at ⌝ }
     ensures { λ r. ⌜ (r ≡ secondAt (meant (now (block .entry)) o) s (now (notes .entry)) at) × SecondSound (now (notes .entry)) at r ⌝ }
 {
     if notes.len() <= at {
@@ -235,7 +235,7 @@ fn second_line(notes: &[u8], at: usize, s: Shape, o: Options, block: &[u8]) -> S
 
 // The place behind the lines that join by a rule. Split: one line each.
 fn further(notes: &[u8], at: usize, rule: Rule, o: Options, block: &[u8]) -> usize
-    requires { ⌜ Ready (now notes) (now block) o at ⌝ }
+    requires { ⌜ PieceReady (now notes) (now block) o at ⌝ }
     ensures { λ r. ⌜ (r ≡ cond (o .split) at (reach (meant (now (block .entry)) o) (passesRule rule (o .prefix)) (now (notes .entry)) at)) × (r ≤ length (now (notes .entry))) ⌝ }
 {
     if o.split {
@@ -245,7 +245,7 @@ fn further(notes: &[u8], at: usize, rule: Rule, o: Options, block: &[u8]) -> usi
 }
 
 fn follow(notes: &[u8], at: usize, rule: Rule, o: Options, block: &[u8]) -> usize
-    requires { ⌜ Ready (now notes) (now block) o at ⌝ }
+    requires { ⌜ PieceReady (now notes) (now block) o at ⌝ }
     ensures { λ r. ⌜ (r ≡ reach (meant (now (block .entry)) o) (passesRule rule (o .prefix)) (now (notes .entry)) at) × (r ≤ length (now (notes .entry))) ⌝ }
 {
     let prefix = o.prefix;
@@ -266,14 +266,14 @@ fn follow(notes: &[u8], at: usize, rule: Rule, o: Options, block: &[u8]) -> usiz
 
 // The indent of a line of a shape that begins at a place, with further spaces.
 fn margin_at(at: usize, more: usize, s: Shape) -> Margin
-    requires { ⌜ (at + s .indent < 2 ^ 32) × (s .columns + more < 2 ^ 32) ⌝ }
+    requires { ⌜ (at + s .«indent_end» < 2 ^ 32) × (s .«indent_length» + more < 2 ^ 32) ⌝ }
     ensures { λ r. ⌜ r ≡ marginAt at more s ⌝ }
 {
     Margin {
         start: at,
-        end: at + s.indent,
+        end: at + s.indent_end,
         more,
-        columns: s.columns + more,
+        columns: s.indent_length + more,
     }
 }
 
@@ -287,7 +287,7 @@ fn starts_mail(line: &[u8], mail: bool, next_mail: bool, s: Shape) -> bool
     if !next_mail {
         return false;
     }
-    if s.indent != 0 {
+    if s.indent_end != 0 {
         return false;
     }
     is_header(line)
@@ -336,35 +336,35 @@ fn name_end(line: &[u8]) -> usize
 fn agree(a: Shape, b: Shape) -> bool
     ensures { λ r. ⌜ r ≡ agrees a b ⌝ }
 {
-    if a.indent != b.indent {
+    if a.indent_end != b.indent_end {
         return false;
     }
-    if a.prefix != b.prefix {
+    if a.prefix_place != b.prefix_place {
         return false;
     }
-    if a.columns != b.columns {
+    if a.indent_length != b.indent_length {
         return false;
     }
-    a.margin == b.margin
+    a.prefix_length == b.prefix_length
 }
 
 // Crown: the second line agrees in prefix place and prefix length; tagged: and has another indent.
 fn is_second(tagged: bool, a: Shape, b: Shape) -> bool
     ensures { λ r. ⌜ r ≡ secondRule tagged a b ⌝ }
 {
-    if a.prefix != b.prefix {
+    if a.prefix_place != b.prefix_place {
         return false;
     }
-    if a.margin != b.margin {
+    if a.prefix_length != b.prefix_length {
         return false;
     }
     if !tagged {
         return true;
     }
-    if a.indent != b.indent {
+    if a.indent_end != b.indent_end {
         return true;
     }
-    a.columns != b.columns
+    a.indent_length != b.indent_length
 }
 
 // Whether a line of a shape joins by a rule.
@@ -374,13 +374,13 @@ fn passes(rule: Rule, prefix: Part, s: Shape) -> bool
     match rule {
         Rule::Like(a) => agree(a, s),
         Rule::Mail => {
-            if s.indent == 0 {
+            if s.indent_end == 0 {
                 return false;
             }
             let Part::Given { start: _, end: _ } = prefix else {
                 return true;
             };
-            0 < s.prefix
+            0 < s.prefix_place
         }
     }
 }

@@ -17,7 +17,7 @@ quickFrom g column previousPunct (w ∷ ws) =
       | false ↦ false ∷ quickFrom g reached (w .endsPunct) ws
     ]
 
--- the first indent and the first word; previous punct false, even if that word ends so
+-- the first indent and the first word; previous punct false, even if that word ends so. (A paragraph has a word: [] is not reached.)
 unfoldable pub quickBreaks : Setting → List Word → List Bool
 quickBreaks g [] = []
 quickBreaks g (w ∷ ws) = quickFrom g (g .first + w .width) false ws

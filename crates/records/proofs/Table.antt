@@ -18,11 +18,11 @@ use Rattle.records.specs.declared.Before.{Before}
 use Rattle.records.specs.declared.Before.the-variants.{Absent, Count}
 use Rattle.records.specs.declared.Word.{Word as Record}
 use Rattle.records.specs.Word.{meaning}
-use Rattle.records.specs.Contracts.Table.{number, numberOf, beforeOf, marksOf, numbersOf, stored, wordIn, withWord, recordsOf, wordsIn, Within, AllWithin}
+use Rattle.records.specs.Contracts.Table.{numberIn, beforeNumber, beforeOf, marksOf, wordNumbers, stored, wordIn, withWord, recordsOf, wordsIn, Within, AllWithin}
 
 -- ---- a field, as a number and back
 
-before-back : (b : Before) → beforeOf (numberOf b) ≡ b
+before-back : (b : Before) → beforeOf (beforeNumber b) ≡ b
 before-back Absent = refl
 before-back (Count n) =
     let e : n + 1 - 1 ≡ n = omega arith in
@@ -45,15 +45,15 @@ marks-back false false false = (refl, refl, refl)
 module _ (t : List ℕ) (i : ℕ) (w : Record) where
   pub length-with : length (withWord t i w) ≡ length t
   unfolding withWord
-  length-with = length-sets t (i * 8) (numbersOf w)
+  length-with = length-sets t (i * 8) (wordNumbers w)
 
   module _ (room : i < 1024) (sized : length t ≡ 8192) where
-    number-back : (j : ℕ) → j < 7 → number (withWord t i w) i j ≡ getD (numbersOf w) j 0
-    unfolding withWord numbersOf
-    number-back j h = sets-within 0 t (i * 8) (numbersOf w) j h (omega arith)
+    number-back : (j : ℕ) → j < 7 → numberIn (withWord t i w) i j ≡ getD (wordNumbers w) j 0
+    unfolding withWord wordNumbers
+    number-back j h = sets-within 0 t (i * 8) (wordNumbers w) j h (omega arith)
 
     pub read-back : wordIn (withWord t i w) i ≡ w
-    unfolding wordIn numbersOf
+    unfolding wordIn wordNumbers
     read-back =
         let m = marks-back (w .first) (w .punct) (w .sentence) in
         rw (
@@ -71,9 +71,9 @@ module _ (t : List ℕ) (i : ℕ) (w : Record) where
         )
 
   module _ (j : ℕ) (other : j ≡ i → ⊥) where
-    number-other : (a : ℕ) → a < 8 → number (withWord t i w) j a ≡ number t j a
-    unfolding withWord numbersOf
-    number-other a h = sets-other 0 t (i * 8) (numbersOf w) (j * 8 + a) (λ b g e. other (omega arith))
+    number-other : (a : ℕ) → a < 8 → numberIn (withWord t i w) j a ≡ numberIn t j a
+    unfolding withWord wordNumbers
+    number-other a h = sets-other 0 t (i * 8) (wordNumbers w) (j * 8 + a) (λ b g e. other (omega arith))
 
     pub read-other : wordIn (withWord t i w) j ≡ wordIn t j
     unfolding wordIn
@@ -151,7 +151,7 @@ module _ (notes : List ℕ) (n : ℕ) (t : List ℕ) where
 
 -- ---- as the code stores
 
-pub stored-word : (t : List ℕ) (i : ℕ) (w : Record) (before marks : ℕ) → before ≡ numberOf (w .before) → marks ≡ marksOf w
+pub stored-word : (t : List ℕ) (i : ℕ) (w : Record) (before marks : ℕ) → before ≡ beforeNumber (w .before) → marks ≡ marksOf w
     → stored t (i * 8) (w .from) (w .start) (w .end) (w .width) before (w .after) marks ≡ withWord t i w
-unfolding withWord numbersOf
+unfolding withWord wordNumbers
 stored-word t i w before marks b m = rw (b, m, sets-seven t (i * 8))

@@ -2,7 +2,7 @@
 ghost use mathlib.Core.Path.{_≡_};
 ghost use mathlib.Core.Bool.{cond};
 ghost use Prim.Native.Nat.{_*_, _<_, _≤_, _^_};
-ghost use Rattle.records.specs.Contracts.Table.{number, numberOf, beforeOf, withWord, stored, Small, Got};
+ghost use Rattle.records.specs.Contracts.Table.{numberIn, beforeNumber, beforeOf, withWord, stored, Small, Got};
 
 // The count of blanks before a gap's first tab, which may be absent.
 pub enum Before {
@@ -27,7 +27,7 @@ pub struct Word {
 // Number j of record i.
 fn read(t: &[u32; 8192], i: usize, j: usize) -> usize
     requires { ⌜ (i < 1024) × (j < 8) ⌝ }
-    ensures { λ r. ⌜ (r ≡ number (now (t .entry)) i j) × (r < 2 ^ 32) ⌝ }
+    ensures { λ r. ⌜ (r ≡ numberIn (now (t .entry)) i j) × (r < 2 ^ 32) ⌝ }
 {
     let k = i * 8 + j;
     wide(t[k])
@@ -42,7 +42,7 @@ fn wide(x: u32) -> usize
 // The count before a tab from its number in the table, and back.
 fn before_of(n: usize) -> Before
     requires { ⌜ n < 2 ^ 32 ⌝ }
-    ensures { λ r. ⌜ (r ≡ beforeOf n) × (numberOf r < 2 ^ 32) ⌝ }
+    ensures { λ r. ⌜ (r ≡ beforeOf n) × (beforeNumber r < 2 ^ 32) ⌝ }
 {
     if n == 0 {
         return Before::Absent;
@@ -51,8 +51,8 @@ fn before_of(n: usize) -> Before
 }
 
 fn number_of(b: Before) -> u32
-    requires { ⌜ numberOf b < 2 ^ 32 ⌝ }
-    ensures { λ r. ⌜ r ≡ numberOf b ⌝ }
+    requires { ⌜ beforeNumber b < 2 ^ 32 ⌝ }
+    ensures { λ r. ⌜ r ≡ beforeNumber b ⌝ }
 {
     match b {
         Before::Absent => 0,

@@ -17,8 +17,8 @@ use Rattle.text.specs.Characters.{Glyph, glyphs}
 use Rattle.text.proofs.Glyphs.{glyphs-joined}
 use Rattle.options.specs.Opts.{Opts}
 use Rattle.lines.specs.Lines.{Line, body, firstLine, linesOf}
-use Rattle.lines.specs.Classes.{upTo, from}
-use Rattle.lines.specs.Contracts.Places.{extentOf}
+use Rattle.lines.specs.Classes.{glyphsBefore, glyphsFrom}
+use Rattle.lines.specs.Contracts.Places.{lengthsOf}
 use Rattle.lines.proofs.Lines.{lengths}
 use Rattle.lines.proofs.Extents.{lines-extents}
 use Rattle.lines.proofs.Ink.{upTo-from}
@@ -35,7 +35,7 @@ use Rattle.words.specs.Words.{bytesOf, rowWords, wordsOf}
 use Rattle.words.proofs.Spelled.{Spelled, row-spelled}
 use Rattle.words.proofs.Order.{Whole, paragraph-whole}
 use Rattle.output.specs.Emission.{emit}
-use Rattle.output.specs.Contracts.Bound.{bulk, most}
+use Rattle.output.specs.Contracts.Bound.{bulk, longest}
 use Rattle.output.proofs.Bound.{emit-most}
 use Rattle.rudignals.specs.Format.{breaksOf, formatted}
 
@@ -64,7 +64,7 @@ spelled-bulk uniform (w ∷ ws) gs s =
 
 row-bulk : (o : Opts) (mail : Bool) (row : Row) → bulk (rowWords o mail row) ≤ length (row .text)
 unfolding bytesOf
-row-bulk o mail row = omega (arith, spelled-bulk (o .uniform || mail) (rowWords o mail row) (cond mail gs (from (row .start) gs)) (row-spelled o mail row), read mail)
+row-bulk o mail row = omega (arith, spelled-bulk (o .uniform || mail) (rowWords o mail row) (cond mail gs (glyphsFrom (row .start) gs)) (row-spelled o mail row), read mail)
   where
     gs : List Glyph
     gs = glyphs (o .glue) (row .text)
@@ -72,9 +72,9 @@ row-bulk o mail row = omega (arith, spelled-bulk (o .uniform || mail) (rowWords 
     all : length (bytesOf gs) ≡ length (row .text)
     all = ap length (glyphs-joined (o .glue) (row .text))
 
-    read : (m : Bool) → length (bytesOf (cond m gs (from (row .start) gs))) ≤ length (row .text)
+    read : (m : Bool) → length (bytesOf (cond m gs (glyphsFrom (row .start) gs))) ≤ length (row .text)
     read true = omega (arith, all)
-    read false = omega (arith, all, sym (bytes-append (upTo (row .start) gs) (from (row .start) gs)) ∙ ap (λ (l : List Glyph). length (bytesOf l)) (upTo-from (row .start) gs))
+    read false = omega (arith, all, sym (bytes-append (glyphsBefore (row .start) gs) (glyphsFrom (row .start) gs)) ∙ ap (λ (l : List Glyph). length (bytesOf l)) (upTo-from (row .start) gs))
 
 -- ---- nor the words of lines
 
@@ -82,8 +82,8 @@ abbrev Shorter : Line → Type 0
 Shorter l = length (l .text) ≤ length (l .raw)
 
 lines-shorter : (xs : List ℕ) → All Shorter (linesOf xs)
-unfolding linesOf extentOf
-lines-shorter xs = each-all (λ ys. length (body ys)) firstLine Shorter (λ ys h. lengths ys (extentOf (firstLine ys)) refl .shorter) xs
+unfolding linesOf lengthsOf
+lines-shorter xs = each-all (λ ys. length (body ys)) firstLine Shorter (λ ys h. lengths ys (lengthsOf (firstLine ys)) refl .shorter) xs
 
 bulk-append : (a b : List Word) → bulk (a ++ b) ≡ bulk a + bulk b
 unfolding bulk
@@ -144,7 +144,7 @@ module _ (o : Opts) (notes : List ℕ) (at : ℕ) (p : ParagraphAt) (q : Paragra
       omega (arith, w .more, w .low, w .order, w .high)
 
   words-most : (first indent : List ℕ) → length first ≤ p .next - at + 4 → length indent ≤ p .next - at + 4 → length (wordsOf o q) ≤ 1024
-      → most first indent (wordsOf o q) + 1040 * at ≤ 1040 * p .next
+      → longest first indent (wordsOf o q) + 1040 * at ≤ 1040 * p .next
   words-most first indent f i few =
       let b = words-bulk in
       let on = within .on in
@@ -156,7 +156,7 @@ module _ (o : Opts) (notes : List ℕ) (at : ℕ) (p : ParagraphAt) (q : Paragra
   emitted-most first indent breaks f i few = omega (arith, emit-most (o .uniform || q .mail) indent first breaks (wordsOf o q), words-most first indent f i few)
 
   -- what emission promises
-  pub text-most : length (wordsOf o q) ≤ 1024 → most (q .first .bytes) (q .indent .bytes) (wordsOf o q) + 1040 * at ≤ 1040 * p .next
+  pub text-most : length (wordsOf o q) ≤ 1024 → longest (q .first .bytes) (q .indent .bytes) (wordsOf o q) + 1040 * at ≤ 1040 * p .next
   text-most few = words-most (q .first .bytes) (q .indent .bytes) (margin-most (p .first) (q .first) (t .first) (within .first)) (margin-most (p .indent) (q .indent) (t .indent) (within .indent)) few
 
   -- and what is defined

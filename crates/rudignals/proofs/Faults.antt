@@ -13,7 +13,7 @@ use Rattle.lists.proofs.Walk.{walk-nil, walk-step}
 use Rattle.text.specs.Characters.{glyphs, isGood}
 use Rattle.text.specs.declared.Found.{Found}
 use Rattle.text.specs.declared.Found.the-variants.{At, Nowhere}
-use Rattle.options.specs.OptionBlock.{number, Field, tagOf, sizeOf, valueOf, Start, nextField, fields, flagBits, allowed, wellFormed, firstFault, leastWidth, partOf, optionsOf, fits, settled, readBlock}
+use Rattle.options.specs.OptionBlock.{number, Field, tagOf, sizeOf, valueOf, Start, nextField, fields, flagBits, allowed, wellFormed, firstFault, leastWidth, partOf, optionsOf, fits, judged, readBlock}
 use Rattle.options.specs.declared.Options.{Options}
 use Rattle.options.specs.declared.Block.the-variants.{Accepted, Fault}
 
@@ -121,7 +121,7 @@ fault-small block place e = settle (firstFault (walk nextField (record { place =
     rule true o l a = absurd (let z : _≡_ {A = ℕ} 0 1 = cc in omega arith)
     rule false o l a = let z : length block ≡ place = cc in omega arith
 
-    settle : (f : Found) → firstFault (walk nextField (record { place = 0; previous = 0 }) block) ≡ f → settled block (fields block) f ≡ Fault place → place ≤ 1548
+    settle : (f : Found) → firstFault (walk nextField (record { place = 0; previous = 0 }) block) ≡ f → judged block (fields block) f ≡ Fault place → place ≤ 1548
     settle (At n) q a = let z : n ≡ place = cc in omega (arith, all .place n q)
     settle Nowhere q a =
         let o = optionsOf block (fields block) in

@@ -11,3 +11,4 @@ pub mod Loop
 pub mod Replies
 pub mod Faults
 pub mod Values
+pub mod Unique

@@ -33,7 +33,7 @@ use Rattle.words.specs.declared.Count.{Count}
 use Rattle.words.specs.declared.Count.the-variants.{Words, TooMany}
 use Rattle.words.proofs.Order.{paragraph-some}
 use Rattle.spacing.specs.declared.Setting.{Setting}
-use Rattle.output.specs.Contracts.Bound.{most, mostEmitted}
+use Rattle.output.specs.Contracts.Bound.{longest, mostEmitted}
 use Rattle.output.specs.Emission.{lineFeed, emit}
 use Rattle.output.specs.Contracts.Sink.{Wrote}
 use Rattle.output.specs.Contracts.Writers.{marginOf, MarginIn, emitted}
@@ -85,8 +85,8 @@ module _ (o : Opts) (notes out : List ℕ) (c : Cursor) (out′ : List ℕ) (nex
       let e : slice (c .at) (c .at) notes ≡ [] = rw z at (slice-is (c .at) 0 notes) in
       record { kind = blankLine; goes = g; few = refl; wrote = rw e at (w .0); most = omega (arith, g .on, w .1) }
 
-  pub plain-put : (end : ℕ) {bytes : List ℕ} {most : ℕ} → Goes o (c .mail) notes (c .at) (plainLine (slice (c .at) end notes)) false next × (c .at ≤ end) × (end ≤ next) → Wrote out (c .written) bytes out′ n × (n ≤ most)
-      → bytes ≡ slice (c .at) end notes ++ lineFeed → most ≤ c .written + (end - c .at) + 1 → Put o notes out c (record { at = next; written = n; mail = false }) out′
+  pub plain-put : (end : ℕ) {bytes : List ℕ} {longest : ℕ} → Goes o (c .mail) notes (c .at) (plainLine (slice (c .at) end notes)) false next × (c .at ≤ end) × (end ≤ next) → Wrote out (c .written) bytes out′ n × (n ≤ longest)
+      → bytes ≡ slice (c .at) end notes ++ lineFeed → longest ≤ c .written + (end - c .at) + 1 → Put o notes out c (record { at = next; written = n; mail = false }) out′
   unfolding outputOf
   plain-put end g w e k = record { kind = plainLine (slice (c .at) end notes); goes = g .0; few = refl; wrote = rw e at (w .0); most = omega (arith, g .0 .on, g .1, g .2, w .1, k) }
 
@@ -130,7 +130,7 @@ module _ (block notes : List ℕ) (o : Options) (ready : Ready block notes o) (n
   unfolding formatted breaksOf settingOf meant
   formatted-is = rw (words-are, text .mail, text .first .bytes, text .indent .bytes, text .first .columns, text .indent .columns)
 
-  most-is : most (marginOf notes (p .first)) (marginOf notes (p .indent)) (wordsFor block notes at o p) ≡ most (q .first .bytes) (q .indent .bytes) (wordsOf (meant block o) q)
+  most-is : longest (marginOf notes (p .first)) (marginOf notes (p .indent)) (wordsFor block notes at o p) ≡ longest (q .first .bytes) (q .indent .bytes) (wordsOf (meant block o) q)
   most-is = rw (words-are, text .first .bytes, text .indent .bytes)
 
   words-count : length (wordsOf (meant block o) q) ≡ length (wordsFor block notes at o p)
@@ -214,7 +214,7 @@ emitted-is notes table n marks l u f i w b k s = rw (u, f, i, b, w, k, s)
 
 -- and so is its bound
 pub most-as : (notes table : List ℕ) (n : ℕ) (l : Layout) (written : ℕ) {first indent : Margin} {ws : List Word} {r : ℕ} → l .first ≡ first → l .indent ≡ indent → wordsIn notes n table ≡ ws
-    → r ≤ written + mostEmitted notes table n l → r ≤ written + most (marginOf notes first) (marginOf notes indent) ws
+    → r ≤ written + mostEmitted notes table n l → r ≤ written + longest (marginOf notes first) (marginOf notes indent) ws
 most-as notes table n l written f i w h = rw (f, i, w) at h
 
 pub wrote-as : {o o′ d e : List ℕ} {n n′ : ℕ} → d ≡ e → Wrote o n d o′ n′ → Wrote o n e o′ n′

@@ -5,7 +5,7 @@ use Prim.Native.Nat.{ℕ, _+_, _≤_, _<_}
 use native.Mathlib.Nat.{div-add-mod', mod-lt, add-mul, one-mul}
 use native.Mathlib.Omega.{arith}
 use Rattle.lines.specs.Classes.{nextStop}
-use Rattle.records.specs.Contracts.Table.{numberOf}
+use Rattle.records.specs.Contracts.Table.{beforeNumber}
 use Rattle.records.specs.declared.Before.{Before}
 use Rattle.records.specs.declared.Before.the-variants.{Absent, Count}
 use Rattle.spacing.specs.Spacing.{gapWidth, addedSpace}
@@ -27,7 +27,7 @@ module _ (tab column : ℕ) (some : 1 ≤ tab) where
       rw (add-mul, one-mul) (omega arith)
 
 -- a gap's width at a column, and its bound
-pub gap-most : (tab column : ℕ) (before : Before) (after : ℕ) → 1 ≤ tab → gapWidth tab column before after ≤ after + numberOf before + tab
+pub gap-most : (tab column : ℕ) (before : Before) (after : ℕ) → 1 ≤ tab → gapWidth tab column before after ≤ after + beforeNumber before + tab
 unfolding gapWidth
 gap-most tab column Absent after h = omega arith
 gap-most tab column (Count n) after h = let s = stop-near tab (n + column) h in omega arith

@@ -1,2 +1,3 @@
 pub mod Added
 pub mod Laws
+pub mod Unique

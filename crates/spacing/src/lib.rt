@@ -4,7 +4,7 @@ ghost use mathlib.Core.Path.{_≡_};
 ghost use mathlib.Core.Bool.{cond};
 ghost use Prim.Native.Nat.{_+_, _≤_, _<_, _^_};
 ghost use Rattle.lines.specs.Classes.{nextStop};
-ghost use Rattle.records.specs.Contracts.Table.{numberOf};
+ghost use Rattle.records.specs.Contracts.Table.{beforeNumber};
 ghost use Rattle.spacing.specs.Contracts.Bounds.{GapIs, AddedIs};
 
 // What a paragraph is broken with: width limit, goal, tab width, uniform spacing, and the columns of its first indent and its indent.
@@ -27,7 +27,7 @@ fn next_stop(tab: usize, column: usize) -> usize
 
 // The width of a gap that begins at a column. A tab goes to the next stop behind the blanks before it.
 pub fn gap_width(tab: usize, column: usize, before: Before, after: usize) -> usize
-    requires { ⌜ (1 ≤ tab) × (tab ≤ 100) × (column < 2 ^ 40) × (numberOf before < 2 ^ 32) × (after < 2 ^ 32) ⌝ }
+    requires { ⌜ (1 ≤ tab) × (tab ≤ 100) × (column < 2 ^ 40) × (beforeNumber before < 2 ^ 32) × (after < 2 ^ 32) ⌝ }
     ensures { λ r. ⌜ GapIs tab column before after r ⌝ }
 {
     match before {

@@ -9,7 +9,7 @@ use lib.ListN.{length, getD, drop, length-append}
 use borrow.Author.Tests.{ltb-true, ltb-false, leb-true, leb-false, lt-ltb, le-ltb, le-leb}
 use Rattle.lists.proofs.Runs.{begins-append, begins-front}
 use Rattle.lists.specs.Runs.{begins}
-use Rattle.text.specs.Rfc3629.{scalar, encode, Stands, front, nothing, spelled, decode}
+use Rattle.text.specs.Rfc3629.{scalar, encode, StandsFirst, front, nothing, spelled, decode}
 
 -- the row of section 3's table that a number is in, and its octets
 data Row (c : ℕ) : Type 0 where
@@ -64,7 +64,7 @@ scalar-true c s = pick (leb 0xD800 c) (leb c 0xDFFF) refl refl
 
 -- what the decoder finds stands there
 pub record Decoded (xs : List ℕ) (c n : ℕ) : Type 0 where
-  pub stands : Stands c xs (drop n xs)
+  pub stands : StandsFirst c xs (drop n xs)
   pub count : n ≡ length (encode c)
   pub some : 1 ≤ n
   pub few : n ≤ 4
@@ -100,7 +100,7 @@ pub data Octets (c : ℕ) (xs : List ℕ) : Type 0 where
   three : 0x800 ≤ c → c < 0x10000 → getD xs 0 0 ≡ 0xE0 + c / 4096 → getD xs 1 0 ≡ 0x80 + c / 64 % 64 → getD xs 2 0 ≡ 0x80 + c % 64 → Octets c xs
   four : 0x10000 ≤ c → c ≤ 0x10FFFF → getD xs 0 0 ≡ 0xF0 + c / 262144 → getD xs 1 0 ≡ 0x80 + c / 4096 % 64 → getD xs 2 0 ≡ 0x80 + c / 64 % 64 → getD xs 3 0 ≡ 0x80 + c % 64 → Octets c xs
 
-pub octets-of : (c : ℕ) (xs rest : List ℕ) → Stands c xs rest → Octets c xs
+pub octets-of : (c : ℕ) (xs rest : List ℕ) → StandsFirst c xs rest → Octets c xs
 octets-of c xs rest s = pick (row c)
   where
     pick : Row c → Octets c xs
@@ -138,7 +138,7 @@ decode-as : (c a : ℕ) (xs : List ℕ) → spelled a xs ≡ c → scalar c ≡ 
 unfolding decode
 decode-as c a xs e s b = rw (e, s, b)
 
-pub complete : (c : ℕ) (xs rest : List ℕ) → Stands c xs rest → decode xs ≡ front c (length (encode c))
+pub complete : (c : ℕ) (xs rest : List ℕ) → StandsFirst c xs rest → decode xs ≡ front c (length (encode c))
 complete c [] rest s = absurd (omega (arith, some-octets c, simp length-append at (ap length (s .octets))))
 complete c (a ∷ xs) rest s =
     decode-as c a xs (spelled-back c a xs (octets-of c (a ∷ xs) rest s)) (scalar-true c (scalar-plain c (s .isScalar))) (rw (s .octets) (begins-append (encode c) rest))

@@ -20,7 +20,7 @@ encode c =
     ((0xF0 + c / 262144) ∷ (0x80 + c / 4096 % 64) ∷ (0x80 + c / 64 % 64) ∷ (0x80 + c % 64) ∷ [])))
 
 -- the character c stands at the front of xs, and rest is behind it
-pub record Stands (c : ℕ) (xs rest : List ℕ) : Type 0 where
+pub record StandsFirst (c : ℕ) (xs rest : List ℕ) : Type 0 where
   pub isScalar : T (scalar c)
   pub octets : xs ≡ encode c ++ rest
 

@@ -18,7 +18,7 @@ use Rattle.text.specs.Contracts.Places.{seenAs}
 use Rattle.text.specs.declared.Glyph.{Glyph as Seen}
 use Rattle.text.proofs.Glyphs.{Here, glyphs-past, glyphs-first, not-blank, ascii-here}
 use Rattle.lines.specs.Classes.{nextStop}
-use Rattle.records.specs.Contracts.Table.{numberOf}
+use Rattle.records.specs.Contracts.Table.{beforeNumber}
 use Rattle.records.specs.declared.Before.{Before}
 use Rattle.records.specs.declared.Before.the-variants.{Absent, Count}
 use Rattle.words.specs.Words.{Gap, gapTab, gapFrom, gapOf}
@@ -39,18 +39,18 @@ stop-small tab after h k = let s = stop-near tab after in omega arith
 
 -- both counts grow by at most 100 with a blank
 module _ (tab m : ℕ) (few : tab ≤ 100) where
-  tab-few : (before : Before) (after : ℕ) → numberOf before ≤ m → after ≤ m
-      → (numberOf (gapTab tab before after .before) ≤ m + 100) × (gapTab tab before after .after ≤ m + 100)
+  tab-few : (before : Before) (after : ℕ) → beforeNumber before ≤ m → after ≤ m
+      → (beforeNumber (gapTab tab before after .before) ≤ m + 100) × (gapTab tab before after .after ≤ m + 100)
   unfolding nextStop
   tab-few Absent after h k = (omega arith, omega arith)
   tab-few (Count n) after h k = let s = stop-near tab after in (omega arith, omega arith)
 
-  gap-few : (code : ℕ) (g : Gap) → numberOf (g .before) ≤ m → g .after ≤ m
-      → (numberOf (gapBehind tab code g .before) ≤ m + 100) × (gapBehind tab code g .after ≤ m + 100)
+  gap-few : (code : ℕ) (g : Gap) → beforeNumber (g .before) ≤ m → g .after ≤ m
+      → (beforeNumber (gapBehind tab code g .before) ≤ m + 100) × (gapBehind tab code g .after ≤ m + 100)
   gap-few code g h k = pick (eqb code 9)
     where
       pick : (t : Bool)
-          → (numberOf (cond t (gapTab tab (g .before) (g .after)) (record { before = g .before; after = g .after + 1 }) .before) ≤ m + 100)
+          → (beforeNumber (cond t (gapTab tab (g .before) (g .after)) (record { before = g .before; after = g .after + 1 }) .before) ≤ m + 100)
           × (cond t (gapTab tab (g .before) (g .after)) (record { before = g .before; after = g .after + 1 }) .after ≤ m + 100)
       pick true = tab-few (g .before) (g .after) h k
       pick false = (omega arith, omega arith)
@@ -77,7 +77,7 @@ pub record BlanksLeft (glue : Bool) (tab : ℕ) (s : List ℕ) (at : ℕ) (b : B
   pub gap : gapFrom tab (gapIn b) (blanksAt glue s (b .end)) ≡ gapOf tab (blanksAt glue s at)
   pub rest : behind isBlank (glyphs glue (drop (b .end) s)) ≡ behind isBlank (glyphs glue (drop at s))
   pub within : b .end ≤ length s
-  pub before : numberOf (b .before) ≤ 100 * b .end
+  pub before : beforeNumber (b .before) ≤ 100 * b .end
   pub after : b .after ≤ 100 * b .end
 
 -- no blank stands at a place
@@ -117,7 +117,7 @@ module _ {glue : Bool} {tab : ℕ} {s : List ℕ} {at : ℕ} where
         gap = rw (e, g) (rw (l, h .hasCode) at (i .gap));
         rest = rw e (sym m ∙ i .rest);
         within = rw e (h .within);
-        before = rw (e, ap (λ (x : Gap). numberOf (x .before)) g) (omega (arith, f .0, h .on));
+        before = rw (e, ap (λ (x : Gap). beforeNumber (x .before)) g) (omega (arith, f .0, h .on));
         after = rw (e, ap (λ (x : Gap). x .after) g) (omega (arith, f .1, h .on));
       }
 

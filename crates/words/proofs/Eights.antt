@@ -9,7 +9,7 @@ use lib.Dec.{leb}
 use lib.ListN.{getD, length}
 use lib.Bits.{bitAnd, and-block, and-le-l, and-le-r, and-zero-r}
 use lib.Count.{under, trailingZeros, trailing-le}
-use Rattle.words.specs.Contracts.Scan.{number, eightAt, Plain}
+use Rattle.words.specs.Contracts.Scan.{asNumber, eightAt, Plain}
 
 -- ---- the high bit of a digit
 
@@ -45,23 +45,23 @@ abbrev pub same : ℕ → List ℕ → List ℕ
 same v [] = []
 same v (b ∷ bs) = v ∷ same v bs
 
-pub all-ascii : (bs : List ℕ) → AllBelow 256 bs → bitAnd (number bs) (number (same 128 bs)) ≡ 0 → AllBelow 128 bs
-unfolding number
+pub all-ascii : (bs : List ℕ) → AllBelow 256 bs → bitAnd (asNumber bs) (asNumber (same 128 bs)) ≡ 0 → AllBelow 128 bs
+unfolding asNumber
 all-ascii [] h e = tt
 all-ascii (b ∷ bs) h e =
-    let d = and-digit b (number bs) (number (same 128 bs)) (h .0) in
+    let d = and-digit b (asNumber bs) (asNumber (same 128 bs)) (h .0) in
     (high-clear b (h .0) (omega arith), all-ascii bs (h .1) (omega arith))
 
 -- each digit is 128 where the byte is below 33, and else 0
 unfoldable pub stops : List ℕ → ℕ
-stops bs = number (same 128 bs) - bitAnd (number bs + number (same 95 bs)) (number (same 128 bs))
+stops bs = asNumber (same 128 bs) - bitAnd (asNumber bs + asNumber (same 95 bs)) (asNumber (same 128 bs))
 
 stops-digit : (b : ℕ) (bs : List ℕ) → b < 128 → stops (b ∷ bs) ≡ (128 - bitAnd (b + 95) 128) + 256 * stops bs
-unfolding number stops
+unfolding asNumber stops
 stops-digit b bs h =
-    let x = number bs in
-    let a = number (same 95 bs) in
-    let m = number (same 128 bs) in
+    let x = asNumber bs in
+    let a = asNumber (same 95 bs) in
+    let m = asNumber (same 128 bs) in
     let e : (b + 256 * x) + (95 + 256 * a) ≡ (b + 95) + 256 * (x + a) = omega arith in
     let d : bitAnd ((b + 256 * x) + (95 + 256 * a)) (128 + 256 * m) ≡ bitAnd (b + 95) 128 + 256 * bitAnd (x + a) m = ap (λ (n : ℕ). bitAnd n (128 + 256 * m)) e ∙ and-digit (b + 95) (x + a) m (omega arith) in
     let k = and-le-r (b + 95) 128 in
@@ -139,15 +139,15 @@ none-plain s i h = record { on = omega arith; within = omega arith; least = λ k
 pub zeros-few : (y : ℕ) → trailingZeros 64 y / 8 ≤ 8
 zeros-few y = let h = trailing-le 64 y in omega arith
 
-module _ (s : List ℕ) (i : ℕ) (small : (k : ℕ) → getD s k 0 < 256) (x : ℕ) (is : x ≡ number (eightAt s i)) (clear : bitAnd x 0x8080808080808080 ≡ 0) where
+module _ (s : List ℕ) (i : ℕ) (small : (k : ℕ) → getD s k 0 < 256) (x : ℕ) (is : x ≡ asNumber (eightAt s i)) (clear : bitAnd x 0x8080808080808080 ≡ 0) where
   ascii : AllBelow 128 (eightAt s i)
-  unfolding number
+  unfolding asNumber
   ascii =
       all-ascii (eightAt s i) (small i, (small (i + 1), (small (i + 2), (small (i + 3), (small (i + 4), (small (i + 5), (small (i + 6), (small (i + 7), tt))))))))
       (rw is at clear)
 
   pub sum-fits : x + 0x5F5F5F5F5F5F5F5F < 18446744073709551616
-  unfolding number
+  unfolding asNumber
   sum-fits =
       let a = ascii in
       omega (arith, is, a .0, a .1 .0, a .1 .1 .0, a .1 .1 .1 .0, a .1 .1 .1 .1 .0, a .1 .1 .1 .1 .1 .0, a .1 .1 .1 .1 .1 .1 .0, a .1 .1 .1 .1 .1 .1 .1 .0)
@@ -156,7 +156,7 @@ module _ (s : List ℕ) (i : ℕ) (small : (k : ℕ) → getD s k 0 < 256) (x : 
   zeros = trailingZeros 64 (clearOf x)
 
   zeros-is : zeros ≡ trailingZeros (bits (eightAt s i)) (stops (eightAt s i))
-  unfolding number stops
+  unfolding asNumber stops
   zeros-is = rw is
 
   pub plain-count : i + 8 ≤ length s → Plain s i (i + zeros / 8)

@@ -12,7 +12,7 @@ use Rattle.records.specs.Word.{Word, meaning}
 use Rattle.records.specs.Contracts.Table.{wordIn, withWord, recordsOf, wordsIn, Within}
 use Rattle.records.specs.declared.Word.{Word as Record}
 use Rattle.records.proofs.Table.{length-with, read-back, read-other, within-more, words-length, words-more}
-use Rattle.words.specs.Contracts.Split.{Kept, Filled, Split}
+use Rattle.words.specs.Contracts.Split.{Kept, WordsFilled, Split}
 use Rattle.words.specs.Contracts.Places.{counted}
 use Rattle.words.specs.declared.Count.{Count}
 use Rattle.words.specs.declared.Count.the-variants.{Words, TooMany}
@@ -43,10 +43,10 @@ filling-first k = record { words = refl; kept = k }
 
 module _ {notes : List ℕ} {whole left : List Word} {n : ℕ} {t : List ℕ} where
   module _ (f : Filling notes whole left n t) where
-    pub filling-done : left ≡ [] → Filled notes whole t (Words n)
+    pub filling-done : left ≡ [] → WordsFilled notes whole t (Words n)
     filling-done e = (sym (append-nil (wordsIn notes n t)) ∙ rw e at (f .words), f .kept)
 
-    pub filling-full : {w : Word} {rest : List Word} → left ≡ w ∷ rest → 1024 ≤ n → Filled notes whole t TooMany
+    pub filling-full : {w : Word} {rest : List Word} → left ≡ w ∷ rest → 1024 ≤ n → WordsFilled notes whole t TooMany
     filling-full e h =
         (omega (arith, ap length (rw e at (f .words)), simp length-append at (ap length (rw e at (f .words))), words-length notes n t), f .kept .sized)
 
@@ -71,10 +71,10 @@ module _ {notes : List ℕ} {whole left : List Word} {n : ℕ} {t : List ℕ} wh
       together : (wordsIn notes n t ++ line) ++ rest ≡ whole
       together = append-assoc (wordsIn notes n t) line rest ∙ rw e at (f .words)
 
-      pub filling-line : (m : ℕ) → Filled notes (wordsIn notes n t ++ line) t′ (Words m) → Filling notes whole rest m t′
+      pub filling-line : (m : ℕ) → WordsFilled notes (wordsIn notes n t ++ line) t′ (Words m) → Filling notes whole rest m t′
       filling-line m l = record { words = rw (l .0) together; kept = l .1 }
 
-      pub filling-over : Filled notes (wordsIn notes n t ++ line) t′ TooMany → Filled notes whole t′ TooMany
+      pub filling-over : WordsFilled notes (wordsIn notes n t ++ line) t′ TooMany → WordsFilled notes whole t′ TooMany
       filling-over l = (omega (arith, l .0, simp (length-append (wordsIn notes n t ++ line) rest) at (ap length together)), l .1)
 
 -- no word is there yet
@@ -86,7 +86,7 @@ unfolding wordsIn recordsOf
 filling-none {notes = notes} {t = t} h = record { words = refl; kept = kept-none (length notes) t h }
 
 -- what the table holds at last
-pub filled-split : (notes : List ℕ) (ws : List Word) (t : List ℕ) (r : Count) → Filled notes ws t r → Split notes ws t r
+pub filled-split : (notes : List ℕ) (ws : List Word) (t : List ℕ) (r : Count) → WordsFilled notes ws t r → Split notes ws t r
 unfolding counted
 filled-split notes ws t (Words n) f =
     let l : length ws ≡ n = sym (ap length (f .0)) ∙ words-length notes n t in

@@ -9,3 +9,4 @@ pub mod Filling
 pub mod Rows
 pub mod Spelled
 pub mod Order
+pub mod Unique

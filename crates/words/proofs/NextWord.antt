@@ -14,7 +14,7 @@ use Rattle.text.specs.Characters.{Glyph, glyph, glyphs, isBlank, extent}
 use Rattle.text.proofs.Glyphs.{bytes-of, glyphs-past, glyphs-first}
 use Rattle.options.specs.Opts.{Opts}
 use Rattle.records.specs.Word.{meaning}
-use Rattle.records.specs.Contracts.Table.{numberOf, Small, Within}
+use Rattle.records.specs.Contracts.Table.{beforeNumber, Small, Within}
 use Rattle.records.specs.declared.Word.{Word as Record}
 use Rattle.records.specs.declared.Before.the-variants.{Absent}
 use Rattle.words.specs.Words.{Run, isInk, runOf, bytesOf, widthSum, Gap, noGap, gapOf, hasTab, punctAtEnd, wideGap, wordOf, mailWord}
@@ -136,7 +136,7 @@ module _ (o : Opts) (s : List ℕ) (at : ℕ) (b : Blanks) (over : OverBlanks (o
         pick-within true = let e = ends in record { gap = omega arith; text = omega arith; end = ink .within }
         pick-within false = let e = ends in record { gap = omega (arith, over .end); text = omega arith; end = ink .within }
 
-        pick-before : (u : Bool) → numberOf (cond u Absent (b .before)) ≤ 100 * length s
+        pick-before : (u : Bool) → beforeNumber (cond u Absent (b .before)) ≤ 100 * length s
         pick-before true = omega arith
         pick-before false = over .before
 

@@ -16,7 +16,7 @@ use Rattle.text.proofs.Glyphs.{glyphs-joined}
 use Rattle.text.proofs.Blanks.{blanks-none, blanks-glyphs}
 use Rattle.options.specs.Opts.{Opts}
 use Rattle.lines.specs.Lines.{Line, noFeed}
-use Rattle.lines.specs.Classes.{upTo, from, classify}
+use Rattle.lines.specs.Classes.{glyphsBefore, glyphsFrom, classify}
 use Rattle.lines.specs.declared.Shape.{Shape}
 use Rattle.lines.specs.declared.Class.the-variants.{Formatted}
 use Rattle.lines.proofs.Ink.{upTo-from, formatted-ink}
@@ -122,13 +122,13 @@ module _ (glue : Bool) where
   unfolding bytesOf
   glyphs-clean xs e = record { sound = glyphs-sound glue xs; feedless = rw glyphs-joined e }
 
-  from-clean : (place : ℕ) (gs : List Glyph) → Clean glue gs → Clean glue (from place gs)
-  from-clean place gs c = clean-parts (upTo place gs) (from place gs) (rw upTo-from c) .1
+  from-clean : (place : ℕ) (gs : List Glyph) → Clean glue gs → Clean glue (glyphsFrom place gs)
+  from-clean place gs c = clean-parts (glyphsBefore place gs) (glyphsFrom place gs) (rw upTo-from c) .1
 
 pub row-whole : (o : Opts) (mail : Bool) (row : Row) → every noFeed (row .text) ≡ true → All (Whole (o .glue) (o .uniform || mail)) (rowWords o mail row)
 row-whole o mail row e = spelled-whole (o .glue) (o .uniform || mail) (rowWords o mail row) _ (go mail) (row-spelled o mail row)
   where
-    go : (m : Bool) → Clean (o .glue) (let gs = glyphs (o .glue) (row .text) in cond m gs (from (row .start) gs))
+    go : (m : Bool) → Clean (o .glue) (let gs = glyphs (o .glue) (row .text) in cond m gs (glyphsFrom (row .start) gs))
     go true = glyphs-clean (o .glue) (row .text) e
     go false = from-clean (o .glue) (row .start) _ (glyphs-clean (o .glue) (row .text) e)
 
@@ -156,11 +156,11 @@ formatted-some o mail l s e = spelled-some (o .uniform || mail) (rowWords o mail
     gs : List Glyph
     gs = glyphs (o .glue) (l .text)
 
-    go : (m : Bool) → 0 < length (joined inkOf (cond m gs (from (startAs (classify o (l .text))) gs)))
+    go : (m : Bool) → 0 < length (joined inkOf (cond m gs (glyphsFrom (startAs (classify o (l .text))) gs)))
     go true = ink-some (o .glue) gs (glyphs-sound (o .glue) (l .text)) (formatted-ink o (l .text) s e .0)
     go false =
-        let sound : All (Sound (o .glue)) (from (s .indent) gs) = all-back _ (upTo (s .indent) gs) (from (s .indent) gs) (rw upTo-from (glyphs-sound (o .glue) (l .text))) in
-        rw e (ink-some (o .glue) (from (s .indent) gs) sound (formatted-ink o (l .text) s e .1))
+        let sound : All (Sound (o .glue)) (glyphsFrom (s .«indent_end») gs) = all-back _ (glyphsBefore (s .«indent_end») gs) (glyphsFrom (s .«indent_end») gs) (rw upTo-from (glyphs-sound (o .glue) (l .text))) in
+        rw e (ink-some (o .glue) (glyphsFrom (s .«indent_end») gs) sound (formatted-ink o (l .text) s e .1))
 
 module _ (o : Opts) (lines : List Line) (p : Paragraph) (r : Rows o lines p) where
   pub paragraph-some : 0 < length (wordsOf o p)

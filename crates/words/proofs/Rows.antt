@@ -12,16 +12,16 @@ use Rattle.text.specs.Characters.{Glyph, glyphs}
 use Rattle.options.specs.Opts.{Opts, meant}
 use Rattle.options.specs.declared.Options.{Options}
 use Rattle.lines.specs.Lines.{Line, firstLine, linesOf}
-use Rattle.lines.specs.Contracts.Places.{extentOf}
+use Rattle.lines.specs.Contracts.Places.{lengthsOf}
 use Rattle.lines.specs.declared.Extent.{Extent}
 use Rattle.lines.proofs.Lines.{LineHere, lines-past, line-here}
 use Rattle.pieces.specs.Pieces.{Row}
-use Rattle.pieces.specs.Contracts.Bounds.{Begins, AllBegin}
+use Rattle.pieces.specs.Contracts.Bounds.{GlyphBegins, AllBegin}
 use Rattle.records.specs.Word.{Word}
 use Rattle.words.specs.Words.{Run, wordOf, lineWords, rowWords}
 use Rattle.words.specs.Contracts.Places.{rowsAt, wordsAt}
 use Rattle.words.specs.Contracts.Scan.{wordsFrom}
-use Rattle.words.specs.Contracts.Split.{Filled, Split}
+use Rattle.words.specs.Contracts.Split.{WordsFilled, Split}
 use Rattle.words.specs.declared.Count.{Count}
 use Rattle.words.proofs.Filling.{filled-split}
 
@@ -62,11 +62,11 @@ module _ (o : Opts) (mail : Bool) (start later : ℕ) where
   unfolding wordsAt rowsAt joined
   rows-first l ls = refl
 
-begin-first : (glue : Bool) (start later : ℕ) (l : Line) (ls : List Line) → AllBegin glue start later (l ∷ ls) → Begins glue start (l .text) × AllBegin glue later later ls
+begin-first : (glue : Bool) (start later : ℕ) (l : Line) (ls : List Line) → AllBegin glue start later (l ∷ ls) → GlyphBegins glue start (l .text) × AllBegin glue later later ls
 unfolding AllBegin
 begin-first glue start later l ls a = a
 
-row-words : (o : Opts) (mail : Bool) (text : List ℕ) (start : ℕ) → (mail ≡ false → Begins (o .glue) start text)
+row-words : (o : Opts) (mail : Bool) (text : List ℕ) (start : ℕ) → (mail ≡ false → GlyphBegins (o .glue) start text)
     → rowWords o mail (record { text = text; start = start }) ≡ wordsFrom o mail true false (glyphs (o .glue) (drop (cond mail 0 start) text))
 unfolding rowWords wordsFrom
 row-words o true text start b = refl
@@ -85,7 +85,7 @@ pub record LineAt (o : Opts) (mail : Bool) (skip later : ℕ) (notes : List ℕ)
 
 module _ (o : Opts) (mail : Bool) (skip later : ℕ) (notes : List ℕ) (next i : ℕ) (e : Extent) where
   -- from the answer of first_line
-  pub line-at : i < next → next ≤ length notes → e ≡ extentOf (firstLine (take (length (take next notes) - i) (slice i next notes))) → (mail ≡ false → AllBegin (o .glue) skip later (linesOf (slice i next notes)))
+  pub line-at : i < next → next ≤ length notes → e ≡ lengthsOf (firstLine (take (length (take next notes) - i) (slice i next notes))) → (mail ≡ false → AllBegin (o .glue) skip later (linesOf (slice i next notes)))
       → LineAt o mail skip later notes next i e
   line-at more fits q begins = record {
     on = here .on;
@@ -105,12 +105,12 @@ module _ (o : Opts) (mail : Bool) (skip later : ℕ) (notes : List ℕ) (next i 
       sized = length-take-le next notes fits
 
       here : LineHere (take next notes) i e
-      here = line-here (take next notes) i e (omega (arith, sized)) (q ∙ ap (λ (l : List ℕ). extentOf (firstLine l)) (part-to-end i (take next notes)))
+      here = line-here (take next notes) i e (omega (arith, sized)) (q ∙ ap (λ (l : List ℕ). lengthsOf (firstLine l)) (part-to-end i (take next notes)))
 
       line : Line
       line = firstLine (slice i next notes)
 
-      begin : mail ≡ false → Begins (o .glue) skip (line .text) × AllBegin (o .glue) later later (linesOf (slice (i + e .whole) next notes))
+      begin : mail ≡ false → GlyphBegins (o .glue) skip (line .text) × AllBegin (o .glue) later later (linesOf (slice (i + e .whole) next notes))
       begin m = begin-first (o .glue) skip later line _ (rw (here .first) at (begins m))
 
       text : line .text ≡ slice i (i + e .text) notes
@@ -126,6 +126,6 @@ pub lines-end : (o : Opts) (mail : Bool) (skip later : ℕ) (notes : List ℕ) (
 lines-end o mail skip later notes next i h = rw (lines-past (take next notes) i (rw length-take (omega arith))) (rows-none o mail skip later)
 
 -- so the table filled answers for every block
-pub filled-words : (notes t : List ℕ) (r : Count) (o : Options) (mail : Bool) (start later : ℕ) (ls : List Line) → Filled notes (wordsAt (meant [] o) mail start later ls) t r
+pub filled-words : (notes t : List ℕ) (r : Count) (o : Options) (mail : Bool) (start later : ℕ) (ls : List Line) → WordsFilled notes (wordsAt (meant [] o) mail start later ls) t r
     → (block : List ℕ) → Split notes (wordsAt (meant block o) mail start later ls) t r
 filled-words notes t r o mail start later ls f block = rw (words-same o block mail start later ls) at (filled-split notes (wordsAt (meant [] o) mail start later ls) t r f)

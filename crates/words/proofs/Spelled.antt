@@ -13,7 +13,7 @@ use Rattle.lists.proofs.Parts.{behind-nil, while-behind, every-nil, every-while
 use Rattle.lists.proofs.Walk.{each-nil, each-step}
 use Rattle.text.specs.Characters.{Glyph, glyphs, isBlank}
 use Rattle.options.specs.Opts.{Opts}
-use Rattle.lines.specs.Classes.{from}
+use Rattle.lines.specs.Classes.{glyphsFrom}
 use Rattle.pieces.specs.Pieces.{Row}
 use Rattle.records.specs.Word.{Word}
 use Rattle.words.specs.Words.{Run, isInk, runOf, runs, bytesOf, punctAtEnd, wordOf, lineWords, mailWord, mailWords, rowWords}
@@ -174,7 +174,7 @@ mail-spelled (r ∷ rs) gs s = go (r .text) refl (mail-spelled rs (s .0) (s .2))
     go (g ∷ t) e ih = rw (mailWords, e) (s .0, word-run r gs (s .0) (s .1) true (mailWord r) (rw e (omega arith)) refl refl (λ u. absurd (true≢false u)), ih)
 
 -- the words of a paragraph's line spell the glyphs at or behind its indent's end; of a mail paragraph's line, all its glyphs
-pub row-spelled : (o : Opts) (mail : Bool) (row : Row) → Spelled (o .uniform || mail) (rowWords o mail row) (let gs = glyphs (o .glue) (row .text) in cond mail gs (from (row .start) gs))
+pub row-spelled : (o : Opts) (mail : Bool) (row : Row) → Spelled (o .uniform || mail) (rowWords o mail row) (let gs = glyphs (o .glue) (row .text) in cond mail gs (glyphsFrom (row .start) gs))
 unfolding rowWords
 row-spelled o true row = rw or-true (mail-spelled _ _ (runs-split (glyphs (o .glue) (row .text))))
-row-spelled o false row = rw or-false (line-spelled o true false _ _ (runs-split (from (row .start) (glyphs (o .glue) (row .text)))) (λ e. absurd (true≢false e)))
+row-spelled o false row = rw or-false (line-spelled o true false _ _ (runs-split (glyphsFrom (row .start) (glyphs (o .glue) (row .text)))) (λ e. absurd (true≢false e)))

@@ -8,7 +8,7 @@ use Rattle.lists.specs.Walk.{each}
 use Rattle.lists.specs.Runs.{while, behind, joined}
 use Rattle.text.specs.Characters.{Glyph, glyphs, isBlank, isTab}
 use Rattle.options.specs.Opts.{Opts}
-use Rattle.lines.specs.Classes.{from, nextStop}
+use Rattle.lines.specs.Classes.{glyphsFrom, nextStop}
 use Rattle.pieces.specs.Pieces.{Row, Paragraph}
 use Rattle.records.specs.Word.{Word}
 use Rattle.records.specs.declared.Before.{Before}
@@ -123,7 +123,7 @@ mailWords (r ∷ rs) = elim (r .text) as (λ t. List Word) [ [] ↦ [] | g ∷ (
 unfoldable pub rowWords : Opts → Bool → Row → List Word
 rowWords o mail row =
     let gs = glyphs (o .glue) (row .text) in
-    elim mail [ true ↦ mailWords (runs gs) | false ↦ lineWords o true false (runs (from (row .start) gs)) ]
+    elim mail [ true ↦ mailWords (runs gs) | false ↦ lineWords o true false (runs (glyphsFrom (row .start) gs)) ]
 
 unfoldable pub wordsOf : Opts → Paragraph → List Word
 wordsOf o p = joined (rowWords o (p .mail)) (p .rows)

@@ -13,8 +13,8 @@ ghost use Rattle.pieces.specs.Contracts.Bounds.{AllBegin};
 ghost use Rattle.records.specs.Contracts.Table.{wordsIn};
 ghost use Rattle.words.specs.Words.{hasTab};
 ghost use Rattle.words.specs.Contracts.Places.{wordsAt};
-ghost use Rattle.words.specs.Contracts.Scan.{gapIn, gapBehind, punctCode, OverBlanks, OverInk, number, eightAt, Plain, OverPlain, OneSpace, wordAt, mailAt, wordsFrom, NextIs};
-ghost use Rattle.words.specs.Contracts.Split.{Kept, Filled, Split};
+ghost use Rattle.words.specs.Contracts.Scan.{gapIn, gapBehind, punctCode, OverBlanks, OverInk, asNumber, eightAt, Plain, OverPlain, OneSpace, wordAt, mailAt, wordsFrom, NextIs};
+ghost use Rattle.words.specs.Contracts.Split.{Kept, WordsFilled, Split};
 use options::Options;
 use records::Before;
 use records::Word;
@@ -97,7 +97,7 @@ fn split_line(
     table: &mut [u32; 8192],
 ) -> Count
     requires { ⌜ (start ≤ end) × (end ≤ length (now notes)) × (length (now notes) ≤ 65536) × (1 ≤ o .tab) × (o .tab ≤ 100) × Kept (length (now notes)) n (now table) ⌝ }
-    ensures { λ r. ⌜ Filled (now (notes .entry)) (wordsIn (now (notes .entry)) n (now (table .entry)) ++ wordsFrom (meant [] o) mail true false (glyphs (o .glue) (slice start end (now (notes .entry))))) (now (table .exit)) r ⌝ }
+    ensures { λ r. ⌜ WordsFilled (now (notes .entry)) (wordsIn (now (notes .entry)) n (now (table .entry)) ++ wordsFrom (meant [] o) mail true false (glyphs (o .glue) (slice start end (now (notes .entry))))) (now (table .exit)) r ⌝ }
 {
     let s = &notes[..end];
     let mut count = n;
@@ -422,7 +422,7 @@ fn plain_among(s: &[u8], i: usize) -> usize
 // The eight bytes at a place as one number, so that one sum tests them all.
 fn eight(s: &[u8], i: usize) -> u64
     requires { ⌜ (i ≤ length (now s)) × (8 ≤ length (now s) - i) ⌝ }
-    ensures { λ r. ⌜ r ≡ number (eightAt (now (s .entry)) i) ⌝ }
+    ensures { λ r. ⌜ r ≡ asNumber (eightAt (now (s .entry)) i) ⌝ }
 {
     let b = i + 1;
     let c = i + 2;

@@ -1,14 +1,14 @@
 -- `demerits::ratio_term` meets its contract. Assumes nothing.
 use lib.Dec.{lit≤}
 use lib.Ieee.{ofBits, ofInt}
-use Rattle.demerits.specs.Contracts.Bounds.{most}
+use Rattle.demerits.specs.Contracts.Bounds.{mostTruncated}
 use Rattle.demerits.proofs.Terms.{weighted-upTo, change-within, ratio-le}
 use Rattle.demerits.proofs.ratio_term.Statement.{statement}
 use Rattle.demerits.proofs.ratio_term.Tie as tie
 
 term-requires : tie.Need-term-requires
 unfolding ofBits ofInt
-term-requires c κs = weighted-upTo most 600 1 _ (lit≤ tt) (lit≤ tt) (lit≤ tt) (change-within (c .args .r) (c .args .old) (c .pre .0) (c .pre .1))
+term-requires c κs = weighted-upTo mostTruncated 600 1 _ (lit≤ tt) (lit≤ tt) (lit≤ tt) (change-within (c .args .r) (c .args .old) (c .pre .0) (c .pre .1))
 
 returns : tie.Need-returns
 unfolding ofBits ofInt

@@ -4,7 +4,7 @@ use Prim.Native.Nat.{ℕ, _/_, _^_}
 use native.Mathlib.Nat.{lt-of-le-of-lt}
 use lib.Dec.{lit<}
 use lib.Ieee.{binary32, toBits}
-use Rattle.demerits.specs.Contracts.Bounds.{most}
+use Rattle.demerits.specs.Contracts.Bounds.{mostTruncated}
 use Rattle.demerits.proofs.Pattern.{digits, cut-whole, shift-fits, places-few, no-nan}
 use Rattle.demerits.proofs.Whole.{whole-le}
 use Rattle.demerits.proofs.trunc.Statement.{statement}
@@ -22,7 +22,7 @@ shr-result c = rw (c .places .ensures) (places-few (toBits binary32 (c .before .
 cast-result : tie.Need-cast-result
 cast-result c =
     let x = c .before .args .x in
-    record { fits = rw (c .places .ensures, cut-whole x (c .before .pre)) (lt-of-le-of-lt (whole-le most x (c .before .pre)) (lit< tt)) }
+    record { fits = rw (c .places .ensures, cut-whole x (c .before .pre)) (lt-of-le-of-lt (whole-le mostTruncated x (c .before .pre)) (lit< tt)) }
 
 returns : tie.Need-returns
 returns c =

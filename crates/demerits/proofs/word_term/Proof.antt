@@ -2,7 +2,7 @@
 use mathlib.Core.Path.{_∙_}
 use native.Mathlib.Omega.{arith}
 use lib.Dec.{lit≤}
-use Rattle.demerits.specs.Contracts.Bounds.{most}
+use Rattle.demerits.specs.Contracts.Bounds.{mostTruncated}
 use Rattle.demerits.proofs.Terms.{weighted-upTo, word-tight, word-any, word-within, word-le}
 use borrow.Author.Needs.{needs}
 use Rattle.demerits.proofs.word_term.Statement.{statement}
@@ -27,7 +27,7 @@ term-requires : tie.Need-term-requires
 term-requires c κs =
     let a = c .before .before .before .before .args in
     rw (c .before .float .ensures, c .float2 .ensures, c .before .before .less .ensures)
-    (weighted-upTo most 300 1 _ (lit≤ tt) (lit≤ tt) (lit≤ tt) (word-within (a .stretch) (a .word) (omega arith) (omega arith) (omega arith)))
+    (weighted-upTo mostTruncated 300 1 _ (lit≤ tt) (lit≤ tt) (lit≤ tt) (word-within (a .stretch) (a .word) (omega arith) (omega arith) (omega arith)))
 
 returns-2 : tie.Need-returns-2
 returns-2 c =

@@ -3,11 +3,11 @@ use mathlib.Core.Bool.{Bool, true, false, cond}
 use Prim.Native.Nat.{ℕ, _+_, _-_, _*_, _≤_}
 use lib.Dec.{T, leb, ltb}
 use lib.Ieee.{Float, nan, inf, fin, up, down, neg}
-use Rattle.demerits.specs.Demerits.{float, lineTerm, ratioTerm}
+use Rattle.demerits.specs.Demerits.{float}
 
 -- the greatest value that is ever truncated: the weight of D
-abbrev pub most : ℕ
-most = 600
+abbrev pub mostTruncated : ℕ
+mostTruncated = 600
 
 -- the greatest cost: (1 + 100 + 300 + 600)²
 abbrev pub mostCost : ℕ
@@ -20,11 +20,11 @@ within n (inf s) = false
 within n (fin s m e) = leb (m * up e) (n * down e)
 
 -- x is finite, has no sign, and x ≤ n
-abbrev pub upTo : ℕ → Float → Bool
-upTo n nan = false
-upTo n (inf s) = false
-upTo n (fin true m e) = false
-upTo n (fin false m e) = leb (m * up e) (n * down e)
+abbrev pub atMost : ℕ → Float → Bool
+atMost n nan = false
+atMost n (inf s) = false
+atMost n (fin true m e) = false
+atMost n (fin false m e) = leb (m * up e) (n * down e)
 
 -- how many of the 24 digits of an f32 stand behind the point, by its exponent as it is written
 abbrev pub places : ℕ → ℕ
@@ -33,7 +33,3 @@ places e = cond (ltb e 127) 24 (150 - e)
 -- goal − t as a float, but −0 where they are equal
 abbrev pub apart : ℕ → ℕ → Float
 apart goal t = cond (ltb t goal) (float (goal - t)) (neg (float (t - goal)))
-
--- the cost, where W is given
-abbrev pub costWith : Float → Float → ℕ → ℕ
-costWith r old w = let c = 1 + lineTerm r + w + ratioTerm r old in c * c

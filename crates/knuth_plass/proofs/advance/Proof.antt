@@ -6,7 +6,7 @@ use native.Mathlib.Omega.{arith}
 use borrow.Author.Needs.{needs}
 use Rattle.knuth_plass.specs.KnuthPlass.{reduced}
 use Rattle.knuth_plass.specs.Contracts.Table.{tables}
-use Rattle.knuth_plass.specs.Contracts.Round.{lessened, breaksOf, Fit, Goes}
+use Rattle.knuth_plass.specs.Contracts.Round.{lessened, breaksListed, Fit, RoundGoes}
 use Rattle.knuth_plass.proofs.Over.{answer, first-room, fit-first, goes-first, fit-end, done}
 use Rattle.knuth_plass.proofs.advance.Statement.{statement}
 use Rattle.knuth_plass.proofs.advance.Tie as tie
@@ -15,7 +15,7 @@ abbrev Inv-loop : tie.InvT-loop
 Inv-loop g turn st breaks₀ ratios active₀ first s₀ count k₀ breaks active s k =
     Fit turn st k (tables breaks ratios) active s
     × ((notes : List ℕ)
-    → Goes g turn st (answer g turn (map (reduced (st .reduction)) (breaksOf (st .count) (tables breaks₀ ratios) active₀)) notes) k (tables breaks ratios) active s)
+    → RoundGoes g turn st (answer g turn (map (reduced (st .reduction)) (breaksListed (st .count) (tables breaks₀ ratios) active₀)) notes) k (tables breaks ratios) active s)
 
 abbrev μ-loop : tie.MeasureT-loop
 μ-loop g turn st breaks₀ ratios active₀ first s₀ count k₀ breaks active s k = st .count - k

@@ -5,8 +5,8 @@ use Prim.Native.Nat.{_≤_, _<_, _-_}
 use native.Mathlib.Omega.{arith}
 use lib.Seq.{slice}
 use Rattle.knuth_plass.specs.KnuthPlass.{leastFrom, least as leastOf}
-use Rattle.knuth_plass.specs.Contracts.Table.{tables, meant}
-use Rattle.knuth_plass.specs.Contracts.Round.{breaksOf}
+use Rattle.knuth_plass.specs.Contracts.Table.{tables, breakMeant}
+use Rattle.knuth_plass.specs.Contracts.Round.{breaksListed}
 use Rattle.knuth_plass.proofs.Lowest.{active-below, least-begins, least-goes, least-found}
 use Rattle.knuth_plass.proofs.least.Statement.{statement}
 use Rattle.knuth_plass.proofs.least.Tie as tie
@@ -14,7 +14,7 @@ use Rattle.knuth_plass.proofs.least.Tie as tie
 abbrev Inv-loop : tie.InvT-loop
 Inv-loop breaks ratios active st found₀ k₀ found k =
     (k ≤ st .count) × (found < st .size)
-    × (leastFrom (meant (tables breaks ratios) found) (map (meant (tables breaks ratios)) (slice k (st .count) active)) ≡ leastOf (breaksOf (st .count) (tables breaks ratios) active))
+    × (leastFrom (breakMeant (tables breaks ratios) found) (map (breakMeant (tables breaks ratios)) (slice k (st .count) active)) ≡ leastOf (breaksListed (st .count) (tables breaks ratios) active))
 
 abbrev μ-loop : tie.MeasureT-loop
 μ-loop breaks ratios active st found₀ k₀ found k = st .count - k

@@ -1,7 +1,7 @@
 -- `knuth_plass::offered` meets its contract. One law for each way through it: the last word, beaten, and any other.
 use mathlib.Core.Path.{refl, ap, _∙_}
 use lib.Ieee.{Float, ofBits}
-use Rattle.demerits.specs.Contracts.Bounds.{costWith}
+use Rattle.demerits.specs.Demerits.{costWith}
 use Rattle.demerits.proofs.Terms.{cost-with}
 use Rattle.knuth_plass.proofs.Line.{offered-last-none, offered-last, offered-beaten, offered-full}
 use borrow.Author.Needs.{needs}

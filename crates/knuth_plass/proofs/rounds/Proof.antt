@@ -11,14 +11,14 @@ use Rattle.records.specs.Contracts.Table.{wordIn, wordsIn}
 use Rattle.records.specs.declared.Word.{Word as WordRecord}
 use Rattle.knuth_plass.specs.KnuthPlass.{Active, roundsFrom}
 use Rattle.knuth_plass.specs.Contracts.Table.{tables}
-use Rattle.knuth_plass.specs.Contracts.Round.{Ready, standing, begin}
+use Rattle.knuth_plass.specs.Contracts.Round.{RoundReady, standing, begin}
 use Rattle.knuth_plass.proofs.Paragraph.{ready-first, begins, rounds-next, rounds-are}
 use Rattle.knuth_plass.proofs.rounds.Statement.{statement}
 use Rattle.knuth_plass.proofs.rounds.Tie as tie
 
 abbrev Inv-loop : tie.InvT-loop
 Inv-loop g table n breaks₀ ratios₀ active₀ st₀ sentence₀ i₀ breaks ratios active st sentence i =
-    (1 ≤ i) × (i ≤ n) × Ready i st (tables breaks ratios) active
+    (1 ≤ i) × (i ≤ n) × RoundReady i st (tables breaks ratios) active
     × ((notes : List ℕ)
     → roundsFrom g sentence i (standing st (tables breaks ratios) active) (drop i (wordsIn notes n table))
     ≡ roundsFrom g false 1 (begin g (meaning notes (wordIn table 0))) (drop 1 (wordsIn notes n table)))

@@ -21,7 +21,7 @@ use Rattle.knuth_plass.specs.declared.Turn.{Turn}
 use Rattle.knuth_plass.specs.declared.State.{State}
 use Rattle.knuth_plass.specs.declared.Standing.{Standing}
 use Rattle.knuth_plass.specs.KnuthPlass.{stretchOf, Place, Break, Active, Offer, none, offer, after, reduced, staying, lesser, offerOf, bestOffer, leastFrom, least, restart, settled, withOffer, round, firstBreak, roundsFrom, pathOf, startsLine, bestBreaks}
-use Rattle.knuth_plass.specs.Contracts.Table.{Tables, Sized, breakIn, placeOf, pathTo, seen, meant, Sound, Filled, Ascends}
+use Rattle.knuth_plass.specs.Contracts.Table.{Tables, Sized, breakIn, placeOf, pathTo, seen, breakMeant, Sound, Filled, Ascends}
 
 -- ---- what can be asked of a caller
 
@@ -84,11 +84,11 @@ stays s best = record { kept = s .kept + 1; from = s .from; least = s .least; be
 abbrev pub nothing : ℕ
 nothing = 2 ^ 40
 
-abbrev pub from : ℕ → ℕ → Float → Best
-from p d r = record { total = d; previous = p; ratio = r }
+abbrev pub bestFrom : ℕ → ℕ → Float → Best
+bestFrom p d r = record { total = d; previous = p; ratio = r }
 
 unfoldable pub better : Best → ℕ → ℕ → Float → Best
-better b p d r = cond (leb (b .total) d) b (from p d r)
+better b p d r = cond (leb (b .total) d) b (bestFrom p d r)
 
 -- the offer that it means, behind word i
 unfoldable pub offerIn : Setting → ℕ → Tables → Best → Offer
@@ -125,7 +125,7 @@ pub record OfferedIs (g : Setting) (turn : Turn) (n : ℕ) (b : Record) (best r 
 -- ---- the active breaks
 
 -- before a round: count of them, and size records in the tables
-pub record Ready (i : ℕ) (st : Standing) (t : Tables) (a : List ℕ) : Type 0 where
+pub record RoundReady (i : ℕ) (st : Standing) (t : Tables) (a : List ℕ) : Type 0 where
   pub filled : Filled i (st .size) t
   pub active : length a ≡ 1024
   pub few : st .size ≤ i
@@ -133,11 +133,11 @@ pub record Ready (i : ℕ) (st : Standing) (t : Tables) (a : List ℕ) : Type 0 
   pub room : st .count ≤ st .size
   pub ascends : Ascends 0 (st .size) (take (st .count) a)
 
-abbrev pub breaksOf : ℕ → Tables → List ℕ → List Break
-breaksOf count t a = map (meant t) (take count a)
+abbrev pub breaksListed : ℕ → Tables → List ℕ → List Break
+breaksListed count t a = map (breakMeant t) (take count a)
 
 abbrev pub standing : Standing → Tables → List ℕ → Active
-standing st t a = record { breaks = breaksOf (st .count) t a; reduction = st .reduction }
+standing st t a = record { breaks = breaksListed (st .count) t a; reduction = st .reduction }
 
 -- in a round: k of them are done, and those that stay are the first of the list
 pub record Fit (turn : Turn) (st : Standing) (k : ℕ) (t : Tables) (a : List ℕ) (s : State) : Type 0 where
@@ -152,7 +152,7 @@ pub record Fit (turn : Turn) (st : Standing) (k : ℕ) (t : Tables) (a : List �
   pub best : s .best .total < nothing → BestFits (turn .number) (st .size) (s .best)
 
 -- what a round comes to, for the notes that its word stands in
-pub record Answer : Type 0 where
+pub record Outcome : Type 0 where
   pub notes : List ℕ
   pub stayed : List Break
   pub best : Offer
@@ -160,28 +160,28 @@ pub record Answer : Type 0 where
 
 -- the breaks that are still to be done
 abbrev pub rest : Standing → ℕ → Tables → List ℕ → List Break
-rest st k t a = map (reduced (st .reduction)) (map (meant t) (slice k (st .count) a))
+rest st k t a = map (reduced (st .reduction)) (map (breakMeant t) (slice k (st .count) a))
 
 -- the least break so far has the demerits that s has; while nothing stays, its record has not changed
-pub record Found (st : Standing) (t : Tables) (s : State) (b : Break) : Type 0 where
+pub record LeastFound (st : Standing) (t : Tables) (s : State) (b : Break) : Type 0 where
   pub demerits : s .least ≡ b .demerits
   pub again : s .kept ≡ 0 → seen (pathTo t (s .from)) (lessened (st .reduction) (breakIn t (s .from))) ≡ b
 
 -- what is done and what is still to do come to the answer
-pub record Goes (g : Setting) (turn : Turn) (st : Standing) (z : Answer) (k : ℕ) (t : Tables) (a : List ℕ) (s : State) : Type 0 where
-  pub stayed : map (meant t) (take (s .kept) a) ++ staying g (turn .space) (meaning (z .notes) (turn .word)) (rest st k t a) ≡ z .stayed
+pub record RoundGoes (g : Setting) (turn : Turn) (st : Standing) (z : Outcome) (k : ℕ) (t : Tables) (a : List ℕ) (s : State) : Type 0 where
+  pub stayed : map (breakMeant t) (take (s .kept) a) ++ staying g (turn .space) (meaning (z .notes) (turn .word)) (rest st k t a) ≡ z .stayed
   pub best : lesser (offerIn g (turn .number) t (s .best))
       (bestOffer g (turn .last) (turn .number) (turn .space) (meaning (z .notes) (turn .word)) (rest st k t a))
       ≡ z .best
   pub so-far : Break
-  pub found : Found st t s so-far
+  pub found : LeastFound st t s so-far
   pub least : leastFrom so-far (rest st k t a) ≡ z .least
 
 -- all are done: what stays, the best offer and the least of the breaks that the round began with
 pub record Done (g : Setting) (turn : Turn) (st : Standing) (active : List Break) (t : Tables) (a : List ℕ) (s : State) (notes : List ℕ) : Type 0 where
-  pub stayed : breaksOf (s .kept) t a ≡ staying g (turn .space) (meaning notes (turn .word)) active
+  pub stayed : breaksListed (s .kept) t a ≡ staying g (turn .space) (meaning notes (turn .word)) active
   pub best : offerIn g (turn .number) t (s .best) ≡ bestOffer g (turn .last) (turn .number) (turn .space) (meaning notes (turn .word)) active
-  pub found : Found st t s (least active)
+  pub found : LeastFound st t s (least active)
 
 -- ---- what becomes of it
 
@@ -194,16 +194,16 @@ pub record Restarted (g : Setting) (turn : Turn) (n : ℕ) (b r : Record) : Type
 
 -- the active breaks after a round whose least break, least offer and staying breaks s has
 pub record Settled (g : Setting) (turn : Turn) (st : Standing) (t : Tables) (a : List ℕ) (s : State) (t₁ : Tables) (a₁ : List ℕ) (r : Standing) : Type 0 where
-  pub ready : Ready (turn .number + 1) r t₁ a₁
-  pub is : (notes : List ℕ) (active : List Break) → Found st t s (least active)
+  pub ready : RoundReady (turn .number + 1) r t₁ a₁
+  pub is : (notes : List ℕ) (active : List Break) → LeastFound st t s (least active)
       → standing r t₁ a₁
-      ≡ settled g (turn .number) (turn .space) (meaning notes (turn .word)) active (withOffer (breaksOf (s .kept) t a) (offerIn g (turn .number) t (s .best)))
+      ≡ settled g (turn .number) (turn .space) (meaning notes (turn .word)) active (withOffer (breaksListed (s .kept) t a) (offerIn g (turn .number) t (s .best)))
 
 -- ---- rounds
 
 -- after the round of word i
 pub record RoundIs (g : Setting) (last sentence : Bool) (i : ℕ) (w : WordRecord) (st : Standing) (t : Tables) (a : List ℕ) (t₁ : Tables) (a₁ : List ℕ) (r : Standing) : Type 0 where
-  pub ready : Ready (i + 1) r t₁ a₁
+  pub ready : RoundReady (i + 1) r t₁ a₁
   pub is : (notes : List ℕ) → standing r t₁ a₁ ≡ round g last sentence i (meaning notes w) (standing st t a)
 
 -- each of n words is at least a column wide
@@ -216,7 +216,7 @@ begin g w = record { breaks = firstBreak g w ∷ []; reduction = 0 }
 
 -- after the rounds of n words
 pub record RoundsAre (g : Setting) (n : ℕ) (table : List ℕ) (t : Tables) (a : List ℕ) (r : Standing) : Type 0 where
-  pub ready : Ready n r t a
+  pub ready : RoundReady n r t a
   pub is : (notes : List ℕ) → standing r t a ≡ roundsFrom g false 1 (begin g (meaning notes (wordIn table 0))) (drop 1 (wordsIn notes n table))
 
 -- active breaks, by number, of a table of st .size records
@@ -230,7 +230,7 @@ pub record Listed (st : Standing) (a : List ℕ) : Type 0 where
 -- the number of the first least active break
 pub record LeastIs (st : Standing) (t : Tables) (a : List ℕ) (r : ℕ) : Type 0 where
   pub within : r < st .size
-  pub is : meant t r ≡ least (breaksOf (st .count) t a)
+  pub is : breakMeant t r ≡ least (breaksListed (st .count) t a)
 
 -- the tables that are lent have their length
 pub record Lent (t : Tables) (a : List ℕ) (marks : List Bool) : Type 0 where

@@ -25,27 +25,27 @@ pub record Sized (t : Tables) : Type 0 where
   pub ratios : length (t .ratios) ≡ 1024
 
 -- number j of record i
-abbrev pub numberAt : List ℕ → ℕ → ℕ → ℕ
-numberAt numbers i j = getD numbers (i * 8 + j) 0
+abbrev pub breakNumber : List ℕ → ℕ → ℕ → ℕ
+breakNumber numbers i j = getD numbers (i * 8 + j) 0
 
 -- record i, put together
 unfoldable pub breakIn : Tables → ℕ → Record
 breakIn t i = record {
-  previous = numberAt (t .numbers) i 0;
-  word = numberAt (t .numbers) i 1;
-  before = eqb (numberAt (t .numbers) i 2) 1;
-  demerits = numberAt (t .numbers) i 3;
+  previous = breakNumber (t .numbers) i 0;
+  word = breakNumber (t .numbers) i 1;
+  before = eqb (breakNumber (t .numbers) i 2) 1;
+  demerits = breakNumber (t .numbers) i 3;
   ratio = getD (t .ratios) i nan;
-  columns = numberAt (t .numbers) i 4;
-  fresh = eqb (numberAt (t .numbers) i 5) 1;
+  columns = breakNumber (t .numbers) i 4;
+  fresh = eqb (breakNumber (t .numbers) i 5) 1;
 }
 
 -- the tables with b taken apart into record i
-unfoldable pub numbersOf : Record → List ℕ
-numbersOf b = b .previous ∷ b .word ∷ cond (b .before) 1 0 ∷ b .demerits ∷ b .columns ∷ cond (b .fresh) 1 0 ∷ []
+unfoldable pub breakNumbers : Record → List ℕ
+breakNumbers b = b .previous ∷ b .word ∷ cond (b .before) 1 0 ∷ b .demerits ∷ b .columns ∷ cond (b .fresh) 1 0 ∷ []
 
 unfoldable pub withBreak : Tables → ℕ → Record → Tables
-withBreak t i b = record { numbers = sets (t .numbers) (i * 8) (numbersOf b); ratios = set (t .ratios) i (b .ratio) }
+withBreak t i b = record { numbers = sets (t .numbers) (i * 8) (breakNumbers b); ratios = set (t .ratios) i (b .ratio) }
 
 -- record i with other demerits and a line of x columns that is not fresh
 unfoldable pub withLine : List ℕ → ℕ → ℕ → ℕ → List ℕ
@@ -75,8 +75,8 @@ pathTo t i = pathIn 1024 (breakIn t) i
 unfoldable pub seen : List Place → Record → Break
 seen path b = record { places = path; demerits = b .demerits; ratio = b .ratio; columns = b .columns; fresh = b .fresh }
 
-unfoldable pub meant : Tables → ℕ → Break
-meant t i = seen (pathTo t i) (breakIn t i)
+unfoldable pub breakMeant : Tables → ℕ → Break
+breakMeant t i = seen (pathTo t i) (breakIn t i)
 
 -- what holds of each record before the round of word i: its ratio, its columns, its demerits and its word are bounded
 pub record Sound (i : ℕ) (b : Record) : Type 0 where
@@ -109,7 +109,7 @@ abbrev pub lesserIn : Tables → ℕ → ℕ → ℕ
 lesserIn t m n = cond (ltb (breakIn t n .demerits) (breakIn t m .demerits)) n m
 
 -- the marks of the first n words say something new, and the others are as they were
-pub record Marked (n : ℕ) (old new : List Bool) (says : ℕ → Bool) : Type 0 where
+pub record MarkedUpTo (n : ℕ) (old new : List Bool) (says : ℕ → Bool) : Type 0 where
   pub sized : length new ≡ 1024
   pub within : (j : ℕ) → j < n → getD new j false ≡ says j
   pub beyond : (j : ℕ) → n ≤ j → getD new j false ≡ getD old j false

@@ -13,16 +13,15 @@ use Rattle.options.specs.declared.Part.{Part}
 use Rattle.options.specs.declared.Part.the-variants.{Absent, Given}
 use Rattle.options.specs.declared.Options.{Options}
 use Rattle.lines.specs.Lines.{Line}
-use Rattle.lines.specs.Classes.{upTo, from, columnBehind, columnsOf}
+use Rattle.lines.specs.Classes.{glyphsBefore, glyphsFrom, columnBehind, columnsOf, shapeAt}
 use Rattle.lines.specs.declared.Extent.{Extent}
 use Rattle.lines.specs.declared.Spot.{Spot}
-use Rattle.lines.specs.declared.Shape.{Shape}
 use Rattle.lines.specs.declared.Class.{Class}
 use Rattle.lines.specs.declared.Class.the-variants.{Plain, Formatted}
 
 -- a line by its lengths: of its text, and with its line end
-unfoldable pub extentOf : Line → Extent
-extentOf l = record { text = length (l .text); whole = length (l .raw) }
+unfoldable pub lengthsOf : Line → Extent
+lengthsOf l = record { text = length (l .text); whole = length (l .raw) }
 
 -- a part given lies in the block
 abbrev pub Lies : List ℕ → Part → Type 0
@@ -48,18 +47,10 @@ lineStart = record { at = 0; column = 0 }
 unfoldable pub behindAll : ℕ → Spot → List Glyph → Spot
 behindAll tab m gs = record { at = m .at + extent gs; column = columnsOf tab (m .column) gs }
 
--- the shape of a formatted line with a prefix of so many bytes at a place, and the class of a line whose prefix was looked for; the
--- skip prefix is left out of account
-unfoldable pub shapeBehind : ℕ → ℕ → List Glyph → ℕ → Shape
-shapeBehind tab size gs place =
-    let end = place + size in
-    let margin = behindAll tab lineStart (upTo end gs) in
-    let indent = behindAll tab margin (while isBlank (from end gs)) in
-    record { prefix = place; indent = indent .at; columns = indent .column; margin = margin .column }
-
+-- the class of a line whose prefix, of so many bytes, was looked for; the skip prefix is left out of account
 abbrev pub classAt : ℕ → ℕ → List Glyph → Found → Class
 classAt tab size gs Nowhere = Plain
-classAt tab size gs (At place) = cond (every isBlank (from (place + size) gs)) Plain (Formatted (shapeBehind tab size gs place))
+classAt tab size gs (At place) = cond (every isBlank (glyphsFrom (place + size) gs)) Plain (Formatted (shapeAt tab size gs place))
 
 -- r is the spot behind the glyph at m
 pub record Behind (glue : Bool) (tab : ℕ) (line : List ℕ) (m r : Spot) : Type 0 where
@@ -77,5 +68,5 @@ pub record BehindBlanks (glue : Bool) (tab : ℕ) (line : List ℕ) (m r : Spot)
 
 -- r is the spot behind the glyphs before a place, where those from it on stand
 pub record BehindPlace (glue : Bool) (tab : ℕ) (line : List ℕ) (place : ℕ) (r : Spot) : Type 0 where
-  pub spot : r ≡ behindAll tab lineStart (upTo place (glyphs glue line))
-  pub rest : glyphs glue (drop (r .at) line) ≡ from place (glyphs glue line)
+  pub spot : r ≡ behindAll tab lineStart (glyphsBefore place (glyphs glue line))
+  pub rest : glyphs glue (drop (r .at) line) ≡ glyphsFrom place (glyphs glue line)

@@ -14,9 +14,9 @@ bulk [] = 0
 bulk (w ∷ ws) = length (w .blanks) + length (w .text) + bulk ws
 
 -- a paragraph takes no more than the first indent, its words with their blanks, for each word an indent and two bytes, and a line feed
-abbrev pub most : List ℕ → List ℕ → List Word → ℕ
-most first indent ws = length first + bulk ws + length ws * (length indent + 2) + 1
+abbrev pub longest : List ℕ → List ℕ → List Word → ℕ
+longest first indent ws = length first + bulk ws + length ws * (length indent + 2) + 1
 
 -- the same of what emission is handed
 abbrev pub mostEmitted : List ℕ → List ℕ → ℕ → Layout → ℕ
-mostEmitted notes table n l = most (marginOf notes (l .first)) (marginOf notes (l .indent)) (wordsIn notes n table)
+mostEmitted notes table n l = longest (marginOf notes (l .first)) (marginOf notes (l .indent)) (wordsIn notes n table)

@@ -8,21 +8,21 @@ use lib.ListN.{length, drop}
 use lib.Seq.{slice}
 use Rattle.text.specs.Characters.{glyphs}
 use Rattle.lines.specs.Lines.{Line, linesOf}
-use Rattle.lines.specs.Classes.{from}
+use Rattle.lines.specs.Classes.{glyphsFrom}
 use Rattle.pieces.specs.declared.Margin.{Margin}
 use Rattle.pieces.specs.declared.Paragraph.{Paragraph}
 use Rattle.pieces.specs.declared.Piece.{Piece}
 use Rattle.pieces.specs.declared.Piece.the-variants.{Blank, Plain, Text}
 
 -- a glyph begins at a place of a line, or the line ends there
-pub record Begins (glue : Bool) (start : ℕ) (text : List ℕ) : Type 0 where
+pub record GlyphBegins (glue : Bool) (start : ℕ) (text : List ℕ) : Type 0 where
   pub within : start ≤ length text
-  pub glyph : from start (glyphs glue text) ≡ glyphs glue (drop start text)
+  pub glyph : glyphsFrom start (glyphs glue text) ≡ glyphs glue (drop start text)
 
 -- so at the start of the first line and at the later start of the others
 unfoldable pub AllBegin : Bool → ℕ → ℕ → List Line → Type 0
 AllBegin glue start later [] = Unit {0}
-AllBegin glue start later (l ∷ ls) = Begins glue start (l .text) × AllBegin glue later later ls
+AllBegin glue start later (l ∷ ls) = GlyphBegins glue start (l .text) × AllBegin glue later later ls
 
 -- an indent of a paragraph that stands from at up to next; a tab takes up to 100 columns, and four spaces may be added
 pub record MarginWithin (at next : ℕ) (m : Margin) : Type 0 where

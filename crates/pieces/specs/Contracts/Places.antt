@@ -15,7 +15,7 @@ use Rattle.lines.specs.Classes.{classify}
 use Rattle.lines.specs.declared.Shape.{Shape}
 use Rattle.lines.specs.declared.Class.{Class}
 use Rattle.lines.specs.declared.Class.the-variants.{Blank, Plain, Formatted}
-use Rattle.pieces.specs.Pieces.{Second, alone, joins, isHeader, further, secondOf, follow, agrees, headerText, printable, noColon}
+use Rattle.pieces.specs.Pieces.{Second, alone, joins, startsMail, further, secondOf, follow, agrees, printable, noColon}
 use Rattle.options.specs.declared.Part.{Part}
 use Rattle.options.specs.declared.Part.the-variants.{Absent, Given}
 use Rattle.pieces.specs.declared.Rule.{Rule}
@@ -37,7 +37,7 @@ taken ls = length (joined rawBytes ls)
 
 -- the indent of a line of a shape that begins at a place, with further spaces
 abbrev pub marginAt : ℕ → ℕ → Shape → Margin
-marginAt at more s = record { start = at; end = at + s .indent; more = more; columns = s .columns + more }
+marginAt at more s = record { start = at; end = at + s .«indent_end»; more = more; columns = s .«indent_length» + more }
 
 abbrev pub spacesAt : ℕ → ℕ → Margin
 spacesAt at n = record { start = at; end = at; more = n; columns = n }
@@ -48,8 +48,8 @@ laterAt o at next s alone = marginAt at (cond (o .tagged) 4 0) s
 laterAt o at next s (joins text t) = marginAt next 0 t
 
 abbrev pub laterStart : Shape → Second → ℕ
-laterStart s alone = s .indent
-laterStart s (joins text t) = t .indent
+laterStart s alone = s .«indent_end»
+laterStart s (joins text t) = t .«indent_end»
 
 unfoldable pub indentAt : Opts → Bool → ℕ → ℕ → Shape → List Line → Margin
 indentAt o mail at next s ls =
@@ -61,8 +61,8 @@ indentAt o mail at next s ls =
 unfoldable pub startAt : Opts → Bool → Shape → List Line → ℕ
 startAt o mail s ls =
     elim mail [
-      | true ↦ s .indent
-      | false ↦ elim (o .crown || o .tagged) [ true ↦ laterStart s (secondOf o s ls) | false ↦ s .indent ]
+      | true ↦ s .«indent_end»
+      | false ↦ elim (o .crown || o .tagged) [ true ↦ laterStart s (secondOf o s ls) | false ↦ s .«indent_end» ]
     ]
 
 -- the paragraph whose first line, of shape s, stands from at up to next, with the lines ls behind it
@@ -72,14 +72,14 @@ paragraphWith o mail at next s ls = record {
   mail = mail;
   first = cond mail (spacesAt at 0) (marginAt at 0 s);
   indent = indentAt o mail at next s ls;
-  start = s .indent;
+  start = s .«indent_end»;
   later = startAt o mail s ls;
 }
 
 abbrev pub pieceFrom : Opts → Bool → ℕ → Line → List Line → Class → Piece
 pieceFrom o nextMail at l ls Blank = BlankAt (at + length (l .raw))
 pieceFrom o nextMail at l ls Plain = PlainAt (at + length (l .text)) (at + length (l .raw))
-pieceFrom o nextMail at l ls (Formatted s) = Text (paragraphWith o (isHeader o nextMail s (l .text)) at (at + length (l .raw)) s ls)
+pieceFrom o nextMail at l ls (Formatted s) = Text (paragraphWith o (startsMail (o .mail) nextMail s (l .text)) at (at + length (l .raw)) s ls)
 
 abbrev pub pieceOf : Opts → Bool → ℕ → List Line → Piece
 pieceOf o nextMail at [] = BlankAt at
@@ -103,11 +103,8 @@ secondPlace next (joins text t) = Joins next t
 unfoldable pub secondAt : Opts → Shape → List ℕ → ℕ → SecondAt
 secondAt o s notes at = secondPlace (at + length (firstLine (drop at notes) .raw)) (secondOf o s (linesOf (drop at notes)))
 
-unfoldable pub startsMail : Bool → Bool → Shape → List ℕ → Bool
-startsMail mail nextMail s line = mail && nextMail && eqb (s .indent) 0 && headerText line
-
 -- what the functions ask: the notes are short, the options are those that a block gives, a place lies in the notes
-pub record Ready (notes block : List ℕ) (o : Options) (at : ℕ) : Type 0 where
+pub record PieceReady (notes block : List ℕ) (o : Options) (at : ℕ) : Type 0 where
   pub short : length notes ≤ 65536
   pub usable : Usable block o
   pub place : at ≤ length notes
@@ -125,8 +122,8 @@ pub record LineIs (o : Opts) (notes : List ℕ) (at : ℕ) (r : Classed) : Type 
 
 -- a shape of a line that begins at a place
 pub record Shaped (notes : List ℕ) (at : ℕ) (s : Shape) : Type 0 where
-  pub indent : at + s .indent ≤ length notes
-  pub columns : s .columns ≤ 6553600
+  pub indent : at + s .«indent_end» ≤ length notes
+  pub columns : s .«indent_length» ≤ 6553600
 
 -- a second line that joins: the line behind it begins at next, and it has the shape s
 pub record Joined (notes : List ℕ) (at next : ℕ) (s : Shape) : Type 0 where
@@ -149,11 +146,8 @@ isGiven Absent = false
 isGiven (Given start end) = true
 
 unfoldable pub passesRule : Rule → Part → Shape → Bool
-passesRule Mail prefix s = ltb 0 (s .indent) && (not (isGiven prefix) || ltb 0 (s .prefix))
+passesRule Mail prefix s = ltb 0 (s .«indent_end») && (not (isGiven prefix) || ltb 0 (s .«prefix_place»))
 passesRule (Like a) prefix s = agrees a s
-
-unfoldable pub secondRule : Bool → Shape → Shape → Bool
-secondRule tagged a b = eqb (a .prefix) (b .prefix) && eqb (a .margin) (b .margin) && not (tagged && eqb (a .indent) (b .indent) && eqb (a .columns) (b .columns))
 
 -- a byte of a header's name: printable and no colon
 abbrev pub headerName : ℕ → Bool

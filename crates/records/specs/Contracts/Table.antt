@@ -12,9 +12,9 @@ use Rattle.records.specs.declared.Word.{Word as Record}
 use Rattle.records.specs.Word.{Word, meaning}
 
 -- the count before a tab as a number: 0 is absent
-abbrev pub numberOf : Before → ℕ
-numberOf Absent = 0
-numberOf (Count n) = n + 1
+abbrev pub beforeNumber : Before → ℕ
+beforeNumber Absent = 0
+beforeNumber (Count n) = n + 1
 
 abbrev pub beforeOf : ℕ → Before
 beforeOf n = cond (eqb n 0) Absent (Count (n - 1))
@@ -24,29 +24,29 @@ abbrev pub marksOf : Record → ℕ
 marksOf w = cond (w .first) 1 0 + cond (w .punct) 2 0 + cond (w .sentence) 4 0
 
 -- number j of record i of a table
-abbrev pub number : List ℕ → ℕ → ℕ → ℕ
-number t i j = getD t (i * 8 + j) 0
+abbrev pub numberIn : List ℕ → ℕ → ℕ → ℕ
+numberIn t i j = getD t (i * 8 + j) 0
 
 -- record i, put together
 unfoldable pub wordIn : List ℕ → ℕ → Record
 wordIn t i = record {
-  from = number t i 0;
-  start = number t i 1;
-  end = number t i 2;
-  width = number t i 3;
-  before = beforeOf (number t i 4);
-  after = number t i 5;
-  first = eqb (number t i 6 % 2) 1;
-  punct = eqb (number t i 6 / 2 % 2) 1;
-  sentence = eqb (number t i 6 / 4 % 2) 1;
+  from = numberIn t i 0;
+  start = numberIn t i 1;
+  end = numberIn t i 2;
+  width = numberIn t i 3;
+  before = beforeOf (numberIn t i 4);
+  after = numberIn t i 5;
+  first = eqb (numberIn t i 6 % 2) 1;
+  punct = eqb (numberIn t i 6 / 2 % 2) 1;
+  sentence = eqb (numberIn t i 6 / 4 % 2) 1;
 }
 
 -- the table with w taken apart into record i
-unfoldable pub numbersOf : Record → List ℕ
-numbersOf w = w .from ∷ w .start ∷ w .end ∷ w .width ∷ numberOf (w .before) ∷ w .after ∷ marksOf w ∷ []
+unfoldable pub wordNumbers : Record → List ℕ
+wordNumbers w = w .from ∷ w .start ∷ w .end ∷ w .width ∷ beforeNumber (w .before) ∷ w .after ∷ marksOf w ∷ []
 
 unfoldable pub withWord : List ℕ → ℕ → Record → List ℕ
-withWord t i w = sets t (i * 8) (numbersOf w)
+withWord t i w = sets t (i * 8) (wordNumbers w)
 
 -- seven numbers stored one by one
 abbrev pub stored : List ℕ → ℕ → ℕ → ℕ → ℕ → ℕ → ℕ → ℕ → ℕ → List ℕ
@@ -66,7 +66,7 @@ pub record Small (w : Record) : Type 0 where
   pub start : w .start < 2 ^ 32
   pub end : w .end < 2 ^ 32
   pub width : w .width < 2 ^ 32
-  pub before : numberOf (w .before) < 2 ^ 32
+  pub before : beforeNumber (w .before) < 2 ^ 32
   pub after : w .after < 2 ^ 32
 
 -- what reading record i of a table gives

@@ -27,7 +27,7 @@ use Rattle.records.specs.Contracts.Table.{wordsIn}
 use Rattle.records.specs.Contracts.Marks.{breaksIn}
 use Rattle.words.specs.Contracts.Places.{wordsAt}
 use Rattle.spacing.specs.declared.Setting.{Setting}
-use Rattle.output.specs.Contracts.Bound.{most}
+use Rattle.output.specs.Contracts.Bound.{longest}
 use Rattle.output.specs.Emission.{emit}
 use Rattle.output.specs.Contracts.Sink.{Wrote, Left}
 use Rattle.output.specs.Contracts.Writers.{marginOf, MarginIn}
@@ -179,7 +179,7 @@ pub record TextPut (notes : List ℕ) (at : ℕ) (o : Options) (p : Paragraph) (
   pub wrote : Wrote out written
       (emit (o .uniform || p .mail) (marginOf notes (p .first)) (marginOf notes (p .indent)) (broken (o .quick || p .mail) (settingIn o p) (wordsFor block notes at o p)) (wordsFor block notes at o p))
       out′ (d .written)
-  pub most : d .written ≤ written + most (marginOf notes (p .first)) (marginOf notes (p .indent)) (wordsFor block notes at o p)
+  pub most : d .written ≤ written + longest (marginOf notes (p .first)) (marginOf notes (p .indent)) (wordsFor block notes at o p)
 
 abbrev pub TextStepped : List ℕ → ℕ → Options → Paragraph → List ℕ → ℕ → List ℕ → Step → List ℕ → Type 0
 TextStepped notes at o p out written out′ (On d) block = TextPut notes at o p out written out′ d block

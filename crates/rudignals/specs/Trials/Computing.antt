@@ -7,8 +7,8 @@ use Rattle.text.specs.Characters.{accepted, character, blankCode, widthOf, glyp
 use Rattle.options.specs.Opts.{meant}
 use Rattle.options.specs.OptionBlock.{number, tagOf, sizeOf, valueOf, nextField, fields, allowed, wellFormed, firstFault, partOf, fits, optionsOf, readBlock}
 use Rattle.lines.specs.Lines.{body, withoutReturn, firstLine, linesOf}
-use Rattle.lines.specs.Classes.{upTo, from, nextStop, columnBehind, columnsOf, search, shapeAt, classify}
-use Rattle.pieces.specs.Pieces.{fromWord, headerText, isHeader, continues, agrees, second, follow, secondOf, further, indentOf, firstIndent, indentFor, rowOf, paragraphAt, nextPiece, pieces}
+use Rattle.lines.specs.Classes.{glyphsBefore, glyphsFrom, nextStop, columnBehind, columnsOf, search, shapeAt, classify}
+use Rattle.pieces.specs.Pieces.{fromWord, headerText, startsMail, continues, agrees, secondRule, follow, secondOf, further, indentOf, firstIndent, indentFor, rowOf, paragraphAt, nextPiece, pieces}
 use Rattle.words.specs.Words.{runOf, runs, bytesOf, widthSum, gapFrom, gapOf, punctAtEnd, wideGap, wordOf, lineWords, mailWord, mailWords, rowWords, wordsOf}
 use Rattle.spacing.specs.Spacing.{gapWidth, addedSpace}
 use Rattle.output.specs.Emission.{spaceBefore, emitRest, emit}
@@ -19,5 +19,5 @@ use Rattle.rudignals.specs.Answers.{numbered, outputAfter}
 use Rattle.rudignals.specs.Format.{settingOf, breaksOf, formatted, outputOf, digest, extentOf, longParagraph, answer}
 
 unfoldable pub everything : Unit {0}
-unfolding mul div sub ofInt walkUpTo walk piece each while behind every begins joined scalar encode spelled decode accepted character blankCode widthOf glyph glyphs extent damage meant number tagOf sizeOf valueOf nextField fields allowed wellFormed firstFault partOf fits optionsOf readBlock body withoutReturn firstLine linesOf upTo from nextStop columnBehind columnsOf search shapeAt classify fromWord headerText isHeader continues agrees second follow secondOf further indentOf firstIndent indentFor rowOf paragraphAt nextPiece pieces runOf runs bytesOf widthSum gapFrom gapOf punctAtEnd wideGap wordOf lineWords mailWord mailWords rowWords wordsOf gapWidth addedSpace spaceBefore emitRest emit quickFrom quickBreaks term ratio wordTerm cost firstBreak reduced reached staying offerOf lesser bestOffer leastFrom least restart round roundsFrom pathOf startsLine marksFrom bestBreaks numbered outputAfter settingOf breaksOf formatted outputOf digest extentOf longParagraph answer
+unfolding mul div sub ofInt walkUpTo walk piece each while behind every begins joined scalar encode spelled decode accepted character blankCode widthOf glyph glyphs extent damage meant number tagOf sizeOf valueOf nextField fields allowed wellFormed firstFault partOf fits optionsOf readBlock body withoutReturn firstLine linesOf glyphsBefore glyphsFrom nextStop columnBehind columnsOf search shapeAt classify fromWord headerText startsMail continues agrees secondRule follow secondOf further indentOf firstIndent indentFor rowOf paragraphAt nextPiece pieces runOf runs bytesOf widthSum gapFrom gapOf punctAtEnd wideGap wordOf lineWords mailWord mailWords rowWords wordsOf gapWidth addedSpace spaceBefore emitRest emit quickFrom quickBreaks term ratio wordTerm cost firstBreak reduced reached staying offerOf lesser bestOffer leastFrom least restart round roundsFrom pathOf startsLine marksFrom bestBreaks numbered outputAfter settingOf breaksOf formatted outputOf digest extentOf longParagraph answer
 everything = tt

@@ -2,14 +2,14 @@
 use mathlib.Core.Bool.{Bool}
 use mathlib.Core.Path.{_≡_}
 use Prim.Native.Nat.{ℕ, _+_, _≤_, _<_, _^_}
-use Rattle.records.specs.Contracts.Table.{numberOf}
+use Rattle.records.specs.Contracts.Table.{beforeNumber}
 use Rattle.records.specs.declared.Before.{Before}
 use Rattle.spacing.specs.declared.Setting.{Setting}
 use Rattle.spacing.specs.Spacing.{gapWidth, addedSpace}
 
 pub record GapIs (tab column : ℕ) (before : Before) (after r : ℕ) : Type 0 where
   pub is : r ≡ gapWidth tab column before after
-  pub most : r ≤ after + numberOf before + tab
+  pub most : r ≤ after + beforeNumber before + tab
 
 pub record AddedIs (uniform newLine sentenceStart previousPunct : Bool) (r : ℕ) : Type 0 where
   pub is : r ≡ addedSpace uniform newLine sentenceStart previousPunct

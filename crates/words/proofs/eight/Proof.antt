@@ -1,6 +1,6 @@
 -- `words::eight` meets its contract: byte before byte.
 use borrow.Author.Needs.{needs}
-use Rattle.words.specs.Contracts.Scan.{number}
+use Rattle.words.specs.Contracts.Scan.{asNumber}
 use Rattle.words.proofs.eight.Statement.{statement}
 use Rattle.words.proofs.eight.Tie as tie
 
@@ -74,7 +74,7 @@ with-digit-requires-8 : tie.Need-with-digit-requires-8
 with-digit-requires-8 c κs = search needs
 
 returns : tie.Need-returns
-unfolding number
+unfolding asNumber
 returns c = search needs
 
 pub eight-spec : {M : Type 1} → statement M

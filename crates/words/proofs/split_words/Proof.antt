@@ -11,7 +11,7 @@ use Rattle.options.specs.Opts.{meant}
 use Rattle.lines.specs.Lines.{linesOf}
 use Rattle.pieces.specs.Contracts.Bounds.{AllBegin}
 use Rattle.words.specs.Contracts.Places.{wordsAt}
-use Rattle.words.specs.Contracts.Split.{Filled}
+use Rattle.words.specs.Contracts.Split.{WordsFilled}
 use Rattle.words.specs.Contracts.Scan.{wordsFrom}
 use Rattle.text.specs.Characters.{glyphs}
 use Rattle.records.specs.Word.{Word}
@@ -78,7 +78,7 @@ added c =
     ++ wordsFrom (meant [] (a .o)) (a .mail) true false (glyphs (meant [] (a .o) .glue) (slice (l .i + cond (a .mail) 0 (l .skip)) (l .i + c .before .before .before .before .first-line .result .text) (now (a .notes))))
 
 filled : (c : tie.After-split-line Inv-loop μ-loop)
-    → Filled (now (c .before .before .before .before .before .before .before .before .before .before .args .notes)) (added c) (c .split-line .last .1 .1 .1 .1 .1 .1 .0) (c .split-line .result)
+    → WordsFilled (now (c .before .before .before .before .before .before .before .before .before .before .args .notes)) (added c) (c .split-line .last .1 .1 .1 .1 .1 .1 .0) (c .split-line .result)
 unfolding meant added
 filled c = rw (c .before .before .before .begin .ensures) at (c .split-line .ensures)
 

@@ -9,7 +9,7 @@ use Rattle.lists.specs.Runs.{while, behind}
 use Rattle.text.specs.Characters.{Glyph, glyphs, isBlank, extent}
 use Rattle.options.specs.Opts.{Opts}
 use Rattle.records.specs.Word.{Word, meaning}
-use Rattle.records.specs.Contracts.Table.{numberOf, Within}
+use Rattle.records.specs.Contracts.Table.{beforeNumber, Within}
 use Rattle.records.specs.declared.Word.{Word as Record}
 use Rattle.records.specs.declared.Before.the-variants.{Absent}
 use Rattle.words.specs.Words.{isInk, runs, widthSum, Gap, gapTab, gapOf, hasTab, punctAtEnd, lineWords, mailWords}
@@ -32,7 +32,7 @@ pub record OverBlanks (glue : Bool) (tab : ℕ) (s : List ℕ) (at : ℕ) (r : B
   pub gap : gapIn r ≡ gapOf tab (while isBlank (glyphs glue (drop at s)))
   pub rest : glyphs glue (drop (r .end) s) ≡ behind isBlank (glyphs glue (drop at s))
   pub within : r .end ≤ length s
-  pub before : numberOf (r .before) ≤ 100 * length s
+  pub before : beforeNumber (r .before) ≤ 100 * length s
   pub after : r .after ≤ 100 * length s
 
 abbrev pub punctCode : ℕ → Bool
@@ -49,9 +49,9 @@ pub record OverInk (glue : Bool) (s : List ℕ) (at : ℕ) (r : Ink) : Type 0 wh
   pub some : r .end ≤ at + 4 * r .width
 
 -- bytes as one number, the first its least digit
-unfoldable pub number : List ℕ → ℕ
-number [] = 0
-number (b ∷ bs) = b + 256 * number bs
+unfoldable pub asNumber : List ℕ → ℕ
+asNumber [] = 0
+asNumber (b ∷ bs) = b + 256 * asNumber bs
 
 -- the eight bytes at a place
 abbrev pub eightAt : List ℕ → ℕ → List ℕ
@@ -109,7 +109,7 @@ pub record NextWord (o : Opts) (mail newLine previousPunct : Bool) (s : List ℕ
   pub on : at < w .end
   pub some : 1 ≤ w .width
   pub narrow : w .width ≤ length s
-  pub before : numberOf (w .before) ≤ 100 * length s
+  pub before : beforeNumber (w .before) ≤ 100 * length s
   pub after : w .after ≤ 100 * length s
 
 abbrev pub NextIs : Opts → Bool → Bool → Bool → List ℕ → ℕ → Next → Type 0

@@ -18,9 +18,9 @@ pub record Kept (size n : ℕ) (t : List ℕ) : Type 0 where
   pub narrow : (i : ℕ) → i < n → wordIn t i .width ≤ size
 
 -- the words are in the table, or there are over 1,024 of them; then it is scratch, and so is what stands behind the words
-abbrev pub Filled : List ℕ → List Word → List ℕ → Count → Type 0
-Filled notes ws t (Words n) = (wordsIn notes n t ≡ ws) × Kept (length notes) n t
-Filled notes ws t TooMany = (1024 < length ws) × (length t ≡ 8192)
+abbrev pub WordsFilled : List ℕ → List Word → List ℕ → Count → Type 0
+WordsFilled notes ws t (Words n) = (wordsIn notes n t ≡ ws) × Kept (length notes) n t
+WordsFilled notes ws t TooMany = (1024 < length ws) × (length t ≡ 8192)
 
 -- what splitting a paragraph into words answers: their count, and the table with them
 pub record Split (notes : List ℕ) (ws : List Word) (t : List ℕ) (r : Count) : Type 0 where

@@ -5,7 +5,7 @@ use Prim.Native.Nat.{ℕ}
 use Rattle.lists.specs.Runs.{joined}
 use Rattle.text.specs.Characters.{Glyph, glyphs}
 use Rattle.options.specs.Opts.{Opts}
-use Rattle.lines.specs.Classes.{from}
+use Rattle.lines.specs.Classes.{glyphsFrom}
 use Rattle.pieces.specs.Pieces.{Row}
 
 abbrev pub inkOf : Glyph → List ℕ
@@ -13,4 +13,4 @@ inkOf g = cond (g .blank) [] (g .bytes)
 
 -- at or behind the indent's end; of a mail paragraph's line, anywhere
 abbrev pub rowInk : Opts → Bool → Row → List ℕ
-rowInk o mail row = let gs = glyphs (o .glue) (row .text) in joined inkOf (cond mail gs (from (row .start) gs))
+rowInk o mail row = let gs = glyphs (o .glue) (row .text) in joined inkOf (cond mail gs (glyphsFrom (row .start) gs))

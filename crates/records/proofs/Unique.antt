@@ -1,0 +1,15 @@
+-- Two results that keep a promise are equal: what `get` answers, and the marks that a breaker leaves.
+use mathlib.Core.Path.{_≡_, sym, _∙_}
+use mathlib.Core.Bool.{Bool}
+use mathlib.Core.List.{List}
+use Prim.Native.Nat.{ℕ}
+use Rattle.records.specs.declared.Word.{Word as Record}
+use Rattle.records.specs.Contracts.Table.{Got}
+use Rattle.records.specs.Contracts.Marks.{Marked}
+
+pub got-unique : (t : List ℕ) (i : ℕ) (v w : Record) → Got t i v → Got t i w → v ≡ w
+got-unique t i v w a b = a .is ∙ sym (b .is)
+
+-- every mark
+pub marked-unique : (n : ℕ) (marks breaks a b : List Bool) → Marked n marks breaks a → Marked n marks breaks b → a ≡ b
+marked-unique n marks breaks a b h k = h .is ∙ sym (k .is)

@@ -1,0 +1,63 @@
+-- A promise determines its answer: whatever two results keep it are equal, and so is every byte and every mark that was written.
+-- The public functions of all crates, and the law that each stands on:
+--
+--   text          decode_at, char_at, is_blank, width, glyph_at, is_letter, first_damage    an equation: `equal-unique`
+--   options       read_block                                                                an equation
+--   lines         first_line, begins, classify                                              an equation
+--   pieces        is_header                                                                 an equation
+--   pieces        next_piece                                                                an equation, with bounds: `bounded-unique`
+--   records       get                                                                       records/proofs/Unique: `got-unique`
+--   records       store                                                                     an equation for the table
+--   words         split_words                                                               `words-unique`, by words/proofs/Unique (below)
+--   spacing       gap_width, added_space                                                    spacing/proofs/Unique: `gap-unique`, `added-unique`
+--   quick         quick_breaks                                                              `quick-unique`, by records/proofs/Unique: `marked-unique`
+--   demerits      trunc                                                                     an equation
+--   demerits      ratio, line_term, word_term, ratio_term, cost                             an equation, with a bound: `bounded-unique`
+--   knuth_plass   best_breaks                                                               knuth_plass/proofs/Unique: `best-unique`
+--   output        put_text, put_spaces, put_added, put_feed, put_margin, put_break,
+--                 put_word, put_first                                                       output/proofs/Unique: `wrote-unique`
+--   output        emit, emit_line                                                           `wrote-unique`, with a bound
+--   rudignals     rudignals_format                                                          `call-unique`
+--
+-- What stays open is scratch that nobody reads afterwards: docs/PROMISES.md lists it.
+use mathlib.Core.Path.{_≡_, sym, _∙_}
+use mathlib.Core.Bool.{Bool}
+use mathlib.Core.List.{List, []}
+use Prim.Native.Nat.{ℕ}
+use lib.ListN.{length}
+use Rattle.records.specs.Word.{Word}
+use Rattle.records.specs.Contracts.Table.{wordsIn}
+use Rattle.records.specs.Contracts.Marks.{Marked}
+use Rattle.records.proofs.Unique.{marked-unique}
+use Rattle.words.specs.Contracts.Split.{Split}
+use Rattle.words.specs.declared.Count.{Count}
+use Rattle.words.specs.declared.Count.the-variants.{Words}
+use Rattle.words.proofs.Unique.{count-unique, split-unique}
+use Rattle.spacing.specs.declared.Setting.{Setting}
+use Rattle.quick.specs.Quick.{quickBreaks}
+use Rattle.rudignals.specs.Answers.{numbered, outputAfter}
+use Rattle.rudignals.specs.Format.{answer}
+
+pub equal-unique : {A : Type 0} (x a b : A) → a ≡ x → b ≡ x → a ≡ b
+equal-unique x a b e f = e ∙ sym f
+
+pub bounded-unique : {A : Type 0} (Bounds : A → Type 0) (x a b : A) → (a ≡ x) × Bounds a → (b ≡ x) × Bounds b → a ≡ b
+bounded-unique Bounds x a b e f = e .0 ∙ sym (f .0)
+
+-- the count of a paragraph's words, and the words that the table's first records are, whatever block the options came from
+pub words-unique : (notes : List ℕ) (ws : List ℕ → List Word) (t u : List ℕ) (r s : Count)
+    → ((block : List ℕ) → Split notes (ws block) t r) → ((block : List ℕ) → Split notes (ws block) u s)
+    → (r ≡ s) × ((n : ℕ) → r ≡ Words n → wordsIn notes n t ≡ wordsIn notes n u)
+words-unique notes ws t u r s a b =
+    (count-unique notes (ws []) t u r s (a []) (b []), λ n e. split-unique notes (ws []) t u r s n (a []) (b []) e)
+
+-- every mark
+pub quick-unique : (g : Setting) (n : ℕ) (table : List ℕ) (marks a b : List Bool)
+    → ((notes : List ℕ) → Marked n marks (quickBreaks g (wordsIn notes n table)) a) → ((notes : List ℕ) → Marked n marks (quickBreaks g (wordsIn notes n table)) b) → a ≡ b
+quick-unique g n table marks a b h k = marked-unique n marks (quickBreaks g (wordsIn [] n table)) a b (h []) (k [])
+
+-- the number that the host gets, and every byte of its slice
+pub call-unique : (options notes output : List ℕ) (r s : ℕ) (a b : List ℕ)
+    → (r ≡ numbered (answer options notes (length output))) × (a ≡ outputAfter (answer options notes (length output)) output)
+    → (s ≡ numbered (answer options notes (length output))) × (b ≡ outputAfter (answer options notes (length output)) output) → (r ≡ s) × (a ≡ b)
+call-unique options notes output r s a b h k = (h .0 ∙ sym (k .0), h .1 ∙ sym (k .1))
