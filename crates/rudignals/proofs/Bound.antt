@@ -37,7 +37,7 @@ use Rattle.words.proofs.Order.{Whole, paragraph-whole}
 use Rattle.output.specs.Emission.{emit}
 use Rattle.output.specs.Contracts.Bound.{bulk, longest}
 use Rattle.output.proofs.Bound.{emit-most}
-use Rattle.rudignals.specs.Format.{breaksOf, formatted}
+use Rattle.rudignals.specs.Format.{mostWords, settingOf, breaksBy, formatted}
 
 -- ---- the words of a line have no more bytes than the line
 
@@ -143,7 +143,7 @@ module _ (o : Opts) (notes : List ℕ) (at : ℕ) (p : ParagraphAt) (q : Paragra
       let b = ap length (h .bytes) in
       omega (arith, w .more, w .low, w .order, w .high)
 
-  words-most : (first indent : List ℕ) → length first ≤ p .next - at + 4 → length indent ≤ p .next - at + 4 → length (wordsOf o q) ≤ 1024
+  words-most : (first indent : List ℕ) → length first ≤ p .next - at + 4 → length indent ≤ p .next - at + 4 → length (wordsOf o q) ≤ mostWords
       → longest first indent (wordsOf o q) + 1040 * at ≤ 1040 * p .next
   words-most first indent f i few =
       let b = words-bulk in
@@ -151,18 +151,18 @@ module _ (o : Opts) (notes : List ℕ) (at : ℕ) (p : ParagraphAt) (q : Paragra
       let n = before-words (length (wordsOf o q)) (length indent + 2) (p .next - at) few words-few (omega arith) in
       omega arith
 
-  emitted-most : (first indent : List ℕ) (breaks : List Bool) → length first ≤ p .next - at + 4 → length indent ≤ p .next - at + 4 → length (wordsOf o q) ≤ 1024
+  emitted-most : (first indent : List ℕ) (breaks : List Bool) → length first ≤ p .next - at + 4 → length indent ≤ p .next - at + 4 → length (wordsOf o q) ≤ mostWords
       → length (emit (o .uniform || q .mail) first indent breaks (wordsOf o q)) + 1040 * at ≤ 1040 * p .next
   emitted-most first indent breaks f i few = omega (arith, emit-most (o .uniform || q .mail) indent first breaks (wordsOf o q), words-most first indent f i few)
 
   -- what emission promises
-  pub text-most : length (wordsOf o q) ≤ 1024 → longest (q .first .bytes) (q .indent .bytes) (wordsOf o q) + 1040 * at ≤ 1040 * p .next
+  pub text-most : length (wordsOf o q) ≤ mostWords → longest (q .first .bytes) (q .indent .bytes) (wordsOf o q) + 1040 * at ≤ 1040 * p .next
   text-most few = words-most (q .first .bytes) (q .indent .bytes) (margin-most (p .first) (q .first) (t .first) (within .first)) (margin-most (p .indent) (q .indent) (t .indent) (within .indent)) few
 
   -- and what is defined
-  pub formatted-most : length (wordsOf o q) ≤ 1024 → length (formatted o q) + 1040 * at ≤ 1040 * p .next
+  pub formatted-most : length (wordsOf o q) ≤ mostWords → length (formatted o q) + 1040 * at ≤ 1040 * p .next
   unfolding formatted
   formatted-most few =
       let f = margin-most (p .first) (q .first) (t .first) (within .first) in
       let i = margin-most (p .indent) (q .indent) (t .indent) (within .indent) in
-      emitted-most _ _ (breaksOf o q (wordsOf o q)) (omega (arith, f, i)) (omega (arith, f, i)) few
+      emitted-most _ _ (breaksBy (o .quick || q .mail) (settingOf o (q .mail) (q .first .columns) (q .indent .columns)) (wordsOf o q)) (omega (arith, f, i)) (omega (arith, f, i)) few

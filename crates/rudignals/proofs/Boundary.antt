@@ -1,34 +1,36 @@
--- An empty line is a full boundary: of the digest, of the search for a long paragraph, and of the call with keep on.
-use mathlib.Core.Path.{_≡_, refl, ap, _∙_}
+-- A blank line is a full boundary: of the pieces, of the digest, of what is refused, and of the call.
+use mathlib.Core.Path.{_≡_, refl, sym, ap, _∙_}
 use mathlib.Core.Bool.{Bool, true, false}
 use mathlib.Core.List.{List, [], _∷_, _++_}
 use Prim.Native.Nat.{ℕ, _+_, _≤_}
 use native.Mathlib.Omega.{arith}
 use lib.ListN.{length, length-append}
-use Rattle.lists.specs.Runs.{joined}
+use Rattle.lists.specs.Walk.{walk, last}
+use Rattle.lists.specs.Runs.{every, joined}
+use Rattle.lists.proofs.Walk.{walk-step}
 use Rattle.lists.specs.Theorems.All.{All}
 use Rattle.lists.proofs.All.{all-append}
 use Rattle.lists.proofs.Parts.{joined-append, joined-cons}
+use Rattle.text.specs.Characters.{damage}
 use Rattle.text.specs.declared.Found.{Found}
 use Rattle.text.specs.declared.Found.the-variants.{At, Nowhere}
 use Rattle.options.specs.Opts.{Opts, meant}
 use Rattle.options.specs.OptionBlock.{readBlock}
 use Rattle.options.specs.declared.Options.{Options}
 use Rattle.options.specs.declared.Block.the-variants.{Accepted}
+use Rattle.lines.specs.Lines.{Line, noFeed, linesOf}
+use Rattle.lines.specs.Classes.{classify}
+use Rattle.lines.specs.declared.Class.the-variants.{Blank}
 use Rattle.lines.specs.Theorems.Closed.{Closed}
-use Rattle.lines.proofs.Boundary.{emptyLine}
-use Rattle.pieces.specs.Pieces.{Piece, pieces}
-use Rattle.pieces.proofs.Boundary.{blankPiece, pieces-boundary}
+use Rattle.pieces.specs.Pieces.{Piece, nextPiece, pieces}
+use Rattle.pieces.proofs.Boundary.{blankPiece, pieces-stop}
+use Rattle.pieces.proofs.Reach.{blank-stops}
 use Rattle.rudignals.specs.Answers.{done}
-use Rattle.rudignals.specs.Format.{mostBytes, outputOf, pieceOutput, digest, extentOf, tooMany, longParagraph, answer}
-use Rattle.rudignals.proofs.Answers.{answer-done, keep-done}
-
-pub digest-boundary : (o : Opts) (a b : List ℕ) → Closed a → digest o (a ++ 10 ∷ b) ≡ digest o a ++ 10 ∷ digest o b
-unfolding digest outputOf
-digest-boundary o a b c =
-    ap (joined (pieceOutput o)) (pieces-boundary o a b c)
-    ∙ joined-append (pieceOutput o) (pieces o a) (blankPiece emptyLine ∷ pieces o b)
-    ∙ ap (λ (l : List ℕ). joined (pieceOutput o) (pieces o a) ++ l) (joined-cons (pieceOutput o) (blankPiece emptyLine) (pieces o b))
+use Rattle.rudignals.specs.Format.{mostBytes, outputOf, pieceOutput, digest, extentOf, tooMany, longParagraph, damageIn, answer}
+use Rattle.rudignals.specs.Theorems.LineEnds.{LineEnd, feed, returnAndFeed, byFeed}
+use Rattle.rudignals.proofs.Answers.{answer-done, done-answer}
+use Rattle.rudignals.proofs.LineEnds.{line-of-bytes}
+use Rattle.rudignals.proofs.Undamaged.{damage-append, blank-sound, feed-sound, return-feed-sound}
 
 -- ---- long paragraphs
 
@@ -50,23 +52,69 @@ unfolding longParagraph
 short-long o place [] a = refl
 short-long o place (q ∷ qs) a = rw (longParagraph, a .0) (short-long o (place + length (extentOf q)) qs (a .1))
 
--- no long paragraph before an empty line and none behind it: none in the notes
-long-boundary : (o : Opts) (a b : List ℕ) → Closed a → longParagraph o 0 (pieces o a) ≡ Nowhere → longParagraph o 0 (pieces o b) ≡ Nowhere → longParagraph o 0 (pieces o (a ++ 10 ∷ b)) ≡ Nowhere
-long-boundary o a b c h g =
-    rw (pieces-boundary o a b c)
-    (short-long o 0 _ (all-append (Short o) (pieces o a) (blankPiece emptyLine ∷ pieces o b) (long-short o 0 (pieces o a) h) (refl, long-short o 0 (pieces o b) g)))
+-- ---- a blank line, in the notes' own bytes: above it a text that is empty or ends in a line feed, below it any
+
+module _ (o : Opts) (a line end b : List ℕ) (closed : Closed a) (feedless : every noFeed line ≡ true) (ends : LineEnd line end) (blank : classify o line ≡ Blank) where
+  abbrev whole : List ℕ
+  whole = a ++ (line ++ (end ++ b))
+
+  abbrev the-line : Line
+  the-line = record { raw = line ++ end; text = line }
+
+  blank-step : (nextMail : Bool) → walk (nextPiece o) nextMail (the-line ∷ linesOf b) ≡ blankPiece the-line ∷ walk (nextPiece o) true (linesOf b)
+  unfolding nextPiece
+  blank-step nextMail = walk-step (nextPiece o) nextMail (the-line ∷ linesOf b) (omega arith) ∙ rw blank
+
+  pieces-boundary : pieces o whole ≡ pieces o a ++ blankPiece the-line ∷ pieces o b
+  unfolding pieces
+  pieces-boundary =
+      rw (
+        line-of-bytes a line end b closed (record { feedless = feedless; ended = byFeed ends }),
+        pieces-stop o the-line (linesOf b) (blank-stops o the-line blank) true (linesOf a),
+        blank-step (last (nextPiece o) true (linesOf a)),
+      )
+
+  pub digest-boundary : digest o whole ≡ digest o a ++ 10 ∷ digest o b
+  unfolding digest outputOf
+  digest-boundary =
+      ap (joined (pieceOutput o)) pieces-boundary
+      ∙ joined-append (pieceOutput o) (pieces o a) (blankPiece the-line ∷ pieces o b)
+      ∙ ap (λ (l : List ℕ). joined (pieceOutput o) (pieces o a) ++ l) (joined-cons (pieceOutput o) (blankPiece the-line) (pieces o b))
+
+  -- no long paragraph above it and none below it: none in the notes
+  long-boundary : longParagraph o 0 (pieces o a) ≡ Nowhere → longParagraph o 0 (pieces o b) ≡ Nowhere → longParagraph o 0 (pieces o whole) ≡ Nowhere
+  long-boundary h g =
+      rw pieces-boundary
+      (short-long o 0 _ (all-append (Short o) (pieces o a) (blankPiece the-line ∷ pieces o b) (long-short o 0 (pieces o a) h) (refl, long-short o 0 (pieces o b) g)))
+
+  end-sound : LineEnd line end → damage end ≡ Nowhere
+  end-sound (feed e n) = rw e feed-sound
+  end-sound (returnAndFeed e) = rw e return-feed-sound
+
+  -- nothing damaged that is refused above it, and nothing below it: nothing in the notes
+  sound-boundary : damageIn (o .keep) a ≡ Nowhere → damageIn (o .keep) b ≡ Nowhere → damageIn (o .keep) whole ≡ Nowhere
+  sound-boundary h g = go (o .keep) h g
+    where
+      go : (keep : Bool) → damageIn keep a ≡ Nowhere → damageIn keep b ≡ Nowhere → damageIn keep whole ≡ Nowhere
+      go true h g = refl
+      go false h g = damage-append a (line ++ (end ++ b)) h (damage-append line (end ++ b) (blank-sound o line blank) (damage-append end b (end-sound ends) g))
 
 -- ---- the call
 
-pub answer-boundary : (block first second : List ℕ) (o : Options) (room₁ room₂ space : ℕ) (digest₁ digest₂ : List ℕ)
-    → readBlock block ≡ Accepted o → o .keep ≡ true → Closed first
+pub answer-boundary : (block first line end second : List ℕ) (o : Options) (room₁ room₂ space : ℕ) (digest₁ digest₂ : List ℕ)
+    → readBlock block ≡ Accepted o → Closed first → every noFeed line ≡ true → LineEnd line end → classify (meant block o) line ≡ Blank
     → answer block first room₁ ≡ done digest₁ → answer block second room₂ ≡ done digest₂
-    → length (first ++ 10 ∷ second) ≤ mostBytes → length digest₁ + 1 + length digest₂ ≤ space
-    → answer block (first ++ 10 ∷ second) space ≡ done (digest₁ ++ 10 ∷ digest₂)
-answer-boundary block first second o room₁ room₂ space digest₁ digest₂ b k c h₁ h₂ n s =
+    → length (first ++ (line ++ (end ++ second))) ≤ mostBytes → length digest₁ + 1 + length digest₂ ≤ space
+    → answer block (first ++ (line ++ (end ++ second))) space ≡ done (digest₁ ++ 10 ∷ digest₂)
+answer-boundary block first line end second o room₁ room₂ space digest₁ digest₂ b c f e k h₁ h₂ n s =
     let m = meant block o in
     let a₁ = answer-done block first room₁ o digest₁ b h₁ in
     let a₂ = answer-done block second room₂ o digest₂ b h₂ in
-    let e : digest m (first ++ 10 ∷ second) ≡ digest₁ ++ 10 ∷ digest₂ = digest-boundary m first second c ∙ rw (a₁ .bytes-are, a₂ .bytes-are) in
-    let l : length (digest m (first ++ 10 ∷ second)) ≤ space = rw (e, length-append) (omega arith) in
-    keep-done block (first ++ 10 ∷ second) space o b k n (long-boundary m first second c (a₁ .short) (a₂ .short)) l ∙ ap done e
+    let l = length-append digest₁ (10 ∷ digest₂) in
+    done-answer block (first ++ (line ++ (end ++ second))) space o (digest₁ ++ 10 ∷ digest₂) b n
+    (record {
+      sound = sound-boundary m first line end second c f e k (a₁ .sound) (a₂ .sound);
+      short = long-boundary m first line end second c f e k (a₁ .short) (a₂ .short);
+      bytes-are = rw (a₁ .bytes-are, a₂ .bytes-are) (sym (digest-boundary m first line end second c f e k));
+    })
+    (omega arith)

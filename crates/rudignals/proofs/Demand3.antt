@@ -1,8 +1,9 @@
 -- Demand 3, in the customer's sentences. Each statement is about the definitions of specs/ alone, no code, and is proved with nothing
 -- assumed; where a proof is long it stands in the file cited. The words of the statements: `answer` and `done` (specs/Format.antt and
--- Answers.antt; `done bytes` is code 0 with those bytes), `Closed` (lines/specs), `Blanks` (text/specs), `InOrder` (output/specs/Theorems/Order.antt),
--- `rowInk` (words/specs/Theorems/Ink.antt), `All` and `∈` (lists/specs/Theorems/All.antt), `joined` (lists/specs/Runs.antt).
-use mathlib.Core.Path.{_≡_, refl}
+-- Answers.antt; `done bytes` is code 0 with those bytes), `LineEnd` and `LineIs` (specs/Theorems/LineEnds.antt), `Closed` (lines/specs),
+-- `Blanks` (text/specs), `InOrder` (output/specs/Theorems/Order.antt), `rowInk` (words/specs/Theorems/Ink.antt), `All` and `∈`
+-- (lists/specs/Theorems/All.antt), `joined` (lists/specs/Runs.antt).
+use mathlib.Core.Path.{_≡_, refl, sym, _∙_}
 use mathlib.Core.Bool.{Bool, true, false, _||_}
 use mathlib.Core.List.{List, [], _∷_, _++_, map}
 use mathlib.Core.Logic.{_⊎_}
@@ -10,9 +11,10 @@ use Prim.Native.Nat.{ℕ, _+_, _≤_, _<_}
 use native.Mathlib.Omega.{arith}
 use lib.ListN.{length, length-append}
 use Rattle.lists.specs.Walk.{walk}
-use Rattle.lists.specs.Runs.{joined}
+use Rattle.lists.specs.Runs.{every, joined}
 use Rattle.lists.specs.Theorems.All.{All, _∈_}
-use Rattle.lists.proofs.All.{all-weaken}
+use Rattle.lists.proofs.All.{all-back, all-weaken}
+use Rattle.lists.proofs.Parts.{every-nil}
 use Rattle.text.specs.Characters.{damage}
 use Rattle.text.specs.Theorems.Blanks.{Blanks}
 use Rattle.text.specs.declared.Found.the-variants.{At}
@@ -20,8 +22,11 @@ use Rattle.options.specs.Opts.{Opts, meant}
 use Rattle.options.specs.OptionBlock.{readBlock}
 use Rattle.options.specs.declared.Options.{Options}
 use Rattle.options.specs.declared.Block.the-variants.{Accepted}
-use Rattle.lines.specs.Lines.{Line, linesOf}
+use Rattle.lines.specs.Lines.{Line, noFeed, linesOf}
+use Rattle.lines.specs.Classes.{classify}
+use Rattle.lines.specs.declared.Class.the-variants.{Blank}
 use Rattle.lines.specs.Theorems.Closed.{Closed}
+use Rattle.lines.proofs.Ink.{empty-blank}
 use Rattle.pieces.specs.Pieces.{Paragraph, Piece, Row, plainLine, paragraph, rowOf, nextPiece, pieces}
 use Rattle.pieces.proofs.Extents.{walk-lines, pieces-lines}
 use Rattle.records.specs.Word.{Word}
@@ -30,11 +35,13 @@ use Rattle.words.specs.Theorems.Ink.{rowInk}
 use Rattle.words.proofs.Order.{Whole, row-ink, paragraph-whole}
 use Rattle.output.specs.Theorems.Order.{InOrder}
 use Rattle.rudignals.specs.Answers.{done, numbered}
-use Rattle.rudignals.specs.Format.{pieceOutput, digest, extentOf, answer}
+use Rattle.rudignals.specs.Format.{mostBytes, pieceOutput, digest, extentOf, answer}
+use Rattle.rudignals.specs.Theorems.LineEnds.{LineEnd, feed, LineIs}
 use Rattle.rudignals.proofs.Answers.{answer-done}
 use Rattle.rudignals.proofs.Boundary.{answer-boundary}
 use Rattle.rudignals.proofs.Order.{rows-of, paragraph-order}
-use Rattle.rudignals.proofs.Extents.{extents-are-notes, extents-some, damaged-pieces, plain-digest}
+use Rattle.rudignals.proofs.Extents.{extents-are-notes, extents-some, joined-at, output-some, damaged-pieces, plain-digest}
+use Rattle.rudignals.proofs.LineEnds.{LineAt, line-of-bytes, line-at}
 
 -- What a call that is done has written is the digest of its notes, of which 2 to 4 speak, under the options that its block means.
 pub what-is-done-is-the-digest : (block notes : List ℕ) (o : Options) (space : ℕ) (bytes : List ℕ)
@@ -45,25 +52,48 @@ what-is-done-is-the-digest block notes o space bytes b e = answer-done block not
 
 -- ---- 1. an empty line is a full boundary
 
--- The option block is accepted, with keep on. The first part is empty or ends in a line feed, and the second is any. Each part by
--- itself is done, whatever room it had. The parts joined are within the input limit, and there is room for the whole.
+-- The option block is accepted. The first part is empty or ends in a line feed, and the second is any. Between them stands a blank line:
+-- its text, in which no line feed stands and which is blank by the definition (lines/specs/Classes), and its line end, a line feed or a
+-- carriage return and a line feed. Each part by itself is done, whatever room it had. The whole is within the input limit, and there is
+-- room for it. Keep may be on or off.
+module _ (block first line end second : List ℕ) (o : Options) (room₁ room₂ space : ℕ) (digest₁ digest₂ : List ℕ)
+    (block-accepted : readBlock block ≡ Accepted o)
+    (first-ends : Closed first)
+    (one-line : every noFeed line ≡ true)
+    (line-ends : LineEnd line end)
+    (blank : classify (meant block o) line ≡ Blank)
+    (first-done : answer block first room₁ ≡ done digest₁)
+    (second-done : answer block second room₂ ≡ done digest₂)
+    (within-limit : length (first ++ (line ++ (end ++ second))) ≤ mostBytes)
+    (enough-room : length digest₁ + 1 + length digest₂ ≤ space) where
+  -- Formatting the first part, the blank line and the second part gives the first's output, one line feed, and the second's output.
+  pub a-blank-line-is-a-full-boundary : answer block (first ++ (line ++ (end ++ second))) space ≡ done (digest₁ ++ 10 ∷ digest₂)
+  a-blank-line-is-a-full-boundary =
+      answer-boundary block first line end second o room₁ room₂ space digest₁ digest₂ block-accepted first-ends one-line line-ends blank first-done second-done within-limit enough-room
+
+  -- So the number that the host gets is the sum of the two parts' numbers and one.
+  pub the-counts-of-the-parts-add-up : numbered (answer block (first ++ (line ++ (end ++ second))) space) ≡ numbered (answer block first room₁) + 1 + numbered (answer block second room₂)
+  unfolding numbered
+  the-counts-of-the-parts-add-up = rw (a-blank-line-is-a-full-boundary, first-done, second-done, length-append) (omega arith)
+
+-- The customer's sentence: the blank line is empty, a line feed alone.
 module _ (block first second : List ℕ) (o : Options) (room₁ room₂ space : ℕ) (digest₁ digest₂ : List ℕ)
     (block-accepted : readBlock block ≡ Accepted o)
-    (keep-on : o .keep ≡ true)
     (first-ends : Closed first)
     (first-done : answer block first room₁ ≡ done digest₁)
     (second-done : answer block second room₂ ≡ done digest₂)
-    (within-limit : length (first ++ 10 ∷ second) ≤ 65536)
+    (within-limit : length (first ++ 10 ∷ second) ≤ mostBytes)
     (enough-room : length digest₁ + 1 + length digest₂ ≤ space) where
   -- Formatting the first part, a line feed and the second part gives the first's output, one line feed, and the second's output.
   pub an-empty-line-is-a-full-boundary : answer block (first ++ 10 ∷ second) space ≡ done (digest₁ ++ 10 ∷ digest₂)
   an-empty-line-is-a-full-boundary =
-      answer-boundary block first second o room₁ room₂ space digest₁ digest₂ block-accepted keep-on first-ends first-done second-done within-limit enough-room
+      a-blank-line-is-a-full-boundary block first [] (10 ∷ []) second o room₁ room₂ space digest₁ digest₂
+      block-accepted first-ends (every-nil noFeed) (feed refl (λ z. z)) (empty-blank (meant block o)) first-done second-done within-limit enough-room
 
-  -- So the number that the host gets is the sum of the two parts' numbers and one.
   pub the-counts-add-up : numbered (answer block (first ++ 10 ∷ second) space) ≡ numbered (answer block first room₁) + 1 + numbered (answer block second room₂)
-  unfolding numbered
-  the-counts-add-up = rw (an-empty-line-is-a-full-boundary, first-done, second-done, length-append) (omega arith)
+  the-counts-add-up =
+      the-counts-of-the-parts-add-up block first [] (10 ∷ []) second o room₁ room₂ space digest₁ digest₂
+      block-accepted first-ends (every-nil noFeed) (feed refl (λ z. z)) (empty-blank (meant block o)) first-done second-done within-limit enough-room
 
 -- ---- 2. words stand once and in order
 
@@ -97,30 +127,45 @@ no-word-is-empty o notes q p m e = all-weaken (Whole (o .glue) (o .uniform || p 
 
 -- ---- 3. a damaged line stands
 
--- A line stands among those before and behind it: it is a piece of its own, its output is its text unaltered and a line feed, and the
--- lines before it and those behind it are all there, in pieces of their own.
-pub record Stands (o : Opts) (notes : List ℕ) (before : List Line) (l : Line) (after : List Line) : Type 0 where
-  pub above : List Piece
-  pub below : List Piece
-  pub piece : pieces o notes ≡ above ++ record { kind = plainLine (l .text); lines = l ∷ [] } ∷ below
-  pub lines-above : joined (λ (q : Piece). q .lines) above ≡ before
-  pub lines-below : joined (λ (q : Piece). q .lines) below ≡ after
-  pub output : digest o notes ≡ joined (pieceOutput o) above ++ (l .text ++ 10 ∷ joined (pieceOutput o) below)
+-- Each line of the notes is its text, in which no line feed stands, followed by its end: a line feed, and then the text does not end in a
+-- carriage return; or a carriage return and a line feed; or nothing, and then it is the last line. What is above it in the notes is
+-- empty or ends in a line feed. (`LineAt`: proofs/LineEnds; `LineIs`: specs/Theorems/LineEnds.)
+pub each-line-is-its-text-and-its-end : (notes : List ℕ) (before : List Line) (l : Line) (after : List Line)
+    → linesOf notes ≡ before ++ l ∷ after
+    → LineAt notes before l after
+each-line-is-its-text-and-its-end notes before l after h = line-at before l after notes h
+
+-- And what stands so in the notes is a line.
+pub a-text-with-its-end-is-a-line : (above text end below : List ℕ)
+    → Closed above
+    → LineIs text end below
+    → linesOf (above ++ (text ++ (end ++ below))) ≡ linesOf above ++ record { raw = text ++ end; text = text } ∷ linesOf below
+a-text-with-its-end-is-a-line = line-of-bytes
+
+-- A line of the notes comes out unaltered up to its line end: it is a piece of its own, behind the pieces of what is above it; its output
+-- is its bytes and a line feed; and the lines below it are all there, in pieces of their own.
+pub record Unaltered (o : Opts) (above text end below : List ℕ) : Type 0 where
+  pub after : List Piece
+  pub piece : pieces o (above ++ (text ++ (end ++ below))) ≡ pieces o above ++ record { kind = plainLine text; lines = record { raw = text ++ end; text = text } ∷ [] } ∷ after
+  pub lines-after : joined (λ (q : Piece). q .lines) after ≡ linesOf below
+  pub output : digest o (above ++ (text ++ (end ++ below))) ≡ digest o above ++ (text ++ 10 ∷ joined (pieceOutput o) after)
 
 -- A line of the notes that has a damaged character stands, and the notes go on behind it.
-pub a-damaged-line-stands : (o : Opts) (notes : List ℕ) (before : List Line) (l : Line) (after : List Line) (place : ℕ)
-    → linesOf notes ≡ before ++ l ∷ after
-    → damage (l .text) ≡ At place
-    → Stands o notes before l after
-a-damaged-line-stands o notes before l after place h d =
-    let e = damaged-pieces o notes before l after place h d in
+pub a-damaged-line-stands : (o : Opts) (above text end below : List ℕ) (place : ℕ)
+    → Closed above
+    → LineIs text end below
+    → damage text ≡ At place
+    → Unaltered o above text end below
+unfolding digest pieces
+a-damaged-line-stands o above text end below place c i d =
+    let notes = above ++ (text ++ (end ++ below)) in
+    let l : Line = record { raw = text ++ end; text = text } in
+    let e = damaged-pieces o notes (linesOf above) l (linesOf below) place (line-of-bytes above text end below c i) d in
     record {
-      above = walk (nextPiece o) true before;
-      below = walk (nextPiece o) false after;
+      after = walk (nextPiece o) false (linesOf below);
       piece = e;
-      lines-above = walk-lines o true before;
-      lines-below = walk-lines o false after;
-      output = plain-digest o notes (walk (nextPiece o) true before) l (walk (nextPiece o) false after) e;
+      lines-after = walk-lines o false (linesOf below);
+      output = plain-digest o notes (pieces o above) l (walk (nextPiece o) false (linesOf below)) e;
     }
 
 -- ---- 4. no piece is without its place
@@ -134,9 +179,24 @@ the-digest-is-the-outputs-in-order o notes = refl
 pub the-lines-are-the-lines-of-the-notes : (o : Opts) (notes : List ℕ) → joined (λ (q : Piece). q .lines) (pieces o notes) ≡ linesOf notes
 the-lines-are-the-lines-of-the-notes = pieces-lines
 
--- The bytes that the pieces take, joined in order, are the notes; and each piece takes at least one.
+-- The bytes that the pieces take, joined in order, are the notes.
 pub the-extents-are-the-notes : (o : Opts) (notes : List ℕ) → joined extentOf (pieces o notes) ≡ notes
 the-extents-are-the-notes = extents-are-notes
 
-pub each-piece-has-its-place : (o : Opts) (notes : List ℕ) → All (λ (q : Piece). 0 < length (extentOf q)) (pieces o notes)
-each-piece-has-its-place = extents-some
+-- A piece's place: it takes at least one byte of the notes, behind those that the pieces before it take; its output is not empty, and
+-- stands in the digest behind theirs.
+pub record Place (o : Opts) (notes : List ℕ) (before : List Piece) (q : Piece) (after : List Piece) : Type 0 where
+  pub takes : 0 < length (extentOf q)
+  pub in-the-notes : notes ≡ joined extentOf before ++ (extentOf q ++ joined extentOf after)
+  pub puts : 0 < length (pieceOutput o q)
+  pub in-the-digest : digest o notes ≡ joined (pieceOutput o) before ++ (pieceOutput o q ++ joined (pieceOutput o) after)
+
+pub each-piece-has-its-place : (o : Opts) (notes : List ℕ) (before : List Piece) (q : Piece) (after : List Piece)
+    → pieces o notes ≡ before ++ q ∷ after
+    → Place o notes before q after
+each-piece-has-its-place o notes before q after e = record {
+  takes = all-back _ before (q ∷ after) (rw e at (extents-some o notes)) .0;
+  in-the-notes = sym (extents-are-notes o notes) ∙ joined-at extentOf before q after (pieces o notes) e;
+  puts = output-some o q;
+  in-the-digest = the-digest-is-the-outputs-in-order o notes ∙ joined-at (pieceOutput o) before q after (pieces o notes) e;
+}

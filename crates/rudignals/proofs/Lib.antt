@@ -2,6 +2,8 @@ pub mod Answers
 pub mod Boundary
 pub mod Order
 pub mod Extents
+pub mod LineEnds
+pub mod Undamaged
 pub mod Demand3
 pub mod Rows
 pub mod Meaning

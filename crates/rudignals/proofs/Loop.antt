@@ -17,7 +17,7 @@ use Rattle.pieces.specs.Pieces.{Kind, nextPiece, pieces}
 use Rattle.pieces.specs.declared.Paragraph.{Paragraph}
 use Rattle.output.proofs.Sink.{length-written, wrote-nil, left-first, left-then, left-last}
 use Rattle.rudignals.specs.Format.{outputOf, pieceOutput, digest, tooMany, longParagraph}
-use Rattle.rudignals.specs.Contracts.Call.{piecesFrom, outputFrom, longFrom, Goes, Put, TooLong, Stepped, Stands, Going, FinishedFrom, Finished, Reached}
+use Rattle.rudignals.specs.Contracts.Call.{piecesFrom, outputFrom, longFrom, FirstPiece, Put, TooLong, Stepped, CursorIn, Going, FinishedFrom, Finished, Reached}
 use Rattle.rudignals.specs.declared.Cursor.{Cursor}
 use Rattle.rudignals.specs.declared.Ahead.{Ahead}
 use Rattle.rudignals.specs.declared.Ahead.the-variants.{Text, End}
@@ -49,7 +49,7 @@ module _ (o : Opts) where
   unfolding longFrom longParagraph
   long-none nextMail notes at h = ap (longParagraph o at) (none-left nextMail notes at h)
 
-  module _ {nextMail : Bool} {notes : List ℕ} {at : ℕ} {kind : Kind} {state : Bool} {next : ℕ} (g : Goes o nextMail notes at kind state next) where
+  module _ {nextMail : Bool} {notes : List ℕ} {at : ℕ} {kind : Kind} {state : Bool} {next : ℕ} (g : FirstPiece o nextMail notes at kind state next) where
     pub output-more : outputFrom o nextMail notes at ≡ outputOf o kind ++ outputFrom o state notes next
     unfolding outputFrom
     output-more = ap (joined (pieceOutput o)) (g .pieces) ∙ joined-cons (pieceOutput o) (g .piece) (piecesFrom o state notes next) ∙ ap (λ (k : Kind). outputOf o k ++ outputFrom o state notes next) (g .is)
@@ -70,7 +70,7 @@ module _ (o : Opts) where
 -- ---- the work from a place on
 
 module _ (o : Opts) (notes : List ℕ) where
-  pub going-first : (c : Cursor) (out : List ℕ) → Stands notes c → Going o notes c out c out
+  pub going-first : (c : Cursor) (out : List ℕ) → CursorIn notes c → Going o notes c out c out
   going-first c out s = record { stands = s; left = left-first out (c .written) (outputFrom o (c .mail) notes (c .at)); long = refl }
 
   module _ {c₀ : Cursor} {out₀ : List ℕ} {c : Cursor} {out : List ℕ} (g : Going o notes c₀ out₀ c out) where
@@ -79,7 +79,7 @@ module _ (o : Opts) (notes : List ℕ) where
 
     pub going-on : {d : Cursor} {out′ : List ℕ} → Put o notes out c d out′ → Going o notes c₀ out₀ d out′
     going-on {d} {out′} p = record {
-      stands = record { within = p .goes .within; most = omega (arith, g .stands .most, p .most) };
+      stands = record { within = p .goes .within; bounded = omega (arith, g .stands .bounded, p .bounded) };
       left = left-then {d = outputOf o (p .kind)} {e = outputFrom o (d .mail) notes (d .at)} (rw (output-more o (p .goes)) at (g .left)) (p .wrote);
       long = sym (long-more o (p .goes) (p .few)) ∙ g .long;
     }
@@ -105,8 +105,8 @@ module _ (o : Opts) (notes : List ℕ) where
 abbrev pub start : Cursor
 start = record { at = 0; written = 0; mail = true }
 
-pub stands-first : (notes : List ℕ) → Stands notes start
-stands-first notes = record { within = omega arith; most = omega arith }
+pub stands-first : (notes : List ℕ) → CursorIn notes start
+stands-first notes = record { within = omega arith; bounded = omega arith }
 
 pub all-finished : (o : Opts) (notes out out′ : List ℕ) (r : Ended) → FinishedFrom o notes start out out′ r → Finished o notes out out′ r
 all-finished o notes out out′ (All n) f = (sym (all-long o notes) ∙ f .0, rw (all-output o notes) at (f .1))

@@ -17,22 +17,22 @@ use Rattle.pieces.specs.declared.Piece.{Piece as PieceAt}
 use Rattle.pieces.specs.declared.Piece.the-variants.{Blank as BlankAt, Plain as PlainAt, Text}
 use Rattle.pieces.proofs.Meaning.{turnAt, TurnIs, TextIs, Means}
 use Rattle.rudignals.specs.Format.{extentOf}
-use Rattle.rudignals.specs.Contracts.Call.{piecesFrom, Goes}
+use Rattle.rudignals.specs.Contracts.Call.{piecesFrom, FirstPiece}
 
 -- a paragraph in places, the piece that it is, and what its places and numbers keep to
 pub record TextGoes (o : Opts) (nextMail : Bool) (notes : List ℕ) (at : ℕ) (p : ParagraphAt) : Type 0 where
   pub paragraph-is : Paragraph
-  pub goes : Goes o nextMail notes at (paragraph paragraph-is) (p .mail) (p .next)
+  pub goes : FirstPiece o nextMail notes at (paragraph paragraph-is) (p .mail) (p .next)
   pub text : TextIs o notes at p paragraph-is
   pub bounds : ParagraphWithin (o .glue) notes at p
 
 abbrev pub PieceGoes : Opts → Bool → List ℕ → ℕ → PieceAt → Type 0
-PieceGoes o nextMail notes at (BlankAt next) = Goes o nextMail notes at blankLine true next
-PieceGoes o nextMail notes at (PlainAt end next) = Goes o nextMail notes at (plainLine (slice at end notes)) false next × (at ≤ end) × (end ≤ next)
+PieceGoes o nextMail notes at (BlankAt next) = FirstPiece o nextMail notes at blankLine true next
+PieceGoes o nextMail notes at (PlainAt end next) = FirstPiece o nextMail notes at (plainLine (slice at end notes)) false next × (at ≤ end) × (end ≤ next)
 PieceGoes o nextMail notes at (Text p) = TextGoes o nextMail notes at p
 
 module _ (o : Opts) (nextMail : Bool) (notes : List ℕ) (at : ℕ) where
-  turn-goes : (kind : Kind) (state : Bool) (next : ℕ) → TurnIs o nextMail notes at kind state next → at < next → next ≤ length notes → Goes o nextMail notes at kind state next
+  turn-goes : (kind : Kind) (state : Bool) (next : ℕ) → TurnIs o nextMail notes at kind state next → at < next → next ≤ length notes → FirstPiece o nextMail notes at kind state next
   unfolding piecesFrom extentOf taken
   turn-goes kind state next t on within = record {
     piece = turnAt o nextMail notes at .item;

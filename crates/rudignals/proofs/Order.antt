@@ -20,7 +20,7 @@ use Rattle.spacing.specs.Spacing.{addedSpace}
 use Rattle.output.specs.Emission.{spaceBefore}
 use Rattle.output.specs.Theorems.Order.{InOrder}
 use Rattle.output.proofs.Order.{space-some, emit-order}
-use Rattle.rudignals.specs.Format.{breaksOf, formatted, outputOf, pieceOutput}
+use Rattle.rudignals.specs.Format.{settingOf, breaksBy, formatted, outputOf, pieceOutput}
 
 pub rows-of : (o : Opts) (notes : List ℕ) (q : Piece) (p : Paragraph) → q ∈ pieces o notes → q .kind ≡ paragraph p → Rows o (q .lines) p
 rows-of o notes q p m e = rw e at (all-at (OfPiece o) (pieces-rows o notes) m)
@@ -34,7 +34,7 @@ formatted-order : (o : Opts) (lines : List Line) (p : Paragraph) → Rows o line
     → InOrder (λ s. ((0 < length s) × Blanks (o .glue) s) ⊎ (s ≡ 10 ∷ p .indent .bytes)) (p .first .bytes) (wordsOf o p) (formatted o p)
 unfolding formatted
 formatted-order o lines p r =
-    emit-order _ (o .uniform || p .mail) (p .indent .bytes) (inr refl) (p .first .bytes) (breaksOf o p (wordsOf o p)) (wordsOf o p) (paragraph-some o lines p r)
+    emit-order _ (o .uniform || p .mail) (p .indent .bytes) (inr refl) (p .first .bytes) (breaksBy (o .quick || p .mail) (settingOf o (p .mail) (p .first .columns) (p .indent .columns)) (wordsOf o p)) (wordsOf o p) (paragraph-some o lines p r)
     (all-weaken (Whole (o .glue) (o .uniform || p .mail)) _ (λ w h punct. inl (space-separates (o .glue) (o .uniform || p .mail) punct w h)) (wordsOf o p) (paragraph-whole o lines p r))
 
 pub paragraph-order : (o : Opts) (notes : List ℕ) (q : Piece) (p : Paragraph) → q ∈ pieces o notes → q .kind ≡ paragraph p

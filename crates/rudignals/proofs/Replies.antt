@@ -16,10 +16,10 @@ use Rattle.pieces.specs.Pieces.{pieces}
 use Rattle.output.specs.Contracts.Sink.{Wrote}
 use Rattle.output.proofs.Sink.{written-fits, wrote-length}
 use Rattle.rudignals.specs.Answers.{outputAfter}
-use Rattle.rudignals.specs.Format.{mostBytes, digest, longParagraph, withWords, withText, withNotes, answer}
-use Rattle.rudignals.specs.Contracts.Call.{Answers, damageFor, Finished}
-use Rattle.rudignals.specs.declared.Answer.{Answer as Told}
-use Rattle.rudignals.specs.declared.Answer.the-variants.{Done, Options as Refused, Long, Text, Words, Room}
+use Rattle.rudignals.specs.Format.{mostBytes, digest, longParagraph, withWords, withText, damageIn, withNotes, answer}
+use Rattle.rudignals.specs.Contracts.Call.{Answers, Finished}
+use Rattle.rudignals.specs.declared.Reply.{Reply}
+use Rattle.rudignals.specs.declared.Reply.the-variants.{Done, Options as Refused, Long, Text, Words, Room}
 use Rattle.rudignals.specs.declared.Ended.{Ended}
 use Rattle.rudignals.specs.declared.Ended.the-variants.{All, Stopped}
 
@@ -62,19 +62,19 @@ module _ (o : Opts) (notes out out′ : List ℕ) (r : Ended) (f : Finished o no
 -- ---- with the options of an accepted block
 
 module _ (block notes out : List ℕ) (o : Options) where
-  notes-is : (f : Found) → length notes ≤ 65536 → f ≡ damageFor (o .keep) notes → withNotes (meant block o) notes (length out) ≡ withText (meant block o) notes (length out) f
+  notes-is : (f : Found) → length notes ≤ mostBytes → f ≡ damageIn (o .keep) notes → withNotes (meant block o) notes (length out) ≡ withText (meant block o) notes (length out) f
   unfolding meant
   notes-is f h e = rw (withNotes, le-ltb mostBytes (length notes) h, e)
 
-  pub long-answer : 65536 < length notes → Answers (withNotes (meant block o) notes (length out)) out Long out
+  pub long-answer : mostBytes < length notes → Answers (withNotes (meant block o) notes (length out)) out Long out
   unfolding outputAfter
   long-answer h = rw (withNotes, lt-ltb mostBytes (length notes) h) (record { is = refl; output = refl })
 
-  pub text-answer : {f : Found} {place : ℕ} → length notes ≤ 65536 → f ≡ damageFor (o .keep) notes → f ≡ At place → Answers (withNotes (meant block o) notes (length out)) out (Text place) out
+  pub text-answer : {f : Found} {place : ℕ} → length notes ≤ mostBytes → f ≡ damageIn (o .keep) notes → f ≡ At place → Answers (withNotes (meant block o) notes (length out)) out (Text place) out
   unfolding outputAfter
   text-answer {f} {place} h e a = rw (notes-is (At place) h (sym a ∙ e)) (record { is = refl; output = refl })
 
-  pub sound-answer : {f : Found} {r : Told} {out′ : List ℕ} → length notes ≤ 65536 → f ≡ damageFor (o .keep) notes → f ≡ Nowhere
+  pub sound-answer : {f : Found} {r : Reply} {out′ : List ℕ} → length notes ≤ mostBytes → f ≡ damageIn (o .keep) notes → f ≡ Nowhere
       → Answers (withWords (meant block o) notes (length out) (longParagraph (meant block o) 0 (pieces (meant block o) notes))) out r out′
       → Answers (withNotes (meant block o) notes (length out)) out r out′
   sound-answer h e a w = rw (notes-is Nowhere h (sym a ∙ e)) w
@@ -86,7 +86,7 @@ module _ (block notes out : List ℕ) (b : Block) (read : b ≡ readBlock block)
   unfolding answer outputAfter
   fault-answer e = rw (sym read ∙ e) (record { is = refl; output = refl })
 
-  pub block-answer : {o : Options} {r : Told} {out′ : List ℕ} → b ≡ Accepted o → Answers (withNotes (meant block o) notes (length out)) out r out′
+  pub block-answer : {o : Options} {r : Reply} {out′ : List ℕ} → b ≡ Accepted o → Answers (withNotes (meant block o) notes (length out)) out r out′
       → Answers (answer block notes (length out)) out r out′
   unfolding answer
   block-answer e w = rw (sym read ∙ e) w

@@ -41,8 +41,8 @@ use Rattle.output.specs.declared.Layout.{Layout}
 use Rattle.quick.specs.Quick.{quickBreaks}
 use Rattle.knuth_plass.specs.Contracts.Table.{tables}
 use Rattle.knuth_plass.specs.Contracts.Round.{Limits, Lent, BestAre}
-use Rattle.rudignals.specs.Format.{settingOf, breaksOf, formatted, outputOf}
-use Rattle.rudignals.specs.Contracts.Call.{Goes, Put, Stepped, Ready, Begins, settingIn, broken, Broken, wordsFor, Placed, TextPut, TextStepped}
+use Rattle.rudignals.specs.Format.{mostWords, settingOf, breaksBy, formatted, outputOf}
+use Rattle.rudignals.specs.Contracts.Call.{FirstPiece, Put, Stepped, Admitted, TextAhead, settingFor, Broken, wordsFor, Placed, TextPut, TextStepped}
 use Rattle.rudignals.specs.declared.Cursor.{Cursor}
 use Rattle.rudignals.specs.declared.Step.{Step}
 use Rattle.rudignals.specs.declared.Step.the-variants.{On, Over}
@@ -52,7 +52,7 @@ use Rattle.rudignals.proofs.Bound.{text-most}
 
 -- ---- what the block's options allow
 
-module _ (block notes : List ℕ) (o : Options) (ready : Ready block notes o) where
+module _ (block notes : List ℕ) (o : Options) (ready : Admitted block notes o) where
   pub ready-kept : Kept block o
   ready-kept = accepted block o (ready .accepted)
 
@@ -71,29 +71,29 @@ module _ (block notes : List ℕ) (o : Options) (ready : Ready block notes o) wh
       piece-goes (meant block o) nextMail notes at s (rw (sym q ∙ p .0) m) (rw q at (p .1))
 
 pub found-begins : (block notes : List ℕ) (o : Options) (c : Cursor) (p : ParagraphAt) {r : PieceAt} → c .at < length notes → (r ≡ pieceAt (meant block o) (c .mail) notes (c .at)) × Bounded (o .glue) notes (c .at) r → r ≡ Text p
-    → Begins block o notes c p
+    → TextAhead block o notes c p
 found-begins block notes o c p h m e = record { within = h; is = sym e ∙ m .0; bounds = rw e at (m .1) }
 
 -- ---- blank and plain lines
 
 module _ (o : Opts) (notes out : List ℕ) (c : Cursor) (out′ : List ℕ) (next n : ℕ) where
-  pub blank-put : Goes o (c .mail) notes (c .at) blankLine true next → Wrote out (c .written) (slice (c .at) (c .at) notes ++ lineFeed) out′ n × (n ≤ c .written + (c .at - c .at) + 1)
+  pub blank-put : FirstPiece o (c .mail) notes (c .at) blankLine true next → Wrote out (c .written) (slice (c .at) (c .at) notes ++ lineFeed) out′ n × (n ≤ c .written + (c .at - c .at) + 1)
       → Put o notes out c (record { at = next; written = n; mail = true }) out′
   unfolding outputOf
   blank-put g w =
       let z : c .at + 0 ≡ c .at = omega arith in
       let e : slice (c .at) (c .at) notes ≡ [] = rw z at (slice-is (c .at) 0 notes) in
-      record { kind = blankLine; goes = g; few = refl; wrote = rw e at (w .0); most = omega (arith, g .on, w .1) }
+      record { kind = blankLine; goes = g; few = refl; wrote = rw e at (w .0); bounded = omega (arith, g .on, w .1) }
 
-  pub plain-put : (end : ℕ) {bytes : List ℕ} {longest : ℕ} → Goes o (c .mail) notes (c .at) (plainLine (slice (c .at) end notes)) false next × (c .at ≤ end) × (end ≤ next) → Wrote out (c .written) bytes out′ n × (n ≤ longest)
+  pub plain-put : (end : ℕ) {bytes : List ℕ} {longest : ℕ} → FirstPiece o (c .mail) notes (c .at) (plainLine (slice (c .at) end notes)) false next × (c .at ≤ end) × (end ≤ next) → Wrote out (c .written) bytes out′ n × (n ≤ longest)
       → bytes ≡ slice (c .at) end notes ++ lineFeed → longest ≤ c .written + (end - c .at) + 1 → Put o notes out c (record { at = next; written = n; mail = false }) out′
   unfolding outputOf
-  plain-put end g w e k = record { kind = plainLine (slice (c .at) end notes); goes = g .0; few = refl; wrote = rw e at (w .0); most = omega (arith, g .0 .on, g .1, g .2, w .1, k) }
+  plain-put end g w e k = record { kind = plainLine (slice (c .at) end notes); goes = g .0; few = refl; wrote = rw e at (w .0); bounded = omega (arith, g .0 .on, g .1, g .2, w .1, k) }
 
 -- ---- paragraphs
 
-module _ (block notes : List ℕ) (o : Options) (ready : Ready block notes o) (nextMail : Bool) (at : ℕ) (p : ParagraphAt) (q : Paragraph)
-    (goes : Goes (meant block o) nextMail notes at (paragraph q) (p .mail) (p .next)) (text : TextIs (meant block o) notes at p q) (bounds : ParagraphWithin (meant block o .glue) notes at p) where
+module _ (block notes : List ℕ) (o : Options) (ready : Admitted block notes o) (nextMail : Bool) (at : ℕ) (p : ParagraphAt) (q : Paragraph)
+    (goes : FirstPiece (meant block o) nextMail notes at (paragraph q) (p .mail) (p .next)) (text : TextIs (meant block o) notes at p q) (bounds : ParagraphWithin (meant block o .glue) notes at p) where
   margin-in : (m : Margin) → MarginWithin at (p .next) m → MarginIn (length notes) m
   margin-in m h = record { order = h .order; end = omega (arith, h .high, bounds .within); more = omega (arith, h .more) }
 
@@ -121,13 +121,13 @@ module _ (block notes : List ℕ) (o : Options) (ready : Ready block notes o) (n
         goal = k .goalMost;
         twice = k .widthTwice;
         width = k .widthMost;
-        least = k .tabLeast;
-        most = k .tabMost;
+        tabLeast = k .tabLeast;
+        tabMost = k .tabMost;
       }
 
   formatted-is : formatted (meant block o) q
-      ≡ emit (o .uniform || p .mail) (marginOf notes (p .first)) (marginOf notes (p .indent)) (broken (o .quick || p .mail) (settingIn o p) (wordsFor block notes at o p)) (wordsFor block notes at o p)
-  unfolding formatted breaksOf settingOf meant
+      ≡ emit (o .uniform || p .mail) (marginOf notes (p .first)) (marginOf notes (p .indent)) (breaksBy (o .quick || p .mail) (settingFor block o p) (wordsFor block notes at o p)) (wordsFor block notes at o p)
+  unfolding formatted meant
   formatted-is = rw (words-are, text .mail, text .first .bytes, text .indent .bytes, text .first .columns, text .indent .columns)
 
   most-is : longest (marginOf notes (p .first)) (marginOf notes (p .indent)) (wordsFor block notes at o p) ≡ longest (q .first .bytes) (q .indent .bytes) (wordsOf (meant block o) q)
@@ -141,9 +141,9 @@ module _ (block notes : List ℕ) (o : Options) (ready : Ready block notes o) (n
   text-put out c d out′ a m w = record {
     kind = paragraph q;
     goes = rw (a, m, w .next, w .mail) (goes);
-    few = rw words-count (le-ltb 1024 (length (wordsFor block notes at o p)) (w .few));
+    few = rw words-count (le-ltb mostWords (length (wordsFor block notes at o p)) (w .few));
     wrote = rw formatted-is (w .wrote);
-    most = rw (a, w .next) (omega (arith, w .most, most-is, text-most (meant block o) notes at p q text bounds (omega (arith, words-count, w .few))));
+    bounded = rw (a, w .next) (omega (arith, w .bounded, most-is, text-most (meant block o) notes at p q text bounds (omega (arith, words-count, w .few))));
   }
 
   pub text-stepped : (out : List ℕ) (c : Cursor) (out′ : List ℕ) (r : Step) → c .at ≡ at → c .mail ≡ nextMail → TextStepped notes at o p out (c .written) out′ r block → Stepped (meant block o) notes out c out′ r
@@ -153,11 +153,11 @@ module _ (block notes : List ℕ) (o : Options) (ready : Ready block notes o) (n
     state = p .mail;
     next = p .next;
     goes = rw (a, m) (goes);
-    many = rw words-count (lt-ltb 1024 (length (wordsFor block notes at o p)) (w .0));
+    many = rw words-count (lt-ltb mostWords (length (wordsFor block notes at o p)) (w .0));
     same = w .1;
   }
 
-module _ (block notes : List ℕ) (o : Options) (c : Cursor) (p : ParagraphAt) (ready : Ready block notes o) (b : Begins block o notes c p) where
+module _ (block notes : List ℕ) (o : Options) (c : Cursor) (p : ParagraphAt) (ready : Admitted block notes o) (b : TextAhead block o notes c p) where
   begins-goes : TextGoes (meant block o) (c .mail) notes (c .at) p
   begins-goes = found-goes block notes o ready (c .mail) (c .at) (Text p) (Text p) (b .within) (b .is, b .bounds) refl
 
@@ -169,30 +169,31 @@ module _ (block notes : List ℕ) (o : Options) (c : Cursor) (p : ParagraphAt) (
 
 -- ---- splitting and breaking
 
-pub limits-of : (notes : List ℕ) (at : ℕ) (o : Options) (p : ParagraphAt) → Placed notes at o p → Limits (settingIn o p)
-limits-of notes at o p h = record { over = h .goal; twice = h .twice; wide = h .width; tab = h .least; tabs = h .most; first = h .firstSmall; indent = h .indentSmall }
+pub limits-of : (notes : List ℕ) (at : ℕ) (o : Options) (p : ParagraphAt) → Placed notes at o p → (block : List ℕ) → Limits (settingFor block o p)
+unfolding settingOf meant
+limits-of notes at o p h block = record { over = h .goal; twice = h .twice; wide = h .width; tab = h .tabLeast; tabs = h .tabMost; first = h .firstSmall; indent = h .indentSmall }
 
-counted-many : (ws : List Word) → counted ws ≡ TooMany → 1024 < length ws
+counted-many : (ws : List Word) → counted ws ≡ TooMany → mostWords < length ws
 unfolding counted
-counted-many ws e = go (leb (length ws) 1024) refl e
+counted-many ws e = go (leb (length ws) mostWords) refl e
   where
-    go : (t : Bool) → leb (length ws) 1024 ≡ t → cond t (Words (length ws)) TooMany ≡ TooMany → 1024 < length ws
+    go : (t : Bool) → leb (length ws) mostWords ≡ t → cond t (Words (length ws)) TooMany ≡ TooMany → mostWords < length ws
     go true h k = absurd (let z : _≡_ {A = ℕ} 0 1 = cc in omega arith)
-    go false h k = leb-false (length ws) 1024 h
+    go false h k = leb-false (length ws) mostWords h
 
-counted-few : (ws : List Word) (n : ℕ) → counted ws ≡ Words n → (length ws ≡ n) × (length ws ≤ 1024)
+counted-few : (ws : List Word) (n : ℕ) → counted ws ≡ Words n → (length ws ≡ n) × (length ws ≤ mostWords)
 unfolding counted
-counted-few ws n e = go (leb (length ws) 1024) refl e
+counted-few ws n e = go (leb (length ws) mostWords) refl e
   where
-    go : (t : Bool) → leb (length ws) 1024 ≡ t → cond t (Words (length ws)) TooMany ≡ Words n → (length ws ≡ n) × (length ws ≤ 1024)
-    go true h k = (cc, leb-true (length ws) 1024 h)
+    go : (t : Bool) → leb (length ws) mostWords ≡ t → cond t (Words (length ws)) TooMany ≡ Words n → (length ws ≡ n) × (length ws ≤ mostWords)
+    go true h k = (cc, leb-true (length ws) mostWords h)
     go false h k = absurd (let z : _≡_ {A = ℕ} 0 1 = cc in omega arith)
 
 module _ {notes t : List ℕ} {r : Count} {ws : List Word} (s : Split notes ws t r) where
-  pub split-many : r ≡ TooMany → 1024 < length ws
+  pub split-many : r ≡ TooMany → mostWords < length ws
   split-many e = counted-many ws (sym (s .count) ∙ e)
 
-  pub split-few : (n : ℕ) → r ≡ Words n → (length ws ≡ n) × (length ws ≤ 1024)
+  pub split-few : (n : ℕ) → r ≡ Words n → (length ws ≡ n) × (length ws ≤ mostWords)
   split-few n e = counted-few ws n (sym (s .count) ∙ e)
 
 module _ (fast : Bool) (g : Setting) (n : ℕ) (table breaks : List ℕ) (ratios : List Float) (active : List ℕ) (marks marks′ : List Bool) where
@@ -208,8 +209,8 @@ module _ (fast : Bool) (g : Setting) (n : ℕ) (table breaks : List ℕ) (ratios
 
 -- what was emitted is the paragraph, in terms of its own words
 pub emitted-is : (notes table : List ℕ) (n : ℕ) (marks : List Bool) (l : Layout) {uniform fast₀ fast : Bool} {first indent : Margin} {g₀ g : Setting} {ws : List Word}
-    → l .uniform ≡ uniform → l .first ≡ first → l .indent ≡ indent → wordsIn notes n table ≡ ws → breaksIn n marks ≡ broken fast₀ g₀ (wordsIn notes n table) → fast₀ ≡ fast → g₀ ≡ g
-    → emitted notes table n marks l ≡ emit uniform (marginOf notes first) (marginOf notes indent) (broken fast g ws) ws
+    → l .uniform ≡ uniform → l .first ≡ first → l .indent ≡ indent → wordsIn notes n table ≡ ws → breaksIn n marks ≡ breaksBy fast₀ g₀ (wordsIn notes n table) → fast₀ ≡ fast → g₀ ≡ g
+    → emitted notes table n marks l ≡ emit uniform (marginOf notes first) (marginOf notes indent) (breaksBy fast g ws) ws
 emitted-is notes table n marks l u f i w b k s = rw (u, f, i, b, w, k, s)
 
 -- and so is its bound

@@ -27,8 +27,8 @@ use Rattle.pieces.proofs.Meaning.{means, bounded}
 use Rattle.words.specs.Words.{wordsOf}
 use Rattle.output.specs.Emission.{lineFeed}
 use Rattle.rudignals.specs.Answers.{Answer, done, options, long, text, words, room, code, value, numbered}
-use Rattle.rudignals.specs.Format.{mostBytes, outputOf, tooMany, digest, longParagraph, withWords, withText, damageIn, withNotes, withBlock, answer}
-use Rattle.rudignals.specs.Contracts.Call.{outputFrom, longFrom, Goes, told, numberOf}
+use Rattle.rudignals.specs.Format.{mostBytes, mostWords, outputOf, tooMany, digest, longParagraph, withWords, withText, damageIn, withNotes, withBlock, answer}
+use Rattle.rudignals.specs.Contracts.Call.{outputFrom, longFrom, FirstPiece, told, replyNumber}
 use Rattle.rudignals.proofs.Meaning.{PieceGoes, piece-goes}
 use Rattle.rudignals.proofs.Bound.{formatted-most}
 use Rattle.rudignals.proofs.Faults.{fault-small}
@@ -41,27 +41,27 @@ record Next (o : Opts) (nextMail : Bool) (notes : List ℕ) (at : ℕ) : Type 0 
   kind : Kind
   state : Bool
   next : ℕ
-  goes : Goes o nextMail notes at kind state next
-  most : tooMany o kind ≡ false → length (outputOf o kind) + 1040 * at ≤ 1040 * next
+  goes : FirstPiece o nextMail notes at kind state next
+  bounded : tooMany o kind ≡ false → length (outputOf o kind) + 1040 * at ≤ 1040 * next
 
 next-of : (o : Opts) (nextMail : Bool) (notes : List ℕ) (at : ℕ) (r : PieceAt) → PieceGoes o nextMail notes at r → Next o nextMail notes at
 unfolding outputOf
-next-of o nextMail notes at (BlankAt next) g = record { kind = blankLine; state = true; next = next; goes = g; most = λ few. omega (arith, g .on) }
+next-of o nextMail notes at (BlankAt next) g = record { kind = blankLine; state = true; next = next; goes = g; bounded = λ few. omega (arith, g .on) }
 next-of o nextMail notes at (PlainAt end next) g =
     let l = length-slice at end notes (omega (arith, g .2, g .0 .within)) in
     let a = length-append (slice at end notes) lineFeed in
-    record { kind = plainLine (slice at end notes); state = false; next = next; goes = g .0; most = λ few. omega (arith, g .0 .on, g .1, g .2) }
+    record { kind = plainLine (slice at end notes); state = false; next = next; goes = g .0; bounded = λ few. omega (arith, g .0 .on, g .1, g .2) }
 next-of o nextMail notes at (Text p) t = record {
   kind = paragraph (t .paragraph-is);
   state = p .mail;
   next = p .next;
   goes = t .goes;
-  most = λ few. formatted-most o notes at p (t .paragraph-is) (t .text) (t .bounds) (ltb-false 1024 (length (wordsOf o (t .paragraph-is))) few);
+  bounded = λ few. formatted-most o notes at p (t .paragraph-is) (t .text) (t .bounds) (ltb-false mostWords (length (wordsOf o (t .paragraph-is))) few);
 }
 
 -- ---- the notes
 
-module _ (o : Opts) (notes : List ℕ) (least : 1 ≤ o .tab) (most : o .tab ≤ 100) (short : length notes ≤ 65536) (cleared : o .split ≡ true → (o .crown || o .tagged) ≡ false) where
+module _ (o : Opts) (notes : List ℕ) (least : 1 ≤ o .tab) (most : o .tab ≤ 100) (short : length notes ≤ mostBytes) (cleared : o .split ≡ true → (o .crown || o .tagged) ≡ false) where
   -- from a place on: the output's length, and the place of a paragraph of too many words
   record Small (nextMail : Bool) (at : ℕ) : Type 0 where
     output : longFrom o nextMail notes at ≡ Nowhere → length (outputFrom o nextMail notes at) + 1040 * at ≤ 1040 * length notes
@@ -82,7 +82,7 @@ module _ (o : Opts) (notes : List ℕ) (least : 1 ≤ o .tab) (most : o .tab ≤
         place = λ k e. let q = long-here o (n .goes) t in let z : at ≡ k = cc in omega arith;
       }
       go false t = record {
-        output = λ e. rw (output-more o (n .goes), length-append) (omega (arith, n .most t, s .output (sym (long-more o (n .goes) t) ∙ e)));
+        output = λ e. rw (output-more o (n .goes), length-append) (omega (arith, n .bounded t, s .output (sym (long-more o (n .goes) t) ∙ e)));
         place = λ k e. s .place k (sym (long-more o (n .goes) t) ∙ e);
       }
 
@@ -124,28 +124,28 @@ module _ (o : Opts) (notes : List ℕ) (least : 1 ≤ o .tab) (most : o .tab ≤
       damaged true (At n) e = absurd (let z : _≡_ {A = ℕ} 0 1 = cc in omega arith)
       damaged false (At n) e = omega (arith, damage-some false notes n e .1)
 
-      size : (b : Bool) → ltb mostBytes (length notes) ≡ b → value (elim b as (λ t. Answer) [ true ↦ long | false ↦ withText o notes space (damageIn o notes) ]) ≤ 68157440
+      size : (b : Bool) → ltb mostBytes (length notes) ≡ b → value (elim b as (λ t. Answer) [ true ↦ long | false ↦ withText o notes space (damageIn (o .keep) notes) ]) ≤ 68157440
       size true e = omega arith
-      size false e = damaged (o .keep) (damageIn o notes) refl
+      size false e = damaged (o .keep) (damageIn (o .keep) notes) refl
 
 -- ---- the call
 
-long-value : (o : Opts) (notes : List ℕ) (space : ℕ) → 65536 < length notes → value (withNotes o notes space) ≡ 0
+long-value : (o : Opts) (notes : List ℕ) (space : ℕ) → mostBytes < length notes → value (withNotes o notes space) ≡ 0
 long-value o notes space h = rw (withNotes, lt-ltb mostBytes (length notes) h)
 
 pub answer-value : (block notes : List ℕ) (space : ℕ) → value (answer block notes space) ≤ 68157440
 unfolding answer meant
 answer-value block notes space = go (readBlock block) refl
   where
-    short : (o : Options) → readBlock block ≡ Accepted o → (t : Bool) → ltb 65536 (length notes) ≡ t → value (withNotes (meant block o) notes space) ≤ 68157440
-    short o e true t = omega (arith, long-value (meant block o) notes space (ltb-true 65536 (length notes) t))
+    short : (o : Options) → readBlock block ≡ Accepted o → (t : Bool) → ltb mostBytes (length notes) ≡ t → value (withNotes (meant block o) notes space) ≤ 68157440
+    short o e true t = omega (arith, long-value (meant block o) notes space (ltb-true mostBytes (length notes) t))
     short o e false t =
         let k = accepted block o e in
-        notes-value (meant block o) notes (k .tabLeast) (k .tabMost) (ltb-false 65536 (length notes) t) (k .splitClears) space
+        notes-value (meant block o) notes (k .tabLeast) (k .tabMost) (ltb-false mostBytes (length notes) t) (k .splitClears) space
 
     go : (b : Block) → readBlock block ≡ b → value (withBlock block notes space b) ≤ 68157440
     go (Fault place) e = omega (arith, fault-small block place e)
-    go (Accepted o) e = short o e (ltb 65536 (length notes)) refl
+    go (Accepted o) e = short o e (ltb mostBytes (length notes)) refl
 
 code-most : (a : Answer) → code a ≤ 5
 code-most (done digest) = omega arith
@@ -163,7 +163,7 @@ the-answer-tells-code-and-value block notes space = let v = answer-value block n
 
 -- ---- the code's number
 
-pub told-number : (a : Answer) → numberOf (told a) ≡ numbered a
+pub told-number : (a : Answer) → replyNumber (told a) ≡ numbered a
 unfolding numbered
 told-number (done digest) = omega arith
 told-number (options place) = omega arith
@@ -172,7 +172,7 @@ told-number (text place) = omega arith
 told-number (words place) = omega arith
 told-number (room needed) = omega arith
 
-pub told-fits : (block notes : List ℕ) (space : ℕ) → numberOf (told (answer block notes space)) < 2 ^ 64
+pub told-fits : (block notes : List ℕ) (space : ℕ) → replyNumber (told (answer block notes space)) < 2 ^ 64
 unfolding numbered
 told-fits block notes space =
     let v = answer-value block notes space in

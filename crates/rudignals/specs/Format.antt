@@ -28,22 +28,26 @@ mostBytes = 65536
 abbrev pub mostWords : ℕ
 mostWords = 1024
 
--- mail always counts as uniform and quick
-unfoldable pub settingOf : Opts → Paragraph → Setting
-settingOf o p = record {
+-- what a paragraph is broken with: the options, and the columns of its first indent and its indent. Mail always counts as uniform
+unfoldable pub settingOf : Opts → Bool → ℕ → ℕ → Setting
+settingOf o mail first indent = record {
   width = o .width;
   goal = o .goal;
   tab = o .tab;
-  uniform = o .uniform || p .mail;
-  first = p .first .columns;
-  indent = p .indent .columns;
+  uniform = o .uniform || mail;
+  first = first;
+  indent = indent;
 }
 
-unfoldable pub breaksOf : Opts → Paragraph → List Word → List Bool
-breaksOf o p ws = elim (o .quick || p .mail) [ true ↦ quickBreaks (settingOf o p) ws | false ↦ bestBreaks (settingOf o p) ws ]
+abbrev pub breaksBy : Bool → Setting → List Word → List Bool
+breaksBy quick g ws = elim quick [ true ↦ quickBreaks g ws | false ↦ bestBreaks g ws ]
 
+-- and as quick
 unfoldable pub formatted : Opts → Paragraph → List ℕ
-formatted o p = let ws = wordsOf o p in emit (o .uniform || p .mail) (p .first .bytes) (p .indent .bytes) (breaksOf o p ws) ws
+formatted o p =
+    let ws = wordsOf o p in
+    let g = settingOf o (p .mail) (p .first .columns) (p .indent .columns) in
+    emit (o .uniform || p .mail) (p .first .bytes) (p .indent .bytes) (breaksBy (o .quick || p .mail) g ws) ws
 
 -- a blank line emits an empty line; a plain line is emitted as it is with a line feed
 unfoldable pub outputOf : Opts → Kind → List ℕ
@@ -59,12 +63,9 @@ digest o notes = joined (pieceOutput o) (pieces o notes)
 
 -- ---- a paragraph of over 1,024 words
 
-abbrev pub rawBytes : Line → List ℕ
-rawBytes l = l .raw
-
 -- the bytes of the notes that a piece takes
 unfoldable pub extentOf : Piece → List ℕ
-extentOf piece = joined rawBytes (piece .lines)
+extentOf piece = joined (λ (l : Line). l .raw) (piece .lines)
 
 abbrev pub tooMany : Opts → Kind → Bool
 tooMany o blankLine = false
@@ -90,11 +91,11 @@ withText o notes space (At place) = text place
 withText o notes space Nowhere = withWords o notes space (longParagraph o 0 (pieces o notes))
 
 -- keep on: damaged lines are plain lines
-abbrev pub damageIn : Opts → List ℕ → Found
-damageIn o notes = elim (o .keep) [ true ↦ Nowhere | false ↦ damage notes ]
+abbrev pub damageIn : Bool → List ℕ → Found
+damageIn keep notes = elim keep [ true ↦ Nowhere | false ↦ damage notes ]
 
 abbrev pub withNotes : Opts → List ℕ → ℕ → Answer
-withNotes o notes space = elim (ltb mostBytes (length notes)) [ true ↦ long | false ↦ withText o notes space (damageIn o notes) ]
+withNotes o notes space = elim (ltb mostBytes (length notes)) [ true ↦ long | false ↦ withText o notes space (damageIn (o .keep) notes) ]
 
 abbrev pub withBlock : List ℕ → List ℕ → ℕ → Block → Answer
 withBlock block notes space (Fault place) = options place

@@ -1,4 +1,5 @@
 pub mod Answers
 pub mod Format
 pub mod Contracts
+pub mod Theorems
 pub mod Trials

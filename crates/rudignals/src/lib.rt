@@ -19,11 +19,11 @@ ghost use Rattle.pieces.specs.Pieces.{pieces};
 ghost use Rattle.knuth_plass.specs.Contracts.Table.{tables};
 ghost use Rattle.knuth_plass.specs.Contracts.Round.{Limits, Wide, Lent};
 ghost use Rattle.rudignals.specs.Answers.{numbered, outputAfter};
-ghost use Rattle.rudignals.specs.Format.{answer, withNotes, withWords, longParagraph};
-ghost use Rattle.rudignals.specs.Contracts.Call.{numberOf, damageFor, Answers, Stands, Begins, Reached, Scratch, Ready, settingIn, Broken, Placed, TextStepped, Finished, FinishedFrom};
+ghost use Rattle.rudignals.specs.Format.{damageIn, withWords, withNotes, answer, longParagraph};
+ghost use Rattle.rudignals.specs.Contracts.Call.{replyNumber, Answers, CursorIn, TextAhead, Reached, Scratch, Admitted, settingFor, Broken, Placed, TextStepped, Finished, FinishedFrom};
 
 // What the call answers: the digest's length, or a refusal with what is told of it.
-pub enum Answer {
+pub enum Reply {
     Done(usize),
     Options(usize),
     Long,
@@ -69,47 +69,50 @@ pub extern "C" fn rudignals_format(options: &[u8], notes: &[u8], output: &mut [u
 const UPPER: u64 = 4294967296;
 
 // The answer's number.
-fn number_of(a: Answer) -> u64
-    requires { ⌜ numberOf a < 2 ^ 64 ⌝ }
-    ensures { λ r. ⌜ r ≡ numberOf a ⌝ }
+fn number_of(a: Reply) -> u64
+    requires { ⌜ replyNumber a < 2 ^ 64 ⌝ }
+    ensures { λ r. ⌜ r ≡ replyNumber a ⌝ }
 {
     match a {
-        Answer::Done(n) => n as u64,
-        Answer::Options(place) => 1 * UPPER + place as u64,
-        Answer::Long => 2 * UPPER,
-        Answer::Text(place) => 3 * UPPER + place as u64,
-        Answer::Words(place) => 4 * UPPER + place as u64,
-        Answer::Room(needed) => 5 * UPPER + needed as u64,
+        Reply::Done(n) => n as u64,
+        Reply::Options(place) => 1 * UPPER + place as u64,
+        Reply::Long => 2 * UPPER,
+        Reply::Text(place) => 3 * UPPER + place as u64,
+        Reply::Words(place) => 4 * UPPER + place as u64,
+        Reply::Room(needed) => 5 * UPPER + needed as u64,
     }
 }
 
 // The answer to a call: the lowest code wins.
-fn answer_to(block: &[u8], notes: &[u8], out: &mut [u8]) -> Answer
+fn answer_to(block: &[u8], notes: &[u8], out: &mut [u8]) -> Reply
     ensures { λ r. ⌜ Answers (answer (now (block .entry)) (now (notes .entry)) (length (now (out .entry)))) (now (out .entry)) r (now (out .exit)) ⌝ }
 {
     match options::read_block(block) {
-        Block::Fault(place) => Answer::Options(place),
+        Block::Fault(place) => Reply::Options(place),
         Block::Accepted(o) => answer_with(o, block, notes, out),
     }
 }
 
+// Notes are refused if they are longer.
+const MOST_BYTES: usize = 65536;
+
 // The answer with the options of an accepted block.
-fn answer_with(o: Options, block: &[u8], notes: &[u8], out: &mut [u8]) -> Answer
+fn answer_with(o: Options, block: &[u8], notes: &[u8], out: &mut [u8]) -> Reply
     requires { ⌜ readBlock (now block) ≡ Accepted o ⌝ }
     ensures { λ r. ⌜ Answers (withNotes (meant (now (block .entry)) o) (now (notes .entry)) (length (now (out .entry)))) (now (out .entry)) r (now (out .exit)) ⌝ }
 {
-    if 65536 < notes.len() {
-        return Answer::Long;
+    if MOST_BYTES < notes.len() {
+        return Reply::Long;
     }
     match damage_in(o.keep, notes) {
-        Found::At(place) => Answer::Text(place),
+        Found::At(place) => Reply::Text(place),
         Found::Nowhere => format_notes(o, block, notes, out),
     }
 }
 
 // The first damaged character, if it is to be refused. With keep on, damaged lines are plain lines.
 fn damage_in(keep: bool, notes: &[u8]) -> Found
-    ensures { λ r. ⌜ r ≡ damageFor keep (now (notes .entry)) ⌝ }
+    ensures { λ r. ⌜ r ≡ damageIn keep (now (notes .entry)) ⌝ }
 {
     if keep {
         return Found::Nowhere;
@@ -118,28 +121,28 @@ fn damage_in(keep: bool, notes: &[u8]) -> Found
 }
 
 // Formats the notes.
-fn format_notes(o: Options, block: &[u8], notes: &[u8], out: &mut [u8]) -> Answer
-    requires { ⌜ Ready (now block) (now notes) o ⌝ }
+fn format_notes(o: Options, block: &[u8], notes: &[u8], out: &mut [u8]) -> Reply
+    requires { ⌜ Admitted (now block) (now notes) o ⌝ }
     ensures { λ r. ⌜ Answers (withWords (meant (now (block .entry)) o) (now (notes .entry)) (length (now (out .entry))) (longParagraph (meant (now (block .entry)) o) 0 (pieces (meant (now (block .entry)) o) (now (notes .entry))))) (now (out .entry)) r (now (out .exit)) ⌝ }
 {
     match put_all(o, block, notes, out) {
         Ended::Stopped(place) => {
             clear(out);
-            Answer::Words(place)
+            Reply::Words(place)
         }
         Ended::All(needed) => {
             if needed <= out.len() {
-                return Answer::Done(needed);
+                return Reply::Done(needed);
             }
             clear(out);
-            Answer::Room(needed)
+            Reply::Room(needed)
         }
     }
 }
 
 // Writes what fits of all pieces, and counts what is needed. It goes on when no room is left: too many words, found later, take precedence.
 fn put_all(o: Options, block: &[u8], notes: &[u8], out: &mut [u8]) -> Ended
-    requires { ⌜ Ready (now block) (now notes) o ⌝ }
+    requires { ⌜ Admitted (now block) (now notes) o ⌝ }
     ensures { λ r. ⌜ Finished (meant (now (block .entry)) o) (now (notes .entry)) (now (out .entry)) (now (out .exit)) r ⌝ }
 {
     let start = Cursor {
@@ -155,7 +158,7 @@ fn put_all(o: Options, block: &[u8], notes: &[u8], out: &mut [u8]) -> Ended
 
 // Writes the lines from a place on, blank and plain ones, up to the next paragraph.
 fn put_lines(o: Options, block: &[u8], notes: &[u8], from: Cursor, out: &mut [u8]) -> Ahead
-    requires { ⌜ Ready (now block) (now notes) o × Stands (now notes) from ⌝ }
+    requires { ⌜ Admitted (now block) (now notes) o × CursorIn (now notes) from ⌝ }
     ensures { λ r. ⌜ Reached (now (block .entry)) o (now (notes .entry)) from (now (out .entry)) (now (out .exit)) r ⌝ }
 {
     let mut c = from;
@@ -194,7 +197,7 @@ fn put_from(
     p: Paragraph,
     out: &mut [u8],
 ) -> Ended
-    requires { ⌜ Ready (now block) (now notes) o × Stands (now notes) c × Begins (now block) o (now notes) c p ⌝ }
+    requires { ⌜ Admitted (now block) (now notes) o × CursorIn (now notes) c × TextAhead (now block) o (now notes) c p ⌝ }
     ensures { λ r. ⌜ FinishedFrom (meant (now (block .entry)) o) (now (notes .entry)) c (now (out .entry)) (now (out .exit)) r ⌝ }
 {
     let mut table = [0u32; 8192];
@@ -231,7 +234,7 @@ fn put_texts(
     active: &mut [usize; 1024],
     marks: &mut [bool; 1024],
 ) -> Ended
-    requires { ⌜ Ready (now block) (now notes) o × Stands (now notes) first × Begins (now block) o (now notes) first head × Scratch (now table) (now breaks) (now ratios) (now active) (now marks) ⌝ }
+    requires { ⌜ Admitted (now block) (now notes) o × CursorIn (now notes) first × TextAhead (now block) o (now notes) first head × Scratch (now table) (now breaks) (now ratios) (now active) (now marks) ⌝ }
     ensures { λ r. ⌜ FinishedFrom (meant (now (block .entry)) o) (now (notes .entry)) first (now (out .entry)) (now (out .exit)) r ⌝ }
 {
     let mut c = first;
@@ -325,7 +328,7 @@ fn mark_breaks(
 
 // What a paragraph is broken with. Mail always counts as uniform.
 fn setting_of(o: Options, p: Paragraph) -> Setting
-    ensures { λ r. ⌜ r ≡ settingIn o p ⌝ }
+    ensures { λ r. ⌜ ((block : List ℕ) → r ≡ settingFor block o p) ⌝ }
 {
     let first = p.first;
     let indent = p.indent;

@@ -6,7 +6,7 @@ use Prim.Native.Nat.{ℕ}
 use borrow.Author.Needs.{needs}
 use Rattle.text.specs.Characters.{damage}
 use Rattle.text.specs.declared.Found.{Found}
-use Rattle.rudignals.specs.Contracts.Call.{damageFor}
+use Rattle.rudignals.specs.Format.{damageIn}
 use Rattle.rudignals.proofs.damage_in.Statement.{statement}
 use Rattle.rudignals.proofs.damage_in.Tie as tie
 
@@ -16,7 +16,7 @@ returns c = search needs
 first-damage-requires : tie.Need-first-damage-requires
 first-damage-requires c κs = search needs
 
-refused : (keep : Bool) (notes : List ℕ) (r : Found) → keep ≡ false → r ≡ damage notes → r ≡ damageFor keep notes
+refused : (keep : Bool) (notes : List ℕ) (r : Found) → keep ≡ false → r ≡ damage notes → r ≡ damageIn keep notes
 refused keep notes r e h = rw e h
 
 returns-2 : tie.Need-returns-2

@@ -3,13 +3,13 @@ use mathlib.Core.Path.{_≡_, sym, ap}
 use Prim.Native.Nat.{_<_, _^_}
 use native.Mathlib.Omega.{arith}
 use borrow.Author.Needs.{needs}
-use Rattle.rudignals.specs.Contracts.Call.{numberOf}
-use Rattle.rudignals.specs.declared.Answer.{Answer}
+use Rattle.rudignals.specs.Contracts.Call.{replyNumber}
+use Rattle.rudignals.specs.declared.Reply.{Reply}
 use Rattle.rudignals.proofs.number_of.Statement.{statement}
 use Rattle.rudignals.proofs.number_of.Tie as tie
 
 -- the number of what a value was found to be fits as well
-fits : {a b : Answer} → a ≡ b → numberOf a < 2 ^ 64 → numberOf b < 2 ^ 64
+fits : {a b : Reply} → a ≡ b → replyNumber a < 2 ^ 64 → replyNumber b < 2 ^ 64
 fits e h = rw (← e) h
 
 enum-known-a : tie.Need-enum-known-a
@@ -61,19 +61,19 @@ returns : tie.Need-returns
 returns c = search needs
 
 returns-2 : tie.Need-returns-2
-returns-2 c = ap numberOf (sym (c .before .a2 .given .1))
+returns-2 c = ap replyNumber (sym (c .before .a2 .given .1))
 
 returns-3 : tie.Need-returns-3
 returns-3 c = search needs
 
 returns-4 : tie.Need-returns-4
-returns-4 c = ap numberOf (sym (c .before .a3 .given .1))
+returns-4 c = ap replyNumber (sym (c .before .a3 .given .1))
 
 returns-5 : tie.Need-returns-5
-returns-5 c = ap numberOf (sym (c .before .a4 .given .1))
+returns-5 c = ap replyNumber (sym (c .before .a4 .given .1))
 
 returns-6 : tie.Need-returns-6
-returns-6 c = ap numberOf (sym (c .before .a5 .given .1))
+returns-6 c = ap replyNumber (sym (c .before .a5 .given .1))
 
 pub number-of-spec : {M : Type 1} → statement M
 number-of-spec =

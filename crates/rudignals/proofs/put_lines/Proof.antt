@@ -32,7 +32,7 @@ emit-line-requires : tie.Need-emit-line-requires Inv-loop μ-loop
 emit-line-requires c κs =
     let s = c .before .before .before .before .before .before .before .loop .inv .0 .stands in
     let short = c .before .before .before .before .before .before .before .before .before .before .before .pre .0 .short in
-    (omega arith, s .within, omega (arith, short), omega (arith, short, s .within, s .most))
+    (omega arith, s .within, omega (arith, short), omega (arith, short, s .within, s .bounded))
 
 loop-less : tie.Need-loop-less Inv-loop μ-loop
 loop-less c =
@@ -52,7 +52,7 @@ emit-line-requires-2 c κs =
     let s = c .before .before .before .before .before .before .before .loop .inv .0 .stands in
     let short = c .before .before .before .before .before .before .before .before .before .before .before .pre .0 .short in
     let m = found-goes _ _ _ (c .before .before .before .before .before .before .before .before .before .before .before .pre .0) _ _ _ _ (c .before .before .before .before .before .if1 .taken) (c .before .before .before .before .next-piece .ensures) (c .before .before .end .given .1) in
-    (omega (arith, m .1), omega (arith, m .1, m .2, m .0 .within), omega (arith, short), omega (arith, short, s .within, s .most))
+    (omega (arith, m .1), omega (arith, m .1, m .2, m .0 .within), omega (arith, short), omega (arith, short, s .within, s .bounded))
 
 loop-less-2 : tie.Need-loop-less-2 Inv-loop μ-loop
 loop-less-2 c =

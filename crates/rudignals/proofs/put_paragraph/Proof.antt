@@ -32,7 +32,7 @@ mark-breaks-requires c κs =
     let p = c .before .before .before .before .before .before .before .before .before .before .before .before .before .before .pre in
     let s = c .before .before .before .before .before .before .before .before .before .before .split-words .ensures (p .0 .block) in
     let n = split-few s _ (c .before .before .before .before .before .before .before .before .n .given .1) in (
-      rw (c .before .before .before .before .before .setting-of .ensures) (limits-of _ _ _ _ (p .0)),
+      rw (c .before .before .before .before .before .setting-of .ensures (p .0 .block)) (limits-of _ _ _ _ (p .0) (p .0 .block)),
       omega (arith, n .0, p .0 .some),
       omega (arith, n .0, n .1),
       s .kept _ (c .before .before .before .before .before .before .before .before .n .given .1) .some,
@@ -74,8 +74,8 @@ returns-2 c =
         few = split-few (s block) _ w .1;
         next = refl;
         mail = refl;
-        wrote = wrote-as (emitted-is _ _ _ _ _ (l .0) (l .1) (l .2) (s block .words _ w) (b .says _) (c .before .before .before .before .before .before .before .before .before .before .before .before .before .before .either .ensures) (c .before .before .before .before .before .before .before .before .before .before .before .before .before .setting-of .ensures)) (c .before .before .emit .ensures .0);
-        most = most-as _ _ _ (c .before .before .before .before .layout-of .result) _ (l .1) (l .2) (s block .words _ w) (c .before .before .emit .ensures .1);
+        wrote = wrote-as (emitted-is _ _ _ _ _ (l .0) (l .1) (l .2) (s block .words _ w) (b .says _) (c .before .before .before .before .before .before .before .before .before .before .before .before .before .before .either .ensures) (c .before .before .before .before .before .before .before .before .before .before .before .before .before .setting-of .ensures block)) (c .before .before .emit .ensures .0);
+        bounded = most-as _ _ _ (c .before .before .before .before .layout-of .result) _ (l .1) (l .2) (s block .words _ w) (c .before .before .emit .ensures .1);
       },
       record { sized = s (p .0 .block) .sized; lent = b .lent },
     )

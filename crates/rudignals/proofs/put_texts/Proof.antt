@@ -7,7 +7,7 @@ use denote.Ref.{now}
 use lib.ListN.{length}
 use Rattle.output.proofs.Sink.{wrote-length}
 use Rattle.options.specs.Opts.{meant}
-use Rattle.rudignals.specs.Contracts.Call.{Going, Begins, Scratch}
+use Rattle.rudignals.specs.Contracts.Call.{Going, TextAhead, Scratch}
 use Rattle.rudignals.specs.declared.Ended.the-variants.{All}
 use Rattle.rudignals.proofs.Loop.{going-first, going-length, going-on, going-further, going-finished, going-over, stepped-on, stepped-over, reached-text, reached-end}
 use Rattle.rudignals.proofs.Steps.{begins-placed, begins-stepped}
@@ -16,7 +16,7 @@ use Rattle.rudignals.proofs.put_texts.Tie as tie
 
 abbrev Inv-loop : tie.InvT-loop
 Inv-loop o block notes out₀ table₀ breaks₀ ratios₀ active₀ marks₀ first head out table breaks ratios active marks c p =
-    Going (meant block o) notes first out₀ c out × Begins block o notes c p × Scratch table breaks ratios active marks
+    Going (meant block o) notes first out₀ c out × TextAhead block o notes c p × Scratch table breaks ratios active marks
 
 abbrev μ-loop : tie.MeasureT-loop
 μ-loop o block notes out₀ table₀ breaks₀ ratios₀ active₀ marks₀ first head out table breaks ratios active marks c p = length notes - c .at
@@ -30,7 +30,7 @@ put-paragraph-requires : tie.Need-put-paragraph-requires Inv-loop μ-loop
 put-paragraph-requires c κs =
     let p = c .before .before .before .before .before .before .before .before .before .before .pre in
     let i = c .before .before .before .before .before .before .loop .inv in
-    (begins-placed _ _ _ _ _ (p .0) (i .1), i .2, omega (arith, p .0 .short, i .0 .stands .most, i .0 .stands .within))
+    (begins-placed _ _ _ _ _ (p .0) (i .1), i .2, omega (arith, p .0 .short, i .0 .stands .bounded, i .0 .stands .within))
 
 enum-known-behind : tie.Need-enum-known-behind Inv-loop μ-loop
 enum-known-behind c = search needs

@@ -1,7 +1,7 @@
 -- `rudignals::rudignals_format` meets its contract.
 use mathlib.Core.Path.{ap, _∙_}
 use borrow.Author.Needs.{needs}
-use Rattle.rudignals.specs.Contracts.Call.{numberOf}
+use Rattle.rudignals.specs.Contracts.Call.{replyNumber}
 use Rattle.rudignals.proofs.Values.{told-number, told-fits}
 use Rattle.rudignals.proofs.rudignals_format.Statement.{statement}
 use Rattle.rudignals.proofs.rudignals_format.Tie as tie
@@ -18,7 +18,7 @@ same-length c = search needs
 returns : tie.Need-returns
 returns c =
     let a = c .before .before .before .answer-to .ensures in
-    (c .number-of .ensures ∙ ap numberOf (a .is) ∙ told-number _, a .output)
+    (c .number-of .ensures ∙ ap replyNumber (a .is) ∙ told-number _, a .output)
 
 pub rudignals-format-spec : {M : Type 1} → statement M
 rudignals-format-spec =

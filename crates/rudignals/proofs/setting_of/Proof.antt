@@ -1,5 +1,7 @@
 -- `rudignals::setting_of` meets its contract.
 use borrow.Author.Needs.{needs}
+use Rattle.options.specs.Opts.{meant}
+use Rattle.rudignals.specs.Format.{settingOf}
 use Rattle.rudignals.proofs.setting_of.Statement.{statement}
 use Rattle.rudignals.proofs.setting_of.Tie as tie
 
@@ -7,7 +9,8 @@ either-requires : tie.Need-either-requires
 either-requires c κs = search needs
 
 returns : tie.Need-returns
-returns c = rw (c .either .ensures)
+unfolding settingOf meant
+returns c block = rw (c .either .ensures)
 
 pub setting-of-spec : {M : Type 1} → statement M
 setting-of-spec = tie.close (tie.spec either-requires returns)

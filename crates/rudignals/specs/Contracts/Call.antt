@@ -9,7 +9,6 @@ use lib.ListN.{length, drop}
 use lib.Seq.{slice}
 use Rattle.lists.specs.Runs.{joined}
 use Rattle.lists.specs.Walk.{walk}
-use Rattle.text.specs.Characters.{damage}
 use Rattle.text.specs.declared.Found.{Found}
 use Rattle.text.specs.declared.Found.the-variants.{At, Nowhere}
 use Rattle.options.specs.Opts.{Opts, meant}
@@ -31,14 +30,12 @@ use Rattle.output.specs.Contracts.Bound.{longest}
 use Rattle.output.specs.Emission.{emit}
 use Rattle.output.specs.Contracts.Sink.{Wrote, Left}
 use Rattle.output.specs.Contracts.Writers.{marginOf, MarginIn}
-use Rattle.quick.specs.Quick.{quickBreaks}
-use Rattle.knuth_plass.specs.KnuthPlass.{bestBreaks}
 use Rattle.knuth_plass.specs.Contracts.Table.{tables}
 use Rattle.knuth_plass.specs.Contracts.Round.{Lent}
 use Rattle.rudignals.specs.Answers.{Answer, done, options, long, text, words, room, outputAfter}
-use Rattle.rudignals.specs.Format.{extentOf, tooMany, outputOf, pieceOutput, digest, longParagraph}
-use Rattle.rudignals.specs.declared.Answer.{Answer as Told}
-use Rattle.rudignals.specs.declared.Answer.the-variants.{Done, Options as Refused, Long, Text, Words, Room}
+use Rattle.rudignals.specs.Format.{mostBytes, mostWords, settingOf, breaksBy, outputOf, pieceOutput, digest, extentOf, tooMany, longParagraph}
+use Rattle.rudignals.specs.declared.Reply.{Reply}
+use Rattle.rudignals.specs.declared.Reply.the-variants.{Done, Options as Refused, Long, Text, Words, Room}
 use Rattle.rudignals.specs.declared.Cursor.{Cursor}
 use Rattle.rudignals.specs.declared.Ahead.{Ahead}
 use Rattle.rudignals.specs.declared.Ahead.the-variants.{Text as AheadText, End}
@@ -49,7 +46,7 @@ use Rattle.rudignals.specs.declared.Ended.the-variants.{All, Stopped}
 
 -- ---- the answer in code: without the digest's bytes, which are in the output
 
-abbrev pub told : Answer → Told
+abbrev pub told : Answer → Reply
 told (done digest) = Done (length digest)
 told (options place) = Refused place
 told long = Long
@@ -58,22 +55,18 @@ told (words place) = Words place
 told (room needed) = Room needed
 
 -- its number
-abbrev pub numberOf : Told → ℕ
-numberOf (Done n) = n
-numberOf (Refused place) = 1 * 2 ^ 32 + place
-numberOf Long = 2 * 2 ^ 32
-numberOf (Text place) = 3 * 2 ^ 32 + place
-numberOf (Words place) = 4 * 2 ^ 32 + place
-numberOf (Room needed) = 5 * 2 ^ 32 + needed
+abbrev pub replyNumber : Reply → ℕ
+replyNumber (Done n) = n
+replyNumber (Refused place) = 1 * 2 ^ 32 + place
+replyNumber Long = 2 * 2 ^ 32
+replyNumber (Text place) = 3 * 2 ^ 32 + place
+replyNumber (Words place) = 4 * 2 ^ 32 + place
+replyNumber (Room needed) = 5 * 2 ^ 32 + needed
 
 -- what a function that gives the answer leaves behind: the answer as told, and the output after it
-pub record Answers (a : Answer) (out : List ℕ) (r : Told) (out′ : List ℕ) : Type 0 where
+pub record Answers (a : Answer) (out : List ℕ) (r : Reply) (out′ : List ℕ) : Type 0 where
   pub is : r ≡ told a
   pub output : out′ ≡ outputAfter a out
-
--- with keep on nothing is refused as damaged
-abbrev pub damageFor : Bool → List ℕ → Found
-damageFor keep notes = elim keep [ true ↦ Nowhere | false ↦ damage notes ]
 
 -- ---- pieces
 
@@ -89,7 +82,7 @@ unfoldable pub longFrom : Opts → Bool → List ℕ → ℕ → Found
 longFrom o nextMail notes at = longParagraph o at (piecesFrom o nextMail notes at)
 
 -- the first of them is of a kind and stands from at up to next; the others stand behind it
-pub record Goes (o : Opts) (nextMail : Bool) (notes : List ℕ) (at : ℕ) (kind : Kind) (state : Bool) (next : ℕ) : Type 0 where
+pub record FirstPiece (o : Opts) (nextMail : Bool) (notes : List ℕ) (at : ℕ) (kind : Kind) (state : Bool) (next : ℕ) : Type 0 where
   pub piece : Piece
   pub is : piece .kind ≡ kind
   pub pieces : piecesFrom o nextMail notes at ≡ piece ∷ piecesFrom o state notes next
@@ -100,17 +93,17 @@ pub record Goes (o : Opts) (nextMail : Bool) (notes : List ℕ) (at : ℕ) (kind
 -- a piece was written, and the work goes on behind it
 pub record Put (o : Opts) (notes out : List ℕ) (c d : Cursor) (out′ : List ℕ) : Type 0 where
   pub kind : Kind
-  pub goes : Goes o (c .mail) notes (c .at) kind (d .mail) (d .at)
+  pub goes : FirstPiece o (c .mail) notes (c .at) kind (d .mail) (d .at)
   pub few : tooMany o kind ≡ false
   pub wrote : Wrote out (c .written) (outputOf o kind) out′ (d .written)
-  pub most : d .written + 1040 * c .at ≤ c .written + 1040 * d .at
+  pub bounded : d .written + 1040 * c .at ≤ c .written + 1040 * d .at
 
 -- a paragraph has too many words, and the output is as it was
 pub record TooLong (o : Opts) (notes out : List ℕ) (c : Cursor) (out′ : List ℕ) : Type 0 where
   pub kind : Kind
   pub state : Bool
   pub next : ℕ
-  pub goes : Goes o (c .mail) notes (c .at) kind state next
+  pub goes : FirstPiece o (c .mail) notes (c .at) kind state next
   pub many : tooMany o kind ≡ true
   pub same : out′ ≡ out
 
@@ -127,29 +120,19 @@ pub record Scratch (table breaks : List ℕ) (ratios : List Float) (active : Lis
 -- ---- a paragraph
 
 -- the options of an accepted block, and notes within the limit
-pub record Ready (block notes : List ℕ) (o : Options) : Type 0 where
+pub record Admitted (block notes : List ℕ) (o : Options) : Type 0 where
   pub accepted : readBlock block ≡ Accepted o
-  pub short : length notes ≤ 65536
-
-abbrev pub settingIn : Options → Paragraph → Setting
-settingIn o p = record {
-  width = o .width;
-  goal = o .goal;
-  tab = o .tab;
-  uniform = o .uniform || p .mail;
-  first = p .first .columns;
-  indent = p .indent .columns;
-}
-
-abbrev pub broken : Bool → Setting → List Word → List Bool
-broken fast g ws = elim fast [ true ↦ quickBreaks g ws | false ↦ bestBreaks g ws ]
+  pub short : length notes ≤ mostBytes
 
 -- the marks say so of n words of a table, for whatever notes they stand in
 pub record Broken (fast : Bool) (g : Setting) (n : ℕ) (table breaks : List ℕ) (ratios : List Float) (active : List ℕ) (marks : List Bool) : Type 0 where
-  pub says : (notes : List ℕ) → breaksIn n marks ≡ broken fast g (wordsIn notes n table)
+  pub says : (notes : List ℕ) → breaksIn n marks ≡ breaksBy fast g (wordsIn notes n table)
   pub lent : Lent (tables breaks ratios) active marks
 
--- the words of a paragraph in places
+-- what a paragraph in places is broken with, and its words
+abbrev pub settingFor : List ℕ → Options → Paragraph → Setting
+settingFor block o p = settingOf (meant block o) (p .mail) (p .first .columns) (p .indent .columns)
+
 abbrev pub wordsFor : List ℕ → List ℕ → ℕ → Options → Paragraph → List Word
 wordsFor block notes at o p = wordsAt (meant block o) (p .mail) (p .start) (p .later) (linesOf (slice at (p .next) notes))
 
@@ -157,7 +140,7 @@ wordsFor block notes at o p = wordsAt (meant block o) (p .mail) (p .start) (p .l
 pub record Placed (notes : List ℕ) (at : ℕ) (o : Options) (p : Paragraph) : Type 0 where
   pub order : at ≤ p .next
   pub within : p .next ≤ length notes
-  pub short : length notes ≤ 65536
+  pub short : length notes ≤ mostBytes
   pub begins : p .mail ≡ false → AllBegin (o .glue) (p .start) (p .later) (linesOf (slice at (p .next) notes))
   pub block : List ℕ
   pub some : 0 < length (wordsFor block notes at o p)
@@ -168,39 +151,39 @@ pub record Placed (notes : List ℕ) (at : ℕ) (o : Options) (p : Paragraph) : 
   pub goal : o .goal ≤ o .width
   pub twice : o .width ≤ 2 * o .goal
   pub width : o .width ≤ 1000
-  pub least : 1 ≤ o .tab
-  pub most : o .tab ≤ 100
+  pub tabLeast : 1 ≤ o .tab
+  pub tabMost : o .tab ≤ 100
 
 -- it was written
 pub record TextPut (notes : List ℕ) (at : ℕ) (o : Options) (p : Paragraph) (out : List ℕ) (written : ℕ) (out′ : List ℕ) (d : Cursor) (block : List ℕ) : Type 0 where
-  pub few : length (wordsFor block notes at o p) ≤ 1024
+  pub few : length (wordsFor block notes at o p) ≤ mostWords
   pub next : d .at ≡ p .next
   pub mail : d .mail ≡ p .mail
   pub wrote : Wrote out written
-      (emit (o .uniform || p .mail) (marginOf notes (p .first)) (marginOf notes (p .indent)) (broken (o .quick || p .mail) (settingIn o p) (wordsFor block notes at o p)) (wordsFor block notes at o p))
+      (emit (o .uniform || p .mail) (marginOf notes (p .first)) (marginOf notes (p .indent)) (breaksBy (o .quick || p .mail) (settingFor block o p) (wordsFor block notes at o p)) (wordsFor block notes at o p))
       out′ (d .written)
-  pub most : d .written ≤ written + longest (marginOf notes (p .first)) (marginOf notes (p .indent)) (wordsFor block notes at o p)
+  pub bounded : d .written ≤ written + longest (marginOf notes (p .first)) (marginOf notes (p .indent)) (wordsFor block notes at o p)
 
 abbrev pub TextStepped : List ℕ → ℕ → Options → Paragraph → List ℕ → ℕ → List ℕ → Step → List ℕ → Type 0
 TextStepped notes at o p out written out′ (On d) block = TextPut notes at o p out written out′ d block
-TextStepped notes at o p out written out′ Over block = (1024 < length (wordsFor block notes at o p)) × (out′ ≡ out)
+TextStepped notes at o p out written out′ Over block = (mostWords < length (wordsFor block notes at o p)) × (out′ ≡ out)
 
 -- ---- the notes
 
 -- a place within the notes; no byte of them makes more than 1,040
-pub record Stands (notes : List ℕ) (c : Cursor) : Type 0 where
+pub record CursorIn (notes : List ℕ) (c : Cursor) : Type 0 where
   pub within : c .at ≤ length notes
-  pub most : c .written ≤ 1040 * c .at
+  pub bounded : c .written ≤ 1040 * c .at
 
 -- the paragraph that `next_piece` finds at a place
-pub record Begins (block : List ℕ) (o : Options) (notes : List ℕ) (c : Cursor) (p : Paragraph) : Type 0 where
+pub record TextAhead (block : List ℕ) (o : Options) (notes : List ℕ) (c : Cursor) (p : Paragraph) : Type 0 where
   pub within : c .at < length notes
   pub is : TextAt p ≡ pieceAt (meant block o) (c .mail) notes (c .at)
   pub bounds : Bounded (o .glue) notes (c .at) (TextAt p)
 
 -- what the cursor and the output have come to, from the cursor c₀ and out₀ on
 pub record Going (o : Opts) (notes : List ℕ) (c₀ : Cursor) (out₀ : List ℕ) (c : Cursor) (out : List ℕ) : Type 0 where
-  pub stands : Stands notes c
+  pub stands : CursorIn notes c
   pub left : Left out₀ (c₀ .written) (outputFrom o (c₀ .mail) notes (c₀ .at)) out (c .written) (outputFrom o (c .mail) notes (c .at))
   pub long : longFrom o (c .mail) notes (c .at) ≡ longFrom o (c₀ .mail) notes (c₀ .at)
 
@@ -211,7 +194,7 @@ FinishedFrom o notes c out out′ (Stopped place) = (longFrom o (c .mail) notes 
 
 -- the lines from a place on were written, up to a paragraph or to the end
 abbrev pub Reached : List ℕ → Options → List ℕ → Cursor → List ℕ → List ℕ → Ahead → Type 0
-Reached block o notes c₀ out₀ out (AheadText c p) = Going (meant block o) notes c₀ out₀ c out × Begins block o notes c p × (c₀ .at ≤ c .at)
+Reached block o notes c₀ out₀ out (AheadText c p) = Going (meant block o) notes c₀ out₀ c out × TextAhead block o notes c p × (c₀ .at ≤ c .at)
 Reached block o notes c₀ out₀ out (End n) = FinishedFrom (meant block o) notes c₀ out₀ out (All n)
 
 abbrev pub Finished : Opts → List ℕ → List ℕ → List ℕ → Ended → Type 0

@@ -1,0 +1,94 @@
+-- Texts without a damaged character, end to end: none in either, none in both. And a blank line has none.
+use mathlib.Core.Path.{_≡_, refl, sym, ap, _∙_}
+use mathlib.Core.Bool.{Bool, true, false, cond, not, and-eq-true-iff, false≢true}
+use mathlib.Core.List.{List, [], _∷_, _++_, append-assoc}
+use Prim.Native.Nat.{ℕ, suc, _-_, _≤_, _<_}
+use native.Mathlib.Omega.{arith}
+use lib.ListN.{length, take, drop}
+use lib.Seq.{take-append-le, length-take-le}
+use Rattle.lists.specs.Walk.{walkUpTo, walk, piece, each}
+use Rattle.lists.specs.Runs.{while, every, begins}
+use Rattle.lists.proofs.Parts.{every-cons, every-append}
+use Rattle.lists.proofs.Walk.{each-step}
+use Rattle.lists.proofs.Extents.{each-append}
+use Rattle.text.specs.Rfc3629.{Front, front, nothing, scalar, encode, spelled, decode}
+use Rattle.text.specs.Characters.{Glyph, accepted, onlyAccepted, character, blankCode, widthOf, glyphAs, glyph, glyphs, isBlank, isGood, extent, damage}
+use Rattle.text.specs.declared.Found.the-variants.{At, Nowhere}
+use Rattle.text.proofs.Decoder.{complete}
+use Rattle.text.proofs.Places.{accepted-front}
+use Rattle.text.proofs.Glyphs.{bytes-of}
+use Rattle.text.proofs.Glue.{every-good}
+use Rattle.text.proofs.Extents.{glyphs-sound}
+use Rattle.text.proofs.Blanks.{damaged-ink}
+use Rattle.text.proofs.Damage.{damage-none}
+use Rattle.options.specs.Opts.{Opts}
+use Rattle.lines.specs.Classes.{classify}
+use Rattle.lines.specs.declared.Class.the-variants.{Blank}
+use Rattle.lines.proofs.Ink.{damaged-plain}
+
+-- a character at the front of a text is found there with more behind the text
+front-append : (a b : List ℕ) (c n : ℕ) → character a ≡ front c n → character (a ++ b) ≡ front c n
+unfolding character
+front-append a b c n e =
+    let k = accepted-front a c n e in
+    let d = k .decoded in
+    let s : a ++ b ≡ encode c ++ (drop n a ++ b) = ap (λ (l : List ℕ). l ++ b) (d .stands .octets) ∙ append-assoc (encode c) (drop n a) b in
+    rw (complete c (a ++ b) (drop n a ++ b) (record { isScalar = d .stands .isScalar; octets = s }), k .isAccepted, ← d .count)
+
+-- a good glyph too
+good-append : (a b : List ℕ) → glyph false a .damaged ≡ false → glyph false (a ++ b) ≡ glyph false a
+unfolding glyph
+good-append a b h = go (character a) refl h
+  where
+    go : (f : Front) → character a ≡ f → glyphAs false a f .damaged ≡ false → glyph false (a ++ b) ≡ glyph false a
+    go (front c n) e k = rw (e, front-append a b c n e, take-append-le n a b (accepted-front a c n e .decoded .within))
+    go nothing e k = absurd (false≢true (sym k))
+
+abbrev Good : List ℕ → Type 0
+Good a = every isGood (glyphs false a) ≡ true
+
+glyphs-append : (a b : List ℕ) → Good a → glyphs false (a ++ b) ≡ glyphs false a ++ glyphs false b
+unfolding glyphs
+glyphs-append a b g = each-append cut (glyph false) Good b stays a g
+  where
+    cut : List ℕ → ℕ
+    cut xs = length (glyph false xs .bytes) - 1
+
+    stays : (d : List ℕ) → Good d → 0 < length d
+        → (glyph false (d ++ b) ≡ glyph false d) × (cut (d ++ b) ≡ cut d) × (cut d < length d) × Good (drop (suc (cut d)) d)
+    stays d w h =
+        let s = each-step cut (glyph false) d h in
+        let k = and-eq-true-iff (isGood (glyph false d)) (every isGood (glyphs false (drop (suc (cut d)) d))) .0 (rw (s, every-cons isGood) at w) in
+        let y = bytes-of false d h in
+        let e = good-append d b (not-damaged (glyph false d .damaged) (k .0)) in
+        (e, ap (λ (q : Glyph). length (q .bytes) - 1) e, omega (arith, y .some, y .within, y .count), k .1)
+      where
+        not-damaged : (t : Bool) → not t ≡ true → t ≡ false
+        not-damaged true z = absurd (false≢true z)
+        not-damaged false z = refl
+
+good-sound : (a : List ℕ) → Good a → damage a ≡ Nowhere
+unfolding damage
+good-sound a g = rw g
+
+pub damage-append : (a b : List ℕ) → damage a ≡ Nowhere → damage b ≡ Nowhere → damage (a ++ b) ≡ Nowhere
+damage-append a b h g =
+    let p = damage-none false a h in
+    good-sound (a ++ b) (rw (glyphs-append a b p, every-append isGood (glyphs false a) (glyphs false b), p, damage-none false b g))
+
+-- a blank line is not damaged
+pub blank-sound : (o : Opts) (line : List ℕ) → classify o line ≡ Blank → damage line ≡ Nowhere
+blank-sound o line e = good-sound line (every-good false (o .glue) line ∙ go (every isGood (glyphs (o .glue) line)) refl)
+  where
+    go : (t : Bool) → every isGood (glyphs (o .glue) line) ≡ t → every isGood (glyphs (o .glue) line) ≡ true
+    go true g = g
+    go false g = absurd (let p = damaged-plain o line g in let z : _≡_ {A = ℕ} 0 1 = cc in omega arith)
+
+-- nor is a line end
+pub feed-sound : damage (10 ∷ []) ≡ Nowhere
+unfolding damage glyphs each piece walk walkUpTo glyph character decode spelled encode scalar accepted begins every
+feed-sound = refl
+
+pub return-feed-sound : damage (13 ∷ 10 ∷ []) ≡ Nowhere
+unfolding damage glyphs each piece walk walkUpTo glyph character decode spelled encode scalar accepted begins every
+return-feed-sound = refl

@@ -1,0 +1,2 @@
+-- Words that the theorems of proofs/Demand3 use.
+pub mod LineEnds
