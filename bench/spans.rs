@@ -4,8 +4,10 @@ use crate::opaque::black_box;
 use crate::texts::{group, Draw, Kind, GROUPS};
 use std::ops::Range;
 
-type Table = [u32; 8192];
-type Marks = [bool; 1024];
+/// The most words of a paragraph, and how many numbers a word and a break take.
+const MOST: usize = 1024;
+const WORD: usize = 7;
+const BREAK: usize = 6;
 
 #[link(name = "layers", kind = "static")]
 extern "C" {
@@ -16,10 +18,13 @@ extern "C" {
         later: usize,
         tab: usize,
         uniform: bool,
-        table: *mut Table,
+        most: usize,
+        table: *mut u32,
+        table_size: usize,
     ) -> usize;
     fn layers_quick(
-        table: *const Table,
+        table: *const u32,
+        table_size: usize,
         n: usize,
         width: usize,
         goal: usize,
@@ -27,10 +32,12 @@ extern "C" {
         uniform: bool,
         first: usize,
         indent: usize,
-        marks: *mut Marks,
+        marks: *mut bool,
+        marks_size: usize,
     );
     fn layers_best(
-        table: *const Table,
+        table: *const u32,
+        table_size: usize,
         n: usize,
         width: usize,
         goal: usize,
@@ -38,17 +45,23 @@ extern "C" {
         uniform: bool,
         first: usize,
         indent: usize,
-        breaks: *mut [usize; 8192],
-        ratios: *mut [f32; 1024],
-        active: *mut [usize; 1024],
-        marks: *mut Marks,
+        breaks: *mut u32,
+        breaks_size: usize,
+        ratios: *mut f32,
+        ratios_size: usize,
+        active: *mut u32,
+        active_size: usize,
+        marks: *mut bool,
+        marks_size: usize,
     );
     fn layers_emit(
         notes: *const u8,
         size: usize,
-        table: *const Table,
+        table: *const u32,
+        table_size: usize,
         n: usize,
-        marks: *const Marks,
+        marks: *const bool,
+        marks_size: usize,
         uniform: bool,
         first: usize,
         indent: usize,
@@ -68,8 +81,7 @@ pub struct Setting {
 }
 
 /// The paragraphs of a text, with their words split and their breaks found, so that each layer can be timed alone. The
-/// tables stand close together, each as long as it has words: a layer reads no farther, and what it is lent ends within
-/// `tables`.
+/// tables stand close together, each as long as it has words.
 pub struct Text {
     pub paragraphs: Vec<Paragraph>,
     tables: Vec<u32>,
@@ -92,12 +104,10 @@ impl Text {
             let notes = kind(&mut draw, words);
             assert_eq!(split(&notes, g, &mut room.table), words, "the words of a paragraph");
             best(&room.table, words, g, &mut room.work, &mut room.marks);
-            text.tables.extend(&room.table[..words * 8]);
+            text.tables.extend(&room.table[..words * WORD]);
             text.marks.extend(&room.marks[..words]);
             text.paragraphs.push(Paragraph { notes, at: i * words, n: words });
         }
-        text.tables.extend([0; 8192]);
-        text.marks.extend([false; 1024]);
         text
     }
 
@@ -105,12 +115,12 @@ impl Text {
         self.paragraphs.iter().map(|p| p.notes.len()).sum()
     }
 
-    fn table(&self, p: &Paragraph) -> &Table {
-        self.tables[p.at * 8..][..8192].try_into().unwrap()
+    fn table(&self, p: &Paragraph) -> &[u32] {
+        &self.tables[p.at * WORD..][..p.n * WORD]
     }
 
-    fn marks(&self, p: &Paragraph) -> &Marks {
-        self.marks[p.at..][..1024].try_into().unwrap()
+    fn marks(&self, p: &Paragraph) -> &[bool] {
+        &self.marks[p.at..][..p.n]
     }
 
     /// The numbers of the paragraphs of some groups.
@@ -121,25 +131,25 @@ impl Text {
 
 /// What Knuth-Plass is lent to work in.
 struct Work {
-    breaks: [usize; 8192],
-    ratios: [f32; 1024],
-    active: [usize; 1024],
+    breaks: [u32; MOST * BREAK],
+    ratios: [f32; MOST],
+    active: [u32; MOST],
 }
 
 /// What a caller lends to all layers.
 pub struct Room {
-    table: Box<Table>,
+    table: Box<[u32; MOST * WORD]>,
     work: Box<Work>,
-    marks: Box<Marks>,
+    marks: Box<[bool; MOST]>,
     pub out: Vec<u8>,
 }
 
 impl Room {
     pub fn new() -> Room {
         Room {
-            table: Box::new([0; 8192]),
-            work: Box::new(Work { breaks: [0; 8192], ratios: [0.0; 1024], active: [0; 1024] }),
-            marks: Box::new([false; 1024]),
+            table: Box::new([0; MOST * WORD]),
+            work: Box::new(Work { breaks: [0; MOST * BREAK], ratios: [0.0; MOST], active: [0; MOST] }),
+            marks: Box::new([false; MOST]),
             out: vec![0; 1 << 17],
         }
     }
@@ -148,21 +158,48 @@ impl Room {
 // Each wrapper asks what its layer asks: at most 65,536 bytes of notes and 1,024 words, and the option block's limits of
 // width, goal and tab. The texts keep to that; their indents are empty.
 
-fn split(notes: &[u8], g: Setting, table: &mut Table) -> usize {
-    unsafe { layers_split(notes.as_ptr(), notes.len(), 0, 0, TAB, g.uniform, table) }
+fn split(notes: &[u8], g: Setting, table: &mut [u32]) -> usize {
+    let most = table.len() / WORD;
+    unsafe { layers_split(notes.as_ptr(), notes.len(), 0, 0, TAB, g.uniform, most, table.as_mut_ptr(), table.len()) }
 }
 
-fn quick(table: &Table, n: usize, g: Setting, marks: &mut Marks) {
-    unsafe { layers_quick(table, n, g.width, g.goal, TAB, g.uniform, 0, 0, marks) }
+fn quick(table: &[u32], n: usize, g: Setting, marks: &mut [bool]) {
+    let (words, size) = (table.as_ptr(), table.len());
+    unsafe { layers_quick(words, size, n, g.width, g.goal, TAB, g.uniform, 0, 0, marks.as_mut_ptr(), marks.len()) }
 }
 
-fn best(table: &Table, n: usize, g: Setting, work: &mut Work, marks: &mut Marks) {
+fn best(table: &[u32], n: usize, g: Setting, work: &mut Work, marks: &mut [bool]) {
     let Work { breaks, ratios, active } = work;
-    unsafe { layers_best(table, n, g.width, g.goal, TAB, g.uniform, 0, 0, breaks, ratios, active, marks) }
+    let (words, size) = (table.as_ptr(), table.len());
+    unsafe {
+        layers_best(
+            words,
+            size,
+            n,
+            g.width,
+            g.goal,
+            TAB,
+            g.uniform,
+            0,
+            0,
+            breaks.as_mut_ptr(),
+            breaks.len(),
+            ratios.as_mut_ptr(),
+            ratios.len(),
+            active.as_mut_ptr(),
+            active.len(),
+            marks.as_mut_ptr(),
+            marks.len(),
+        )
+    }
 }
 
-fn emit(notes: &[u8], table: &Table, n: usize, g: Setting, marks: &Marks, out: &mut [u8]) -> usize {
-    unsafe { layers_emit(notes.as_ptr(), notes.len(), table, n, marks, g.uniform, 0, 0, out.as_mut_ptr(), out.len()) }
+fn emit(notes: &[u8], table: &[u32], n: usize, g: Setting, marks: &[bool], out: &mut [u8]) -> usize {
+    let (words, size) = (table.as_ptr(), table.len());
+    let (breaks, count) = (marks.as_ptr(), marks.len());
+    unsafe {
+        layers_emit(notes.as_ptr(), notes.len(), words, size, n, breaks, count, g.uniform, 0, 0, out.as_mut_ptr(), out.len())
+    }
 }
 
 /// A paragraph's output by all layers in turn.

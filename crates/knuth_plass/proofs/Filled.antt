@@ -5,6 +5,7 @@ use Prim.Native.Nat.{ℕ, suc, _-_, _≤_, _<_}
 use native.Mathlib.Omega.{arith}
 use borrow.Author.Tests.{eqb-true, eqb-false}
 use lib.Dec.{eqb}
+use lib.ListN.{length}
 use Rattle.knuth_plass.specs.declared.Break.{Break as Record}
 use Rattle.knuth_plass.specs.Contracts.Table.{Tables, breakIn, withBreak, Stored, Sound, Filled}
 use Rattle.knuth_plass.specs.Contracts.Round.{lessened, extended}
@@ -37,7 +38,7 @@ module _ (i n : ℕ) (t : Tables) (filled : Filled i n t) where
   pub filled-later : Filled (suc i) n t
   filled-later = record { sized = filled .sized; sound = λ m h. sound-later i (breakIn t m) (filled .sound m h); down = filled .down }
 
-  pub filled-more : (b : Record) → n < 1024 → Sound (suc i) b → b .previous < n → Filled (suc i) (suc n) (withBreak t n b)
+  pub filled-more : (b : Record) → n < length (t .ratios) → Sound (suc i) b → b .previous < n → Filled (suc i) (suc n) (withBreak t n b)
   filled-more b room sound before = record {
     sized = sized-with t n b (filled .sized);
     sound = λ m h. stored-holds t n b (withBreak t n b) (λ m c. Sound (suc i) c) (stored-with t n b room (filled .sized)) sound m (λ ne. sound-later i (breakIn t m) (filled .sound m (omega arith)));

@@ -90,7 +90,7 @@ least-next t m n bs = ap (λ (c : Break). leastFrom c bs) (by (ltb (breakIn t n 
   by true = refl
   by false = refl
 
-module _ (st : Standing) (t : Tables) (a : List ℕ) (l : Listed st a) where
+module _ (st : Standing) (t : Tables) (a : List ℕ) (l : Listed st t a) where
   few : st .count ≤ length a
   few = let h = l .size in let r = l .room in let n = l .active in omega arith
 

@@ -41,9 +41,9 @@ answer g turn active notes = record {
   least = least active;
 }
 
-module _ (g : Setting) (turn : Turn) (st : Standing) (t : Tables) (a : List ℕ) (turns : Turns g turn) (ready : RoundReady (turn .number) st t a) where
+module _ (g : Setting) (turn : Turn) (st : Standing) (t : Tables) (a : List ℕ) (holds : turn .number < length (t .ratios)) (ready : RoundReady (turn .number) st t a) where
   few : st .count ≤ length a
-  few = let f = turns .few in let h = ready .few in let r = ready .room in let l = ready .active in omega arith
+  few = let f = holds in let h = ready .few in let r = ready .room in let l = ready .active in omega arith
 
   here : slice 0 (st .count) a ≡ getD a 0 0 ∷ slice 1 (st .count) a
   here = slice-here a 0 (st .count) 0 (ready .some) few
@@ -51,14 +51,15 @@ module _ (g : Setting) (turn : Turn) (st : Standing) (t : Tables) (a : List ℕ)
   pub first-within : getD a 0 0 < st .size
   first-within = ascends-first 0 (st .size) (getD a 0 0) (slice 1 (st .count) a) (rw here at (ready .ascends))
 
-  pub first-room : getD a 0 0 < 1024
-  first-room = let w = first-within in let f = turns .few in let h = ready .few in omega arith
+  pub first-room : getD a 0 0 < length (t .ratios)
+  first-room = let w = first-within in let f = holds in let h = ready .few in omega arith
 
   module _ (r : Float) (b : Record) (is : b ≡ lessened (st .reduction) (breakIn t (getD a 0 0))) where
     pub fit-first : Fit turn st 0 t a (begun (getD a 0 0) (b .demerits) r)
     fit-first = record {
       filled = ready .filled;
       active = ready .active;
+      holds = holds;
       few = ready .few;
       room = ready .room;
       kept = omega arith;

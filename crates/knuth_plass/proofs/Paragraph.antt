@@ -24,7 +24,7 @@ use Rattle.knuth_plass.specs.declared.Turn.{Turn}
 use Rattle.knuth_plass.specs.KnuthPlass.{Break, Active, Offer, reduced, settled, withOffer, round, isLast, sentenceBehind, firstBreak, roundsFrom}
 use Rattle.knuth_plass.specs.Contracts.Table.{Tables, Sized, withBreak, seen, breakMeant, Sound}
 use Rattle.knuth_plass.specs.Contracts.Round.{Limits, RoundReady, breaksListed, standing, Done, Settled, RoundIs, begin, RoundsAre}
-use Rattle.knuth_plass.proofs.Table.{sized-with, read-back}
+use Rattle.knuth_plass.proofs.Table.{sized-with, length-with, read-back}
 use Rattle.knuth_plass.proofs.Path.{path-start}
 
 -- ---- one round
@@ -78,17 +78,17 @@ module _ (table : List ℕ) (n i : ℕ) (notes : List ℕ) where
     unfolding roundsFrom
     rounds-done h = rw (words-end notes n table i h)
 
-pub rounds-are : (g : Setting) (n i : ℕ) (table : List ℕ) (t : Tables) (a : List ℕ) (st : Standing) (sentence : Bool) → i ≤ n → n ≤ i → RoundReady i st t a
+pub rounds-are : (g : Setting) (n i : ℕ) (table : List ℕ) (t : Tables) (a : List ℕ) (st : Standing) (sentence : Bool) → i ≤ n → n ≤ i → n ≤ length (t .ratios) → RoundReady i st t a
     → ((notes : List ℕ) → roundsFrom g sentence i (standing st t a) (drop i (wordsIn notes n table)) ≡ roundsFrom g false 1 (begin g (meaning notes (wordIn table 0))) (drop 1 (wordsIn notes n table)))
     → RoundsAre g n table t a st
-rounds-are g n i table t a st sentence h k ready is =
+rounds-are g n i table t a st sentence h k room ready is =
     let e : i ≡ n = omega arith in
-    record { ready = rw e at ready; is = λ notes. rounds-done table n i notes g sentence (standing st t a) k ∙ is notes }
+    record { ready = rw e at ready; holds = room; is = λ notes. rounds-done table n i notes g sentence (standing st t a) k ∙ is notes }
 
 -- ---- the paragraph's start
 
-module _ (g : Setting) (w : WordRecord) (r : Float) (zero-ratio : r ≡ noRatio) (limits : Limits g) (small : w .width < 2 ^ 32)
-    (t : Tables) (a : List ℕ) (t₁ : Tables) (a₁ : List ℕ) (sized : Sized t) (active : length a ≡ 1024) where
+module _ (g : Setting) (w : WordRecord) (r : Float) (zero-ratio : r ≡ noRatio) (limits : Limits g) (small : w .width < 2 ^ 31)
+    (t : Tables) (a : List ℕ) (t₁ : Tables) (a₁ : List ℕ) (sized : Sized t) (active : length a ≡ length (t .ratios)) (some : 0 < length (t .ratios)) where
   abbrev start : Record
   start = record { previous = 0; word = 0; before = false; demerits = 0; ratio = r; columns = g .first + w .width; fresh = false }
 
@@ -105,10 +105,10 @@ module _ (g : Setting) (w : WordRecord) (r : Float) (zero-ratio : r ≡ noRatio)
   ready-first stored put = record {
     filled = rw stored (record {
       sized = sized-with t 0 start sized;
-      sound = λ j h. (let z : j ≡ 0 = omega arith in rw (z, read-back t 0 start (omega arith) sized) sound);
+      sound = λ j h. (let z : j ≡ 0 = omega arith in rw (z, read-back t 0 start some sized) sound);
       down = λ j p h. absurd (omega arith);
     });
-    active = rw (put, length-set) active;
+    active = rw (put, stored, length-set, length-with t 0 start) active;
     few = omega arith;
     some = omega arith;
     room = omega arith;
@@ -117,4 +117,4 @@ module _ (g : Setting) (w : WordRecord) (r : Float) (zero-ratio : r ≡ noRatio)
 
   pub begins : t₁ ≡ withBreak t 0 start → a₁ ≡ set a 0 0 → (notes : List ℕ) → standing one t₁ a₁ ≡ begin g (meaning notes w)
   unfolding begin firstBreak breakMeant seen meaning
-  begins stored put notes = rw (front put, path-start t₁ 0 (omega arith), stored, read-back t 0 start (omega arith) sized, zero-ratio)
+  begins stored put notes = rw (front put, path-start t₁ 0 (omega arith), stored, read-back t 0 start some sized, zero-ratio)

@@ -6,6 +6,7 @@ use native.Mathlib.Omega.{arith}
 use mathlib.Core.Bool.{Bool, true, false}
 use borrow.Author.Tests.{eqb-true, eqb-false}
 use lib.Dec.{eqb}
+use lib.ListN.{length}
 use Rattle.knuth_plass.specs.declared.Break.{Break as Record}
 use Rattle.knuth_plass.specs.KnuthPlass.{Place}
 use Rattle.knuth_plass.specs.Contracts.Table.{Tables, Sized, Stored, placeOf, pathIn, pathTo, breakIn, withBreak, seen, breakMeant, Leads}
@@ -63,10 +64,10 @@ module _ (t : Tables) (i n : ℕ) (b : Record) (t₁ : Tables) (few : n ≤ 1024
   meant-beside j h ne = rw (path-again j h, stored .others j ne)
 
 -- one record more, the n-th, leading to one before it
-module _ (t : Tables) (n : ℕ) (b : Record) (room : n < 1024) (sized : Sized t) (down : Down (breakIn t) n) where
+module _ (t : Tables) (n : ℕ) (b : Record) (room : n < length (t .ratios)) (sized : Sized t) (down : Down (breakIn t) n) where
   pub path-before : (j : ℕ) → j < n → pathTo (withBreak t n b) j ≡ pathTo t j
   path-before =
-      kept t (withBreak t n b) n (omega arith) down (λ j h. rw (read-other t n b j (λ e. omega arith)) (record { place = refl; previous = refl }))
+      kept t (withBreak t n b) n (let f = sized .few in omega arith) down (λ j h. rw (read-other t n b j (λ e. omega arith)) (record { place = refl; previous = refl }))
 
   pub meant-before : (j : ℕ) → j < n → breakMeant (withBreak t n b) j ≡ breakMeant t j
   unfolding breakMeant
@@ -78,7 +79,7 @@ module _ (t : Tables) (n : ℕ) (b : Record) (room : n < 1024) (sized : Sized t)
       step 1023 (breakIn (withBreak t n b)) n z
       ∙ rw (read-back t n b room sized)
       (ap (λ (r : List Place). placeOf b ∷ r)
-      (path-same 1023 1024 (breakIn t) (breakIn (withBreak t n b)) n (b .previous) h (omega arith) (omega arith) down
+      (path-same 1023 1024 (breakIn t) (breakIn (withBreak t n b)) n (b .previous) h (let f = sized .few in omega arith) (let f = sized .few in omega arith) down
       (λ j g. rw (read-other t n b j (λ e. omega arith)) (record { place = refl; previous = refl }))))
 
   pub meant-more : 0 < n → b .previous < n → breakMeant (withBreak t n b) n ≡ seen (placeOf b ∷ pathTo t (b .previous)) b

@@ -47,7 +47,7 @@ module _ (g : Setting) (turn : Turn) (n : ℕ) (b : Record) (limits : Limits g) 
     unfolding restart seen meaning
     restarted-before r z h =
         let i = limits .indent in
-        let w = turns .small .width in
+        let w = turns .narrow in
         rw z (record {
           previous = refl;
           sound = record { ratio = tt; columns = omega arith; demerits = omega arith; word = omega arith };

@@ -14,8 +14,9 @@ use Rattle.knuth_plass.specs.declared.Turn.{Turn}
 use Rattle.knuth_plass.specs.declared.State.{State}
 use Rattle.knuth_plass.specs.declared.Standing.{Standing}
 use Rattle.knuth_plass.specs.KnuthPlass.{Break, Active, least, restart, settled}
-use Rattle.knuth_plass.specs.Contracts.Table.{Tables, breakIn, withBreak, placeOf, pathTo, seen, breakMeant, Sound, Ascends}
+use Rattle.knuth_plass.specs.Contracts.Table.{Tables, breakIn, withBreak, placeOf, pathTo, seen, breakMeant, Sound, Ascends, Room, Fits}
 use Rattle.knuth_plass.specs.Contracts.Round.{Limits, Turns, lessened, nothing, LeastFound, Fit, RoundReady, breaksListed, Restarted, Settled}
+use Rattle.knuth_plass.proofs.Table.{has-room, length-with}
 use Rattle.knuth_plass.proofs.Path.{meant-before, meant-more}
 use Rattle.knuth_plass.proofs.Ascends.{ascends-more, map-below}
 use Rattle.knuth_plass.proofs.Filled.{filled-later, filled-more}
@@ -35,14 +36,34 @@ module _ (g : Setting) (turn : Turn) (st : Standing) (t : Tables) (a : List ℕ)
   ascends : Ascends 0 (st .size) (take (s .kept) a)
   ascends = fit-all turn st t a (st .count) s (omega arith) fit
 
-  room : st .size < 1024
-  room = let f = turns .few in let h = fit .few in omega arith
+  pub room : st .size < length (t .ratios)
+  room = let f = fit .holds in let h = fit .few in omega arith
 
-  pub kept-room : s .kept < 1024
+  pub kept-room : s .kept < length (t .ratios)
   kept-room = let r = room in let h = fit .kept in let l = fit .room in omega arith
 
+  pub append-room : (st .size < 1024) × Room (st .size) t × (s .kept < length a)
+  append-room =
+      let f = turns .few in
+      let h = fit .few in
+      let k = kept-room in
+      let l = fit .active in
+      (omega arith, has-room t (st .size) (fit .filled .sized) room, omega arith)
+
+  -- the new break's numbers fit the table
+  sound-fits : (b : Record) → Sound (suc (turn .number)) b → b .previous < st .size → Fits b
+  sound-fits b sound before =
+      let d = sound .demerits in
+      let w = sound .word in
+      let f = turns .few in
+      let h = fit .few in
+      record { previous = omega arith; word = omega arith; demerits = omega arith; columns = sound .columns }
+
+  pub restart-fits : (b c : Record) → Restarted g turn (s .from) c b → Fits b
+  restart-fits b c again = sound-fits b (again .sound) (rw (again .previous) (fit .from))
+
   -- the line of the break that begins again
-  pub again-columns : (c : Record) → c ≡ lessened (st .reduction) (breakIn t (s .from)) → c .columns < 2 ^ 33
+  pub again-columns : (c : Record) → c ≡ lessened (st .reduction) (breakIn t (s .from)) → c .columns < 2 ^ 32
   again-columns c is = rw is (fit .filled .sound (s .from) (fit .from) .columns)
 
   -- one break more, b, in the tables t₁ and the list a₁
@@ -58,7 +79,7 @@ module _ (g : Setting) (turn : Turn) (st : Standing) (t : Tables) (a : List ℕ)
         let f = fit .few in
         record {
           filled = rw (stored, add-one (turn .number), add-one (st .size)) (filled-more (turn .number) (st .size) t (fit .filled) b room sound before);
-          active = rw (put, length-set) (fit .active);
+          active = rw (put, stored, length-set, length-with t (st .size) b) (fit .active);
           few = omega arith;
           some = omega arith;
           room = omega arith;
@@ -106,18 +127,22 @@ module _ (g : Setting) (turn : Turn) (st : Standing) (t : Tables) (a : List ℕ)
     offered =
         record { previous = s .best .previous; word = turn .number; before = false; demerits = s .best .total; ratio = s .best .ratio; columns = g .indent; fresh = true }
 
+    offer-sound : Sound (suc (turn .number)) offered
+    offer-sound = let i = limits .indent in let f = fit .best best in record { ratio = f .ratio; columns = omega arith; demerits = f .total; word = omega arith }
+
+    pub offer-fits : Fits offered
+    offer-fits = sound-fits offered offer-sound (fit .best best .previous)
+
     pub settles-offer : t₁ ≡ withBreak t (st .size) offered → a₁ ≡ set a (s .kept) (st .size)
         → Settled g turn st t a s t₁ a₁ (record { count = s .kept + 1; size = st .size + 1; reduction = s .least })
     unfolding seen
     settles-offer stored put =
-        let i = limits .indent in
         let f = fit .best best in
-        let sound : Sound (suc (turn .number)) offered = record { ratio = f .ratio; columns = omega arith; demerits = f .total; word = omega arith } in
         record {
-          ready = ready-more offered (s .least) t₁ a₁ sound (f .previous) stored put;
+          ready = ready-more offered (s .least) t₁ a₁ offer-sound (f .previous) stored put;
           is = λ notes active l. rw (offer-some g (turn .number) t (s .best) best)
               (settled-is notes active (breaksListed (s .kept + 1) t₁ a₁) (breaksListed (s .kept) t a ++ (seen (placeOf offered ∷ pathTo t (s .best .previous)) offered ∷ [])) l
-              (breaks-more offered (s .least) t₁ a₁ sound (f .previous) stored put)
+              (breaks-more offered (s .least) t₁ a₁ offer-sound (f .previous) stored put)
               (simp length-append (omega arith)));
         }
 

@@ -1,11 +1,11 @@
 -- One turn of a round: the break that is next is dropped, or stays with the word on its line and may offer.
 use mathlib.Core.Path.{_≡_, refl, sym, _∙_}
 use mathlib.Core.List.{List, [], _∷_, _++_, map-append}
-use Prim.Native.Nat.{ℕ, _+_, _-_, _≤_, _<_}
+use Prim.Native.Nat.{ℕ, _+_, _-_, _*_, _≤_, _<_, _^_}
 use native.Mathlib.Numerals.{add-one}
 use native.Mathlib.Omega.{arith}
 use borrow.Author.Tests.{le-leb, lt-leb}
-use lib.ListN.{getD, set, take, length-set}
+use lib.ListN.{length, getD, set, take, length-set}
 use lib.Seq.{slice, take-suc-set, append-snoc}
 use Rattle.lists.proofs.Remaining.{slice-here, slice-set}
 use Rattle.records.specs.Word.{meaning}
@@ -55,14 +55,14 @@ module _ (g : Setting) (turn : Turn) (st : Standing) (k : ℕ) (t : Tables) (a :
   pub within : getD a k 0 < st .size
   within = ascends-at (getD a k 0) (slice (k + 1) (st .count) a) 0 (st .size) (take (s .kept) a) split .1
 
-  pub room : getD a k 0 < 1024
-  room = let w = within in let f = turns .few in let h = fit .few in omega arith
+  pub room : getD a k 0 < length (t .ratios)
+  room = let w = within in let f = fit .holds in let h = fit .few in omega arith
 
   pub sound : Sound (turn .number) (lessened (st .reduction) (breakIn t (getD a k 0)))
   sound = sound-lessened (turn .number) (st .reduction) (breakIn t (getD a k 0)) (fit .filled .sound (getD a k 0) within)
 
-  pub kept-room : (after : State) (n d : ℕ) → after ≡ noted s n d → after .kept < 1024
-  kept-room after n d e = let f = turns .few in let h = fit .few in let m = fit .room in let u = fit .kept in rw (e, noted-kept s n d) (omega arith)
+  kept-room : (after : State) (n d : ℕ) → after ≡ noted s n d → after .kept < length (t .ratios)
+  kept-room after n d e = let f = fit .holds in let h = fit .few in let m = fit .room in let u = fit .kept in rw (e, noted-kept s n d) (omega arith)
 
   next : rest st k t a ≡ seen (pathTo t (getD a k 0)) (lessened (st .reduction) (breakIn t (getD a k 0))) ∷ rest st (k + 1) t a
   unfolding reduced breakMeant seen
@@ -79,6 +79,7 @@ module _ (g : Setting) (turn : Turn) (st : Standing) (k : ℕ) (t : Tables) (a :
           record {
             filled = fit .filled;
             active = fit .active;
+            holds = fit .holds;
             few = fit .few;
             room = fit .room;
             kept = rw (noted-kept s (getD a k 0) (b .demerits)) (omega arith);
@@ -135,7 +136,8 @@ module _ (g : Setting) (turn : Turn) (st : Standing) (k : ℕ) (t : Tables) (a :
           let w = limits .wide in
           record {
             filled = filled-again (turn .number) (st .size) t (fit .filled) (getD a k 0) (extended x b) t₁ within stored (sound-extended (turn .number) x b (omega arith) (rw is sound)) (alike .previous);
-            active = simp length-set (fit .active);
+            active = rw (length-set, stored .length) (fit .active);
+            holds = rw (stored .length) (fit .holds);
             few = fit .few;
             room = fit .room;
             kept = omega arith;
@@ -173,7 +175,7 @@ module _ (g : Setting) (turn : Turn) (st : Standing) (k : ℕ) (t : Tables) (a :
 
     -- as the code goes on, with what it has stored
     module _ (x : ℕ) (best : Best) (limits : Limits g) (line : x ≡ lineAt g turn b) (l : List ℕ) (after r : State) (a₁ : List ℕ)
-        (saw : after ≡ noted s (getD a k 0) (b .demerits)) (kept : l ≡ withLine (t .numbers) (getD a k 0) (b .demerits) x)
+        (saw : after ≡ noted s (getD a k 0) (b .demerits)) (kept : l ≡ withLine (t .numbers) (getD a k 0) (extended x b))
         (listed : a₁ ≡ set a (after .kept) (getD a k 0)) (went : r ≡ stays after best) where
       abbrev Onward : Type 0
       Onward = Fit turn st (k + 1) (tables l (t .ratios)) a₁ r × ((z : Outcome) → RoundGoes g turn st z k t a s → RoundGoes g turn st z (k + 1) (tables l (t .ratios)) a₁ r)
@@ -185,6 +187,26 @@ module _ (g : Setting) (turn : Turn) (st : Standing) (k : ℕ) (t : Tables) (a :
 
     pub offers : (x : ℕ) → Limits g → x ≡ lineAt g turn b → x ≤ g .width → Offers g turn b x
     offers x limits line fits = record { limits = limits; turns = turns; is = line; fits = fits; sound = rw is sound }
+
+    -- its demerits fit the table
+    demerits-fit : b .demerits < 2 ^ 32
+    demerits-fit =
+        let q : Sound (turn .number) b = rw is sound in
+        let d = q .demerits in
+        let f = turns .few in
+        omega arith
+
+    -- the tables have room for what is stored where it stays
+    pub keep-room : (after : State) (x : ℕ) → after ≡ noted s (getD a k 0) (b .demerits) → Limits g → x ≤ g .width
+        → (getD a k 0 < 1024) × (getD a k 0 * 6 + 6 ≤ length (t .numbers)) × (b .demerits < 2 ^ 32) × (x < 2 ^ 32) × (after .kept < length a) × (after .kept < 1024)
+    keep-room after x e limits h =
+        let r = room in
+        let q = kept-room after (getD a k 0) (b .demerits) e in
+        let f = fit .filled .sized .few in
+        let n = fit .filled .sized .numbers in
+        let l = fit .active in
+        let w = limits .wide in
+        (omega arith, omega arith, demerits-fit, omega arith, omega arith, omega arith)
 
     -- a line too short to end offers nothing
     pub short-fits : (x : ℕ) → Limits g → x < minimumOf g → x ≤ g .width

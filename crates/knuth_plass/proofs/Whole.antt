@@ -24,32 +24,35 @@ marks-are marks n path i [] h l e = slice-none marks i n (omega arith)
 marks-are marks n path i (w ∷ ws) h l e =
     rw (slice-here marks i n false (omega arith) h, e i (omega arith), add-one i) (ap (λ (bs : List Bool). startsLine i path ∷ bs) (marks-are marks n path (suc i) ws h (omega arith) e))
 
-module _ (g : Setting) (n : ℕ) (table : List ℕ) (t : Tables) (a : List ℕ) (st : Standing) (few : n ≤ 1024) (rounds : RoundsAre g n table t a st) where
-  pub listed : Listed st a
+module _ (g : Setting) (n : ℕ) (table : List ℕ) (t : Tables) (a : List ℕ) (st : Standing) (rounds : RoundsAre g n table t a st) where
+  pub listed : Listed st t a
   listed =
       let r = rounds .ready in
       let f = r .few in
-      record { size = omega arith; some = r .some; room = r .room; active = r .active; ascends = r .ascends }
+      let h = rounds .holds in
+      record { sized = r .filled .sized; size = omega arith; some = r .some; room = r .room; active = r .active; ascends = r .ascends }
 
   module _ (last : ℕ) (found : LeastIs st t a last) where
-    pub last-room : last < 1024
-    last-room = let r = rounds .ready .few in let w = found .within in omega arith
+    pub last-room : last < length (t .ratios)
+    last-room = let r = rounds .ready .few in let h = rounds .holds in let w = found .within in omega arith
 
     pub leads : Leads t last
     leads j p h =
         let r = rounds .ready in
         let w = found .within in
+        let k = rounds .holds in
         let l : j < st .size = omega arith in
         let d = r .filled .sound j l .word in
+        let s = r .filled .sized .few in
         (r .filled .down j p l, omega arith)
 
     path-is : (notes : List ℕ) → pathTo t last ≡ least (roundsFrom g false 1 (begin g (meaning notes (wordIn table 0))) (drop 1 (wordsIn notes n table)) .breaks) .places
     unfolding breakMeant seen
     path-is notes = ap (λ (b : Break). b .places) (found .is ∙ ap (λ (b : Active). least (b .breaks)) (rounds .is notes))
 
-    pub best-are : (old marks : List Bool) → 1 ≤ n → MarkedUpTo n old marks (λ (j : ℕ). startsLine j (pathTo t last)) → BestAre g n table old t a marks
+    pub best-are : (old marks : List Bool) → 1 ≤ n → n ≤ length old → MarkedUpTo n old marks (λ (j : ℕ). startsLine j (pathTo t last)) → BestAre g n table old t a marks
     unfolding bestBreaks pathOf begin
-    best-are old marks some m = record {
+    best-are old marks some all m = record {
       breaks = λ notes.
           let l = words-length notes n table in
           let f = m .sized in
@@ -57,5 +60,5 @@ module _ (g : Setting) (n : ℕ) (table : List ℕ) (t : Tables) (a : List ℕ) 
           (marks-are marks n (pathTo t last) 1 (drop 1 (wordsIn notes n table)) (omega arith) (length-drop 1 (wordsIn notes n table) ∙ rw l) (m .within));
       first = λ notes. rw (words-drop notes n table 0 some, ← path-is notes) (m .within 0 some);
       beyond = m .beyond;
-      lent = record { tables = rounds .ready .filled .sized; active = rounds .ready .active; all = m .sized };
+      sized = m .sized;
     }

@@ -9,7 +9,7 @@ ghost use lib.Dec.{eqb};
 ghost use Prim.Native.Nat.{ℕ, _+_, _-_, _*_, _<_, _≤_, _^_};
 ghost use lib.ListN.{length, take, drop, getD, set};
 ghost use Rattle.records.specs.Word.{meaning};
-ghost use Rattle.records.specs.Contracts.Table.{wordIn, wordsIn};
+ghost use Rattle.records.specs.Contracts.Table.{Holds, Room, wordIn, wordsIn};
 ghost use Rattle.knuth_plass.specs.KnuthPlass.{minimumOf, startsLine, reduced, sentenceBehind};
 ghost use Rattle.knuth_plass.specs.Contracts.Table as T;
 ghost use Rattle.knuth_plass.specs.Contracts.Round as R;
@@ -26,7 +26,7 @@ pub struct Break {
     pub fresh: bool,
 }
 
-fn bit(mark: bool) -> usize
+fn bit(mark: bool) -> u32
     ensures { λ r. ⌜ r ≡ cond mark 1 0 ⌝ }
 {
     if mark {
@@ -41,18 +41,24 @@ fn wide(x: usize) -> u64
     x as u64
 }
 
+fn place(x: u32) -> usize
+    ensures { λ r. ⌜ r ≡ x ⌝ }
+{
+    x as usize
+}
+
 // Number j of record i.
-fn number(breaks: &[usize; 8192], i: usize, j: usize) -> usize
-    requires { ⌜ (i < 1024) × (j < 8) ⌝ }
+fn number(breaks: &[u32], i: usize, j: usize) -> usize
+    requires { ⌜ (i * 6 + 6 ≤ length (now breaks)) × (j < 6) ⌝ }
     ensures { λ r. ⌜ r ≡ T.breakNumber (now (breaks .entry)) i j ⌝ }
 {
-    let k = i * 8 + j;
-    breaks[k]
+    let k = i * 6 + j;
+    place(breaks[k])
 }
 
 // The record at i, put together.
-fn get_break(breaks: &[usize; 8192], ratios: &[f32; 1024], i: usize) -> Break
-    requires { ⌜ i < 1024 ⌝ }
+fn get_break(breaks: &[u32], ratios: &[f32], i: usize) -> Break
+    requires { ⌜ T.Room i (T.tables (now breaks) (now ratios)) ⌝ }
     ensures { λ r. ⌜ r ≡ T.breakIn (T.tables (now (breaks .entry)) (now (ratios .entry))) i ⌝ }
 {
     Break {
@@ -66,37 +72,54 @@ fn get_break(breaks: &[usize; 8192], ratios: &[f32; 1024], i: usize) -> Break
     }
 }
 
-// The record taken apart into the tables at i.
-fn store_break(breaks: &mut [usize; 8192], ratios: &mut [f32; 1024], i: usize, b: Break)
-    requires { ⌜ i < 1024 ⌝ }
-    ensures { λ _. ⌜ T.tables (now (breaks .exit)) (now (ratios .exit)) ≡ T.withBreak (T.tables (now (breaks .entry)) (now (ratios .entry))) i b ⌝ }
+// The six numbers of a record.
+fn put(breaks: &mut [u32], i: usize, n0: u32, n1: u32, n2: u32, n3: u32, n4: u32, n5: u32)
+    requires { ⌜ i * 6 + 6 ≤ length (now breaks) ⌝ }
+    ensures { λ _. ⌜ now (breaks .exit) ≡ T.stored (now (breaks .entry)) (i * 6) n0 n1 n2 n3 n4 n5 ⌝ }
 {
-    let k = i * 8;
+    let k = i * 6;
     let k1 = k + 1;
     let k2 = k + 2;
     let k3 = k + 3;
     let k4 = k + 4;
     let k5 = k + 5;
-    breaks[k] = b.previous;
-    breaks[k1] = b.word;
-    breaks[k2] = bit(b.before);
-    breaks[k3] = b.demerits as usize;
-    breaks[k4] = b.columns;
-    breaks[k5] = bit(b.fresh);
+    breaks[k] = n0;
+    breaks[k1] = n1;
+    breaks[k2] = n2;
+    breaks[k3] = n3;
+    breaks[k4] = n4;
+    breaks[k5] = n5;
+}
+
+// The record taken apart into the tables at i.
+fn store_break(breaks: &mut [u32], ratios: &mut [f32], i: usize, b: Break)
+    requires { ⌜ T.Room i (T.tables (now breaks) (now ratios)) × T.Fits b ⌝ }
+    ensures { λ _. ⌜ T.tables (now (breaks .exit)) (now (ratios .exit)) ≡ T.withBreak (T.tables (now (breaks .entry)) (now (ratios .entry))) i b ⌝ }
+{
+    put(
+        breaks,
+        i,
+        b.previous as u32,
+        b.word as u32,
+        bit(b.before),
+        b.demerits as u32,
+        b.columns as u32,
+        bit(b.fresh),
+    );
     ratios[i] = b.ratio;
 }
 
-// What changes in record i where its break stays active: its demerits, and its line, which has the word on it now and is not fresh.
-fn keep_break(breaks: &mut [usize; 8192], i: usize, demerits: u64, columns: usize)
-    requires { ⌜ i < 1024 ⌝ }
-    ensures { λ _. ⌜ now (breaks .exit) ≡ T.withLine (now (breaks .entry)) i demerits columns ⌝ }
+// The record of a break that stays active, taken apart again: of its numbers, its demerits and its line are new.
+fn keep_break(breaks: &mut [u32], i: usize, b: Break)
+    requires { ⌜ (i * 6 + 6 ≤ length (now breaks)) × (b .demerits < 2 ^ 32) × (b .columns < 2 ^ 32) ⌝ }
+    ensures { λ _. ⌜ now (breaks .exit) ≡ T.withLine (now (breaks .entry)) i b ⌝ }
 {
-    let k = i * 8 + 3;
+    let k = i * 6 + 3;
     let k1 = k + 1;
     let k2 = k + 2;
-    breaks[k] = demerits as usize;
-    breaks[k1] = columns;
-    breaks[k2] = 0;
+    breaks[k] = b.demerits as u32;
+    breaks[k1] = b.columns as u32;
+    breaks[k2] = bit(b.fresh);
 }
 
 // ---- a round
@@ -159,6 +182,21 @@ fn lessened(b: Break, reduction: u64) -> Break
     }
 }
 
+// A break with the word on its line, which has t columns now and is not fresh.
+fn extended(b: Break, t: usize) -> Break
+    ensures { λ r. ⌜ r ≡ R.extended t b ⌝ }
+{
+    Break {
+        previous: b.previous,
+        word: b.word,
+        before: b.before,
+        demerits: b.demerits,
+        ratio: b.ratio,
+        columns: t,
+        fresh: false,
+    }
+}
+
 // The first least break so far, when break n has these demerits.
 fn noted(s: State, n: usize, demerits: u64) -> State
     ensures { λ r. ⌜ r ≡ R.noted s n demerits ⌝ }
@@ -217,7 +255,7 @@ fn better(best: Best, previous: usize, total: u64, ratio: f32) -> Best
 
 // The columns of the line with the word on it, where a tab is in the gap before the word.
 fn reach_by_tab(g: Setting, turn: Turn, b: Break) -> usize
-    requires { ⌜ R.Limits g × R.Turns g turn × (b .columns < 2 ^ 33) ⌝ }
+    requires { ⌜ R.Limits g × R.Turns g turn × (b .columns < 2 ^ 32) ⌝ }
     ensures { λ r. ⌜ (r ≡ R.lineAt g turn b) × (r < 2 ^ 36) ⌝ }
 {
     let w = turn.word;
@@ -231,7 +269,7 @@ fn reach_by_tab(g: Setting, turn: Turn, b: Break) -> usize
 
 // The columns of the line with the word on it. The added space counts on a fresh line too. Without a tab every line grows by the same.
 fn reach(g: Setting, turn: Turn, b: Break) -> usize
-    requires { ⌜ R.Limits g × R.Turns g turn × (b .columns < 2 ^ 33) ⌝ }
+    requires { ⌜ R.Limits g × R.Turns g turn × (b .columns < 2 ^ 32) ⌝ }
     ensures { λ r. ⌜ (r ≡ R.lineAt g turn b) × (r < 2 ^ 36) ⌝ }
 {
     let w = turn.word;
@@ -280,22 +318,22 @@ fn offered(g: Setting, turn: Turn, n: usize, b: Break, t: usize, best: Best) -> 
     better(best, n, cost + b.demerits, ratio)
 }
 
-// Break n, which has these demerits, stays active with the word on its line of t columns.
+// Break n, which is b, stays active with the word on its line of t columns.
 fn keep(
-    breaks: &mut [usize; 8192],
-    active: &mut [usize; 1024],
+    breaks: &mut [u32],
+    active: &mut [u32],
     n: usize,
-    demerits: u64,
+    b: Break,
     t: usize,
     s: State,
     best: Best,
 ) -> State
-    requires { ⌜ (n < 1024) × (s .kept < 1024) ⌝ }
-    ensures { λ r. ⌜ (now (breaks .exit) ≡ T.withLine (now (breaks .entry)) n demerits t) × (now (active .exit) ≡ set (now (active .entry)) (s .kept) n) × (r ≡ R.stays s best) ⌝ }
+    requires { ⌜ (n < 1024) × (n * 6 + 6 ≤ length (now breaks)) × (b .demerits < 2 ^ 32) × (t < 2 ^ 32) × (s .kept < length (now active)) × (s .kept < 1024) ⌝ }
+    ensures { λ r. ⌜ (now (breaks .exit) ≡ T.withLine (now (breaks .entry)) n (R.extended t b)) × (now (active .exit) ≡ set (now (active .entry)) (s .kept) n) × (r ≡ R.stays s best) ⌝ }
 {
     let kept = s.kept;
-    keep_break(breaks, n, demerits, t);
-    active[kept] = n;
+    keep_break(breaks, n, extended(b, t));
+    active[kept] = n as u32;
     State {
         kept: kept + 1,
         from: s.from,
@@ -310,29 +348,29 @@ fn visit(
     g: Setting,
     turn: Turn,
     st: Standing,
-    breaks: &mut [usize; 8192],
-    ratios: &[f32; 1024],
-    active: &mut [usize; 1024],
+    breaks: &mut [u32],
+    ratios: &[f32],
+    active: &mut [u32],
     k: usize,
     s: State,
 ) -> State
     requires { ⌜ R.Limits g × R.Turns g turn × R.Fit turn st k (T.tables (now breaks) (now ratios)) (now active) s × (k < st .count) ⌝ }
     ensures { λ r. ⌜ R.Fit turn st (k + 1) (T.tables (now (breaks .exit)) (now (ratios .entry))) (now (active .exit)) r × ((z : R.Outcome) → R.RoundGoes g turn st z k (T.tables (now (breaks .entry)) (now (ratios .entry))) (now (active .entry)) s → R.RoundGoes g turn st z (k + 1) (T.tables (now (breaks .exit)) (now (ratios .entry))) (now (active .exit)) r) ⌝ }
 {
-    let n = active[k];
+    let n = active[k] as usize;
     let b = lessened(get_break(breaks, ratios, n), st.reduction);
     let t = reach(g, turn, b);
     let best = s.best;
     let seen = noted(s, n, b.demerits);
     // Most lines are too short to end here, so that this is asked first.
     if t < g.goal - (g.width - g.goal) {
-        return keep(breaks, active, n, b.demerits, t, seen, best);
+        return keep(breaks, active, n, b, t, seen, best);
     }
     if g.width < t {
         return seen;
     }
     let better = offered(g, turn, n, b, t, best);
-    keep(breaks, active, n, b.demerits, t, seen, better)
+    keep(breaks, active, n, b, t, seen, better)
 }
 
 // A round over all active breaks.
@@ -340,14 +378,14 @@ fn advance(
     g: Setting,
     turn: Turn,
     st: Standing,
-    breaks: &mut [usize; 8192],
-    ratios: &[f32; 1024],
-    active: &mut [usize; 1024],
+    breaks: &mut [u32],
+    ratios: &[f32],
+    active: &mut [u32],
 ) -> State
-    requires { ⌜ R.Limits g × R.Turns g turn × R.RoundReady (turn .number) st (T.tables (now breaks) (now ratios)) (now active) ⌝ }
+    requires { ⌜ R.Limits g × R.Turns g turn × (turn .number < length (now ratios)) × R.RoundReady (turn .number) st (T.tables (now breaks) (now ratios)) (now active) ⌝ }
     ensures { λ r. ⌜ R.Fit turn st (st .count) (T.tables (now (breaks .exit)) (now (ratios .entry))) (now (active .exit)) r × ((notes : List ℕ) → R.Done g turn st (map (reduced (st .reduction)) (R.breaksListed (st .count) (T.tables (now (breaks .entry)) (now (ratios .entry))) (now (active .entry)))) (T.tables (now (breaks .exit)) (now (ratios .entry))) (now (active .exit)) r notes) ⌝ }
 {
-    let first = active[0];
+    let first = active[0] as usize;
     let b = lessened(get_break(breaks, ratios, first), st.reduction);
     let best = Best {
         total: NOTHING,
@@ -371,23 +409,23 @@ fn advance(
 
 // One break more, active last.
 fn append(
-    breaks: &mut [usize; 8192],
-    ratios: &mut [f32; 1024],
-    active: &mut [usize; 1024],
+    breaks: &mut [u32],
+    ratios: &mut [f32],
+    active: &mut [u32],
     size: usize,
     kept: usize,
     b: Break,
 )
-    requires { ⌜ (size < 1024) × (kept < 1024) ⌝ }
+    requires { ⌜ (size < 1024) × T.Room size (T.tables (now breaks) (now ratios)) × (kept < length (now active)) × T.Fits b ⌝ }
     ensures { λ _. ⌜ (T.tables (now (breaks .exit)) (now (ratios .exit)) ≡ T.withBreak (T.tables (now (breaks .entry)) (now (ratios .entry))) size b) × (now (active .exit) ≡ set (now (active .entry)) kept size) ⌝ }
 {
     store_break(breaks, ratios, size, b);
-    active[kept] = size;
+    active[kept] = size as u32;
 }
 
 // The break that begins again where nothing stays, from break n: before the word where that is the lesser evil, and never on a fresh line.
 fn restarted(g: Setting, turn: Turn, n: usize, least: Break) -> Break
-    requires { ⌜ R.Limits g × R.Turns g turn × (least .columns < 2 ^ 33) ⌝ }
+    requires { ⌜ R.Limits g × R.Turns g turn × (least .columns < 2 ^ 32) ⌝ }
     ensures { λ r. ⌜ R.Restarted g turn n least r ⌝ }
 {
     let t = reach(g, turn, least);
@@ -424,9 +462,9 @@ fn settle(
     g: Setting,
     turn: Turn,
     st: Standing,
-    breaks: &mut [usize; 8192],
-    ratios: &mut [f32; 1024],
-    active: &mut [usize; 1024],
+    breaks: &mut [u32],
+    ratios: &mut [f32],
+    active: &mut [u32],
     s: State,
 ) -> Standing
     requires { ⌜ R.Limits g × R.Turns g turn × R.Fit turn st (st .count) (T.tables (now breaks) (now ratios)) (now active) s ⌝ }
@@ -479,16 +517,16 @@ fn settle(
 // The round of word i.
 fn round(
     g: Setting,
-    table: &[u32; 8192],
+    table: &[u32],
     i: usize,
     last: bool,
     sentence: bool,
     st: Standing,
-    breaks: &mut [usize; 8192],
-    ratios: &mut [f32; 1024],
-    active: &mut [usize; 1024],
+    breaks: &mut [u32],
+    ratios: &mut [f32],
+    active: &mut [u32],
 ) -> Standing
-    requires { ⌜ R.Limits g × (i < 1024) × (1 ≤ wordIn (now table) i .width) × R.RoundReady i st (T.tables (now breaks) (now ratios)) (now active) ⌝ }
+    requires { ⌜ R.Limits g × (i < length (now ratios)) × Room i (now table) × R.Wide i (now table) × R.RoundReady i st (T.tables (now breaks) (now ratios)) (now active) ⌝ }
     ensures { λ r. ⌜ R.RoundIs g last sentence i (wordIn (now (table .entry)) i) st (T.tables (now (breaks .entry)) (now (ratios .entry))) (now (active .entry)) (T.tables (now (breaks .exit)) (now (ratios .exit))) (now (active .exit)) r ⌝ }
 {
     let word = records::get(table, i);
@@ -506,8 +544,8 @@ fn round(
 }
 
 // The sentence mark of the word behind word i, of n.
-fn sentence_behind(table: &[u32; 8192], n: usize, i: usize) -> bool
-    requires { ⌜ (i < n) × (n ≤ 1024) ⌝ }
+fn sentence_behind(table: &[u32], n: usize, i: usize) -> bool
+    requires { ⌜ (i < n) × (n ≤ 1024) × Holds n (now table) ⌝ }
     ensures { λ r. ⌜ ((notes : List ℕ) → r ≡ sentenceBehind (meaning notes (wordIn (now (table .entry)) i)) (drop (i + 1) (wordsIn notes n (now (table .entry))))) ⌝ }
 {
     let next = i + 1;
@@ -528,13 +566,13 @@ fn sentence_behind(table: &[u32; 8192], n: usize, i: usize) -> bool
 // One round for each word behind the first.
 fn rounds(
     g: Setting,
-    table: &[u32; 8192],
+    table: &[u32],
     n: usize,
-    breaks: &mut [usize; 8192],
-    ratios: &mut [f32; 1024],
-    active: &mut [usize; 1024],
+    breaks: &mut [u32],
+    ratios: &mut [f32],
+    active: &mut [u32],
 ) -> Standing
-    requires { ⌜ R.Limits g × (1 ≤ n) × (n ≤ 1024) × R.Wide n (now table) × T.Sized (T.tables (now breaks) (now ratios)) × (length (now active) ≡ 1024) ⌝ }
+    requires { ⌜ R.Limits g × (1 ≤ n) × (n ≤ length (now ratios)) × Holds n (now table) × R.AllWide n (now table) × T.Sized (T.tables (now breaks) (now ratios)) × (length (now active) ≡ length (now ratios)) ⌝ }
     ensures { λ r. ⌜ R.RoundsAre g n (now (table .entry)) (T.tables (now (breaks .exit)) (now (ratios .exit))) (now (active .exit)) r ⌝ }
 {
     let w = records::get(table, 0);
@@ -576,8 +614,8 @@ fn rounds(
 // ---- the least break
 
 // The one of two breaks with less demerits, the first where they are equal.
-fn lesser(breaks: &[usize; 8192], ratios: &[f32; 1024], m: usize, n: usize) -> usize
-    requires { ⌜ (m < 1024) × (n < 1024) ⌝ }
+fn lesser(breaks: &[u32], ratios: &[f32], m: usize, n: usize) -> usize
+    requires { ⌜ T.Room m (T.tables (now breaks) (now ratios)) × T.Room n (T.tables (now breaks) (now ratios)) ⌝ }
     ensures { λ r. ⌜ r ≡ T.lesserIn (T.tables (now (breaks .entry)) (now (ratios .entry))) m n ⌝ }
 {
     let a = get_break(breaks, ratios, m);
@@ -589,19 +627,14 @@ fn lesser(breaks: &[usize; 8192], ratios: &[f32; 1024], m: usize, n: usize) -> u
 }
 
 // The first active break of least demerits.
-fn least(
-    breaks: &[usize; 8192],
-    ratios: &[f32; 1024],
-    active: &[usize; 1024],
-    st: Standing,
-) -> usize
-    requires { ⌜ R.Listed st (now active) ⌝ }
+fn least(breaks: &[u32], ratios: &[f32], active: &[u32], st: Standing) -> usize
+    requires { ⌜ R.Listed st (T.tables (now breaks) (now ratios)) (now active) ⌝ }
     ensures { λ r. ⌜ R.LeastIs st (T.tables (now (breaks .entry)) (now (ratios .entry))) (now (active .entry)) r ⌝ }
 {
-    let mut found = active[0];
+    let mut found = active[0] as usize;
     let mut k = 1;
     while k < st.count {
-        let n = active[k];
+        let n = active[k] as usize;
         found = lesser(breaks, ratios, found, n);
         k += 1;
     }
@@ -621,8 +654,8 @@ fn starts(b: Break) -> usize
     b.word + 1
 }
 
-fn clear(marks: &mut [bool; 1024], n: usize)
-    requires { ⌜ (n ≤ 1024) × (length (now marks) ≡ 1024) ⌝ }
+fn clear(marks: &mut [bool], n: usize)
+    requires { ⌜ n ≤ length (now marks) ⌝ }
     ensures { λ _. ⌜ T.MarkedUpTo n (now (marks .entry)) (now (marks .exit)) (λ (j : ℕ). false) ⌝ }
 {
     let mut i = 0;
@@ -633,8 +666,8 @@ fn clear(marks: &mut [bool; 1024], n: usize)
 }
 
 // A break behind the last word starts no line.
-fn mark(marks: &mut [bool; 1024], n: usize, at: usize)
-    requires { ⌜ (n ≤ 1024) × (length (now marks) ≡ 1024) ⌝ }
+fn mark(marks: &mut [bool], n: usize, at: usize)
+    requires { ⌜ n ≤ length (now marks) ⌝ }
     ensures { λ _. ⌜ T.MarkedUpTo n (now (marks .entry)) (now (marks .exit)) (λ (j : ℕ). getD (now (marks .entry)) j false || eqb at j) ⌝ }
 {
     if at < n {
@@ -643,14 +676,8 @@ fn mark(marks: &mut [bool; 1024], n: usize, at: usize)
 }
 
 // The marks of the path that ends at a record, from break to previous break.
-fn mark_path(
-    breaks: &[usize; 8192],
-    ratios: &[f32; 1024],
-    marks: &mut [bool; 1024],
-    n: usize,
-    last: usize,
-)
-    requires { ⌜ (n ≤ 1024) × (last < 1024) × (length (now marks) ≡ 1024) × T.Leads (T.tables (now breaks) (now ratios)) last ⌝ }
+fn mark_path(breaks: &[u32], ratios: &[f32], marks: &mut [bool], n: usize, last: usize)
+    requires { ⌜ (n ≤ length (now marks)) × (last < length (now ratios)) × T.Sized (T.tables (now breaks) (now ratios)) × T.Leads (T.tables (now breaks) (now ratios)) last ⌝ }
     ensures { λ _. ⌜ T.MarkedUpTo n (now (marks .entry)) (now (marks .exit)) (λ (j : ℕ). getD (now (marks .entry)) j false || startsLine j (T.pathTo (T.tables (now (breaks .entry)) (now (ratios .entry))) last)) ⌝ }
 {
     let mut at = last;
@@ -664,15 +691,15 @@ fn mark_path(
 // The best breaks of a paragraph of n words, as marks by word: mark i says whether a new line starts with word i. The other tables are
 // lent to work in, and what they hold afterwards is left open.
 pub fn best_breaks(
-    table: &[u32; 8192],
+    table: &[u32],
     n: usize,
     g: Setting,
-    breaks: &mut [usize; 8192],
-    ratios: &mut [f32; 1024],
-    active: &mut [usize; 1024],
-    marks: &mut [bool; 1024],
+    breaks: &mut [u32],
+    ratios: &mut [f32],
+    active: &mut [u32],
+    marks: &mut [bool],
 )
-    requires { ⌜ R.Limits g × (1 ≤ n) × (n ≤ 1024) × R.Wide n (now table) × R.Lent (T.tables (now breaks) (now ratios)) (now active) (now marks) ⌝ }
+    requires { ⌜ R.Limits g × (1 ≤ n) × (n ≤ length (now ratios)) × Holds n (now table) × R.AllWide n (now table) × R.Lent (T.tables (now breaks) (now ratios)) (now active) (now marks) ⌝ }
     ensures { λ _. ⌜ R.BestAre g n (now (table .entry)) (now (marks .entry)) (T.tables (now (breaks .exit)) (now (ratios .exit))) (now (active .exit)) (now (marks .exit)) ⌝ }
 {
     let st = rounds(g, table, n, breaks, ratios, active);

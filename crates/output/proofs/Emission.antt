@@ -78,8 +78,7 @@ module _ {notes table : List ℕ} {n : ℕ} {marks : List Bool} {l : Layout} {i 
       ++ emittedFrom notes table n marks l (w .punct) (i + 1)
   unfolding meaning
   rest-turn punct =
-      let marked : n ≤ length marks = let f = laid .few in let e = laid .marked in omega arith in
-      rw (marks-here marks i n more marked, words-drop notes n table i more, ← got .is)
+      rw (marks-here marks i n more (laid .marked), words-drop notes n table i more, ← got .is)
       (rest-cons (l .uniform) (marginOf notes (l .indent)) punct _ _ (meaning notes w) _)
 
 module _ (notes table : List ℕ) (n : ℕ) (marks : List Bool) (l : Layout) where

@@ -296,9 +296,9 @@ fn apart(notes: &[u8], w: Word, added: usize, end: usize) -> bool
 // The run that word i continues, which reaches up to end so far: punct is the mark of its last word.
 fn run_from(
     notes: &[u8],
-    table: &[u32; 8192],
+    table: &[u32],
     n: usize,
-    marks: &[bool; 1024],
+    marks: &[bool],
     l: Layout,
     end: usize,
     punct: bool,
@@ -334,9 +334,9 @@ fn run_from(
 // The words behind the first run, and the line feed at the end.
 fn emit_rest(
     notes: &[u8],
-    table: &[u32; 8192],
+    table: &[u32],
     n: usize,
-    marks: &[bool; 1024],
+    marks: &[bool],
     l: Layout,
     first: Run,
     out: &mut [u8],
@@ -364,9 +364,9 @@ fn emit_rest(
 // A paragraph of n words, broken where the marks say, written behind at bytes. Answers the written end, whether or not all of it fitted.
 pub fn emit(
     notes: &[u8],
-    table: &[u32; 8192],
+    table: &[u32],
     n: usize,
-    marks: &[bool; 1024],
+    marks: &[bool],
     l: Layout,
     out: &mut [u8],
     at: usize,

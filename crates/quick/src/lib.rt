@@ -6,7 +6,7 @@ ghost use mathlib.Core.Bool.{cond};
 ghost use mathlib.Core.List.{List};
 ghost use Prim.Native.Nat.{ℕ, _+_, _≤_, _<_, _^_};
 ghost use lib.ListN.{length};
-ghost use Rattle.records.specs.Contracts.Table.{wordsIn, Small};
+ghost use Rattle.records.specs.Contracts.Table.{Holds, wordsIn, Small};
 ghost use Rattle.records.specs.Contracts.Marks.{Marked};
 ghost use Rattle.spacing.specs.Spacing.{gapWidth, addedSpace};
 ghost use Rattle.spacing.specs.Contracts.Bounds.{Fair};
@@ -32,8 +32,8 @@ fn pick(first: bool, a: usize, b: usize) -> usize
 }
 
 // Marks each word behind the first that no longer fits its line: a new line starts with it.
-pub fn quick_breaks(table: &[u32; 8192], n: usize, g: Setting, marks: &mut [bool; 1024])
-    requires { ⌜ (1 ≤ n) × (n ≤ 1024) × Fair g × (length (now marks) ≡ 1024) ⌝ }
+pub fn quick_breaks(table: &[u32], n: usize, g: Setting, marks: &mut [bool])
+    requires { ⌜ (1 ≤ n) × (n ≤ 1024) × Holds n (now table) × (n ≤ length (now marks)) × Fair g ⌝ }
     ensures { λ _. ⌜ ((notes : List ℕ) → Marked n (now (marks .entry)) (quickBreaks g (wordsIn notes n (now (table .entry)))) (now (marks .exit))) ⌝ }
 {
     let head = records::get(table, 0);

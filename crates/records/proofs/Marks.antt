@@ -13,10 +13,10 @@ use Rattle.records.specs.Contracts.Marks.{Marked}
 pub marks-here : (marks : List Bool) (i n : ℕ) → i < n → n ≤ length marks → slice i n marks ≡ getD marks i false ∷ slice (i + 1) n marks
 marks-here marks i n h k = rw add-one (slice-cons i n marks false h k)
 
-pub marked : (n : ℕ) (marks breaks marks′ : List Bool) → 1 ≤ n → n ≤ 1024 → length marks ≡ 1024 → length breaks ≡ n - 1
+pub marked : (n : ℕ) (marks breaks marks′ : List Bool) → 1 ≤ n → n ≤ length marks → length breaks ≡ n - 1
     → marks′ ≡ sets marks 1 breaks → Marked n marks breaks marks′
-marked n marks breaks marks′ some few sized l e = record {
+marked n marks breaks marks′ some few l e = record {
   is = e;
   says = rw e (sets-slice marks 1 n breaks (omega arith) (omega arith));
-  sized = ap length e ∙ length-sets marks 1 breaks ∙ sized;
+  sized = ap length e ∙ length-sets marks 1 breaks;
 }

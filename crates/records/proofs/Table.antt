@@ -18,7 +18,7 @@ use Rattle.records.specs.declared.Before.{Before}
 use Rattle.records.specs.declared.Before.the-variants.{Absent, Count}
 use Rattle.records.specs.declared.Word.{Word as Record}
 use Rattle.records.specs.Word.{meaning}
-use Rattle.records.specs.Contracts.Table.{numberIn, beforeNumber, beforeOf, marksOf, wordNumbers, stored, wordIn, withWord, recordsOf, wordsIn, Within, AllWithin}
+use Rattle.records.specs.Contracts.Table.{numberIn, beforeNumber, beforeOf, marksOf, wordNumbers, stored, Room, wordIn, withWord, recordsOf, wordsIn, Within, AllWithin}
 
 -- ---- a field, as a number and back
 
@@ -45,12 +45,12 @@ marks-back false false false = (refl, refl, refl)
 module _ (t : List ℕ) (i : ℕ) (w : Record) where
   pub length-with : length (withWord t i w) ≡ length t
   unfolding withWord
-  length-with = length-sets t (i * 8) (wordNumbers w)
+  length-with = length-sets t (i * 7) (wordNumbers w)
 
-  module _ (room : i < 1024) (sized : length t ≡ 8192) where
+  module _ (room : Room i t) where
     number-back : (j : ℕ) → j < 7 → numberIn (withWord t i w) i j ≡ getD (wordNumbers w) j 0
     unfolding withWord wordNumbers
-    number-back j h = sets-within 0 t (i * 8) (wordNumbers w) j h (omega arith)
+    number-back j h = sets-within 0 t (i * 7) (wordNumbers w) j h (omega arith)
 
     pub read-back : wordIn (withWord t i w) i ≡ w
     unfolding wordIn wordNumbers
@@ -71,9 +71,9 @@ module _ (t : List ℕ) (i : ℕ) (w : Record) where
         )
 
   module _ (j : ℕ) (other : j ≡ i → ⊥) where
-    number-other : (a : ℕ) → a < 8 → numberIn (withWord t i w) j a ≡ numberIn t j a
+    number-other : (a : ℕ) → a < 7 → numberIn (withWord t i w) j a ≡ numberIn t j a
     unfolding withWord wordNumbers
-    number-other a h = sets-other 0 t (i * 8) (wordNumbers w) (j * 8 + a) (λ b g e. other (omega arith))
+    number-other a h = sets-other 0 t (i * 7) (wordNumbers w) (j * 7 + a) (λ b g e. other (omega arith))
 
     pub read-other : wordIn (withWord t i w) j ≡ wordIn t j
     unfolding wordIn
@@ -118,15 +118,15 @@ unfolding recordsOf
 records-kept zero t i w h = refl
 records-kept (suc n) t i w h = rw (records-kept n t i w (omega arith), read-other t i w n (λ e. omega arith))
 
-module _ (t : List ℕ) (n : ℕ) (w : Record) (room : n < 1024) (sized : length t ≡ 8192) where
+module _ (t : List ℕ) (n : ℕ) (w : Record) (room : Room n t) where
   pub records-more : recordsOf (n + 1) (withWord t n w) ≡ recordsOf n t ++ (w ∷ [])
   unfolding recordsOf
-  records-more = rw (add-one n, records-kept n t n w (omega arith), read-back t n w room sized)
+  records-more = rw (add-one n, records-kept n t n w (omega arith), read-back t n w room)
 
   pub within-more : {size : ℕ} → AllWithin size n t → Within size w → AllWithin size (n + 1) (withWord t n w)
   within-more {size} all one i h =
       ⊎-elim
-      (λ (e : i ≡ n). rw (e, read-back t n w room sized) one)
+      (λ (e : i ≡ n). rw (e, read-back t n w room) one)
       (λ (l : i < n). rw (read-other t n w i (λ e. omega arith)) (all i l))
       (eq-or-lt-of-le (let g : i ≤ n = omega arith in g))
 
@@ -145,13 +145,13 @@ module _ (notes : List ℕ) (n : ℕ) (t : List ℕ) where
   unfolding wordsIn
   words-end i h = rw (drop-map (meaning notes) i (recordsOf n t), records-end n t i h)
 
-  pub words-more : (w : Record) → n < 1024 → length t ≡ 8192 → wordsIn notes (n + 1) (withWord t n w) ≡ wordsIn notes n t ++ (meaning notes w ∷ [])
+  pub words-more : (w : Record) → Room n t → wordsIn notes (n + 1) (withWord t n w) ≡ wordsIn notes n t ++ (meaning notes w ∷ [])
   unfolding wordsIn
-  words-more w room sized = ap (map (meaning notes)) (records-more t n w room sized) ∙ map-append (meaning notes) (recordsOf n t) (w ∷ [])
+  words-more w room = ap (map (meaning notes)) (records-more t n w room) ∙ map-append (meaning notes) (recordsOf n t) (w ∷ [])
 
 -- ---- as the code stores
 
 pub stored-word : (t : List ℕ) (i : ℕ) (w : Record) (before marks : ℕ) → before ≡ beforeNumber (w .before) → marks ≡ marksOf w
-    → stored t (i * 8) (w .from) (w .start) (w .end) (w .width) before (w .after) marks ≡ withWord t i w
+    → stored t (i * 7) (w .from) (w .start) (w .end) (w .width) before (w .after) marks ≡ withWord t i w
 unfolding withWord wordNumbers
-stored-word t i w before marks b m = rw (b, m, sets-seven t (i * 8))
+stored-word t i w before marks b m = rw (b, m, sets-seven t (i * 7))

@@ -1,8 +1,8 @@
-// Word records: a struct by value, kept in a table of numbers.
+// Word records: a struct by value, kept in a table of numbers, seven for each record.
 ghost use mathlib.Core.Path.{_≡_};
 ghost use mathlib.Core.Bool.{cond};
 ghost use Prim.Native.Nat.{_*_, _<_, _≤_, _^_};
-ghost use Rattle.records.specs.Contracts.Table.{numberIn, beforeNumber, beforeOf, withWord, stored, Small, Got};
+ghost use Rattle.records.specs.Contracts.Table.{numberIn, beforeNumber, beforeOf, withWord, stored, Room, Small, Got};
 
 // The count of blanks before a gap's first tab, which may be absent.
 pub enum Before {
@@ -25,11 +25,11 @@ pub struct Word {
 }
 
 // Number j of record i.
-fn read(t: &[u32; 8192], i: usize, j: usize) -> usize
-    requires { ⌜ (i < 1024) × (j < 8) ⌝ }
+fn read(t: &[u32], i: usize, j: usize) -> usize
+    requires { ⌜ Room i (now t) × (j < 7) ⌝ }
     ensures { λ r. ⌜ (r ≡ numberIn (now (t .entry)) i j) × (r < 2 ^ 32) ⌝ }
 {
-    let k = i * 8 + j;
+    let k = i * 7 + j;
     wide(t[k])
 }
 
@@ -71,8 +71,8 @@ fn bit(mark: bool, value: u32) -> u32
 }
 
 // The record at i, put together.
-pub fn get(t: &[u32; 8192], i: usize) -> Word
-    requires { ⌜ i < 1024 ⌝ }
+pub fn get(t: &[u32], i: usize) -> Word
+    requires { ⌜ Room i (now t) ⌝ }
     ensures { λ r. ⌜ Got (now (t .entry)) i r ⌝ }
 {
     let marks = read(t, i, 6);
@@ -90,8 +90,8 @@ pub fn get(t: &[u32; 8192], i: usize) -> Word
 }
 
 // The record taken apart into the table at i.
-pub fn store(t: &mut [u32; 8192], i: usize, w: Word)
-    requires { ⌜ (i < 1024) × Small w ⌝ }
+pub fn store(t: &mut [u32], i: usize, w: Word)
+    requires { ⌜ Room i (now t) × Small w ⌝ }
     ensures { λ _. ⌜ now (t .exit) ≡ withWord (now (t .entry)) i w ⌝ }
 {
     let before = w.before;
@@ -109,12 +109,12 @@ pub fn store(t: &mut [u32; 8192], i: usize, w: Word)
     );
 }
 
-// Seven numbers, the eighth of the record is spare.
-fn put(t: &mut [u32; 8192], i: usize, n0: u32, n1: u32, n2: u32, n3: u32, n4: u32, n5: u32, n6: u32)
-    requires { ⌜ i < 1024 ⌝ }
-    ensures { λ _. ⌜ now (t .exit) ≡ stored (now (t .entry)) (i * 8) n0 n1 n2 n3 n4 n5 n6 ⌝ }
+// The seven numbers of a record.
+fn put(t: &mut [u32], i: usize, n0: u32, n1: u32, n2: u32, n3: u32, n4: u32, n5: u32, n6: u32)
+    requires { ⌜ Room i (now t) ⌝ }
+    ensures { λ _. ⌜ now (t .exit) ≡ stored (now (t .entry)) (i * 7) n0 n1 n2 n3 n4 n5 n6 ⌝ }
 {
-    let k = i * 8;
+    let k = i * 7;
     let k1 = k + 1;
     let k2 = k + 2;
     let k3 = k + 3;

@@ -10,21 +10,21 @@ use Rattle.lists.proofs.Walk.{walk-nil}
 use Rattle.lists.proofs.Parts.{joined-nil, joined-cons}
 use Rattle.text.specs.declared.Found.{Found}
 use Rattle.text.specs.declared.Found.the-variants.{At, Nowhere}
-use Rattle.options.specs.Opts.{Opts}
+use Rattle.options.specs.Opts.{Opts, meant}
 use Rattle.options.specs.declared.Options.{Options}
 use Rattle.lines.proofs.Lines.{lines-past}
 use Rattle.pieces.specs.Pieces.{Kind, nextPiece, pieces}
 use Rattle.pieces.specs.declared.Paragraph.{Paragraph}
 use Rattle.output.proofs.Sink.{length-written, wrote-nil, left-first, left-then, left-last}
 use Rattle.rudignals.specs.Format.{outputOf, pieceOutput, digest, tooMany, longParagraph}
-use Rattle.rudignals.specs.Contracts.Call.{piecesFrom, outputFrom, longFrom, FirstPiece, Put, TooLong, Stepped, CursorIn, Going, FinishedFrom, Finished, Reached}
+use Rattle.rudignals.specs.Contracts.Call.{piecesFrom, outputFrom, longFrom, FirstPiece, Put, TooLong, CursorIn, Going, FinishedFrom, Finished, Reached, Coursed}
 use Rattle.rudignals.specs.declared.Cursor.{Cursor}
 use Rattle.rudignals.specs.declared.Ahead.{Ahead}
 use Rattle.rudignals.specs.declared.Ahead.the-variants.{Text, End}
 use Rattle.rudignals.specs.declared.Ended.{Ended}
 use Rattle.rudignals.specs.declared.Ended.the-variants.{All, Stopped}
-use Rattle.rudignals.specs.declared.Step.{Step}
-use Rattle.rudignals.specs.declared.Step.the-variants.{On, Over}
+use Rattle.rudignals.specs.declared.Course.{Course}
+use Rattle.rudignals.specs.declared.Course.the-variants.{End as CourseEnd, Short}
 
 -- ---- the pieces from a place on
 
@@ -120,10 +120,10 @@ module _ (block : List ℕ) (o : Options) (notes out₀ out : List ℕ) (c₀ : 
   pub reached-end : {n : ℕ} → r ≡ End n → Reached block o notes c₀ out₀ out (End n)
   reached-end e = rw e at s
 
--- by what a paragraph came to
-module _ {o : Opts} {notes out : List ℕ} {c : Cursor} {out′ : List ℕ} {r : Step} (s : Stepped o notes out c out′ r) where
-  pub stepped-on : {d : Cursor} → r ≡ On d → Put o notes out c d out′
-  stepped-on e = rw e at s
+-- by how far the tables reached
+module _ (w b : ℕ) (block : List ℕ) (o : Options) (notes out₀ out : List ℕ) (c₀ : Cursor) (r : Course) (s : Coursed w b block o notes c₀ out₀ out r) where
+  pub course-end : {n : ℕ} → r ≡ CourseEnd n → FinishedFrom (meant block o) notes c₀ out₀ out (All n)
+  course-end e = rw e at s
 
-  pub stepped-over : r ≡ Over → TooLong o notes out c out′
-  stepped-over e = rw e at s
+  pub course-short : {c : Cursor} {p : Paragraph} → r ≡ Short c p → Coursed w b block o notes c₀ out₀ out (Short c p)
+  course-short e = rw e at s

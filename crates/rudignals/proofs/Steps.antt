@@ -2,7 +2,7 @@
 use mathlib.Core.Path.{_≡_, refl, sym, ap, _∙_}
 use mathlib.Core.Bool.{Bool, true, false, cond, _||_}
 use mathlib.Core.List.{List, [], _++_}
-use Prim.Native.Nat.{ℕ, _+_, _-_, _≤_, _<_}
+use Prim.Native.Nat.{ℕ, _+_, _-_, _*_, _≤_, _<_}
 use native.Mathlib.Omega.{arith}
 use lib.Dec.{leb}
 use lib.Ieee.{Float}
@@ -24,7 +24,7 @@ use Rattle.pieces.specs.declared.Piece.{Piece as PieceAt}
 use Rattle.pieces.specs.declared.Piece.the-variants.{Text}
 use Rattle.pieces.proofs.Meaning.{TextIs, means}
 use Rattle.records.specs.Word.{Word}
-use Rattle.records.specs.Contracts.Table.{wordsIn}
+use Rattle.records.specs.Contracts.Table.{Holds, wordsIn}
 use Rattle.records.specs.Contracts.Marks.{breaksIn, Marked}
 use Rattle.words.specs.Words.{wordsOf}
 use Rattle.words.specs.Contracts.Places.{counted}
@@ -39,16 +39,18 @@ use Rattle.output.specs.Contracts.Sink.{Wrote}
 use Rattle.output.specs.Contracts.Writers.{marginOf, MarginIn, emitted}
 use Rattle.output.specs.declared.Layout.{Layout}
 use Rattle.quick.specs.Quick.{quickBreaks}
-use Rattle.knuth_plass.specs.Contracts.Table.{tables}
-use Rattle.knuth_plass.specs.Contracts.Round.{Limits, Lent, BestAre}
+use Rattle.knuth_plass.specs.Contracts.Table.{Tables}
+use Rattle.knuth_plass.specs.Contracts.Round.{Limits, AllWide, BestAre}
 use Rattle.rudignals.specs.Format.{mostWords, settingOf, breaksBy, formatted, outputOf}
-use Rattle.rudignals.specs.Contracts.Call.{FirstPiece, Put, Stepped, Admitted, TextAhead, settingFor, Broken, wordsFor, Placed, TextPut, TextStepped}
+use Rattle.rudignals.specs.Contracts.Call.{FirstPiece, Put, TooLong, Scratch, Admitted, TextAhead, settingFor, Broken, wordsFor, Placed, TextPut, TextStepped, Going, FinishedFrom}
 use Rattle.rudignals.specs.declared.Cursor.{Cursor}
+use Rattle.rudignals.specs.declared.Ended.the-variants.{Stopped}
 use Rattle.rudignals.specs.declared.Step.{Step}
 use Rattle.rudignals.specs.declared.Step.the-variants.{On, Over}
 use Rattle.rudignals.proofs.Rows.{text-words}
 use Rattle.rudignals.proofs.Meaning.{TextGoes, PieceGoes, piece-goes}
 use Rattle.rudignals.proofs.Bound.{text-most}
+use Rattle.rudignals.proofs.Loop.{going-over}
 
 -- ---- what the block's options allow
 
@@ -146,15 +148,14 @@ module _ (block notes : List ℕ) (o : Options) (ready : Admitted block notes o)
     bounded = rw (a, w .next) (omega (arith, w .bounded, most-is, text-most (meant block o) notes at p q text bounds (omega (arith, words-count, w .few))));
   }
 
-  pub text-stepped : (out : List ℕ) (c : Cursor) (out′ : List ℕ) (r : Step) → c .at ≡ at → c .mail ≡ nextMail → TextStepped notes at o p out (c .written) out′ r block → Stepped (meant block o) notes out c out′ r
-  text-stepped out c out′ (On d) a m w = text-put out c d out′ a m w
-  text-stepped out c out′ Over a m w = record {
+  text-long : (out : List ℕ) (c : Cursor) → c .at ≡ at → c .mail ≡ nextMail → mostWords < length (wordsFor block notes at o p) → TooLong (meant block o) notes out c out
+  text-long out c a m w = record {
     kind = paragraph q;
     state = p .mail;
     next = p .next;
     goes = rw (a, m) (goes);
-    many = rw words-count (lt-ltb mostWords (length (wordsFor block notes at o p)) (w .0));
-    same = w .1;
+    many = rw words-count (lt-ltb mostWords (length (wordsFor block notes at o p)) w);
+    same = refl;
   }
 
 module _ (block notes : List ℕ) (o : Options) (c : Cursor) (p : ParagraphAt) (ready : Admitted block notes o) (b : TextAhead block o notes c p) where
@@ -164,8 +165,72 @@ module _ (block notes : List ℕ) (o : Options) (c : Cursor) (p : ParagraphAt) (
   pub begins-placed : Placed notes (c .at) o p
   begins-placed = let g = begins-goes in text-placed block notes o ready (c .mail) (c .at) p (g .paragraph-is) (g .goes) (g .text) (g .bounds)
 
-  pub begins-stepped : (out out′ : List ℕ) (r : Step) → TextStepped notes (c .at) o p out (c .written) out′ r block → Stepped (meant block o) notes out c out′ r
-  begins-stepped out out′ r w = let g = begins-goes in text-stepped block notes o ready (c .mail) (c .at) p (g .paragraph-is) (g .goes) (g .text) (g .bounds) out c out′ r refl refl w
+  pub begins-stepped : (longest : ℕ) (out out′ : List ℕ) (r : Step) (d : Cursor) → TextStepped longest notes (c .at) o p out (c .written) out′ r block → r ≡ On d → Put (meant block o) notes out c d out′
+  begins-stepped longest out out′ r d w e =
+      let g = begins-goes in
+      let v : TextStepped longest notes (c .at) o p out (c .written) out′ (On d) block = rw e at w in
+      text-put block notes o ready (c .mail) (c .at) p (g .paragraph-is) (g .goes) (g .text) (g .bounds) out c d out′ refl refl v
+
+  pub begins-over : (longest : ℕ) (out out′ : List ℕ) (r : Step) → TextStepped longest notes (c .at) o p out (c .written) out′ r block → r ≡ Over → (longest < length (wordsFor block notes (c .at) o p)) × (out′ ≡ out)
+  begins-over longest out out′ r w e = rw e at w
+
+  -- at last there is room for 1,024
+  pub begins-long : (c₀ : Cursor) (out₀ out : List ℕ) → Going (meant block o) notes c₀ out₀ c out → mostWords < length (wordsFor block notes (c .at) o p) → FinishedFrom (meant block o) notes c₀ out₀ out (Stopped (c .at))
+  begins-long c₀ out₀ out going h =
+      let g = begins-goes in
+      going-over (meant block o) notes going (text-long block notes o ready (c .mail) (c .at) p (g .paragraph-is) (g .goes) (g .text) (g .bounds) out c refl refl h)
+
+-- ---- the tables
+
+-- there is room in m places, of which there are as many as f says
+pub room-over : (a b : ℕ) {m n : ℕ} {f g : Bool} → m ≡ cond f a b → f ≡ g → m < n → cond g a b < n
+room-over a b e q h = rw (← q, ← e) h
+
+pub room-under : (f : Bool) (a b : ℕ) {m n : ℕ} → m ≡ cond f a b → n ≤ m → n ≤ cond f a b
+room-under f a b e h = rw (← e) h
+
+-- at last there is room for 1,024 words either way, and with quick there need be none for breaks
+room-last : (f : Bool) (a b : ℕ) {n : ℕ} → a ≡ 1024 → b ≡ 1024 → cond f a b < n → 1024 < n
+room-last true a b p q h = omega (arith, p, h)
+room-last false a b p q h = omega (arith, q, h)
+
+pub room-quick : (q m : Bool) (a b : ℕ) {n : ℕ} → q ≡ true → a ≡ 1024 → cond (q || m) a b < n → 1024 < n
+room-quick true m a b e p h = omega (arith, p, h)
+room-quick false m a b e p h = absurd (let z : _≡_ {A = ℕ} 0 1 = cc in omega arith)
+
+pub begins-last : (block notes : List ℕ) (o : Options) (c : Cursor) (p : ParagraphAt) → Admitted block notes o → TextAhead block o notes c p → (c₀ : Cursor) (out₀ out : List ℕ) → Going (meant block o) notes c₀ out₀ c out
+    → (a b : ℕ) → a ≡ 1024 → b ≡ 1024 → cond (o .quick || p .mail) a b < length (wordsFor block notes (c .at) o p) → FinishedFrom (meant block o) notes c₀ out₀ out (Stopped (c .at))
+begins-last block notes o c p ready here c₀ out₀ out going a b e f h = begins-long block notes o c p ready here c₀ out₀ out going (room-last (o .quick || p .mail) a b e f h)
+
+-- tables as they are declared: for w words and b breaks
+pub scratch-of : {table breaks : List ℕ} {ratios : List Float} {active : List ℕ} {marks : List Bool} (w b : ℕ) → length table ≡ w * 7 → length marks ≡ w
+    → length breaks ≡ b * 6 → length ratios ≡ b → length active ≡ b → w ≤ 1024 → b ≤ w → Scratch table breaks ratios active marks
+scratch-of w b t m k r a few less = record {
+  few = omega (arith, m, few);
+  held = omega (arith, m, t);
+  lent = record { tables = record { numbers = omega (arith, k, r); few = omega (arith, r, few, less) }; active = omega (arith, a, r); all = omega (arith, r, m, less) };
+}
+
+module _ (table breaks : List ℕ) (ratios : List Float) (active : List ℕ) (marks : List Bool) (s : Scratch table breaks ratios active marks) where
+  -- the words that they have room for
+  pub room-holds : (fast : Bool) (m : ℕ) → m ≡ cond fast (length marks) (length ratios) → Holds m table × (m ≤ 1024) × (m ≤ length marks)
+  room-holds true m e = (omega (arith, e, s .held), omega (arith, e, s .few), omega (arith, e))
+  room-holds false m e = let l = s .lent .all in (omega (arith, e, l, s .held), omega (arith, e, l, s .few), omega (arith, e, l))
+
+  -- all that is asked of them is asked of their lengths
+  pub scratch-same : (table′ breaks′ : List ℕ) (ratios′ : List Float) (active′ : List ℕ) (marks′ : List Bool) → length table′ ≡ length table → length breaks′ ≡ length breaks
+      → length ratios′ ≡ length ratios → length active′ ≡ length active → length marks′ ≡ length marks → Scratch table′ breaks′ ratios′ active′ marks′
+  scratch-same table′ breaks′ ratios′ active′ marks′ t b r a m =
+      let l = s .lent in
+      record {
+        few = omega (arith, m, s .few);
+        held = omega (arith, m, t, s .held);
+        lent = record {
+          tables = record { numbers = omega (arith, b, r, l .tables .numbers); few = omega (arith, r, l .tables .few) };
+          active = omega (arith, a, r, l .active);
+          all = omega (arith, r, m, l .all);
+        };
+      }
 
 -- ---- splitting and breaking
 
@@ -173,39 +238,39 @@ pub limits-of : (notes : List ℕ) (at : ℕ) (o : Options) (p : ParagraphAt) �
 unfolding settingOf meant
 limits-of notes at o p h block = record { over = h .goal; twice = h .twice; wide = h .width; tab = h .tabLeast; tabs = h .tabMost; first = h .firstSmall; indent = h .indentSmall }
 
-counted-many : (ws : List Word) → counted ws ≡ TooMany → mostWords < length ws
+counted-many : (longest : ℕ) (ws : List Word) → counted longest ws ≡ TooMany → longest < length ws
 unfolding counted
-counted-many ws e = go (leb (length ws) mostWords) refl e
+counted-many longest ws e = go (leb (length ws) longest) refl e
   where
-    go : (t : Bool) → leb (length ws) mostWords ≡ t → cond t (Words (length ws)) TooMany ≡ TooMany → mostWords < length ws
+    go : (t : Bool) → leb (length ws) longest ≡ t → cond t (Words (length ws)) TooMany ≡ TooMany → longest < length ws
     go true h k = absurd (let z : _≡_ {A = ℕ} 0 1 = cc in omega arith)
-    go false h k = leb-false (length ws) mostWords h
+    go false h k = leb-false (length ws) longest h
 
-counted-few : (ws : List Word) (n : ℕ) → counted ws ≡ Words n → (length ws ≡ n) × (length ws ≤ mostWords)
+counted-few : (longest : ℕ) (ws : List Word) (n : ℕ) → counted longest ws ≡ Words n → (length ws ≡ n) × (length ws ≤ longest)
 unfolding counted
-counted-few ws n e = go (leb (length ws) mostWords) refl e
+counted-few longest ws n e = go (leb (length ws) longest) refl e
   where
-    go : (t : Bool) → leb (length ws) mostWords ≡ t → cond t (Words (length ws)) TooMany ≡ Words n → (length ws ≡ n) × (length ws ≤ mostWords)
-    go true h k = (cc, leb-true (length ws) mostWords h)
+    go : (t : Bool) → leb (length ws) longest ≡ t → cond t (Words (length ws)) TooMany ≡ Words n → (length ws ≡ n) × (length ws ≤ longest)
+    go true h k = (cc, leb-true (length ws) longest h)
     go false h k = absurd (let z : _≡_ {A = ℕ} 0 1 = cc in omega arith)
 
-module _ {notes t : List ℕ} {r : Count} {ws : List Word} (s : Split notes ws t r) where
-  pub split-many : r ≡ TooMany → mostWords < length ws
-  split-many e = counted-many ws (sym (s .count) ∙ e)
+module _ {longest : ℕ} {notes t : List ℕ} {r : Count} {ws : List Word} {es : List ℕ} (s : Split longest notes ws es t r) where
+  pub split-many : r ≡ TooMany → longest < length ws
+  split-many e = counted-many longest ws (sym (s .count) ∙ e)
 
-  pub split-few : (n : ℕ) → r ≡ Words n → (length ws ≡ n) × (length ws ≤ mostWords)
-  split-few n e = counted-few ws n (sym (s .count) ∙ e)
+  pub split-few : (n : ℕ) → r ≡ Words n → (length ws ≡ n) × (length ws ≤ longest)
+  split-few n e = counted-few longest ws n (sym (s .count) ∙ e)
 
-module _ (fast : Bool) (g : Setting) (n : ℕ) (table breaks : List ℕ) (ratios : List Float) (active : List ℕ) (marks marks′ : List Bool) where
-  pub broken-fast : fast ≡ true → ((notes : List ℕ) → Marked n marks (quickBreaks g (wordsIn notes n table)) marks′) → Lent (tables breaks ratios) active marks
-      → Broken fast g n table breaks ratios active marks′
-  broken-fast e m l = record {
-    says = λ notes. rw e (m notes .says);
-    lent = record { tables = l .tables; active = l .active; all = m [] .sized };
-  }
+  -- each word is as wide as its columns, and no wider than the notes are long
+  pub split-wide : (n : ℕ) → r ≡ Words n → length notes ≤ 65536 → AllWide n t
+  split-wide n e h i l = let k = s .kept n e in record { some = k .some i l; narrow = omega (arith, k .narrow i l) }
 
-  pub broken-best : fast ≡ false → BestAre g n table marks (tables breaks ratios) active marks′ → Broken fast g n table breaks ratios active marks′
-  broken-best e b = record { says = λ notes. rw e (b .breaks notes); lent = b .lent }
+module _ (fast : Bool) (g : Setting) (n : ℕ) (table : List ℕ) (marks marks′ : List Bool) where
+  pub broken-fast : fast ≡ true → ((notes : List ℕ) → Marked n marks (quickBreaks g (wordsIn notes n table)) marks′) → Broken fast g n table marks′
+  broken-fast e m = λ notes. rw e (m notes .says)
+
+  pub broken-best : (t : Tables) (active : List ℕ) → fast ≡ false → BestAre g n table marks t active marks′ → Broken fast g n table marks′
+  broken-best t active e b = λ notes. rw e (b .breaks notes)
 
 -- what was emitted is the paragraph, in terms of its own words
 pub emitted-is : (notes table : List ℕ) (n : ℕ) (marks : List Bool) (l : Layout) {uniform fast₀ fast : Bool} {first indent : Margin} {g₀ g : Setting} {ws : List Word}

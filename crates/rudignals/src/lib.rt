@@ -8,7 +8,7 @@ use spacing::Setting;
 use text::Found;
 use words::Count;
 ghost use mathlib.Core.Path.{_≡_};
-ghost use mathlib.Core.Bool.{_||_};
+ghost use mathlib.Core.Bool.{true, cond, _||_};
 ghost use mathlib.Core.List.{List};
 ghost use Prim.Native.Nat.{ℕ, _^_, _≤_, _<_};
 ghost use lib.ListN.{length, replicate};
@@ -16,11 +16,11 @@ ghost use Rattle.options.specs.Opts.{meant};
 ghost use Rattle.options.specs.OptionBlock.{readBlock};
 ghost use Rattle.options.specs.declared.Block.the-variants.{Accepted};
 ghost use Rattle.pieces.specs.Pieces.{pieces};
-ghost use Rattle.knuth_plass.specs.Contracts.Table.{tables};
-ghost use Rattle.knuth_plass.specs.Contracts.Round.{Limits, Wide, Lent};
+ghost use Rattle.records.specs.Contracts.Table.{Holds};
+ghost use Rattle.knuth_plass.specs.Contracts.Round.{Limits, AllWide};
 ghost use Rattle.rudignals.specs.Answers.{numbered, outputAfter};
 ghost use Rattle.rudignals.specs.Format.{damageIn, withWords, withNotes, answer, longParagraph};
-ghost use Rattle.rudignals.specs.Contracts.Call.{replyNumber, Answers, CursorIn, TextAhead, Reached, Scratch, Admitted, settingFor, Broken, Placed, TextStepped, Finished, FinishedFrom};
+ghost use Rattle.rudignals.specs.Contracts.Call.{replyNumber, Answers, CursorIn, TextAhead, Reached, Scratch, Admitted, settingFor, Broken, Placed, TextStepped, Coursed, Finished, FinishedFrom};
 
 // What the call answers: the digest's length, or a refusal with what is told of it.
 pub enum Reply {
@@ -45,10 +45,16 @@ enum Ahead {
     End(usize),
 }
 
-// What came of a paragraph: the work goes on behind it, or it has too many words.
+// What came of a paragraph: the work goes on behind it, or it has more words than there is room for.
 enum Step {
     On(Cursor),
     Over,
+}
+
+// How far the tables reach: to the end of the digest, of so many bytes, or to a paragraph of more words than they have room for.
+enum Course {
+    End(usize),
+    Short { c: Cursor, p: Paragraph },
 }
 
 // What came of the notes: the digest's length, or the place of the first paragraph that has too many words.
@@ -187,8 +193,9 @@ fn put_lines(o: Options, block: &[u8], notes: &[u8], from: Cursor, out: &mut [u8
     Ahead::End(c.written)
 }
 
-// Writes everything from the first paragraph on. All working storage is declared here, and lent from here on: notes without a
-// paragraph do without.
+// Writes everything from the first paragraph on. All working storage is declared in this function and the next ones, each for longer
+// paragraphs than the one before, and lent from there on: a call has no more of it cleared than its paragraphs ask for, and notes
+// without a paragraph do without. Here it is for few words, and none for Knuth-Plass.
 fn put_from(
     o: Options,
     block: &[u8],
@@ -200,12 +207,12 @@ fn put_from(
     requires { ⌜ Admitted (now block) (now notes) o × CursorIn (now notes) c × TextAhead (now block) o (now notes) c p ⌝ }
     ensures { λ r. ⌜ FinishedFrom (meant (now (block .entry)) o) (now (notes .entry)) c (now (out .entry)) (now (out .exit)) r ⌝ }
 {
-    let mut table = [0u32; 8192];
-    let mut breaks = [0usize; 8192];
-    let mut ratios = [0f32; 1024];
-    let mut active = [0usize; 1024];
-    let mut marks = [false; 1024];
-    put_texts(
+    let mut table = [0u32; 336];
+    let mut marks = [false; 48];
+    let mut breaks = [0u32; 6];
+    let mut ratios = [0f32; 1];
+    let mut active = [0u32; 1];
+    match put_texts(
         o,
         block,
         notes,
@@ -217,10 +224,206 @@ fn put_from(
         &mut ratios,
         &mut active,
         &mut marks,
-    )
+    ) {
+        Course::End(needed) => Ended::All(needed),
+        Course::Short { c: d, p: q } => put_further(o, block, notes, d, q, out),
+    }
 }
 
-// Paragraph by paragraph, each with the lines behind it.
+// FirstPiece on at a paragraph that asks for more storage.
+fn put_further(
+    o: Options,
+    block: &[u8],
+    notes: &[u8],
+    c: Cursor,
+    p: Paragraph,
+    out: &mut [u8],
+) -> Ended
+    requires { ⌜ Admitted (now block) (now notes) o × CursorIn (now notes) c × TextAhead (now block) o (now notes) c p ⌝ }
+    ensures { λ r. ⌜ FinishedFrom (meant (now (block .entry)) o) (now (notes .entry)) c (now (out .entry)) (now (out .exit)) r ⌝ }
+{
+    if o.quick {
+        return put_quick(o, block, notes, c, p, out);
+    }
+    put_best(o, block, notes, c, p, out)
+}
+
+// The same for 512 words, which is as many as notes of 1 KiB can have, still without Knuth-Plass.
+fn put_quick(
+    o: Options,
+    block: &[u8],
+    notes: &[u8],
+    c: Cursor,
+    p: Paragraph,
+    out: &mut [u8],
+) -> Ended
+    requires { ⌜ Admitted (now block) (now notes) o × CursorIn (now notes) c × TextAhead (now block) o (now notes) c p × (o .quick ≡ true) ⌝ }
+    ensures { λ r. ⌜ FinishedFrom (meant (now (block .entry)) o) (now (notes .entry)) c (now (out .entry)) (now (out .exit)) r ⌝ }
+{
+    let mut table = [0u32; 3584];
+    let mut marks = [false; 512];
+    let mut breaks = [0u32; 6];
+    let mut ratios = [0f32; 1];
+    let mut active = [0u32; 1];
+    match put_texts(
+        o,
+        block,
+        notes,
+        c,
+        p,
+        out,
+        &mut table,
+        &mut breaks,
+        &mut ratios,
+        &mut active,
+        &mut marks,
+    ) {
+        Course::End(needed) => Ended::All(needed),
+        Course::Short { c: d, p: q } => put_quick_long(o, block, notes, d, q, out),
+    }
+}
+
+// The same for the most words that a paragraph may have.
+fn put_quick_long(
+    o: Options,
+    block: &[u8],
+    notes: &[u8],
+    c: Cursor,
+    p: Paragraph,
+    out: &mut [u8],
+) -> Ended
+    requires { ⌜ Admitted (now block) (now notes) o × CursorIn (now notes) c × TextAhead (now block) o (now notes) c p × (o .quick ≡ true) ⌝ }
+    ensures { λ r. ⌜ FinishedFrom (meant (now (block .entry)) o) (now (notes .entry)) c (now (out .entry)) (now (out .exit)) r ⌝ }
+{
+    let mut table = [0u32; 7168];
+    let mut marks = [false; 1024];
+    let mut breaks = [0u32; 6];
+    let mut ratios = [0f32; 1];
+    let mut active = [0u32; 1];
+    match put_texts(
+        o,
+        block,
+        notes,
+        c,
+        p,
+        out,
+        &mut table,
+        &mut breaks,
+        &mut ratios,
+        &mut active,
+        &mut marks,
+    ) {
+        Course::End(needed) => Ended::All(needed),
+        Course::Short { c: d, p: _ } => Ended::Stopped(d.at),
+    }
+}
+
+// The same with Knuth-Plass: for the words of a line.
+fn put_best(
+    o: Options,
+    block: &[u8],
+    notes: &[u8],
+    c: Cursor,
+    p: Paragraph,
+    out: &mut [u8],
+) -> Ended
+    requires { ⌜ Admitted (now block) (now notes) o × CursorIn (now notes) c × TextAhead (now block) o (now notes) c p ⌝ }
+    ensures { λ r. ⌜ FinishedFrom (meant (now (block .entry)) o) (now (notes .entry)) c (now (out .entry)) (now (out .exit)) r ⌝ }
+{
+    let mut table = [0u32; 280];
+    let mut marks = [false; 40];
+    let mut breaks = [0u32; 240];
+    let mut ratios = [0f32; 40];
+    let mut active = [0u32; 40];
+    match put_texts(
+        o,
+        block,
+        notes,
+        c,
+        p,
+        out,
+        &mut table,
+        &mut breaks,
+        &mut ratios,
+        &mut active,
+        &mut marks,
+    ) {
+        Course::End(needed) => Ended::All(needed),
+        Course::Short { c: d, p: q } => put_best_more(o, block, notes, d, q, out),
+    }
+}
+
+// For the words of 1 KiB of prose.
+fn put_best_more(
+    o: Options,
+    block: &[u8],
+    notes: &[u8],
+    c: Cursor,
+    p: Paragraph,
+    out: &mut [u8],
+) -> Ended
+    requires { ⌜ Admitted (now block) (now notes) o × CursorIn (now notes) c × TextAhead (now block) o (now notes) c p ⌝ }
+    ensures { λ r. ⌜ FinishedFrom (meant (now (block .entry)) o) (now (notes .entry)) c (now (out .entry)) (now (out .exit)) r ⌝ }
+{
+    let mut table = [0u32; 1400];
+    let mut marks = [false; 200];
+    let mut breaks = [0u32; 1200];
+    let mut ratios = [0f32; 200];
+    let mut active = [0u32; 200];
+    match put_texts(
+        o,
+        block,
+        notes,
+        c,
+        p,
+        out,
+        &mut table,
+        &mut breaks,
+        &mut ratios,
+        &mut active,
+        &mut marks,
+    ) {
+        Course::End(needed) => Ended::All(needed),
+        Course::Short { c: d, p: q } => put_best_long(o, block, notes, d, q, out),
+    }
+}
+
+// For the most words that a paragraph may have.
+fn put_best_long(
+    o: Options,
+    block: &[u8],
+    notes: &[u8],
+    c: Cursor,
+    p: Paragraph,
+    out: &mut [u8],
+) -> Ended
+    requires { ⌜ Admitted (now block) (now notes) o × CursorIn (now notes) c × TextAhead (now block) o (now notes) c p ⌝ }
+    ensures { λ r. ⌜ FinishedFrom (meant (now (block .entry)) o) (now (notes .entry)) c (now (out .entry)) (now (out .exit)) r ⌝ }
+{
+    let mut table = [0u32; 7168];
+    let mut marks = [false; 1024];
+    let mut breaks = [0u32; 6144];
+    let mut ratios = [0f32; 1024];
+    let mut active = [0u32; 1024];
+    match put_texts(
+        o,
+        block,
+        notes,
+        c,
+        p,
+        out,
+        &mut table,
+        &mut breaks,
+        &mut ratios,
+        &mut active,
+        &mut marks,
+    ) {
+        Course::End(needed) => Ended::All(needed),
+        Course::Short { c: d, p: _ } => Ended::Stopped(d.at),
+    }
+}
+
+// Paragraph by paragraph, each with the lines behind it, as far as the tables reach.
 fn put_texts(
     o: Options,
     block: &[u8],
@@ -228,14 +431,14 @@ fn put_texts(
     first: Cursor,
     head: Paragraph,
     out: &mut [u8],
-    table: &mut [u32; 8192],
-    breaks: &mut [usize; 8192],
-    ratios: &mut [f32; 1024],
-    active: &mut [usize; 1024],
-    marks: &mut [bool; 1024],
-) -> Ended
+    table: &mut [u32],
+    breaks: &mut [u32],
+    ratios: &mut [f32],
+    active: &mut [u32],
+    marks: &mut [bool],
+) -> Course
     requires { ⌜ Admitted (now block) (now notes) o × CursorIn (now notes) first × TextAhead (now block) o (now notes) first head × Scratch (now table) (now breaks) (now ratios) (now active) (now marks) ⌝ }
-    ensures { λ r. ⌜ FinishedFrom (meant (now (block .entry)) o) (now (notes .entry)) first (now (out .entry)) (now (out .exit)) r ⌝ }
+    ensures { λ r. ⌜ Coursed (length (now (marks .entry))) (length (now (ratios .entry))) (now (block .entry)) o (now (notes .entry)) first (now (out .entry)) (now (out .exit)) r ⌝ }
 {
     let mut c = first;
     let mut p = head;
@@ -253,11 +456,11 @@ fn put_texts(
             active,
             marks,
         ) else {
-            return Ended::Stopped(c.at);
+            return Course::Short { c, p };
         };
         match put_lines(o, block, notes, behind, out) {
             Ahead::End(needed) => {
-                return Ended::All(needed);
+                return Course::End(needed);
             }
             Ahead::Text { c: d, p: q } => {
                 c = d;
@@ -267,7 +470,7 @@ fn put_texts(
     }
 }
 
-// Writes a paragraph, unless it has too many words.
+// Writes a paragraph, unless it has more words than the tables have room for.
 fn put_paragraph(
     notes: &[u8],
     at: usize,
@@ -275,21 +478,32 @@ fn put_paragraph(
     p: Paragraph,
     out: &mut [u8],
     written: usize,
-    table: &mut [u32; 8192],
-    breaks: &mut [usize; 8192],
-    ratios: &mut [f32; 1024],
-    active: &mut [usize; 1024],
-    marks: &mut [bool; 1024],
+    table: &mut [u32],
+    breaks: &mut [u32],
+    ratios: &mut [f32],
+    active: &mut [u32],
+    marks: &mut [bool],
 ) -> Step
     requires { ⌜ Placed (now notes) at o p × Scratch (now table) (now breaks) (now ratios) (now active) (now marks) × (written < 2 ^ 62) ⌝ }
-    ensures { λ r. ⌜ ((block : List ℕ) → TextStepped (now (notes .entry)) at o p (now (out .entry)) written (now (out .exit)) r block) × Scratch (now (table .exit)) (now (breaks .exit)) (now (ratios .exit)) (now (active .exit)) (now (marks .exit)) ⌝ }
+    ensures { λ r. ⌜ ((block : List ℕ) → TextStepped (cond (o .quick || p .mail) (length (now (marks .entry))) (length (now (ratios .entry)))) (now (notes .entry)) at o p (now (out .entry)) written (now (out .exit)) r block) ⌝ }
 {
-    let Count::Words(n) = words::split_words(notes, at, p.next, p.mail, p.start, p.later, o, table)
-    else {
+    let fast = either(o.quick, p.mail);
+    let most = pick(fast, marks.len(), ratios.len());
+    let Count::Words(n) = words::split_words(
+        notes,
+        at,
+        p.next,
+        p.mail,
+        p.start,
+        p.later,
+        o,
+        most,
+        table,
+    ) else {
         return Step::Over;
     };
     mark_breaks(
-        either(o.quick, p.mail),
+        fast,
         setting_of(o, p),
         table,
         n,
@@ -309,15 +523,15 @@ fn put_paragraph(
 fn mark_breaks(
     fast: bool,
     g: Setting,
-    table: &[u32; 8192],
+    table: &[u32],
     n: usize,
-    breaks: &mut [usize; 8192],
-    ratios: &mut [f32; 1024],
-    active: &mut [usize; 1024],
-    marks: &mut [bool; 1024],
+    breaks: &mut [u32],
+    ratios: &mut [f32],
+    active: &mut [u32],
+    marks: &mut [bool],
 )
-    requires { ⌜ Limits g × (1 ≤ n) × (n ≤ 1024) × Wide n (now table) × Lent (tables (now breaks) (now ratios)) (now active) (now marks) ⌝ }
-    ensures { λ _. ⌜ Broken fast g n (now (table .entry)) (now (breaks .exit)) (now (ratios .exit)) (now (active .exit)) (now (marks .exit)) ⌝ }
+    requires { ⌜ Limits g × (1 ≤ n) × (n ≤ cond fast (length (now marks)) (length (now ratios))) × Holds n (now table) × AllWide n (now table) × Scratch (now table) (now breaks) (now ratios) (now active) (now marks) ⌝ }
+    ensures { λ _. ⌜ Broken fast g n (now (table .entry)) (now (marks .exit)) ⌝ }
 {
     if fast {
         quick::quick_breaks(table, n, g, marks);
@@ -353,6 +567,15 @@ fn layout_of(o: Options, p: Paragraph) -> Layout
         first,
         indent,
     }
+}
+
+fn pick(first: bool, a: usize, b: usize) -> usize
+    ensures { λ r. ⌜ r ≡ cond first a b ⌝ }
+{
+    if first {
+        return a;
+    }
+    b
 }
 
 fn either(a: bool, b: bool) -> bool

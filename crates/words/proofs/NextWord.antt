@@ -17,15 +17,19 @@ use Rattle.records.specs.Word.{meaning}
 use Rattle.records.specs.Contracts.Table.{beforeNumber, Small, Within}
 use Rattle.records.specs.declared.Word.{Word as Record}
 use Rattle.records.specs.declared.Before.the-variants.{Absent}
-use Rattle.words.specs.Words.{Run, isInk, runOf, bytesOf, widthSum, Gap, noGap, gapOf, hasTab, punctAtEnd, wideGap, wordOf, mailWord}
+use Rattle.words.specs.Words.{Run, isInk, runOf, runs, bytesOf, widthSum, Gap, noGap, gapOf, hasTab, punctAtEnd, wideGap, wordOf, mailWord}
+use Rattle.words.specs.Contracts.Places.{endsFrom}
 use Rattle.words.specs.Contracts.Scan.{gapIn, OverBlanks, OverInk, wordAt, mailAt, wordsFrom, NextWord}
 use Rattle.words.specs.declared.Blanks.{Blanks}
 use Rattle.words.specs.declared.Ink.{Ink}
-use Rattle.words.proofs.WordRuns.{run-bytes, words-none, wordFor, words-one}
+use Rattle.words.proofs.WordRuns.{run-bytes, words-none, ends-none, wordFor, words-one, ends-one}
 
 module _ (o : Opts) (s : List ℕ) (at : ℕ) (b : Blanks) (over : OverBlanks (o .glue) (o .tab) s at b) where
   pub next-none : (mail newLine previous : Bool) → length s ≤ b .end → wordsFrom o mail newLine previous (glyphs (o .glue) (drop at s)) ≡ []
   next-none mail newLine previous h = words-none o mail newLine previous _ (sym (over .rest) ∙ glyphs-past (o .glue) s (b .end) h)
+
+  pub ends-past : length s ≤ b .end → endsFrom at (runs (glyphs (o .glue) (drop at s))) ≡ []
+  ends-past h = ends-none at _ (sym (over .rest) ∙ glyphs-past (o .glue) s (b .end) h)
 
   module _ (w : Ink) (ink : OverInk (o .glue) s (b .end) w) (more : b .end < length s) where
     rest : List Glyph
@@ -64,6 +68,10 @@ module _ (o : Opts) (s : List ℕ) (at : ℕ) (b : Blanks) (over : OverBlanks (o
     unfolding run
     onward mail newLine previous r m e =
         rw (m, e, ink .punct, ink .rest, over .rest) (words-one _ starts o mail newLine previous)
+
+    -- and it ends where the record says
+    ended : endsFrom at (runs (glyphs (o .glue) (drop at s))) ≡ w .end ∷ endsFrom (w .end) (runs (glyphs (o .glue) (drop (w .end) s)))
+    ended = rw (ink .rest, over .rest) (ends-one _ starts at (w .end) (ink .end ∙ ap₂ (λ (n : ℕ) (gs : List Glyph). n + extent (while isInk gs)) (over .end) (over .rest)))
 
     -- in mail
     mail-means : (newLine previous : Bool) → meaning s (mailAt (b .end) (w .end)) ≡ wordFor o true newLine previous run
@@ -113,6 +121,7 @@ module _ (o : Opts) (s : List ℕ) (at : ℕ) (b : Blanks) (over : OverBlanks (o
     unfolding wordsFrom
     next-mail newLine previous = let e = ends in record {
       first = onward true newLine previous (mailAt (b .end) (w .end)) (mail-means newLine previous) refl;
+      ends = ended;
       within = record { gap = omega arith; text = omega arith; end = ink .within };
       on = omega (arith, over .end);
       some = omega arith;
@@ -124,6 +133,7 @@ module _ (o : Opts) (s : List ℕ) (at : ℕ) (b : Blanks) (over : OverBlanks (o
     pub next-line : (newLine previous : Bool) → NextWord o false newLine previous s at (wordAt (o .uniform) newLine previous at b w)
     next-line newLine previous = let e = ends in record {
       first = onward false newLine previous (wordAt (o .uniform) newLine previous at b w) (line-means newLine previous) refl;
+      ends = ended;
       within = pick-within (o .uniform);
       on = omega (arith, over .end);
       some = omega (arith, ink .some);

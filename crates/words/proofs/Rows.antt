@@ -18,8 +18,8 @@ use Rattle.lines.proofs.Lines.{LineHere, lines-past, line-here}
 use Rattle.pieces.specs.Pieces.{Row}
 use Rattle.pieces.specs.Contracts.Bounds.{GlyphBegins, AllBegin}
 use Rattle.records.specs.Word.{Word}
-use Rattle.words.specs.Words.{Run, wordOf, lineWords, rowWords}
-use Rattle.words.specs.Contracts.Places.{rowsAt, wordsAt}
+use Rattle.words.specs.Words.{Run, runs, wordOf, lineWords, rowWords}
+use Rattle.words.specs.Contracts.Places.{rowsAt, wordsAt, endsFrom, endsAt}
 use Rattle.words.specs.Contracts.Scan.{wordsFrom}
 use Rattle.words.specs.Contracts.Split.{WordsFilled, Split}
 use Rattle.words.specs.declared.Count.{Count}
@@ -58,9 +58,18 @@ module _ (o : Opts) (mail : Bool) (start later : ℕ) where
   unfolding wordsAt rowsAt joined
   rows-none = refl
 
+  pub ends-nil : (glue : Bool) (at : ℕ) → endsAt glue mail at start later [] ≡ []
+  unfolding endsAt
+  ends-nil glue at = refl
+
   rows-first : (l : Line) (ls : List Line) → wordsAt o mail start later (l ∷ ls) ≡ rowWords o mail (record { text = l .text; start = start }) ++ wordsAt o mail later later ls
   unfolding wordsAt rowsAt joined
   rows-first l ls = refl
+
+ends-first : (glue mail : Bool) (at start later : ℕ) (l : Line) (ls : List Line) → endsAt glue mail at start later (l ∷ ls)
+    ≡ endsFrom (at + cond mail 0 start) (runs (glyphs glue (drop (cond mail 0 start) (l .text)))) ++ endsAt glue mail (at + length (l .raw)) later later ls
+unfolding endsAt
+ends-first glue mail at start later l ls = refl
 
 begin-first : (glue : Bool) (start later : ℕ) (l : Line) (ls : List Line) → AllBegin glue start later (l ∷ ls) → GlyphBegins glue start (l .text) × AllBegin glue later later ls
 unfolding AllBegin
@@ -81,6 +90,8 @@ pub record LineAt (o : Opts) (mail : Bool) (skip later : ℕ) (notes : List ℕ)
   pub begins : cond mail 0 skip ≤ e .text
   pub words : wordsAt o mail skip later (linesOf (slice i next notes))
       ≡ wordsFrom o mail true false (glyphs (o .glue) (slice (i + cond mail 0 skip) (i + e .text) notes)) ++ wordsAt o mail later later (linesOf (slice (i + e .whole) next notes))
+  pub ends : endsAt (o .glue) mail i skip later (linesOf (slice i next notes))
+      ≡ endsFrom (i + cond mail 0 skip) (runs (glyphs (o .glue) (slice (i + cond mail 0 skip) (i + e .text) notes))) ++ endsAt (o .glue) mail (i + e .whole) later later (linesOf (slice (i + e .whole) next notes))
   pub rest : mail ≡ false → AllBegin (o .glue) later later (linesOf (slice (i + e .whole) next notes))
 
 module _ (o : Opts) (mail : Bool) (skip later : ℕ) (notes : List ℕ) (next i : ℕ) (e : Extent) where
@@ -94,6 +105,7 @@ module _ (o : Opts) (mail : Bool) (skip later : ℕ) (notes : List ℕ) (next i 
     starts = starts;
     begins = low mail starts;
     words = rw (here .first, rows-first o mail skip later, row-words o mail (line .text) skip (λ m. begin m .0), text, drop-drop (cond mail 0 skip) i (take (i + e .text) notes));
+    ends = rw (here .first, ends-first (o .glue) mail i skip later, text, drop-drop (cond mail 0 skip) i (take (i + e .text) notes), size);
     rest = λ m. begin m .1;
   }
     where
@@ -110,6 +122,9 @@ module _ (o : Opts) (mail : Bool) (skip later : ℕ) (notes : List ℕ) (next i 
       line : Line
       line = firstLine (slice i next notes)
 
+      size : length (line .raw) ≡ e .whole
+      size = rw (here .raw, length-slice i (i + e .whole) (take next notes) (here .within)) (omega arith)
+
       begin : mail ≡ false → GlyphBegins (o .glue) skip (line .text) × AllBegin (o .glue) later later (linesOf (slice (i + e .whole) next notes))
       begin m = begin-first (o .glue) skip later line _ (rw (here .first) at (begins m))
 
@@ -125,7 +140,10 @@ module _ (o : Opts) (mail : Bool) (skip later : ℕ) (notes : List ℕ) (next i 
 pub lines-end : (o : Opts) (mail : Bool) (skip later : ℕ) (notes : List ℕ) (next i : ℕ) → next ≤ i → wordsAt o mail skip later (linesOf (slice i next notes)) ≡ []
 lines-end o mail skip later notes next i h = rw (lines-past (take next notes) i (rw length-take (omega arith))) (rows-none o mail skip later)
 
+pub ends-end : (o : Opts) (mail : Bool) (skip later : ℕ) (notes : List ℕ) (next i : ℕ) → next ≤ i → endsAt (o .glue) mail i skip later (linesOf (slice i next notes)) ≡ []
+ends-end o mail skip later notes next i h = rw (lines-past (take next notes) i (rw length-take (omega arith))) (ends-nil o mail skip later (o .glue) i)
+
 -- so the table filled answers for every block
-pub filled-words : (notes t : List ℕ) (r : Count) (o : Options) (mail : Bool) (start later : ℕ) (ls : List Line) → WordsFilled notes (wordsAt (meant [] o) mail start later ls) t r
-    → (block : List ℕ) → Split notes (wordsAt (meant block o) mail start later ls) t r
-filled-words notes t r o mail start later ls f block = rw (words-same o block mail start later ls) at (filled-split notes (wordsAt (meant [] o) mail start later ls) t r f)
+pub filled-words : (most : ℕ) (notes t es : List ℕ) (r : Count) (o : Options) (mail : Bool) (start later : ℕ) (ls : List Line) → WordsFilled most notes (wordsAt (meant [] o) mail start later ls) es t r
+    → (block : List ℕ) → Split most notes (wordsAt (meant block o) mail start later ls) es t r
+filled-words most notes t es r o mail start later ls f block = rw (words-same o block mail start later ls) at (filled-split most notes (wordsAt (meant [] o) mail start later ls) es t r f)

@@ -17,6 +17,7 @@ use Rattle.text.proofs.Glyphs.{glyphs-joined}
 use Rattle.options.specs.Opts.{Opts}
 use Rattle.records.specs.Word.{Word}
 use Rattle.words.specs.Words.{Run, isInk, runOf, runs, glyphBytes, bytesOf, punctAtEnd, wordOf, lineWords, mailWord, mailWords}
+use Rattle.words.specs.Contracts.Places.{endsFrom}
 use Rattle.words.specs.Contracts.Scan.{wordsFrom}
 
 -- ---- bytes
@@ -76,6 +77,28 @@ words-none o false newLine previous [] e = rw runs-none (no-runs o newLine previ
 words-none o true newLine previous (g ∷ gs) e = rw (runs-step (g ∷ gs) (omega arith)) (text-none o newLine previous (runOf (g ∷ gs)) _ (rw e) .0)
 words-none o false newLine previous (g ∷ gs) e = rw (runs-step (g ∷ gs) (omega arith)) (text-none o newLine previous (runOf (g ∷ gs)) _ (rw e) .1)
 
+-- and end nowhere
+ends-empty : (at : ℕ) → endsFrom at [] ≡ []
+unfolding endsFrom
+ends-empty at = refl
+
+ends-text-none : (at : ℕ) (r : Run) (rs : List Run) → r .text ≡ [] → endsFrom at (r ∷ rs) ≡ []
+unfolding endsFrom
+ends-text-none at r rs e = rw e
+
+pub ends-none : (at : ℕ) (gs : List Glyph) → behind isBlank gs ≡ [] → endsFrom at (runs gs) ≡ []
+unfolding runOf while
+ends-none at [] e = rw runs-none (ends-empty at)
+ends-none at (g ∷ gs) e = rw (runs-step (g ∷ gs) (omega arith)) (ends-text-none at (runOf (g ∷ gs)) _ (rw e))
+
+ends-text-some : (at end : ℕ) (r : Run) (rs : List Run) {g : Glyph} {gs : List Glyph} → r .text ≡ g ∷ gs → end ≡ at + extent (r .blanks) + extent (r .text) → endsFrom at (r ∷ rs) ≡ end ∷ endsFrom end rs
+unfolding endsFrom
+ends-text-some at end r rs e q = rw q (pick (r .text) e _)
+  where
+    pick : (t : List Glyph) {h : Glyph} {hs : List Glyph} → t ≡ h ∷ hs → (ns : List ℕ) → elim t as (λ t. List ℕ) [ [] ↦ [] | x ∷ (xs → y) ↦ ns ] ≡ ns
+    pick [] z ns = absurd (let k : _≡_ {A = ℕ} 0 1 = cc in omega arith)
+    pick (x ∷ t) z ns = refl
+
 -- a word
 unfoldable pub wordFor : Opts → Bool → Bool → Bool → Run → Word
 wordFor o true newLine previous r = mailWord r
@@ -95,6 +118,10 @@ module _ (gs : List Glyph) {g : Glyph} {rest : List Glyph} (some : behind isBlan
       sym (drop-drop (length (while isInk (behind isBlank gs))) (length (while isBlank gs)) gs)
       ∙ ap (drop (length (while isInk (behind isBlank gs)))) (drop-while isBlank gs) ∙ drop-while isInk (behind isBlank gs) in
       runs-step gs h ∙ ap (λ (l : List Glyph). runOf gs ∷ runs l) (rw e d)
+
+  pub ends-one : (at end : ℕ) → end ≡ at + extent (while isBlank gs) + extent (while isInk (behind isBlank gs)) → endsFrom at (runs gs) ≡ end ∷ endsFrom end (runs (behind isInk (behind isBlank gs)))
+  unfolding runOf
+  ends-one at end e = rw runs-first (ends-text-some at end (runOf gs) _ text-is e)
 
   pub words-one : (o : Opts) (mail newLine previous : Bool)
       → wordsFrom o mail newLine previous gs ≡ wordFor o mail newLine previous (runOf gs) ∷ wordsFrom o mail false (punctAtEnd (while isInk (behind isBlank gs))) (behind isInk (behind isBlank gs))

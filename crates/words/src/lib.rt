@@ -10,17 +10,17 @@ ghost use Rattle.text.specs.Characters.{glyphs};
 ghost use Rattle.options.specs.Opts.{meant};
 ghost use Rattle.lines.specs.Lines.{linesOf};
 ghost use Rattle.pieces.specs.Contracts.Bounds.{AllBegin};
-ghost use Rattle.records.specs.Contracts.Table.{wordsIn};
-ghost use Rattle.words.specs.Words.{hasTab};
-ghost use Rattle.words.specs.Contracts.Places.{wordsAt};
+ghost use Rattle.records.specs.Contracts.Table.{Holds, wordsIn};
+ghost use Rattle.words.specs.Words.{hasTab, runs};
+ghost use Rattle.words.specs.Contracts.Places.{wordsAt, endsFrom, endsAt};
 ghost use Rattle.words.specs.Contracts.Scan.{gapIn, gapBehind, punctCode, OverBlanks, OverInk, asNumber, eightAt, Plain, OverPlain, OneSpace, wordAt, mailAt, wordsFrom, NextIs};
-ghost use Rattle.words.specs.Contracts.Split.{Kept, WordsFilled, Split};
+ghost use Rattle.words.specs.Contracts.Split.{Kept, endsIn, WordsFilled, Split};
 use options::Options;
 use records::Before;
 use records::Word;
 use text::Glyph;
 
-// How many words a paragraph has, or that there are over 1,024.
+// How many words a paragraph has, or that there are more than so many.
 pub enum Count {
     Words(usize),
     TooMany,
@@ -47,7 +47,8 @@ enum Next {
 }
 
 // The words of a paragraph's lines, which stand in the notes from at up to next: the words of the first line begin at start, those of
-// the others at later. What the table holds behind the words is scratch, and all of it if there are too many.
+// the others at later. At most so many words are wanted, for which the table has room. What it holds behind the words is scratch, and
+// all of it if there are too many.
 pub fn split_words(
     notes: &[u8],
     at: usize,
@@ -56,10 +57,11 @@ pub fn split_words(
     start: usize,
     later: usize,
     o: Options,
-    table: &mut [u32; 8192],
+    most: usize,
+    table: &mut [u32],
 ) -> Count
-    requires { ⌜ (at ≤ next) × (next ≤ length (now notes)) × (length (now notes) ≤ 65536) × (1 ≤ o .tab) × (o .tab ≤ 100) × (length (now table) ≡ 8192) × (mail ≡ false → AllBegin (o .glue) start later (linesOf (slice at next (now notes)))) ⌝ }
-    ensures { λ r. ⌜ ((block : List ℕ) → Split (now (notes .entry)) (wordsAt (meant block o) mail start later (linesOf (slice at next (now (notes .entry))))) (now (table .exit)) r) ⌝ }
+    requires { ⌜ (at ≤ next) × (next ≤ length (now notes)) × (length (now notes) ≤ 65536) × (1 ≤ o .tab) × (o .tab ≤ 100) × Holds most (now table) × (mail ≡ false → AllBegin (o .glue) start later (linesOf (slice at next (now notes)))) ⌝ }
+    ensures { λ r. ⌜ ((block : List ℕ) → Split most (now (notes .entry)) (wordsAt (meant block o) mail start later (linesOf (slice at next (now (notes .entry))))) (endsAt (o .glue) mail at start later (linesOf (slice at next (now (notes .entry))))) (now (table .exit)) r) ⌝ }
 {
     let part = &notes[..next];
     let mut i = at;
@@ -68,7 +70,7 @@ pub fn split_words(
     while i < next {
         let line = lines::first_line(&part[i..]);
         let from = begin(mail, i, skip);
-        let Count::Words(m) = split_line(notes, from, i + line.text, mail, o, n, table) else {
+        let Count::Words(m) = split_line(notes, from, i + line.text, mail, o, n, most, table) else {
             return Count::TooMany;
         };
         n = m;
@@ -94,10 +96,11 @@ fn split_line(
     mail: bool,
     o: Options,
     n: usize,
-    table: &mut [u32; 8192],
+    most: usize,
+    table: &mut [u32],
 ) -> Count
-    requires { ⌜ (start ≤ end) × (end ≤ length (now notes)) × (length (now notes) ≤ 65536) × (1 ≤ o .tab) × (o .tab ≤ 100) × Kept (length (now notes)) n (now table) ⌝ }
-    ensures { λ r. ⌜ WordsFilled (now (notes .entry)) (wordsIn (now (notes .entry)) n (now (table .entry)) ++ wordsFrom (meant [] o) mail true false (glyphs (o .glue) (slice start end (now (notes .entry))))) (now (table .exit)) r ⌝ }
+    requires { ⌜ (start ≤ end) × (end ≤ length (now notes)) × (length (now notes) ≤ 65536) × (1 ≤ o .tab) × (o .tab ≤ 100) × Kept most (length (now notes)) n (now table) ⌝ }
+    ensures { λ r. ⌜ WordsFilled most (now (notes .entry)) (wordsIn (now (notes .entry)) n (now (table .entry)) ++ wordsFrom (meant [] o) mail true false (glyphs (o .glue) (slice start end (now (notes .entry))))) (endsIn n (now (table .entry)) ++ endsFrom start (runs (glyphs (o .glue) (slice start end (now (notes .entry)))))) (now (table .exit)) r ⌝ }
 {
     let s = &notes[..end];
     let mut count = n;
@@ -108,7 +111,7 @@ fn split_line(
         let Next::One(w) = next_word(s, at, mail, first, previous, o) else {
             return Count::Words(count);
         };
-        if 1024 <= count {
+        if most <= count {
             return Count::TooMany;
         }
         records::store(table, count, w);

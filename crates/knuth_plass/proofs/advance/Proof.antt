@@ -7,6 +7,7 @@ use borrow.Author.Needs.{needs}
 use Rattle.knuth_plass.specs.KnuthPlass.{reduced}
 use Rattle.knuth_plass.specs.Contracts.Table.{tables}
 use Rattle.knuth_plass.specs.Contracts.Round.{lessened, breaksListed, Fit, RoundGoes}
+use Rattle.knuth_plass.proofs.Table.{has-room}
 use Rattle.knuth_plass.proofs.Over.{answer, first-room, fit-first, goes-first, fit-end, done}
 use Rattle.knuth_plass.proofs.advance.Statement.{statement}
 use Rattle.knuth_plass.proofs.advance.Tie as tie
@@ -20,32 +21,41 @@ Inv-loop g turn st breaks₀ ratios active₀ first s₀ count k₀ breaks activ
 abbrev μ-loop : tie.MeasureT-loop
 μ-loop g turn st breaks₀ ratios active₀ first s₀ count k₀ breaks active s k = st .count - k
 
-element-copy-out-first : tie.Need-element-copy-out-first Inv-loop μ-loop
-element-copy-out-first c = search needs
+slice-read-first : tie.Need-slice-read-first Inv-loop μ-loop
+slice-read-first c = let p = c .before .before .before .before .pre in omega (arith, p .2, p .3 .some, p .3 .room, p .3 .few, p .3 .active)
+
+cast-first : tie.Need-cast-first Inv-loop μ-loop
+cast-first c = let a = c .before .before .before .before .args in let p = c .before .before .before .before .pre in omega (arith, first-room (a .g) (a .turn) (a .st) (tables (a .breaks .now) (a .ratios .now)) (a .active .now) (p .2) (p .3), p .3 .filled .sized .few)
 
 get-break-requires : tie.Need-get-break-requires Inv-loop μ-loop
-get-break-requires c κs = first-room (c .before .before .args .g) _ _ _ _ (c .before .before .pre .1) (c .before .before .pre .2)
+get-break-requires c κs = let a = c .before .before .before .before .before .args in let p = c .before .before .before .before .before .pre in has-room (tables (a .breaks .now) (a .ratios .now)) _ (p .3 .filled .sized) (first-room (a .g) (a .turn) (a .st) (tables (a .breaks .now) (a .ratios .now)) (a .active .now) (p .2) (p .3))
 
 lessened-requires : tie.Need-lessened-requires Inv-loop μ-loop
 lessened-requires c κs = search needs
 
 loop-holds : tie.Need-loop-holds Inv-loop μ-loop
 loop-holds c =
-    let p = c .before .before .before .before .pre in
-    let is = c .lessened .ensures ∙ ap (lessened (c .before .before .before .before .args .st .reduction)) (c .before .get-break .ensures) in
-    (fit-first (c .before .before .before .before .args .g) _ _ _ _ (p .1) (p .2) _ _ is, goes-first (c .before .before .before .before .args .g) _ _ _ _ (p .1) (p .2) _ _ is)
+    let p = c .before .before .before .before .before .before .before .pre in
+    let is = c .lessened .ensures ∙ ap (lessened (c .before .before .before .before .before .before .before .args .st .reduction)) (c .before .get-break .ensures) in
+    (fit-first (c .before .before .before .before .before .before .before .args .g) _ _ _ _ (p .2) (p .3) _ _ is, goes-first (c .before .before .before .before .before .before .before .args .g) _ _ _ _ (p .2) (p .3) _ _ is)
 
 visit-requires : tie.Need-visit-requires Inv-loop μ-loop
-visit-requires c κs = (c .before .before .before .before .before .before .before .before .pre .0, c .before .before .before .before .before .before .before .before .pre .1, c .before .before .before .loop .inv .0, c .before .before .loop-test .taken)
+visit-requires c κs = (c .before .before .before .before .before .before .before .before .before .before .before .pre .0, c .before .before .before .before .before .before .before .before .before .before .before .pre .1, c .before .before .before .loop .inv .0, c .before .before .loop-test .taken)
 
 add-k : tie.Need-add-k Inv-loop μ-loop
-add-k c = let h = c .before .before .before .before .before .before .before .before .before .pre in let f = c .before .before .before .before .loop .inv .0 .room in let e = c .before .before .before .before .loop .inv .0 .few in let w = h .1 .few in omega arith
+add-k c = let h = c .before .before .before .before .before .before .before .before .before .before .before .before .before .before .before .before .pre in let f = c .before .before .before .before .before .before .before .before .loop .inv .0 .room in let e = c .before .before .before .before .before .before .before .before .loop .inv .0 .few in let w = h .1 .few in omega arith
 
 loop-less : tie.Need-loop-less Inv-loop μ-loop
 loop-less c = omega arith
 
 loop-again : tie.Need-loop-again Inv-loop μ-loop
-loop-again c = (c .visit .ensures .0, λ notes. c .visit .ensures .1 _ (c .before .before .before .before .loop .inv .1 notes))
+loop-again c = (c .before .before .before .before .visit .ensures .0, λ notes. c .before .before .before .before .visit .ensures .1 _ (c .before .before .before .before .before .before .before .before .loop .inv .1 notes))
+
+same-length : tie.Need-same-length Inv-loop μ-loop
+same-length c = let v = c .before .loop .inv .0 in let p = c .before .before .before .before .before .before .before .before .before .pre .3 in omega (arith, v .filled .sized .numbers, p .filled .sized .numbers)
+
+same-length-2 : tie.Need-same-length-2 Inv-loop μ-loop
+same-length-2 c = let v = c .before .loop .inv .0 in let p = c .before .before .before .before .before .before .before .before .before .pre .3 in omega (arith, v .active, p .active)
 
 returns : tie.Need-returns Inv-loop μ-loop
 returns c =
@@ -58,7 +68,8 @@ advance-spec =
     (tie.spec
     Inv-loop
     μ-loop
-    element-copy-out-first
+    slice-read-first
+    cast-first
     get-break-requires
     lessened-requires
     loop-holds
@@ -66,4 +77,6 @@ advance-spec =
     add-k
     loop-less
     loop-again
+    same-length
+    same-length-2
     returns)

@@ -22,8 +22,8 @@ wide-requires c κs = search needs
 mul-t10 : tie.Need-mul-t10
 mul-t10 c = search needs
 
-element-copy-out-t13 : tie.Need-element-copy-out-t13
-element-copy-out-t13 c = search needs
+shared-slice-read-t12 : tie.Need-shared-slice-read-t12
+shared-slice-read-t12 c = search needs
 
 number-requires-5 : tie.Need-number-requires-5
 number-requires-5 c κs = search needs
@@ -45,7 +45,7 @@ get-break-spec =
     number-requires-4
     wide-requires
     mul-t10
-    element-copy-out-t13
+    shared-slice-read-t12
     number-requires-5
     number-requires-6
     returns)

@@ -7,7 +7,9 @@ use lib.Seq.{slice}
 use Rattle.knuth_plass.specs.KnuthPlass.{leastFrom, least as leastOf}
 use Rattle.knuth_plass.specs.Contracts.Table.{tables, breakMeant}
 use Rattle.knuth_plass.specs.Contracts.Round.{breaksListed}
+use Rattle.knuth_plass.proofs.Table.{has-room}
 use Rattle.knuth_plass.proofs.Lowest.{active-below, least-begins, least-goes, least-found}
+use borrow.Author.Needs.{needs}
 use Rattle.knuth_plass.proofs.least.Statement.{statement}
 use Rattle.knuth_plass.proofs.least.Tie as tie
 
@@ -19,23 +21,33 @@ Inv-loop breaks ratios active st found₀ k₀ found k =
 abbrev μ-loop : tie.MeasureT-loop
 μ-loop breaks ratios active st found₀ k₀ found k = st .count - k
 
-element-copy-out-found : tie.Need-element-copy-out-found Inv-loop μ-loop
-element-copy-out-found c = omega arith
+shared-slice-read-found : tie.Need-shared-slice-read-found Inv-loop μ-loop
+shared-slice-read-found c = let p = c .before .before .before .before .pre in omega (arith, p .size, p .some, p .room, p .active)
+
+cast-found : tie.Need-cast-found Inv-loop μ-loop
+cast-found c = let a = c .before .before .before .before .args in let p = c .before .before .before .before .pre in omega (arith, active-below (a .st) (tables (a .breaks .now) (a .ratios .now)) (a .active .now) p 0 (p .some), p .size, p .sized .few)
 
 loop-holds : tie.Need-loop-holds Inv-loop μ-loop
-loop-holds c = let h = c .before .pre .some in (omega arith, active-below (c .before .args .st) (tables (c .before .args .breaks .now) (c .before .args .ratios .now)) (c .before .args .active .now) (c .before .pre) 0 h, least-begins (c .before .args .st) (tables (c .before .args .breaks .now) (c .before .args .ratios .now)) (c .before .args .active .now) (c .before .pre))
+loop-holds c = let h = c .before .before .before .before .pre .some in (omega arith, active-below (c .before .before .before .before .args .st) (tables (c .before .before .before .before .args .breaks .now) (c .before .before .before .before .args .ratios .now)) (c .before .before .before .before .args .active .now) (c .before .before .before .before .pre) 0 h, least-begins (c .before .before .before .before .args .st) (tables (c .before .before .before .before .args .breaks .now) (c .before .before .before .before .args .ratios .now)) (c .before .before .before .before .args .active .now) (c .before .before .before .before .pre))
 
 mul-n : tie.Need-mul-n Inv-loop μ-loop
-mul-n c = let r = c .before .before .before .before .pre in omega arith
+mul-n c = let p = c .before .before .before .before .before .before .before .pre in omega (arith, c .if1 .taken, p .size, p .room, p .sized .few)
 
-element-copy-out-n : tie.Need-element-copy-out-n Inv-loop μ-loop
-element-copy-out-n c = let r = c .before .before .before .before .pre in omega arith
+shared-slice-read-n : tie.Need-shared-slice-read-n Inv-loop μ-loop
+shared-slice-read-n c = let p = c .before .before .before .before .before .before .before .before .pre in omega (arith, c .before .if1 .taken, p .size, p .room, p .active)
+
+cast-n : tie.Need-cast-n Inv-loop μ-loop
+cast-n c = let a = c .before .before .before .before .before .before .before .before .args in let p = c .before .before .before .before .before .before .before .before .pre in omega (arith, active-below (a .st) (tables (a .breaks .now) (a .ratios .now)) (a .active .now) p (c .before .before .before .loop .k) (c .before .if1 .taken), p .size, p .sized .few)
 
 lesser-requires : tie.Need-lesser-requires Inv-loop μ-loop
-lesser-requires c κs = let r = c .before .before .before .before .before .pre in let v = c .before .before .before .loop .inv in let w = active-below (c .before .before .before .before .before .args .st) (tables (c .before .before .before .before .before .args .breaks .now) (c .before .before .before .before .before .args .ratios .now)) (c .before .before .before .before .before .args .active .now) (c .before .before .before .before .before .pre) (c .before .before .before .loop .k) (c .before .if1 .taken) in (omega arith, omega arith)
+lesser-requires c κs =
+    let a = c .before .before .before .before .before .before .before .before .args in
+    let p = c .before .before .before .before .before .before .before .before .pre in
+    let t = tables (a .breaks .now) (a .ratios .now) in
+    (has-room t _ (p .sized) (omega (arith, c .before .before .before .loop .inv .1, p .size)), has-room t _ (p .sized) (omega (arith, active-below (a .st) t (a .active .now) p (c .before .before .before .loop .k) (c .before .if1 .taken), p .size)))
 
 add-k : tie.Need-add-k Inv-loop μ-loop
-add-k c = let r = c .before .before .before .before .before .before .pre in omega arith
+add-k c = let p = c .before .before .before .before .before .before .before .before .before .pre in omega (arith, c .before .before .if1 .taken, p .size, p .room, p .sized .few)
 
 loop-less : tie.Need-loop-less Inv-loop μ-loop
 loop-less c = omega arith
@@ -43,11 +55,11 @@ loop-less c = omega arith
 loop-again : tie.Need-loop-again Inv-loop μ-loop
 loop-again c =
     let v = c .before .before .before .before .loop .inv in
-    let g = least-goes (c .before .before .before .before .before .before .args .st) (tables (c .before .before .before .before .before .before .args .breaks .now) (c .before .before .before .before .before .before .args .ratios .now)) (c .before .before .before .before .before .before .args .active .now) (c .before .before .before .before .before .before .pre) (c .before .before .before .before .loop .k) (c .before .before .before .before .loop .found) (c .lesser .result) (c .before .before .if1 .taken) (c .lesser .ensures) (v .1) in
+    let g = least-goes (c .before .before .before .before .before .before .before .before .before .args .st) (tables (c .before .before .before .before .before .before .before .before .before .args .breaks .now) (c .before .before .before .before .before .before .before .before .before .args .ratios .now)) (c .before .before .before .before .before .before .before .before .before .args .active .now) (c .before .before .before .before .before .before .before .before .before .pre) (c .before .before .before .before .loop .k) (c .before .before .before .before .loop .found) (c .lesser .result) (c .before .before .if1 .taken) (c .lesser .ensures) (v .1) in
     (omega arith, g .0, g .1 ∙ v .2)
 
 returns : tie.Need-returns Inv-loop μ-loop
-returns c = let v = c .before .before .loop .inv in least-found (c .before .before .before .before .args .st) (tables (c .before .before .before .before .args .breaks .now) (c .before .before .before .before .args .ratios .now)) (c .before .before .before .before .args .active .now) (c .before .before .before .before .pre) (c .before .before .loop .k) (c .before .before .loop .found) (c .if1 .left) (v .1) (v .2)
+returns c = let v = c .before .before .loop .inv in least-found (c .before .before .before .before .before .before .before .args .st) (tables (c .before .before .before .before .before .before .before .args .breaks .now) (c .before .before .before .before .before .before .before .args .ratios .now)) (c .before .before .before .before .before .before .before .args .active .now) (c .before .before .before .before .before .before .before .pre) (c .before .before .loop .k) (c .before .before .loop .found) (c .if1 .left) (v .1) (v .2)
 
 pub least-spec : {M : Type 1} → statement M
 least-spec =
@@ -55,10 +67,12 @@ least-spec =
     (tie.spec
     Inv-loop
     μ-loop
-    element-copy-out-found
+    shared-slice-read-found
+    cast-found
     loop-holds
     mul-n
-    element-copy-out-n
+    shared-slice-read-n
+    cast-n
     lesser-requires
     add-k
     loop-less

@@ -12,10 +12,16 @@ get-break-requires-2 : tie.Need-get-break-requires-2
 get-break-requires-2 c κs = search needs
 
 returns : tie.Need-returns
-returns c = lesser-second (tables (c .before .before .before .before .before .args .breaks .now) (c .before .before .before .before .before .args .ratios .now)) _ _ _ _ (c .before .before .before .before .get-break .ensures) (c .before .before .before .get-break2 .ensures) (c .if1 .taken)
+returns c = lesser-second (tables (c .before .before .before .before .before .before .before .args .breaks .now) (c .before .before .before .before .before .before .before .args .ratios .now)) _ _ _ _ (c .before .before .before .before .get-break .ensures) (c .before .before .before .get-break2 .ensures) (c .if1 .taken)
 
 returns-2 : tie.Need-returns-2
-returns-2 c = lesser-first (tables (c .before .before .before .before .before .args .breaks .now) (c .before .before .before .before .before .args .ratios .now)) _ _ _ _ (c .before .before .before .before .get-break .ensures) (c .before .before .before .get-break2 .ensures) (c .if1 .left)
+returns-2 c = lesser-first (tables (c .before .before .before .before .before .before .before .args .breaks .now) (c .before .before .before .before .before .before .before .args .ratios .now)) _ _ _ _ (c .before .before .before .before .get-break .ensures) (c .before .before .before .get-break2 .ensures) (c .if1 .left)
 
 pub lesser-spec : {M : Type 1} → statement M
-lesser-spec = tie.close (tie.spec get-break-requires get-break-requires-2 returns returns-2)
+lesser-spec =
+    tie.close
+    (tie.spec
+    get-break-requires
+    get-break-requires-2
+    returns
+    returns-2)

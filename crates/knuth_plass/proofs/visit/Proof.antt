@@ -3,7 +3,9 @@ use mathlib.Core.Path.{ap, _∙_}
 use Prim.Native.Nat.{_<_}
 use Rattle.knuth_plass.specs.Contracts.Table.{tables}
 use Rattle.knuth_plass.specs.Contracts.Round.{lineAt, lessened}
-use Rattle.knuth_plass.proofs.Step.{room, sound, kept-room, fit-drops, goes-drops, keeps, offers, short-fits, short-offers}
+use Rattle.knuth_plass.proofs.Table.{has-room}
+use Rattle.knuth_plass.proofs.Step.{room, sound, keep-room, fit-drops, goes-drops, keeps, offers, short-fits, short-offers}
+use native.Mathlib.Omega.{arith}
 use borrow.Author.Needs.{needs}
 use Rattle.knuth_plass.proofs.visit.Statement.{statement}
 use Rattle.knuth_plass.proofs.visit.Tie as tie
@@ -11,51 +13,64 @@ use Rattle.knuth_plass.proofs.visit.Tie as tie
 mul-n : tie.Need-mul-n
 mul-n c = search needs
 
-element-copy-out-n : tie.Need-element-copy-out-n
-element-copy-out-n c = search needs
+slice-read-n : tie.Need-slice-read-n
+slice-read-n c = let p = c .before .before .before .before .pre in omega (arith, p .3, p .2 .room, p .2 .few, p .2 .holds, p .2 .active)
+
+cast-n : tie.Need-cast-n
+cast-n c = let a = c .before .before .before .before .args in let p = c .before .before .before .before .pre in omega (arith, room (a .g) (a .turn) (a .st) (a .k) (tables (a .breaks .now) (a .ratios .now)) (a .active .now) (a .s) (p .1) (p .2) (p .3), p .2 .filled .sized .few)
 
 get-break-requires : tie.Need-get-break-requires
-get-break-requires c κs = let a = c .before .before .args in let p = c .before .before .pre in room (a .g) (a .turn) (a .st) (a .k) (tables (a .breaks .now) (a .ratios .now)) (a .active .now) (a .s) (p .1) (p .2) (p .3)
+get-break-requires c κs = let a = c .before .before .before .before .before .args in let p = c .before .before .before .before .before .pre in has-room (tables (a .breaks .now) (a .ratios .now)) _ (p .2 .filled .sized) (room (a .g) (a .turn) (a .st) (a .k) (tables (a .breaks .now) (a .ratios .now)) (a .active .now) (a .s) (p .1) (p .2) (p .3))
 
 lessened-requires : tie.Need-lessened-requires
 lessened-requires c κs = search needs
 
 reach-requires : tie.Need-reach-requires
 reach-requires c κs =
-    let a = c .before .before .before .before .args in
-    let p = c .before .before .before .before .pre in
+    let a = c .before .before .before .before .before .before .before .args in
+    let p = c .before .before .before .before .before .before .before .pre in
     (p .0, p .1, rw (c .lessened .ensures, c .before .get-break .ensures) (sound (a .g) (a .turn) (a .st) (a .k) (tables (a .breaks .now) (a .ratios .now)) (a .active .now) (a .s) (p .1) (p .2) (p .3) .columns))
 
 noted-requires : tie.Need-noted-requires
 noted-requires c κs = search needs
 
 sub-if1 : tie.Need-sub-if1
-sub-if1 c = search needs
+sub-if1 c = omega (arith, c .before .before .before .before .before .before .before .before .before .before .before .pre .0 .over)
 
 sub-if1-2 : tie.Need-sub-if1-2
-sub-if1-2 c = search needs
+sub-if1-2 c = omega (arith, c .before .before .before .before .before .before .before .before .before .before .before .before .pre .0 .over, c .before .before .before .before .before .before .before .before .before .before .before .before .pre .0 .twice)
 
 keep-requires : tie.Need-keep-requires
 keep-requires c κs =
-    let a = c .before .before .before .before .before .before .before .before .before .before .before .before .args in
-    let p = c .before .before .before .before .before .before .before .before .before .before .before .before .pre in
-    (room (a .g) (a .turn) (a .st) (a .k) (tables (a .breaks .now) (a .ratios .now)) (a .active .now) (a .s) (p .1) (p .2) (p .3), kept-room (a .g) (a .turn) (a .st) (a .k) (tables (a .breaks .now) (a .ratios .now)) (a .active .now) (a .s) (p .1) (p .2) (p .3) _ _ _ (c .before .before .before .before .before .noted .ensures))
+    let a = c .before .before .before .before .before .before .before .before .before .before .before .before .before .before .before .args in
+    let p = c .before .before .before .before .before .before .before .before .before .before .before .before .before .before .before .pre in
+    let is = c .before .before .before .before .before .before .before .before .lessened .ensures ∙ ap (lessened (a .st .reduction)) (c .before .before .before .before .before .before .before .before .before .get-break .ensures) in
+    keep-room (a .g) (a .turn) (a .st) (a .k) (tables (a .breaks .now) (a .ratios .now)) (a .active .now) (a .s) (p .1) (p .2) (p .3) _ is _ _ (c .before .before .before .before .before .noted .ensures) (p .0) (short-fits (a .g) (a .turn) (a .st) (a .k) (tables (a .breaks .now) (a .ratios .now)) (a .active .now) (a .s) (p .1) (p .2) (p .3) _ is _ (p .0) (c .before .before .if1 .taken))
+
+same-length : tie.Need-same-length
+same-length c = search needs
+
+same-length-2 : tie.Need-same-length-2
+same-length-2 c = search needs
 
 returns : tie.Need-returns
 returns c =
-    let a = c .before .before .before .before .before .before .before .before .before .before .before .before .before .args in
-    let p = c .before .before .before .before .before .before .before .before .before .before .before .before .before .pre in
-    let is = c .before .before .before .before .before .before .before .before .before .lessened .ensures ∙ ap (lessened (a .st .reduction)) (c .before .before .before .before .before .before .before .before .before .before .get-break .ensures) in
-    let line = c .before .before .before .before .before .before .before .before .reach .ensures .0 in
-    let kept = c .keep .ensures in
-    keeps (a .g) (a .turn) (a .st) (a .k) (tables (a .breaks .now) (a .ratios .now)) (a .active .now) (a .s) (p .1) (p .2) (p .3) _ is _ _ (p .0) line _ _ _ _ (c .before .before .before .before .before .before .noted .ensures) (kept .0) (kept .1) (kept .2)
-    (short-fits (a .g) (a .turn) (a .st) (a .k) (tables (a .breaks .now) (a .ratios .now)) (a .active .now) (a .s) (p .1) (p .2) (p .3) _ is _ (p .0) (c .before .before .before .if1 .taken))
-    (short-offers (a .g) (a .turn) (a .st) (a .k) (tables (a .breaks .now) (a .ratios .now)) (a .active .now) (a .s) (p .1) (p .2) (p .3) _ is _ (p .0) line (c .before .before .before .if1 .taken))
+    let a = c .before .before .before .before .before .before .before .before .before .before .before .before .before .before .before .before .before .before .before .before .args in
+    let p = c .before .before .before .before .before .before .before .before .before .before .before .before .before .before .before .before .before .before .before .before .pre in
+    let is = c .before .before .before .before .before .before .before .before .before .before .before .before .before .lessened .ensures ∙ ap (lessened (a .st .reduction)) (c .before .before .before .before .before .before .before .before .before .before .before .before .before .before .get-break .ensures) in
+    let line = c .before .before .before .before .before .before .before .before .before .before .before .before .reach .ensures .0 in
+    let kept = c .before .before .before .before .keep .ensures in
+    keeps (a .g) (a .turn) (a .st) (a .k) (tables (a .breaks .now) (a .ratios .now)) (a .active .now) (a .s) (p .1) (p .2) (p .3) _ is _ _ (p .0) line _ _ _ _ (c .before .before .before .before .before .before .before .before .before .before .noted .ensures) (kept .0) (kept .1) (kept .2)
+    (short-fits (a .g) (a .turn) (a .st) (a .k) (tables (a .breaks .now) (a .ratios .now)) (a .active .now) (a .s) (p .1) (p .2) (p .3) _ is _ (p .0) (c .before .before .before .before .before .before .before .if1 .taken))
+    (short-offers (a .g) (a .turn) (a .st) (a .k) (tables (a .breaks .now) (a .ratios .now)) (a .active .now) (a .s) (p .1) (p .2) (p .3) _ is _ (p .0) line (c .before .before .before .before .before .before .before .if1 .taken))
+
+same-length-3 : tie.Need-same-length-3
+same-length-3 c = search needs
 
 returns-2 : tie.Need-returns-2
 returns-2 c =
-    let a = c .before .before .before .before .before .before .before .before .before .before .before .before .args in
-    let p = c .before .before .before .before .before .before .before .before .before .before .before .before .pre in
+    let a = c .before .before .before .before .before .before .before .before .before .before .before .before .before .before .before .args in
+    let p = c .before .before .before .before .before .before .before .before .before .before .before .before .before .before .before .pre in
     let is = c .before .before .before .before .before .before .before .before .lessened .ensures ∙ ap (lessened (a .st .reduction)) (c .before .before .before .before .before .before .before .before .before .get-break .ensures) in
     let long : a .g .width < lineAt (a .g) (a .turn) (c .before .before .before .before .before .before .before .before .lessened .result) = rw (← c .before .before .before .before .before .before .before .reach .ensures .0) (c .if2 .taken) in
     rw (c .before .before .before .before .before .noted .ensures) (
@@ -65,31 +80,39 @@ returns-2 c =
 
 offered-requires : tie.Need-offered-requires
 offered-requires c κs =
-    let a = c .before .before .before .before .before .before .before .before .before .before .before .before .args in
-    let p = c .before .before .before .before .before .before .before .before .before .before .before .before .pre in
+    let a = c .before .before .before .before .before .before .before .before .before .before .before .before .before .before .before .args in
+    let p = c .before .before .before .before .before .before .before .before .before .before .before .before .before .before .before .pre in
     let is = c .before .before .before .before .before .before .before .before .lessened .ensures ∙ ap (lessened (a .st .reduction)) (c .before .before .before .before .before .before .before .before .before .get-break .ensures) in
     (offers (a .g) (a .turn) (a .st) (a .k) (tables (a .breaks .now) (a .ratios .now)) (a .active .now) (a .s) (p .1) (p .2) (p .3) _ is _ (p .0) (c .before .before .before .before .before .before .before .reach .ensures .0) (c .if2 .left), c .before .before .if1 .left)
 
 keep-requires-2 : tie.Need-keep-requires-2
 keep-requires-2 c κs =
-    let a = c .before .before .before .before .before .before .before .before .before .before .before .before .before .before .before .args in
-    let p = c .before .before .before .before .before .before .before .before .before .before .before .before .before .before .before .pre in
-    (room (a .g) (a .turn) (a .st) (a .k) (tables (a .breaks .now) (a .ratios .now)) (a .active .now) (a .s) (p .1) (p .2) (p .3), kept-room (a .g) (a .turn) (a .st) (a .k) (tables (a .breaks .now) (a .ratios .now)) (a .active .now) (a .s) (p .1) (p .2) (p .3) _ _ _ (c .before .before .before .before .before .before .before .before .noted .ensures))
+    let a = c .before .before .before .before .before .before .before .before .before .before .before .before .before .before .before .before .before .before .args in
+    let p = c .before .before .before .before .before .before .before .before .before .before .before .before .before .before .before .before .before .before .pre in
+    let is = c .before .before .before .before .before .before .before .before .before .before .before .lessened .ensures ∙ ap (lessened (a .st .reduction)) (c .before .before .before .before .before .before .before .before .before .before .before .before .get-break .ensures) in
+    keep-room (a .g) (a .turn) (a .st) (a .k) (tables (a .breaks .now) (a .ratios .now)) (a .active .now) (a .s) (p .1) (p .2) (p .3) _ is _ _ (c .before .before .before .before .before .before .before .before .noted .ensures) (p .0) (c .before .before .before .if2 .left)
+
+same-length-4 : tie.Need-same-length-4
+same-length-4 c = search needs
+
+same-length-5 : tie.Need-same-length-5
+same-length-5 c = search needs
 
 returns-3 : tie.Need-returns-3
 returns-3 c =
-    let a = c .before .before .before .before .before .before .before .before .before .before .before .before .before .before .before .before .args in
-    let p = c .before .before .before .before .before .before .before .before .before .before .before .before .before .before .before .before .pre in
-    let is = c .before .before .before .before .before .before .before .before .before .before .before .before .lessened .ensures ∙ ap (lessened (a .st .reduction)) (c .before .before .before .before .before .before .before .before .before .before .before .before .before .get-break .ensures) in
-    let kept = c .keep2 .ensures in
-    keeps (a .g) (a .turn) (a .st) (a .k) (tables (a .breaks .now) (a .ratios .now)) (a .active .now) (a .s) (p .1) (p .2) (p .3) _ is _ _ (p .0) (c .before .before .before .before .before .before .before .before .before .before .before .reach .ensures .0) _ _ _ _ (c .before .before .before .before .before .before .before .before .before .noted .ensures) (kept .0) (kept .1) (kept .2) (c .before .before .before .before .if2 .left) (c .before .before .before .offered .ensures)
+    let a = c .before .before .before .before .before .before .before .before .before .before .before .before .before .before .before .before .before .before .before .before .before .before .before .args in
+    let p = c .before .before .before .before .before .before .before .before .before .before .before .before .before .before .before .before .before .before .before .before .before .before .before .pre in
+    let is = c .before .before .before .before .before .before .before .before .before .before .before .before .before .before .before .before .lessened .ensures ∙ ap (lessened (a .st .reduction)) (c .before .before .before .before .before .before .before .before .before .before .before .before .before .before .before .before .before .get-break .ensures) in
+    let kept = c .before .before .before .before .keep2 .ensures in
+    keeps (a .g) (a .turn) (a .st) (a .k) (tables (a .breaks .now) (a .ratios .now)) (a .active .now) (a .s) (p .1) (p .2) (p .3) _ is _ _ (p .0) (c .before .before .before .before .before .before .before .before .before .before .before .before .before .before .before .reach .ensures .0) _ _ _ _ (c .before .before .before .before .before .before .before .before .before .before .before .before .before .noted .ensures) (kept .0) (kept .1) (kept .2) (c .before .before .before .before .before .before .before .before .if2 .left) (c .before .before .before .before .before .before .before .offered .ensures)
 
 pub visit-spec : {M : Type 1} → statement M
 visit-spec =
     tie.close
     (tie.spec
     mul-n
-    element-copy-out-n
+    slice-read-n
+    cast-n
     get-break-requires
     lessened-requires
     reach-requires
@@ -97,8 +120,13 @@ visit-spec =
     sub-if1
     sub-if1-2
     keep-requires
+    same-length
+    same-length-2
     returns
+    same-length-3
     returns-2
     offered-requires
     keep-requires-2
+    same-length-4
+    same-length-5
     returns-3)

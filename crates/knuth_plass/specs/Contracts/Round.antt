@@ -31,11 +31,12 @@ pub record Limits (g : Setting) : Type 0 where
   pub wide : g .width ≤ 1000
   pub tab : 1 ≤ g .tab
   pub tabs : g .tab ≤ 100
-  pub first : g .first < 2 ^ 32
-  pub indent : g .indent < 2 ^ 32
+  pub first : g .first < 2 ^ 31
+  pub indent : g .indent < 2 ^ 31
 
 pub record Turns (g : Setting) (turn : Turn) : Type 0 where
   pub some : 1 ≤ turn .word .width
+  pub narrow : turn .word .width < 2 ^ 31
   pub small : Small (turn .word)
   pub space : turn .space ≤ 2
   pub few : turn .number < 1024
@@ -127,7 +128,7 @@ pub record OfferedIs (g : Setting) (turn : Turn) (n : ℕ) (b : Record) (best r 
 -- before a round: count of them, and size records in the tables
 pub record RoundReady (i : ℕ) (st : Standing) (t : Tables) (a : List ℕ) : Type 0 where
   pub filled : Filled i (st .size) t
-  pub active : length a ≡ 1024
+  pub active : length a ≡ length (t .ratios)
   pub few : st .size ≤ i
   pub some : 0 < st .count
   pub room : st .count ≤ st .size
@@ -142,7 +143,8 @@ standing st t a = record { breaks = breaksListed (st .count) t a; reduction = st
 -- in a round: k of them are done, and those that stay are the first of the list
 pub record Fit (turn : Turn) (st : Standing) (k : ℕ) (t : Tables) (a : List ℕ) (s : State) : Type 0 where
   pub filled : Filled (turn .number) (st .size) t
-  pub active : length a ≡ 1024
+  pub active : length a ≡ length (t .ratios)
+  pub holds : turn .number < length (t .ratios)
   pub few : st .size ≤ turn .number
   pub room : st .count ≤ st .size
   pub kept : s .kept ≤ k
@@ -206,9 +208,14 @@ pub record RoundIs (g : Setting) (last sentence : Bool) (i : ℕ) (w : WordRecor
   pub ready : RoundReady (i + 1) r t₁ a₁
   pub is : (notes : List ℕ) → standing r t₁ a₁ ≡ round g last sentence i (meaning notes w) (standing st t a)
 
--- each of n words is at least a column wide
-abbrev pub Wide : ℕ → List ℕ → Type 0
-Wide n table = (i : ℕ) → i < n → 1 ≤ wordIn table i .width
+-- word i is at least a column wide, and not too wide to be added to
+pub record Wide (i : ℕ) (table : List ℕ) : Type 0 where
+  pub some : 1 ≤ wordIn table i .width
+  pub narrow : wordIn table i .width < 2 ^ 31
+
+-- so is each of n words
+abbrev pub AllWide : ℕ → List ℕ → Type 0
+AllWide n table = (i : ℕ) → i < n → Wide i table
 
 -- what the definition's rounds begin with
 unfoldable pub begin : Setting → Word → Active
@@ -217,14 +224,16 @@ begin g w = record { breaks = firstBreak g w ∷ []; reduction = 0 }
 -- after the rounds of n words
 pub record RoundsAre (g : Setting) (n : ℕ) (table : List ℕ) (t : Tables) (a : List ℕ) (r : Standing) : Type 0 where
   pub ready : RoundReady n r t a
+  pub holds : n ≤ length (t .ratios)
   pub is : (notes : List ℕ) → standing r t a ≡ roundsFrom g false 1 (begin g (meaning notes (wordIn table 0))) (drop 1 (wordsIn notes n table))
 
 -- active breaks, by number, of a table of st .size records
-pub record Listed (st : Standing) (a : List ℕ) : Type 0 where
-  pub size : st .size ≤ 1024
+pub record Listed (st : Standing) (t : Tables) (a : List ℕ) : Type 0 where
+  pub sized : Sized t
+  pub size : st .size ≤ length (t .ratios)
   pub some : 0 < st .count
   pub room : st .count ≤ st .size
-  pub active : length a ≡ 1024
+  pub active : length a ≡ length (t .ratios)
   pub ascends : Ascends 0 (st .size) (take (st .count) a)
 
 -- the number of the first least active break
@@ -232,15 +241,15 @@ pub record LeastIs (st : Standing) (t : Tables) (a : List ℕ) (r : ℕ) : Type 
   pub within : r < st .size
   pub is : breakMeant t r ≡ least (breaksListed (st .count) t a)
 
--- the tables that are lent have their length
+-- the tables that are lent have room for the same number of breaks, and marks for no less
 pub record Lent (t : Tables) (a : List ℕ) (marks : List Bool) : Type 0 where
   pub tables : Sized t
-  pub active : length a ≡ 1024
-  pub all : length marks ≡ 1024
+  pub active : length a ≡ length (t .ratios)
+  pub all : length (t .ratios) ≤ length marks
 
 -- the marks are those of the definition, for whatever notes the words stand in, and those that belong to no word are as they were
 pub record BestAre (g : Setting) (n : ℕ) (table : List ℕ) (old : List Bool) (t : Tables) (a : List ℕ) (marks : List Bool) : Type 0 where
   pub breaks : (notes : List ℕ) → breaksIn n marks ≡ bestBreaks g (wordsIn notes n table)
   pub first : (notes : List ℕ) → getD marks 0 false ≡ startsLine 0 (pathOf g (wordsIn notes n table))
   pub beyond : (j : ℕ) → n ≤ j → getD marks j false ≡ getD old j false
-  pub lent : Lent t a marks
+  pub sized : length marks ≡ length old

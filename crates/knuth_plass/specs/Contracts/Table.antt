@@ -1,5 +1,5 @@
--- The break table: 1,024 records of eight numbers each, the last two spare, and their ratios beside them. What a record's path is, and
--- the break of document 01 that a record means.
+-- The break table: records of six numbers each, and their ratios beside them. What a record's path is, and the break of document 01
+-- that a record means.
 use mathlib.Core.Bool.{Bool, false, cond}
 use mathlib.Core.List.{List, [], _∷_}
 use mathlib.Core.Path.{_≡_}
@@ -20,13 +20,19 @@ pub record Tables : Type 0 where
 abbrev pub tables : List ℕ → List Float → Tables
 tables numbers ratios = record { numbers = numbers; ratios = ratios }
 
+-- they have room for the same number of records, which is at most that of a paragraph's words
 pub record Sized (t : Tables) : Type 0 where
-  pub numbers : length (t .numbers) ≡ 8192
-  pub ratios : length (t .ratios) ≡ 1024
+  pub numbers : length (t .numbers) ≡ length (t .ratios) * 6
+  pub few : length (t .ratios) ≤ 1024
+
+-- there is room for record i
+pub record Room (i : ℕ) (t : Tables) : Type 0 where
+  pub numbers : i * 6 + 6 ≤ length (t .numbers)
+  pub ratio : i < length (t .ratios)
 
 -- number j of record i
 abbrev pub breakNumber : List ℕ → ℕ → ℕ → ℕ
-breakNumber numbers i j = getD numbers (i * 8 + j) 0
+breakNumber numbers i j = getD numbers (i * 6 + j) 0
 
 -- record i, put together
 unfoldable pub breakIn : Tables → ℕ → Record
@@ -45,15 +51,27 @@ unfoldable pub breakNumbers : Record → List ℕ
 breakNumbers b = b .previous ∷ b .word ∷ cond (b .before) 1 0 ∷ b .demerits ∷ b .columns ∷ cond (b .fresh) 1 0 ∷ []
 
 unfoldable pub withBreak : Tables → ℕ → Record → Tables
-withBreak t i b = record { numbers = sets (t .numbers) (i * 8) (breakNumbers b); ratios = set (t .ratios) i (b .ratio) }
+withBreak t i b = record { numbers = sets (t .numbers) (i * 6) (breakNumbers b); ratios = set (t .ratios) i (b .ratio) }
 
--- record i with other demerits and a line of x columns that is not fresh
-unfoldable pub withLine : List ℕ → ℕ → ℕ → ℕ → List ℕ
-withLine numbers i d x = sets numbers (i * 8 + 3) (d ∷ x ∷ 0 ∷ [])
+-- six numbers stored one by one
+abbrev pub stored : List ℕ → ℕ → ℕ → ℕ → ℕ → ℕ → ℕ → ℕ → List ℕ
+stored l k a b c d e f = set (set (set (set (set (set l k a) (k + 1) b) (k + 2) c) (k + 3) d) (k + 4) e) (k + 5) f
+
+-- record i with the demerits and the line of b
+unfoldable pub withLine : List ℕ → ℕ → Record → List ℕ
+withLine numbers i b = sets numbers (i * 6 + 3) (b .demerits ∷ b .columns ∷ cond (b .fresh) 1 0 ∷ [])
+
+-- a record whose numbers fit the table
+pub record Fits (b : Record) : Type 0 where
+  pub previous : b .previous < 2 ^ 32
+  pub word : b .word < 2 ^ 32
+  pub demerits : b .demerits < 2 ^ 32
+  pub columns : b .columns < 2 ^ 32
 
 -- record i is b now, and the others are as they were
 pub record Stored (t : Tables) (i : ℕ) (b : Record) (t₁ : Tables) : Type 0 where
   pub sized : Sized t₁
+  pub length : length (t₁ .ratios) ≡ length (t .ratios)
   pub here : breakIn t₁ i ≡ b
   pub others : (j : ℕ) → (j ≡ i → ⊥) → breakIn t₁ j ≡ breakIn t j
 
@@ -81,7 +99,7 @@ breakMeant t i = seen (pathTo t i) (breakIn t i)
 -- what holds of each record before the round of word i: its ratio, its columns, its demerits and its word are bounded
 pub record Sound (i : ℕ) (b : Record) : Type 0 where
   pub ratio : T (within 1 (b .ratio))
-  pub columns : b .columns < 2 ^ 33
+  pub columns : b .columns < 2 ^ 32
   pub demerits : b .demerits ≤ i * mostCost
   pub word : b .word < i
 
@@ -110,6 +128,6 @@ lesserIn t m n = cond (ltb (breakIn t n .demerits) (breakIn t m .demerits)) n m
 
 -- the marks of the first n words say something new, and the others are as they were
 pub record MarkedUpTo (n : ℕ) (old new : List Bool) (says : ℕ → Bool) : Type 0 where
-  pub sized : length new ≡ 1024
+  pub sized : length new ≡ length old
   pub within : (j : ℕ) → j < n → getD new j false ≡ says j
   pub beyond : (j : ℕ) → n ≤ j → getD new j false ≡ getD old j false

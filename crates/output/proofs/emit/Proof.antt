@@ -13,7 +13,7 @@ get-requires c κs = search needs
 
 run-from-requires : tie.Need-run-from-requires
 run-from-requires c κs =
-    let p = c .before .before .before .before .pre .0 in
+    let p = c .before .before .before .before .before .before .pre .0 in
     (p, turn-within p (c .before .get .ensures) (p .some) .end, p .some)
 
 lesser-requires : tie.Need-lesser-requires
@@ -30,16 +30,16 @@ part-put-first-end c = search needs
 
 put-first-requires : tie.Need-put-first-requires
 put-first-requires c κs =
-    let p = c .before .before .before .before .before .before .before .pre .0 in
+    let p = c .before .before .before .before .before .before .before .before .before .pre .0 in
     let r = c .before .before .run-from .ensures in
     (omega (arith, turn-within p (c .before .before .before .before .get .ensures) (p .some) .text, r .order), r .within, p .first, p .small)
 
 add-k : tie.Need-add-k
-add-k c = omega (arith, first-most _ _ _ _ _ (c .before .before .before .before .before .before .before .get .result .start) _ (c .before .before .before .before .before .before .before .before .before .before .pre .0) (c .before .before .before .before .before .run-from .ensures .within) (c .before .before .put-first .ensures))
+add-k c = omega (arith, first-most _ _ _ _ _ (c .before .before .before .before .before .before .before .get .result .start) _ (c .before .before .before .before .before .before .before .before .before .before .before .before .pre .0) (c .before .before .before .before .before .run-from .ensures .within) (c .before .before .put-first .ensures))
 
 emit-rest-requires : tie.Need-emit-rest-requires
 emit-rest-requires c κs =
-    let p = c .before .before .before .before .before .before .before .before .before .before .before .pre in
+    let p = c .before .before .before .before .before .before .before .before .before .before .before .before .before .pre in
     let r = c .before .before .before .before .before .before .run-from .ensures in
     (p .0, r .few, omega (arith, p .1, first-most _ _ _ _ _ (c .before .before .before .before .before .before .before .before .get .result .start) _ (p .0) (r .within) (c .before .before .before .put-first .ensures)))
 
@@ -48,9 +48,9 @@ same-length c = search needs
 
 returns : tie.Need-returns
 returns c =
-    with-most _ _ _ _ (c .before .before .before .before .before .before .before .before .before .before .before .before .before .before .args .l)
+    with-most _ _ _ _ (c .before .before .before .before .before .before .before .before .before .before .before .before .before .before .before .before .args .l)
     (first-wrote
-    (c .before .before .before .before .before .before .before .before .before .before .before .before .before .before .pre .0)
+    (c .before .before .before .before .before .before .before .before .before .before .before .before .before .before .before .before .pre .0)
     (c .before .before .before .before .before .before .before .before .before .before .before .get .ensures)
     (c .before .before .before .before .before .before .before .before .before .run-from .ensures)
     (wrote-part _ _ _ _ _ _ (c .before .before .before .before .before .before .before .before .lesser .ensures) (c .before .before .before .before .before .before .put-first .ensures))

@@ -23,7 +23,7 @@ abbrev μ-loop : tie.MeasureT-loop
 -- what a turn adds
 most : (c : tie.After-slice-known2 Inv-loop μ-loop) → c .before .before .put-word .result ≤ 2 ^ 34
 most c =
-    turn-most (c .before .before .before .before .before .before .before .before .before .before .before .before .before .before .before .pre .0) (c .before .before .before .before .before .before .before .before .get .ensures) (c .before .before .before .before .before .before .before .before .before .if1 .taken) _ _ _ (c .before .before .before .before .before .before .before .added-space .ensures .most) (c .before .before .before .before .before .run-from .ensures .within) (c .before .before .put-word .ensures)
+    turn-most (c .before .before .before .before .before .before .before .before .before .before .before .before .before .before .before .before .before .pre .0) (c .before .before .before .before .before .before .before .before .get .ensures) (c .before .before .before .before .before .before .before .before .before .if1 .taken) _ _ _ (c .before .before .before .before .before .before .before .added-space .ensures .most) (c .before .before .before .before .before .run-from .ensures .within) (c .before .before .put-word .ensures)
 
 loop-holds : tie.Need-loop-holds Inv-loop μ-loop
 loop-holds c = (omega arith, omega arith, refl, left-first _ _ _)
@@ -34,15 +34,15 @@ get-requires c κs = search needs
 added-space-requires : tie.Need-added-space-requires Inv-loop μ-loop
 added-space-requires c κs = search needs
 
-element-copy-out-fresh : tie.Need-element-copy-out-fresh Inv-loop μ-loop
-element-copy-out-fresh c = omega arith
+shared-slice-read-fresh : tie.Need-shared-slice-read-fresh Inv-loop μ-loop
+shared-slice-read-fresh c = omega arith
 
 add-run-from : tie.Need-add-run-from Inv-loop μ-loop
 add-run-from c = omega arith
 
 run-from-requires : tie.Need-run-from-requires Inv-loop μ-loop
 run-from-requires c κs =
-    let p = c .before .before .before .before .before .before .before .before .before .pre .0 in
+    let p = c .before .before .before .before .before .before .before .before .before .before .before .pre .0 in
     (p, turn-within p (c .before .before .get .ensures) (c .before .before .before .if1 .taken) .end, omega arith)
 
 lesser-requires : tie.Need-lesser-requires Inv-loop μ-loop
@@ -59,12 +59,12 @@ part-put-word-end c = omega arith
 
 put-word-requires : tie.Need-put-word-requires Inv-loop μ-loop
 put-word-requires c κs =
-    let p = c .before .before .before .before .before .before .before .before .before .before .before .before .pre .0 in
+    let p = c .before .before .before .before .before .before .before .before .before .before .before .before .before .before .pre .0 in
     let r = c .before .before .run-from .ensures in
     (turn-within p (c .before .before .before .before .before .get .ensures) (c .before .before .before .before .before .before .if1 .taken), p .indent, p .small, c .before .before .before .before .added-space .ensures .most, r .order, r .within)
 
 add-k : tie.Need-add-k Inv-loop μ-loop
-add-k c = omega (arith, most c, c .before .before .before .before .before .before .before .before .before .before .before .loop .inv .1, c .before .before .before .before .before .before .before .before .before .if1 .taken, c .before .before .before .before .before .before .before .before .before .before .before .before .before .before .before .pre .0 .few)
+add-k c = omega (arith, most c, c .before .before .before .before .before .before .before .before .before .before .before .loop .inv .1, c .before .before .before .before .before .before .before .before .before .if1 .taken, c .before .before .before .before .before .before .before .before .before .before .before .before .before .before .before .before .before .pre .0 .few)
 
 loop-less : tie.Need-loop-less Inv-loop μ-loop
 loop-less c = let r = c .before .before .before .before .before .run-from .ensures in omega (arith, r .on, r .few)
@@ -77,7 +77,7 @@ loop-again c =
       r .few,
       omega (arith, r .on),
       wrote-length (wrote-part _ (l .k) _ _ _ _ (c .before .before .before .before .lesser .ensures) (c .before .before .put-word .ensures)) ∙ l .inv .2,
-      turn-left (c .before .before .before .before .before .before .before .before .before .before .before .before .before .before .before .pre .0) (c .before .before .before .before .before .before .before .before .get .ensures) (c .before .before .before .before .before .before .before .before .before .if1 .taken) _ _ (c .before .before .before .before .before .before .before .added-space .ensures .is) r (l .inv .3)
+      turn-left (c .before .before .before .before .before .before .before .before .before .before .before .before .before .before .before .before .before .pre .0) (c .before .before .before .before .before .before .before .before .get .ensures) (c .before .before .before .before .before .before .before .before .before .if1 .taken) _ _ (c .before .before .before .before .before .before .before .added-space .ensures .is) r (l .inv .3)
           (wrote-part _ _ _ _ _ _ (c .before .before .before .before .lesser .ensures) (c .before .before .put-word .ensures)),
     )
 
@@ -120,7 +120,7 @@ emit-rest-spec =
     loop-holds
     get-requires
     added-space-requires
-    element-copy-out-fresh
+    shared-slice-read-fresh
     add-run-from
     run-from-requires
     lesser-requires

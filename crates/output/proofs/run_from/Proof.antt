@@ -14,10 +14,10 @@ abbrev μ-loop : tie.MeasureT-loop
 μ-loop notes table n marks l end punct i r₀ r = n - r .next
 
 loop-holds : tie.Need-loop-holds Inv-loop μ-loop
-loop-holds c = run-first (c .before .pre .1) (c .before .pre .2)
+loop-holds c = run-first (c .before .before .before .pre .1) (c .before .before .before .pre .2)
 
-element-copy-out-if2 : tie.Need-element-copy-out-if2 Inv-loop μ-loop
-element-copy-out-if2 c = search needs
+shared-slice-read-if2 : tie.Need-shared-slice-read-if2 Inv-loop μ-loop
+shared-slice-read-if2 c = search needs
 
 returns : tie.Need-returns Inv-loop μ-loop
 returns c = c .before .before .before .before .loop .inv
@@ -30,20 +30,20 @@ added-space-requires c κs = search needs
 
 apart-requires : tie.Need-apart-requires Inv-loop μ-loop
 apart-requires c κs =
-    let p = c .before .before .before .before .before .before .before .before .pre .0 in
+    let p = c .before .before .before .before .before .before .before .before .before .before .pre .0 in
     (turn-within p (c .before .get .ensures) (c .before .before .before .before .if1 .taken), c .before .before .before .before .before .before .loop .inv .within, p .small, c .added-space .ensures .most)
 
 returns-2 : tie.Need-returns-2 Inv-loop μ-loop
 returns-2 c = c .before .before .before .before .before .before .before .before .loop .inv
 
-add-t18 : tie.Need-add-t18 Inv-loop μ-loop
-add-t18 c = search needs
+add-t17 : tie.Need-add-t17 Inv-loop μ-loop
+add-t17 c = search needs
 
 loop-less : tie.Need-loop-less Inv-loop μ-loop
 loop-less c = search needs
 
 loop-again : tie.Need-loop-again Inv-loop μ-loop
-loop-again c = run-more (c .before .before .before .before .before .before .before .before .before .before .pre .0) (c .before .before .before .before .before .before .before .before .loop .inv) (c .before .before .before .before .before .before .if1 .taken) (c .before .before .before .get .ensures) (c .before .before .added-space .ensures .is) (c .before .before .before .before .if2 .left) (c .before .apart .ensures (c .if3 .left))
+loop-again c = run-more (c .before .before .before .before .before .before .before .before .before .before .before .before .pre .0) (c .before .before .before .before .before .before .before .before .loop .inv) (c .before .before .before .before .before .before .if1 .taken) (c .before .before .before .get .ensures) (c .before .before .added-space .ensures .is) (c .before .before .before .before .if2 .left) (c .before .apart .ensures (c .if3 .left))
 
 returns-3 : tie.Need-returns-3 Inv-loop μ-loop
 returns-3 c = c .before .before .loop .inv
@@ -55,13 +55,13 @@ run-from-spec =
     Inv-loop
     μ-loop
     loop-holds
-    element-copy-out-if2
+    shared-slice-read-if2
     returns
     get-requires
     added-space-requires
     apart-requires
     returns-2
-    add-t18
+    add-t17
     loop-less
     loop-again
     returns-3)

@@ -7,7 +7,7 @@ use lib.ListN.{length, drop, replicate}
 use lib.Seq.{slice}
 use Rattle.pieces.specs.declared.Margin.{Margin}
 use Rattle.records.specs.Word.{Word}
-use Rattle.records.specs.Contracts.Table.{wordsIn, AllWithin}
+use Rattle.records.specs.Contracts.Table.{Holds, wordsIn, AllWithin}
 use Rattle.records.specs.Contracts.Marks.{breaksIn}
 use Rattle.output.specs.declared.Four.{Four}
 use Rattle.output.specs.declared.Layout.{Layout}
@@ -37,7 +37,8 @@ pub record Laid (notes : List ℕ) (table : List ℕ) (n : ℕ) (marks : List Bo
   pub some : 1 ≤ n
   pub few : n ≤ 1024
   pub words : AllWithin (length notes) n table
-  pub marked : length marks ≡ 1024
+  pub held : Holds n table
+  pub marked : n ≤ length marks
   pub first : MarginIn (length notes) (l .first)
   pub indent : MarginIn (length notes) (l .indent)
   pub small : length notes < 2 ^ 32

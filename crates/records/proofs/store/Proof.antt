@@ -41,8 +41,11 @@ cast-put-5 c = search needs
 put-requires : tie.Need-put-requires
 put-requires c κs = search needs
 
+same-length : tie.Need-same-length
+same-length c = search needs
+
 returns : tie.Need-returns
-returns c = c .put .ensures ∙ stored-word _ _ _ _ _ (c .before .before .number-of .ensures) (cc)
+returns c = c .before .before .put .ensures ∙ stored-word _ _ _ _ _ (c .before .before .before .before .number-of .ensures) (cc)
 
 pub store-spec : {M : Type 1} → statement M
 store-spec =
@@ -60,4 +63,5 @@ store-spec =
     number-of-requires
     cast-put-5
     put-requires
+    same-length
     returns)

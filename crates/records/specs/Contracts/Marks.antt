@@ -1,4 +1,4 @@
--- The marks by word, 1,024 of them: mark i says whether a new line starts with word i. The first word's is not read.
+-- The marks by word: mark i says whether a new line starts with word i. The first word's is not read.
 use mathlib.Core.Bool.{Bool}
 use mathlib.Core.List.{List}
 use mathlib.Core.Path.{_≡_}
@@ -14,4 +14,4 @@ breaksIn n marks = slice 1 n marks
 pub record Marked (n : ℕ) (marks breaks marks′ : List Bool) : Type 0 where
   pub is : marks′ ≡ sets marks 1 breaks
   pub says : breaksIn n marks′ ≡ breaks
-  pub sized : length marks′ ≡ 1024
+  pub sized : length marks′ ≡ length marks

@@ -1,10 +1,10 @@
--- The word table: 1,024 records of eight numbers each, the eighth spare. What it holds as records, and as words of the notes.
+-- The word table: records of seven numbers each. What it holds as records, and as words of the notes.
 use mathlib.Core.Bool.{cond}
 use mathlib.Core.List.{List, [], _∷_, _++_, map}
 use mathlib.Core.Path.{_≡_}
 use Prim.Native.Nat.{ℕ, zero, suc, _+_, _-_, _*_, _/_, _%_, _^_, _≤_, _<_}
 use lib.Dec.{eqb}
-use lib.ListN.{getD, set}
+use lib.ListN.{length, getD, set}
 use lib.Seq.{sets}
 use Rattle.records.specs.declared.Before.{Before}
 use Rattle.records.specs.declared.Before.the-variants.{Absent, Count}
@@ -23,9 +23,16 @@ beforeOf n = cond (eqb n 0) Absent (Count (n - 1))
 abbrev pub marksOf : Record → ℕ
 marksOf w = cond (w .first) 1 0 + cond (w .punct) 2 0 + cond (w .sentence) 4 0
 
+-- a table has room for n records, and so for record i
+abbrev pub Holds : ℕ → List ℕ → Type 0
+Holds n t = n * 7 ≤ length t
+
+abbrev pub Room : ℕ → List ℕ → Type 0
+Room i t = i * 7 + 7 ≤ length t
+
 -- number j of record i of a table
 abbrev pub numberIn : List ℕ → ℕ → ℕ → ℕ
-numberIn t i j = getD t (i * 8 + j) 0
+numberIn t i j = getD t (i * 7 + j) 0
 
 -- record i, put together
 unfoldable pub wordIn : List ℕ → ℕ → Record
@@ -46,7 +53,7 @@ unfoldable pub wordNumbers : Record → List ℕ
 wordNumbers w = w .from ∷ w .start ∷ w .end ∷ w .width ∷ beforeNumber (w .before) ∷ w .after ∷ marksOf w ∷ []
 
 unfoldable pub withWord : List ℕ → ℕ → Record → List ℕ
-withWord t i w = sets t (i * 8) (wordNumbers w)
+withWord t i w = sets t (i * 7) (wordNumbers w)
 
 -- seven numbers stored one by one
 abbrev pub stored : List ℕ → ℕ → ℕ → ℕ → ℕ → ℕ → ℕ → ℕ → ℕ → List ℕ

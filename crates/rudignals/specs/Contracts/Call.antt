@@ -1,7 +1,7 @@
 -- What the functions of the call answer for: the pieces from a place of the notes on, what has become of them and of the output, and
 -- the code's answer.
 use mathlib.Core.Path.{_≡_}
-use mathlib.Core.Bool.{Bool, true, false, _||_}
+use mathlib.Core.Bool.{Bool, true, false, cond, _||_}
 use mathlib.Core.List.{List, _∷_}
 use Prim.Native.Nat.{ℕ, _+_, _*_, _^_, _≤_, _<_}
 use lib.Ieee.{Float}
@@ -22,7 +22,7 @@ use Rattle.pieces.specs.Contracts.Bounds.{AllBegin, Bounded}
 use Rattle.pieces.specs.declared.Paragraph.{Paragraph}
 use Rattle.pieces.specs.declared.Piece.the-variants.{Text as TextAt}
 use Rattle.records.specs.Word.{Word}
-use Rattle.records.specs.Contracts.Table.{wordsIn}
+use Rattle.records.specs.Contracts.Table.{Holds, wordsIn}
 use Rattle.records.specs.Contracts.Marks.{breaksIn}
 use Rattle.words.specs.Contracts.Places.{wordsAt}
 use Rattle.spacing.specs.declared.Setting.{Setting}
@@ -41,6 +41,8 @@ use Rattle.rudignals.specs.declared.Ahead.{Ahead}
 use Rattle.rudignals.specs.declared.Ahead.the-variants.{Text as AheadText, End}
 use Rattle.rudignals.specs.declared.Step.{Step}
 use Rattle.rudignals.specs.declared.Step.the-variants.{On, Over}
+use Rattle.rudignals.specs.declared.Course.{Course}
+use Rattle.rudignals.specs.declared.Course.the-variants.{End as CourseEnd, Short}
 use Rattle.rudignals.specs.declared.Ended.{Ended}
 use Rattle.rudignals.specs.declared.Ended.the-variants.{All, Stopped}
 
@@ -107,14 +109,12 @@ pub record TooLong (o : Opts) (notes out : List ℕ) (c : Cursor) (out′ : List
   pub many : tooMany o kind ≡ true
   pub same : out′ ≡ out
 
-abbrev pub Stepped : Opts → List ℕ → List ℕ → Cursor → List ℕ → Step → Type 0
-Stepped o notes out c out′ (On d) = Put o notes out c d out′
-Stepped o notes out c out′ Over = TooLong o notes out c out′
-
 -- ---- working storage
 
+-- tables for as many words as there are marks, and for as many breaks as there are ratios
 pub record Scratch (table breaks : List ℕ) (ratios : List Float) (active : List ℕ) (marks : List Bool) : Type 0 where
-  pub sized : length table ≡ 8192
+  pub few : length marks ≤ 1024
+  pub held : Holds (length marks) table
   pub lent : Lent (tables breaks ratios) active marks
 
 -- ---- a paragraph
@@ -125,9 +125,8 @@ pub record Admitted (block notes : List ℕ) (o : Options) : Type 0 where
   pub short : length notes ≤ mostBytes
 
 -- the marks say so of n words of a table, for whatever notes they stand in
-pub record Broken (fast : Bool) (g : Setting) (n : ℕ) (table breaks : List ℕ) (ratios : List Float) (active : List ℕ) (marks : List Bool) : Type 0 where
-  pub says : (notes : List ℕ) → breaksIn n marks ≡ breaksBy fast g (wordsIn notes n table)
-  pub lent : Lent (tables breaks ratios) active marks
+abbrev pub Broken : Bool → Setting → ℕ → List ℕ → List Bool → Type 0
+Broken fast g n table marks = (notes : List ℕ) → breaksIn n marks ≡ breaksBy fast g (wordsIn notes n table)
 
 -- what a paragraph in places is broken with, and its words
 abbrev pub settingFor : List ℕ → Options → Paragraph → Setting
@@ -146,8 +145,8 @@ pub record Placed (notes : List ℕ) (at : ℕ) (o : Options) (p : Paragraph) : 
   pub some : 0 < length (wordsFor block notes at o p)
   pub first : MarginIn (length notes) (p .first)
   pub indent : MarginIn (length notes) (p .indent)
-  pub firstSmall : p .first .columns < 2 ^ 32
-  pub indentSmall : p .indent .columns < 2 ^ 32
+  pub firstSmall : p .first .columns < 2 ^ 31
+  pub indentSmall : p .indent .columns < 2 ^ 31
   pub goal : o .goal ≤ o .width
   pub twice : o .width ≤ 2 * o .goal
   pub width : o .width ≤ 1000
@@ -164,9 +163,10 @@ pub record TextPut (notes : List ℕ) (at : ℕ) (o : Options) (p : Paragraph) (
       out′ (d .written)
   pub bounded : d .written ≤ written + longest (marginOf notes (p .first)) (marginOf notes (p .indent)) (wordsFor block notes at o p)
 
-abbrev pub TextStepped : List ℕ → ℕ → Options → Paragraph → List ℕ → ℕ → List ℕ → Step → List ℕ → Type 0
-TextStepped notes at o p out written out′ (On d) block = TextPut notes at o p out written out′ d block
-TextStepped notes at o p out written out′ Over block = (mostWords < length (wordsFor block notes at o p)) × (out′ ≡ out)
+-- or it has more words than the tables hold
+abbrev pub TextStepped : ℕ → List ℕ → ℕ → Options → Paragraph → List ℕ → ℕ → List ℕ → Step → List ℕ → Type 0
+TextStepped longest notes at o p out written out′ (On d) block = TextPut notes at o p out written out′ d block
+TextStepped longest notes at o p out written out′ Over block = (longest < length (wordsFor block notes at o p)) × (out′ ≡ out)
 
 -- ---- the notes
 
@@ -191,6 +191,12 @@ pub record Going (o : Opts) (notes : List ℕ) (c₀ : Cursor) (out₀ : List �
 abbrev pub FinishedFrom : Opts → List ℕ → Cursor → List ℕ → List ℕ → Ended → Type 0
 FinishedFrom o notes c out out′ (All n) = (longFrom o (c .mail) notes (c .at) ≡ Nowhere) × Wrote out (c .written) (outputFrom o (c .mail) notes (c .at)) out′ n
 FinishedFrom o notes c out out′ (Stopped place) = (longFrom o (c .mail) notes (c .at) ≡ At place) × (length out′ ≡ length out)
+
+-- so far as the tables reach, which have room for so many words and breaks: to the end, or to a paragraph of more words
+abbrev pub Coursed : ℕ → ℕ → List ℕ → Options → List ℕ → Cursor → List ℕ → List ℕ → Course → Type 0
+Coursed w b block o notes c₀ out₀ out (CourseEnd n) = FinishedFrom (meant block o) notes c₀ out₀ out (All n)
+Coursed w b block o notes c₀ out₀ out (Short c p) =
+    Going (meant block o) notes c₀ out₀ c out × TextAhead block o notes c p × (cond (o .quick || p .mail) w b < length (wordsFor block notes (c .at) o p))
 
 -- the lines from a place on were written, up to a paragraph or to the end
 abbrev pub Reached : List ℕ → Options → List ℕ → Cursor → List ℕ → List ℕ → Ahead → Type 0

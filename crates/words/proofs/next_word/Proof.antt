@@ -1,6 +1,7 @@
 -- `words::next_word` meets its contract: no word is left, or one of mail or of a line.
+use mathlib.Core.List.{[]}
 use Rattle.options.specs.Opts.{meant}
-use Rattle.words.proofs.NextWord.{next-none, next-mail, next-line}
+use Rattle.words.proofs.NextWord.{next-none, ends-past, next-mail, next-line}
 use borrow.Author.Needs.{needs}
 use Rattle.words.proofs.next_word.Statement.{statement}
 use Rattle.words.proofs.next_word.Tie as tie
@@ -10,7 +11,7 @@ over-blanks-requires c κs = search needs
 
 returns : tie.Need-returns
 unfolding meant
-returns c = next-none _ _ _ _ (c .before .over-blanks .ensures) _ _ _ (c .if1 .taken)
+returns c = (next-none _ _ _ _ (c .before .over-blanks .ensures) _ _ _ (c .if1 .taken), ends-past (meant [] (c .before .before .before .args .o)) _ _ _ (c .before .over-blanks .ensures) (c .if1 .taken))
 
 over-ink-requires : tie.Need-over-ink-requires
 over-ink-requires c κs = search needs

@@ -1,67 +1,71 @@
 -- `words::split_words` meets its contract. Invariant: the words in the table, with those of the lines that are left, are all the words.
-use mathlib.Core.Path.{_≡_, sym}
+use mathlib.Core.Path.{_≡_, refl, sym, _∙_}
 use mathlib.Core.Bool.{true, false, cond}
 use mathlib.Core.List.{List, [], _++_}
-use Prim.Native.Nat.{_+_, _-_, _≤_}
+use Prim.Native.Nat.{ℕ, _+_, _-_, _≤_}
 use native.Mathlib.Omega.{arith}
+use lib.ListN.{length}
 use lib.Seq.{slice, length-take-le}
 use denote.Ref.{now}
 use borrow.Author.Needs.{needs}
 use Rattle.options.specs.Opts.{meant}
 use Rattle.lines.specs.Lines.{linesOf}
 use Rattle.pieces.specs.Contracts.Bounds.{AllBegin}
-use Rattle.words.specs.Contracts.Places.{wordsAt}
-use Rattle.words.specs.Contracts.Split.{WordsFilled}
+use Rattle.words.specs.Words.{runs}
+use Rattle.words.specs.Contracts.Places.{wordsAt, endsFrom, endsAt}
+use Rattle.words.specs.Contracts.Split.{endsIn, WordsFilled}
 use Rattle.words.specs.Contracts.Scan.{wordsFrom}
 use Rattle.text.specs.Characters.{glyphs}
 use Rattle.records.specs.Word.{Word}
 use Rattle.records.specs.Contracts.Table.{wordsIn}
 use Rattle.words.proofs.Filling.{Filling, filling-none, filling-line, filling-over, filling-done}
-use Rattle.words.proofs.Rows.{LineAt, line-at, lines-end, filled-words}
+use Rattle.words.proofs.Rows.{LineAt, line-at, lines-end, ends-end, filled-words}
 use Rattle.words.proofs.split_words.Statement.{statement}
 use Rattle.words.proofs.split_words.Tie as tie
 
 abbrev Inv-loop : tie.InvT-loop
-Inv-loop notes at next mail start later o table₀ part i₀ n₀ skip₀ table i n skip =
+Inv-loop notes at next mail start later o most table₀ part i₀ n₀ skip₀ table i n skip =
     (i ≤ next)
     × (mail ≡ false → AllBegin (meant [] o .glue) skip later (linesOf (slice i next notes)))
-    × Filling notes (wordsAt (meant [] o) mail start later (linesOf (slice at next notes))) (wordsAt (meant [] o) mail skip later (linesOf (slice i next notes))) n table
+    × Filling most notes (wordsAt (meant [] o) mail start later (linesOf (slice at next notes))) (wordsAt (meant [] o) mail skip later (linesOf (slice i next notes)))
+    (endsAt (meant [] o .glue) mail at start later (linesOf (slice at next notes))) (endsAt (meant [] o .glue) mail i skip later (linesOf (slice i next notes))) n table
+    × (length table ≡ length table₀)
 
 abbrev μ-loop : tie.MeasureT-loop
-μ-loop notes at next mail start later o table₀ part i₀ n₀ skip₀ table i n skip = next - i
+μ-loop notes at next mail start later o most table₀ part i₀ n₀ skip₀ table i n skip = next - i
 
 slice-aggregate-part : tie.Need-slice-aggregate-part Inv-loop μ-loop
-slice-aggregate-part c = sym (length-take-le _ _ (c .before .before .pre .1))
+slice-aggregate-part c = sym (length-take-le _ _ (c .before .before .before .pre .1))
 
 loop-holds : tie.Need-loop-holds Inv-loop μ-loop
 unfolding meant
-loop-holds c = (c .before .before .pre .0, c .before .before .pre .6, filling-none (c .before .before .pre .5))
+loop-holds c = (c .before .before .before .pre .0, c .before .before .before .pre .6, filling-none (c .before .before .before .pre .5), refl)
 
 sub-first-line : tie.Need-sub-first-line Inv-loop μ-loop
-sub-first-line c = rw (length-take-le _ _ (c .before .before .before .before .pre .1)) (search needs)
+sub-first-line c = rw (length-take-le _ _ (c .before .before .before .before .before .pre .1)) (search needs)
 
 part-first-line-start : tie.Need-part-first-line-start Inv-loop μ-loop
-part-first-line-start c = let l = length-take-le (c .before .before .before .before .args .next) (now (c .before .before .before .before .args .notes)) (c .before .before .before .before .pre .1) in search needs
+part-first-line-start c = let l = length-take-le (c .before .before .before .before .before .args .next) (now (c .before .before .before .before .before .args .notes)) (c .before .before .before .before .before .pre .1) in search needs
 
 part-first-line-end : tie.Need-part-first-line-end Inv-loop μ-loop
-part-first-line-end c = let l = length-take-le (c .before .before .before .before .args .next) (now (c .before .before .before .before .args .notes)) (c .before .before .before .before .pre .1) in search needs
+part-first-line-end c = let l = length-take-le (c .before .before .before .before .before .args .next) (now (c .before .before .before .before .before .args .notes)) (c .before .before .before .before .before .pre .1) in search needs
 
 first-line-requires : tie.Need-first-line-requires Inv-loop μ-loop
 first-line-requires c κs = search needs
 
 -- the line that the loop's turn reads
 line : (c : tie.After-first-line Inv-loop μ-loop)
-    → LineAt (meant [] (c .before .before .before .before .before .before .args .o)) (c .before .before .before .before .before .before .args .mail) (c .before .before .before .loop .skip) (c .before .before .before .before .before .before .args .later) (now (c .before .before .before .before .before .before .args .notes)) (c .before .before .before .before .before .before .args .next) (c .before .before .before .loop .i) (c .first-line .result)
-line c = line-at _ _ _ _ _ _ _ _ (c .before .before .loop-test .taken) (c .before .before .before .before .before .before .pre .1) (c .first-line .ensures) (c .before .before .before .loop .inv .1)
+    → LineAt (meant [] (c .before .before .before .before .before .before .before .args .o)) (c .before .before .before .before .before .before .before .args .mail) (c .before .before .before .loop .skip) (c .before .before .before .before .before .before .before .args .later) (now (c .before .before .before .before .before .before .before .args .notes)) (c .before .before .before .before .before .before .before .args .next) (c .before .before .before .loop .i) (c .first-line .result)
+line c = line-at _ _ _ _ _ _ _ _ (c .before .before .loop-test .taken) (c .before .before .before .before .before .before .before .pre .1) (c .first-line .ensures) (c .before .before .before .loop .inv .1)
 
 begin-requires : tie.Need-begin-requires Inv-loop μ-loop
-begin-requires c κs = λ m. omega (arith, line c .starts m, line c .shorter, line c .within, c .before .before .before .before .before .before .pre .1, c .before .before .before .before .before .before .pre .2)
+begin-requires c κs = λ m. omega (arith, line c .starts m, line c .shorter, line c .within, c .before .before .before .before .before .before .before .pre .1, c .before .before .before .before .before .before .before .pre .2)
 
 add-split-line : tie.Need-add-split-line Inv-loop μ-loop
-add-split-line c = let l = line (c .before .before) in omega (arith, l .shorter, l .within, c .before .before .before .before .before .before .before .before .pre .1, c .before .before .before .before .before .before .before .before .pre .2)
+add-split-line c = let l = line (c .before .before) in omega (arith, l .shorter, l .within, c .before .before .before .before .before .before .before .before .before .pre .1, c .before .before .before .before .before .before .before .before .before .pre .2)
 
 split-line-requires : tie.Need-split-line-requires Inv-loop μ-loop
-split-line-requires c κs = let l = line (c .before .before .before) in (omega (arith, l .begins, c .before .before .begin .ensures), omega (arith, l .shorter, l .within, c .before .before .before .before .before .before .before .before .before .pre .1), search needs, search needs, search needs, c .before .before .before .before .before .before .loop .inv .2 .kept)
+split-line-requires c κs = let l = line (c .before .before .before) in (omega (arith, l .begins, c .before .before .begin .ensures), omega (arith, l .shorter, l .within, c .before .before .before .before .before .before .before .before .before .before .pre .1), search needs, search needs, search needs, c .before .before .before .before .before .before .loop .inv .2 .kept)
 
 enum-known-m : tie.Need-enum-known-m Inv-loop μ-loop
 enum-known-m c = search needs
@@ -72,32 +76,51 @@ enum-told c = search needs
 -- the words of the turn's line, behind those of the table
 added : (c : tie.After-split-line Inv-loop μ-loop) → List Word
 added c =
-    let a = c .before .before .before .before .before .before .before .before .before .before .args in
+    let a = c .before .before .before .before .before .before .before .before .before .before .before .args in
     let l = c .before .before .before .before .before .before .before .loop in
     wordsIn (now (a .notes)) (l .n) (l .table)
     ++ wordsFrom (meant [] (a .o)) (a .mail) true false (glyphs (meant [] (a .o) .glue) (slice (l .i + cond (a .mail) 0 (l .skip)) (l .i + c .before .before .before .before .first-line .result .text) (now (a .notes))))
 
+addedEnds : (c : tie.After-split-line Inv-loop μ-loop) → List ℕ
+addedEnds c =
+    let a = c .before .before .before .before .before .before .before .before .before .before .before .args in
+    let l = c .before .before .before .before .before .before .before .loop in
+    endsIn (l .n) (l .table) ++ endsFrom (l .i + cond (a .mail) 0 (l .skip)) (runs (glyphs (meant [] (a .o) .glue) (slice (l .i + cond (a .mail) 0 (l .skip)) (l .i + c .before .before .before .before .first-line .result .text) (now (a .notes)))))
+
 filled : (c : tie.After-split-line Inv-loop μ-loop)
-    → WordsFilled (now (c .before .before .before .before .before .before .before .before .before .before .args .notes)) (added c) (c .split-line .last .1 .1 .1 .1 .1 .1 .0) (c .split-line .result)
-unfolding meant added
+    → WordsFilled (c .before .before .before .before .before .before .before .before .before .before .before .args .most) (now (c .before .before .before .before .before .before .before .before .before .before .before .args .notes)) (added c) (addedEnds c) (c .split-line .last .1 .1 .1 .1 .1 .1 .1 .0) (c .split-line .result)
+unfolding meant added addedEnds
 filled c = rw (c .before .before .before .begin .ensures) at (c .split-line .ensures)
 
+same-length : tie.Need-same-length Inv-loop μ-loop
+same-length c = c .before .before .before .table .given ∙ c .before .before .before .before .before .before .before .before .before .before .before .loop .inv .3
+
 returns : tie.Need-returns Inv-loop μ-loop
-unfolding added
-returns c = filled-words _ _ _ _ _ _ _ _ (filling-over (c .before .before .before .before .before .before .before .before .before .loop .inv .2) _ _ (line (c .before .before .before .before .before .before) .words) (c .before .before .split-line .last .1 .1 .1 .1 .1 .1 .0) (rw (c .enum-told .given .1) at (filled (c .before .before))))
+unfolding added addedEnds
+returns c = filled-words _ _ _ _ _ _ _ _ _ _ (filling-over (c .before .before .before .before .before .before .before .before .before .before .before .loop .inv .2) _ _ (line (c .before .before .before .before .before .before .before .before) .words) (rw (c .enum-told .given .1) at (filled (c .before .before .before .before))))
 
 add-i : tie.Need-add-i Inv-loop μ-loop
-add-i c = let l = line (c .before .before .before .before .before .before .before .before) in omega (arith, l .within, c .before .before .before .before .before .before .before .before .before .before .before .before .before .before .pre .1, c .before .before .before .before .before .before .before .before .before .before .before .before .before .before .pre .2)
+add-i c = let l = line (c .before .before .before .before .before .before .before .before .before .before) in omega (arith, l .within, c .before .before .before .before .before .before .before .before .before .before .before .before .before .before .before .before .before .pre .1, c .before .before .before .before .before .before .before .before .before .before .before .before .before .before .before .before .before .pre .2)
 
 loop-less : tie.Need-loop-less Inv-loop μ-loop
-loop-less c = let l = line (c .before .before .before .before .before .before .before .before) in omega (arith, l .within, l .on)
+loop-less c = let l = line (c .before .before .before .before .before .before .before .before .before .before) in omega (arith, l .within, l .on)
 
 loop-again : tie.Need-loop-again Inv-loop μ-loop
-unfolding added
-loop-again c = let l = line (c .before .before .before .before .before .before .before .before) in (l .within, l .rest, filling-line (c .before .before .before .before .before .before .before .before .before .before .before .loop .inv .2) _ _ (l .words) _ _ (rw (c .before .before .m .given .1) at (filled (c .before .before .before .before))))
+unfolding added addedEnds
+loop-again c = let l = line (c .before .before .before .before .before .before .before .before .before .before) in (l .within, l .rest, filling-line (c .before .before .before .before .before .before .before .before .before .before .before .before .before .loop .inv .2) _ _ (l .words) _ _ (l .ends) _ _ (rw (c .before .before .m .given .1) at (filled (c .before .before .before .before .before .before))), c .before .before .before .before .before .table .given ∙ c .before .before .before .before .before .before .before .before .before .before .before .before .before .loop .inv .3)
+
+same-length-2 : tie.Need-same-length-2 Inv-loop μ-loop
+same-length-2 c = c .before .loop .inv .3
 
 returns-2 : tie.Need-returns-2 Inv-loop μ-loop
-returns-2 c = filled-words _ _ _ _ _ _ _ _ (filling-done (c .before .loop .inv .2) (lines-end _ _ _ _ _ _ _ (c .loop-test .left)))
+unfolding meant
+returns-2 c =
+    let a = c .before .before .before .before .before .args in
+    let l = c .before .loop in
+    filled-words (a .most) (now (a .notes)) (l .table) _ _ (a .o) (a .mail) (a .start) (a .later) (linesOf (slice (a .at) (a .next) (now (a .notes))))
+    (filling-done (l .inv .2)
+    (lines-end (meant [] (a .o)) (a .mail) (l .skip) (a .later) (now (a .notes)) (a .next) (l .i) (c .loop-test .left))
+    (ends-end (meant [] (a .o)) (a .mail) (l .skip) (a .later) (now (a .notes)) (a .next) (l .i) (c .loop-test .left)))
 
 pub split-words-spec : {M : Type 1} → statement M
 split-words-spec =
@@ -116,8 +139,10 @@ split-words-spec =
     split-line-requires
     enum-known-m
     enum-told
+    same-length
     returns
     add-i
     loop-less
     loop-again
+    same-length-2
     returns-2)

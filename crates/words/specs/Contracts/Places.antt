@@ -1,15 +1,16 @@
--- A paragraph's words, of its lines and where their words begin; and the code's answer.
+-- A paragraph's words, of its lines and where their words begin; where each of them ends in the notes; and the code's answer.
 use mathlib.Core.Bool.{Bool, cond}
-use mathlib.Core.List.{List, [], _∷_}
-use Prim.Native.Nat.{ℕ}
+use mathlib.Core.List.{List, [], _∷_, _++_}
+use Prim.Native.Nat.{ℕ, _+_}
 use lib.Dec.{leb}
-use lib.ListN.{length}
+use lib.ListN.{length, drop}
 use Rattle.lists.specs.Runs.{joined}
+use Rattle.text.specs.Characters.{glyphs, extent}
 use Rattle.options.specs.Opts.{Opts}
 use Rattle.lines.specs.Lines.{Line}
 use Rattle.pieces.specs.Pieces.{Row}
 use Rattle.records.specs.Word.{Word}
-use Rattle.words.specs.Words.{rowWords}
+use Rattle.words.specs.Words.{Run, runs, rowWords}
 use Rattle.words.specs.declared.Count.{Count}
 use Rattle.words.specs.declared.Count.the-variants.{Words, TooMany}
 
@@ -21,6 +22,18 @@ rowsAt start later (l ∷ ls) = record { text = l .text; start = start } ∷ row
 unfoldable pub wordsAt : Opts → Bool → ℕ → ℕ → List Line → List Word
 wordsAt o mail start later ls = joined (rowWords o mail) (rowsAt start later ls)
 
--- up to 1,024 words are counted
-unfoldable pub counted : List Word → Count
-counted ws = cond (leb (length ws) 1024) (Words (length ws)) TooMany
+-- the places where words end: the runs of a line begin at a place
+unfoldable pub endsFrom : ℕ → List Run → List ℕ
+endsFrom at [] = []
+endsFrom at (r ∷ rs) =
+    elim (r .text) as (λ t. List ℕ) [ [] ↦ [] | g ∷ (gs → h) ↦ (at + extent (r .blanks) + extent (r .text)) ∷ endsFrom (at + extent (r .blanks) + extent (r .text)) rs ]
+
+-- a paragraph's lines begin at a place; mail's words begin where its lines do
+unfoldable pub endsAt : Bool → Bool → ℕ → ℕ → ℕ → List Line → List ℕ
+endsAt glue mail at start later [] = []
+endsAt glue mail at start later (l ∷ ls) =
+    endsFrom (at + cond mail 0 start) (runs (glyphs glue (drop (cond mail 0 start) (l .text)))) ++ endsAt glue mail (at + length (l .raw)) later later ls
+
+-- up to so many words are counted
+unfoldable pub counted : ℕ → List Word → Count
+counted most ws = cond (leb (length ws) most) (Words (length ws)) TooMany

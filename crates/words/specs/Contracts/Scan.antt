@@ -13,6 +13,7 @@ use Rattle.records.specs.Contracts.Table.{beforeNumber, Within}
 use Rattle.records.specs.declared.Word.{Word as Record}
 use Rattle.records.specs.declared.Before.the-variants.{Absent}
 use Rattle.words.specs.Words.{isInk, runs, widthSum, Gap, gapTab, gapOf, hasTab, punctAtEnd, lineWords, mailWords}
+use Rattle.words.specs.Contracts.Places.{endsFrom}
 use Rattle.words.specs.declared.Blanks.{Blanks}
 use Rattle.words.specs.declared.Ink.{Ink}
 use Rattle.words.specs.declared.Next.{Next}
@@ -105,6 +106,7 @@ wordsFrom o false newLine previousPunct gs = lineWords o newLine previousPunct (
 -- w is the next word at a place
 pub record NextWord (o : Opts) (mail newLine previousPunct : Bool) (s : List ℕ) (at : ℕ) (w : Record) : Type 0 where
   pub first : wordsFrom o mail newLine previousPunct (glyphs (o .glue) (drop at s)) ≡ meaning s w ∷ wordsFrom o mail false (w .punct) (glyphs (o .glue) (drop (w .end) s))
+  pub ends : endsFrom at (runs (glyphs (o .glue) (drop at s))) ≡ w .end ∷ endsFrom (w .end) (runs (glyphs (o .glue) (drop (w .end) s)))
   pub within : Within (length s) w
   pub on : at < w .end
   pub some : 1 ≤ w .width
@@ -113,5 +115,6 @@ pub record NextWord (o : Opts) (mail newLine previousPunct : Bool) (s : List ℕ
   pub after : w .after ≤ 100 * length s
 
 abbrev pub NextIs : Opts → Bool → Bool → Bool → List ℕ → ℕ → Next → Type 0
-NextIs o mail newLine previousPunct s at End = wordsFrom o mail newLine previousPunct (glyphs (o .glue) (drop at s)) ≡ []
+NextIs o mail newLine previousPunct s at End =
+    (wordsFrom o mail newLine previousPunct (glyphs (o .glue) (drop at s)) ≡ []) × (endsFrom at (runs (glyphs (o .glue) (drop at s))) ≡ [])
 NextIs o mail newLine previousPunct s at (One w) = NextWord o mail newLine previousPunct s at w
