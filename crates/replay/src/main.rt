@@ -1,6 +1,7 @@
-// Replays two lists of answers, in hexadecimal, `-` for none. Each line of data/vectors.txt, the Rust's, has an option block, notes and the
+// Replays lists of answers, in hexadecimal, `-` for none. Each line of data/vectors.txt, the Rust's, has an option block, notes and the
 // output under code 0; each line of data/cases.txt, written from document 01, a block, notes, the whole number that the call answers and
-// all bytes of the output slice afterwards. Writes how many lines each has and how many of them the call answers so.
+// all bytes of the output slice afterwards. Writes how many lines each has and how many of them the call answers so. The lines of the two
+// lists of wrong rows are the same but for one fault each: of them none may be answered so.
 use libc::STDOUT_FILENO;
 ghost use Prim.Native.Nat.{_+_, _*_, _≤_, _<_};
 ghost use mathlib.Core.Path.{_≡_};
@@ -342,4 +343,6 @@ fn replay_list(name: &[u8], whole: bool) {
 fn main() {
     replay_list(b"vectors.txt", false);
     replay_list(b"cases.txt", true);
+    replay_list(b"wrong-vectors.txt", false);
+    replay_list(b"wrong-cases.txt", true);
 }
