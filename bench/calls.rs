@@ -1,7 +1,7 @@
 //! Times whole calls against the original, in one process, on the same texts.
 //!
 //!     calls [MILLISECONDS]              how long each text is timed on each side, by default 100
-//!     calls --once TEXT KIB WHO CALLS   one text, so often, for a profiler; WHO is here, cube or powf
+//!     calls --once TEXT KIB WHO CALLS   one text, so often, for a profiler; WHO is here (writing), cube, powf, measure or both
 
 #[allow(dead_code)]
 #[path = "../tests/oracle/options.rs"]
@@ -19,6 +19,15 @@ use options::{Opts, QUICK};
 
 #[link(name = "rudignals", kind = "static")]
 extern "C" {
+    fn rudignals_measure(options: *const u8, options_len: usize, notes: *const u8, notes_len: usize) -> u64;
+    fn rudignals_write(
+        options: *const u8,
+        options_len: usize,
+        notes: *const u8,
+        notes_len: usize,
+        output: *mut u8,
+        output_len: usize,
+    ) -> u64;
     fn rudignals_format(
         options: *const u8,
         options_len: usize,
@@ -29,26 +38,45 @@ extern "C" {
     ) -> u64;
 }
 
-/// The call: code and number.
+/// An answer's code and number.
+fn read(answer: u64) -> (u32, usize) {
+    ((answer >> 32) as u32, answer as u32 as usize)
+}
+
+/// Writing, which does what the call did before it was split.
 pub fn call(block: &[u8], notes: &[u8], output: &mut [u8]) -> (u32, usize) {
     let (b, n, o) = (block, notes, output);
-    let answer = unsafe { rudignals_format(b.as_ptr(), b.len(), n.as_ptr(), n.len(), o.as_mut_ptr(), o.len()) };
-    ((answer >> 32) as u32, answer as u32 as usize)
+    read(unsafe { rudignals_write(b.as_ptr(), b.len(), n.as_ptr(), n.len(), o.as_mut_ptr(), o.len()) })
+}
+
+fn measured(block: &[u8], notes: &[u8]) -> (u32, usize) {
+    let (b, n) = (block, notes);
+    read(unsafe { rudignals_measure(b.as_ptr(), b.len(), n.as_ptr(), n.len()) })
+}
+
+/// Both in sequence.
+fn formatted(block: &[u8], notes: &[u8], output: &mut [u8]) -> (u32, usize) {
+    let (b, n, o) = (block, notes, output);
+    read(unsafe { rudignals_format(b.as_ptr(), b.len(), n.as_ptr(), n.len(), o.as_mut_ptr(), o.len()) })
 }
 
 /// A text of one size under some options, on one side: formats all its parts. Both sides get the same parts, 64 KiB in all
 /// whatever the size of one, so that small texts are not learnt by heart.
 type Side<'a> = Box<dyn FnMut() + 'a>;
-const SIDES: [&str; 3] = ["here", "cube", "powf"];
+const SIDES: [&str; 5] = ["here", "cube", "powf", "measure", "both"];
 
-fn sides<'a>(opts: &Opts, parts: &'a [Vec<u8>]) -> [Side<'a>; 3] {
+fn sides<'a>(opts: &Opts, parts: &'a [Vec<u8>]) -> [Side<'a>; 5] {
     let block = opts.block();
+    let (block2, block3) = (block.clone(), block.clone());
     let (cube, powf) = (fmt_cube::options(opts.args()), fmt_powf::options(opts.args()));
     let mut output = vec![0; longest(opts, parts)];
+    let mut output2 = output.clone();
     [
         Box::new(move || parts.iter().for_each(|p| assert_eq!(black_box(call(&block, p, &mut output)).0, 0))),
         Box::new(move || parts.iter().for_each(|p| drop(black_box(fmt_cube::format(&cube, p))))),
         Box::new(move || parts.iter().for_each(|p| drop(black_box(fmt_powf::format(&powf, p))))),
+        Box::new(move || parts.iter().for_each(|p| assert_eq!(black_box(measured(&block2, p)).0, 0))),
+        Box::new(move || parts.iter().for_each(|p| assert_eq!(black_box(formatted(&block3, p, &mut output2)).0, 0))),
     ]
 }
 
@@ -59,6 +87,7 @@ fn longest(opts: &Opts, parts: &[Vec<u8>]) -> usize {
     for part in parts {
         let expected = fmt_cube::format(&cube, part);
         let mut output = vec![0; expected.len()];
+        assert_eq!(measured(&opts.block(), part), (0, expected.len()));
         assert_eq!(call(&opts.block(), part, &mut output), (0, expected.len()));
         assert!(output == expected, "the outputs differ");
         assert!(fmt_powf::format(&powf, part) == expected, "the outputs of powf differ");
@@ -144,6 +173,12 @@ fn print(rows: &[Row]) {
         let cells: String = row.sizes.iter().map(|(_, t)| format!(" {:>8.3}", t[0])).collect();
         println!("{:<40} |{cells} | {:>5.2} | {:>5.2}", row.name, row.spread(0), row.spread(1));
     }
+    println!("\nMeasuring, writing (the column here, above) and both in sequence: ns a byte of the notes, and measuring's part of writing's time");
+    for row in rows {
+        for (size, t) in &row.sizes {
+            println!("{:<40}{:>4} | {:>8.3} | {:>8.3} | {:>8.3} | {:>5.2}", row.name, size / KIB, t[3], t[0], t[4], t[3] / t[0]);
+        }
+    }
     println!("\nThe worst");
     let worst = |rows: &mut dyn Iterator<Item = &Row>, of: &dyn Fn(&Row) -> f64| {
         rows.max_by(|a, b| of(a).total_cmp(&of(b))).map(|r| (r.name.clone(), of(r)))
@@ -201,7 +236,7 @@ fn main() {
         0 => all(100),
         1 => all(number(0)),
         5 if args[0] == "--once" => {
-            let side = SIDES.iter().position(|s| *s == args[3]).expect("here, cube or powf");
+            let side = SIDES.iter().position(|s| *s == args[3]).expect("here, cube, powf, measure or both");
             once(&args[1], number(2), side, number(4))
         }
         _ => eprintln!("usage: [MILLISECONDS] | --once TEXT KIB WHO CALLS"),

@@ -80,15 +80,25 @@ enum rudignals_flag {
     RUDIGNALS_GLUE = 512         /* U+00A0 is an ordinary character and no blank */
 };
 
-/* Formats notes into output, and answers code * 2^32 + N as in the table above.
+/* The calls. Each answers code * 2^32 + N as in the table above.
  *
  * There is no precondition: every block, every text and every output length has an answer. A null pointer with length 0 is an empty part.
- * The output overlaps neither of the other two. The call keeps no state, takes no memory from a heap and calls nothing back; it may run on
+ * The output overlaps neither of the other two. A call keeps no state, takes no memory from a heap and calls nothing back; it may run on
  * several threads at once.
  *
  * Its working storage is on the stack, 111,616 bytes of tables. The most that was measured for a whole call on x86-64 (tests/stack/run):
  * 113,575 bytes in a statically linked program, 115,703 in a dynamically linked one, where the first call also resolves `memset`. There a
  * thread of 118 KiB was enough and one of 116 KiB was not. Give a thread 256 KiB: the tests fail above that. */
+
+/* Measures: the code and N of a call with these options and notes and all the room that it needs. N of code 0 is the digest's length: the
+ * least room with which writing is done. Codes 0 to 4; never 5, and nothing is written. */
+uint64_t rudignals_measure(const uint8_t *options, size_t options_len, const uint8_t *notes, size_t notes_len);
+
+/* Writes the digest of the notes into output: codes 0 to 5. With an output of at least measuring's N bytes it answers 0 and N, with less
+ * 5 and N; what measuring refuses it refuses alike. */
+uint64_t rudignals_write(const uint8_t *options, size_t options_len, const uint8_t *notes, size_t notes_len, uint8_t *output, size_t output_len);
+
+/* The two in sequence: it answers and writes what rudignals_write does. */
 uint64_t rudignals_format(const uint8_t *options, size_t options_len, const uint8_t *notes, size_t notes_len, uint8_t *output, size_t output_len);
 
 /* An answer's two halves. */

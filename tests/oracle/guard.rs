@@ -1,4 +1,5 @@
-//! The call with its three slices between guard pages: a byte read or written outside ends the run, and every byte of the output is accounted for.
+//! Measuring, writing and the call, with their slices between guard pages: a byte read or written outside ends the run, and every byte of the
+//! output is accounted for.
 
 use std::fs::File;
 use std::io::{Read, Write};
@@ -15,6 +16,14 @@ pub enum Answer {
 }
 
 impl Answer {
+    /// Code and N of measuring: never 5, and of a digest its length.
+    pub fn measured(&self) -> (u32, usize) {
+        match self {
+            Answer::Done(digest) => (0, digest.len()),
+            _ => self.numbers(0),
+        }
+    }
+
     /// Code and N, for an output of so many bytes.
     pub fn numbers(&self, room: usize) -> (u32, usize) {
         match self {
@@ -30,6 +39,15 @@ impl Answer {
 
 #[link(name = "rudignals", kind = "static", modifiers = "-bundle")]
 extern "C" {
+    fn rudignals_measure(options: *const u8, options_len: usize, notes: *const u8, notes_len: usize) -> u64;
+    fn rudignals_write(
+        options: *const u8,
+        options_len: usize,
+        notes: *const u8,
+        notes_len: usize,
+        output: *mut u8,
+        output_len: usize,
+    ) -> u64;
     fn rudignals_format(
         options: *const u8,
         options_len: usize,
@@ -39,6 +57,16 @@ extern "C" {
         output_len: usize,
     ) -> u64;
 }
+
+/// The calls, in the order in which they are made, and their numbers for a program that makes them (shipped.c).
+#[derive(Clone, Copy, PartialEq)]
+enum Which {
+    Measure,
+    Write,
+    Format,
+}
+
+const ALL: [(Which, &str); 3] = [(Which::Measure, "measure"), (Which::Write, "write"), (Which::Format, "format")];
 
 extern "C" {
     fn mmap(at: *mut u8, size: usize, prot: i32, flags: i32, fd: i32, from: i64) -> *mut u8;
@@ -151,8 +179,9 @@ fn is_filled(slice: &[u8], from: usize) -> bool {
 }
 
 /// A fault put in on purpose, to see that it is found.
-pub const TAMPERS: [&str; 12] = [
-    "none", "behind", "digest", "zeroed", "kept", "number", "code", "notes", "above", "below", "read-above", "read-below",
+pub const TAMPERS: [&str; 16] = [
+    "none", "behind", "digest", "zeroed", "kept", "number", "code", "notes", "above", "below", "read-above", "read-below", "less", "five",
+    "refused", "measured",
 ];
 
 /// Where the call is made: in this process, or in a program of its own (shipped.c).
@@ -199,17 +228,22 @@ impl Harness {
         Harness { block, notes, output, library: Library::Apart(child), tamper: "none" }
     }
 
-    /// The call's answer; none if the program that makes the calls has ended.
-    fn answer(&mut self, block: &[u8], notes: &[u8], output: &mut [u8]) -> Option<u64> {
+    /// A call's answer; none if the program that makes the calls has ended. Measuring is not told of the output.
+    fn answer(&mut self, which: Which, block: &[u8], notes: &[u8], output: &mut [u8]) -> Option<u64> {
+        let (b, n, o) = (block, notes, &mut *output);
         match &mut self.library {
             Library::Linked => Some(unsafe {
-                rudignals_format(block.as_ptr(), block.len(), notes.as_ptr(), notes.len(), output.as_mut_ptr(), output.len())
+                match which {
+                    Which::Measure => rudignals_measure(b.as_ptr(), b.len(), n.as_ptr(), n.len()),
+                    Which::Write => rudignals_write(b.as_ptr(), b.len(), n.as_ptr(), n.len(), o.as_mut_ptr(), o.len()),
+                    Which::Format => rudignals_format(b.as_ptr(), b.len(), n.as_ptr(), n.len(), o.as_mut_ptr(), o.len()),
+                }
             }),
             Library::Apart(child) => {
                 let offsets = [self.block.offset(block), self.notes.offset(notes), self.output.offset(output)];
                 let lengths = [block.len(), notes.len(), output.len()];
-                let asked: Vec<u8> =
-                    offsets.iter().zip(lengths).flat_map(|(at, n)| [*at, n as u64]).flat_map(|n| n.to_le_bytes()).collect();
+                let places = offsets.iter().zip(lengths).flat_map(|(at, n)| [*at, n as u64]);
+                let asked: Vec<u8> = std::iter::once(which as u64).chain(places).flat_map(|n| n.to_le_bytes()).collect();
                 let mut answer = [0; 8];
                 child.stdin.as_mut()?.write_all(&asked).ok()?;
                 child.stdout.as_mut()?.read_exact(&mut answer).ok()?;
@@ -218,8 +252,13 @@ impl Harness {
         }
     }
 
-    /// Makes the call; what is wrong with the answer or with any byte, if anything is. Ends the run if the program that makes the calls did.
+    /// Makes the three calls; what is wrong with an answer or with any byte, if anything is. Ends the run if the program that makes the
+    /// calls did.
     pub fn fault(&mut self, call: &Call, expected: &Answer) -> Option<String> {
+        ALL.iter().find_map(|(which, name)| Some(format!("{name}: {}", self.fault_of(*which, call, expected)?)))
+    }
+
+    fn fault_of(&mut self, which: Which, call: &Call, expected: &Answer) -> Option<String> {
         let high = |bit: usize| call.places >> bit & 1 == 1;
         let block = self.block.slice(call.block.len(), high(0));
         let notes = self.notes.slice(call.notes.len(), high(1));
@@ -229,14 +268,16 @@ impl Harness {
         notes.copy_from_slice(&call.notes);
         fill(output);
         fill(margin);
-        let answer = self.answer(block, notes, output).unwrap_or_else(|| outside(call));
-        let found = unsafe { self.tampered(answer, notes, output) };
+        let answer = self.answer(which, block, notes, output).unwrap_or_else(|| outside(call));
+        let found = unsafe { self.tampered(which, answer, notes, output) };
 
-        let (code, number) = expected.numbers(call.room);
+        let measured = which == Which::Measure;
+        let (code, number) = if measured { expected.measured() } else { expected.numbers(call.room) };
         if found != (code as u64) << 32 | number as u64 {
             return Some(format!("answer {} {}, expected {code} {number}", found >> 32, found as u32));
         }
         let right = match (code, expected) {
+            _ if measured => is_filled(output, 0),
             (0, Answer::Done(digest)) => output[..number] == digest[..] && is_filled(&output[number..], number),
             (1..=3, _) => is_filled(output, 0),
             _ => output.iter().all(|b| *b == 0),
@@ -245,9 +286,14 @@ impl Harness {
         (!right || !beside).then(|| format!("code {code}: {}", if right { "a byte outside the output" } else { "the output's bytes" }))
     }
 
-    unsafe fn tampered(&self, answer: u64, notes: &mut [u8], output: &mut [u8]) -> u64 {
+    unsafe fn tampered(&self, which: Which, answer: u64, notes: &mut [u8], output: &mut [u8]) -> u64 {
         let (code, number, size) = (answer >> 32, answer as u32 as usize, output.len());
         match self.tamper {
+            "less" if which == Which::Measure && code == 0 && number > 0 => return answer - 1,
+            "five" if which == Which::Measure && code == 0 && number > 0 => return answer | 5 << 32,
+            "refused" if which == Which::Measure && code == 4 => return 0,
+            "measured" if which == Which::Measure && size > 0 => output[size - 1] ^= 2,
+            _ if which == Which::Measure => {}
             "behind" if code == 0 && number < size => output[number] ^= 2,
             "digest" if code == 0 && number > 0 => output[number / 2] ^= 1,
             "zeroed" if code >= 4 && size > 0 => output[size - 1] = 1,

@@ -74,25 +74,21 @@ impl Run {
         fault
     }
 
-    /// The lengths of output that a question is asked with: at least one that is enough, where one is, and one that need not be.
+    /// The lengths of output that a question is asked with: where a digest is due, just enough, and one byte less, none at all, more, or any.
     fn rooms(&mut self, expected: &Answer) -> Vec<usize> {
         let r = &mut self.r;
         match expected {
             Answer::Done(digest) => {
                 let n = digest.len();
-                let enough = match r.below(16) {
-                    0..=7 => n,
-                    8..=9 => n + 1,
-                    10 if n < 1 << 20 => n + r.below(70_000),
+                let other = match r.below(8) {
+                    0..=2 => n.saturating_sub(1),
+                    3 => 0,
+                    4 => n + 1,
+                    5 if n < 1 << 20 => n + r.below(70_000),
+                    6 => r.below(2 * n + 1),
                     _ => n + r.below(200),
                 };
-                let other = match r.below(8) {
-                    0..=3 => n.saturating_sub(1),
-                    4 => 0,
-                    5 => r.below(2 * n + 1),
-                    _ => r.below(n + 1),
-                };
-                vec![enough, other]
+                vec![n, other]
             }
             _ => vec![[0, 1, r.below(300), r.below(70_000)][if r.chance(3) { 3 } else { r.below(3) }]],
         }
@@ -180,7 +176,7 @@ fn run(seed: u64, count: u64, long: bool, harness: Harness) -> i32 {
     }
     let codes: Vec<String> = run.codes.iter().enumerate().map(|(code, n)| format!("code {code} {n}")).collect();
     println!("answers: {}", codes.join(", "));
-    println!("scale: seed {seed}, {cases} cases, {} calls, {} differ", run.calls, run.differ);
+    println!("scale: seed {seed}, {cases} cases, {} times measured, written and formatted, {} differ", run.calls, run.differ);
     if let Some((call, what)) = run.least.take() {
         let (call, what) = run.shrink(call, what);
         println!("differ: {what}\nreplay: {}", call.replay());

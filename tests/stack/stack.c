@@ -1,5 +1,6 @@
-/* Measures the stack that a call uses: each text is formatted by a thread whose stack was painted before, and the lowest byte that lost
- * its paint is looked for. Prints a line for each text and the greatest, and exits 1 if that is over MOST. */
+/* Measures the stack that the calls use: each text is measured, written and formatted by threads whose stack was painted before, and the
+ * lowest byte that lost its paint is looked for. Prints a line for each text and the greatest, and exits 1 if that is over MOST or if
+ * measuring a text took more than writing it. */
 #define _XOPEN_SOURCE 700 /* pthread_attr_setstack */
 #include "rudignals.h"
 
@@ -16,6 +17,7 @@
 static _Alignas(4096) uint64_t stack[STACK / sizeof(uint64_t)];
 static uint8_t output[OUTPUT];
 static size_t greatest;
+static int more; /* measuring took more than writing */
 
 struct call {
     const char *name;
@@ -30,7 +32,21 @@ struct call {
 
 static struct call call;
 
-static void *make_call(void *unused) {
+static void *make_measure(void *unused) {
+    unsigned char here = 0;
+    call.top = &here;
+    call.answer = rudignals_measure(call.block, call.block_len, call.notes, call.notes_len);
+    return unused;
+}
+
+static void *make_write(void *unused) {
+    unsigned char here = 0;
+    call.top = &here;
+    call.answer = rudignals_write(call.block, call.block_len, call.notes, call.notes_len, output, call.room);
+    return unused;
+}
+
+static void *make_format(void *unused) {
     unsigned char here = 0;
     call.top = &here;
     call.answer = rudignals_format(call.block, call.block_len, call.notes, call.notes_len, output, call.room);
@@ -57,17 +73,26 @@ static size_t used(void) {
     return (size_t)(call.top - (const unsigned char *)&stack[i]);
 }
 
-static void measure(void) {
+static size_t used_by(void *(*run)(void *), uint32_t code) {
     size_t bytes;
-    on_the_painted_stack(make_call);
+    on_the_painted_stack(run);
     bytes = used();
     if (bytes > greatest)
         greatest = bytes;
-    printf("%7lu  %s\n", (unsigned long)bytes, call.name);
-    if (rudignals_code_of(call.answer) != call.code) {
-        fprintf(stderr, "stack: %s: code %lu, not %lu\n", call.name, (unsigned long)rudignals_code_of(call.answer), (unsigned long)call.code);
+    if (rudignals_code_of(call.answer) != code) {
+        fprintf(stderr, "stack: %s: code %lu, not %lu\n", call.name, (unsigned long)rudignals_code_of(call.answer), (unsigned long)code);
         exit(2);
     }
+    return bytes;
+}
+
+static void measure(void) {
+    size_t measuring = used_by(make_measure, call.code == RUDIGNALS_ROOM ? RUDIGNALS_DONE : call.code);
+    size_t writing = used_by(make_write, call.code);
+    size_t formatting = used_by(make_format, call.code);
+    printf("%7lu %7lu %7lu  %s\n", (unsigned long)measuring, (unsigned long)writing, (unsigned long)formatting, call.name);
+    if (measuring > writing)
+        more = 1;
 }
 
 /* Fills the notes with words of 1 to 11 letters, lines of 12 words and, behind each count of lines, an empty line. */
@@ -138,6 +163,7 @@ static void measure_refusals(void) {
 }
 
 int main(void) {
+    puts("measure   write  format");
     measure_text("Knuth-Plass, paragraphs of 960 words", 0, "", 80);
     measure_text("Knuth-Plass, many paragraphs", 0, "", 1);
     measure_width("Knuth-Plass, width 1000", 1000, 85);
@@ -153,5 +179,7 @@ int main(void) {
     measure_prefix();
     measure_refusals();
     printf("stack: at most %lu bytes; %lu allowed\n", (unsigned long)greatest, (unsigned long)MOST);
-    return greatest <= MOST ? 0 : 1;
+    if (more)
+        puts("stack: measuring took more than writing");
+    return greatest <= MOST && !more ? 0 : 1;
 }

@@ -7,7 +7,7 @@ use libc::STDOUT_FILENO;
 ghost use Prim.Native.Nat.{_≤_};
 ghost use lib.ListN.{length};
 
-// As many of the output's bytes as the answer counts.
+// As many of the output's bytes as an answer counts; all of them where it counts more or refuses.
 fn counted(n: u64, output: &[u8]) -> usize
     ensures { λ r. ⌜ r ≤ length (now (output .entry)) ⌝ }
 {
@@ -16,6 +16,12 @@ fn counted(n: u64, output: &[u8]) -> usize
     } else {
         output.len()
     }
+}
+
+// Measures, and writes with as much room as is needed, if it is there. What measuring refuses, writing refuses with any room.
+fn ask(notes: &[u8], output: &mut [u8]) -> u64 {
+    let room = counted(rudignals::rudignals_measure(b"", notes), output);
+    rudignals::rudignals_write(b"", notes, &mut output[..room])
 }
 
 // Whether the input ended where reading stopped: it may have failed there. A terminal is not asked, since it would wait for another line.
@@ -47,7 +53,7 @@ fn main() {
             return;
         }
     }
-    let answer = rudignals::rudignals_format(b"", &notes[..n], &mut output);
+    let answer = ask(&notes[..n], &mut output);
     let code = answer / 0x1_0000_0000;
     let value = answer % 0x1_0000_0000;
     if code != 0 {

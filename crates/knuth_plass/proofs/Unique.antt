@@ -1,4 +1,4 @@
--- Two results that keep the promise of `best_breaks` have the same marks, all 1,024 of them.
+-- Two results that keep the promise of `best_breaks` have the same marks, all of them.
 use mathlib.Core.Path.{_≡_, refl, sym, ap, _∙_}
 use mathlib.Core.Bool.{Bool, true, false}
 use mathlib.Core.List.{List, []}
@@ -18,7 +18,7 @@ behind-first n i marks h = getD-drop 1 (take n marks) i false ∙ ap (λ (k : �
 
 pub best-unique : (g : Setting) (n : ℕ) (table : List ℕ) (old : List Bool) (t u : Tables) (a b : List ℕ) (marks others : List Bool)
     → BestAre g n table old t a marks → BestAre g n table old u b others → marks ≡ others
-best-unique g n table old t u a b marks others h k = ext-getD false marks others (h .lent .all ∙ sym (k .lent .all)) same
+best-unique g n table old t u a b marks others h k = ext-getD false marks others (h .sized ∙ sym (k .sized)) same
   where
     at-first : getD marks 0 false ≡ getD others 0 false
     at-first = h .first [] ∙ sym (k .first [])

@@ -178,6 +178,20 @@ fn ask(block: &[u8], b: usize, notes: &[u8], n: usize, output: &mut [u8]) -> u64
     rudignals::rudignals_format(&block[..b], &notes[..n], output)
 }
 
+// Measuring and writing, likewise.
+fn ask_measure(block: &[u8], b: usize, notes: &[u8], n: usize) -> u64
+    requires { ⌜ (b ≤ length (now block)) × (n ≤ length (now notes)) ⌝ }
+{
+    rudignals::rudignals_measure(&block[..b], &notes[..n])
+}
+
+fn ask_write(block: &[u8], b: usize, notes: &[u8], n: usize, output: &mut [u8]) -> u64
+    requires { ⌜ (b ≤ length (now block)) × (n ≤ length (now notes)) ⌝ }
+{
+    dot(output);
+    rudignals::rudignals_write(&block[..b], &notes[..n], output)
+}
+
 // The number that a line wants: its own or, of the Rust's, code 0 with the output's length.
 fn wanted(text: &[u8], at: usize, whole: bool, size: usize) -> u64
     requires { ⌜ at ≤ length (now text) ⌝ }
@@ -188,8 +202,16 @@ fn wanted(text: &[u8], at: usize, whole: bool, size: usize) -> u64
     size as u64
 }
 
+// What measuring is to tell where the call is to answer so: never code 5, but its N with code 0.
+fn measured(number: u64) -> u64 {
+    if number / 0x1_0000_0000 == 5 {
+        return number % 0x1_0000_0000;
+    }
+    number
+}
+
 // The call of one line, with an output slice of the length that it wants.
-fn answered(
+fn called(
     text: &[u8],
     row: Row,
     whole: bool,
@@ -207,6 +229,47 @@ fn answered(
         return false;
     }
     spells(text, row.want, output, size)
+}
+
+// Measuring and writing, likewise.
+fn called_in_two(
+    text: &[u8],
+    row: Row,
+    whole: bool,
+    block: &mut [u8],
+    notes: &mut [u8],
+    output: &mut [u8],
+) -> bool
+    requires { ⌜ (row .block ≤ length (now text)) × (row .notes ≤ length (now text)) × (row .number ≤ length (now text)) × (row .want ≤ length (now text)) ⌝ }
+{
+    let b = read_field(text, row.block, block);
+    let n = read_field(text, row.notes, notes);
+    let size = lesser(field_bytes(text, row.want), output.len());
+    let want = wanted(text, row.number, whole, size);
+    if ask_measure(block, b, notes, n) != measured(want) {
+        return false;
+    }
+    let answer = ask_write(block, b, notes, n, &mut output[..size]);
+    if answer != want {
+        return false;
+    }
+    spells(text, row.want, output, size)
+}
+
+fn answered(
+    text: &[u8],
+    row: Row,
+    whole: bool,
+    block: &mut [u8],
+    notes: &mut [u8],
+    output: &mut [u8],
+) -> bool
+    requires { ⌜ (row .block ≤ length (now text)) × (row .notes ≤ length (now text)) × (row .number ≤ length (now text)) × (row .want ≤ length (now text)) ⌝ }
+{
+    if !called(text, row, whole, block, notes, output) {
+        return false;
+    }
+    called_in_two(text, row, whole, block, notes, output)
 }
 
 // All lines of the text up to a place.

@@ -1,13 +1,13 @@
--- A blank line is a full boundary: of the pieces, of the digest, of what is refused, and of the call.
+-- A blank line is a full boundary: of the pieces, of the digest, of what is refused, and of measuring.
 use mathlib.Core.Path.{_≡_, refl, sym, ap, _∙_}
 use mathlib.Core.Bool.{Bool, true, false}
 use mathlib.Core.List.{List, [], _∷_, _++_}
 use Prim.Native.Nat.{ℕ, _+_, _≤_}
 use native.Mathlib.Omega.{arith}
 use lib.ListN.{length, length-append}
-use Rattle.lists.specs.Walk.{walk, last}
+use Rattle.lists.specs.Walk.{walk}
 use Rattle.lists.specs.Runs.{every, joined}
-use Rattle.lists.proofs.Walk.{walk-step}
+use Rattle.lists.proofs.Walk.{last, walk-step}
 use Rattle.lists.specs.Theorems.All.{All}
 use Rattle.lists.proofs.All.{all-append}
 use Rattle.lists.proofs.Parts.{joined-append, joined-cons}
@@ -26,9 +26,9 @@ use Rattle.pieces.specs.Pieces.{Piece, nextPiece, pieces}
 use Rattle.pieces.proofs.Boundary.{blankPiece, pieces-stop}
 use Rattle.pieces.proofs.Reach.{blank-stops}
 use Rattle.rudignals.specs.Answers.{done}
-use Rattle.rudignals.specs.Format.{mostBytes, outputOf, pieceOutput, digest, extentOf, tooMany, longParagraph, damageIn, answer}
+use Rattle.rudignals.specs.Format.{mostBytes, outputOf, pieceOutput, digest, extentOf, tooMany, longParagraph, damageIn, measuring}
 use Rattle.rudignals.specs.Theorems.LineEnds.{LineEnd, feed, returnAndFeed, byFeed}
-use Rattle.rudignals.proofs.Answers.{answer-done, done-answer}
+use Rattle.rudignals.proofs.Answers.{measured-done, done-measured}
 use Rattle.rudignals.proofs.LineEnds.{line-of-bytes}
 use Rattle.rudignals.proofs.Undamaged.{damage-append, blank-sound, feed-sound, return-feed-sound}
 
@@ -99,22 +99,20 @@ module _ (o : Opts) (a line end b : List ℕ) (closed : Closed a) (feedless : ev
       go true h g = refl
       go false h g = damage-append a (line ++ (end ++ b)) h (damage-append line (end ++ b) (blank-sound o line blank) (damage-append end b (end-sound ends) g))
 
--- ---- the call
+-- ---- measuring
 
-pub answer-boundary : (block first line end second : List ℕ) (o : Options) (room₁ room₂ space : ℕ) (digest₁ digest₂ : List ℕ)
+pub measuring-boundary : (block first line end second : List ℕ) (o : Options) (digest₁ digest₂ : List ℕ)
     → readBlock block ≡ Accepted o → Closed first → every noFeed line ≡ true → LineEnd line end → classify (meant block o) line ≡ Blank
-    → answer block first room₁ ≡ done digest₁ → answer block second room₂ ≡ done digest₂
-    → length (first ++ (line ++ (end ++ second))) ≤ mostBytes → length digest₁ + 1 + length digest₂ ≤ space
-    → answer block (first ++ (line ++ (end ++ second))) space ≡ done (digest₁ ++ 10 ∷ digest₂)
-answer-boundary block first line end second o room₁ room₂ space digest₁ digest₂ b c f e k h₁ h₂ n s =
+    → measuring block first ≡ done digest₁ → measuring block second ≡ done digest₂
+    → length (first ++ (line ++ (end ++ second))) ≤ mostBytes
+    → measuring block (first ++ (line ++ (end ++ second))) ≡ done (digest₁ ++ 10 ∷ digest₂)
+measuring-boundary block first line end second o digest₁ digest₂ b c f e k h₁ h₂ n =
     let m = meant block o in
-    let a₁ = answer-done block first room₁ o digest₁ b h₁ in
-    let a₂ = answer-done block second room₂ o digest₂ b h₂ in
-    let l = length-append digest₁ (10 ∷ digest₂) in
-    done-answer block (first ++ (line ++ (end ++ second))) space o (digest₁ ++ 10 ∷ digest₂) b n
+    let a₁ = measured-done block first o digest₁ b h₁ in
+    let a₂ = measured-done block second o digest₂ b h₂ in
+    done-measured block (first ++ (line ++ (end ++ second))) o (digest₁ ++ 10 ∷ digest₂) b n
     (record {
       sound = sound-boundary m first line end second c f e k (a₁ .sound) (a₂ .sound);
       short = long-boundary m first line end second c f e k (a₁ .short) (a₂ .short);
       bytes-are = rw (a₁ .bytes-are, a₂ .bytes-are) (sym (digest-boundary m first line end second c f e k));
     })
-    (omega arith)

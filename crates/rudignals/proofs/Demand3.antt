@@ -1,6 +1,6 @@
 -- Demand 3, in the customer's sentences. Each statement is about the definitions of specs/ alone, no code, and is proved with nothing
--- assumed; where a proof is long it stands in the file cited. The words of the statements: `answer` and `done` (specs/Format.antt and
--- Answers.antt; `done bytes` is code 0 with those bytes), `LineEnd` and `LineIs` (specs/Theorems/LineEnds.antt), `Closed` (lines/specs),
+-- assumed; where a proof is long it stands in the file cited. The words of the statements: `answer`, `measuring`,
+-- `writing` and `done` (specs/Format.antt and Answers.antt; `done bytes` is code 0 with those bytes), `LineEnd` and `LineIs` (specs/Theorems/LineEnds.antt), `Closed` (lines/specs),
 -- `Blanks` (text/specs), `InOrder` (output/specs/Theorems/Order.antt), `rowInk` (words/specs/Theorems/Ink.antt), `All` and `∈`
 -- (lists/specs/Theorems/All.antt), `joined` (lists/specs/Runs.antt).
 use mathlib.Core.Path.{_≡_, refl, sym, _∙_}
@@ -35,65 +35,101 @@ use Rattle.words.specs.Theorems.Ink.{rowInk}
 use Rattle.words.proofs.Order.{Whole, row-ink, paragraph-whole}
 use Rattle.output.specs.Theorems.Order.{InOrder}
 use Rattle.rudignals.specs.Answers.{done, numbered}
-use Rattle.rudignals.specs.Format.{mostBytes, pieceOutput, digest, extentOf, answer}
+use Rattle.rudignals.specs.Format.{mostBytes, pieceOutput, digest, extentOf, answer, measuring, writing}
 use Rattle.rudignals.specs.Theorems.LineEnds.{LineEnd, feed, LineIs}
-use Rattle.rudignals.proofs.Answers.{answer-done}
-use Rattle.rudignals.proofs.Boundary.{answer-boundary}
+use Rattle.rudignals.proofs.Together.{together-they-do-what-the-old-call-did, measured-room-suffices}
+use Rattle.rudignals.proofs.Answers.{measured-done, answer-measured}
+use Rattle.rudignals.proofs.Boundary.{measuring-boundary}
 use Rattle.rudignals.proofs.Order.{rows-of, paragraph-order}
 use Rattle.rudignals.proofs.Extents.{extents-are-notes, extents-some, joined-at, output-some, damaged-pieces, plain-digest}
 use Rattle.rudignals.proofs.LineEnds.{LineAt, line-of-bytes, line-at}
 
--- What a call that is done has written is the digest of its notes, of which 2 to 4 speak, under the options that its block means.
+-- What measuring has found, and what a call that is done has written, is the digest of its notes, of which 2 to 4 speak, under the
+-- options that its block means.
+pub what-is-measured-is-the-digest : (block notes : List ℕ) (o : Options) (bytes : List ℕ)
+    → readBlock block ≡ Accepted o
+    → measuring block notes ≡ done bytes
+    → bytes ≡ digest (meant block o) notes
+what-is-measured-is-the-digest block notes o bytes b e = measured-done block notes o bytes b e .bytes-are
+
 pub what-is-done-is-the-digest : (block notes : List ℕ) (o : Options) (space : ℕ) (bytes : List ℕ)
     → readBlock block ≡ Accepted o
     → answer block notes space ≡ done bytes
     → bytes ≡ digest (meant block o) notes
-what-is-done-is-the-digest block notes o space bytes b e = answer-done block notes space o bytes b e .bytes-are
+what-is-done-is-the-digest block notes o space bytes b e = what-is-measured-is-the-digest block notes o bytes b (answer-measured block notes space bytes e .0)
 
 -- ---- 1. an empty line is a full boundary
 
 -- The option block is accepted. The first part is empty or ends in a line feed, and the second is any. Between them stands a blank line:
 -- its text, in which no line feed stands and which is blank by the definition (lines/specs/Classes), and its line end, a line feed or a
--- carriage return and a line feed. Each part by itself is done, whatever room it had. The whole is within the input limit, and there is
--- room for it. Keep may be on or off.
-module _ (block first line end second : List ℕ) (o : Options) (room₁ room₂ space : ℕ) (digest₁ digest₂ : List ℕ)
+-- carriage return and a line feed. The whole is within the input limit. Keep may be on or off.
+module _ (block first line end second : List ℕ) (o : Options) (digest₁ digest₂ : List ℕ)
     (block-accepted : readBlock block ≡ Accepted o)
     (first-ends : Closed first)
     (one-line : every noFeed line ≡ true)
     (line-ends : LineEnd line end)
     (blank : classify (meant block o) line ≡ Blank)
-    (first-done : answer block first room₁ ≡ done digest₁)
-    (second-done : answer block second room₂ ≡ done digest₂)
-    (within-limit : length (first ++ (line ++ (end ++ second))) ≤ mostBytes)
-    (enough-room : length digest₁ + 1 + length digest₂ ≤ space) where
-  -- Formatting the first part, the blank line and the second part gives the first's output, one line feed, and the second's output.
-  pub a-blank-line-is-a-full-boundary : answer block (first ++ (line ++ (end ++ second))) space ≡ done (digest₁ ++ 10 ∷ digest₂)
-  a-blank-line-is-a-full-boundary =
-      answer-boundary block first line end second o room₁ room₂ space digest₁ digest₂ block-accepted first-ends one-line line-ends blank first-done second-done within-limit enough-room
+    (within-limit : length (first ++ (line ++ (end ++ second))) ≤ mostBytes) where
+  -- Each part by itself is measured as done.
+  module _ (first-measured : measuring block first ≡ done digest₁) (second-measured : measuring block second ≡ done digest₂) where
+    -- Measuring the first part, the blank line and the second part finds the first's output, one line feed, and the second's output.
+    pub a-blank-line-is-a-full-boundary-for-measuring : measuring block (first ++ (line ++ (end ++ second))) ≡ done (digest₁ ++ 10 ∷ digest₂)
+    a-blank-line-is-a-full-boundary-for-measuring =
+        measuring-boundary block first line end second o digest₁ digest₂ block-accepted first-ends one-line line-ends blank first-measured second-measured within-limit
 
-  -- So the number that the host gets is the sum of the two parts' numbers and one.
-  pub the-counts-of-the-parts-add-up : numbered (answer block (first ++ (line ++ (end ++ second))) space) ≡ numbered (answer block first room₁) + 1 + numbered (answer block second room₂)
-  unfolding numbered
-  the-counts-of-the-parts-add-up = rw (a-blank-line-is-a-full-boundary, first-done, second-done, length-append) (omega arith)
+    -- So the number that the host gets is the sum of the two parts' numbers and one.
+    pub the-measured-counts-add-up : numbered (measuring block (first ++ (line ++ (end ++ second)))) ≡ numbered (measuring block first) + 1 + numbered (measuring block second)
+    unfolding numbered
+    the-measured-counts-add-up = rw (a-blank-line-is-a-full-boundary-for-measuring, first-measured, second-measured, length-append) (omega arith)
+
+  -- Each part by itself is done, whatever room it had, and there is room for the whole.
+  module _ (room₁ room₂ space : ℕ) (enough-room : length digest₁ + 1 + length digest₂ ≤ space) where
+    module _ (first-done : answer block first room₁ ≡ done digest₁) (second-done : answer block second room₂ ≡ done digest₂) where
+      -- Formatting the first part, the blank line and the second part gives the first's output, one line feed, and the second's output.
+      pub a-blank-line-is-a-full-boundary : answer block (first ++ (line ++ (end ++ second))) space ≡ done (digest₁ ++ 10 ∷ digest₂)
+      a-blank-line-is-a-full-boundary =
+          let m₁ = answer-measured block first room₁ digest₁ first-done in
+          let m₂ = answer-measured block second room₂ digest₂ second-done in
+          let l = length-append digest₁ (10 ∷ digest₂) in
+          let w = measured-room-suffices block (first ++ (line ++ (end ++ second))) space (digest₁ ++ 10 ∷ digest₂) (a-blank-line-is-a-full-boundary-for-measuring (m₁ .0) (m₂ .0)) (omega arith) in
+          sym (together-they-do-what-the-old-call-did block (first ++ (line ++ (end ++ second))) space) ∙ w
+
+      pub the-counts-of-the-parts-add-up : numbered (answer block (first ++ (line ++ (end ++ second))) space) ≡ numbered (answer block first room₁) + 1 + numbered (answer block second room₂)
+      unfolding numbered
+      the-counts-of-the-parts-add-up = rw (a-blank-line-is-a-full-boundary, first-done, second-done, length-append) (omega arith)
+
+    -- Writing likewise.
+    module _ (first-written : writing block first room₁ ≡ done digest₁) (second-written : writing block second room₂ ≡ done digest₂) where
+      pub a-blank-line-is-a-full-boundary-for-writing : writing block (first ++ (line ++ (end ++ second))) space ≡ done (digest₁ ++ 10 ∷ digest₂)
+      a-blank-line-is-a-full-boundary-for-writing =
+          together-they-do-what-the-old-call-did block (first ++ (line ++ (end ++ second))) space
+          ∙ a-blank-line-is-a-full-boundary (sym (together-they-do-what-the-old-call-did block first room₁) ∙ first-written) (sym (together-they-do-what-the-old-call-did block second room₂) ∙ second-written)
 
 -- The customer's sentence: the blank line is empty, a line feed alone.
-module _ (block first second : List ℕ) (o : Options) (room₁ room₂ space : ℕ) (digest₁ digest₂ : List ℕ)
+module _ (block first second : List ℕ) (o : Options) (digest₁ digest₂ : List ℕ)
     (block-accepted : readBlock block ≡ Accepted o)
     (first-ends : Closed first)
-    (first-done : answer block first room₁ ≡ done digest₁)
-    (second-done : answer block second room₂ ≡ done digest₂)
-    (within-limit : length (first ++ 10 ∷ second) ≤ mostBytes)
-    (enough-room : length digest₁ + 1 + length digest₂ ≤ space) where
-  -- Formatting the first part, a line feed and the second part gives the first's output, one line feed, and the second's output.
-  pub an-empty-line-is-a-full-boundary : answer block (first ++ 10 ∷ second) space ≡ done (digest₁ ++ 10 ∷ digest₂)
-  an-empty-line-is-a-full-boundary =
-      a-blank-line-is-a-full-boundary block first [] (10 ∷ []) second o room₁ room₂ space digest₁ digest₂
-      block-accepted first-ends (every-nil noFeed) (feed refl (λ z. z)) (empty-blank (meant block o)) first-done second-done within-limit enough-room
+    (within-limit : length (first ++ 10 ∷ second) ≤ mostBytes) where
+  module _ (first-measured : measuring block first ≡ done digest₁) (second-measured : measuring block second ≡ done digest₂) where
+    pub an-empty-line-is-a-full-boundary-for-measuring : measuring block (first ++ 10 ∷ second) ≡ done (digest₁ ++ 10 ∷ digest₂)
+    an-empty-line-is-a-full-boundary-for-measuring =
+        a-blank-line-is-a-full-boundary-for-measuring block first [] (10 ∷ []) second o digest₁ digest₂ block-accepted first-ends (every-nil noFeed) (feed refl (λ z. z)) (empty-blank (meant block o)) within-limit first-measured second-measured
 
-  pub the-counts-add-up : numbered (answer block (first ++ 10 ∷ second) space) ≡ numbered (answer block first room₁) + 1 + numbered (answer block second room₂)
-  the-counts-add-up =
-      the-counts-of-the-parts-add-up block first [] (10 ∷ []) second o room₁ room₂ space digest₁ digest₂
-      block-accepted first-ends (every-nil noFeed) (feed refl (λ z. z)) (empty-blank (meant block o)) first-done second-done within-limit enough-room
+  module _ (room₁ room₂ space : ℕ) (enough-room : length digest₁ + 1 + length digest₂ ≤ space) where
+    module _ (first-done : answer block first room₁ ≡ done digest₁) (second-done : answer block second room₂ ≡ done digest₂) where
+      -- Formatting the first part, a line feed and the second part gives the first's output, one line feed, and the second's output.
+      pub an-empty-line-is-a-full-boundary : answer block (first ++ 10 ∷ second) space ≡ done (digest₁ ++ 10 ∷ digest₂)
+      an-empty-line-is-a-full-boundary =
+          a-blank-line-is-a-full-boundary block first [] (10 ∷ []) second o digest₁ digest₂ block-accepted first-ends (every-nil noFeed) (feed refl (λ z. z)) (empty-blank (meant block o)) within-limit room₁ room₂ space enough-room first-done second-done
+
+      pub the-counts-add-up : numbered (answer block (first ++ 10 ∷ second) space) ≡ numbered (answer block first room₁) + 1 + numbered (answer block second room₂)
+      the-counts-add-up =
+          the-counts-of-the-parts-add-up block first [] (10 ∷ []) second o digest₁ digest₂ block-accepted first-ends (every-nil noFeed) (feed refl (λ z. z)) (empty-blank (meant block o)) within-limit room₁ room₂ space enough-room first-done second-done
+
+    module _ (first-written : writing block first room₁ ≡ done digest₁) (second-written : writing block second room₂ ≡ done digest₂) where
+      pub an-empty-line-is-a-full-boundary-for-writing : writing block (first ++ 10 ∷ second) space ≡ done (digest₁ ++ 10 ∷ digest₂)
+      an-empty-line-is-a-full-boundary-for-writing =
+          a-blank-line-is-a-full-boundary-for-writing block first [] (10 ∷ []) second o digest₁ digest₂ block-accepted first-ends (every-nil noFeed) (feed refl (λ z. z)) (empty-blank (meant block o)) within-limit room₁ room₂ space enough-room first-written second-written
 
 -- ---- 2. words stand once and in order
 

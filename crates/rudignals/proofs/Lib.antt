@@ -1,3 +1,4 @@
+pub mod Together
 pub mod Answers
 pub mod Boundary
 pub mod Order

@@ -1,15 +1,14 @@
 -- What an answer tells is small: a fault's place is, other places lie in the notes, and a digest has at most 1,040 bytes for each byte of
 -- the notes. So code and value can be read back from the number.
 use mathlib.Core.Path.{_≡_, refl, sym, ap, _∙_}
-use mathlib.Core.Bool.{Bool, true, false, cond, _||_}
+use mathlib.Core.Bool.{Bool, true, false, _||_}
 use mathlib.Core.List.{List}
 use Prim.Native.Nat.{ℕ, zero, suc, _+_, _*_, _/_, _%_, _^_, _≤_, _<_}
 use native.Mathlib.Omega.{arith}
-use lib.Dec.{leb, ltb}
+use lib.Dec.{ltb}
 use lib.ListN.{length, length-append}
 use lib.Seq.{slice, length-slice}
 use borrow.Author.Tests.{lt-ltb, ltb-true, ltb-false}
-use Rattle.text.specs.Characters.{damage}
 use Rattle.text.specs.declared.Found.{Found}
 use Rattle.text.specs.declared.Found.the-variants.{At, Nowhere}
 use Rattle.text.proofs.Damage.{damage-some}
@@ -27,8 +26,9 @@ use Rattle.pieces.proofs.Meaning.{means, bounded}
 use Rattle.words.specs.Words.{wordsOf}
 use Rattle.output.specs.Emission.{lineFeed}
 use Rattle.rudignals.specs.Answers.{Answer, done, options, long, text, words, room, code, value, numbered}
-use Rattle.rudignals.specs.Format.{mostBytes, mostWords, outputOf, tooMany, digest, longParagraph, withWords, withText, damageIn, withNotes, withBlock, answer}
+use Rattle.rudignals.specs.Format.{mostBytes, mostWords, outputOf, tooMany, digest, longParagraph, withWords, withText, damageIn, withNotes, withBlock, answer, measuring, writing}
 use Rattle.rudignals.specs.Contracts.Call.{outputFrom, longFrom, FirstPiece, told, replyNumber}
+use Rattle.rudignals.proofs.Together.{together-they-do-what-the-old-call-did, in-room-value}
 use Rattle.rudignals.proofs.Meaning.{PieceGoes, piece-goes}
 use Rattle.rudignals.proofs.Bound.{formatted-most}
 use Rattle.rudignals.proofs.Faults.{fault-small}
@@ -108,44 +108,48 @@ module _ (o : Opts) (notes : List ℕ) (least : 1 ≤ o .tab) (most : o .tab ≤
   pub long-within : (n : ℕ) → longParagraph o 0 (pieces o notes) ≡ At n → n ≤ length notes
   long-within n e = all-small .place n (all-long o notes ∙ e)
 
-  notes-value : (space : ℕ) → value (withNotes o notes space) ≤ 68157440
-  notes-value space = size (ltb mostBytes (length notes)) refl
+  notes-value : value (withNotes done o notes) ≤ 68157440
+  notes-value = size (ltb mostBytes (length notes)) refl
     where
-      fit : (b : Bool) → length (digest o notes) ≤ 68157440 → value (cond b (done (digest o notes)) (room (length (digest o notes)))) ≤ 68157440
-      fit true h = h
-      fit false h = h
-
-      count : (f : Found) → longParagraph o 0 (pieces o notes) ≡ f → value (withWords o notes space f) ≤ 68157440
+      count : (f : Found) → longParagraph o 0 (pieces o notes) ≡ f → value (withWords done o notes f) ≤ 68157440
       count (At n) e = omega (arith, long-within n e)
-      count Nowhere e = fit (leb (length (digest o notes)) space) (omega (arith, short, digest-most e))
+      count Nowhere e = omega (arith, short, digest-most e)
 
-      damaged : (keep : Bool) (f : Found) → elim keep as (λ t. Found) [ true ↦ Nowhere | false ↦ damage notes ] ≡ f → value (withText o notes space f) ≤ 68157440
+      damaged : (keep : Bool) (f : Found) → damageIn keep notes ≡ f → value (withText done o notes f) ≤ 68157440
       damaged keep Nowhere e = count (longParagraph o 0 (pieces o notes)) refl
       damaged true (At n) e = absurd (let z : _≡_ {A = ℕ} 0 1 = cc in omega arith)
       damaged false (At n) e = omega (arith, damage-some false notes n e .1)
 
-      size : (b : Bool) → ltb mostBytes (length notes) ≡ b → value (elim b as (λ t. Answer) [ true ↦ long | false ↦ withText o notes space (damageIn (o .keep) notes) ]) ≤ 68157440
+      size : (b : Bool) → ltb mostBytes (length notes) ≡ b → value (elim b as (λ t. Answer) [ true ↦ long | false ↦ withText done o notes (damageIn (o .keep) notes) ]) ≤ 68157440
       size true e = omega arith
       size false e = damaged (o .keep) (damageIn (o .keep) notes) refl
 
--- ---- the call
+-- ---- measuring
 
-long-value : (o : Opts) (notes : List ℕ) (space : ℕ) → mostBytes < length notes → value (withNotes o notes space) ≡ 0
-long-value o notes space h = rw (withNotes, lt-ltb mostBytes (length notes) h)
+long-value : (o : Opts) (notes : List ℕ) → mostBytes < length notes → value (withNotes done o notes) ≡ 0
+long-value o notes h = rw (withNotes, lt-ltb mostBytes (length notes) h)
 
-pub answer-value : (block notes : List ℕ) (space : ℕ) → value (answer block notes space) ≤ 68157440
-unfolding answer meant
-answer-value block notes space = go (readBlock block) refl
+measured-value : (block notes : List ℕ) → value (measuring block notes) ≤ 68157440
+unfolding measuring meant
+measured-value block notes = go (readBlock block) refl
   where
-    short : (o : Options) → readBlock block ≡ Accepted o → (t : Bool) → ltb mostBytes (length notes) ≡ t → value (withNotes (meant block o) notes space) ≤ 68157440
-    short o e true t = omega (arith, long-value (meant block o) notes space (ltb-true mostBytes (length notes) t))
+    short : (o : Options) → readBlock block ≡ Accepted o → (t : Bool) → ltb mostBytes (length notes) ≡ t → value (withNotes done (meant block o) notes) ≤ 68157440
+    short o e true t = omega (arith, long-value (meant block o) notes (ltb-true mostBytes (length notes) t))
     short o e false t =
         let k = accepted block o e in
-        notes-value (meant block o) notes (k .tabLeast) (k .tabMost) (ltb-false mostBytes (length notes) t) (k .splitClears) space
+        notes-value (meant block o) notes (k .tabLeast) (k .tabMost) (ltb-false mostBytes (length notes) t) (k .splitClears)
 
-    go : (b : Block) → readBlock block ≡ b → value (withBlock block notes space b) ≤ 68157440
+    go : (b : Block) → readBlock block ≡ b → value (withBlock done block notes b) ≤ 68157440
     go (Fault place) e = omega (arith, fault-small block place e)
     go (Accepted o) e = short o e (ltb mostBytes (length notes)) refl
+
+-- ---- writing
+
+written-value : (block notes : List ℕ) (space : ℕ) → value (writing block notes space) ≤ 68157440
+unfolding writing
+written-value block notes space = rw in-room-value (measured-value block notes)
+
+-- ---- reading the number
 
 code-most : (a : Answer) → code a ≤ 5
 code-most (done digest) = omega arith
@@ -155,11 +159,19 @@ code-most (text place) = omega arith
 code-most (words place) = omega arith
 code-most (room needed) = omega arith
 
+small-tells : (a : Answer) → value a ≤ 68157440 → (numbered a / 2 ^ 32 ≡ code a) × (numbered a % 2 ^ 32 ≡ value a)
+unfolding numbered
+small-tells a v = (omega arith, omega arith)
+
 -- Code and value can be read back from the number, whatever the block, the notes and the room.
 pub the-answer-tells-code-and-value : (block notes : List ℕ) (space : ℕ)
     → (numbered (answer block notes space) / 2 ^ 32 ≡ code (answer block notes space)) × (numbered (answer block notes space) % 2 ^ 32 ≡ value (answer block notes space))
-unfolding numbered
-the-answer-tells-code-and-value block notes space = let v = answer-value block notes space in (omega arith, omega arith)
+the-answer-tells-code-and-value block notes space = rw (← together-they-do-what-the-old-call-did block notes space) (small-tells (writing block notes space) (written-value block notes space))
+
+-- So they can from measuring's number.
+pub measuring-tells-code-and-value : (block notes : List ℕ)
+    → (numbered (measuring block notes) / 2 ^ 32 ≡ code (measuring block notes)) × (numbered (measuring block notes) % 2 ^ 32 ≡ value (measuring block notes))
+measuring-tells-code-and-value block notes = small-tells (measuring block notes) (measured-value block notes)
 
 -- ---- the code's number
 
@@ -172,9 +184,12 @@ told-number (text place) = omega arith
 told-number (words place) = omega arith
 told-number (room needed) = omega arith
 
-pub told-fits : (block notes : List ℕ) (space : ℕ) → replyNumber (told (answer block notes space)) < 2 ^ 64
+small-fits : (a : Answer) → value a ≤ 68157440 → replyNumber (told a) < 2 ^ 64
 unfolding numbered
-told-fits block notes space =
-    let v = answer-value block notes space in
-    let c = code-most (answer block notes space) in
-    rw told-number (omega arith)
+small-fits a v = let c = code-most a in rw told-number (omega arith)
+
+pub measured-fits : (block notes : List ℕ) → replyNumber (told (measuring block notes)) < 2 ^ 64
+measured-fits block notes = small-fits (measuring block notes) (measured-value block notes)
+
+pub written-fits : (block notes : List ℕ) (space : ℕ) → replyNumber (told (writing block notes space)) < 2 ^ 64
+written-fits block notes space = small-fits (writing block notes space) (written-value block notes space)

@@ -77,30 +77,49 @@ unfoldable pub longParagraph : Opts → ℕ → List Piece → Found
 longParagraph o place [] = Nowhere
 longParagraph o place (q ∷ qs) = elim (tooMany o (q .kind)) [ true ↦ At place | false ↦ longParagraph o (place + length (extentOf q)) qs ]
 
--- ---- the answer: the lowest number wins
+-- ---- the answers: the lowest number wins. `then` is what is answered with the digest, where nothing before it is refused
 
-abbrev pub withDigest : ℕ → List ℕ → Answer
-withDigest space bytes = cond (leb (length bytes) space) (done bytes) (room (length bytes))
+abbrev pub withWords : (List ℕ → Answer) → Opts → List ℕ → Found → Answer
+withWords then o notes (At place) = words place
+withWords then o notes Nowhere = then (digest o notes)
 
-abbrev pub withWords : Opts → List ℕ → ℕ → Found → Answer
-withWords o notes space (At place) = words place
-withWords o notes space Nowhere = withDigest space (digest o notes)
-
-abbrev pub withText : Opts → List ℕ → ℕ → Found → Answer
-withText o notes space (At place) = text place
-withText o notes space Nowhere = withWords o notes space (longParagraph o 0 (pieces o notes))
+abbrev pub withText : (List ℕ → Answer) → Opts → List ℕ → Found → Answer
+withText then o notes (At place) = text place
+withText then o notes Nowhere = withWords then o notes (longParagraph o 0 (pieces o notes))
 
 -- keep on: damaged lines are plain lines
 abbrev pub damageIn : Bool → List ℕ → Found
 damageIn keep notes = elim keep [ true ↦ Nowhere | false ↦ damage notes ]
 
-abbrev pub withNotes : Opts → List ℕ → ℕ → Answer
-withNotes o notes space = elim (ltb mostBytes (length notes)) [ true ↦ long | false ↦ withText o notes space (damageIn (o .keep) notes) ]
+abbrev pub withNotes : (List ℕ → Answer) → Opts → List ℕ → Answer
+withNotes then o notes = elim (ltb mostBytes (length notes)) [ true ↦ long | false ↦ withText then o notes (damageIn (o .keep) notes) ]
 
-abbrev pub withBlock : List ℕ → List ℕ → ℕ → Block → Answer
-withBlock block notes space (Fault place) = options place
-withBlock block notes space (Accepted o) = withNotes (meant block o) notes space
+abbrev pub withBlock : (List ℕ → Answer) → List ℕ → List ℕ → Block → Answer
+withBlock then block notes (Fault place) = options place
+withBlock then block notes (Accepted o) = withNotes then (meant block o) notes
 
--- the answer to a call with an output slice of so many bytes
+-- the answer to the call with an output slice of so many bytes
+abbrev pub withDigest : ℕ → List ℕ → Answer
+withDigest space bytes = cond (leb (length bytes) space) (done bytes) (room (length bytes))
+
 unfoldable pub answer : List ℕ → List ℕ → ℕ → Answer
-answer block notes space = withBlock block notes space (readBlock block)
+answer block notes space = withBlock (withDigest space) block notes (readBlock block)
+
+-- ---- P1: room asked first, then written
+
+-- what measuring answers, with no output slice: the digest is done, and its length is N
+unfoldable pub measuring : List ℕ → List ℕ → Answer
+measuring block notes = withBlock done block notes (readBlock block)
+
+-- what writing answers, from that and the room
+abbrev pub inRoom : ℕ → Answer → Answer
+inRoom space (done digest) = withDigest space digest
+inRoom space (options place) = options place
+inRoom space long = long
+inRoom space (text place) = text place
+inRoom space (words place) = words place
+-- (measuring does not answer so)
+inRoom space (room needed) = room needed
+
+unfoldable pub writing : List ℕ → List ℕ → ℕ → Answer
+writing block notes space = inRoom space (measuring block notes)

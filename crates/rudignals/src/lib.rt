@@ -13,16 +13,13 @@ ghost use mathlib.Core.List.{List};
 ghost use Prim.Native.Nat.{ℕ, _^_, _≤_, _<_};
 ghost use lib.ListN.{length, replicate};
 ghost use Rattle.options.specs.Opts.{meant};
-ghost use Rattle.options.specs.OptionBlock.{readBlock};
-ghost use Rattle.options.specs.declared.Block.the-variants.{Accepted};
-ghost use Rattle.pieces.specs.Pieces.{pieces};
 ghost use Rattle.records.specs.Contracts.Table.{Holds};
 ghost use Rattle.knuth_plass.specs.Contracts.Round.{Limits, AllWide};
-ghost use Rattle.rudignals.specs.Answers.{numbered, outputAfter};
-ghost use Rattle.rudignals.specs.Format.{damageIn, withWords, withNotes, answer, longParagraph};
-ghost use Rattle.rudignals.specs.Contracts.Call.{replyNumber, Answers, CursorIn, TextAhead, Reached, Scratch, Admitted, settingFor, Broken, Placed, TextStepped, Coursed, Finished, FinishedFrom};
+ghost use Rattle.rudignals.specs.Answers.{done, numbered, outputAfter};
+ghost use Rattle.rudignals.specs.Format.{damageIn, withDigest, answer, measuring, writing};
+ghost use Rattle.rudignals.specs.Contracts.Call.{told, replyNumber, Answers, leftOf, AdmitsNotes, Admits, CursorIn, TextAhead, Reached, Scratch, Admitted, settingFor, Broken, Placed, TextStepped, Coursed, Finished, FinishedFrom};
 
-// What the call answers: the digest's length, or a refusal with what is told of it.
+// What measuring and writing reply: the digest's length, or a refusal with what is told of it. (Measuring has no `Room`.)
 pub enum Reply {
     Done(usize),
     Options(usize),
@@ -30,6 +27,12 @@ pub enum Reply {
     Text(usize),
     Words(usize),
     Room(usize),
+}
+
+// What comes before the work: a refusal, or the options of an accepted block.
+enum Admission {
+    Refused(Reply),
+    Passed(Options),
 }
 
 // Where the work stands: the place in the notes, the length of the digest up to there, and next-mail.
@@ -63,12 +66,29 @@ enum Ended {
     Stopped(usize),
 }
 
-// What a host calls: the answer's number, and the output as the answer leaves it.
+// What a host calls to learn how much room it needs: the code, and for 0 the digest's length. Nothing is written.
+#[no_mangle]
+pub extern "C" fn rudignals_measure(options: &[u8], notes: &[u8]) -> u64
+    ensures { λ r. ⌜ r ≡ numbered (measuring (now (options .entry)) (now (notes .entry))) ⌝ }
+{
+    number_of(measure(options, notes))
+}
+
+// What it calls then: the answer's number, and the output as the answer leaves it.
+#[no_mangle]
+pub extern "C" fn rudignals_write(options: &[u8], notes: &[u8], output: &mut [u8]) -> u64
+    ensures { λ r. ⌜ (r ≡ numbered (writing (now (options .entry)) (now (notes .entry)) (length (now (output .entry))))) × (now (output .exit) ≡ outputAfter (writing (now (options .entry)) (now (notes .entry)) (length (now (output .entry)))) (now (output .entry))) ⌝ }
+{
+    number_of(write(options, notes, output))
+}
+
+// The two in sequence. Writing follows whatever measuring tells: where that refuses with code 4, the output is still to be zeroed.
 #[no_mangle]
 pub extern "C" fn rudignals_format(options: &[u8], notes: &[u8], output: &mut [u8]) -> u64
     ensures { λ r. ⌜ (r ≡ numbered (answer (now (options .entry)) (now (notes .entry)) (length (now (output .entry))))) × (now (output .exit) ≡ outputAfter (answer (now (options .entry)) (now (notes .entry)) (length (now (output .entry)))) (now (output .entry))) ⌝ }
 {
-    number_of(answer_to(options, notes, output))
+    rudignals_measure(options, notes);
+    rudignals_write(options, notes, output)
 }
 
 // The answer's code stands in the upper 32 bits of its number, what it tells in the lower.
@@ -89,30 +109,49 @@ fn number_of(a: Reply) -> u64
     }
 }
 
-// The answer to a call: the lowest code wins.
-fn answer_to(block: &[u8], notes: &[u8], out: &mut [u8]) -> Reply
-    ensures { λ r. ⌜ Answers (answer (now (block .entry)) (now (notes .entry)) (length (now (out .entry)))) (now (out .entry)) r (now (out .exit)) ⌝ }
+// What measuring replies: the lowest code wins.
+fn measure(block: &[u8], notes: &[u8]) -> Reply
+    ensures { λ r. ⌜ r ≡ told (measuring (now (block .entry)) (now (notes .entry))) ⌝ }
+{
+    match admit(block, notes) {
+        Admission::Refused(r) => r,
+        Admission::Passed(o) => measure_notes(o, block, notes),
+    }
+}
+
+// What writing replies, likewise.
+fn write(block: &[u8], notes: &[u8], out: &mut [u8]) -> Reply
+    ensures { λ r. ⌜ Answers (writing (now (block .entry)) (now (notes .entry)) (length (now (out .entry)))) (now (out .entry)) r (now (out .exit)) ⌝ }
+{
+    match admit(block, notes) {
+        Admission::Refused(r) => r,
+        Admission::Passed(o) => write_notes(o, block, notes, out),
+    }
+}
+
+// Codes 1 to 3, or the options with which the notes are to be formatted.
+fn admit(block: &[u8], notes: &[u8]) -> Admission
+    ensures { λ r. ⌜ Admits (now (block .entry)) (now (notes .entry)) r ⌝ }
 {
     match options::read_block(block) {
-        Block::Fault(place) => Reply::Options(place),
-        Block::Accepted(o) => answer_with(o, block, notes, out),
+        Block::Fault(place) => Admission::Refused(Reply::Options(place)),
+        Block::Accepted(o) => admit_notes(o, notes),
     }
 }
 
 // Notes are refused if they are longer.
 const MOST_BYTES: usize = 65536;
 
-// The answer with the options of an accepted block.
-fn answer_with(o: Options, block: &[u8], notes: &[u8], out: &mut [u8]) -> Reply
-    requires { ⌜ readBlock (now block) ≡ Accepted o ⌝ }
-    ensures { λ r. ⌜ Answers (withNotes (meant (now (block .entry)) o) (now (notes .entry)) (length (now (out .entry)))) (now (out .entry)) r (now (out .exit)) ⌝ }
+// The same with the options of an accepted block: codes 2 and 3.
+fn admit_notes(o: Options, notes: &[u8]) -> Admission
+    ensures { λ r. ⌜ ((block : List ℕ) → AdmitsNotes block o (now (notes .entry)) r) ⌝ }
 {
     if MOST_BYTES < notes.len() {
-        return Reply::Long;
+        return Admission::Refused(Reply::Long);
     }
     match damage_in(o.keep, notes) {
-        Found::At(place) => Reply::Text(place),
-        Found::Nowhere => format_notes(o, block, notes, out),
+        Found::At(place) => Admission::Refused(Reply::Text(place)),
+        Found::Nowhere => Admission::Passed(o),
     }
 }
 
@@ -126,10 +165,22 @@ fn damage_in(keep: bool, notes: &[u8]) -> Found
     text::first_damage(notes)
 }
 
-// Formats the notes.
-fn format_notes(o: Options, block: &[u8], notes: &[u8], out: &mut [u8]) -> Reply
+// Measures the notes: the pieces are put into no room at all.
+fn measure_notes(o: Options, block: &[u8], notes: &[u8]) -> Reply
     requires { ⌜ Admitted (now block) (now notes) o ⌝ }
-    ensures { λ r. ⌜ Answers (withWords (meant (now (block .entry)) o) (now (notes .entry)) (length (now (out .entry))) (longParagraph (meant (now (block .entry)) o) 0 (pieces (meant (now (block .entry)) o) (now (notes .entry))))) (now (out .entry)) r (now (out .exit)) ⌝ }
+    ensures { λ r. ⌜ r ≡ told (leftOf (meant (now (block .entry)) o) (now (notes .entry)) done) ⌝ }
+{
+    let mut none = [0u8; 0];
+    match put_all(o, block, notes, &mut none) {
+        Ended::Stopped(place) => Reply::Words(place),
+        Ended::All(needed) => Reply::Done(needed),
+    }
+}
+
+// Writes the notes' digest.
+fn write_notes(o: Options, block: &[u8], notes: &[u8], out: &mut [u8]) -> Reply
+    requires { ⌜ Admitted (now block) (now notes) o ⌝ }
+    ensures { λ r. ⌜ Answers (leftOf (meant (now (block .entry)) o) (now (notes .entry)) (withDigest (length (now (out .entry))))) (now (out .entry)) r (now (out .exit)) ⌝ }
 {
     match put_all(o, block, notes, out) {
         Ended::Stopped(place) => {

@@ -4,14 +4,6 @@ use lib.Seq.{length-take-le}
 use borrow.Author.Needs.{needs}
 use Rattle.digest.proofs.main.Statement.{statement}
 use Rattle.digest.proofs.main.Tie as tie
-use Rattle.digest.proofs.main.Reads as reads
-use Rattle.digest.proofs.main.Lts as lts
-use Rattle.digest.proofs.counted.Reads as counted-reads
-use Rattle.digest.proofs.ended.Reads as ended-reads
-use Rattle.digest.proofs.refused.Reads as refused-reads
-use Rattle.io.proofs.read_full.Reads as read-full-reads
-use Rattle.io.proofs.write_all.Reads as write-all-reads
-use Rattle.rudignals.proofs.rudignals_format.Reads as rudignals-format-reads
 
 slice-aggregate-read-full : tie.Need-slice-aggregate-read-full
 slice-aggregate-read-full c = search needs
@@ -31,20 +23,17 @@ write-all-requires c κs = search needs
 returns : tie.Need-returns
 returns c = search needs
 
-slice-aggregate-rudignals-format : tie.Need-slice-aggregate-rudignals-format
-slice-aggregate-rudignals-format c = search needs
-
 array-share-prefix-notes : tie.Need-array-share-prefix-notes
 array-share-prefix-notes c = search needs
 
-slice-aggregate-rudignals-format-2 : tie.Need-slice-aggregate-rudignals-format-2
-slice-aggregate-rudignals-format-2 c = search needs
+slice-aggregate-ask : tie.Need-slice-aggregate-ask
+slice-aggregate-ask c = search needs
 
-slice-aggregate-rudignals-format-3 : tie.Need-slice-aggregate-rudignals-format-3
-slice-aggregate-rudignals-format-3 c = search needs
+slice-aggregate-ask-2 : tie.Need-slice-aggregate-ask-2
+slice-aggregate-ask-2 c = search needs
 
-rudignals-format-requires : tie.Need-rudignals-format-requires
-rudignals-format-requires c κs = search needs
+ask-requires : tie.Need-ask-requires
+ask-requires c κs = search needs
 
 refused-requires : tie.Need-refused-requires
 refused-requires c κs = search needs
@@ -89,11 +78,10 @@ main-spec =
     slice-aggregate-write-all
     write-all-requires
     returns
-    slice-aggregate-rudignals-format
     array-share-prefix-notes
-    slice-aggregate-rudignals-format-2
-    slice-aggregate-rudignals-format-3
-    rudignals-format-requires
+    slice-aggregate-ask
+    slice-aggregate-ask-2
+    ask-requires
     refused-requires
     returns-2
     slice-aggregate-counted

@@ -14,7 +14,7 @@ pick-requires : tie.Need-pick-requires
 pick-requires c κs = search needs
 
 split-words-requires : tie.Need-split-words-requires
-split-words-requires c κs = let p = c .before .before .before .before .before .before .before .before .before .before .pre in let h = room-holds _ _ _ _ _ (p .1) (c .before .before .either .result) _ (c .before .pick .ensures) in (p .0 .order, p .0 .within, p .0 .short, p .0 .least, p .0 .most, h .0, p .0 .begins)
+split-words-requires c κs = let p = c .before .before .before .before .before .before .before .before .before .before .pre in let h = room-holds _ _ _ _ _ (p .1) (c .before .before .either .result) _ (c .before .pick .ensures) in (p .0 .order, p .0 .within, p .0 .short, p .0 .tabLeast, p .0 .tabMost, h .0, p .0 .begins)
 
 enum-known-n : tie.Need-enum-known-n
 enum-known-n c = search needs
@@ -101,7 +101,7 @@ returns-2 c =
       few = omega (arith, split-few (s block) _ w .1, h .1);
       next = refl;
       mail = refl;
-      wrote = wrote-as (emitted-is _ _ _ _ _ (l .0) (l .1) (l .2) (s block .words _ w) (c .before .before .before .before .before .before .before .before .before .before .before .before .before .before .before .mark-breaks .ensures _) (c .before .before .before .before .before .before .before .before .before .before .before .before .before .before .before .before .before .before .before .before .before .before .before .before .before .before .before .before .before .before .either .ensures) (c .before .before .before .before .before .before .before .before .before .before .before .before .before .before .before .before .before .before .before .before .before .setting-of .ensures)) (c .before .before .emit .ensures .0);
+      wrote = wrote-as (emitted-is _ _ _ _ _ (l .0) (l .1) (l .2) (s block .words _ w) (c .before .before .before .before .before .before .before .before .before .before .before .before .before .before .before .mark-breaks .ensures _) (c .before .before .before .before .before .before .before .before .before .before .before .before .before .before .before .before .before .before .before .before .before .before .before .before .before .before .before .before .before .before .either .ensures) (c .before .before .before .before .before .before .before .before .before .before .before .before .before .before .before .before .before .before .before .before .before .setting-of .ensures block)) (c .before .before .emit .ensures .0);
       bounded = most-as _ _ _ (c .before .before .before .before .layout-of .result) _ (l .1) (l .2) (s block .words _ w) (c .before .before .emit .ensures .1);
     }
 

@@ -1,26 +1,30 @@
 -- `rudignals::rudignals_format` meets its contract.
 use mathlib.Core.Path.{ap, _∙_}
+use lib.ListN.{length}
 use borrow.Author.Needs.{needs}
-use Rattle.rudignals.specs.Contracts.Call.{replyNumber}
-use Rattle.rudignals.proofs.Values.{told-number, told-fits}
+use denote.Ref.{now}
+use Rattle.rudignals.specs.Answers.{Answer, numbered, outputAfter}
+use Rattle.rudignals.proofs.Together.{together-they-do-what-the-old-call-did}
 use Rattle.rudignals.proofs.rudignals_format.Statement.{statement}
 use Rattle.rudignals.proofs.rudignals_format.Tie as tie
 
-answer-to-requires : tie.Need-answer-to-requires
-answer-to-requires c κs = search needs
+rudignals-measure-requires : tie.Need-rudignals-measure-requires
+rudignals-measure-requires c κs = search needs
 
-number-of-requires : tie.Need-number-of-requires
-number-of-requires c κs = rw (c .before .before .answer-to .ensures .is) (told-fits _ _ _)
+rudignals-write-requires : tie.Need-rudignals-write-requires
+rudignals-write-requires c κs = search needs
 
 same-length : tie.Need-same-length
 same-length c = search needs
 
 returns : tie.Need-returns
 returns c =
-    let a = c .before .before .before .answer-to .ensures in
-    (c .number-of .ensures ∙ ap replyNumber (a .is) ∙ told-number _, a .output)
+    let w = c .before .before .rudignals-write .ensures in
+    let out = now (c .before .before .before .before .before .before .before .before .args .output) in
+    let t = together-they-do-what-the-old-call-did (now (c .before .before .before .before .before .before .before .before .args .options)) (now (c .before .before .before .before .before .before .before .before .args .notes)) (length out) in
+    (w .0 ∙ ap numbered t, w .1 ∙ ap (λ (a : Answer). outputAfter a out) t)
 
 pub rudignals-format-spec : {M : Type 1} → statement M
 rudignals-format-spec =
     tie.close
-    (tie.spec answer-to-requires number-of-requires same-length returns)
+    (tie.spec rudignals-measure-requires rudignals-write-requires same-length returns)

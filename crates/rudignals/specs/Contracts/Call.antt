@@ -33,9 +33,11 @@ use Rattle.output.specs.Contracts.Writers.{marginOf, MarginIn}
 use Rattle.knuth_plass.specs.Contracts.Table.{tables}
 use Rattle.knuth_plass.specs.Contracts.Round.{Lent}
 use Rattle.rudignals.specs.Answers.{Answer, done, options, long, text, words, room, outputAfter}
-use Rattle.rudignals.specs.Format.{mostBytes, mostWords, settingOf, breaksBy, outputOf, pieceOutput, digest, extentOf, tooMany, longParagraph}
+use Rattle.rudignals.specs.Format.{mostBytes, mostWords, settingOf, breaksBy, outputOf, pieceOutput, digest, extentOf, tooMany, longParagraph, withWords, withNotes, withBlock}
 use Rattle.rudignals.specs.declared.Reply.{Reply}
-use Rattle.rudignals.specs.declared.Reply.the-variants.{Done, Options as Refused, Long, Text, Words, Room}
+use Rattle.rudignals.specs.declared.Reply.the-variants.{Done, Options as Faulty, Long, Text, Words, Room}
+use Rattle.rudignals.specs.declared.Admission.{Admission}
+use Rattle.rudignals.specs.declared.Admission.the-variants.{Refused, Passed}
 use Rattle.rudignals.specs.declared.Cursor.{Cursor}
 use Rattle.rudignals.specs.declared.Ahead.{Ahead}
 use Rattle.rudignals.specs.declared.Ahead.the-variants.{Text as AheadText, End}
@@ -50,7 +52,7 @@ use Rattle.rudignals.specs.declared.Ended.the-variants.{All, Stopped}
 
 abbrev pub told : Answer → Reply
 told (done digest) = Done (length digest)
-told (options place) = Refused place
+told (options place) = Faulty place
 told long = Long
 told (text place) = Text place
 told (words place) = Words place
@@ -59,7 +61,7 @@ told (room needed) = Room needed
 -- its number
 abbrev pub replyNumber : Reply → ℕ
 replyNumber (Done n) = n
-replyNumber (Refused place) = 1 * 2 ^ 32 + place
+replyNumber (Faulty place) = 1 * 2 ^ 32 + place
 replyNumber Long = 2 * 2 ^ 32
 replyNumber (Text place) = 3 * 2 ^ 32 + place
 replyNumber (Words place) = 4 * 2 ^ 32 + place
@@ -69,6 +71,32 @@ replyNumber (Room needed) = 5 * 2 ^ 32 + needed
 pub record Answers (a : Answer) (out : List ℕ) (r : Reply) (out′ : List ℕ) : Type 0 where
   pub is : r ≡ told a
   pub output : out′ ≡ outputAfter a out
+
+-- ---- codes 1 to 3, which are told before any piece is looked at
+
+-- a refusal that does not hang on what would become of the digest, and leaves the output as it is
+pub record Refuses (whole : (List ℕ → Answer) → Answer) (r : Reply) : Type 0 where
+  pub refusal : Answer
+  pub is : r ≡ told refusal
+  pub whole-is : (then : List ℕ → Answer) → whole then ≡ refusal
+  pub untouched : (out : List ℕ) → outputAfter refusal out ≡ out
+
+-- what is left to be told where none of them is due: code 4, or what becomes of the digest
+abbrev pub leftOf : Opts → List ℕ → (List ℕ → Answer) → Answer
+leftOf o notes then = withWords then o notes (longParagraph o 0 (pieces o notes))
+
+abbrev pub AdmitsNotes : List ℕ → Options → List ℕ → Admission → Type 0
+AdmitsNotes block o notes (Refused r) = Refuses (λ then. withNotes then (meant block o) notes) r
+AdmitsNotes block o notes (Passed p) = (p ≡ o) × (length notes ≤ mostBytes) × ((then : List ℕ → Answer) → withNotes then (meant block o) notes ≡ leftOf (meant block o) notes then)
+
+-- the options of an accepted block, and notes within the limit
+pub record Admitted (block notes : List ℕ) (o : Options) : Type 0 where
+  pub accepted : readBlock block ≡ Accepted o
+  pub short : length notes ≤ mostBytes
+
+abbrev pub Admits : List ℕ → List ℕ → Admission → Type 0
+Admits block notes (Refused r) = Refuses (λ then. withBlock then block notes (readBlock block)) r
+Admits block notes (Passed o) = Admitted block notes o × ((then : List ℕ → Answer) → withBlock then block notes (readBlock block) ≡ leftOf (meant block o) notes then)
 
 -- ---- pieces
 
@@ -118,11 +146,6 @@ pub record Scratch (table breaks : List ℕ) (ratios : List Float) (active : Lis
   pub lent : Lent (tables breaks ratios) active marks
 
 -- ---- a paragraph
-
--- the options of an accepted block, and notes within the limit
-pub record Admitted (block notes : List ℕ) (o : Options) : Type 0 where
-  pub accepted : readBlock block ≡ Accepted o
-  pub short : length notes ≤ mostBytes
 
 -- the marks say so of n words of a table, for whatever notes they stand in
 abbrev pub Broken : Bool → Setting → ℕ → List ℕ → List Bool → Type 0

@@ -1,8 +1,8 @@
--- `rudignals::format_notes` meets its contract.
+-- `rudignals::write_notes` meets its contract.
 use borrow.Author.Needs.{needs}
 use Rattle.rudignals.proofs.Replies.{words-answer, done-answer, room-answer}
-use Rattle.rudignals.proofs.format_notes.Statement.{statement}
-use Rattle.rudignals.proofs.format_notes.Tie as tie
+use Rattle.rudignals.proofs.write_notes.Statement.{statement}
+use Rattle.rudignals.proofs.write_notes.Tie as tie
 
 put-all-requires : tie.Need-put-all-requires
 put-all-requires c κs = search needs
@@ -37,8 +37,8 @@ same-length-3 c = search needs
 returns-3 : tie.Need-returns-3
 returns-3 c = room-answer _ _ _ _ _ (c .before .before .before .before .before .before .before .before .before .before .put-all .ensures) (c .before .before .before .before .before .before .needed .given .1) (c .before .before .before .before .if1 .left) (c .before .before .clear2 .ensures)
 
-pub format-notes-spec : {M : Type 1} → statement M
-format-notes-spec =
+pub write-notes-spec : {M : Type 1} → statement M
+write-notes-spec =
     tie.close
     (tie.spec
     put-all-requires

@@ -1,9 +1,9 @@
--- `replay::answered` lends parts that are there.
+-- `replay::called` lends parts that are there.
 use mathlib.Core.Path.{sym}
 use lib.Seq.{length-take-le}
 use borrow.Author.Needs.{needs}
-use Rattle.replay.proofs.answered.Statement.{statement}
-use Rattle.replay.proofs.answered.Tie as tie
+use Rattle.replay.proofs.called.Statement.{statement}
+use Rattle.replay.proofs.called.Tie as tie
 
 read-field-requires : tie.Need-read-field-requires
 read-field-requires c κs = search needs
@@ -56,8 +56,8 @@ same-length-6 c = search needs
 returns-2 : tie.Need-returns-2
 returns-2 c = search needs
 
-pub answered-spec : {M : Type 1} → statement M
-answered-spec =
+pub called-spec : {M : Type 1} → statement M
+called-spec =
     tie.close
     (tie.spec
     read-field-requires

@@ -1,0 +1,21 @@
+-- `rudignals::rudignals_measure` meets its contract.
+use mathlib.Core.Path.{ap, _∙_}
+use borrow.Author.Needs.{needs}
+use Rattle.rudignals.specs.Contracts.Call.{replyNumber}
+use Rattle.rudignals.proofs.Values.{told-number, measured-fits}
+use Rattle.rudignals.proofs.rudignals_measure.Statement.{statement}
+use Rattle.rudignals.proofs.rudignals_measure.Tie as tie
+
+measure-requires : tie.Need-measure-requires
+measure-requires c κs = search needs
+
+number-of-requires : tie.Need-number-of-requires
+number-of-requires c κs = rw (c .measure .ensures) (measured-fits _ _)
+
+returns : tie.Need-returns
+returns c = c .number-of .ensures ∙ ap replyNumber (c .before .measure .ensures) ∙ told-number _
+
+pub rudignals-measure-spec : {M : Type 1} → statement M
+rudignals-measure-spec =
+    tie.close
+    (tie.spec measure-requires number-of-requires returns)
