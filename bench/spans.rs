@@ -138,18 +138,18 @@ struct Work {
 
 /// What a caller lends to all layers.
 pub struct Room {
-    table: Box<[u32; MOST * WORD]>,
+    table: Vec<u32>,
     work: Box<Work>,
-    marks: Box<[bool; MOST]>,
+    marks: Vec<bool>,
     pub out: Vec<u8>,
 }
 
 impl Room {
     pub fn new() -> Room {
         Room {
-            table: Box::new([0; MOST * WORD]),
+            table: vec![0; MOST * WORD],
             work: Box::new(Work { breaks: [0; MOST * BREAK], ratios: [0.0; MOST], active: [0; MOST] }),
-            marks: Box::new([false; MOST]),
+            marks: vec![false; MOST],
             out: vec![0; 1 << 17],
         }
     }

@@ -60,7 +60,7 @@ int close_output(int status);
 /* ---- options.c: the command line */
 
 /* An option is named by its letter; those without one have numbers that no letter has. */
-enum { KEEP = 256, GLUE, OPTIONS };
+enum { KEEP = 256, GLUE, CHARACTERS, OPTIONS };
 
 /* What was asked for. Values stand as they were typed, to be named if they are refused; null is not given. */
 struct options {

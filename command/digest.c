@@ -53,26 +53,21 @@ static bool make_room(struct digest *digest, size_t more) {
     return true;
 }
 
+/* Measures the part, makes room for just that much and writes it behind the digest so far. Where that room is not to be had the part is
+ * refused for it. */
 static uint64_t ask(struct digest *digest, const struct options *options, const struct part *part) {
-    return rudignals_format(options->block, options->block_len, part->bytes, part->length, digest->bytes + digest->length,
-                            digest->room - digest->length);
-}
-
-/* Begins with twice the part's length, which is mostly enough. Asks again with the length needed if not; if that is not to be had the first
- * answer stands. */
-static uint64_t ask_with_room(struct digest *digest, const struct options *options, const struct part *part) {
-    uint64_t answer;
-    if (!make_room(digest, 2 * part->length + 1))
+    uint64_t answer = rudignals_measure(options->block, options->block_len, part->bytes, part->length);
+    size_t needed = rudignals_number_of(answer);
+    if (rudignals_code_of(answer) != RUDIGNALS_DONE || needed == 0 || digest->refusal.code != RUDIGNALS_DONE)
+        return answer;
+    if (!make_room(digest, needed))
         return (uint64_t)RUDIGNALS_ROOM << 32;
-    answer = ask(digest, options, part);
-    if (rudignals_code_of(answer) == RUDIGNALS_ROOM && make_room(digest, rudignals_number_of(answer)))
-        answer = ask(digest, options, part);
-    return answer;
+    return rudignals_write(options->block, options->block_len, part->bytes, part->length, digest->bytes + digest->length, needed);
 }
 
-/* Once something is refused no more is kept, but a lower code may still come. */
+/* Once something is refused no more is written, but a lower code may still come. */
 static void add_part(struct digest *digest, const struct options *options, const struct part *part) {
-    uint64_t answer = ask_with_room(digest, options, part);
+    uint64_t answer = ask(digest, options, part);
     uint32_t code = rudignals_code_of(answer);
     if (code == RUDIGNALS_TEXT || code == RUDIGNALS_WORDS)
         refuse(&digest->refusal, part, code, rudignals_number_of(answer));

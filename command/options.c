@@ -23,6 +23,7 @@ static const struct option LONG[] = {
     {"tab-width", required_argument, NULL, 'T'},
     {"keep", no_argument, NULL, KEEP},
     {"glue", no_argument, NULL, GLUE},
+    {"sentence-characters", no_argument, NULL, CHARACTERS},
     {"help", no_argument, NULL, 'h'},
     {"version", no_argument, NULL, 'V'},
     {NULL, 0, NULL, 0},
@@ -48,12 +49,16 @@ const char OPTIONS_HELP[] =
     "      --keep               leave a line with a damaged character as it is,\n"
     "                           instead of refusing its file\n"
     "      --glue               a no-break space, U+00A0, is part of its word\n"
+    "      --sentence-characters\n"
+    "                           with -u: between sentences count blanks as\n"
+    "                           characters; else one U+00A0 counts as two, its bytes\n"
     "  -h, --help               show this\n"
     "  -V, --version            show the version\n";
 
 static const uint16_t FLAG[OPTIONS] = {
     ['c'] = RUDIGNALS_CROWN, ['t'] = RUDIGNALS_TAGGED,       ['m'] = RUDIGNALS_MAIL,       ['s'] = RUDIGNALS_SPLIT, ['u'] = RUDIGNALS_UNIFORM,
     ['q'] = RUDIGNALS_QUICK, ['x'] = RUDIGNALS_EXACT_PREFIX, ['X'] = RUDIGNALS_EXACT_SKIP, [KEEP] = RUDIGNALS_KEEP, [GLUE] = RUDIGNALS_GLUE,
+    [CHARACTERS] = RUDIGNALS_SENTENCE_CHARACTERS,
 };
 
 const char *name_of(int option) {

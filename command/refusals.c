@@ -47,8 +47,7 @@ static void say_field(const struct options *options, uint8_t tag) {
 /* The empty text is refused for its options alone: so they are known to be right before a file is touched. N is the start of the faulty
  * field, where its tag stands, or the block's length if width and goal do not go together. */
 bool options_accepted(const struct options *options) {
-    uint8_t none[1] = {0};
-    uint64_t answer = rudignals_format(options->block, options->block_len, none, 0, none, 0);
+    uint64_t answer = rudignals_measure(options->block, options->block_len, NULL, 0);
     uint32_t place = rudignals_number_of(answer);
     if (rudignals_code_of(answer) == RUDIGNALS_DONE)
         return true;

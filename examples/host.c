@@ -15,7 +15,7 @@ static const char *in_words(uint32_t code) {
     case RUDIGNALS_LONG: return "the notes have over 65536 bytes; N is";
     case RUDIGNALS_TEXT: return "a damaged character at byte";
     case RUDIGNALS_WORDS: return "over 1024 words in the paragraph at byte";
-    default: return "no memory for a digest of bytes:";
+    default: return "no memory for a digest of so many bytes:";
     }
 }
 
@@ -26,20 +26,20 @@ int main(int argc, char **argv) {
     /* the options: fields in the tags' order, here a flag and a number */
     uint8_t block[RUDIGNALS_MOST_BLOCK];
     size_t block_len = rudignals_put_number(block, 0, RUDIGNALS_TAG_FLAGS, RUDIGNALS_QUICK);
-    size_t notes_len = fread(notes, 1, sizeof notes, stdin), room = RUDIGNALS_MOST_NOTES;
-    uint8_t *output = malloc(room), *wider;
+    size_t notes_len = fread(notes, 1, sizeof notes, stdin), room;
+    uint8_t *output = NULL;
     uint64_t answer;
     if (argc > 1)
         block_len = rudignals_put_number(block, block_len, RUDIGNALS_TAG_WIDTH, strtoul(argv[1], NULL, 10));
-    if (output == NULL || ferror(stdin))
+    if (ferror(stdin))
         return 1;
 
-    /* the call; once more, with the room that it asks for, if the digest is longer */
-    answer = rudignals_format(block, block_len, notes, notes_len, output, room);
-    if (rudignals_code_of(answer) == RUDIGNALS_ROOM && (wider = realloc(output, rudignals_number_of(answer))) != NULL) {
-        output = wider;
-        room = rudignals_number_of(answer);
-        answer = rudignals_format(block, block_len, notes, notes_len, output, room);
+    /* measure, allocate just that, write; without the memory writing says how much is needed */
+    answer = rudignals_measure(block, block_len, notes, notes_len);
+    room = rudignals_number_of(answer);
+    if (rudignals_code_of(answer) == RUDIGNALS_DONE && room > 0) {
+        output = malloc(room);
+        answer = rudignals_write(block, block_len, notes, notes_len, output, output == NULL ? 0 : room);
     }
 
     /* the answer: the digest's length, or a code and its number */

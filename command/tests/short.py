@@ -65,6 +65,10 @@ OTHERWISE = [
 # likewise for what document 01 adds; the digests of the last three are longer than the notes, up to a hundred times
 OURS = [
     (["-q", "-w", "6", "--glue"], b"aaa\xc2\xa0bbb\n", b"aaa\xc2\xa0bbb\n"),
+    (["-u"], b"a.\xc2\xa0b\n", b"a.  b\n"),
+    (["-u", "--sentence-characters"], b"a.\xc2\xa0b\n", b"a. b\n"),
+    (["-u", "--sentence-characters"], b"a.\xc2\xa0 b\n", b"a.  b\n"),
+    (["--sentence-characters"], b"a.\xc2\xa0b\n", b"a.\xc2\xa0b\n"),
     (["--keep"], b"a\n\xb0 b\nc\n", b"a\n\xb0 b\nc\n"),
     (["--keep"], b"a\nb\n\xe4\xb8\x80 x\n\nc\nd\n", b"a b\n\xe4\xb8\x80 x\n\nc d\n"),
     (["-q", "-w", "6"], b"a\n" * 1024, b"a a a\n" * 341 + b"a\n"),

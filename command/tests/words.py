@@ -98,7 +98,7 @@ def helps():
         text = help_text(FMT, [asked], "Usage: fmt" + usage)
     for letter in "ctmsupPxXwgqThV":
         expect(f"--help tells of -{letter}", f"\n  -{letter}, --" in text, True)
-    for words in "--keep", "--glue", "65536 bytes", "1024 words", "6 to 1000", "3 to 940", "255 bytes", "last value", "Exit status: 0":
+    for words in "--keep", "--glue", "--sentence-characters", "65536 bytes", "1024 words", "6 to 1000", "3 to 940", "255 bytes", "last value", "Exit status: 0":
         expect(f"--help tells of {words}", words in text.replace("\n", " "), True)
 
 

@@ -19,7 +19,7 @@ def flags(*bits):
     return number(1, sum(1 << b for b in bits))
 
 
-CROWN, TAGGED, MAIL, UNIFORM, QUICK, KEEP, GLUE = 0, 1, 2, 4, 5, 8, 9
+CROWN, TAGGED, MAIL, UNIFORM, QUICK, KEEP, GLUE, CHARACTERS = 0, 1, 2, 4, 5, 8, 9, 10
 keep, glue = flags(KEEP), flags(GLUE)
 
 
@@ -82,7 +82,8 @@ CASES = TRIALS + [
     # 1: bad length, bad value
     faulty(field(2, b"\x14"), 0),
     faulty(field(2, b"\0\x14\0"), 0),
-    faulty(flags(10), 0),
+    accepted(flags(10)),
+    faulty(flags(11), 0),
     faulty(flags(15), 0),
     faulty(number(2, 0), 0),
     faulty(number(2, 1001), 0),
@@ -140,6 +141,28 @@ CASES = TRIALS + [
     kept(b"", b"\xc2\xa0\n", b"\n"),
     kept(glue, b"\xc2\xa0\n", b"\xc2\xa0\n"),
     kept(glue, b"\xc2\xa0a\n\xc2\xa0b\n", b"\xc2\xa0a \xc2\xa0b\n"),
+    # document 02, P13: one blank of two bytes is over one by bytes, not by characters; two blanks and a tab part sentences by either
+    *(
+        kept(flags(UNIFORM, *more), b"a" + end + gap + b"b\n", b"a" + end + (b"  b\n" if wide else b" b\n"))
+        for more, lone in (((), True), ((CHARACTERS,), False))
+        for gap, many in (
+            (b"\xc2\xa0", lone),
+            (b"\xc2\x85", lone),
+            (b" ", False),
+            (b"\xc2\xa0\xc2\xa0", True),
+            (b"\xc2\x85\xc2\xa0", True),
+            (b"\t", True),
+            (b"\xc2\xa0 ", True),
+        )
+        for end, wide in ((b".", many), (b"?", many), (b"!", many), (b"", False))
+    ),
+    # it shows under uniform alone; with glue U+00A0 is no blank
+    kept(flags(CHARACTERS), b"a.\xc2\xa0b\n", b"a.\xc2\xa0b\n"),
+    kept(flags(CHARACTERS), b"a.\xc2\x85b c.\nd\n", b"a.\xc2\x85b c.  d\n"),
+    kept(flags(UNIFORM, CHARACTERS, GLUE), b"a.\xc2\xa0b\n", b"a.\xc2\xa0b\n"),
+    kept(flags(UNIFORM, CHARACTERS, GLUE), b"a.\xc2\x85b\n", b"a. b\n"),
+    kept(flags(UNIFORM, GLUE), b"a.\xc2\x85b\n", b"a.  b\n"),
+    kept(flags(UNIFORM, CHARACTERS), b"x a.\xc2\xa0b.\n\xc2\xa0c\n", b"x a. b.\n\xc2\xa0c\n"),
     # 4: a paragraph of over 1,024 words, the start of its first line; it comes before 5
     (flags(UNIFORM), b"x\n\n" + b"a " * 1025, 0, 4, 3, ZERO),
     (flags(UNIFORM), b"x\n\n" + b"a " * 1025, 9, 4, 3, ZERO),

@@ -33,7 +33,7 @@ const RAW: [&[u8]; 11] = [b"a", b".", b" ", b"\n", b"\t", b"\r", "\u{a0}".as_byt
 fn raw(symbols: u32) -> impl Iterator<Item = Asked> {
     let mut sets = Vec::new();
     for flags in [0, KEEP, GLUE, KEEP | GLUE] {
-        for more in [0, UNIFORM, QUICK, CROWN, TAGGED, MAIL, SPLIT | EXACT] {
+        for more in [0, UNIFORM, UNIFORM | CHARACTERS, QUICK, CROWN, TAGGED, MAIL, SPLIT | EXACT] {
             let (width, goal) = [(2, 1), (4, 3), (6, 5)][sets.len() % 3];
             let mut opts = Opts { flags: Some(flags | more), width: Some(width), goal: Some(goal), ..Opts::default() };
             sets.push(opts.clone());
@@ -183,6 +183,7 @@ fn case(r: &mut Rng) -> Case {
     let short = r.chance(80);
     let most = r.below(if short { 2 } else { 5 });
     let mut opts = random_options(r, [6, 12, 40, 90, 940][most]);
+    flagged(r, &mut opts, CHARACTERS, 25);
     if r.chance(5) {
         opts.prefix = Some(long_prefix(r));
     }

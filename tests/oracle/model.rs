@@ -7,6 +7,9 @@
 //! - Keep: a damaged line is a plain line, as is a line with the skip prefix. In its place the original is shown a line that begins with
 //!   the skip prefix (or, where none is given or it has a line feed and so is never found, with a character that occurs nowhere else),
 //!   and in the digest that line is turned back into the damaged one.
+//! - Blanks counted by characters where sentences part (document 02, P13), which shows under uniform alone: there a blank of two bytes that
+//!   stands alone between two words is shown as a form feed, a blank of one byte. Uniform drops both, so nothing is turned back. Two blanks
+//!   or more are over one by either rule, and a tab parts sentences by either.
 
 use parts::guard::Answer;
 
@@ -36,6 +39,10 @@ struct Fields {
 
 const KEEP: usize = 1 << 8;
 const GLUE: usize = 1 << 9;
+const CHARACTERS: usize = 1 << 10;
+const UNIFORM: usize = 1 << 4;
+const EXACT: usize = 1 << 6;
+const EXACT_SKIP: usize = 1 << 7;
 
 impl Fields {
     fn has(&self, flag: usize) -> bool {
@@ -76,7 +83,7 @@ fn field(block: &[u8], last: &mut u8, fields: &mut Fields) -> Option<usize> {
     *last = tag;
     let index = tag as usize - 1;
     if tag <= 4 {
-        let range = [0..=1023, 1..=1000, 1..=1000, 0..=100][index].clone();
+        let range = [0..=2047, 1..=1000, 1..=1000, 0..=100][index].clone();
         fields.numbers[index] = Some(number(value)).filter(|n| size == 2 && range.contains(n));
         fields.numbers[index]?;
     } else {
@@ -197,6 +204,9 @@ impl Shown {
             text = show(&text);
             fields.prefixes.iter_mut().flatten().for_each(|p| *p = show(p));
         }
+        if fields.has(CHARACTERS) && fields.has(UNIFORM) {
+            text = text.split_inclusive('\n').map(|line| one_byte_blanks(fields, line)).collect();
+        }
         Shown { text, glue, lines }
     }
 
@@ -240,4 +250,50 @@ fn without_damage(notes: &[u8], stand_in: &str, lines: &mut Vec<(String, Vec<u8>
         lines.push((instead, body.to_vec()));
     }
     text
+}
+
+// ---------------------------------------------------------------- blanks by characters
+
+fn is_blank(c: char) -> bool {
+    matches!(c, '\t'..='\r' | ' ' | '\u{85}' | '\u{a0}')
+}
+
+/// Where a prefix is found: at the line's start or, unless exact, at the first place with only blanks before it.
+fn found(line: &str, prefix: &str, exact: bool) -> Option<usize> {
+    if exact {
+        return Some(0).filter(|_| line.starts_with(prefix));
+    }
+    let blanks = line.len() - line.trim_start_matches(is_blank).len();
+    line.char_indices().map(|(at, _)| at).chain([line.len()]).filter(|at| *at <= blanks).find(|at| line[*at..].starts_with(prefix))
+}
+
+/// Where the indent of a formatted line ends. Other lines have none.
+fn indent_end(fields: &Fields, line: &str) -> Option<usize> {
+    if let Some(skip) = &fields.prefixes[1] {
+        if found(line, skip, fields.has(EXACT_SKIP)).is_some() {
+            return None;
+        }
+    }
+    let behind = match &fields.prefixes[0] {
+        None => 0,
+        Some(prefix) => found(line, prefix, fields.has(EXACT))? + prefix.len(),
+    };
+    let words = line[behind..].trim_start_matches(is_blank);
+    Some(line.len() - words.len()).filter(|_| !words.is_empty())
+}
+
+/// A line in which each blank of two bytes that stands alone between two words is a blank of one byte.
+fn one_byte_blanks(fields: &Fields, line: &str) -> String {
+    let body = line.strip_suffix('\n').map_or(line, |body| body.strip_suffix('\r').unwrap_or(body));
+    let from = match indent_end(fields, body) {
+        Some(from) => from,
+        None => return line.to_string(),
+    };
+    let chars: Vec<char> = body[from..].chars().collect();
+    let is_ink = |at: Option<usize>| at.and_then(|at| chars.get(at)).map_or(false, |c| !is_blank(*c));
+    let shown = chars.iter().enumerate().map(|(at, c)| {
+        let alone = is_ink(at.checked_sub(1)) && is_ink(Some(at + 1));
+        if alone && is_blank(*c) && c.len_utf8() == 2 { '\u{c}' } else { *c }
+    });
+    format!("{}{}{}", &body[..from], shown.collect::<String>(), &line[body.len()..])
 }

@@ -11,6 +11,7 @@ pub const EXACT: u16 = 1 << 6;
 pub const EXACT_SKIP: u16 = 1 << 7;
 pub const KEEP: u16 = 1 << 8;
 pub const GLUE: u16 = 1 << 9;
+pub const CHARACTERS: u16 = 1 << 10;
 
 /// What the original is shown in the place of U+00A0 when glue is on: a
 /// character of as many bytes that is no blank. No case has it otherwise.

@@ -163,6 +163,8 @@ static void measure_refusals(void) {
 }
 
 int main(void) {
+    text("none", 0, "", 80);
+    on_the_painted_stack(make_format); /* in a dynamically linked program the first call looks for memset, on this stack */
     puts("measure   write  format");
     measure_text("Knuth-Plass, paragraphs of 960 words", 0, "", 80);
     measure_text("Knuth-Plass, many paragraphs", 0, "", 1);

@@ -27,6 +27,7 @@ with-these mail split width goal tab prefix =
       «exact_skip» = false;
       keep = false;
       glue = false;
+      characters = false;
       width = width;
       goal = goal;
       tab = tab;
@@ -54,9 +55,9 @@ record Worked : Type 0 where
   unknown : readBlock (7 ∷ 0 ∷ 0 ∷ []) ≡ Fault 0
   again : readBlock (2 ∷ 0 ∷ 2 ∷ 0 ∷ 70 ∷ field 2 0 70) ≡ Fault 5
   cut : readBlock (2 ∷ 0 ∷ 2 ∷ 0 ∷ 70 ∷ 3 ∷ 0 ∷ 2 ∷ 0 ∷ []) ≡ Fault 5
-  -- flags: bits 0 to 3 together leave mail and split; bit 10 is none
+  -- flags: bits 0 to 3 together leave mail and split; bit 11 is none
   cleared : readBlock (field 1 0 15) ≡ with-these true true 79 74 8 Absent
-  other : readBlock (field 1 4 0) ≡ Fault 0
+  other : readBlock (field 1 8 0) ≡ Fault 0
   -- tab width 0 acts as 1; a prefix may be empty, and may not be damaged
   tab : readBlock (field 4 0 0) ≡ with-these false false 79 74 1 Absent
   prefix : readBlock (5 ∷ 0 ∷ 0 ∷ []) ≡ with-these false false 79 74 8 (Given 3 3)

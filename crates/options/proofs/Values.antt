@@ -85,9 +85,9 @@ module _ (v : List ℕ) where
 
 -- what each tag allows
 module _ (v : List ℕ) where
-  pub allowed-flags : allowed 1 (length v) v ≡ numberText 0 1023 v
+  pub allowed-flags : allowed 1 (length v) v ≡ numberText 0 2047 v
   unfolding allowed numberText
-  allowed-flags = rw (leb·zero (number v), and-true, leb·suc-suc (number v) 1023)
+  allowed-flags = rw (leb·zero (number v), and-true, leb·suc-suc (number v) 2047)
 
   pub allowed-tab : allowed 4 (length v) v ≡ numberText 0 100 v
   unfolding allowed numberText

@@ -50,9 +50,9 @@ nextField s xs =
 unfoldable pub fields : List ℕ → List Field
 fields block = walk nextField (record { place = 0; previous = 0 }) block
 
--- the flags: bit 0, the lowest, to bit 9; others zero
+-- the flags: bit 0, the lowest, to bit 10 (document 02, P13); others zero
 abbrev pub flagBits : ℕ
-flagBits = 10
+flagBits = 11
 
 -- what each tag's value may be: flags; width and goal 1 to 1,000; tab width 0 to 100; prefixes 0 to 255 bytes of undamaged characters
 unfoldable pub allowed : ℕ → ℕ → List ℕ → Bool
@@ -124,6 +124,7 @@ optionsOf block fs =
       «exact_skip» = bit 7 flags;
       keep = bit 8 flags;
       glue = bit 9 flags;
+      characters = bit 10 flags;
       width = widthFrom block width goal;
       goal = goalFrom block width goal;
       tab = max 1 (numberAt block 8 (partOf 4 fs));

@@ -23,6 +23,8 @@ pub record Opts : Type 0 where
   pub exactSkip : Bool
   pub keep : Bool
   pub glue : Bool
+  -- sentence-start counts blanks by characters, not by bytes (document 02, P13)
+  pub characters : Bool
   pub width : ℕ
   pub goal : ℕ
   pub tab : ℕ
@@ -46,6 +48,7 @@ meant block o = record {
   exactSkip = o .«exact_skip»;
   keep = o .keep;
   glue = o .glue;
+  characters = o .characters;
   width = o .width;
   goal = o .goal;
   tab = o .tab;

@@ -43,7 +43,9 @@ const KEEP: usize = 256;
 
 const GLUE: usize = 512;
 
-const ALL_FLAGS: usize = 1023;
+const CHARACTERS: usize = 1024;
+
+const ALL_FLAGS: usize = 2047;
 
 // A part of the block, from start up to end, or none.
 pub enum Part {
@@ -63,6 +65,7 @@ pub struct Options {
     pub exact_skip: bool,
     pub keep: bool,
     pub glue: bool,
+    pub characters: bool,
     pub width: usize,
     pub goal: usize,
     pub tab: usize,
@@ -192,6 +195,7 @@ fn options_of(block: &[u8]) -> Options
         exact_skip: is_set(flags, EXACT_SKIP),
         keep: is_set(flags, KEEP),
         glue: is_set(flags, GLUE),
+        characters: is_set(flags, CHARACTERS),
         width: width_of(block, width, goal),
         goal: goal_of(block, width, goal),
         tab: larger(1, tab),

@@ -1,13 +1,13 @@
 -- Lines and the notes' own bytes: a text with its line end is a line, and every line is its text and its line end.
 use mathlib.Core.Path.{_≡_, refl, sym, ap, _∙_}
-use mathlib.Core.Bool.{Bool, true, false, cond, not, and-eq-true-iff, false≢true}
+use mathlib.Core.Bool.{Bool, true, false, not, and-eq-true-iff}
 use mathlib.Core.List.{List, [], _∷_, _++_, append-assoc, append-nil}
-use Prim.Native.Nat.{ℕ, zero, suc, _+_, _≤_, _<_}
+use Prim.Native.Nat.{ℕ, suc, _<_}
 use native.Mathlib.Omega.{arith}
-use lib.Dec.{eqb, ltb}
-use lib.ListN.{length, take, drop, length-append, length-drop, drop-of-length-le}
-use lib.Seq.{take-all, take-append-le, drop-append-le}
-use borrow.Author.Tests.{eq-eqb, ne-eqb, eqb-true, eqb-false, lt-ltb, le-ltb, ltb-true, ltb-false}
+use lib.Dec.{eqb}
+use lib.ListN.{length, take, drop, length-append, drop-of-length-le}
+use lib.Seq.{take-all, take-append-le}
+use borrow.Author.Tests.{ne-eqb, eqb-true, eqb-false, lt-ltb, le-ltb}
 use Rattle.lists.specs.Runs.{while, behind, every, joined}
 use Rattle.lists.proofs.Runs.{while-more, while-end, behind-more, behind-end}
 use Rattle.lists.proofs.Parts.{while-nil, while-behind, every-cons, every-nil, every-append, behind-nil, every-while, joined-nil, joined-cons}
@@ -15,7 +15,7 @@ use Rattle.lists.proofs.Walk.{each-nil, each-step}
 use Rattle.lines.specs.Lines.{Line, noFeed, body, withoutReturn, firstLine, linesOf}
 use Rattle.lines.specs.Theorems.Closed.{Closed}
 use Rattle.lines.proofs.Boundary.{lines-append}
-use Rattle.lines.proofs.Extents.{lines-extents, lines-feedless}
+use Rattle.lines.proofs.Extents.{lines-extents}
 use Rattle.rudignals.specs.Theorems.LineEnds.{EndsIn, LineEnd, feed, returnAndFeed, Ended, byFeed, byNothing, LineIs}
 
 -- ---- from the bytes to the line

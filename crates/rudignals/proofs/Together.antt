@@ -1,8 +1,8 @@
 -- Measuring and writing: together they are the call; measuring's N is the room that suffices, and the least.
-use mathlib.Core.Path.{_≡_, refl, sym, ap, _∙_}
+use mathlib.Core.Path.{_≡_, refl}
 use mathlib.Core.Bool.{Bool, true, false, cond}
 use mathlib.Core.List.{List}
-use Prim.Native.Nat.{ℕ, _+_, _*_, _^_, _≤_, _<_}
+use Prim.Native.Nat.{ℕ, _≤_, _<_}
 use native.Mathlib.Omega.{arith}
 use lib.Dec.{leb, ltb}
 use lib.ListN.{length}
@@ -14,7 +14,7 @@ use Rattle.options.specs.OptionBlock.{readBlock}
 use Rattle.options.specs.declared.Block.{Block}
 use Rattle.options.specs.declared.Block.the-variants.{Accepted, Fault}
 use Rattle.pieces.specs.Pieces.{pieces}
-use Rattle.rudignals.specs.Answers.{Answer, done, options, long, text, words, room, code, value, numbered}
+use Rattle.rudignals.specs.Answers.{Answer, done, options, long, text, words, room, code, value}
 use Rattle.rudignals.specs.Format.{mostBytes, digest, longParagraph, withWords, withText, damageIn, withNotes, withBlock, withDigest, answer, measuring, inRoom, writing}
 
 -- what is refused before the digest is, is refused with any room

@@ -1,25 +1,23 @@
 -- Texts without a damaged character, end to end: none in either, none in both. And a blank line has none.
 use mathlib.Core.Path.{_≡_, refl, sym, ap, _∙_}
-use mathlib.Core.Bool.{Bool, true, false, cond, not, and-eq-true-iff, false≢true}
+use mathlib.Core.Bool.{Bool, true, false, not, and-eq-true-iff, false≢true}
 use mathlib.Core.List.{List, [], _∷_, _++_, append-assoc}
-use Prim.Native.Nat.{ℕ, suc, _-_, _≤_, _<_}
+use Prim.Native.Nat.{ℕ, suc, _-_, _<_}
 use native.Mathlib.Omega.{arith}
-use lib.ListN.{length, take, drop}
-use lib.Seq.{take-append-le, length-take-le}
+use lib.ListN.{length, drop}
+use lib.Seq.{take-append-le}
 use Rattle.lists.specs.Walk.{walkUpTo, walk, piece, each}
-use Rattle.lists.specs.Runs.{while, every, begins}
+use Rattle.lists.specs.Runs.{every, begins}
 use Rattle.lists.proofs.Parts.{every-cons, every-append}
 use Rattle.lists.proofs.Walk.{each-step}
 use Rattle.lists.proofs.Extents.{each-append}
 use Rattle.text.specs.Rfc3629.{Front, front, nothing, scalar, encode, spelled, decode}
-use Rattle.text.specs.Characters.{Glyph, accepted, onlyAccepted, character, blankCode, widthOf, glyphAs, glyph, glyphs, isBlank, isGood, extent, damage}
-use Rattle.text.specs.declared.Found.the-variants.{At, Nowhere}
+use Rattle.text.specs.Characters.{Glyph, accepted, character, glyphAs, glyph, glyphs, isGood, damage}
+use Rattle.text.specs.declared.Found.the-variants.{Nowhere}
 use Rattle.text.proofs.Decoder.{complete}
 use Rattle.text.proofs.Places.{accepted-front}
 use Rattle.text.proofs.Glyphs.{bytes-of}
 use Rattle.text.proofs.Glue.{every-good}
-use Rattle.text.proofs.Extents.{glyphs-sound}
-use Rattle.text.proofs.Blanks.{damaged-ink}
 use Rattle.text.proofs.Damage.{damage-none}
 use Rattle.options.specs.Opts.{Opts}
 use Rattle.lines.specs.Classes.{classify}

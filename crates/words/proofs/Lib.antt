@@ -4,6 +4,7 @@ pub mod Eights
 pub mod UsualBlanks
 pub mod BlankRuns
 pub mod WordRuns
+pub mod Tabless
 pub mod NextWord
 pub mod Filling
 pub mod Rows

@@ -17,12 +17,13 @@ use Rattle.records.specs.Word.{meaning}
 use Rattle.records.specs.Contracts.Table.{beforeNumber, Small, Within}
 use Rattle.records.specs.declared.Word.{Word as Record}
 use Rattle.records.specs.declared.Before.the-variants.{Absent}
-use Rattle.words.specs.Words.{Run, isInk, runOf, runs, bytesOf, widthSum, Gap, noGap, gapOf, hasTab, punctAtEnd, wideGap, wordOf, mailWord}
+use Rattle.words.specs.Words.{Run, isInk, runOf, runs, bytesOf, widthSum, Gap, noGap, gapOf, hasTab, punctAtEnd, counting, wideGap, wordOf, mailWord}
 use Rattle.words.specs.Contracts.Places.{endsFrom}
 use Rattle.words.specs.Contracts.Scan.{gapIn, OverBlanks, OverInk, wordAt, mailAt, wordsFrom, NextWord}
 use Rattle.words.specs.declared.Blanks.{Blanks}
 use Rattle.words.specs.declared.Ink.{Ink}
 use Rattle.words.proofs.WordRuns.{run-bytes, words-none, ends-none, wordFor, words-one, ends-one}
+use Rattle.words.proofs.Tabless.{tabless-wide}
 
 module _ (o : Opts) (s : List ℕ) (at : ℕ) (b : Blanks) (over : OverBlanks (o .glue) (o .tab) s at b) where
   pub next-none : (mail newLine previous : Bool) → length s ≤ b .end → wordsFrom o mail newLine previous (glyphs (o .glue) (drop at s)) ≡ []
@@ -94,17 +95,18 @@ module _ (o : Opts) (s : List ℕ) (at : ℕ) (b : Blanks) (over : OverBlanks (o
     blank-count : length (bytesOf (run .blanks)) ≡ b .end - at
     blank-count = ap length blank-bytes ∙ length-slice at (b .end) s (over .within)
 
-    -- by the bytes of the blanks
-    blank-wide : wideGap (o .tab) (run .blanks) ≡ (hasTab (b .before) || ltb 1 (b .end - at))
-    unfolding wideGap
-    blank-wide = ap₂ (λ (g : Gap) (n : ℕ). hasTab (g .before) || ltb 1 n) blank-gap blank-count
+    -- by the bytes of the blanks, or by their after count, which has them all where no tab is
+    blank-wide : (characters : Bool) → wideGap (counting characters) (o .tab) (run .blanks) ≡ (hasTab (b .before) || ltb 1 (cond characters (b .after) (b .end - at)))
+    unfolding wideGap counting
+    blank-wide true = tabless-wide (o .tab) (run .blanks) ∙ ap (λ (g : Gap). hasTab (g .before) || ltb 1 (g .after)) blank-gap
+    blank-wide false = ap₂ (λ (g : Gap) (n : ℕ). hasTab (g .before) || ltb 1 n) blank-gap blank-count
 
-    line-means : (newLine previous : Bool) → meaning s (wordAt (o .uniform) newLine previous at b w) ≡ wordFor o false newLine previous run
+    line-means : (newLine previous : Bool) → meaning s (wordAt (o .uniform) (o .characters) newLine previous at b w) ≡ wordFor o false newLine previous run
     unfolding meaning wordFor wordOf
     line-means newLine previous =
-        rw (text-width, text-punct, blank-wide, blank-gap, text-bytes, blank-bytes) (pick (o .uniform))
+        rw (text-width, text-punct, blank-wide (o .characters), blank-gap, text-bytes, blank-bytes) (pick (o .uniform))
       where
-        pick : (u : Bool) → meaning s (wordAt u newLine previous at b w) ≡ record {
+        pick : (u : Bool) → meaning s (wordAt u (o .characters) newLine previous at b w) ≡ record {
           blanks = cond u [] (slice at (b .end) s);
           text = slice (b .end) (w .end) s;
           width = w .width;
@@ -112,7 +114,7 @@ module _ (o : Opts) (s : List ℕ) (at : ℕ) (b : Blanks) (over : OverBlanks (o
           after = cond u noGap (gapIn b) .after;
           newLine = newLine;
           endsPunct = w .punct;
-          sentenceStart = previous && (hasTab (b .before) || ltb 1 (b .end - at));
+          sentenceStart = previous && (hasTab (b .before) || ltb 1 (cond (o .characters) (b .after) (b .end - at)));
         }
         pick true = rw (slice-empty (b .end) s)
         pick false = refl
@@ -130,9 +132,9 @@ module _ (o : Opts) (s : List ℕ) (at : ℕ) (b : Blanks) (over : OverBlanks (o
       after = omega arith;
     }
 
-    pub next-line : (newLine previous : Bool) → NextWord o false newLine previous s at (wordAt (o .uniform) newLine previous at b w)
+    pub next-line : (newLine previous : Bool) → NextWord o false newLine previous s at (wordAt (o .uniform) (o .characters) newLine previous at b w)
     next-line newLine previous = let e = ends in record {
-      first = onward false newLine previous (wordAt (o .uniform) newLine previous at b w) (line-means newLine previous) refl;
+      first = onward false newLine previous (wordAt (o .uniform) (o .characters) newLine previous at b w) (line-means newLine previous) refl;
       ends = ended;
       within = pick-within (o .uniform);
       on = omega (arith, over .end);
@@ -142,7 +144,7 @@ module _ (o : Opts) (s : List ℕ) (at : ℕ) (b : Blanks) (over : OverBlanks (o
       after = pick-after (o .uniform);
     }
       where
-        pick-within : (u : Bool) → Within (length s) (wordAt u newLine previous at b w)
+        pick-within : (u : Bool) → Within (length s) (wordAt u (o .characters) newLine previous at b w)
         pick-within true = let e = ends in record { gap = omega arith; text = omega arith; end = ink .within }
         pick-within false = let e = ends in record { gap = omega (arith, over .end); text = omega arith; end = ink .within }
 

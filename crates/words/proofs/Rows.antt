@@ -18,20 +18,20 @@ use Rattle.lines.proofs.Lines.{LineHere, lines-past, line-here}
 use Rattle.pieces.specs.Pieces.{Row}
 use Rattle.pieces.specs.Contracts.Bounds.{GlyphBegins, AllBegin}
 use Rattle.records.specs.Word.{Word}
-use Rattle.words.specs.Words.{Run, runs, wordOf, lineWords, rowWords}
+use Rattle.words.specs.Words.{Run, runs, counting, wordOf, lineWords, rowWords}
 use Rattle.words.specs.Contracts.Places.{rowsAt, wordsAt, endsFrom, endsAt}
 use Rattle.words.specs.Contracts.Scan.{wordsFrom}
 use Rattle.words.specs.Contracts.Split.{WordsFilled, Split}
 use Rattle.words.specs.declared.Count.{Count}
 use Rattle.words.proofs.Filling.{filled-split}
 
--- ---- of the options, only uniform, tab and glue count
+-- ---- of the options, only uniform, tab, glue and the counting rule count
 
 module _ (o : Options) (block : List ℕ) where
-  line-same : (newLine previous : Bool) (rs : List Run) → lineWords (meant block o) newLine previous rs ≡ lineWords (meant [] o) newLine previous rs
+  line-same : (count : List Glyph → ℕ) (newLine previous : Bool) (rs : List Run) → lineWords count (meant block o) newLine previous rs ≡ lineWords count (meant [] o) newLine previous rs
   unfolding lineWords wordOf meant
-  line-same newLine previous [] = refl
-  line-same newLine previous (r ∷ rs) = pick (r .text) (ap (λ (l : List Word). wordOf (meant [] o) newLine previous r ∷ l) (line-same false _ rs))
+  line-same count newLine previous [] = refl
+  line-same count newLine previous (r ∷ rs) = pick (r .text) (ap (λ (l : List Word). wordOf count (meant [] o) newLine previous r ∷ l) (line-same count false _ rs))
     where
       pick : (t : List Glyph) {a b : List Word} → a ≡ b → _≡_ {A = List Word} (elim t as (λ t. List Word) [ [] ↦ [] | x ∷ (xs → y) ↦ a ]) (elim t as (λ t. List Word) [ [] ↦ [] | x ∷ (xs → y) ↦ b ])
       pick [] e = refl
@@ -40,7 +40,7 @@ module _ (o : Options) (block : List ℕ) where
   row-same : (mail : Bool) (row : Row) → rowWords (meant block o) mail row ≡ rowWords (meant [] o) mail row
   unfolding rowWords meant
   row-same true row = refl
-  row-same false row = line-same true false _
+  row-same false row = line-same (counting (o .characters)) true false _
 
   rows-same : (mail : Bool) (rows : List Row) → joined (rowWords (meant block o) mail) rows ≡ joined (rowWords (meant [] o) mail) rows
   unfolding joined

@@ -16,7 +16,7 @@ use Rattle.options.specs.Opts.{Opts}
 use Rattle.lines.specs.Classes.{glyphsFrom}
 use Rattle.pieces.specs.Pieces.{Row}
 use Rattle.records.specs.Word.{Word}
-use Rattle.words.specs.Words.{Run, isInk, runOf, runs, bytesOf, punctAtEnd, wordOf, lineWords, mailWord, mailWords, rowWords}
+use Rattle.words.specs.Words.{Run, isInk, runOf, runs, bytesOf, punctAtEnd, counting, wordOf, lineWords, mailWord, mailWords, rowWords}
 
 -- ---- a line's runs
 
@@ -154,15 +154,16 @@ module _ (r : Run) (gs rest : List Glyph) (f : First r gs rest) where
     gap = λ u n. rw (f .lead) (gap u n (word-some h));
   }
 
-line-spelled : (o : Opts) (newLine previousPunct : Bool) (rs : List Run) (gs : List Glyph) → Splits rs gs → (newLine ≡ false → Parted gs)
-    → Spelled (o .uniform) (lineWords o newLine previousPunct rs) gs
+-- a line's words, by any counting rule
+line-spelled : (count : List Glyph → ℕ) (o : Opts) (newLine previousPunct : Bool) (rs : List Run) (gs : List Glyph) → Splits rs gs → (newLine ≡ false → Parted gs)
+    → Spelled (o .uniform) (lineWords count o newLine previousPunct rs) gs
 unfolding lineWords wordOf
-line-spelled o newLine previousPunct [] gs s gap = rw s (every-nil isBlank)
-line-spelled o newLine previousPunct (r ∷ rs) gs s gap = go (r .text) refl (line-spelled o false (punctAtEnd (r .text)) rs (s .0) (s .2) (λ e. s .1 .next))
+line-spelled count o newLine previousPunct [] gs s gap = rw s (every-nil isBlank)
+line-spelled count o newLine previousPunct (r ∷ rs) gs s gap = go (r .text) refl (line-spelled count o false (punctAtEnd (r .text)) rs (s .0) (s .2) (λ e. s .1 .next))
   where
-    go : (t : List Glyph) → r .text ≡ t → Spelled (o .uniform) (lineWords o false (punctAtEnd (r .text)) rs) (s .0) → Spelled (o .uniform) (lineWords o newLine previousPunct (r ∷ rs)) gs
+    go : (t : List Glyph) → r .text ≡ t → Spelled (o .uniform) (lineWords count o false (punctAtEnd (r .text)) rs) (s .0) → Spelled (o .uniform) (lineWords count o newLine previousPunct (r ∷ rs)) gs
     go [] e ih = rw (lineWords, e) (last-run r gs (s .0) (s .1) e)
-    go (g ∷ t) e ih = rw (lineWords, e) (s .0, word-run r gs (s .0) (s .1) (o .uniform) (wordOf o newLine previousPunct r) (rw e (omega arith)) refl refl (λ u n. gap n), ih)
+    go (g ∷ t) e ih = rw (lineWords, e) (s .0, word-run r gs (s .0) (s .1) (o .uniform) (wordOf count o newLine previousPunct r) (rw e (omega arith)) refl refl (λ u n. gap n), ih)
 
 mail-spelled : (rs : List Run) (gs : List Glyph) → Splits rs gs → Spelled true (mailWords rs) gs
 unfolding mailWords mailWord
@@ -177,4 +178,4 @@ mail-spelled (r ∷ rs) gs s = go (r .text) refl (mail-spelled rs (s .0) (s .2))
 pub row-spelled : (o : Opts) (mail : Bool) (row : Row) → Spelled (o .uniform || mail) (rowWords o mail row) (let gs = glyphs (o .glue) (row .text) in cond mail gs (glyphsFrom (row .start) gs))
 unfolding rowWords
 row-spelled o true row = rw or-true (mail-spelled _ _ (runs-split (glyphs (o .glue) (row .text))))
-row-spelled o false row = rw or-false (line-spelled o true false _ _ (runs-split (glyphsFrom (row .start) (glyphs (o .glue) (row .text)))) (λ e. absurd (true≢false e)))
+row-spelled o false row = rw or-false (line-spelled (counting (o .characters)) o true false _ _ (runs-split (glyphsFrom (row .start) (glyphs (o .glue) (row .text)))) (λ e. absurd (true≢false e)))

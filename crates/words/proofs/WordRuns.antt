@@ -16,7 +16,7 @@ use Rattle.text.specs.Characters.{Glyph, glyphs, isBlank, extent}
 use Rattle.text.proofs.Glyphs.{glyphs-joined}
 use Rattle.options.specs.Opts.{Opts}
 use Rattle.records.specs.Word.{Word}
-use Rattle.words.specs.Words.{Run, isInk, runOf, runs, glyphBytes, bytesOf, punctAtEnd, wordOf, lineWords, mailWord, mailWords}
+use Rattle.words.specs.Words.{Run, isInk, runOf, runs, glyphBytes, bytesOf, punctAtEnd, counting, wordOf, lineWords, mailWord, mailWords}
 use Rattle.words.specs.Contracts.Places.{endsFrom}
 use Rattle.words.specs.Contracts.Scan.{wordsFrom}
 
@@ -50,18 +50,18 @@ runs-step : (gs : List Glyph) → 0 < length gs
 unfolding runs
 runs-step gs h = each-step _ runOf gs h
 
-no-runs : (o : Opts) (newLine previous : Bool) → (mailWords [] ≡ []) × (lineWords o newLine previous [] ≡ [])
+no-runs : (count : List Glyph → ℕ) (o : Opts) (newLine previous : Bool) → (mailWords [] ≡ []) × (lineWords count o newLine previous [] ≡ [])
 unfolding mailWords lineWords
-no-runs o newLine previous = (refl, refl)
+no-runs count o newLine previous = (refl, refl)
 
 -- a run without text ends the words, and one with text is a word
-module _ (o : Opts) (newLine previous : Bool) (r : Run) (rs : List Run) where
-  text-none : r .text ≡ [] → (mailWords (r ∷ rs) ≡ []) × (lineWords o newLine previous (r ∷ rs) ≡ [])
+module _ (count : List Glyph → ℕ) (o : Opts) (newLine previous : Bool) (r : Run) (rs : List Run) where
+  text-none : r .text ≡ [] → (mailWords (r ∷ rs) ≡ []) × (lineWords count o newLine previous (r ∷ rs) ≡ [])
   unfolding mailWords lineWords
   text-none e = (rw e, rw e)
 
   text-some : {g : Glyph} {gs : List Glyph} → r .text ≡ g ∷ gs
-      → (mailWords (r ∷ rs) ≡ mailWord r ∷ mailWords rs) × (lineWords o newLine previous (r ∷ rs) ≡ wordOf o newLine previous r ∷ lineWords o false (punctAtEnd (r .text)) rs)
+      → (mailWords (r ∷ rs) ≡ mailWord r ∷ mailWords rs) × (lineWords count o newLine previous (r ∷ rs) ≡ wordOf count o newLine previous r ∷ lineWords count o false (punctAtEnd (r .text)) rs)
   unfolding mailWords lineWords
   text-some e = (pick (r .text) e _, pick (r .text) e _)
     where
@@ -72,10 +72,10 @@ module _ (o : Opts) (newLine previous : Bool) (r : Run) (rs : List Run) where
 -- blanks alone make no word
 pub words-none : (o : Opts) (mail newLine previous : Bool) (gs : List Glyph) → behind isBlank gs ≡ [] → wordsFrom o mail newLine previous gs ≡ []
 unfolding runOf while wordsFrom
-words-none o true newLine previous [] e = rw runs-none (no-runs o newLine previous .0)
-words-none o false newLine previous [] e = rw runs-none (no-runs o newLine previous .1)
-words-none o true newLine previous (g ∷ gs) e = rw (runs-step (g ∷ gs) (omega arith)) (text-none o newLine previous (runOf (g ∷ gs)) _ (rw e) .0)
-words-none o false newLine previous (g ∷ gs) e = rw (runs-step (g ∷ gs) (omega arith)) (text-none o newLine previous (runOf (g ∷ gs)) _ (rw e) .1)
+words-none o true newLine previous [] e = rw runs-none (no-runs (counting (o .characters)) o newLine previous .0)
+words-none o false newLine previous [] e = rw runs-none (no-runs (counting (o .characters)) o newLine previous .1)
+words-none o true newLine previous (g ∷ gs) e = rw (runs-step (g ∷ gs) (omega arith)) (text-none (counting (o .characters)) o newLine previous (runOf (g ∷ gs)) _ (rw e) .0)
+words-none o false newLine previous (g ∷ gs) e = rw (runs-step (g ∷ gs) (omega arith)) (text-none (counting (o .characters)) o newLine previous (runOf (g ∷ gs)) _ (rw e) .1)
 
 -- and end nowhere
 ends-empty : (at : ℕ) → endsFrom at [] ≡ []
@@ -102,7 +102,7 @@ ends-text-some at end r rs e q = rw q (pick (r .text) e _)
 -- a word
 unfoldable pub wordFor : Opts → Bool → Bool → Bool → Run → Word
 wordFor o true newLine previous r = mailWord r
-wordFor o false newLine previous r = wordOf o newLine previous r
+wordFor o false newLine previous r = wordOf (counting (o .characters)) o newLine previous r
 
 module _ (gs : List Glyph) {g : Glyph} {rest : List Glyph} (some : behind isBlank gs ≡ g ∷ rest) where
   text-is : while isInk (behind isBlank gs) ≡ g ∷ while isInk rest
@@ -126,5 +126,5 @@ module _ (gs : List Glyph) {g : Glyph} {rest : List Glyph} (some : behind isBlan
   pub words-one : (o : Opts) (mail newLine previous : Bool)
       → wordsFrom o mail newLine previous gs ≡ wordFor o mail newLine previous (runOf gs) ∷ wordsFrom o mail false (punctAtEnd (while isInk (behind isBlank gs))) (behind isInk (behind isBlank gs))
   unfolding runOf wordFor wordsFrom
-  words-one o true newLine previous = rw runs-first (text-some o newLine previous (runOf gs) _ text-is .0)
-  words-one o false newLine previous = rw runs-first (text-some o newLine previous (runOf gs) _ text-is .1)
+  words-one o true newLine previous = rw runs-first (text-some (counting (o .characters)) o newLine previous (runOf gs) _ text-is .0)
+  words-one o false newLine previous = rw runs-first (text-some (counting (o .characters)) o newLine previous (runOf gs) _ text-is .1)

@@ -77,13 +77,17 @@ punctAtEnd [] = false
 punctAtEnd (g ∷ []) = isPunct g
 punctAtEnd (g ∷ h ∷ gs) = punctAtEnd (h ∷ gs)
 
--- a gap that can part two sentences: a tab, or more than one BYTE of blank
-unfoldable pub wideGap : ℕ → List Glyph → Bool
-wideGap tab bs = hasTab (gapOf tab bs .before) || ltb 1 (length (bytesOf bs))
+-- the counting rule, by which blanks are counted where sentences part: by bytes, or by characters if the options say so (document 02, P13)
+unfoldable pub counting : Bool → List Glyph → ℕ
+counting characters bs = cond characters (length bs) (length (bytesOf bs))
+
+-- a gap that can part two sentences: a tab, or more than one blank by the counting rule
+unfoldable pub wideGap : (List Glyph → ℕ) → ℕ → List Glyph → Bool
+wideGap count tab bs = hasTab (gapOf tab bs .before) || ltb 1 (count bs)
 
 -- the record of a word; uniform drops blanks and tab counts
-unfoldable pub wordOf : Opts → Bool → Bool → Run → Word
-wordOf o newLine previousPunct r =
+unfoldable pub wordOf : (List Glyph → ℕ) → Opts → Bool → Bool → Run → Word
+wordOf count o newLine previousPunct r =
     let gap = cond (o .uniform) noGap (gapOf (o .tab) (r .blanks)) in
     record {
       blanks = cond (o .uniform) [] (bytesOf (r .blanks));
@@ -93,14 +97,14 @@ wordOf o newLine previousPunct r =
       after = gap .after;
       newLine = newLine;
       endsPunct = punctAtEnd (r .text);
-      sentenceStart = previousPunct && wideGap (o .tab) (r .blanks);
+      sentenceStart = previousPunct && wideGap count (o .tab) (r .blanks);
     }
 
 -- the words of a line: the first is marked new-line; a word may start a sentence if the one before it on its line ends in punctuation
-unfoldable pub lineWords : Opts → Bool → Bool → List Run → List Word
-lineWords o newLine previousPunct [] = []
-lineWords o newLine previousPunct (r ∷ rs) =
-    elim (r .text) as (λ t. List Word) [ [] ↦ [] | g ∷ (gs → h) ↦ wordOf o newLine previousPunct r ∷ lineWords o false (punctAtEnd (r .text)) rs ]
+unfoldable pub lineWords : (List Glyph → ℕ) → Opts → Bool → Bool → List Run → List Word
+lineWords count o newLine previousPunct [] = []
+lineWords count o newLine previousPunct (r ∷ rs) =
+    elim (r .text) as (λ t. List Word) [ [] ↦ [] | g ∷ (gs → h) ↦ wordOf count o newLine previousPunct r ∷ lineWords count o false (punctAtEnd (r .text)) rs ]
 
 -- mail: length in bytes, no other marks
 unfoldable pub mailWord : Run → Word
@@ -123,7 +127,7 @@ mailWords (r ∷ rs) = elim (r .text) as (λ t. List Word) [ [] ↦ [] | g ∷ (
 unfoldable pub rowWords : Opts → Bool → Row → List Word
 rowWords o mail row =
     let gs = glyphs (o .glue) (row .text) in
-    elim mail [ true ↦ mailWords (runs gs) | false ↦ lineWords o true false (runs (glyphsFrom (row .start) gs)) ]
+    elim mail [ true ↦ mailWords (runs gs) | false ↦ lineWords (counting (o .characters)) o true false (runs (glyphsFrom (row .start) gs)) ]
 
 unfoldable pub wordsOf : Opts → Paragraph → List Word
 wordsOf o p = joined (rowWords o (p .mail)) (p .rows)

@@ -136,15 +136,23 @@ fn next_word(s: &[u8], at: usize, mail: bool, first: bool, previous: bool, o: Op
     if mail {
         return Next::One(mail_word(start, w.end));
     }
-    Next::One(word_of(o.uniform, first, previous, at, b, w))
+    Next::One(word_of(o.uniform, o.characters, first, previous, at, b, w))
 }
 
 // The record of a word behind blanks that begin at a place.
-fn word_of(uniform: bool, first: bool, previous: bool, at: usize, b: Blanks, w: Ink) -> Word
+fn word_of(
+    uniform: bool,
+    characters: bool,
+    first: bool,
+    previous: bool,
+    at: usize,
+    b: Blanks,
+    w: Ink,
+) -> Word
     requires { ⌜ at ≤ b .end ⌝ }
-    ensures { λ r. ⌜ r ≡ wordAt uniform first previous at b w ⌝ }
+    ensures { λ r. ⌜ r ≡ wordAt uniform characters first previous at b w ⌝ }
 {
-    let sentence = starts_sentence(previous, at, b);
+    let sentence = starts_sentence(characters, previous, at, b);
     if uniform {
         return Word {
             from: b.end,
@@ -173,19 +181,27 @@ fn word_of(uniform: bool, first: bool, previous: bool, at: usize, b: Blanks, w: 
 }
 
 // Whether a word starts a sentence: the one before it on its line ends in punctuation, and the blanks between have a tab or are more
-// than one byte.
-fn starts_sentence(previous: bool, at: usize, b: Blanks) -> bool
+// than one by the counting rule.
+fn starts_sentence(characters: bool, previous: bool, at: usize, b: Blanks) -> bool
     requires { ⌜ at ≤ b .end ⌝ }
-    ensures { λ r. ⌜ r ≡ (previous && (hasTab (b .before) || ltb 1 (b .end - at))) ⌝ }
+    ensures { λ r. ⌜ r ≡ (previous && (hasTab (b .before) || ltb 1 (cond characters (b .after) (b .end - at)))) ⌝ }
 {
     if previous {
         let before = b.before;
         let Before::Absent = before else {
             return true;
         };
-        return 1 < b.end - at;
+        return 1 < blank_count(characters, at, b);
     }
     false
+}
+
+// How many blanks there are, by characters or by bytes. Without a tab the after count has every one.
+fn blank_count(characters: bool, at: usize, b: Blanks) -> usize
+    requires { ⌜ at ≤ b .end ⌝ }
+    ensures { λ r. ⌜ r ≡ cond characters (b .after) (b .end - at) ⌝ }
+{
+    if characters { b.after } else { b.end - at }
 }
 
 // The record of a word in mail.

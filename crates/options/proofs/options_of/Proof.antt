@@ -58,6 +58,9 @@ is-set-requires-7 c κs = search needs
 is-set-requires-8 : tie.Need-is-set-requires-8
 is-set-requires-8 c κs = search needs
 
+is-set-requires-9 : tie.Need-is-set-requires-9
+is-set-requires-9 c κs = search needs
+
 width-of-requires : tie.Need-width-of-requires
 width-of-requires c κs = search needs
 
@@ -73,21 +76,22 @@ returns c =
     let g = c .before in
     let w = g .before in
     let s = w .before in
-    let f = s .before .before .before .before .before .before .before .before .before .before in
+    let f = s .before .before .before .before .before .before .before .before .before .before .before in
     rw (
       c .larger .ensures,
       g .goal-of .ensures,
       w .width-of .ensures,
-      s .is-set8 .ensures,
-      s .before .is-set7 .ensures,
-      s .before .before .is-set6 .ensures,
-      s .before .before .before .is-set5 .ensures,
-      s .before .before .before .before .is-set4 .ensures,
-      s .before .before .before .before .before .is-set3 .ensures,
-      s .before .before .before .before .before .before .is-set2 .ensures,
-      s .before .before .before .before .before .before .before .is-set .ensures,
-      s .before .before .before .before .before .before .before .before .is-tagged .ensures,
-      s .before .before .before .before .before .before .before .before .before .is-crown .ensures,
+      s .is-set9 .ensures,
+      s .before .is-set8 .ensures,
+      s .before .before .is-set7 .ensures,
+      s .before .before .before .is-set6 .ensures,
+      s .before .before .before .before .is-set5 .ensures,
+      s .before .before .before .before .before .is-set4 .ensures,
+      s .before .before .before .before .before .before .is-set3 .ensures,
+      s .before .before .before .before .before .before .before .is-set2 .ensures,
+      s .before .before .before .before .before .before .before .before .is-set .ensures,
+      s .before .before .before .before .before .before .before .before .before .is-tagged .ensures,
+      s .before .before .before .before .before .before .before .before .before .before .is-crown .ensures,
       f .part-of6 .ensures,
       f .before .part-of5 .ensures,
       f .before .before .number-or2 .ensures,
@@ -120,6 +124,7 @@ options-of-spec =
     is-set-requires-6
     is-set-requires-7
     is-set-requires-8
+    is-set-requires-9
     width-of-requires
     goal-of-requires
     larger-requires

@@ -9,7 +9,7 @@ use Rattle.options.specs.OptionBlock.{number, tagOf, sizeOf, valueOf, nextField
 use Rattle.lines.specs.Lines.{body, withoutReturn, firstLine, linesOf}
 use Rattle.lines.specs.Classes.{glyphsBefore, glyphsFrom, nextStop, columnBehind, columnsOf, search, shapeAt, classify}
 use Rattle.pieces.specs.Pieces.{fromWord, headerText, startsMail, continues, agrees, secondRule, follow, secondOf, further, indentOf, firstIndent, indentFor, rowOf, paragraphAt, nextPiece, pieces}
-use Rattle.words.specs.Words.{runOf, runs, bytesOf, widthSum, gapFrom, gapOf, punctAtEnd, wideGap, wordOf, lineWords, mailWord, mailWords, rowWords, wordsOf}
+use Rattle.words.specs.Words.{runOf, runs, bytesOf, widthSum, gapFrom, gapOf, punctAtEnd, counting, wideGap, wordOf, lineWords, mailWord, mailWords, rowWords, wordsOf}
 use Rattle.spacing.specs.Spacing.{gapWidth, addedSpace}
 use Rattle.output.specs.Emission.{spaceBefore, emitRest, emit}
 use Rattle.quick.specs.Quick.{quickFrom, quickBreaks}
@@ -19,5 +19,5 @@ use Rattle.rudignals.specs.Answers.{numbered, outputAfter}
 use Rattle.rudignals.specs.Format.{settingOf, formatted, outputOf, digest, extentOf, longParagraph, answer, measuring, writing}
 
 unfoldable pub everything : Unit {0}
-unfolding mul div sub ofInt walkUpTo walk piece each while behind every begins joined scalar encode spelled decode accepted character blankCode widthOf glyph glyphs extent damage meant number tagOf sizeOf valueOf nextField fields allowed wellFormed firstFault partOf fits optionsOf readBlock body withoutReturn firstLine linesOf glyphsBefore glyphsFrom nextStop columnBehind columnsOf search shapeAt classify fromWord headerText startsMail continues agrees secondRule follow secondOf further indentOf firstIndent indentFor rowOf paragraphAt nextPiece pieces runOf runs bytesOf widthSum gapFrom gapOf punctAtEnd wideGap wordOf lineWords mailWord mailWords rowWords wordsOf gapWidth addedSpace spaceBefore emitRest emit quickFrom quickBreaks term ratio wordTerm cost firstBreak reduced reached staying offerOf lesser bestOffer leastFrom least restart round roundsFrom pathOf startsLine marksFrom bestBreaks numbered outputAfter settingOf formatted outputOf digest extentOf longParagraph answer measuring writing
+unfolding mul div sub ofInt walkUpTo walk piece each while behind every begins joined scalar encode spelled decode accepted character blankCode widthOf glyph glyphs extent damage meant number tagOf sizeOf valueOf nextField fields allowed wellFormed firstFault partOf fits optionsOf readBlock body withoutReturn firstLine linesOf glyphsBefore glyphsFrom nextStop columnBehind columnsOf search shapeAt classify fromWord headerText startsMail continues agrees secondRule follow secondOf further indentOf firstIndent indentFor rowOf paragraphAt nextPiece pieces runOf runs bytesOf widthSum gapFrom gapOf punctAtEnd counting wideGap wordOf lineWords mailWord mailWords rowWords wordsOf gapWidth addedSpace spaceBefore emitRest emit quickFrom quickBreaks term ratio wordTerm cost firstBreak reduced reached staying offerOf lesser bestOffer leastFrom least restart round roundsFrom pathOf startsLine marksFrom bestBreaks numbered outputAfter settingOf formatted outputOf digest extentOf longParagraph answer measuring writing
 everything = tt

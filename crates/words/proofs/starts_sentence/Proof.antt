@@ -12,15 +12,15 @@ enum-told-2 c = search needs
 returns : tie.Need-returns
 returns c = search needs
 
-sub-result : tie.Need-sub-result
-sub-result c = search needs
+blank-count-requires : tie.Need-blank-count-requires
+blank-count-requires c κs = search needs
 
 returns-2 : tie.Need-returns-2
-returns-2 c = rw (c .before .before .before .if1 .taken, c .before .enum-told .given .1)
+returns-2 c = rw (c .before .before .before .if1 .taken, c .before .enum-told .given .1, c .blank-count .ensures)
 
 returns-3 : tie.Need-returns-3
 returns-3 c = search needs
 
 pub starts-sentence-spec : {M : Type 1} → statement M
 starts-sentence-spec =
-    tie.close (tie.spec enum-told enum-told-2 returns sub-result returns-2 returns-3)
+    tie.close (tie.spec enum-told enum-told-2 returns blank-count-requires returns-2 returns-3)

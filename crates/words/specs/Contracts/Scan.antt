@@ -12,7 +12,7 @@ use Rattle.records.specs.Word.{Word, meaning}
 use Rattle.records.specs.Contracts.Table.{beforeNumber, Within}
 use Rattle.records.specs.declared.Word.{Word as Record}
 use Rattle.records.specs.declared.Before.the-variants.{Absent}
-use Rattle.words.specs.Words.{isInk, runs, widthSum, Gap, gapTab, gapOf, hasTab, punctAtEnd, lineWords, mailWords}
+use Rattle.words.specs.Words.{isInk, runs, widthSum, Gap, gapTab, gapOf, hasTab, punctAtEnd, counting, lineWords, mailWords}
 use Rattle.words.specs.Contracts.Places.{endsFrom}
 use Rattle.words.specs.declared.Blanks.{Blanks}
 use Rattle.words.specs.declared.Ink.{Ink}
@@ -80,9 +80,9 @@ pub record OverPlain (s : List ℕ) (w r : Ink) : Type 0 where
   pub none : r .end ≡ w .end → r .punct ≡ w .punct
   pub last : w .end < r .end → r .punct ≡ punctCode (getD s (r .end - 1) 0)
 
--- the record of a word behind blanks that begin at a place; uniform drops them and their counts
-abbrev pub wordAt : Bool → Bool → Bool → ℕ → Blanks → Ink → Record
-wordAt uniform first previous at b w = record {
+-- the record of a word behind blanks that begin at a place; uniform drops them and their counts. Without a tab the after count has every blank
+abbrev pub wordAt : Bool → Bool → Bool → Bool → ℕ → Blanks → Ink → Record
+wordAt uniform characters first previous at b w = record {
   from = cond uniform (b .end) at;
   start = b .end;
   end = w .end;
@@ -91,7 +91,7 @@ wordAt uniform first previous at b w = record {
   after = cond uniform 0 (b .after);
   first = first;
   punct = w .punct;
-  sentence = previous && (hasTab (b .before) || ltb 1 (b .end - at));
+  sentence = previous && (hasTab (b .before) || ltb 1 (cond characters (b .after) (b .end - at)));
 }
 
 -- mail: the width in bytes, no blanks and no marks
@@ -101,7 +101,7 @@ mailAt start end = record { from = start; start = start; end = end; width = end 
 -- the words of the glyphs that are left of a line: whether the next is its first, and whether the one before it ends in punctuation
 unfoldable pub wordsFrom : Opts → Bool → Bool → Bool → List Glyph → List Word
 wordsFrom o true newLine previousPunct gs = mailWords (runs gs)
-wordsFrom o false newLine previousPunct gs = lineWords o newLine previousPunct (runs gs)
+wordsFrom o false newLine previousPunct gs = lineWords (counting (o .characters)) o newLine previousPunct (runs gs)
 
 -- w is the next word at a place
 pub record NextWord (o : Opts) (mail newLine previousPunct : Bool) (s : List ℕ) (at : ℕ) (w : Record) : Type 0 where
