@@ -103,6 +103,16 @@ uint64_t rudignals_write(const uint8_t *options, size_t options_len, const uint8
 /* The two in sequence: it answers and writes what rudignals_write does. */
 uint64_t rudignals_format(const uint8_t *options, size_t options_len, const uint8_t *notes, size_t notes_len, uint8_t *output, size_t output_len);
 
+/* The wall panel: the last 24 lines of a digest as 24 rows of 80 cells, row by row, each a code point; fewer lines stand at the bottom.
+ * A tab moves on and marks nothing; a wide character is its cell and a filler cell, 0; a byte that begins no well-formed character is
+ * U+FFFD; a line that runs past the last column has `+` in its last cell. What the cells held before is gone. Code 0 or, for a tab width
+ * over 100, code 1 with all cells blank; N is 0. A tab width of 0 acts as 1. */
+#define RUDIGNALS_PANEL_ROWS 24u
+#define RUDIGNALS_PANEL_COLUMNS 80u
+#define RUDIGNALS_PANEL_CELLS (RUDIGNALS_PANEL_ROWS * RUDIGNALS_PANEL_COLUMNS)
+
+uint64_t rudignals_panel(const uint8_t *digest, size_t digest_len, uint64_t tab, uint32_t cells[RUDIGNALS_PANEL_CELLS]);
+
 /* An answer's two halves. */
 static inline uint32_t rudignals_code_of(uint64_t answer) { return (uint32_t)(answer >> 32); }
 static inline uint32_t rudignals_number_of(uint64_t answer) { return (uint32_t)(answer & 0xFFFFFFFFu); }

@@ -53,6 +53,14 @@ static void *make_format(void *unused) {
     return unused;
 }
 
+static void *make_panel(void *unused) {
+    static uint32_t cells[RUDIGNALS_PANEL_CELLS];
+    unsigned char here = 0;
+    call.top = &here;
+    call.answer = rudignals_panel(call.notes, call.notes_len, 8, cells);
+    return unused;
+}
+
 static void on_the_painted_stack(void *(*run)(void *)) {
     pthread_attr_t attributes;
     pthread_t thread;
@@ -162,6 +170,14 @@ static void measure_refusals(void) {
     measure();
 }
 
+/* U+E0100, a character that only the table of widths knows. */
+static void measure_panel(void) {
+    static const uint8_t selector[] = {0xF3, 0xA0, 0x84, 0x80};
+    text("a panel", 0, "", 80);
+    memcpy(call.notes + call.notes_len - sizeof selector, selector, sizeof selector);
+    printf("%7lu                  %s\n", (unsigned long)used_by(make_panel, RUDIGNALS_DONE), call.name);
+}
+
 int main(void) {
     text("none", 0, "", 80);
     on_the_painted_stack(make_format); /* in a dynamically linked program the first call looks for memset, on this stack */
@@ -180,6 +196,7 @@ int main(void) {
     measure_text("keep and glue", RUDIGNALS_KEEP | RUDIGNALS_GLUE, "\xC2\xA0", 80);
     measure_prefix();
     measure_refusals();
+    measure_panel();
     printf("stack: at most %lu bytes; %lu allowed\n", (unsigned long)greatest, (unsigned long)MOST);
     if (more)
         puts("stack: measuring took more than writing");

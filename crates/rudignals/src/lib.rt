@@ -19,6 +19,8 @@ ghost use Rattle.rudignals.specs.Answers.{done, numbered, outputAfter};
 ghost use Rattle.rudignals.specs.Format.{damageIn, withDigest, answer, measuring, writing};
 ghost use Rattle.rudignals.specs.Contracts.Call.{told, replyNumber, Answers, leftOf, AdmitsNotes, Admits, CursorIn, TextAhead, Reached, Scratch, Admitted, settingFor, Broken, Placed, TextStepped, Coursed, Finished, FinishedFrom};
 
+mod wall;
+
 // What measuring and writing reply: the digest's length, or a refusal with what is told of it. (Measuring has no `Room`.)
 pub enum Reply {
     Done(usize),

@@ -1,0 +1,9 @@
+mod Counts
+mod Rows
+mod Signs
+mod Turns
+mod Panels
+mod Alone
+mod Fillers
+mod Pluses
+mod Worked

@@ -1,0 +1,5 @@
+pub mod Ranges
+pub mod Table
+pub mod Widths
+pub mod WhiteSpace
+pub mod Contracts
