@@ -20,8 +20,13 @@ enum { WELL = 0, FAILED = 1, WRONG_CALL = 2 };
 extern const char *called;
 extern const char *subject;
 
-/* One line on standard error, behind the name. */
+/* One line on standard error, behind the name; nothing while the command is silent, since it draws on that terminal. */
 void say(const char *sentence, ...);
+extern bool silent;
+/* What was said last. */
+const char *last_said(void);
+/* A sentence with its values, without control characters. It is the caller's to free; null if there is no memory. */
+char *words(const char *sentence, ...);
 /* A stream that failed, and the system's reason. */
 void say_failure(const char *name, int reason);
 /* Behind the words for a wrong call: where to read on. Answers the exit status. */
@@ -59,10 +64,11 @@ int close_output(int status);
 
 /* ---- options.c: the command line */
 
-/* An option is named by its letter; those without one have numbers that no letter has. */
-enum { KEEP = 256, GLUE, CHARACTERS, OPTIONS };
+/* An option is named by its letter; those without one have numbers that no letter has. The last three are the panel's own. */
+enum { KEEP = 256, GLUE, CHARACTERS, TEXT, SVG, FOLLOW, OPTIONS };
 
-/* What was asked for. Values stand as they were typed, to be named if they are refused; null is not given. */
+/* What was asked for. Values stand as they were typed, to be named if they are refused; null is not given, and an option that takes no value
+ * has the empty one. */
 struct options {
     uint16_t flags;
     const char *value[OPTIONS];
@@ -72,9 +78,13 @@ struct options {
     int count;
 };
 
-/* Reads fmt's options and builds the block. Says what is wrong with the call; HELP and VERSION are for the subcommand to answer. */
+/* Reads fmt's options, and the subcommand's own if it has any (a row without a name ends them), and builds the block. Says what is wrong with
+ * the call; HELP and VERSION are for the subcommand to answer. */
 enum asked { ASKED_WORK, ASKED_HELP, ASKED_VERSION, ASKED_WRONGLY };
-enum asked read_options(struct options *options, int argc, char **argv);
+struct option;
+enum asked read_options(struct options *options, const struct option *own, int argc, char **argv);
+/* The columns between tab stops, of options that are accepted. */
+uint64_t tab_of(const struct options *options);
 const char *name_of(int option);
 extern const char OPTIONS_HELP[];
 
@@ -104,10 +114,79 @@ struct digest {
 /* Formats what the window shows from now on. Answers false, with errno, if the file cannot be read to its end. */
 bool make_digest(struct digest *digest, const struct options *options, struct window *window);
 
+/* ---- format.c: the digest of a file by its name */
+
+/* How a file is called in what is said of it. */
+const char *label_of(const char *name);
+/* Says why, if there is no digest. ENDED is the panel's alone: it may be an old one. */
+enum outcome { MADE, NOT_READ, REFUSED, ENDED };
+enum outcome digest_file(const struct options *options, const char *name, struct window *window, struct digest *digest);
+
 /* ---- refusals.c: what the library refuses, in words */
 
 /* Says why the block is refused, if it is. */
 bool options_accepted(const struct options *options);
 void say_refusal(const char *name, const struct refusal *at);
+
+/* ---- cells.c: what stands on the wall panel */
+
+enum { ROWS = 24, COLUMNS = 80, FILLER = 0 };
+
+struct panel {
+    uint32_t cells[ROWS * COLUMNS];
+    uint32_t caption[COLUMNS]; /* stands below the panel */
+    int bar;                   /* so many rows at the bottom say why there is no digest; 0: there is one */
+};
+
+/* Puts a digest on the panel, or in its place why there is none. */
+void put_digest(struct panel *panel, const struct digest *digest, uint64_t tab, const char *label);
+void put_failure(struct panel *panel, enum outcome outcome, const char *reason, const char *label);
+
+/* How a cell is drawn. OVER is the last one of a line that runs past the panel. */
+enum kind { PLAIN, OVER, DAMAGED, BAR, KINDS };
+struct cell {
+    uint32_t character; /* FILLER, or one that takes no effect where it is drawn */
+    enum kind kind;
+};
+struct cell cell_at(const struct panel *panel, int row, int column);
+uint32_t caption_at(const struct panel *panel, int column);
+/* How many columns of the caption are not blank behind it. */
+int caption_length(const struct panel *panel);
+/* Writes a character in UTF-8. */
+void put_character(FILE *out, uint32_t character);
+
+/* ---- frame.c: the panel as text */
+
+struct view {
+    bool terminal; /* colours are seen, and the cursor can be moved */
+    bool framed;
+    int rows, columns; /* the lowest so many rows are drawn, and so many columns are seen */
+};
+
+/* How standard output is drawn on. A whole screen shows what fits it, and no row is carried to the next line. */
+struct view view_of_output(bool whole_screen);
+void draw_text(FILE *out, const struct panel *panel, const struct view *view);
+
+/* ---- picture.c: the panel as a picture */
+
+/* Draws into a file, `-' being standard output. Answers false, and says why, if that fails. */
+bool draw_picture(const struct panel *panel, const char *name);
+
+/* ---- follow.c: the panel as long as it is looked at */
+
+/* What is to be shown, and where. */
+struct show {
+    struct options options;
+    const char *name;
+    const char *picture; /* null: none */
+    bool text;
+};
+
+/* Draws what the file has now. Answers the exit status; FAILED behind `written' false is a drawing that could not be written. */
+int draw_once(const struct show *show, bool whole_screen, bool *written);
+/* Draws in the picture, if there is one, that it is followed no more. Answers false if that could not be written. */
+bool draw_end(const struct show *show);
+/* Draws again whenever the file has changed, until a signal ends it. */
+int follow(const struct show *show);
 
 #endif

@@ -41,18 +41,23 @@ static bool read_digest(const struct options *options, const char *name, struct 
     return whole;
 }
 
-/* Each file's digest is out before the next file is read, as in the original. */
-static bool format_file(const struct options *options, const char *name, struct window *window, struct digest *digest) {
-    const char *label = strcmp(name, "-") == 0 ? "standard input" : name;
+const char *label_of(const char *name) { return strcmp(name, "-") == 0 ? "standard input" : name; }
+
+enum outcome digest_file(const struct options *options, const char *name, struct window *window, struct digest *digest) {
     if (!read_digest(options, name, window, digest)) {
-        say_failure(label, errno);
-        return false;
+        say_failure(label_of(name), errno);
+        return NOT_READ;
     }
     if (digest->refusal.code != RUDIGNALS_DONE) {
-        say_refusal(label, &digest->refusal);
-        return false;
+        say_refusal(label_of(name), &digest->refusal);
+        return REFUSED;
     }
-    return write_out(digest->bytes, digest->length);
+    return MADE;
+}
+
+/* Each file's digest is out before the next file is read, as in the original. */
+static bool format_file(const struct options *options, const char *name, struct window *window, struct digest *digest) {
+    return digest_file(options, name, window, digest) == MADE && write_out(digest->bytes, digest->length);
 }
 
 /* A file that is refused or cannot be read does not keep the others from being formatted. Nobody would read them if one could not be
@@ -79,7 +84,7 @@ static int format_asked(const struct options *options) {
 int run_format(int argc, char **argv) {
     struct options options;
     argv[0] = (char *)called; /* getopt_long's messages begin with it */
-    switch (read_options(&options, argc, argv)) {
+    switch (read_options(&options, NULL, argc, argv)) {
     case ASKED_WORK: return format_asked(&options);
     case ASKED_HELP: return show_help();
     case ASKED_VERSION: return show_version();

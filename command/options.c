@@ -29,6 +29,9 @@ static const struct option LONG[] = {
     {NULL, 0, NULL, 0},
 };
 
+#define ROWS_OF(table) (sizeof(table) / sizeof(table)[0])
+enum { MOST_OWN = 8 };
+
 const char OPTIONS_HELP[] =
     "  -c, --crown-margin       a paragraph's first two lines may have indents of\n"
     "                           their own\n"
@@ -88,6 +91,8 @@ static uint16_t number_in(const char *text) {
     return (uint16_t)value;
 }
 
+uint64_t tab_of(const struct options *options) { return options->value['T'] == NULL ? 8 : number_in(options->value['T']); }
+
 static void add_number(struct options *options, enum rudignals_tag tag, int option) {
     if (options->value[option] != NULL)
         options->block_len = rudignals_put_number(options->block, options->block_len, tag, number_in(options->value[option]));
@@ -128,7 +133,7 @@ static enum asked take(struct options *options, int option) {
         return ASKED_WRONGLY;
     }
     options->flags |= FLAG[option];
-    options->value[option] = optarg;
+    options->value[option] = optarg == NULL ? "" : optarg;
     return ASKED_WORK;
 }
 
@@ -141,13 +146,25 @@ static bool takes_width(struct options *options, int argc, char **argv) {
     return true;
 }
 
-enum asked read_options(struct options *options, int argc, char **argv) {
+/* fmt's options, and behind them the subcommand's own. */
+static const struct option *join_rows(const struct option *own) {
+    static struct option rows[ROWS_OF(LONG) + MOST_OWN];
+    size_t count = ROWS_OF(LONG) - 1;
+    memcpy(rows, LONG, sizeof LONG);
+    for (; own != NULL && own->name != NULL && count < ROWS_OF(rows) - 1; own++)
+        rows[count++] = *own;
+    rows[count] = LONG[ROWS_OF(LONG) - 1];
+    return rows;
+}
+
+enum asked read_options(struct options *options, const struct option *own, int argc, char **argv) {
+    const struct option *rows = join_rows(own);
     enum asked asked = ASKED_WORK;
     int option;
     *options = (struct options){0};
     if (takes_width(options, argc, argv))
         argc--, argv++;
-    while (asked == ASKED_WORK && (option = getopt_long(argc, argv, SHORT, LONG, NULL)) != -1)
+    while (asked == ASKED_WORK && (option = getopt_long(argc, argv, SHORT, rows, NULL)) != -1)
         asked = take(options, option);
     options->files = argv + optind;
     options->count = argc - optind;

@@ -5,7 +5,11 @@
 #include <string.h>
 
 /* A subcommand: its name, and what it does, for --help. The function run_NAME stands in the file NAME.c. */
-#define SUBCOMMANDS(X) X(format, "reformat the paragraphs of notes; also called fmt")
+#define SUBCOMMANDS(X)                                                                                                                       \
+    X(format, "reformat the paragraphs of notes; also called fmt")                                                                            \
+    X(panel, "show the last lines of formatted notes as a wall panel does")                                                                   \
+    X(salvage, "mend notes in ISO 8859-1, with a list of what was changed")                                                                   \
+    X(restore, "bring the old notes back from a mended copy and its list")
 
 #define DECLARED(name, does) int run_##name(int argc, char **argv);
 SUBCOMMANDS(DECLARED)
@@ -23,7 +27,7 @@ static const struct subcommand TABLE[] = {SUBCOMMANDS(ROW){NULL, NULL, NULL, NUL
 static int show_help(void) {
     const struct subcommand *row;
     fputs("Usage: rudignals SUBCOMMAND [OPTION]... [FILE]...\n"
-          "A paragraph formatter for operators' notes: nothing in them goes missing.\n"
+          "A paragraph formatter for operators' notes.\n"
           "\n",
           stdout);
     for (row = TABLE; row->name != NULL; row++)

@@ -158,6 +158,30 @@ static inline size_t rudignals_put_prefix(uint8_t *block, size_t at, enum rudign
     return at + 3 + length;
 }
 
+/* ---- Notes in ISO 8859-1 made readable, and the way back. These calls have no tables on the stack.
+ *
+ * The list of what was changed is two parallel slices, in order: the place in the old notes, and the old byte. It has as many entries as
+ * the shorter of the two. Lines end at line feeds only; a line is well formed if it is UTF-8 by RFC 3629, whatever formatting accepts. */
+enum {
+    RUDIGNALS_LIST_FULL = 7, /* mend: N changes outnumber the list's places */
+    RUDIGNALS_LIST = 11      /* restore: entry N, counted from 0, does not belong to the copy */
+};
+
+#define RUDIGNALS_MOST_COPY (2 * RUDIGNALS_MOST_NOTES)
+
+/* Mends notes: in a line that is not well formed each byte from 0x80 to 0xFF becomes the two bytes of the same code point; every other line
+ * is left as found. Answers 0 and N, the copy's length; the list then has N - notes_len entries, and what lies behind in the three slices is
+ * unchanged. Refusals, the first that applies: RUDIGNALS_LONG, N is 0; RUDIGNALS_LIST_FULL; RUDIGNALS_ROOM, N is the length needed. On a
+ * refusal all three slices are unchanged, with RUDIGNALS_ROOM too. RUDIGNALS_MOST_COPY bytes and RUDIGNALS_MOST_NOTES entries always do. */
+uint64_t rudignals_mend(const uint8_t *notes, size_t notes_len, uint8_t *copy, size_t copy_len, uint32_t *places, size_t places_len, uint8_t *bytes, size_t bytes_len);
+
+/* The old notes from a mended copy and its list, of which exactly the entries in use are handed over. Answers 0 and N, the notes' length,
+ * copy_len less the entries. Refusals, the first that applies: RUDIGNALS_LONG, a copy of over RUDIGNALS_MOST_COPY bytes, N is 0;
+ * RUDIGNALS_LIST, the first entry that does not belong to the copy: its byte is below 0x80, its place is not behind the entry before it, or
+ * the byte's two bytes do not stand in the copy at its place, counted on by one for each entry before it; RUDIGNALS_ROOM, N is the length
+ * needed. On a refusal nothing is written. A list that is accepted loses nothing: from the notes and that list the copy can be made again. */
+uint64_t rudignals_restore(const uint8_t *copy, size_t copy_len, const uint32_t *places, size_t places_len, const uint8_t *bytes, size_t bytes_len, uint8_t *notes, size_t notes_len);
+
 #ifdef __cplusplus
 }
 #endif

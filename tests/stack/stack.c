@@ -170,11 +170,11 @@ static void measure_refusals(void) {
     measure();
 }
 
-/* U+E0100, a character that only the table of widths knows. */
+/* U+50000: its width is looked up in the table itself. */
 static void measure_panel(void) {
-    static const uint8_t selector[] = {0xF3, 0xA0, 0x84, 0x80};
+    static const uint8_t unassigned[] = {0xF1, 0x90, 0x80, 0x80};
     text("a panel", 0, "", 80);
-    memcpy(call.notes + call.notes_len - sizeof selector, selector, sizeof selector);
+    memcpy(call.notes + call.notes_len - sizeof unassigned, unassigned, sizeof unassigned);
     printf("%7lu                  %s\n", (unsigned long)used_by(make_panel, RUDIGNALS_DONE), call.name);
 }
 

@@ -1,5 +1,5 @@
 -- A text that ends in a line feed is a boundary of lines: its lines, and then the lines of what follows it.
-use mathlib.Core.Path.{_≡_, refl, ap, _∙_}
+use mathlib.Core.Path.{_≡_, refl, ap}
 use mathlib.Core.Bool.{Bool, true, false, not}
 use mathlib.Core.List.{List, [], _∷_, _++_}
 use Prim.Native.Nat.{ℕ, zero, suc, _<_}
@@ -9,9 +9,8 @@ use lib.Seq.{take-append-le}
 use borrow.Author.Tests.{eq-eqb, lt-ltb}
 use Rattle.lists.proofs.Runs.{while-more, while-end}
 use Rattle.lists.proofs.Parts.{while-append}
-use Rattle.lists.proofs.Walk.{each-step}
 use Rattle.lists.proofs.Extents.{each-append}
-use Rattle.lines.specs.Lines.{Line, noFeed, body, withoutReturn, firstLine, linesOf}
+use Rattle.lines.specs.Lines.{noFeed, body, firstLine, linesOf}
 use Rattle.lines.specs.Theorems.Closed.{Closed}
 
 -- the first line of a closed text is ended
@@ -57,15 +56,3 @@ lines-append a b c = each-append (λ xs. length (body xs)) firstLine Closed b st
     stays (x ∷ r) k g =
         let e = ended x r k in
         (firstLine-append (x ∷ r) b e, ap length (body-append (x ∷ r) b e), e, closed-drop (suc (length (body (x ∷ r)))) (x ∷ r) k)
-
--- an empty line: the line feed alone, and no text
-abbrev pub emptyLine : Line
-emptyLine = record { raw = 10 ∷ []; text = [] }
-
-body-feed : (b : List ℕ) → body (10 ∷ b) ≡ []
-unfolding body
-body-feed b = while-end noFeed 10 b refl
-
-pub lines-feed : (b : List ℕ) → linesOf (10 ∷ b) ≡ emptyLine ∷ linesOf b
-unfolding linesOf firstLine withoutReturn
-lines-feed b = each-step (λ xs. length (body xs)) firstLine (10 ∷ b) (omega arith) ∙ rw (body-feed b, lt-ltb 0 (suc (length b)) (omega arith))

@@ -10,13 +10,10 @@ use Rattle.lists.specs.Walk.{walk}
 use Rattle.lists.proofs.Walk.{last, walk-step, walk-append}
 use Rattle.options.specs.Opts.{Opts}
 use Rattle.lines.specs.Lines.{Line, linesOf}
-use Rattle.lines.specs.Theorems.Closed.{Closed}
 use Rattle.lines.specs.Classes.{classify}
 use Rattle.lines.specs.declared.Shape.{Shape}
 use Rattle.lines.specs.declared.Class.{Class}
 use Rattle.lines.specs.declared.Class.the-variants.{Blank, Plain, Formatted}
-use Rattle.lines.proofs.Boundary.{lines-append, emptyLine, lines-feed}
-use Rattle.lines.proofs.Ink.{empty-blank}
 use Rattle.pieces.specs.Pieces.{Piece, blankLine, plainLine, startsMail, further, paragraphAt, pieceAs, nextPiece, pieces}
 use Rattle.pieces.proofs.Reach.{Stops, blank-stops, plain-stops, further-le, further-append, indent-append}
 
@@ -56,7 +53,7 @@ module _ (o : Opts) where
       go Plain = omega arith
       go (Formatted s) = let h = further-le o (startsMail (o .mail) nextMail s (k .text)) s ls in omega arith
 
-  pub pieces-stop : (l : Line) (after : List Line) → Stops o l → (nextMail : Bool) (before : List Line)
+  pieces-stop : (l : Line) (after : List Line) → Stops o l → (nextMail : Bool) (before : List Line)
       → walk (nextPiece o) nextMail (before ++ l ∷ after) ≡ walk (nextPiece o) nextMail before ++ walk (nextPiece o) (last (nextPiece o) nextMail before) (l ∷ after)
   pieces-stop l after stops nextMail before =
       walk-append (nextPiece o) (λ ls. Unit {0}) (l ∷ after) (λ m ls u h. (next-append l after stops m ls h, next-within m ls h, tt)) nextMail before tt
@@ -72,17 +69,12 @@ module _ (o : Opts) where
     unfolding nextPiece
     plain-step e = walk-step (nextPiece o) nextMail (l ∷ after) (omega arith) ∙ rw e
 
-  -- an empty line parts the notes: its pieces are those of the notes before it, a blank line, and those of the notes behind it
-  pub pieces-boundary : (a b : List ℕ) → Closed a → pieces o (a ++ 10 ∷ b) ≡ pieces o a ++ blankPiece emptyLine ∷ pieces o b
+  -- a blank line parts the notes: the pieces of the lines before it, itself, and the pieces of the lines behind it, as from the start
+  pub blank-stands : (notes : List ℕ) (before : List Line) (l : Line) (after : List Line) → classify o (l .text) ≡ Blank → linesOf notes ≡ before ++ l ∷ after
+      → pieces o notes ≡ walk (nextPiece o) true before ++ blankPiece l ∷ walk (nextPiece o) true after
   unfolding pieces
-  pieces-boundary a b c =
-      let e = empty-blank o in
-      rw (
-        lines-append a (10 ∷ b) c,
-        lines-feed b,
-        pieces-stop emptyLine (linesOf b) (blank-stops o emptyLine e) true (linesOf a),
-        blank-step (last (nextPiece o) true (linesOf a)) emptyLine (linesOf b) e,
-      )
+  blank-stands notes before l after e h =
+      rw (h, pieces-stop l after (blank-stops o l e) true before, blank-step (last (nextPiece o) true before) l after e)
 
   -- a plain line stands: the pieces of the lines before it, itself, and the pieces of the lines behind it
   pub plain-stands : (notes : List ℕ) (before : List Line) (l : Line) (after : List Line) → classify o (l .text) ≡ Plain → linesOf notes ≡ before ++ l ∷ after

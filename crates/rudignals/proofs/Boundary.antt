@@ -4,10 +4,8 @@ use mathlib.Core.Bool.{Bool, true, false}
 use mathlib.Core.List.{List, [], _∷_, _++_}
 use Prim.Native.Nat.{ℕ, _+_, _≤_}
 use native.Mathlib.Omega.{arith}
-use lib.ListN.{length, length-append}
-use Rattle.lists.specs.Walk.{walk}
+use lib.ListN.{length}
 use Rattle.lists.specs.Runs.{every, joined}
-use Rattle.lists.proofs.Walk.{last, walk-step}
 use Rattle.lists.specs.Theorems.All.{All}
 use Rattle.lists.proofs.All.{all-append}
 use Rattle.lists.proofs.Parts.{joined-append, joined-cons}
@@ -22,9 +20,8 @@ use Rattle.lines.specs.Lines.{Line, noFeed, linesOf}
 use Rattle.lines.specs.Classes.{classify}
 use Rattle.lines.specs.declared.Class.the-variants.{Blank}
 use Rattle.lines.specs.Theorems.Closed.{Closed}
-use Rattle.pieces.specs.Pieces.{Piece, nextPiece, pieces}
-use Rattle.pieces.proofs.Boundary.{blankPiece, pieces-stop}
-use Rattle.pieces.proofs.Reach.{blank-stops}
+use Rattle.pieces.specs.Pieces.{Piece, pieces}
+use Rattle.pieces.proofs.Boundary.{blankPiece, blank-stands}
 use Rattle.rudignals.specs.Answers.{done}
 use Rattle.rudignals.specs.Format.{mostBytes, outputOf, pieceOutput, digest, extentOf, tooMany, longParagraph, damageIn, measuring}
 use Rattle.rudignals.specs.Theorems.LineEnds.{LineEnd, feed, returnAndFeed, byFeed}
@@ -61,18 +58,10 @@ module _ (o : Opts) (a line end b : List ℕ) (closed : Closed a) (feedless : ev
   abbrev the-line : Line
   the-line = record { raw = line ++ end; text = line }
 
-  blank-step : (nextMail : Bool) → walk (nextPiece o) nextMail (the-line ∷ linesOf b) ≡ blankPiece the-line ∷ walk (nextPiece o) true (linesOf b)
-  unfolding nextPiece
-  blank-step nextMail = walk-step (nextPiece o) nextMail (the-line ∷ linesOf b) (omega arith) ∙ rw blank
-
   pieces-boundary : pieces o whole ≡ pieces o a ++ blankPiece the-line ∷ pieces o b
   unfolding pieces
   pieces-boundary =
-      rw (
-        line-of-bytes a line end b closed (record { feedless = feedless; ended = byFeed ends }),
-        pieces-stop o the-line (linesOf b) (blank-stops o the-line blank) true (linesOf a),
-        blank-step (last (nextPiece o) true (linesOf a)),
-      )
+      blank-stands o whole (linesOf a) the-line (linesOf b) blank (line-of-bytes a line end b closed (record { feedless = feedless; ended = byFeed ends }))
 
   pub digest-boundary : digest o whole ≡ digest o a ++ 10 ∷ digest o b
   unfolding digest outputOf

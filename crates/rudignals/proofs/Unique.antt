@@ -1,6 +1,7 @@
 -- A promise determines its answer: whatever two results keep it are equal, and so is every byte and every mark that was written.
 -- The public functions of all crates, and the law that each stands on:
 --
+--   widths        width, is_white_space, leaf, mid, top                                     an equation
 --   text          decode_at, char_at, is_blank, width, glyph_at, is_letter, first_damage    an equation: `equal-unique`
 --   options       read_block                                                                an equation
 --   lines         first_line, begins, classify                                              an equation
@@ -17,14 +18,18 @@
 --   output        put_text, put_spaces, put_added, put_feed, put_margin, put_break,
 --                 put_word, put_first                                                       output/proofs/Unique: `wrote-unique`
 --   output        emit, emit_line                                                           `wrote-unique`, with a bound
---   rudignals     rudignals_format                                                          `call-unique`
+--   panel         draw, number_of                                                           an equation for the answer, one for the cells
+--   salvage       mend, restore                                                             salvage/proofs/Unique: `mends-unique`, `restores-unique`
+--   salvage       mended_number, restored_number                                            an equation
+--   rudignals     rudignals_measure                                                         an equation
+--   rudignals     rudignals_write, rudignals_format                                         `call-unique`
+--   rudignals     rudignals_panel, rudignals_mend, rudignals_restore                        an equation for the number, one for each slice
 --
 -- What stays open is scratch that nobody reads afterwards: docs/PROMISES.md lists it.
 use mathlib.Core.Path.{_≡_, sym, _∙_}
 use mathlib.Core.Bool.{Bool}
 use mathlib.Core.List.{List, []}
 use Prim.Native.Nat.{ℕ}
-use lib.ListN.{length}
 use Rattle.records.specs.Word.{Word}
 use Rattle.records.specs.Contracts.Table.{wordsIn}
 use Rattle.records.specs.Contracts.Marks.{Marked}
@@ -35,8 +40,7 @@ use Rattle.words.specs.declared.Count.the-variants.{Words}
 use Rattle.words.proofs.Unique.{count-unique, split-unique}
 use Rattle.spacing.specs.declared.Setting.{Setting}
 use Rattle.quick.specs.Quick.{quickBreaks}
-use Rattle.rudignals.specs.Answers.{numbered, outputAfter}
-use Rattle.rudignals.specs.Format.{answer}
+use Rattle.rudignals.specs.Answers.{Answer, numbered, outputAfter}
 
 pub equal-unique : {A : Type 0} (x a b : A) → a ≡ x → b ≡ x → a ≡ b
 equal-unique x a b e f = e ∙ sym f
@@ -56,8 +60,6 @@ pub quick-unique : (g : Setting) (n : ℕ) (table : List ℕ) (marks a b : List 
     → ((notes : List ℕ) → Marked n marks (quickBreaks g (wordsIn notes n table)) a) → ((notes : List ℕ) → Marked n marks (quickBreaks g (wordsIn notes n table)) b) → a ≡ b
 quick-unique g n table marks a b h k = marked-unique n marks (quickBreaks g (wordsIn [] n table)) a b (h []) (k [])
 
--- the number that the host gets, and every byte of its slice
-pub call-unique : (options notes output : List ℕ) (r s : ℕ) (a b : List ℕ)
-    → (r ≡ numbered (answer options notes (length output))) × (a ≡ outputAfter (answer options notes (length output)) output)
-    → (s ≡ numbered (answer options notes (length output))) × (b ≡ outputAfter (answer options notes (length output)) output) → (r ≡ s) × (a ≡ b)
-call-unique options notes output r s a b h k = (h .0 ∙ sym (k .0), h .1 ∙ sym (k .1))
+-- the number that the host gets, and every byte of its slice: of `answer` or of `writing`
+pub call-unique : (a : Answer) (output : List ℕ) (r s : ℕ) (x y : List ℕ) → (r ≡ numbered a) × (x ≡ outputAfter a output) → (s ≡ numbered a) × (y ≡ outputAfter a output) → (r ≡ s) × (x ≡ y)
+call-unique a output r s x y h k = (h .0 ∙ sym (k .0), h .1 ∙ sym (k .1))

@@ -1,4 +1,6 @@
 // The call: an option block and notes in, their digest or a refusal out.
+pub mod mending;
+
 use options::Block;
 use options::Options;
 use output::Layout;
