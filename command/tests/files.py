@@ -82,7 +82,7 @@ def no_memory(folder):
         "void *__wrap_realloc(void *old, size_t n) { return n > 200000 ? NULL : __real_realloc(old, n); }\n"
     )
     poor = link(folder, "poor", "-Wl,--wrap=realloc", *SOURCES, str(folder / "poor.c"))
-    cases = [("one part", b" " * 2000 + b"a " * 1000), ("some parts", b"a\n\n" * 90000), ("the next room", b"a" * 65000 + b"\n\n" + b"b" * 65000)]
+    cases = [("one part", b" " * 2000 + b"a " * 1000), ("some parts", b"a\n\n" * 90000), ("the next room", b"\n\n".join(letter * 65000 for letter in (b"a", b"b", b"c")))]
     for what, notes in cases:
         (folder / "grows").write_bytes(notes)
         words = "rudignals: grows: no memory for the formatted text\n"

@@ -47,7 +47,7 @@ static void null_notes(void) {
     unsigned flags;
     memset(output, MARK, sizeof output);
     CHECK(rudignals_format(NULL, 0, NULL, 0, output, sizeof output) == told(RUDIGNALS_DONE, 0));
-    for (flags = 0; flags < 1024; flags++) {
+    for (flags = 0; flags < 2048; flags++) {
         size_t len = rudignals_put_number(block, 0, RUDIGNALS_TAG_FLAGS, flags);
         len = rudignals_put_prefix(block, len, RUDIGNALS_TAG_PREFIX, NULL, 0);
         len = rudignals_put_prefix(block, len, RUDIGNALS_TAG_SKIP, NULL, 0);
@@ -61,7 +61,7 @@ static void null_notes(void) {
 static void null_output(void) {
     static uint8_t notes[RUDIGNALS_MOST_NOTES + 1];
     uint8_t block[5];
-    size_t i, len = rudignals_put_number(block, 0, RUDIGNALS_TAG_FLAGS, 1024);
+    size_t i, len = rudignals_put_number(block, 0, RUDIGNALS_TAG_FLAGS, 2048);
     CHECK(rudignals_format(NULL, 0, NULL, 0, NULL, 0) == told(RUDIGNALS_DONE, 0));
     CHECK(rudignals_format(block, len, NOTES, NOTES_LEN, NULL, 0) == told(RUDIGNALS_OPTIONS, 0));
     for (i = 0; i < sizeof notes; i++)
@@ -129,7 +129,7 @@ static void numbers(void) {
     uint64_t n;
     size_t i;
     for (n = 0; n < 2000; n++) {
-        CHECK(number_refused(RUDIGNALS_TAG_FLAGS, n) == (n >= 1024));
+        CHECK(number_refused(RUDIGNALS_TAG_FLAGS, n) == (n >= 2048));
         CHECK(number_refused(RUDIGNALS_TAG_WIDTH, n) == (n < 6 || n > 1000));
         CHECK(number_refused(RUDIGNALS_TAG_GOAL, n) == (n < 3 || n > 940));
         CHECK(number_refused(RUDIGNALS_TAG_TAB, n) == (n > 100));
