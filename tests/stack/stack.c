@@ -150,7 +150,7 @@ static void measure_width(const char *name, uint16_t width, unsigned lines) {
 }
 
 static void measure_refusals(void) {
-    text("refused 1, options", 1024, "", 80);
+    text("refused 1, options", 2048, "", 80);
     call.code = RUDIGNALS_OPTIONS;
     measure();
     text("refused 2, long", 0, "", 80);
