@@ -88,9 +88,9 @@ enum rudignals_flag {
  * The output overlaps neither of the other two. A call keeps no state, takes no memory from a heap and calls nothing back; it may run on
  * several threads at once.
  *
- * Its working storage is on the stack, 111,616 bytes of tables. The most that was measured for a whole call on x86-64 (tests/stack/run):
- * 113,575 bytes in a statically linked program, 115,703 in a dynamically linked one, where the first call also resolves `memset`. There a
- * thread of 118 KiB was enough and one of 116 KiB was not. Give a thread 256 KiB: the tests fail above that. */
+ * Its working storage is on the stack, at most 78,528 bytes of tables, and no more than its paragraphs ask for. The most that was measured
+ * for a whole call on x86-64 (tests/stack/run): 81,479 bytes. In a dynamically linked program the first call also resolves `memset`, which
+ * took 2,128 bytes more at an earlier state. Give a thread 256 KiB: the tests fail above that. */
 
 /* Measures: the code and N of a call with these options and notes and all the room that it needs. N of code 0 is the digest's length: the
  * least room with which writing is done. Codes 0 to 4; never 5, and nothing is written. */
