@@ -118,7 +118,7 @@ static inline uint32_t rudignals_code_of(uint64_t answer) { return (uint32_t)(an
 static inline uint32_t rudignals_number_of(uint64_t answer) { return (uint32_t)(answer & 0xFFFFFFFFu); }
 
 /* No digest of so many bytes of notes is longer, whatever the options: 1,040 bytes for each byte of the notes (a theorem, `digest-most` in
- * crates/rudignals/proofs/Values.antt; 992 for each were seen). A host that lends this room never gets code 5. */
+ * crates/formatter/proofs/Values.antt; 992 for each were seen). A host that lends this room never gets code 5. */
 #define RUDIGNALS_MOST_DIGEST(notes_len) ((size_t)1040 * (size_t)(notes_len))
 
 /* The longest prefix, and the room for a block into which each of the six fields is put once, whatever is put. */

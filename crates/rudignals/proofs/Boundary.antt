@@ -22,10 +22,11 @@ use Rattle.lines.specs.declared.Class.the-variants.{Blank}
 use Rattle.lines.specs.Theorems.Closed.{Closed}
 use Rattle.pieces.specs.Pieces.{Piece, pieces}
 use Rattle.pieces.proofs.Boundary.{blankPiece, blank-stands}
-use Rattle.rudignals.specs.Answers.{done}
-use Rattle.rudignals.specs.Format.{mostBytes, outputOf, pieceOutput, digest, extentOf, tooMany, longParagraph, damageIn, measuring}
+use Rattle.formatter.specs.Answers.{done}
+use Rattle.walk.specs.Digest.{outputOf, pieceOutput, digest, extentOf, tooMany, longParagraph}
+use Rattle.formatter.specs.Format.{mostBytes, damageIn, measuring}
 use Rattle.rudignals.specs.Theorems.LineEnds.{LineEnd, feed, returnAndFeed, byFeed}
-use Rattle.rudignals.proofs.Answers.{measured-done, done-measured}
+use Rattle.formatter.proofs.Answers.{measured-done, done-measured}
 use Rattle.rudignals.proofs.LineEnds.{line-of-bytes}
 use Rattle.rudignals.proofs.Undamaged.{damage-append, blank-sound, feed-sound, return-feed-sound}
 

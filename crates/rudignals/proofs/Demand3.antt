@@ -34,14 +34,15 @@ use Rattle.words.specs.Words.{rowWords, wordsOf}
 use Rattle.words.specs.Theorems.Ink.{rowInk}
 use Rattle.words.proofs.Order.{Whole, row-ink, paragraph-whole}
 use Rattle.output.specs.Theorems.Order.{InOrder}
-use Rattle.rudignals.specs.Answers.{done, numbered}
-use Rattle.rudignals.specs.Format.{mostBytes, pieceOutput, digest, extentOf, answer, measuring, writing}
+use Rattle.formatter.specs.Answers.{done, numbered}
+use Rattle.walk.specs.Digest.{pieceOutput, digest, extentOf}
+use Rattle.formatter.specs.Format.{mostBytes, answer, measuring, writing}
 use Rattle.rudignals.specs.Theorems.LineEnds.{LineEnd, feed, LineIs}
-use Rattle.rudignals.proofs.Together.{together-they-do-what-the-old-call-did, measured-room-suffices}
-use Rattle.rudignals.proofs.Answers.{measured-done, answer-measured}
+use Rattle.formatter.proofs.Together.{together-they-do-what-the-old-call-did, measured-room-suffices}
+use Rattle.formatter.proofs.Answers.{measured-done, answer-measured}
 use Rattle.rudignals.proofs.Boundary.{measuring-boundary}
 use Rattle.rudignals.proofs.Order.{rows-of, paragraph-order}
-use Rattle.rudignals.proofs.Extents.{extents-are-notes, extents-some, joined-at, output-some, damaged-pieces, plain-digest}
+use Rattle.walk.proofs.Extents.{extents-are-notes, extents-some, joined-at, output-some, damaged-pieces, plain-digest}
 use Rattle.rudignals.proofs.LineEnds.{LineAt, line-of-bytes, line-at}
 
 -- What measuring has found, and what a call that is done has written, is the digest of its notes, of which 2 to 4 speak, under the

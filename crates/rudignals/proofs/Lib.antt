@@ -1,17 +1,6 @@
-pub mod Together
-pub mod Answers
 pub mod Boundary
 pub mod Order
-pub mod Extents
 pub mod LineEnds
 pub mod Undamaged
 pub mod Demand3
-pub mod Rows
-pub mod Meaning
-pub mod Bound
-pub mod Steps
-pub mod Loop
-pub mod Replies
-pub mod Faults
-pub mod Values
 pub mod Unique

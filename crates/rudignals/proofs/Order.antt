@@ -20,7 +20,8 @@ use Rattle.spacing.specs.Spacing.{addedSpace}
 use Rattle.output.specs.Emission.{spaceBefore}
 use Rattle.output.specs.Theorems.Order.{InOrder}
 use Rattle.output.proofs.Order.{space-some, emit-order}
-use Rattle.rudignals.specs.Format.{settingOf, breaksBy, formatted, outputOf, pieceOutput}
+use Rattle.paragraphs.specs.Breaks.{settingOf, breaksBy}
+use Rattle.walk.specs.Digest.{formatted, outputOf, pieceOutput}
 
 pub rows-of : (o : Opts) (notes : List ℕ) (q : Piece) (p : Paragraph) → q ∈ pieces o notes → q .kind ≡ paragraph p → Rows o (q .lines) p
 rows-of o notes q p m e = rw e at (all-at (OfPiece o) (pieces-rows o notes) m)

@@ -21,6 +21,12 @@
 --   panel         draw, number_of                                                           an equation for the answer, one for the cells
 --   salvage       mend, restore                                                             salvage/proofs/Unique: `mends-unique`, `restores-unique`
 --   salvage       mended_number, restored_number                                            an equation
+--   paragraphs    put_paragraph                                                             paragraphs/proofs/Unique: `step-unique`
+--   walk          put_all                                                                   walk/proofs/Unique: `ended-unique`
+--   walk          clear                                                                     an equation
+--   formatter     measure, number_of                                                        an equation
+--   formatter     write                                                                     an equation for the reply, one for the output
+--   formatter     admit                                                                     formatter/proofs/Unique: `admission-unique`
 --   rudignals     rudignals_measure                                                         an equation
 --   rudignals     rudignals_write, rudignals_format                                         `call-unique`
 --   rudignals     rudignals_panel, rudignals_mend, rudignals_restore                        an equation for the number, one for each slice
@@ -40,7 +46,7 @@ use Rattle.words.specs.declared.Count.the-variants.{Words}
 use Rattle.words.proofs.Unique.{count-unique, split-unique}
 use Rattle.spacing.specs.declared.Setting.{Setting}
 use Rattle.quick.specs.Quick.{quickBreaks}
-use Rattle.rudignals.specs.Answers.{Answer, numbered, outputAfter}
+use Rattle.formatter.specs.Answers.{Answer, numbered, outputAfter}
 
 pub equal-unique : {A : Type 0} (x a b : A) → a ≡ x → b ≡ x → a ≡ b
 equal-unique x a b e f = e ∙ sym f

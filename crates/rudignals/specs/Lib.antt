@@ -1,5 +1,2 @@
-pub mod Answers
-pub mod Format
-pub mod Contracts
 pub mod Theorems
 pub mod Trials

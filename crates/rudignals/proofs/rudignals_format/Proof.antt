@@ -3,8 +3,8 @@ use mathlib.Core.Path.{ap, _∙_}
 use lib.ListN.{length}
 use borrow.Author.Needs.{needs}
 use denote.Ref.{now}
-use Rattle.rudignals.specs.Answers.{Answer, numbered, outputAfter}
-use Rattle.rudignals.proofs.Together.{together-they-do-what-the-old-call-did}
+use Rattle.formatter.specs.Answers.{Answer, numbered, outputAfter}
+use Rattle.formatter.proofs.Together.{together-they-do-what-the-old-call-did}
 use Rattle.rudignals.proofs.rudignals_format.Statement.{statement}
 use Rattle.rudignals.proofs.rudignals_format.Tie as tie
 

@@ -15,8 +15,10 @@ use Rattle.output.specs.Emission.{spaceBefore, emitRest, emit}
 use Rattle.quick.specs.Quick.{quickFrom, quickBreaks}
 use Rattle.demerits.specs.Demerits.{term, ratio, wordTerm, cost}
 use Rattle.knuth_plass.specs.KnuthPlass.{firstBreak, reduced, reached, staying, offerOf, lesser, bestOffer, leastFrom, least, restart, round, roundsFrom, pathOf, startsLine, marksFrom, bestBreaks}
-use Rattle.rudignals.specs.Answers.{numbered, outputAfter}
-use Rattle.rudignals.specs.Format.{settingOf, formatted, outputOf, digest, extentOf, longParagraph, answer, measuring, writing}
+use Rattle.formatter.specs.Answers.{numbered, outputAfter}
+use Rattle.paragraphs.specs.Breaks.{settingOf}
+use Rattle.walk.specs.Digest.{formatted, outputOf, digest, extentOf, longParagraph}
+use Rattle.formatter.specs.Format.{answer, measuring, writing}
 
 unfoldable pub everything : Unit {0}
 unfolding mul div sub ofInt walkUpTo walk piece each while behind every begins joined scalar encode spelled decode accepted character blankCode widthOf glyph glyphs extent damage meant number tagOf sizeOf valueOf nextField fields allowed wellFormed firstFault partOf fits optionsOf readBlock body withoutReturn firstLine linesOf glyphsBefore glyphsFrom nextStop columnBehind columnsOf search shapeAt classify fromWord headerText startsMail continues agrees secondRule follow secondOf further indentOf firstIndent indentFor rowOf paragraphAt nextPiece pieces runOf runs bytesOf widthSum gapFrom gapOf punctAtEnd counting wideGap wordOf lineWords mailWord mailWords rowWords wordsOf gapWidth addedSpace spaceBefore emitRest emit quickFrom quickBreaks term ratio wordTerm cost firstBreak reduced reached staying offerOf lesser bestOffer leastFrom least restart round roundsFrom pathOf startsLine marksFrom bestBreaks numbered outputAfter settingOf formatted outputOf digest extentOf longParagraph answer measuring writing

@@ -8,8 +8,8 @@ use Prim.Native.String.{String, [] as nil, _∷_ as _then_}
 use lib.Dec.{T, eqb}
 use lib.ListN.{length, replicate}
 use Rattle.lists.specs.Runs.{every}
-use Rattle.rudignals.specs.Answers.{Answer, numbered, outputAfter}
-use Rattle.rudignals.specs.Format.{answer}
+use Rattle.formatter.specs.Answers.{numbered, outputAfter}
+use Rattle.formatter.specs.Format.{answer}
 use Rattle.rudignals.specs.Trials.Computing.{everything}
 
 abbrev pub bytes : String → List ℕ

@@ -1,0 +1,6 @@
+pub mod Together
+pub mod Answers
+pub mod Replies
+pub mod Faults
+pub mod Values
+pub mod Unique

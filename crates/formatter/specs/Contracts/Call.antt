@@ -1,0 +1,62 @@
+-- What the functions of the calls answer for: the code's answer, and what is told before any piece is looked at.
+use mathlib.Core.Path.{_≡_}
+use mathlib.Core.List.{List}
+use Prim.Native.Nat.{ℕ, _+_, _*_, _^_, _≤_}
+use lib.ListN.{length}
+use Rattle.options.specs.Opts.{Opts, meant}
+use Rattle.options.specs.OptionBlock.{readBlock}
+use Rattle.options.specs.declared.Options.{Options}
+use Rattle.pieces.specs.Pieces.{pieces}
+use Rattle.walk.specs.Digest.{longParagraph}
+use Rattle.formatter.specs.Format.{mostBytes, withWords, withNotes, withBlock}
+use Rattle.walk.specs.Contracts.Course.{Admitted}
+use Rattle.formatter.specs.Answers.{Answer, done, options, long, text, words, room, outputAfter}
+use Rattle.formatter.specs.declared.Reply.{Reply}
+use Rattle.formatter.specs.declared.Reply.the-variants.{Done, Options as Faulty, Long, Text, Words, Room}
+use Rattle.formatter.specs.declared.Admission.{Admission}
+use Rattle.formatter.specs.declared.Admission.the-variants.{Refused, Passed}
+
+-- ---- the answer in code: without the digest's bytes, which are in the output
+
+abbrev pub told : Answer → Reply
+told (done digest) = Done (length digest)
+told (options place) = Faulty place
+told long = Long
+told (text place) = Text place
+told (words place) = Words place
+told (room needed) = Room needed
+
+-- its number
+abbrev pub replyNumber : Reply → ℕ
+replyNumber (Done n) = n
+replyNumber (Faulty place) = 1 * 2 ^ 32 + place
+replyNumber Long = 2 * 2 ^ 32
+replyNumber (Text place) = 3 * 2 ^ 32 + place
+replyNumber (Words place) = 4 * 2 ^ 32 + place
+replyNumber (Room needed) = 5 * 2 ^ 32 + needed
+
+-- what a function that gives the answer leaves behind: the answer as told, and the output after it
+pub record Answers (a : Answer) (out : List ℕ) (r : Reply) (out′ : List ℕ) : Type 0 where
+  pub is : r ≡ told a
+  pub output : out′ ≡ outputAfter a out
+
+-- ---- codes 1 to 3, which are told before any piece is looked at
+
+-- a refusal that does not hang on what would become of the digest, and leaves the output as it is
+pub record Refuses (whole : (List ℕ → Answer) → Answer) (r : Reply) : Type 0 where
+  pub refusal : Answer
+  pub is : r ≡ told refusal
+  pub whole-is : (then : List ℕ → Answer) → whole then ≡ refusal
+  pub untouched : (out : List ℕ) → outputAfter refusal out ≡ out
+
+-- what is left to be told where none of them is due: code 4, or what becomes of the digest
+abbrev pub leftOf : Opts → List ℕ → (List ℕ → Answer) → Answer
+leftOf o notes then = withWords then o notes (longParagraph o 0 (pieces o notes))
+
+abbrev pub AdmitsNotes : List ℕ → Options → List ℕ → Admission → Type 0
+AdmitsNotes block o notes (Refused r) = Refuses (λ then. withNotes then (meant block o) notes) r
+AdmitsNotes block o notes (Passed p) = (p ≡ o) × (length notes ≤ mostBytes) × ((then : List ℕ → Answer) → withNotes then (meant block o) notes ≡ leftOf (meant block o) notes then)
+
+abbrev pub Admits : List ℕ → List ℕ → Admission → Type 0
+Admits block notes (Refused r) = Refuses (λ then. withBlock then block notes (readBlock block)) r
+Admits block notes (Passed o) = Admitted block notes o × ((then : List ℕ → Answer) → withBlock then block notes (readBlock block) ≡ leftOf (meant block o) notes then)

@@ -1,0 +1,133 @@
+// What the calls stand on: codes 1 to 3, then the digest measured or written, and the reply's number.
+use options::Block;
+use options::Options;
+use text::Found;
+use walk::Ended;
+ghost use mathlib.Core.Path.{_≡_};
+ghost use mathlib.Core.List.{List};
+ghost use Prim.Native.Nat.{ℕ, _^_, _<_};
+ghost use lib.ListN.{length};
+ghost use Rattle.options.specs.Opts.{meant};
+ghost use Rattle.walk.specs.Contracts.Course.{Admitted};
+ghost use Rattle.formatter.specs.Answers.{done};
+ghost use Rattle.formatter.specs.Format.{damageIn, withDigest, measuring, writing};
+ghost use Rattle.formatter.specs.Contracts.Call.{told, replyNumber, Answers, leftOf, AdmitsNotes, Admits};
+
+// What measuring and writing reply: the digest's length, or a refusal with what is told of it. (Measuring has no `Room`.)
+pub enum Reply {
+    Done(usize),
+    Options(usize),
+    Long,
+    Text(usize),
+    Words(usize),
+    Room(usize),
+}
+
+// What comes before the work: a refusal, or the options of an accepted block.
+pub enum Admission {
+    Refused(Reply),
+    Passed(Options),
+}
+
+// The answer's code stands in the upper 32 bits of its number, what it tells in the lower.
+const UPPER: u64 = 4294967296;
+
+// The answer's number.
+pub fn number_of(a: Reply) -> u64
+    requires { ⌜ replyNumber a < 2 ^ 64 ⌝ }
+    ensures { λ r. ⌜ r ≡ replyNumber a ⌝ }
+{
+    match a {
+        Reply::Done(n) => n as u64,
+        Reply::Options(place) => 1 * UPPER + place as u64,
+        Reply::Long => 2 * UPPER,
+        Reply::Text(place) => 3 * UPPER + place as u64,
+        Reply::Words(place) => 4 * UPPER + place as u64,
+        Reply::Room(needed) => 5 * UPPER + needed as u64,
+    }
+}
+
+// What measuring replies: the lowest code wins.
+pub fn measure(block: &[u8], notes: &[u8]) -> Reply
+    ensures { λ r. ⌜ r ≡ told (measuring (now (block .entry)) (now (notes .entry))) ⌝ }
+{
+    match admit(block, notes) {
+        Admission::Refused(r) => r,
+        Admission::Passed(o) => measure_notes(o, block, notes),
+    }
+}
+
+// What writing replies, likewise.
+pub fn write(block: &[u8], notes: &[u8], out: &mut [u8]) -> Reply
+    ensures { λ r. ⌜ Answers (writing (now (block .entry)) (now (notes .entry)) (length (now (out .entry)))) (now (out .entry)) r (now (out .exit)) ⌝ }
+{
+    match admit(block, notes) {
+        Admission::Refused(r) => r,
+        Admission::Passed(o) => write_notes(o, block, notes, out),
+    }
+}
+
+// Codes 1 to 3, or the options with which the notes are to be formatted.
+pub fn admit(block: &[u8], notes: &[u8]) -> Admission
+    ensures { λ r. ⌜ Admits (now (block .entry)) (now (notes .entry)) r ⌝ }
+{
+    match options::read_block(block) {
+        Block::Fault(place) => Admission::Refused(Reply::Options(place)),
+        Block::Accepted(o) => admit_notes(o, notes),
+    }
+}
+
+// Notes are refused if they are longer.
+const MOST_BYTES: usize = 65536;
+
+// The same with the options of an accepted block: codes 2 and 3.
+fn admit_notes(o: Options, notes: &[u8]) -> Admission
+    ensures { λ r. ⌜ ((block : List ℕ) → AdmitsNotes block o (now (notes .entry)) r) ⌝ }
+{
+    if MOST_BYTES < notes.len() {
+        return Admission::Refused(Reply::Long);
+    }
+    match damage_in(o.keep, notes) {
+        Found::At(place) => Admission::Refused(Reply::Text(place)),
+        Found::Nowhere => Admission::Passed(o),
+    }
+}
+
+// The first damaged character, if it is to be refused. With keep on, damaged lines are plain lines.
+fn damage_in(keep: bool, notes: &[u8]) -> Found
+    ensures { λ r. ⌜ r ≡ damageIn keep (now (notes .entry)) ⌝ }
+{
+    if keep {
+        return Found::Nowhere;
+    }
+    text::first_damage(notes)
+}
+
+// Measures the notes: the pieces are put into no room at all.
+fn measure_notes(o: Options, block: &[u8], notes: &[u8]) -> Reply
+    requires { ⌜ Admitted (now block) (now notes) o ⌝ }
+    ensures { λ r. ⌜ r ≡ told (leftOf (meant (now (block .entry)) o) (now (notes .entry)) done) ⌝ }
+{
+    let mut none = [0u8; 0];
+    match walk::put_all(o, block, notes, &mut none) {
+        Ended::Stopped(place) => Reply::Words(place),
+        Ended::All(needed) => Reply::Done(needed),
+    }
+}
+
+// Writes the notes' digest.
+fn write_notes(o: Options, block: &[u8], notes: &[u8], out: &mut [u8]) -> Reply
+    requires { ⌜ Admitted (now block) (now notes) o ⌝ }
+    ensures { λ r. ⌜ Answers (leftOf (meant (now (block .entry)) o) (now (notes .entry)) (withDigest (length (now (out .entry))))) (now (out .entry)) r (now (out .exit)) ⌝ }
+{
+    match walk::put_all(o, block, notes, out) {
+        Ended::Stopped(place) => Reply::Words(place),
+        Ended::All(needed) => {
+            if needed <= out.len() {
+                return Reply::Done(needed);
+            }
+            walk::clear(out);
+            Reply::Room(needed)
+        }
+    }
+}

@@ -1,0 +1,7 @@
+pub mod Extents
+pub mod Rows
+pub mod Meaning
+pub mod Bound
+pub mod Steps
+pub mod Loop
+pub mod Unique

@@ -1,0 +1,131 @@
+-- The loop over the pieces: what is left of the digest, and of the search for a paragraph of too many words.
+use mathlib.Core.Path.{_≡_, refl, sym, ap, _∙_}
+use mathlib.Core.Bool.{Bool, true, false}
+use mathlib.Core.List.{List, [], _++_}
+use Prim.Native.Nat.{ℕ, _≤_}
+use native.Mathlib.Omega.{arith}
+use lib.ListN.{length, replicate}
+use Rattle.lists.specs.Runs.{joined}
+use Rattle.lists.proofs.Walk.{walk-nil}
+use Rattle.lists.proofs.Parts.{joined-nil, joined-cons}
+use Rattle.text.specs.declared.Found.{Found}
+use Rattle.text.specs.declared.Found.the-variants.{At, Nowhere}
+use Rattle.options.specs.Opts.{Opts, meant}
+use Rattle.options.specs.declared.Options.{Options}
+use Rattle.lines.proofs.Lines.{lines-past}
+use Rattle.pieces.specs.Pieces.{Kind, nextPiece, pieces}
+use Rattle.pieces.specs.declared.Paragraph.{Paragraph}
+use Rattle.output.proofs.Sink.{length-written, wrote-nil, left-first, left-then, left-last}
+use Rattle.walk.specs.Digest.{outputOf, pieceOutput, digest, tooMany, longParagraph}
+use Rattle.walk.specs.Contracts.Course.{piecesFrom, outputFrom, longFrom, FirstPiece, Put, TooLong, CursorIn, Going, start, FinishedFrom, Finished, Reached, Coursed}
+use Rattle.paragraphs.specs.declared.Cursor.{Cursor}
+use Rattle.walk.specs.declared.Ahead.{Ahead}
+use Rattle.walk.specs.declared.Ahead.the-variants.{Text, End}
+use Rattle.walk.specs.declared.Ended.{Ended}
+use Rattle.walk.specs.declared.Ended.the-variants.{All, Stopped}
+use Rattle.walk.specs.declared.Course.{Course}
+use Rattle.walk.specs.declared.Course.the-variants.{End as CourseEnd, Short}
+
+-- ---- the pieces from a place on
+
+module _ (o : Opts) where
+  pub all-output : (notes : List ℕ) → outputFrom o true notes 0 ≡ digest o notes
+  unfolding outputFrom piecesFrom digest pieces
+  all-output notes = refl
+
+  pub all-long : (notes : List ℕ) → longFrom o true notes 0 ≡ longParagraph o 0 (pieces o notes)
+  unfolding longFrom piecesFrom pieces
+  all-long notes = refl
+
+  none-left : (nextMail : Bool) (notes : List ℕ) (at : ℕ) → length notes ≤ at → piecesFrom o nextMail notes at ≡ []
+  unfolding piecesFrom
+  none-left nextMail notes at h = rw (lines-past notes at h) (walk-nil (nextPiece o) nextMail)
+
+  pub output-none : (nextMail : Bool) (notes : List ℕ) (at : ℕ) → length notes ≤ at → outputFrom o nextMail notes at ≡ []
+  unfolding outputFrom
+  output-none nextMail notes at h = rw (none-left nextMail notes at h) (joined-nil (pieceOutput o))
+
+  pub long-none : (nextMail : Bool) (notes : List ℕ) (at : ℕ) → length notes ≤ at → longFrom o nextMail notes at ≡ Nowhere
+  unfolding longFrom longParagraph
+  long-none nextMail notes at h = ap (longParagraph o at) (none-left nextMail notes at h)
+
+  module _ {nextMail : Bool} {notes : List ℕ} {at : ℕ} {kind : Kind} {state : Bool} {next : ℕ} (g : FirstPiece o nextMail notes at kind state next) where
+    pub output-more : outputFrom o nextMail notes at ≡ outputOf o kind ++ outputFrom o state notes next
+    unfolding outputFrom
+    output-more = ap (joined (pieceOutput o)) (g .pieces) ∙ joined-cons (pieceOutput o) (g .piece) (piecesFrom o state notes next) ∙ ap (λ (k : Kind). outputOf o k ++ outputFrom o state notes next) (g .is)
+
+    long-as : (t : Bool) → tooMany o kind ≡ t → longFrom o nextMail notes at ≡ elim t as (λ x. Found) [ true ↦ At at | false ↦ longFrom o state notes next ]
+    unfolding longFrom longParagraph
+    long-as t e =
+        ap (longParagraph o at) (g .pieces)
+        ∙ ap (λ (n : ℕ). elim (tooMany o (g .piece .kind)) as (λ x. Found) [ true ↦ At at | false ↦ longParagraph o n (piecesFrom o state notes next) ]) (g .extent)
+        ∙ ap (λ (b : Bool). elim b as (λ x. Found) [ true ↦ At at | false ↦ longFrom o state notes next ]) (ap (tooMany o) (g .is) ∙ e)
+
+    pub long-more : tooMany o kind ≡ false → longFrom o nextMail notes at ≡ longFrom o state notes next
+    long-more e = long-as false e
+
+    pub long-here : tooMany o kind ≡ true → longFrom o nextMail notes at ≡ At at
+    long-here e = long-as true e
+
+-- ---- the work from a place on
+
+module _ (o : Opts) (notes : List ℕ) where
+  pub going-first : (c : Cursor) (out : List ℕ) → CursorIn notes c → Going o notes c out c out
+  going-first c out s = record { stands = s; left = left-first out (c .written) (outputFrom o (c .mail) notes (c .at)); long = refl }
+
+  module _ {c₀ : Cursor} {out₀ : List ℕ} {c : Cursor} {out : List ℕ} (g : Going o notes c₀ out₀ c out) where
+    pub going-length : length out ≡ length out₀
+    going-length = sym (length-written (c .written) out (outputFrom o (c .mail) notes (c .at))) ∙ ap length (g .left .bytes) ∙ length-written (c₀ .written) out₀ (outputFrom o (c₀ .mail) notes (c₀ .at))
+
+    pub going-on : {d : Cursor} {out′ : List ℕ} → Put o notes out c d out′ → Going o notes c₀ out₀ d out′
+    going-on {d} {out′} p = record {
+      stands = record { within = p .goes .within; bounded = omega (arith, g .stands .bounded, p .bounded) };
+      left = left-then {d = outputOf o (p .kind)} {e = outputFrom o (d .mail) notes (d .at)} (rw (output-more o (p .goes)) at (g .left)) (p .wrote);
+      long = sym (long-more o (p .goes) (p .few)) ∙ g .long;
+    }
+
+    pub going-further : {d : Cursor} {out′ : List ℕ} → Going o notes c out d out′ → Going o notes c₀ out₀ d out′
+    going-further h = record {
+      stands = h .stands;
+      left = record { count = h .left .count ∙ g .left .count; bytes = h .left .bytes ∙ g .left .bytes };
+      long = h .long ∙ g .long;
+    }
+
+    pub going-finished : (out′ : List ℕ) (r : Ended) → FinishedFrom o notes c out out′ r → FinishedFrom o notes c₀ out₀ out′ r
+    going-finished out′ (All n) f = (sym (g .long) ∙ f .0, left-last (g .left) (f .1))
+    going-finished out′ (Stopped place) f = (sym (g .long) ∙ f .0, f .1 ∙ going-length)
+
+    pub going-over : {out′ : List ℕ} → TooLong o notes out c out′ → FinishedFrom o notes c₀ out₀ out′ (Stopped (c .at))
+    going-over t = (sym (g .long) ∙ long-here o (t .goes) (t .many), ap length (t .same) ∙ going-length)
+
+    pub going-last : length notes ≤ c .at → FinishedFrom o notes c₀ out₀ out (All (c .written))
+    going-last h = (sym (g .long) ∙ long-none o (c .mail) notes (c .at) h, left-last (rw (output-none o (c .mail) notes (c .at) h) at (g .left)) (wrote-nil out (c .written)))
+
+-- from the first place on
+pub stands-first : (notes : List ℕ) → CursorIn notes start
+stands-first notes = record { within = omega arith; bounded = omega arith }
+
+module _ (o : Opts) (notes out out′ : List ℕ) (r : Ended) (s : FinishedFrom o notes start out out′ r) where
+  pub all-finished : {n : ℕ} → r ≡ All n → Finished o notes out out′ (All n)
+  all-finished {n} e = let f : FinishedFrom o notes start out out′ (All n) = rw e at s in (sym (all-long o notes) ∙ f .0, rw (all-output o notes) at (f .1))
+
+  pub stopped-finished : {place : ℕ} {clear : List ℕ} → r ≡ Stopped place → clear ≡ replicate (length out′) 0 → Finished o notes out clear (Stopped place)
+  stopped-finished {place} e z =
+      let f : FinishedFrom o notes start out out′ (Stopped place) = rw e at s in
+      (sym (all-long o notes) ∙ f .0, z ∙ ap (λ (n : ℕ). replicate n 0) (f .1))
+
+-- by what follows the lines
+module _ (block : List ℕ) (o : Options) (notes out₀ out : List ℕ) (c₀ : Cursor) (r : Ahead) (s : Reached block o notes c₀ out₀ out r) where
+  pub reached-text : {c : Cursor} {p : Paragraph} → r ≡ Text c p → Reached block o notes c₀ out₀ out (Text c p)
+  reached-text e = rw e at s
+
+  pub reached-end : {n : ℕ} → r ≡ End n → Reached block o notes c₀ out₀ out (End n)
+  reached-end e = rw e at s
+
+-- by how far the tables reached
+module _ (w b : ℕ) (block : List ℕ) (o : Options) (notes out₀ out : List ℕ) (c₀ : Cursor) (r : Course) (s : Coursed w b block o notes c₀ out₀ out r) where
+  pub course-end : {n : ℕ} → r ≡ CourseEnd n → FinishedFrom (meant block o) notes c₀ out₀ out (All n)
+  course-end e = rw e at s
+
+  pub course-short : {c : Cursor} {p : Paragraph} → r ≡ Short c p → Coursed w b block o notes c₀ out₀ out (Short c p)
+  course-short e = rw e at s

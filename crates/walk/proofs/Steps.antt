@@ -1,0 +1,184 @@
+-- What a piece's writers have done, as the definition says it of the piece; and what they could ask.
+use mathlib.Core.Path.{_≡_, refl, sym, ap, _∙_}
+use mathlib.Core.Bool.{Bool, true, false, cond, _||_}
+use mathlib.Core.List.{List, [], _++_}
+use Prim.Native.Nat.{ℕ, _+_, _-_, _≤_, _<_}
+use native.Mathlib.Omega.{arith}
+use lib.ListN.{length}
+use lib.Seq.{slice}
+use borrow.Author.Tests.{le-ltb, lt-ltb}
+use Rattle.lists.proofs.Slices.{slice-is}
+use Rattle.options.specs.Opts.{Opts, meant}
+use Rattle.options.specs.declared.Options.{Options}
+use Rattle.options.proofs.Accepted.{Kept, accepted}
+use Rattle.lines.specs.Contracts.Places.{Usable}
+use Rattle.lines.proofs.Usable.{usable}
+use Rattle.pieces.specs.Pieces.{Paragraph, blankLine, plainLine, paragraph}
+use Rattle.pieces.specs.Contracts.Places.{Cleared, pieceAt}
+use Rattle.pieces.specs.Contracts.Bounds.{MarginWithin, ParagraphWithin, Bounded}
+use Rattle.pieces.specs.declared.Margin.{Margin}
+use Rattle.pieces.specs.declared.Paragraph.{Paragraph as ParagraphAt}
+use Rattle.pieces.specs.declared.Piece.{Piece as PieceAt}
+use Rattle.pieces.specs.declared.Piece.the-variants.{Text}
+use Rattle.pieces.proofs.Meaning.{TextIs, means}
+use Rattle.words.specs.Words.{wordsOf}
+use Rattle.words.proofs.Order.{paragraph-some}
+use Rattle.output.specs.Contracts.Bound.{longest}
+use Rattle.output.specs.Emission.{lineFeed, emit}
+use Rattle.output.specs.Contracts.Sink.{Wrote}
+use Rattle.output.specs.Contracts.Writers.{marginOf, MarginIn}
+use Rattle.paragraphs.specs.Breaks.{breaksBy}
+use Rattle.walk.specs.Digest.{formatted, mostWords, outputOf}
+use Rattle.paragraphs.specs.Contracts.Steps.{settingFor, wordsFor, Placed, TextPut, TextStepped}
+use Rattle.walk.specs.Contracts.Course.{FirstPiece, Put, TooLong, Admitted, TextAhead, Going, FinishedFrom}
+use Rattle.paragraphs.specs.declared.Cursor.{Cursor}
+use Rattle.walk.specs.declared.Ended.the-variants.{Stopped}
+use Rattle.paragraphs.specs.declared.Step.{Step}
+use Rattle.paragraphs.specs.declared.Step.the-variants.{On, Over}
+use Rattle.walk.proofs.Rows.{text-words}
+use Rattle.walk.proofs.Meaning.{TextGoes, PieceGoes, piece-goes}
+use Rattle.walk.proofs.Bound.{text-most}
+use Rattle.walk.proofs.Loop.{going-over}
+
+-- ---- what the block's options allow
+
+module _ (block notes : List ℕ) (o : Options) (ready : Admitted block notes o) where
+  pub ready-kept : Kept block o
+  ready-kept = accepted block o (ready .accepted)
+
+  pub ready-usable : Usable block o
+  ready-usable = usable block o ready-kept
+
+  pub ready-cleared : Cleared o
+  ready-cleared = ready-kept .splitClears
+
+  -- the piece that the code found at a place, with the bounds promised of it
+  pub found-goes : (nextMail : Bool) (at : ℕ) (r s : PieceAt) → at < length notes → (r ≡ pieceAt (meant block o) nextMail notes at) × Bounded (o .glue) notes at r → r ≡ s → PieceGoes (meant block o) nextMail notes at s
+  unfolding meant
+  found-goes nextMail at r s h p q =
+      let k = ready-kept in
+      let m = means (meant block o) nextMail notes at h (k .tabLeast) (k .tabMost) (ready .short) (k .splitClears) in
+      piece-goes (meant block o) nextMail notes at s (rw (sym q ∙ p .0) m) (rw q at (p .1))
+
+pub found-begins : (block notes : List ℕ) (o : Options) (c : Cursor) (p : ParagraphAt) {r : PieceAt} → c .at < length notes → (r ≡ pieceAt (meant block o) (c .mail) notes (c .at)) × Bounded (o .glue) notes (c .at) r → r ≡ Text p
+    → TextAhead block o notes c p
+found-begins block notes o c p h m e = record { within = h; is = sym e ∙ m .0; bounds = rw e at (m .1) }
+
+-- ---- blank and plain lines
+
+module _ (o : Opts) (notes out : List ℕ) (c : Cursor) (out′ : List ℕ) (next n : ℕ) where
+  pub blank-put : FirstPiece o (c .mail) notes (c .at) blankLine true next → Wrote out (c .written) (slice (c .at) (c .at) notes ++ lineFeed) out′ n × (n ≤ c .written + (c .at - c .at) + 1)
+      → Put o notes out c (record { at = next; written = n; mail = true }) out′
+  unfolding outputOf
+  blank-put g w =
+      let z : c .at + 0 ≡ c .at = omega arith in
+      let e : slice (c .at) (c .at) notes ≡ [] = rw z at (slice-is (c .at) 0 notes) in
+      record { kind = blankLine; goes = g; few = refl; wrote = rw e at (w .0); bounded = omega (arith, g .on, w .1) }
+
+  pub plain-put : (end : ℕ) {bytes : List ℕ} {longest : ℕ} → FirstPiece o (c .mail) notes (c .at) (plainLine (slice (c .at) end notes)) false next × (c .at ≤ end) × (end ≤ next) → Wrote out (c .written) bytes out′ n × (n ≤ longest)
+      → bytes ≡ slice (c .at) end notes ++ lineFeed → longest ≤ c .written + (end - c .at) + 1 → Put o notes out c (record { at = next; written = n; mail = false }) out′
+  unfolding outputOf
+  plain-put end g w e k = record { kind = plainLine (slice (c .at) end notes); goes = g .0; few = refl; wrote = rw e at (w .0); bounded = omega (arith, g .0 .on, g .1, g .2, w .1, k) }
+
+-- ---- paragraphs
+
+module _ (block notes : List ℕ) (o : Options) (ready : Admitted block notes o) (nextMail : Bool) (at : ℕ) (p : ParagraphAt) (q : Paragraph)
+    (goes : FirstPiece (meant block o) nextMail notes at (paragraph q) (p .mail) (p .next)) (text : TextIs (meant block o) notes at p q) (bounds : ParagraphWithin (meant block o .glue) notes at p) where
+  margin-in : (m : Margin) → MarginWithin at (p .next) m → MarginIn (length notes) m
+  margin-in m h = record { order = h .order; end = omega (arith, h .high, bounds .within); more = omega (arith, h .more) }
+
+  words-are : wordsOf (meant block o) q ≡ wordsFor block notes at o p
+  words-are = text-words (meant block o) notes at p q text
+
+  text-placed : Placed notes at o p
+  unfolding meant
+  text-placed =
+      let k = ready-kept block notes o ready in
+      let f = bounds .first in
+      let i = bounds .indent in
+      let s = paragraph-some (meant block o) _ q (text .rows) in
+      record {
+        order = omega (arith, bounds .on);
+        within = bounds .within;
+        short = ready .short;
+        begins = bounds .begins;
+        block = block;
+        some = rw words-are at s;
+        first = margin-in (p .first) f;
+        indent = margin-in (p .indent) i;
+        firstSmall = omega (arith, f .columns);
+        indentSmall = omega (arith, i .columns);
+        goal = k .goalMost;
+        twice = k .widthTwice;
+        width = k .widthMost;
+        tabLeast = k .tabLeast;
+        tabMost = k .tabMost;
+      }
+
+  formatted-is : formatted (meant block o) q
+      ≡ emit (o .uniform || p .mail) (marginOf notes (p .first)) (marginOf notes (p .indent)) (breaksBy (o .quick || p .mail) (settingFor block o p) (wordsFor block notes at o p)) (wordsFor block notes at o p)
+  unfolding formatted meant
+  formatted-is = rw (words-are, text .mail, text .first .bytes, text .indent .bytes, text .first .columns, text .indent .columns)
+
+  most-is : longest (marginOf notes (p .first)) (marginOf notes (p .indent)) (wordsFor block notes at o p) ≡ longest (q .first .bytes) (q .indent .bytes) (wordsOf (meant block o) q)
+  most-is = rw (words-are, text .first .bytes, text .indent .bytes)
+
+  words-count : length (wordsOf (meant block o) q) ≡ length (wordsFor block notes at o p)
+  words-count = ap length words-are
+
+  text-put : (out : List ℕ) (c d : Cursor) (out′ : List ℕ) → c .at ≡ at → c .mail ≡ nextMail → TextPut notes at o p out (c .written) out′ d block → Put (meant block o) notes out c d out′
+  unfolding outputOf
+  text-put out c d out′ a m w = record {
+    kind = paragraph q;
+    goes = rw (a, m, w .next, w .mail) (goes);
+    few = rw words-count (le-ltb mostWords (length (wordsFor block notes at o p)) (w .few));
+    wrote = rw formatted-is (w .wrote);
+    bounded = rw (a, w .next) (omega (arith, w .bounded, most-is, text-most (meant block o) notes at p q text bounds (omega (arith, words-count, w .few))));
+  }
+
+  text-long : (out : List ℕ) (c : Cursor) → c .at ≡ at → c .mail ≡ nextMail → mostWords < length (wordsFor block notes at o p) → TooLong (meant block o) notes out c out
+  text-long out c a m w = record {
+    kind = paragraph q;
+    state = p .mail;
+    next = p .next;
+    goes = rw (a, m) (goes);
+    many = rw words-count (lt-ltb mostWords (length (wordsFor block notes at o p)) w);
+    same = refl;
+  }
+
+module _ (block notes : List ℕ) (o : Options) (c : Cursor) (p : ParagraphAt) (ready : Admitted block notes o) (b : TextAhead block o notes c p) where
+  begins-goes : TextGoes (meant block o) (c .mail) notes (c .at) p
+  begins-goes = found-goes block notes o ready (c .mail) (c .at) (Text p) (Text p) (b .within) (b .is, b .bounds) refl
+
+  pub begins-placed : Placed notes (c .at) o p
+  begins-placed = let g = begins-goes in text-placed block notes o ready (c .mail) (c .at) p (g .paragraph-is) (g .goes) (g .text) (g .bounds)
+
+  pub begins-stepped : (longest : ℕ) (out out′ : List ℕ) (r : Step) (d : Cursor) → TextStepped longest notes (c .at) o p out (c .written) out′ r block → r ≡ On d → Put (meant block o) notes out c d out′
+  begins-stepped longest out out′ r d w e =
+      let g = begins-goes in
+      let v : TextStepped longest notes (c .at) o p out (c .written) out′ (On d) block = rw e at w in
+      text-put block notes o ready (c .mail) (c .at) p (g .paragraph-is) (g .goes) (g .text) (g .bounds) out c d out′ refl refl (v .1)
+
+  pub begins-over : (longest : ℕ) (out out′ : List ℕ) (r : Step) → TextStepped longest notes (c .at) o p out (c .written) out′ r block → r ≡ Over → (longest < length (wordsFor block notes (c .at) o p)) × (out′ ≡ out)
+  begins-over longest out out′ r w e = rw e at w
+
+  -- at last there is room for 1,024
+  pub begins-long : (c₀ : Cursor) (out₀ out : List ℕ) → Going (meant block o) notes c₀ out₀ c out → mostWords < length (wordsFor block notes (c .at) o p) → FinishedFrom (meant block o) notes c₀ out₀ out (Stopped (c .at))
+  begins-long c₀ out₀ out going h =
+      let g = begins-goes in
+      going-over (meant block o) notes going (text-long block notes o ready (c .mail) (c .at) p (g .paragraph-is) (g .goes) (g .text) (g .bounds) out c refl refl h)
+
+-- ---- the last tables
+
+-- at last there is room for 1,024 words either way, and with quick there need be none for breaks
+room-last : (f : Bool) (a b : ℕ) {n : ℕ} → a ≡ 1024 → b ≡ 1024 → cond f a b < n → 1024 < n
+room-last true a b p q h = omega (arith, p, h)
+room-last false a b p q h = omega (arith, q, h)
+
+pub room-quick : (q m : Bool) (a b : ℕ) {n : ℕ} → q ≡ true → a ≡ 1024 → cond (q || m) a b < n → 1024 < n
+room-quick true m a b e p h = omega (arith, p, h)
+room-quick false m a b e p h = absurd (let z : _≡_ {A = ℕ} 0 1 = cc in omega arith)
+
+pub begins-last : (block notes : List ℕ) (o : Options) (c : Cursor) (p : ParagraphAt) → Admitted block notes o → TextAhead block o notes c p → (c₀ : Cursor) (out₀ out : List ℕ) → Going (meant block o) notes c₀ out₀ c out
+    → (a b : ℕ) → a ≡ 1024 → b ≡ 1024 → cond (o .quick || p .mail) a b < length (wordsFor block notes (c .at) o p) → FinishedFrom (meant block o) notes c₀ out₀ out (Stopped (c .at))
+begins-last block notes o c p ready here c₀ out₀ out going a b e f h = begins-long block notes o c p ready here c₀ out₀ out going (room-last (o .quick || p .mail) a b e f h)

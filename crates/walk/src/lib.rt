@@ -1,0 +1,379 @@
+// The walk over the notes: their pieces, written one behind the other as far as there is room, and counted.
+use options::Options;
+use paragraphs::Cursor;
+use paragraphs::Step;
+use pieces::Paragraph;
+use pieces::Piece;
+ghost use mathlib.Core.Path.{_≡_};
+ghost use mathlib.Core.Bool.{true};
+ghost use lib.ListN.{length, replicate};
+ghost use Rattle.options.specs.Opts.{meant};
+ghost use Rattle.paragraphs.specs.Contracts.Steps.{Scratch};
+ghost use Rattle.walk.specs.Contracts.Course.{CursorIn, TextAhead, Reached, Admitted, Coursed, start, Finished, FinishedFrom};
+
+// What follows the lines behind a place: a paragraph, where the cursor stands, or the end of the notes.
+enum Ahead {
+    Text { c: Cursor, p: Paragraph },
+    End(usize),
+}
+
+// How far the tables reach: to the end of the digest, of so many bytes, or to a paragraph of more words than they have room for.
+enum Course {
+    End(usize),
+    Short { c: Cursor, p: Paragraph },
+}
+
+// What came of the notes: the digest's length, or the place of the first paragraph that has too many words.
+pub enum Ended {
+    All(usize),
+    Stopped(usize),
+}
+
+// Writes what fits of all pieces, and counts what is needed; or tells the first paragraph of too many words, and clears the output.
+pub fn put_all(o: Options, block: &[u8], notes: &[u8], out: &mut [u8]) -> Ended
+    requires { ⌜ Admitted (now block) (now notes) o ⌝ }
+    ensures { λ r. ⌜ Finished (meant (now (block .entry)) o) (now (notes .entry)) (now (out .entry)) (now (out .exit)) r ⌝ }
+{
+    match put_pieces(o, block, notes, out) {
+        Ended::All(needed) => Ended::All(needed),
+        Ended::Stopped(place) => {
+            clear(out);
+            Ended::Stopped(place)
+        }
+    }
+}
+
+// The pieces themselves. The work goes on when no room is left: too many words, found later, take precedence.
+fn put_pieces(o: Options, block: &[u8], notes: &[u8], out: &mut [u8]) -> Ended
+    requires { ⌜ Admitted (now block) (now notes) o ⌝ }
+    ensures { λ r. ⌜ FinishedFrom (meant (now (block .entry)) o) (now (notes .entry)) start (now (out .entry)) (now (out .exit)) r ⌝ }
+{
+    let start = Cursor {
+        at: 0,
+        written: 0,
+        mail: true,
+    };
+    match put_lines(o, block, notes, start, out) {
+        Ahead::End(needed) => Ended::All(needed),
+        Ahead::Text { c, p } => put_from(o, block, notes, c, p, out),
+    }
+}
+
+// Writes the lines from a place on, blank and plain ones, up to the next paragraph.
+fn put_lines(o: Options, block: &[u8], notes: &[u8], from: Cursor, out: &mut [u8]) -> Ahead
+    requires { ⌜ Admitted (now block) (now notes) o × CursorIn (now notes) from ⌝ }
+    ensures { λ r. ⌜ Reached (now (block .entry)) o (now (notes .entry)) from (now (out .entry)) (now (out .exit)) r ⌝ }
+{
+    let mut c = from;
+    while c.at < notes.len() {
+        let at = c.at;
+        match pieces::next_piece(notes, at, o, block, c.mail) {
+            Piece::Blank { next } => {
+                c = Cursor {
+                    at: next,
+                    written: output::emit_line(notes, at, at, out, c.written),
+                    mail: true,
+                };
+            }
+            Piece::Plain { end, next } => {
+                c = Cursor {
+                    at: next,
+                    written: output::emit_line(notes, at, end, out, c.written),
+                    mail: false,
+                };
+            }
+            Piece::Text(p) => {
+                return Ahead::Text { c, p };
+            }
+        }
+    }
+    Ahead::End(c.written)
+}
+
+// Writes everything from the first paragraph on. All working storage is declared in this function and the next ones, each for longer
+// paragraphs than the one before, and lent from there on: a call has no more of it cleared than its paragraphs ask for, and notes
+// without a paragraph do without. Here it is for few words, and none for Knuth-Plass.
+fn put_from(
+    o: Options,
+    block: &[u8],
+    notes: &[u8],
+    c: Cursor,
+    p: Paragraph,
+    out: &mut [u8],
+) -> Ended
+    requires { ⌜ Admitted (now block) (now notes) o × CursorIn (now notes) c × TextAhead (now block) o (now notes) c p ⌝ }
+    ensures { λ r. ⌜ FinishedFrom (meant (now (block .entry)) o) (now (notes .entry)) c (now (out .entry)) (now (out .exit)) r ⌝ }
+{
+    let mut table = [0u32; 336];
+    let mut marks = [false; 48];
+    let mut breaks = [0u32; 6];
+    let mut ratios = [0f32; 1];
+    let mut active = [0u32; 1];
+    match put_texts(
+        o,
+        block,
+        notes,
+        c,
+        p,
+        out,
+        &mut table,
+        &mut breaks,
+        &mut ratios,
+        &mut active,
+        &mut marks,
+    ) {
+        Course::End(needed) => Ended::All(needed),
+        Course::Short { c: d, p: q } => put_further(o, block, notes, d, q, out),
+    }
+}
+
+// Goes on at a paragraph that asks for more storage.
+fn put_further(
+    o: Options,
+    block: &[u8],
+    notes: &[u8],
+    c: Cursor,
+    p: Paragraph,
+    out: &mut [u8],
+) -> Ended
+    requires { ⌜ Admitted (now block) (now notes) o × CursorIn (now notes) c × TextAhead (now block) o (now notes) c p ⌝ }
+    ensures { λ r. ⌜ FinishedFrom (meant (now (block .entry)) o) (now (notes .entry)) c (now (out .entry)) (now (out .exit)) r ⌝ }
+{
+    if o.quick {
+        return put_quick(o, block, notes, c, p, out);
+    }
+    put_best(o, block, notes, c, p, out)
+}
+
+// The same for 512 words, which is as many as notes of 1 KiB can have, still without Knuth-Plass.
+fn put_quick(
+    o: Options,
+    block: &[u8],
+    notes: &[u8],
+    c: Cursor,
+    p: Paragraph,
+    out: &mut [u8],
+) -> Ended
+    requires { ⌜ Admitted (now block) (now notes) o × CursorIn (now notes) c × TextAhead (now block) o (now notes) c p × (o .quick ≡ true) ⌝ }
+    ensures { λ r. ⌜ FinishedFrom (meant (now (block .entry)) o) (now (notes .entry)) c (now (out .entry)) (now (out .exit)) r ⌝ }
+{
+    let mut table = [0u32; 3584];
+    let mut marks = [false; 512];
+    let mut breaks = [0u32; 6];
+    let mut ratios = [0f32; 1];
+    let mut active = [0u32; 1];
+    match put_texts(
+        o,
+        block,
+        notes,
+        c,
+        p,
+        out,
+        &mut table,
+        &mut breaks,
+        &mut ratios,
+        &mut active,
+        &mut marks,
+    ) {
+        Course::End(needed) => Ended::All(needed),
+        Course::Short { c: d, p: q } => put_quick_long(o, block, notes, d, q, out),
+    }
+}
+
+// The same for the most words that a paragraph may have.
+fn put_quick_long(
+    o: Options,
+    block: &[u8],
+    notes: &[u8],
+    c: Cursor,
+    p: Paragraph,
+    out: &mut [u8],
+) -> Ended
+    requires { ⌜ Admitted (now block) (now notes) o × CursorIn (now notes) c × TextAhead (now block) o (now notes) c p × (o .quick ≡ true) ⌝ }
+    ensures { λ r. ⌜ FinishedFrom (meant (now (block .entry)) o) (now (notes .entry)) c (now (out .entry)) (now (out .exit)) r ⌝ }
+{
+    let mut table = [0u32; 7168];
+    let mut marks = [false; 1024];
+    let mut breaks = [0u32; 6];
+    let mut ratios = [0f32; 1];
+    let mut active = [0u32; 1];
+    match put_texts(
+        o,
+        block,
+        notes,
+        c,
+        p,
+        out,
+        &mut table,
+        &mut breaks,
+        &mut ratios,
+        &mut active,
+        &mut marks,
+    ) {
+        Course::End(needed) => Ended::All(needed),
+        Course::Short { c: d, p: _ } => Ended::Stopped(d.at),
+    }
+}
+
+// The same with Knuth-Plass: for the words of a line.
+fn put_best(
+    o: Options,
+    block: &[u8],
+    notes: &[u8],
+    c: Cursor,
+    p: Paragraph,
+    out: &mut [u8],
+) -> Ended
+    requires { ⌜ Admitted (now block) (now notes) o × CursorIn (now notes) c × TextAhead (now block) o (now notes) c p ⌝ }
+    ensures { λ r. ⌜ FinishedFrom (meant (now (block .entry)) o) (now (notes .entry)) c (now (out .entry)) (now (out .exit)) r ⌝ }
+{
+    let mut table = [0u32; 280];
+    let mut marks = [false; 40];
+    let mut breaks = [0u32; 240];
+    let mut ratios = [0f32; 40];
+    let mut active = [0u32; 40];
+    match put_texts(
+        o,
+        block,
+        notes,
+        c,
+        p,
+        out,
+        &mut table,
+        &mut breaks,
+        &mut ratios,
+        &mut active,
+        &mut marks,
+    ) {
+        Course::End(needed) => Ended::All(needed),
+        Course::Short { c: d, p: q } => put_best_more(o, block, notes, d, q, out),
+    }
+}
+
+// For the words of 1 KiB of prose.
+fn put_best_more(
+    o: Options,
+    block: &[u8],
+    notes: &[u8],
+    c: Cursor,
+    p: Paragraph,
+    out: &mut [u8],
+) -> Ended
+    requires { ⌜ Admitted (now block) (now notes) o × CursorIn (now notes) c × TextAhead (now block) o (now notes) c p ⌝ }
+    ensures { λ r. ⌜ FinishedFrom (meant (now (block .entry)) o) (now (notes .entry)) c (now (out .entry)) (now (out .exit)) r ⌝ }
+{
+    let mut table = [0u32; 1400];
+    let mut marks = [false; 200];
+    let mut breaks = [0u32; 1200];
+    let mut ratios = [0f32; 200];
+    let mut active = [0u32; 200];
+    match put_texts(
+        o,
+        block,
+        notes,
+        c,
+        p,
+        out,
+        &mut table,
+        &mut breaks,
+        &mut ratios,
+        &mut active,
+        &mut marks,
+    ) {
+        Course::End(needed) => Ended::All(needed),
+        Course::Short { c: d, p: q } => put_best_long(o, block, notes, d, q, out),
+    }
+}
+
+// For the most words that a paragraph may have.
+fn put_best_long(
+    o: Options,
+    block: &[u8],
+    notes: &[u8],
+    c: Cursor,
+    p: Paragraph,
+    out: &mut [u8],
+) -> Ended
+    requires { ⌜ Admitted (now block) (now notes) o × CursorIn (now notes) c × TextAhead (now block) o (now notes) c p ⌝ }
+    ensures { λ r. ⌜ FinishedFrom (meant (now (block .entry)) o) (now (notes .entry)) c (now (out .entry)) (now (out .exit)) r ⌝ }
+{
+    let mut table = [0u32; 7168];
+    let mut marks = [false; 1024];
+    let mut breaks = [0u32; 6144];
+    let mut ratios = [0f32; 1024];
+    let mut active = [0u32; 1024];
+    match put_texts(
+        o,
+        block,
+        notes,
+        c,
+        p,
+        out,
+        &mut table,
+        &mut breaks,
+        &mut ratios,
+        &mut active,
+        &mut marks,
+    ) {
+        Course::End(needed) => Ended::All(needed),
+        Course::Short { c: d, p: _ } => Ended::Stopped(d.at),
+    }
+}
+
+// Paragraph by paragraph, each with the lines behind it, as far as the tables reach.
+fn put_texts(
+    o: Options,
+    block: &[u8],
+    notes: &[u8],
+    first: Cursor,
+    head: Paragraph,
+    out: &mut [u8],
+    table: &mut [u32],
+    breaks: &mut [u32],
+    ratios: &mut [f32],
+    active: &mut [u32],
+    marks: &mut [bool],
+) -> Course
+    requires { ⌜ Admitted (now block) (now notes) o × CursorIn (now notes) first × TextAhead (now block) o (now notes) first head × Scratch (now table) (now breaks) (now ratios) (now active) (now marks) ⌝ }
+    ensures { λ r. ⌜ Coursed (length (now (marks .entry))) (length (now (ratios .entry))) (now (block .entry)) o (now (notes .entry)) first (now (out .entry)) (now (out .exit)) r ⌝ }
+{
+    let mut c = first;
+    let mut p = head;
+    loop {
+        let Step::On(behind) = paragraphs::put_paragraph(
+            notes,
+            c.at,
+            o,
+            p,
+            out,
+            c.written,
+            table,
+            breaks,
+            ratios,
+            active,
+            marks,
+        ) else {
+            return Course::Short { c, p };
+        };
+        match put_lines(o, block, notes, behind, out) {
+            Ahead::End(needed) => {
+                return Course::End(needed);
+            }
+            Ahead::Text { c: d, p: q } => {
+                c = d;
+                p = q;
+            }
+        }
+    }
+}
+
+// No byte of a digest stays where there is none.
+pub fn clear(out: &mut [u8])
+    ensures { λ _. ⌜ now (out .exit) ≡ replicate (length (now (out .entry))) 0 ⌝ }
+{
+    let mut i = 0;
+    while i < out.len() {
+        out[i] = 0;
+        i += 1;
+    }
+}
