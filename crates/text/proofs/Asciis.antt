@@ -43,4 +43,4 @@ damage-run s from to a = go (to - from) to (omega (arith, a .on)) (omega (arith,
     go zero to′ e h = let q : from ≡ to′ = omega arith in ap (λ (i : ℕ). later i (damage (drop i s))) q
     go (suc n) to′ e h =
         let q : from + n + 1 ≡ to′ = omega arith in
-        go n (from + n) refl (omega arith) ∙ damage-on s (from + n) (ascii-here false s (from + n) (omega (arith, a .within)) (a .small (from + n) (omega arith) (omega arith))) ∙ ap (λ (i : ℕ). later i (damage (drop i s))) q
+        go n (from + n) refl (omega arith) ∙ damage-on s (from + n) (ascii-here s (from + n) (omega (arith, a .within)) (a .small (from + n) (omega arith) (omega arith))) ∙ ap (λ (i : ℕ). later i (damage (drop i s))) q

@@ -10,68 +10,67 @@ use Rattle.lists.specs.Runs.{every, joined, while}
 use Rattle.lists.specs.Theorems.All.{All}
 use Rattle.lists.proofs.Parts.{every-nil, every-cons, every-append, joined-nil, joined-cons}
 use Rattle.text.specs.Rfc3629.{encode}
-use Rattle.text.specs.Characters.{blankCode, Glyph, glyphs, isBlank, isGood, extent, damage}
+use Rattle.text.specs.Characters.{blankCode, Glyph, characters, glyphs, isBlank, isGood, extent, damage}
 use Rattle.text.specs.declared.Found.the-variants.{At, Nowhere}
 use Rattle.text.specs.Theorems.Blanks.{spaceCode, Blanks}
 use Rattle.text.proofs.Extents.{Sound}
 use Rattle.text.proofs.Glue.{every-good}
 
-module _ (glue : Bool) where
-  pub blanks-none : Blanks glue []
-  blanks-none = record { codes = []; blank = every-nil (spaceCode glue); octets = sym (joined-nil encode) }
+pub blanks-none : Blanks []
+blanks-none = record { codes = []; blank = every-nil spaceCode; octets = sym (joined-nil encode) }
 
-  -- one blank character more at the front
-  blanks-cons : (c : ℕ) (bytes : List ℕ) → spaceCode glue c ≡ true → Blanks glue bytes → Blanks glue (encode c ++ bytes)
-  blanks-cons c bytes e b = record {
-    codes = c ∷ b .codes;
-    blank = rw (every-cons (spaceCode glue) c (b .codes), e, b .blank);
-    octets = rw (joined-cons encode c (b .codes)) (ap (λ (l : List ℕ). encode c ++ l) (b .octets));
-  }
+-- one blank character more at the front
+blanks-cons : (c : ℕ) (bytes : List ℕ) → spaceCode c ≡ true → Blanks bytes → Blanks (encode c ++ bytes)
+blanks-cons c bytes e b = record {
+  codes = c ∷ b .codes;
+  blank = rw (every-cons spaceCode c (b .codes), e, b .blank);
+  octets = rw (joined-cons encode c (b .codes)) (ap (λ (l : List ℕ). encode c ++ l) (b .octets));
+}
 
-  pub blanks-spaces : (n : ℕ) (bytes : List ℕ) → Blanks glue bytes → Blanks glue (replicate n 32 ++ bytes)
-  unfolding encode blankCode
-  blanks-spaces zero bytes b = b
-  blanks-spaces (suc n) bytes b = blanks-cons 32 (replicate n 32 ++ bytes) refl (blanks-spaces n bytes b)
+pub blanks-spaces : (n : ℕ) (bytes : List ℕ) → Blanks bytes → Blanks (replicate n 32 ++ bytes)
+unfolding encode blankCode
+blanks-spaces zero bytes b = b
+blanks-spaces (suc n) bytes b = blanks-cons 32 (replicate n 32 ++ bytes) refl (blanks-spaces n bytes b)
 
-  -- a blank glyph in which no line feed stands
-  no-feed : (g : Glyph) → Sound glue g → g .blank ≡ true → every (λ b. not (eqb b 10)) (g .bytes) ≡ true → spaceCode glue (g .code) ≡ true
-  unfolding every encode
-  no-feed g s e f = go (eqb (g .code) 10) refl
-    where
-      go : (t : Bool) → eqb (g .code) 10 ≡ t → (blankCode glue (g .code) && not t) ≡ true
-      go true k =
-          let o : g .bytes ≡ encode 10 = s .octets e ∙ ap encode (eqb-true (g .code) 10 k) in
-          absurd (false≢true (rw o at f))
-      go false k = rw (s .code e)
+-- a blank glyph in which no line feed stands
+no-feed : (g : Glyph) → Sound g → g .blank ≡ true → every (λ b. not (eqb b 10)) (g .bytes) ≡ true → spaceCode (g .code) ≡ true
+unfolding every encode
+no-feed g s e f = go (eqb (g .code) 10) refl
+  where
+    go : (t : Bool) → eqb (g .code) 10 ≡ t → (blankCode (g .code) && not t) ≡ true
+    go true k =
+        let o : g .bytes ≡ encode 10 = s .octets e ∙ ap encode (eqb-true (g .code) 10 k) in
+        absurd (false≢true (rw o at f))
+    go false k = rw (s .code e)
 
-  -- the blank glyphs of a text that has no line feed
-  pub blanks-glyphs : (gs : List Glyph) → All (Sound glue) gs → every isBlank gs ≡ true → every (λ b. not (eqb b 10)) (joined (λ (g : Glyph). g .bytes) gs) ≡ true
-      → Blanks glue (joined (λ (g : Glyph). g .bytes) gs)
-  blanks-glyphs [] s e f = rw joined-nil blanks-none
-  blanks-glyphs (g ∷ gs) s e f =
-      let h = and-eq-true-iff (g .blank) (every isBlank gs) .0 (rw every-cons at e) in
-      let k = and-eq-true-iff _ _ .0 (rw (joined-cons, every-append) at f) in
-      rw (joined-cons, s .0 .octets (h .0)) (blanks-cons (g .code) _ (no-feed g (s .0) (h .0) (k .0)) (blanks-glyphs gs (s .1) (h .1) (k .1)))
+-- the blank glyphs of a text that has no line feed
+pub blanks-glyphs : (gs : List Glyph) → All Sound gs → every isBlank gs ≡ true → every (λ b. not (eqb b 10)) (joined (λ (g : Glyph). g .bytes) gs) ≡ true
+    → Blanks (joined (λ (g : Glyph). g .bytes) gs)
+blanks-glyphs [] s e f = rw joined-nil blanks-none
+blanks-glyphs (g ∷ gs) s e f =
+    let h = and-eq-true-iff (g .blank) (every isBlank gs) .0 (rw every-cons at e) in
+    let k = and-eq-true-iff _ _ .0 (rw (joined-cons, every-append) at f) in
+    rw (joined-cons, s .0 .octets (h .0)) (blanks-cons (g .code) _ (no-feed g (s .0) (h .0) (k .0)) (blanks-glyphs gs (s .1) (h .1) (k .1)))
 
-  blank-good : (gs : List Glyph) → All (Sound glue) gs → every isBlank gs ≡ true → every isGood gs ≡ true
-  blank-good [] s e = every-nil isGood
-  blank-good (g ∷ gs) s e =
-      let h = and-eq-true-iff (g .blank) (every isBlank gs) .0 (rw every-cons at e) in
-      rw (every-cons isGood g gs, s .0 .good (h .0), blank-good gs (s .1) (h .1))
+blank-good : (gs : List Glyph) → All Sound gs → every isBlank gs ≡ true → every isGood gs ≡ true
+blank-good [] s e = every-nil isGood
+blank-good (g ∷ gs) s e =
+    let h = and-eq-true-iff (g .blank) (every isBlank gs) .0 (rw every-cons at e) in
+    rw (every-cons isGood g gs, s .0 .good (h .0), blank-good gs (s .1) (h .1))
 
-  -- glyphs of which one is damaged are not all blank
-  pub damaged-ink : (gs : List Glyph) → All (Sound glue) gs → every isGood gs ≡ false → every isBlank gs ≡ false
-  damaged-ink gs s e = go (every isBlank gs) refl
-    where
-      go : (t : Bool) → every isBlank gs ≡ t → t ≡ false
-      go true b = sym (blank-good gs s b) ∙ e
-      go false b = refl
+-- glyphs of which one is damaged are not all blank
+pub damaged-ink : (gs : List Glyph) → All Sound gs → every isGood gs ≡ false → every isBlank gs ≡ false
+damaged-ink gs s e = go (every isBlank gs) refl
+  where
+    go : (t : Bool) → every isBlank gs ≡ t → t ≡ false
+    go true b = sym (blank-good gs s b) ∙ e
+    go false b = refl
 
-  -- a text with a damaged place has a damaged glyph
-  pub damage-glyphs : (xs : List ℕ) (place : ℕ) → damage xs ≡ At place → every isGood (glyphs glue xs) ≡ false
-  unfolding damage
-  damage-glyphs xs place e = every-good glue false xs ∙ go (every isGood (glyphs false xs)) e
-    where
-      go : (t : Bool) → cond t Nowhere (At (extent (while isGood (glyphs false xs)))) ≡ At place → t ≡ false
-      go true k = cc
-      go false k = refl
+-- a text with a damaged place has a damaged glyph
+pub damage-glyphs : (glue : Bool) (xs : List ℕ) (place : ℕ) → damage xs ≡ At place → every isGood (glyphs glue xs) ≡ false
+unfolding damage
+damage-glyphs glue xs place e = every-good glue xs ∙ go (every isGood (characters xs)) e
+  where
+    go : (t : Bool) → cond t Nowhere (At (extent (while isGood (characters xs)))) ≡ At place → t ≡ false
+    go true k = cc
+    go false k = refl

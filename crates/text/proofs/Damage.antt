@@ -7,10 +7,10 @@ use native.Mathlib.Omega.{arith}
 use lib.ListN.{length, drop, length-drop}
 use Rattle.lists.specs.Runs.{while, every}
 use Rattle.lists.proofs.Runs.{while-more, while-end, every-more, every-end}
-use Rattle.text.specs.Characters.{Glyph, glyph, glyphs, isGood, extent, damage}
+use Rattle.text.specs.Characters.{Glyph, glyph, characters, glyphs, isGood, extent, damage}
 use Rattle.text.specs.declared.Found.{Found}
 use Rattle.text.specs.declared.Found.the-variants.{At, Nowhere}
-use Rattle.text.proofs.Glyphs.{Here, DamagedHere, Bytes, glyphs-past, glyphs-induct}
+use Rattle.text.proofs.Glyphs.{Here, DamagedHere, Bytes, characters-past, characters-induct}
 use Rattle.text.proofs.Glue.{every-good}
 
 -- a place counted from i, counted from the front
@@ -46,57 +46,57 @@ first-good g gs h = let e : isGood g ≡ true = rw h in rw (every-more isGood g 
     pick true = refl
     pick false = refl
 
-damage-glyphs : (xs : List ℕ) → damage xs ≡ damageOf (glyphs false xs)
+damage-characters : (xs : List ℕ) → damage xs ≡ damageOf (characters xs)
 unfolding damage damageOf
-damage-glyphs xs = refl
+damage-characters xs = refl
 
 module _ (s : List ℕ) (at : ℕ) where
   pub damage-past : length s ≤ at → later at (damage (drop at s)) ≡ Nowhere
-  damage-past h = rw (damage-glyphs (drop at s), glyphs-past false s at h, none-damaged)
+  damage-past h = rw (damage-characters (drop at s), characters-past s at h, none-damaged)
 
-  pub damage-here : DamagedHere false s at → later at (damage (drop at s)) ≡ At at
-  damage-here b = rw (damage-glyphs (drop at s), b .first, first-damaged (glyph false (drop at s)) (glyphs false (drop (at + 1) s)) (b .isDamaged)) (ap At (omega arith))
+  pub damage-here : DamagedHere s at → later at (damage (drop at s)) ≡ At at
+  damage-here b = rw (damage-characters (drop at s), b .first, first-damaged (glyph (drop at s)) (characters (drop (at + 1) s)) (b .isDamaged)) (ap At (omega arith))
 
-  pub damage-on : {t : Bool} {code next : ℕ} → Here false t s at code next → later at (damage (drop at s)) ≡ later next (damage (drop next s))
+  pub damage-on : {t : Bool} {code next : ℕ} → Here t s at code next → later at (damage (drop at s)) ≡ later next (damage (drop next s))
   damage-on {t} {code} {next} g =
       let e : at + (next - at) ≡ next = omega arith in
       rw (
-        damage-glyphs (drop at s),
+        damage-characters (drop at s),
         g .first,
-        first-good (glyph false (drop at s)) (glyphs false (drop next s)) (g .isGood),
+        first-good (glyph (drop at s)) (characters (drop next s)) (g .isGood),
         g .count,
-        later-later at (next - at) (damageOf (glyphs false (drop next s))),
+        later-later at (next - at) (damageOf (characters (drop next s))),
         e,
-        ← damage-glyphs (drop next s),
+        ← damage-characters (drop next s),
       )
 
 -- no damaged place: every glyph is good, with glue and without
 pub damage-none : (glue : Bool) (xs : List ℕ) → damage xs ≡ Nowhere → every isGood (glyphs glue xs) ≡ true
 unfolding damage
-damage-none glue xs h = every-good glue false xs ∙ pick (every isGood (glyphs false xs)) h
+damage-none glue xs h = every-good glue xs ∙ pick (every isGood (characters xs)) h
   where
-    pick : (t : Bool) → cond t Nowhere (At (extent (while isGood (glyphs false xs)))) ≡ Nowhere → t ≡ true
+    pick : (t : Bool) → cond t Nowhere (At (extent (while isGood (characters xs)))) ≡ Nowhere → t ≡ true
     pick true e = refl
     pick false e = cc
 
 -- a damaged place is one of the text
-good-before : (xs : List ℕ) → every isGood (glyphs false xs) ≡ false → extent (while isGood (glyphs false xs)) < length xs
+good-before : (xs : List ℕ) → every isGood (characters xs) ≡ false → extent (while isGood (characters xs)) < length xs
 unfolding every extent
-good-before = glyphs-induct false (λ ys gs. every isGood gs ≡ false → extent (while isGood gs) < length ys) (λ e. absurd (let z : _≡_ {A = ℕ} 0 1 = cc in omega arith)) more
+good-before = characters-induct (λ ys gs. every isGood gs ≡ false → extent (while isGood gs) < length ys) (λ e. absurd (let z : _≡_ {A = ℕ} 0 1 = cc in omega arith)) more
   where
     pick : (g : Glyph) (gs : List Glyph) (m k : ℕ) (t : Bool) → isGood g ≡ t → 1 ≤ m → m ≤ k → length (g .bytes) ≡ m → (every isGood gs ≡ false → extent (while isGood gs) < k - m)
         → every isGood (g ∷ gs) ≡ false → extent (while isGood (g ∷ gs)) < k
     pick g gs m k true t h l c rest e = rw (while-more isGood g gs t) (let r = rest (sym (every-more isGood g gs t) ∙ e) in omega arith)
     pick g gs m k false t h l c rest e = rw (while-end isGood g gs t) (omega arith)
 
-    more : (ys : List ℕ) (b : Bytes false ys) → (every isGood (glyphs false (drop (b .n) ys)) ≡ false → extent (while isGood (glyphs false (drop (b .n) ys))) < length (drop (b .n) ys))
-        → every isGood (glyph false ys ∷ glyphs false (drop (b .n) ys)) ≡ false → extent (while isGood (glyph false ys ∷ glyphs false (drop (b .n) ys))) < length ys
-    more ys b rest = pick (glyph false ys) (glyphs false (drop (b .n) ys)) (b .n) (length ys) _ refl (b .some) (b .within) (b .count) (λ e. rw length-drop at (rest e))
+    more : (ys : List ℕ) (b : Bytes ys) → (every isGood (characters (drop (b .n) ys)) ≡ false → extent (while isGood (characters (drop (b .n) ys))) < length (drop (b .n) ys))
+        → every isGood (glyph ys ∷ characters (drop (b .n) ys)) ≡ false → extent (while isGood (glyph ys ∷ characters (drop (b .n) ys))) < length ys
+    more ys b rest = pick (glyph ys) (characters (drop (b .n) ys)) (b .n) (length ys) _ refl (b .some) (b .within) (b .count) (λ e. rw length-drop at (rest e))
 
 pub damage-some : (glue : Bool) (xs : List ℕ) (n : ℕ) → damage xs ≡ At n → (every isGood (glyphs glue xs) ≡ false) × (n < length xs)
 unfolding damage
-damage-some glue xs n h = let e = pick (every isGood (glyphs false xs)) h in (every-good glue false xs ∙ e .0, rw (← e .1) (good-before xs (e .0)))
+damage-some glue xs n h = let e = pick (every isGood (characters xs)) h in (every-good glue xs ∙ e .0, rw (← e .1) (good-before xs (e .0)))
   where
-    pick : (t : Bool) → cond t Nowhere (At (extent (while isGood (glyphs false xs)))) ≡ At n → (t ≡ false) × (extent (while isGood (glyphs false xs)) ≡ n)
+    pick : (t : Bool) → cond t Nowhere (At (extent (while isGood (characters xs)))) ≡ At n → (t ≡ false) × (extent (while isGood (characters xs)) ≡ n)
     pick true e = (cc, absurd (let z : _≡_ {A = ℕ} 0 1 = cc in omega arith))
     pick false e = (refl, cc)

@@ -10,9 +10,12 @@ use lib.Seq.{take-append-seam}
 use Rattle.lists.specs.Runs.{begins}
 use Rattle.lists.specs.Theorems.All.{All}
 use Rattle.lists.proofs.Runs.{begins-front}
+use Rattle.lists.proofs.All.{all-weaken}
 use Rattle.lists.proofs.Extents.{each-all}
 use Rattle.text.specs.Rfc3629.{Front, front, nothing, scalar, encode, spelled, decode}
-use Rattle.text.specs.Characters.{accepted, onlyAccepted, character, blankCode, Glyph, glyphAs, glyph, glyphs}
+use Rattle.text.specs.Characters.{accepted, onlyAccepted, character, blankCode, widthOf, Glyph, glyphAs, glyph, characters, ordinary, glyphs}
+use Rattle.text.specs.Contracts.Places.{settle}
+use Rattle.text.proofs.Glue.{glyphs-settle, settle-all}
 
 either-some : (b : Bool) (x y : List ℕ) → 0 < length x → 0 < length y → 0 < length (cond b x y)
 either-some true x y h k = h
@@ -38,36 +41,56 @@ decode-octets (a ∷ xs) c n e = go (spelled a xs) (scalar (spelled a xs)) (begi
     go d true false h e = (cc, cc)
     go d false b h e = (cc, cc)
 
--- what holds of each glyph that a text is read as
-pub record Sound (glue : Bool) (g : Glyph) : Type 0 where
+-- what holds of each glyph of a line
+pub record Sound (g : Glyph) : Type 0 where
   pub some : 0 < length (g .bytes)
   pub good : g .blank ≡ true → g .damaged ≡ false
-  pub code : g .blank ≡ true → blankCode glue (g .code) ≡ true
+  pub code : g .blank ≡ true → blankCode (g .code) ≡ true
   pub octets : g .blank ≡ true → g .bytes ≡ encode (g .code)
 
-glyph-sound : (glue : Bool) (xs : List ℕ) → 0 < length xs → Sound glue (glyph glue xs)
-unfolding glyph character
-glyph-sound glue [] h = absurd (omega arith)
-glyph-sound glue (x ∷ xs) h = read (decode (x ∷ xs)) refl
+-- what holds of each character besides
+pub record Read (g : Glyph) : Type 0 where
+  pub isSound : Sound g
+  pub isBlank : blankCode (g .code) ≡ g .blank
+  pub hasWidth : g .damaged ≡ false → g .width ≡ widthOf (g .code)
+
+pub glyph-read : (xs : List ℕ) → 0 < length xs → Read (glyph xs)
+unfolding glyph character blankCode
+glyph-read [] h = absurd (omega arith)
+glyph-read (x ∷ xs) h = read (decode (x ∷ xs)) refl
   where
-    Read : Front → Type 0
-    Read f = Sound glue (glyphAs glue (x ∷ xs) f)
+    ReadAs : Front → Type 0
+    ReadAs f = Read (glyphAs (x ∷ xs) f)
 
-    none : Read nothing
-    none = record { some = omega arith; good = λ e. absurd (false≢true e); code = λ e. absurd (false≢true e); octets = λ e. absurd (false≢true e) }
+    none : ReadAs nothing
+    none = record {
+      isSound = record { some = omega arith; good = λ e. absurd (false≢true e); code = λ e. absurd (false≢true e); octets = λ e. absurd (false≢true e) };
+      isBlank = refl;
+      hasWidth = λ e. absurd (false≢true (sym e));
+    }
 
-    some : (c n : ℕ) (a : Bool) → decode (x ∷ xs) ≡ front c n → Read (cond a (front c n) nothing)
+    some : (c n : ℕ) (a : Bool) → decode (x ∷ xs) ≡ front c n → ReadAs (cond a (front c n) nothing)
     some c n true e =
         let d = decode-octets (x ∷ xs) c n e in
         let l : length (take n (x ∷ xs)) ≡ n = rw (d .1) (sym (d .0)) in
         let s = encode-some c in
-        record { some = omega arith; good = λ e. refl; code = λ e. e; octets = λ e. d .1 }
+        record { isSound = record { some = omega arith; good = λ e. refl; code = λ e. e; octets = λ e. d .1 }; isBlank = refl; hasWidth = λ e. refl }
     some c n false e = none
 
-    read : (f : Front) → decode (x ∷ xs) ≡ f → Read (onlyAccepted f)
+    read : (f : Front) → decode (x ∷ xs) ≡ f → ReadAs (onlyAccepted f)
     read (front c n) e = some c n (accepted c) e
     read nothing e = none
 
-pub glyphs-sound : (glue : Bool) (xs : List ℕ) → All (Sound glue) (glyphs glue xs)
-unfolding glyphs
-glyphs-sound glue xs = each-all (λ ys. length (glyph glue ys .bytes) - 1) (glyph glue) (Sound glue) (λ ys h. glyph-sound glue ys h) xs
+pub characters-read : (xs : List ℕ) → All Read (characters xs)
+unfolding characters
+characters-read xs = each-all (λ ys. length (glyph ys .bytes) - 1) glyph Read (λ ys h. glyph-read ys h) xs
+
+ordinary-sound : (g : Glyph) → Sound g → Sound (ordinary g)
+ordinary-sound g s = record { some = s .some; good = λ e. absurd (false≢true e); code = λ e. absurd (false≢true e); octets = λ e. absurd (false≢true e) }
+
+-- of all glyphs of the rest of a line, and of a whole one
+pub settle-sound : (glue ink : Bool) (xs : List ℕ) → All Sound (settle glue ink (characters xs))
+settle-sound glue ink xs = settle-all Sound ordinary-sound glue ink (characters xs) (all-weaken Read Sound (λ g r. r .isSound) (characters xs) (characters-read xs))
+
+pub glyphs-sound : (glue : Bool) (xs : List ℕ) → All Sound (glyphs glue xs)
+glyphs-sound glue xs = rw (glyphs-settle glue xs) (settle-sound glue false xs)

@@ -26,9 +26,9 @@ accepted-pair : (c : ℕ) → (c ≡ 0xAD → ⊥) → c ≤ 0x2FF → accepted 
 unfolding accepted
 accepted-pair c h k = rw (le-leb c 0x2FF k, ne-eqb c 0xAD h)
 
-ink-letter : (glue : Bool) (c : ℕ) → 0xC0 ≤ c → blankCode glue c ≡ false
+ink-letter : (c : ℕ) → 0xC0 ≤ c → blankCode c ≡ false
 unfolding blankCode
-ink-letter glue c h = rw (le-leb 9 c (omega arith), lt-leb c 13 (omega arith), ne-eqb c 0x20 (omega arith), ne-eqb c 0x85 (omega arith), ne-eqb c 0xA0 (omega arith))
+ink-letter c h = rw (le-leb 9 c (omega arith), lt-leb c 13 (omega arith), ne-eqb c 0x20 (omega arith), ne-eqb c 0x85 (omega arith), ne-eqb c 0xA0 (omega arith))
 
 module _ (s : List ℕ) (at : ℕ) where
   pub letter-is : letterAt s at ≡ true → Letter s at
@@ -75,8 +75,8 @@ module _ (s : List ℕ) (at : ℕ) where
         let most : pairCode s at ≤ 0x2FF = omega (arith, p .least, p .most) in
         sym (char-decode at (drop at s)) ∙ sym (ap acceptedOnly d) ∙ rw (accepted-pair (pairCode s at) (p .other) most)
 
-    pub pair-here : (glue : Bool) → Here glue (blankCode glue (pairCode s at)) s at (pairCode s at) (at + 2)
-    pair-here glue = char-here glue s at (pairCode s at) (at + 2) pair-char
+    pub pair-here : Here (blankCode (pairCode s at)) s at (pairCode s at) (at + 2)
+    pair-here = char-here s at (pairCode s at) (at + 2) pair-char
 
   module _ (l : Letter s at) where
     pub letter-least : 0xC0 ≤ pairCode s at
@@ -85,5 +85,5 @@ module _ (s : List ℕ) (at : ℕ) where
     letter-pair : Pair s at
     letter-pair = record { within = l .within; least = omega (arith, l .least); most = l .most; second = l .second; other = λ e. omega (arith, letter-least) }
 
-    pub letter-here : (glue : Bool) → Here glue false s at (pairCode s at) (at + 2)
-    letter-here glue = rw (ink-letter glue (pairCode s at) letter-least) at (pair-here letter-pair glue)
+    pub letter-here : Here false s at (pairCode s at) (at + 2)
+    letter-here = rw (ink-letter (pairCode s at) letter-least) at (pair-here letter-pair)

@@ -10,3 +10,5 @@ pub mod Asciis
 mod Worked
 pub mod Extents
 pub mod Blanks
+pub mod NoBreaks
+pub mod Edges

@@ -47,33 +47,33 @@ accepted-front xs c n h = pick (decode xs) refl h
         choose true a g = record { decoded = sound xs c n (d ∙ g); isAccepted = let q : c′ ≡ c = cc in rw (← q) a }
         choose false a g = absurd (let z : _≡_ {A = ℕ} 0 1 = cc in omega arith)
 
-abbrev pub seenChar : Bool → Char → Seen
-seenChar glue (Good c next) = cond (blankCode glue c) (Blank c next) (Ink c next)
-seenChar glue Damaged = Broken
+abbrev pub seenChar : Char → Seen
+seenChar (Good c next) = cond (blankCode c) (Blank c next) (Ink c next)
+seenChar Damaged = Broken
 
-pub seen-char : (glue : Bool) (at : ℕ) (xs : List ℕ) → seenChar glue (readAs at (character xs)) ≡ seenAs at (glyph glue xs)
+pub seen-char : (at : ℕ) (xs : List ℕ) → seenChar (readAs at (character xs)) ≡ seenAs at (glyph xs)
 unfolding glyph seenAs
-seen-char glue at xs = pick (character xs) refl
+seen-char at xs = pick (character xs) refl
   where
-    pick : (f : Front) → character xs ≡ f → seenChar glue (readAs at f) ≡ seenAs at (glyphAs glue xs f)
+    pick : (f : Front) → character xs ≡ f → seenChar (readAs at f) ≡ seenAs at (glyphAs xs f)
     pick nothing e = refl
     pick (front c n) e = rw (length-take-le n xs (accepted-front xs c n e .decoded .within))
 
 -- the character that an answer was made from: a blank one (t true), an ordinary one, or none
-pub glyph-char : (glue : Bool) (r : Char) (t : Bool) (c next : ℕ) → seenChar glue r ≡ cond t (Blank c next) (Ink c next) → (r ≡ Good c next) × (blankCode glue c ≡ t)
-glyph-char glue Damaged true c next h = absurd (let z : _≡_ {A = ℕ} 0 1 = cc in omega arith)
-glyph-char glue Damaged false c next h = absurd (let z : _≡_ {A = ℕ} 0 1 = cc in omega arith)
-glyph-char glue (Good c′ next′) t c next h = pick (blankCode glue c′) t refl h
+pub glyph-char : (r : Char) (t : Bool) (c next : ℕ) → seenChar r ≡ cond t (Blank c next) (Ink c next) → (r ≡ Good c next) × (blankCode c ≡ t)
+glyph-char Damaged true c next h = absurd (let z : _≡_ {A = ℕ} 0 1 = cc in omega arith)
+glyph-char Damaged false c next h = absurd (let z : _≡_ {A = ℕ} 0 1 = cc in omega arith)
+glyph-char (Good c′ next′) t c next h = pick (blankCode c′) t refl h
   where
-    pick : (u v : Bool) → blankCode glue c′ ≡ u → cond u (Blank c′ next′) (Ink c′ next′) ≡ cond v (Blank c next) (Ink c next) → (Good c′ next′ ≡ Good c next) × (blankCode glue c ≡ v)
+    pick : (u v : Bool) → blankCode c′ ≡ u → cond u (Blank c′ next′) (Ink c′ next′) ≡ cond v (Blank c next) (Ink c next) → (Good c′ next′ ≡ Good c next) × (blankCode c ≡ v)
     pick true true b e = (cc, let q : c′ ≡ c = cc in rw (← q) b)
     pick false false b e = (cc, let q : c′ ≡ c = cc in rw (← q) b)
     pick true false b e = absurd (let z : _≡_ {A = ℕ} 0 1 = cc in omega arith)
     pick false true b e = absurd (let z : _≡_ {A = ℕ} 0 1 = cc in omega arith)
 
-pub damaged-char : (glue : Bool) (r : Char) → seenChar glue r ≡ Broken → r ≡ Damaged
-damaged-char glue Damaged h = refl
-damaged-char glue (Good c next) h = pick (blankCode glue c) h
+pub damaged-char : (r : Char) → seenChar r ≡ Broken → r ≡ Damaged
+damaged-char Damaged h = refl
+damaged-char (Good c next) h = pick (blankCode c) h
   where
     pick : (u : Bool) → cond u (Blank c next) (Ink c next) ≡ Broken → Good c next ≡ Damaged
     pick true e = cc

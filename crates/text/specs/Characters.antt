@@ -1,5 +1,5 @@
--- Document 01, "Characters and lines": accepted characters, damaged places, blanks and widths. A glyph is what stands at a place of a
--- line, with all that later sections ask of it; they look at glyphs alone.
+-- Document 01, "Characters and lines": accepted characters, damaged places, blanks and widths; and document 02, P2: which U+00A0 are
+-- ordinary with glue on. A glyph is what stands at a place of a line, with all that later sections ask of it; they look at glyphs alone.
 use mathlib.Core.Bool.{Bool, true, false, cond, not, _&&_, _||_}
 use mathlib.Core.List.{List, [], _∷_}
 use Prim.Native.Nat.{ℕ, _+_, _-_}
@@ -23,9 +23,9 @@ onlyAccepted nothing = nothing
 unfoldable pub character : List ℕ → Front
 character xs = onlyAccepted (decode xs)
 
--- blanks: U+0009 to U+000D, U+0020, U+0085, U+00A0; with glue on, U+00A0 is an ordinary character
-unfoldable pub blankCode : Bool → ℕ → Bool
-blankCode glue c = leb 9 c && leb c 13 || eqb c 0x20 || eqb c 0x85 || eqb c 0xA0 && not glue
+-- blanks: U+0009 to U+000D, U+0020, U+0085, U+00A0
+unfoldable pub blankCode : ℕ → Bool
+blankCode c = leb 9 c && leb c 13 || eqb c 0x20 || eqb c 0x85 || eqb c 0xA0
 
 -- each accepted character has width 1
 unfoldable pub widthOf : ℕ → ℕ
@@ -44,17 +44,44 @@ pub record Glyph : Type 0 where
 abbrev pub isTab : Glyph → Bool
 isTab g = eqb (g .code) 9
 
--- the glyph at the front of a list; a damaged one has one byte
-abbrev pub glyphAs : Bool → List ℕ → Front → Glyph
-glyphAs glue xs (front c n) = record { bytes = take n xs; code = c; damaged = false; blank = blankCode glue c; width = widthOf c }
-glyphAs glue xs nothing = record { bytes = take 1 xs; code = 0xFFFD; damaged = true; blank = false; width = 1 }
+-- the character at the front of a list; a damaged one has one byte
+abbrev pub glyphAs : List ℕ → Front → Glyph
+glyphAs xs (front c n) = record { bytes = take n xs; code = c; damaged = false; blank = blankCode c; width = widthOf c }
+glyphAs xs nothing = record { bytes = take 1 xs; code = 0xFFFD; damaged = true; blank = false; width = 1 }
 
-unfoldable pub glyph : Bool → List ℕ → Glyph
-glyph glue xs = glyphAs glue xs (character xs)
+unfoldable pub glyph : List ℕ → Glyph
+glyph xs = glyphAs xs (character xs)
 
--- a text as its glyphs, read from the front
+-- a text as its characters, read from the front, each by itself
+unfoldable pub characters : List ℕ → List Glyph
+characters = each (λ xs. length (glyph xs .bytes) - 1) glyph
+
+-- P2: with glue on, U+00A0 is ordinary only if the nearest characters on its line, left and right, skipping further U+00A0, are both
+-- there and not blanks; otherwise, a line's edge included, it is blank.
+abbrev pub noBreak : Glyph → Bool
+noBreak g = eqb (g .code) 0xA0
+
+abbrev pub ordinary : Glyph → Glyph
+ordinary g = record { bytes = g .bytes; code = g .code; damaged = g .damaged; blank = false; width = g .width }
+
+-- to the right: the nearest character, skipping U+00A0, is there and not a blank
+unfoldable pub inkAhead : List Glyph → Bool
+inkAhead [] = false
+inkAhead (g ∷ gs) = elim (noBreak g) [ true ↦ inkAhead gs | false ↦ not (g .blank) ]
+
+-- the rest of a line; `ink` says the same of what is to the left: the nearest character, skipping U+00A0, is there and not a blank
+unfoldable pub glued : Bool → List Glyph → List Glyph
+glued ink [] = []
+glued ink (g ∷ gs) =
+    elim (noBreak g) [
+      | true ↦ cond (ink && inkAhead gs) (ordinary g) g ∷ glued ink gs
+      | false ↦ g ∷ glued (not (g .blank)) gs
+    ]
+
+-- a line as its glyphs: with glue off, its characters
 unfoldable pub glyphs : Bool → List ℕ → List Glyph
-glyphs glue = each (λ xs. length (glyph glue xs .bytes) - 1) (glyph glue)
+glyphs true line = glued false (characters line)
+glyphs false line = characters line
 
 abbrev pub isBlank : Glyph → Bool
 isBlank g = g .blank
@@ -69,4 +96,4 @@ extent (g ∷ gs) = length (g .bytes) + extent gs
 
 -- the damaged place of a text: the first byte at which no accepted character begins
 unfoldable pub damage : List ℕ → Found
-damage xs = let gs = glyphs false xs in cond (every isGood gs) Nowhere (At (extent (while isGood gs)))
+damage xs = let gs = characters xs in cond (every isGood gs) Nowhere (At (extent (while isGood gs)))

@@ -1,11 +1,11 @@
 // Characters: what stands at a place of a line. RFC 3629 decides decoding; document 01 says which characters are accepted.
 ghost use mathlib.Core.Path.{_≡_};
-ghost use mathlib.Core.Bool.{true};
+ghost use mathlib.Core.Bool.{true, false};
 ghost use Prim.Native.Nat.{_+_, _-_, _≤_, _<_, _^_};
 ghost use lib.ListN.{length, getD, drop};
 ghost use Rattle.text.specs.Rfc3629.{decode};
-ghost use Rattle.text.specs.Characters.{accepted, character, blankCode, widthOf, glyph, damage};
-ghost use Rattle.text.specs.Contracts.Places.{readAs, seenAs, letterAt, Pair, Ascii};
+ghost use Rattle.text.specs.Characters.{accepted, character, blankCode, widthOf, glyph, characters, inkAhead, damage};
+ghost use Rattle.text.specs.Contracts.Places.{readAs, seenAs, letterAt, Pair, Ascii, noBreakAt, gluedExtent, RunOver};
 
 // A place, or none.
 pub enum Found {
@@ -167,13 +167,12 @@ fn is_accepted(code: u32) -> bool
     code <= 0x2FF && code != 0xAD
 }
 
-// Whether a character separates words. With glue on, U+00A0 does not.
-pub fn is_blank(code: u32, glue: bool) -> bool
-    ensures { λ r. ⌜ r ≡ blankCode glue code ⌝ }
+// Whether a character separates words. With glue on, some U+00A0 do not: see `glued_end`.
+pub fn is_blank(code: u32) -> bool
+    ensures { λ r. ⌜ r ≡ blankCode code ⌝ }
 {
     match code {
-        9..=13 | 0x20 | 0x85 => true,
-        0xA0 => !glue,
+        9..=13 | 0x20 | 0x85 | 0xA0 => true,
         _ => false,
     }
 }
@@ -185,18 +184,71 @@ pub fn width(code: u32) -> usize
     1
 }
 
-// The character at a place, for all that formatting asks of it.
-pub fn glyph_at(s: &[u8], at: usize, glue: bool) -> Glyph
-    ensures { λ r. ⌜ r ≡ seenAs at (glyph glue (drop at (now (s .entry)))) ⌝ }
+// The character at a place, for all that formatting asks of it; each U+00A0 is blank here.
+pub fn glyph_at(s: &[u8], at: usize) -> Glyph
+    ensures { λ r. ⌜ r ≡ seenAs at (glyph (drop at (now (s .entry)))) ⌝ }
 {
     let Char::Good { code, next } = char_at(s, at) else {
         return Glyph::Damaged;
     };
-    if is_blank(code, glue) {
+    if is_blank(code) {
         Glyph::Blank { code, next }
     } else {
         Glyph::Ink { code, next }
     }
+}
+
+// With glue on, U+00A0 is ordinary between ink: behind ink, the end of those at a place that have ink behind them too; if they have none,
+// the place. So it is asked once for a run of them.
+pub fn glued_end(s: &[u8], at: usize) -> usize
+    requires { ⌜ at ≤ length (now s) ⌝ }
+    ensures { λ r. ⌜ (r ≡ at + gluedExtent (characters (drop at (now (s .entry))))) × (r ≤ length (now (s .entry))) ⌝ }
+{
+    let end = over_no_breaks(s, at);
+    if is_ink(s, end) { end } else { at }
+}
+
+// On from a place over the U+00A0 that stand there.
+fn over_no_breaks(s: &[u8], at: usize) -> usize
+    requires { ⌜ at ≤ length (now s) ⌝ }
+    ensures { λ r. ⌜ RunOver (now (s .entry)) at r ⌝ }
+{
+    let mut i = at;
+    while is_no_break(s, i) {
+        i += 2;
+    }
+    i
+}
+
+// Whether U+00A0 stands at a place.
+pub fn is_no_break(s: &[u8], at: usize) -> bool
+    ensures { λ r. ⌜ r ≡ noBreakAt (now (s .entry)) at ⌝ }
+{
+    if s.len() <= at {
+        return false;
+    }
+    if s[at] != 0xC2 {
+        return false;
+    }
+    let next = at + 1;
+    if s.len() <= next {
+        return false;
+    }
+    s[next] == 0xA0
+}
+
+// Whether a character that is no blank stands at a place, where there is no U+00A0. A damaged byte is none either.
+fn is_ink(s: &[u8], at: usize) -> bool
+    requires { ⌜ noBreakAt (now s) at ≡ false ⌝ }
+    ensures { λ r. ⌜ r ≡ inkAhead (characters (drop at (now (s .entry)))) ⌝ }
+{
+    if s.len() <= at {
+        return false;
+    }
+    let Glyph::Blank { code: _, next: _ } = glyph_at(s, at) else {
+        return true;
+    };
+    false
 }
 
 // Whether a letter of two bytes stands at a place, U+00C0 to U+02FF: each is accepted and none is blank, so that no more need be asked.

@@ -52,7 +52,7 @@ loop-less-2 c = omega (arith, c .before .is-pair .ensures (c .if2 .taken) .withi
 
 loop-again-2 : tie.Need-loop-again-2 Inv-loop μ-loop
 loop-again-2 c =
-    let h = pair-here _ _ (c .before .is-pair .ensures (c .if2 .taken)) false in
+    let h = pair-here _ _ (c .before .is-pair .ensures (c .if2 .taken)) in
     (h .within, sym (damage-on _ _ h) ∙ c .before .before .before .before .before .loop .inv .1)
 
 char-at-requires : tie.Need-char-at-requires Inv-loop μ-loop
@@ -67,11 +67,11 @@ enum-told c = search needs
 returns : tie.Need-returns Inv-loop μ-loop
 returns c =
     let l = c .before .before .before .before .before .before .before .before in
-    sym (damage-here (now (c .before .before .before .before .before .before .before .before .before .before .args .s)) (l .loop .i) (char-damaged-here false _ _ (c .before .before .before .before .before .before .before .loop-test .taken) (sym (c .before .before .char-at .ensures) ∙ c .enum-told .given .1))) ∙ l .loop .inv .1
+    sym (damage-here (now (c .before .before .before .before .before .before .before .before .before .before .args .s)) (l .loop .i) (char-damaged-here _ _ (c .before .before .before .before .before .before .before .loop-test .taken) (sym (c .before .before .char-at .ensures) ∙ c .enum-told .given .1))) ∙ l .loop .inv .1
 
 -- the character that the turn reads
-read : (c : tie.After-known-told Inv-loop μ-loop) → Here false (blankCode false (c .before .next .given .0 .0)) (now (c .before .before .before .before .before .before .before .before .before .before .before .args .s)) (c .before .before .before .before .before .before .before .before .before .loop .i) (c .before .next .given .0 .0) (c .before .next .given .0 .1 .0)
-read c = char-here false _ _ _ _ (sym (c .before .before .before .char-at .ensures) ∙ c .before .next .given .1)
+read : (c : tie.After-known-told Inv-loop μ-loop) → Here (blankCode (c .before .next .given .0 .0)) (now (c .before .before .before .before .before .before .before .before .before .before .before .args .s)) (c .before .before .before .before .before .before .before .before .before .loop .i) (c .before .next .given .0 .0) (c .before .next .given .0 .1 .0)
+read c = char-here _ _ _ _ (sym (c .before .before .before .char-at .ensures) ∙ c .before .next .given .1)
 
 loop-less-3 : tie.Need-loop-less-3 Inv-loop μ-loop
 loop-less-3 c = let r = read c in omega (arith, r .within, r .on)

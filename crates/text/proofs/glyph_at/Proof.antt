@@ -20,8 +20,8 @@ enum-told c = search needs
 
 -- the answer, from the character's
 answer : (c : tie.After-char-at)
-    → seenChar (c .before .before .args .glue) (c .char-at .result) ≡ seenAs (c .before .before .args .at) (glyph (c .before .before .args .glue) (drop (c .before .before .args .at) (now (c .before .before .args .s))))
-answer c = let i = c .before .before .args in ap (seenChar (i .glue)) (c .char-at .ensures) ∙ seen-char (i .glue) (i .at) (drop (i .at) (now (i .s)))
+    → seenChar (c .char-at .result) ≡ seenAs (c .before .before .args .at) (glyph (drop (c .before .before .args .at) (now (c .before .before .args .s))))
+answer c = let i = c .before .before .args in ap seenChar (c .char-at .ensures) ∙ seen-char (i .at) (drop (i .at) (now (i .s)))
 
 returns : tie.Need-returns
 returns c = rw (c .enum-told .given .1) at (answer (c .before .before))

@@ -1,12 +1,13 @@
 -- How the code's answers at a place mean what stands at the front of the text from there on.
 use mathlib.Core.Path.{_≡_}
-use mathlib.Core.Bool.{Bool, cond, _&&_}
-use mathlib.Core.List.{List}
+use mathlib.Core.Bool.{Bool, true, false, cond, not, _&&_}
+use mathlib.Core.List.{List, [], _∷_}
 use Prim.Native.Nat.{ℕ, _+_, _*_, _/_, _%_, _≤_, _<_}
 use lib.Dec.{ltb, leb, eqb}
-use lib.ListN.{length, getD}
+use lib.ListN.{length, getD, drop}
+use Rattle.lists.specs.Runs.{while}
 use Rattle.text.specs.Rfc3629.{Front, front, nothing}
-use Rattle.text.specs.Characters.{Glyph}
+use Rattle.text.specs.Characters.{Glyph, characters, noBreak, inkAhead, glued, extent}
 use Rattle.text.specs.declared.Char.{Char}
 use Rattle.text.specs.declared.Char.the-variants.{Good, Damaged}
 use Rattle.text.specs.declared.Glyph.{Glyph as Seen}
@@ -39,3 +40,35 @@ pub record Pair (s : List ℕ) (at : ℕ) : Type 0 where
 -- a letter of two bytes stands at a place, U+00C0 to U+02FF: each is accepted, and none is blank
 unfoldable pub letterAt : List ℕ → ℕ → Bool
 letterAt s at = ltb (at + 1) (length s) && (leb 0xC3 (getD s at 0) && (leb (getD s at 0) 0xCB && eqb (getD s (at + 1) 0 / 64) 2))
+
+-- the rest of a line as its glyphs, with glue or without: whether the nearest character to the left, skipping U+00A0, is there and not a blank
+unfoldable pub settle : Bool → Bool → List Glyph → List Glyph
+settle true ink gs = glued ink gs
+settle false ink gs = gs
+
+-- the glyphs of a text that stands behind ink
+unfoldable pub inkGlyphs : Bool → List ℕ → List Glyph
+inkGlyphs glue xs = settle glue true (characters xs)
+
+-- the same question behind a character, and behind characters
+unfoldable pub inkBehind : Bool → Glyph → Bool
+inkBehind ink g = elim (noBreak g) [ true ↦ ink | false ↦ not (g .blank) ]
+
+unfoldable pub inkAfter : Bool → List Glyph → Bool
+inkAfter ink [] = ink
+inkAfter ink (g ∷ gs) = inkAfter (inkBehind ink g) gs
+
+-- U+00A0 stands at a place
+unfoldable pub noBreakAt : List ℕ → ℕ → Bool
+noBreakAt s at = eqb (getD s at 0) 0xC2 && eqb (getD s (at + 1) 0) 0xA0
+
+-- how many bytes of U+00A0 at the front are ordinary behind ink: all of a run, or none
+unfoldable pub gluedExtent : List Glyph → ℕ
+gluedExtent gs = cond (inkAhead gs) (extent (while noBreak gs)) 0
+
+-- U+00A0 stand from a place up to another, where none does
+pub record RunOver (s : List ℕ) (at end : ℕ) : Type 0 where
+  pub run : end ≡ at + extent (while noBreak (characters (drop at s)))
+  pub ahead : inkAhead (characters (drop at s)) ≡ inkAhead (characters (drop end s))
+  pub stops : noBreakAt s end ≡ false
+  pub within : end ≤ length s

@@ -8,10 +8,10 @@ use Rattle.lists.specs.Runs.{every, joined}
 use Rattle.text.specs.Rfc3629.{encode}
 use Rattle.text.specs.Characters.{blankCode}
 
-abbrev pub spaceCode : Bool → ℕ → Bool
-spaceCode glue c = blankCode glue c && not (eqb c 10)
+abbrev pub spaceCode : ℕ → Bool
+spaceCode c = blankCode c && not (eqb c 10)
 
-pub record Blanks (glue : Bool) (bytes : List ℕ) : Type 0 where
+pub record Blanks (bytes : List ℕ) : Type 0 where
   pub codes : List ℕ
-  pub blank : every (spaceCode glue) codes ≡ true
+  pub blank : every spaceCode codes ≡ true
   pub octets : bytes ≡ joined encode codes
