@@ -8,7 +8,7 @@ use lib.ListN.{length, take, drop}
 use lib.Seq.{slice, length-slice}
 use Rattle.lists.specs.Runs.{every}
 use Rattle.lists.proofs.Slices.{slice-is}
-use Rattle.text.specs.Characters.{glyphs, isGood}
+use Rattle.text.specs.Characters.{characters, isGood}
 use Rattle.text.specs.declared.Found.{Found}
 use Rattle.text.specs.declared.Found.the-variants.{At, Nowhere}
 use Rattle.options.specs.declared.Part.{Part}
@@ -25,7 +25,7 @@ pub record Prefix (block : List ℕ) (start end : ℕ) : Type 0 where
   pub ordered : start ≤ end
   pub inside : end ≤ length block
   pub short : end - start ≤ 255
-  pub sound : every isGood (glyphs false (slice start end block)) ≡ true
+  pub sound : every isGood (characters (slice start end block)) ≡ true
 
 -- what holds of accepted options
 pub record Kept (block : List ℕ) (o : Options) : Type 0 where

@@ -9,7 +9,7 @@ use lib.ListN.{length, getD, take, drop, drop-of-length-le}
 use lib.Seq.{getD-drop, getD-take}
 use borrow.Author.Tests.{le-leb, lt-leb, eq-eqb, ne-eqb, leb-true, eqb-true, eqb-false}
 use Rattle.lists.specs.Runs.{every}
-use Rattle.text.specs.Characters.{glyphs, isGood, damage}
+use Rattle.text.specs.Characters.{characters, isGood, damage}
 use Rattle.text.specs.declared.Found.the-variants.{At, Nowhere}
 use Rattle.options.specs.OptionBlock.{number, allowed}
 use Rattle.options.specs.Contracts.Places.{numberText, prefixText}
@@ -73,13 +73,13 @@ module _ (v : List ℕ) where
   module _ (short : length v ≤ 255) where
     pub prefix-sound : damage v ≡ Nowhere → prefixText v ≡ true
     unfolding prefixText damage
-    prefix-sound e = rw (le-leb (length v) 255 short, sound-if (every isGood (glyphs false v)) _ e)
+    prefix-sound e = rw (le-leb (length v) 255 short, sound-if (every isGood (characters v)) _ e)
 
     pub prefix-broken : (k : ℕ) → damage v ≡ At k → prefixText v ≡ false
     unfolding prefixText damage
-    prefix-broken k e = rw (le-leb (length v) 255 short, broken-if (every isGood (glyphs false v)) _ k e)
+    prefix-broken k e = rw (le-leb (length v) 255 short, broken-if (every isGood (characters v)) _ k e)
 
-  pub prefix-true : prefixText v ≡ true → (length v ≤ 255) × (every isGood (glyphs false v) ≡ true)
+  pub prefix-true : prefixText v ≡ true → (length v ≤ 255) × (every isGood (characters v) ≡ true)
   unfolding prefixText
   prefix-true e = let b = both _ _ e in (leb-true _ _ (b .0), b .1)
 

@@ -8,7 +8,7 @@ use lib.Dec.{leb, ltb, eqb}
 use lib.ListN.{length, getD, take, drop}
 use Rattle.lists.specs.Walk.{Stride, walk}
 use Rattle.lists.specs.Runs.{every}
-use Rattle.text.specs.Characters.{glyphs, isGood}
+use Rattle.text.specs.Characters.{characters, isGood}
 use Rattle.text.specs.declared.Found.{Found}
 use Rattle.text.specs.declared.Found.the-variants.{At, Nowhere}
 use Rattle.options.specs.declared.Part.{Part}
@@ -60,7 +60,7 @@ allowed tag size v =
     cond (eqb tag 1) (eqb size 2 && ltb (number v) (2 ^ flagBits))
     (cond (eqb tag 2 || eqb tag 3) (eqb size 2 && leb 1 (number v) && leb (number v) 1000)
     (cond (eqb tag 4) (eqb size 2 && leb (number v) 100)
-    (cond (eqb tag 5 || eqb tag 6) (leb size 255 && every isGood (glyphs false v))
+    (cond (eqb tag 5 || eqb tag 6) (leb size 255 && every isGood (characters v))
     false)))
 
 -- a well-formed field: its tag is above the one before it, the block does not end inside it, and its value is allowed

@@ -6,7 +6,7 @@ use Prim.Native.Nat.{ℕ}
 use lib.Dec.{leb, eqb}
 use lib.ListN.{length, drop}
 use Rattle.lists.specs.Runs.{every}
-use Rattle.text.specs.Characters.{glyphs, isGood}
+use Rattle.text.specs.Characters.{characters, isGood}
 use Rattle.options.specs.OptionBlock.{Field, number}
 
 abbrev pub fieldAt : List ℕ → ℕ → ℕ → Field
@@ -16,4 +16,4 @@ unfoldable pub numberText : ℕ → ℕ → List ℕ → Bool
 numberText least most v = eqb (length v) 2 && leb least (number v) && leb (number v) most
 
 unfoldable pub prefixText : List ℕ → Bool
-prefixText v = leb (length v) 255 && every isGood (glyphs false v)
+prefixText v = leb (length v) 255 && every isGood (characters v)
