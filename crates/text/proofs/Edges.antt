@@ -1,7 +1,7 @@
 -- A line's glyphs from a place on. Before ink, in an indent or a gap, they are `glyphs` of what is left; behind ink, in a word, `inkGlyphs`
 -- of it. So a walk knows at each place which of the two it has.
 use mathlib.Core.Path.{_≡_, refl, sym, ap, _∙_}
-use mathlib.Core.Bool.{Bool, true, false, cond, not}
+use mathlib.Core.Bool.{Bool, true, false, not, false≢true}
 use mathlib.Core.List.{List, [], _∷_, _++_, map}
 use Prim.Native.Nat.{ℕ, _+_, _≤_, _<_}
 use native.Mathlib.Omega.{arith}
@@ -10,10 +10,13 @@ use lib.ListN.{length, drop}
 use lib.Seq.{drop-drop}
 use borrow.Author.Tests.{ltb-true, ltb-false, ne-eqb}
 use Rattle.lists.specs.Runs.{while, behind, joined}
+use Rattle.lists.specs.Theorems.All.{All}
 use Rattle.lists.proofs.Runs.{while-more, while-end, behind-more, behind-end}
 use Rattle.text.specs.Characters.{blankCode, Glyph, glyph, characters, noBreak, ordinary, inkAhead, glyphs, extent}
 use Rattle.text.specs.Contracts.Places.{settle, inkGlyphs, inkBehind}
 use Rattle.text.proofs.Glyphs.{Here, DamagedHere, Bytes, characters-past, characters-first, characters-step, characters-induct, characters-joined}
+use Rattle.text.proofs.Extents.{Read, characters-read}
+use Rattle.text.proofs.NoBreaks.{no-break-blank}
 use Rattle.text.proofs.Glue.{glyphs-settle, settle-none, settle-other, settle-blank, settle-start, settle-end, settle-run, settle-edge, settle-joined}
 
 -- with glue off there is one way to read
@@ -124,3 +127,24 @@ module _ (s : List ℕ) (at : ℕ) where
 -- the glyphs' bytes, joined, are the text
 pub glyphs-joined : (glue : Bool) (xs : List ℕ) → joined (λ g. g .bytes) (glyphs glue xs) ≡ xs
 glyphs-joined glue xs = ap (joined (λ g. g .bytes)) (glyphs-settle glue xs) ∙ settle-joined glue false (characters xs) ∙ characters-joined xs
+
+pub ink-joined : (glue : Bool) (xs : List ℕ) → joined (λ g. g .bytes) (inkGlyphs glue xs) ≡ xs
+unfolding inkGlyphs
+ink-joined glue xs = settle-joined glue true (characters xs) ∙ characters-joined xs
+
+-- where what is left of a line begins with no blank, it is read as behind ink: U+00A0 is blank elsewhere
+pub ink-stands : (glue ink : Bool) (xs : List ℕ) (g : Glyph) (gs : List Glyph) → settle glue ink (characters xs) ≡ g ∷ gs → g .blank ≡ false → settle glue ink (characters xs) ≡ inkGlyphs glue xs
+unfolding inkGlyphs
+ink-stands glue true xs g gs e b = refl
+ink-stands glue false xs g gs e b = pick (characters xs) (characters-read xs) e
+  where
+    pick : (cs : List Glyph) → All Read cs → settle glue false cs ≡ g ∷ gs → settle glue false cs ≡ settle glue true cs
+    pick [] a k = settle-none glue false ∙ sym (settle-none glue true)
+    pick (c ∷ cs) a k = sym (settle-start glue c cs (other (noBreak c) refl))
+      where
+        other : (n : Bool) → noBreak c ≡ n → n ≡ false
+        other false h = refl
+        other true h =
+            let f = sym (settle-edge glue c cs) ∙ k in
+            let q : c ≡ g = cc in
+            absurd (false≢true (sym b ∙ ap (λ (x : Glyph). x .blank) (sym q) ∙ no-break-blank c (a .0) h))

@@ -154,3 +154,25 @@ module _ (s : List ℕ) (at : ℕ) where
     pub glued-none : inkAhead (characters (drop end s)) ≡ false → at ≡ at + gluedExtent (characters (drop at s))
     unfolding gluedExtent
     glued-none e = rw (r .ahead, e) (omega arith)
+
+-- from the answer of glued_end at U+00A0: whether it moved
+pub ahead-moved : (gs : List Glyph) → (gluedExtent gs ≡ 0 → ⊥) → inkAhead gs ≡ true
+unfolding gluedExtent
+ahead-moved gs h = pick (inkAhead gs) refl
+  where
+    pick : (t : Bool) → inkAhead gs ≡ t → t ≡ true
+    pick true e = refl
+    pick false e = absurd (h (rw e))
+
+pub ahead-stayed : (s : List ℕ) (at : ℕ) → noBreakAt s at ≡ true → gluedExtent (characters (drop at s)) ≡ 0 → inkAhead (characters (drop at s)) ≡ false
+unfolding gluedExtent extent
+ahead-stayed s at n h = pick (inkAhead (characters (drop at s))) refl
+  where
+    pick : (t : Bool) → inkAhead (characters (drop at s)) ≡ t → t ≡ false
+    pick false e = refl
+    pick true e =
+        let g = no-break-here s at n in
+        let w = while-more noBreak (glyph (drop at s)) (characters (drop (at + 2) s)) (eq-eqb _ _ (g .hasCode)) in
+        let z : extent (while noBreak (characters (drop at s))) ≡ 0 = rw e at h in
+        let y : length (glyph (drop at s) .bytes) + extent (while noBreak (characters (drop (at + 2) s))) ≡ 0 = rw (g .first, w) at z in
+        absurd (omega (arith, g .count))
