@@ -1,6 +1,6 @@
 -- Columns stay small: at most 100 for each byte, whatever the tab width. And a line's glyphs in two parts: the second stands behind the
 -- bytes of the first.
-use mathlib.Core.Path.{_≡_, refl, sym, _∙_}
+use mathlib.Core.Path.{_≡_, refl, sym, ap, _∙_}
 use mathlib.Core.Bool.{Bool, true, false, cond}
 use mathlib.Core.List.{List, [], _∷_, _++_}
 use Prim.Native.Nat.{ℕ, _+_, _-_, _*_, _≤_}
@@ -8,18 +8,21 @@ use native.Mathlib.Omega.{arith}
 use lib.ListN.{length, drop, length-drop}
 use lib.Seq.{drop-drop}
 use Rattle.text.specs.Rfc3629.{Front, front, nothing}
-use Rattle.text.specs.Characters.{character, widthOf, Glyph, glyphAs, glyph, glyphs, isTab, extent}
-use Rattle.text.proofs.Glyphs.{Bytes, glyphs-past, glyphs-first, glyphs-induct}
-use Rattle.lines.specs.Classes.{glyphsFrom, nextStop, columnBehind, columnsOf}
-use Rattle.lines.proofs.Measures.{next-stop, from-zero, from-more}
+use Rattle.text.specs.Characters.{character, widthOf, Glyph, glyphAs, glyph, characters, glyphs, isTab, extent}
+use Rattle.text.specs.Contracts.Places.{settle, inkAfter}
+use Rattle.text.proofs.Glyphs.{Bytes, characters-past, characters-step, characters-induct}
+use Rattle.text.proofs.Glue.{glyphs-settle}
+use Rattle.lines.specs.Classes.{nextStop, columnBehind, columnsOf}
+use Rattle.lines.proofs.Measures.{next-stop}
+use Rattle.lines.proofs.Glued.{columns-settle, settle-cut}
 
 -- ---- columns
 
-glyph-narrow : (glue : Bool) (xs : List ℕ) → glyph glue xs .width ≤ 2
+glyph-narrow : (xs : List ℕ) → glyph xs .width ≤ 2
 unfolding glyph widthOf
-glyph-narrow glue xs = pick (character xs)
+glyph-narrow xs = pick (character xs)
   where
-    pick : (f : Front) → glyphAs glue xs f .width ≤ 2
+    pick : (f : Front) → glyphAs xs f .width ≤ 2
     pick nothing = omega arith
     pick (front c n) = omega arith
 
@@ -54,46 +57,41 @@ module _ (tab : ℕ) (least : 1 ≤ tab) where
         pick true = omega (arith, next-stop column tab least)
         pick false = omega arith
 
-    pub columns-near : (glue : Bool) (line : List ℕ) → (column : ℕ) → columnsOf tab column (glyphs glue line) ≤ column + 100 * length line
+    characters-near : (line : List ℕ) → (column : ℕ) → columnsOf tab column (characters line) ≤ column + 100 * length line
     unfolding columnsOf
-    columns-near glue =
-        glyphs-induct glue (λ ys gs. (column : ℕ) → columnsOf tab column gs ≤ column + 100 * length ys) (λ column. omega arith)
+    characters-near =
+        characters-induct (λ ys gs. (column : ℕ) → columnsOf tab column gs ≤ column + 100 * length ys) (λ column. omega arith)
         (λ ys b rest column.
-        let r = rest (columnBehind tab column (glyph glue ys)) in
+        let r = rest (columnBehind tab column (glyph ys)) in
         let d = length-drop (b .n) ys in
-        omega (arith, column-near column (glyph glue ys) (glyph-narrow glue ys), b .some, b .within))
+        omega (arith, column-near column (glyph ys) (glyph-narrow ys), b .some, b .within))
+
+    pub columns-near : (glue : Bool) (line : List ℕ) (column : ℕ) → columnsOf tab column (glyphs glue line) ≤ column + 100 * length line
+    columns-near glue line column = rw (glyphs-settle glue line, columns-settle glue tab column false (characters line)) (characters-near line column)
 
 -- ---- a line's glyphs parted
 
--- the second part stands behind the bytes of the first
-pub record Parted (glue : Bool) (line : List ℕ) (gs a b : List Glyph) : Type 0 where
-  pub rest : glyphs glue (drop (extent a) line) ≡ b
-  pub place : glyphsFrom (extent a) gs ≡ b
+-- the second part of a line's characters stands behind the bytes of the first
+parted-none : (a b : List Glyph) → a ++ b ≡ [] → characters (drop {A = ℕ} (extent a) []) ≡ b
+unfolding extent
+parted-none [] b e = characters-past [] 0 (omega arith) ∙ sym e
+parted-none (g ∷ a) b e = absurd (let z : _≡_ {A = ℕ} 0 1 = cc in omega arith)
 
-module _ (glue : Bool) where
-  first-glyph : (ys : List ℕ) (b : Bytes glue ys) → glyphs glue ys ≡ glyph glue ys ∷ glyphs glue (drop (b .n) ys)
-  first-glyph ys b =
-      let e : 0 + length (glyph glue ys .bytes) ≡ b .n = omega (arith, b .count) in
-      rw e at (glyphs-first glue ys 0 (omega (arith, b .some, b .within)))
+parted-more : (ys : List ℕ) (n : Bytes ys) → ((a b : List Glyph) → a ++ b ≡ characters (drop (n .n) ys) → characters (drop (extent a) (drop (n .n) ys)) ≡ b)
+    → (a b : List Glyph) → a ++ b ≡ glyph ys ∷ characters (drop (n .n) ys) → characters (drop (extent a) ys) ≡ b
+unfolding extent
+parted-more ys n rest [] b e = characters-step ys n ∙ sym e
+parted-more ys n rest (g ∷ a) b e =
+    let q : g ≡ glyph ys = cc in
+    let l : length (g .bytes) ≡ n .n = rw q (n .count) in
+    rw (l, ← drop-drop (extent a) (n .n) ys) (rest a b cc)
 
-  parted-none : (a b : List Glyph) → a ++ b ≡ [] → Parted glue [] [] a b
-  unfolding extent
-  parted-none [] b e = record { rest = glyphs-past glue [] 0 (omega arith) ∙ sym e; place = from-zero [] ∙ sym e }
-  parted-none (g ∷ a) b e = absurd (let z : _≡_ {A = ℕ} 0 1 = cc in omega arith)
+characters-parted : (line : List ℕ) (a b : List Glyph) → a ++ b ≡ characters line → characters (drop (extent a) line) ≡ b
+characters-parted = characters-induct (λ ys gs. (a b : List Glyph) → a ++ b ≡ gs → characters (drop (extent a) ys) ≡ b) parted-none parted-more
 
-  parted-more : (ys : List ℕ) (n : Bytes glue ys) → ((a b : List Glyph) → a ++ b ≡ glyphs glue (drop (n .n) ys) → Parted glue (drop (n .n) ys) (glyphs glue (drop (n .n) ys)) a b)
-      → (a b : List Glyph) → a ++ b ≡ glyph glue ys ∷ glyphs glue (drop (n .n) ys) → Parted glue ys (glyph glue ys ∷ glyphs glue (drop (n .n) ys)) a b
-  unfolding extent
-  parted-more ys n rest [] b e = record { rest = first-glyph ys n ∙ sym e; place = from-zero _ ∙ sym e }
-  parted-more ys n rest (g ∷ a) b e =
-      let q : g ≡ glyph glue ys = cc in
-      let r = rest a b (cc) in
-      let l : length (g .bytes) ≡ n .n = rw q (n .count) in
-      let k : (n .n + extent a) - length (glyph glue ys .bytes) ≡ extent a = omega (arith, n .count) in
-      record {
-        rest = rw (l, ← drop-drop (extent a) (n .n) ys) (r .rest);
-        place = rw (l, from-more (n .n + extent a) (glyph glue ys) (glyphs glue (drop (n .n) ys)) (omega (arith, n .some)), k) (r .place);
-      }
-
-  pub parted : (line : List ℕ) (a b : List Glyph) → a ++ b ≡ glyphs glue line → Parted glue line (glyphs glue line) a b
-  parted = glyphs-induct glue (λ ys gs. (a b : List Glyph) → a ++ b ≡ gs → Parted glue ys gs a b) parted-none parted-more
+-- and so does that of its glyphs, classed by whether ink stands before it
+pub parted : (glue : Bool) (line : List ℕ) (a b : List Glyph) → a ++ b ≡ glyphs glue line → (ink : Bool) × (b ≡ settle glue ink (characters (drop (extent a) line)))
+parted glue line a b e =
+    let c = settle-cut glue false (characters line) a b (e ∙ glyphs-settle glue line) in
+    let p = characters-parted line (c .front) (c .back) (c .whole) in
+    (inkAfter false (c .front), c .rest ∙ ap (settle glue (inkAfter false (c .front))) (sym p ∙ ap (λ (n : ℕ). characters (drop n line)) (c .same)))

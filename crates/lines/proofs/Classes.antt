@@ -9,18 +9,21 @@ use lib.ListN.{length}
 use lib.Seq.{slice}
 use borrow.Author.Tests.{eq-eqb, ne-eqb}
 use Rattle.lists.specs.Runs.{while, every}
-use Rattle.text.specs.Characters.{Glyph, glyphs, isBlank, isGood, extent}
+use Rattle.text.specs.Characters.{Glyph, characters, glyphs, isBlank, isGood, extent}
+use Rattle.text.specs.Contracts.Places.{settle}
 use Rattle.text.specs.declared.Found.{Found}
 use Rattle.text.specs.declared.Found.the-variants.{At, Nowhere}
+use Rattle.text.proofs.Glue.{glyphs-settle}
 use Rattle.options.specs.Opts.{Opts, Text, absent, given, textOf}
 use Rattle.options.specs.declared.Part.{Part}
 use Rattle.options.specs.declared.Part.the-variants.{Given}
 use Rattle.lines.specs.Classes.{glyphsBefore, glyphsFrom, columnsOf, search, prefixFound, prefixSize, skipFound, somewhere, shapeAt, classBehind, classify}
-use Rattle.lines.specs.Contracts.Places.{lineStart, behindAll, classAt, BehindBlanks, BehindPlace}
+use Rattle.lines.specs.Contracts.Places.{lineStart, behindAll, classAt, BehindBlanks, BehindPlace, inkBefore, glyphsBehind}
 use Rattle.lines.specs.declared.Spot.{Spot}
 use Rattle.lines.specs.declared.Shape.{Shape}
 use Rattle.lines.specs.declared.Class.{Class}
 use Rattle.lines.specs.declared.Class.the-variants.{Blank, Plain, Formatted}
+use Rattle.lines.proofs.Glued.{before-settle, from-settle}
 use Rattle.lines.proofs.Measures.{behind-none, behind-append, upTo-zero, from-zero}
 
 -- ---- shapes
@@ -50,9 +53,17 @@ shape-bare tab gs r e = shape-is tab 0 gs 0 lineStart r (rw upTo-zero (behind-no
 
 -- a prefix that is found, and the spots at its end and behind the blanks there
 module _ (glue : Bool) (tab size place : ℕ) (line : List ℕ) (m r : Spot) (f : Found)
-    (found : f ≡ At place) (b : BehindPlace glue tab line (place + size) m) (w : BehindBlanks glue tab line m r) where
+    (found : f ≡ At place) (b : BehindPlace tab line (place + size) m) (w : BehindBlanks tab line (glyphsBehind glue line (place + size) (m .at)) m r) where
+  -- the line's glyphs before the prefix's end, and from it on
+  spot-before : m ≡ behindAll tab lineStart (glyphsBefore (place + size) (glyphs glue line))
+  spot-before = b .spot ∙ sym (before-settle glue tab lineStart (place + size) false (characters line)) ∙ ap (λ (gs : List Glyph). behindAll tab lineStart (glyphsBefore (place + size) gs)) (sym (glyphs-settle glue line))
+
+  rest : glyphsBehind glue line (place + size) (m .at) ≡ glyphsFrom (place + size) (glyphs glue line)
+  unfolding inkBefore
+  rest = ap (settle glue (inkBefore (place + size) line)) (b .rest) ∙ sym (from-settle glue (place + size) false (characters line)) ∙ ap (glyphsFrom (place + size)) (sym (glyphs-settle glue line))
+
   blank-behind : every isBlank (glyphsFrom (place + size) (glyphs glue line)) ≡ eqb (r .at) (length line)
-  blank-behind = rw (← b .rest) (w .blank)
+  blank-behind = rw (← rest) (w .blank)
 
   pub class-ended : r .at ≡ length line → Plain ≡ classAt tab size (glyphs glue line) f
   class-ended h = rw (found, blank-behind, eq-eqb (r .at) (length line) h)
@@ -61,7 +72,7 @@ module _ (glue : Bool) (tab size place : ℕ) (line : List ℕ) (m r : Spot) (f 
       → Formatted (record { «prefix_place» = place; «indent_end» = r .at; «indent_length» = r .column; «prefix_length» = m .column }) ≡ classAt tab size (glyphs glue line) f
   class-shaped h =
       rw (found, blank-behind, ne-eqb (r .at) (length line) h)
-      (ap Formatted (shape-is tab size (glyphs glue line) place m r (b .spot) (rw (b .rest) at (w .spot))))
+      (ap Formatted (shape-is tab size (glyphs glue line) place m r spot-before (rw rest at (w .spot))))
 
 module _ (o : Opts) (line : List ℕ) where
   pub class-blank : every isBlank (glyphs (o .glue) line) ≡ true → Blank ≡ classify o line

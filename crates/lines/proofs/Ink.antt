@@ -11,10 +11,10 @@ use Rattle.lists.specs.Runs.{while, behind, every}
 use Rattle.lists.specs.Theorems.All.{All}
 use Rattle.lists.proofs.Parts.{while-behind, every-nil, every-behind}
 use Rattle.lists.proofs.All.{all-front}
-use Rattle.lists.proofs.Walk.{each-nil}
-use Rattle.text.specs.Characters.{Glyph, glyph, glyphs, isBlank, isGood, extent}
+use Rattle.text.specs.Characters.{Glyph, glyphs, isBlank, isGood, extent}
 use Rattle.text.proofs.Extents.{Sound, glyphs-sound}
 use Rattle.text.proofs.Blanks.{damaged-ink}
+use Rattle.text.proofs.Edges.{glyphs-past}
 use Rattle.text.specs.declared.Found.{Found}
 use Rattle.text.specs.declared.Found.the-variants.{At, Nowhere}
 use Rattle.options.specs.Opts.{Opts}
@@ -23,12 +23,12 @@ use Rattle.lines.specs.declared.Shape.{Shape}
 use Rattle.lines.specs.declared.Class.the-variants.{Blank, Plain, Formatted}
 
 pub empty-blank : (o : Opts) → classify o [] ≡ Blank
-unfolding classify glyphs
-empty-blank o = rw (each-nil (λ xs. length (glyph (o .glue) xs .bytes) - 1) (glyph (o .glue)), every-nil isBlank)
+unfolding classify
+empty-blank o = rw (glyphs-past (o .glue) [] 0 (omega arith), every-nil isBlank)
 
 pub damaged-plain : (o : Opts) (line : List ℕ) → every isGood (glyphs (o .glue) line) ≡ false → classify o line ≡ Plain
 unfolding classify
-damaged-plain o line e = rw (damaged-ink (o .glue) (glyphs (o .glue) line) (glyphs-sound (o .glue) line) e, e)
+damaged-plain o line e = rw (damaged-ink (glyphs (o .glue) line) (glyphs-sound (o .glue) line) e, e)
 
 -- ---- the glyphs before a place and from it on
 
@@ -50,13 +50,13 @@ from-start [] = refl
 from-start (g ∷ gs) = refl
 
 -- from where some glyphs end: the glyphs behind them
-from-extent : (glue : Bool) (front rest : List Glyph) → All (Sound glue) front → glyphsFrom (extent front) (front ++ rest) ≡ rest
+pub from-extent : (front rest : List Glyph) → All Sound front → glyphsFrom (extent front) (front ++ rest) ≡ rest
 unfolding extent glyphsFrom
-from-extent glue [] rest s = from-start rest
-from-extent glue (g ∷ front) rest s =
+from-extent [] rest s = from-start rest
+from-extent (g ∷ front) rest s =
     let h = s .0 .some in
     let k : length (g .bytes) + extent front - length (g .bytes) ≡ extent front = omega arith in
-    rw (glyphsFrom, ne-eqb (length (g .bytes) + extent front) 0 (λ e. omega arith), k) (from-extent glue front rest (s .1))
+    rw (glyphsFrom, ne-eqb (length (g .bytes) + extent front) 0 (λ e. omega arith), k) (from-extent front rest (s .1))
 
 -- ---- a formatted line
 
@@ -69,8 +69,8 @@ from-indent o line place =
     let end = place + prefixSize (o .prefix) in
     let rest = glyphsFrom end gs in
     let parts : glyphsBefore end gs ++ while isBlank rest ++ behind isBlank rest ≡ gs = append-assoc (glyphsBefore end gs) (while isBlank rest) (behind isBlank rest) ∙ rw while-behind (upTo-from end gs) in
-    let sound : All (Sound (o .glue)) (glyphsBefore end gs ++ while isBlank rest) = all-front _ (glyphsBefore end gs ++ while isBlank rest) (behind isBlank rest) (rw parts (glyphs-sound (o .glue) line)) in
-    ap (glyphsFrom (extent (glyphsBefore end gs ++ while isBlank rest))) (sym parts) ∙ from-extent (o .glue) _ (behind isBlank rest) sound
+    let sound : All Sound (glyphsBefore end gs ++ while isBlank rest) = all-front _ (glyphsBefore end gs ++ while isBlank rest) (behind isBlank rest) (rw parts (glyphs-sound (o .glue) line)) in
+    ap (glyphsFrom (extent (glyphsBefore end gs ++ while isBlank rest))) (sym parts) ∙ from-extent _ (behind isBlank rest) sound
 
 pub formatted-ink : (o : Opts) (line : List ℕ) (s : Shape) → classify o line ≡ Formatted s
     → (every isBlank (glyphs (o .glue) line) ≡ false) × (every isBlank (glyphsFrom (s .«indent_end») (glyphs (o .glue) line)) ≡ false)

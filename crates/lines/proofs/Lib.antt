@@ -3,6 +3,8 @@ pub mod Extents
 pub mod Ink
 pub mod Lines
 pub mod Measures
+pub mod Glued
+pub mod InkBefore
 pub mod Turns
 pub mod Same
 pub mod Prefixes

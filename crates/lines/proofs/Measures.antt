@@ -10,8 +10,9 @@ use lib.ListN.{length, drop}
 use borrow.Author.Tests.{eq-eqb, ne-eqb}
 use Rattle.lists.specs.Runs.{while, every}
 use Rattle.lists.proofs.Runs.{while-more, every-more}
-use Rattle.text.specs.Characters.{widthOf, Glyph, glyph, glyphs, isBlank, extent}
+use Rattle.text.specs.Characters.{widthOf, Glyph, glyph, characters, glyphs, isBlank, extent}
 use Rattle.text.proofs.Glyphs.{Here, DamagedHere}
+use Rattle.text.proofs.Edges.{blank-on}
 use Rattle.lines.specs.Classes.{glyphsBefore, glyphsFrom, nextStop, columnBehind, columnsOf}
 use Rattle.lines.specs.Contracts.Places.{Inside, behindAll, Behind}
 use Rattle.lines.specs.declared.Spot.{Spot}
@@ -43,7 +44,7 @@ pub behind-none : (tab : ℕ) (m : Spot) → m ≡ behindAll tab m []
 unfolding behindAll extent columnsOf
 behind-none tab m = ap (λ (n : ℕ). record { at = n; column = m .column }) (omega arith)
 
-behind-cons : (tab : ℕ) (m r : Spot) (g : Glyph) (gs : List Glyph) → m .at + length (g .bytes) ≡ r .at → columnBehind tab (m .column) g ≡ r .column → behindAll tab m (g ∷ gs) ≡ behindAll tab r gs
+pub behind-cons : (tab : ℕ) (m r : Spot) (g : Glyph) (gs : List Glyph) → m .at + length (g .bytes) ≡ r .at → columnBehind tab (m .column) g ≡ r .column → behindAll tab m (g ∷ gs) ≡ behindAll tab r gs
 unfolding behindAll extent columnsOf
 behind-cons tab m r g gs p c = rw c (ap (λ (n : ℕ). record { at = n; column = columnsOf tab (r .column) gs }) (omega arith))
 
@@ -76,10 +77,10 @@ module _ (place : ℕ) (g : Glyph) (gs : List Glyph) (some : 0 < place) where
 
 -- ---- one glyph on: r is the spot behind the glyph at m
 
-module _ (glue : Bool) (tab : ℕ) (line : List ℕ) (m r : Spot) (ins : Inside line m) where
+module _ (tab : ℕ) (line : List ℕ) (m r : Spot) (ins : Inside line m) where
   -- from the answer of char_at or glyph_at and of column_behind
-  pub behind-char : {blank : Bool} {code : ℕ} → Here glue blank line (m .at) code (r .at)
-      → r .column ≡ cond (eqb code 9) (nextStop tab (m .column)) (m .column + widthOf code) → r .column ≤ m .column + 100 → Behind glue tab line m r
+  pub behind-char : {blank : Bool} {code : ℕ} → Here blank line (m .at) code (r .at)
+      → r .column ≡ cond (eqb code 9) (nextStop tab (m .column)) (m .column + widthOf code) → r .column ≤ m .column + 100 → Behind tab line m r
   unfolding columnBehind
   behind-char {blank} {code} h e k = record {
     on = h .on;
@@ -89,7 +90,7 @@ module _ (glue : Bool) (tab : ℕ) (line : List ℕ) (m r : Spot) (ins : Inside 
     column = rw (h .hasCode, h .hasWidth) (sym e);
   }
 
-  pub behind-damaged : DamagedHere glue line (m .at) → m .at < length line → r .at ≡ m .at + 1 → r .column ≡ m .column + 1 → Behind glue tab line m r
+  pub behind-damaged : DamagedHere line (m .at) → m .at < length line → r .at ≡ m .at + 1 → r .column ≡ m .column + 1 → Behind tab line m r
   unfolding columnBehind
   behind-damaged h k p e = record {
     on = omega arith;
@@ -99,23 +100,23 @@ module _ (glue : Bool) (tab : ℕ) (line : List ℕ) (m r : Spot) (ins : Inside 
     column = rw (h .hasCode, h .hasWidth) (sym e);
   }
 
-module _ (glue : Bool) (tab : ℕ) (line : List ℕ) (m r : Spot) (st : Behind glue tab line m r) where
-  past : (gs : List Glyph) → behindAll tab m (glyph glue (drop (m .at) line) ∷ gs) ≡ behindAll tab r gs
-  past gs = behind-cons tab m r (glyph glue (drop (m .at) line)) gs (omega (arith, st .count, st .on)) (st .column)
+module _ (tab : ℕ) (line : List ℕ) (m r : Spot) (st : Behind tab line m r) where
+  past : (gs : List Glyph) → behindAll tab m (glyph (drop (m .at) line) ∷ gs) ≡ behindAll tab r gs
+  past gs = behind-cons tab m r (glyph (drop (m .at) line)) gs (omega (arith, st .count, st .on)) (st .column)
 
-  pub blanks-on : glyph glue (drop (m .at) line) .blank ≡ true
-      → behindAll tab m (while isBlank (glyphs glue (drop (m .at) line))) ≡ behindAll tab r (while isBlank (glyphs glue (drop (r .at) line)))
-  blanks-on b = rw (st .first, while-more isBlank (glyph glue (drop (m .at) line)) (glyphs glue (drop (r .at) line)) b) (past _)
+  module _ (glue : Bool) {code : ℕ} (h : Here true line (m .at) code (r .at)) where
+    pub blanks-on : behindAll tab m (while isBlank (glyphs glue (drop (m .at) line))) ≡ behindAll tab r (while isBlank (glyphs glue (drop (r .at) line)))
+    blanks-on = rw (blank-on glue line (m .at) h, while-more isBlank (glyph (drop (m .at) line)) (glyphs glue (drop (r .at) line)) (h .isBlank)) (past _)
 
-  pub every-on : glyph glue (drop (m .at) line) .blank ≡ true → every isBlank (glyphs glue (drop (m .at) line)) ≡ every isBlank (glyphs glue (drop (r .at) line))
-  every-on b = rw (st .first) (every-more isBlank _ _ b)
+    pub every-on : every isBlank (glyphs glue (drop (m .at) line)) ≡ every isBlank (glyphs glue (drop (r .at) line))
+    every-on = rw (blank-on glue line (m .at) h) (every-more isBlank _ _ (h .isBlank))
 
   module _ (place : ℕ) (h : m .at < place) where
-    less : (place - m .at) - length (glyph glue (drop (m .at) line) .bytes) ≡ place - r .at
+    less : (place - m .at) - length (glyph (drop (m .at) line) .bytes) ≡ place - r .at
     less = omega (arith, st .count, st .on)
 
-    pub upTo-on : behindAll tab m (glyphsBefore (place - m .at) (glyphs glue (drop (m .at) line))) ≡ behindAll tab r (glyphsBefore (place - r .at) (glyphs glue (drop (r .at) line)))
-    upTo-on = rw (st .first, upTo-more (place - m .at) (glyph glue (drop (m .at) line)) (glyphs glue (drop (r .at) line)) (omega arith), less) (past _)
+    pub upTo-on : behindAll tab m (glyphsBefore (place - m .at) (characters (drop (m .at) line))) ≡ behindAll tab r (glyphsBefore (place - r .at) (characters (drop (r .at) line)))
+    upTo-on = rw (st .first, upTo-more (place - m .at) (glyph (drop (m .at) line)) (characters (drop (r .at) line)) (omega arith), less) (past _)
 
-    pub from-on : glyphsFrom (place - m .at) (glyphs glue (drop (m .at) line)) ≡ glyphsFrom (place - r .at) (glyphs glue (drop (r .at) line))
-    from-on = rw (st .first, from-more (place - m .at) (glyph glue (drop (m .at) line)) (glyphs glue (drop (r .at) line)) (omega arith), less)
+    pub from-on : glyphsFrom (place - m .at) (characters (drop (m .at) line)) ≡ glyphsFrom (place - r .at) (characters (drop (r .at) line))
+    from-on = rw (st .first, from-more (place - m .at) (glyph (drop (m .at) line)) (characters (drop (r .at) line)) (omega arith), less)

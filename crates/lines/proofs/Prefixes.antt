@@ -11,7 +11,8 @@ use Rattle.lists.proofs.Runs.{while-more}
 use Rattle.lists.proofs.RunsAt.{begins-within}
 use Rattle.text.specs.Characters.{Glyph, glyph, glyphs, isBlank}
 use Rattle.text.specs.declared.Found.the-variants.{At, Nowhere}
-use Rattle.text.proofs.Glyphs.{Here, glyphs-joined}
+use Rattle.text.proofs.Glyphs.{Here}
+use Rattle.text.proofs.Edges.{glyphs-joined, blank-on}
 use Rattle.lines.specs.Classes.{search}
 
 module _ (p xs : List ℕ) (place : ℕ) where
@@ -44,12 +45,12 @@ module _ (p xs : List ℕ) (place : ℕ) where
       pick false b = search-first exact g gs h (rw b)
 
 -- one blank on
-pub search-on : (exact glue : Bool) (p line : List ℕ) (at code next : ℕ) → Here glue true line at code next → begins p (drop at line) ≡ false → exact ≡ false
+pub search-on : (exact glue : Bool) (p line : List ℕ) (at code next : ℕ) → Here true line at code next → begins p (drop at line) ≡ false → exact ≡ false
     → search exact p (drop at line) at (glyphs glue (drop at line)) ≡ search exact p (drop next line) next (glyphs glue (drop next line))
 search-on exact glue p line at code next g h f =
     let e : at + (next - at) ≡ next = omega (arith, g .on) in
-    let b : (glyph glue (drop at line) .blank && not exact) ≡ true = rw (g .isBlank, f) in
-    rw (g .first, search-more p (drop at line) at exact (glyph glue (drop at line)) (glyphs glue (drop next line)) h b, g .count, drop-drop (next - at) at line, e)
+    let b : (glyph (drop at line) .blank && not exact) ≡ true = rw (g .isBlank, f) in
+    rw (blank-on glue line at g, search-more p (drop at line) at exact (glyph (drop at line)) (glyphs glue (drop next line)) h b, g .count, drop-drop (next - at) at line, e)
 
 -- a prefix that is found ends within the line
 module _ (exact : Bool) (p : List ℕ) (q : ℕ) where

@@ -1,8 +1,8 @@
 -- For callers: what is known of a formatted line. Its prefix and its indent lie in the line, its columns are small, and at the indent's
 -- end stands a character that is not blank.
-use mathlib.Core.Path.{_≡_, refl, sym, _∙_}
+use mathlib.Core.Path.{_≡_, refl, sym, ap, _∙_}
 use mathlib.Core.Bool.{Bool, true, false, cond, _||_}
-use mathlib.Core.List.{List, _∷_, _++_, append-assoc}
+use mathlib.Core.List.{List, [], _∷_, _++_, append-assoc}
 use Prim.Native.Nat.{ℕ, _+_, _-_, _*_, _≤_, _<_}
 use native.Mathlib.Omega.{arith}
 use lib.Dec.{ltb}
@@ -10,18 +10,25 @@ use lib.ListN.{length, drop}
 use borrow.Author.Tests.{ltb-true, ltb-false}
 use Rattle.lists.specs.Runs.{while, behind, every}
 use Rattle.lists.proofs.RunsAt.{behind-first}
+use Rattle.lists.specs.Theorems.All.{All}
+use Rattle.lists.proofs.All.{all-front}
+use Rattle.lists.proofs.Runs.{while-end}
 use Rattle.lists.proofs.Parts.{while-behind}
-use Rattle.text.specs.Characters.{Glyph, glyph, glyphs, isBlank, isGood, extent}
+use Rattle.text.specs.Characters.{Glyph, characters, glyphs, isBlank, isGood, extent}
+use Rattle.text.specs.Contracts.Places.{settle, inkGlyphs}
 use Rattle.text.specs.declared.Found.{Found}
 use Rattle.text.specs.declared.Found.the-variants.{At, Nowhere}
-use Rattle.text.proofs.Glyphs.{glyphs-past, glyphs-first}
+use Rattle.text.proofs.Glyphs.{characters-past}
+use Rattle.text.proofs.Glue.{settle-none}
+use Rattle.text.proofs.Extents.{Sound, glyphs-sound}
+use Rattle.text.proofs.Edges.{ink-stands}
 use Rattle.options.specs.Opts.{Opts, Text, absent, given}
 use Rattle.lines.specs.Classes.{glyphsBefore, glyphsFrom, prefixFound, prefixSize, skipFound, somewhere, shapeAt, classBehind, classify}
 use Rattle.lines.specs.declared.Shape.{Shape}
 use Rattle.lines.specs.declared.Class.the-variants.{Blank, Plain, Formatted}
 use Rattle.lines.proofs.Prefixes.{search-within}
 use Rattle.lines.proofs.Bounds.{columns-front, columns-near, parted}
-use Rattle.lines.proofs.Ink.{upTo-from}
+use Rattle.lines.proofs.Ink.{upTo-from, from-extent}
 
 -- what a formatted line was found to be
 record Formed (o : Opts) (line : List ℕ) (s : Shape) : Type 0 where
@@ -70,13 +77,15 @@ module _ (o : Opts) (line : List ℕ) (s : Shape) where
   prefix-within absent at e = let z : 0 ≡ at = cc in omega arith
   prefix-within (given p) at e = omega (arith, search-within (o .exactPrefix) (o .glue) p line 0 at e)
 
--- the first of the glyphs at a place stands there
-first-is : (glue : Bool) (line : List ℕ) (at : ℕ) (g : Glyph) (gs : List Glyph) → glyphs glue (drop at line) ≡ g ∷ gs → (at < length line) × (glyph glue (drop at line) ≡ g)
-first-is glue line at g gs e = pick (ltb at (length line)) refl
+-- where a glyph stands, the line goes on
+first-within : (glue ink : Bool) (line : List ℕ) (at : ℕ) (g : Glyph) (gs : List Glyph) → settle glue ink (characters (drop at line)) ≡ g ∷ gs → at < length line
+first-within glue ink line at g gs e = pick (ltb at (length line)) refl
   where
-    pick : (t : Bool) → ltb at (length line) ≡ t → (at < length line) × (glyph glue (drop at line) ≡ g)
-    pick true k = let f = glyphs-first glue line at (ltb-true at (length line) k) in (ltb-true at (length line) k, cc)
-    pick false k = let f = glyphs-past glue line at (ltb-false at (length line) k) in absurd (let z : _≡_ {A = ℕ} 0 1 = cc in omega arith)
+    pick : (t : Bool) → ltb at (length line) ≡ t → at < length line
+    pick true k = ltb-true at (length line) k
+    pick false k =
+        let f = sym (settle-none glue ink) ∙ ap (settle glue ink) (sym (characters-past line at (ltb-false at (length line) k))) ∙ e in
+        absurd (let z : _≡_ {A = ℕ} 0 1 = cc in omega arith)
 
 -- what callers may know of it
 pub record Known (o : Opts) (line : List ℕ) (s : Shape) : Type 0 where
@@ -85,8 +94,8 @@ pub record Known (o : Opts) (line : List ℕ) (s : Shape) : Type 0 where
   pub columns : s .«indent_length» ≤ 100 * length line
   pub margin : s .«prefix_length» ≤ s .«indent_length»
   pub good : every isGood (glyphs (o .glue) line) ≡ true
-  pub rest : glyphsFrom (s .«indent_end») (glyphs (o .glue) line) ≡ glyphs (o .glue) (drop (s .«indent_end») line)
-  pub ink : glyph (o .glue) (drop (s .«indent_end») line) .blank ≡ false
+  pub rest : glyphsFrom (s .«indent_end») (glyphs (o .glue) line) ≡ inkGlyphs (o .glue) (drop (s .«indent_end») line)
+  pub ink : while isBlank (inkGlyphs (o .glue) (drop (s .«indent_end») line)) ≡ []
 
 -- the same of the definition's shape
 module _ (o : Opts) (least : 1 ≤ o .tab) (most : o .tab ≤ 100) (line : List ℕ) (at : ℕ) (good : every isGood (glyphs (o .glue) line) ≡ true)
@@ -103,15 +112,17 @@ module _ (o : Opts) (least : 1 ≤ o .tab) (most : o .tab ≤ 100) (line : List 
       let f = behind-first isBlank (glyphsFrom end gs) text in
       let whole : indent ++ behindIndent ≡ gs = append-assoc margin (while isBlank (glyphsFrom end gs)) behindIndent ∙ rw (while-behind isBlank (glyphsFrom end gs)) (upTo-from end gs) in
       let p = parted (o .glue) line indent behindIndent whole in
-      let h = first-is (o .glue) line (extent indent) (f .0) (f .1) (p .rest ∙ f .2) in
+      let first = sym (p .1) ∙ f .2 in
+      let stands = ink-stands (o .glue) (p .0) (drop (extent indent) line) (f .0) (f .1) first (f .3) in
+      let sound : All Sound indent = all-front _ indent behindIndent (rw whole (glyphs-sound (o .glue) line)) in
       record {
         prefix = prefix-within o line (shapeAt (o .tab) (prefixSize (o .prefix)) gs at) (o .prefix) at found;
-        indent = h .0;
+        indent = first-within (o .glue) (p .0) line (extent indent) (f .0) (f .1) first;
         columns = omega (arith, rw whole at (columns-front (o .tab) least 0 indent behindIndent), columns-near (o .tab) least most (o .glue) line 0);
         margin = columns-front (o .tab) least 0 margin (while isBlank (glyphsFrom end gs));
         good = good;
-        rest = p .place ∙ sym (p .rest);
-        ink = rw (h .1) (f .3);
+        rest = ap (glyphsFrom (extent indent)) (sym whole) ∙ from-extent indent behindIndent sound ∙ p .1 ∙ stands;
+        ink = ap (while isBlank) (sym stands ∙ first) ∙ while-end isBlank (f .0) (f .1) (f .3);
       }
 
 -- from the answer of classify

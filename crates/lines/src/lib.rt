@@ -9,7 +9,7 @@ ghost use Rattle.text.specs.Characters.{widthOf, glyphs, isBlank};
 ghost use Rattle.options.specs.Opts.{textOf, meant};
 ghost use Rattle.lines.specs.Lines.{body, withoutReturn, firstLine};
 ghost use Rattle.lines.specs.Classes.{nextStop, search, skipFound, somewhere, classify};
-ghost use Rattle.lines.specs.Contracts.Places.{lengthsOf, Lies, Usable, Inside, classAt, Behind, BehindBlanks, BehindPlace};
+ghost use Rattle.lines.specs.Contracts.Places.{lengthsOf, Lies, Usable, Inside, classAt, Behind, BehindBlanks, BehindPlace, inkBefore, glyphsBehind, gluedAt};
 use options::Options;
 use options::Part;
 use text::Char;
@@ -195,20 +195,20 @@ pub fn classify(line: &[u8], o: Options, block: &[u8]) -> Class
     let tab = o.tab;
     let glue = o.glue;
     // No columns yet: a blank line has no use for them.
-    if is_all_blank(line, glue) {
+    if is_all_blank(line) {
         return Class::Blank;
     }
     let Found::Nowhere = text::first_damage(line) else {
         return Class::Plain;
     };
     let skip = o.skip;
-    if is_skipped(line, skip, o.exact_skip, block, glue) {
+    if is_skipped(line, skip, o.exact_skip, block) {
         return Class::Plain;
     }
     let prefix = o.prefix;
     // Without a prefix the indent is the line's first blanks.
     let Part::Given { start, end } = prefix else {
-        let lead = over_blanks(line, Spot { at: 0, column: 0 }, tab, glue);
+        let lead = over_blanks(line, Spot { at: 0, column: 0 }, tab);
         return Class::Formatted(Shape {
             prefix_place: 0,
             indent_end: lead.at,
@@ -220,20 +220,20 @@ pub fn classify(line: &[u8], o: Options, block: &[u8]) -> Class
 }
 
 // Whether nothing but blanks stands in a line. A byte below 0x80, as most are, is a character by itself.
-fn is_all_blank(line: &[u8], glue: bool) -> bool
-    ensures { λ r. ⌜ r ≡ every isBlank (glyphs glue (now (line .entry))) ⌝ }
+fn is_all_blank(line: &[u8]) -> bool
+    ensures { λ r. ⌜ ((glue : Bool) → r ≡ every isBlank (glyphs glue (now (line .entry)))) ⌝ }
 {
     let mut i = 0;
     while i < line.len() {
         let b = line[i];
         if b < 0x80 {
-            if text::is_blank(wide(b), glue) {
+            if text::is_blank(wide(b)) {
                 i += 1;
             } else {
                 return false;
             }
         } else {
-            let Glyph::Blank { code: _, next } = text::glyph_at(line, i, glue) else {
+            let Glyph::Blank { code: _, next } = text::glyph_at(line, i) else {
                 return false;
             };
             i = next;
@@ -254,11 +254,12 @@ fn behind_prefix(line: &[u8], p: &[u8], exact: bool, tab: usize, glue: bool) -> 
     requires { ⌜ (length (now line) ≤ 65536) × (1 ≤ tab) × (tab ≤ 100) ⌝ }
     ensures { λ r. ⌜ r ≡ classAt tab (length (now (p .entry))) (glyphs glue (now (line .entry))) (search exact (now (p .entry)) (now (line .entry)) 0 (glyphs glue (now (line .entry)))) ⌝ }
 {
-    let Found::At(place) = find(line, p, exact, glue) else {
+    let Found::At(place) = find(line, p, exact) else {
         return Class::Plain;
     };
-    let margin = measure_to(line, place + p.len(), tab);
-    let indent = over_blanks(line, margin, tab, glue);
+    let end = place + p.len();
+    let margin = measure_to(line, end, tab);
+    let indent = behind_margin(line, end, margin, tab, glue);
     let at = indent.at;
     if at == line.len() {
         return Class::Plain;
@@ -272,22 +273,22 @@ fn behind_prefix(line: &[u8], p: &[u8], exact: bool, tab: usize, glue: bool) -> 
 }
 
 // Whether a line begins with the skip prefix. One that is not given begins no line.
-fn is_skipped(line: &[u8], skip: Part, exact: bool, block: &[u8], glue: bool) -> bool
+fn is_skipped(line: &[u8], skip: Part, exact: bool, block: &[u8]) -> bool
     requires { ⌜ Lies (now block) skip ⌝ }
-    ensures { λ r. ⌜ r ≡ somewhere (skipFound exact (textOf (now (block .entry)) skip) (now (line .entry)) (glyphs glue (now (line .entry)))) ⌝ }
+    ensures { λ r. ⌜ ((glue : Bool) → r ≡ somewhere (skipFound exact (textOf (now (block .entry)) skip) (now (line .entry)) (glyphs glue (now (line .entry))))) ⌝ }
 {
     let Part::Given { start, end } = skip else {
         return false;
     };
-    match find(line, &block[start..end], exact, glue) {
+    match find(line, &block[start..end], exact) {
         Found::At(_) => true,
         Found::Nowhere => false,
     }
 }
 
 // Where a prefix stands: at the line's start or, unless exact, at the first place with only blanks before it.
-fn find(line: &[u8], p: &[u8], exact: bool, glue: bool) -> Found
-    ensures { λ r. ⌜ r ≡ search exact (now (p .entry)) (now (line .entry)) 0 (glyphs glue (now (line .entry))) ⌝ }
+fn find(line: &[u8], p: &[u8], exact: bool) -> Found
+    ensures { λ r. ⌜ ((glue : Bool) → r ≡ search exact (now (p .entry)) (now (line .entry)) 0 (glyphs glue (now (line .entry)))) ⌝ }
 {
     let mut i = 0;
     while !begins(p, &line[i..]) {
@@ -295,7 +296,7 @@ fn find(line: &[u8], p: &[u8], exact: bool, glue: bool) -> Found
             return Found::Nowhere;
         }
         // Nothing but blanks may stand before it; at the line's end none does.
-        let Glyph::Blank { code: _, next } = text::glyph_at(line, i, glue) else {
+        let Glyph::Blank { code: _, next } = text::glyph_at(line, i) else {
             return Found::Nowhere;
         };
         i = next;
@@ -303,15 +304,73 @@ fn find(line: &[u8], p: &[u8], exact: bool, glue: bool) -> Found
     Found::At(i)
 }
 
-// On from a spot over the blanks that stand there. None stands at the line's end.
-fn over_blanks(line: &[u8], from: Spot, tab: usize, glue: bool) -> Spot
+// On from the margin, which ends where the prefix does, over the blanks that stand there.
+fn behind_margin(line: &[u8], end: usize, margin: Spot, tab: usize, glue: bool) -> Spot
+    requires { ⌜ (end ≤ length (now line)) × Inside (now line) margin × (length (now line) ≤ 65536) × (1 ≤ tab) × (tab ≤ 100) ⌝ }
+    ensures { λ r. ⌜ BehindBlanks tab (now (line .entry)) (glyphsBehind glue (now (line .entry)) end (margin .at)) margin r ⌝ }
+{
+    if is_glued(line, end, margin.at, glue) {
+        return margin;
+    }
+    over_blanks(line, margin, tab)
+}
+
+// Whether an ordinary U+00A0 stands where the prefix ends, at a place: glue is on, and ink is behind the run of them and before the end.
+fn is_glued(line: &[u8], end: usize, at: usize, glue: bool) -> bool
+    requires { ⌜ (end ≤ length (now line)) × (at ≤ length (now line)) ⌝ }
+    ensures { λ r. ⌜ r ≡ gluedAt glue (now (line .entry)) end at ⌝ }
+{
+    if !glue {
+        return false;
+    }
+    if !text::is_no_break(line, at) {
+        return false;
+    }
+    if text::glued_end(line, at) == at {
+        return false;
+    }
+    has_ink_before(line, end)
+}
+
+// Whether the nearest character before a place, skipping U+00A0, is there and not a blank.
+fn has_ink_before(line: &[u8], place: usize) -> bool
+    requires { ⌜ place ≤ length (now line) ⌝ }
+    ensures { λ r. ⌜ r ≡ inkBefore place (now (line .entry)) ⌝ }
+{
+    let mut i = 0;
+    let mut ink = false;
+    while i < place {
+        if text::is_no_break(line, i) {
+            i += 2;
+        } else {
+            match text::glyph_at(line, i) {
+                Glyph::Ink { code: _, next } => {
+                    i = next;
+                    ink = true;
+                }
+                Glyph::Blank { code: _, next } => {
+                    i = next;
+                    ink = false;
+                }
+                Glyph::Damaged => {
+                    i += 1;
+                    ink = true;
+                }
+            }
+        }
+    }
+    ink
+}
+
+// On from a spot over the blanks that stand there; before ink U+00A0 is one whatever glue says. None stands at the line's end.
+fn over_blanks(line: &[u8], from: Spot, tab: usize) -> Spot
     requires { ⌜ Inside (now line) from × (length (now line) ≤ 65536) × (1 ≤ tab) × (tab ≤ 100) ⌝ }
-    ensures { λ r. ⌜ BehindBlanks glue tab (now (line .entry)) from r ⌝ }
+    ensures { λ r. ⌜ ((glue : Bool) → BehindBlanks tab (now (line .entry)) (glyphs glue (drop (from .at) (now (line .entry)))) from r) ⌝ }
 {
     let mut spot = from;
     loop {
         let at = spot.at;
-        let Glyph::Blank { code, next } = text::glyph_at(line, at, glue) else {
+        let Glyph::Blank { code, next } = text::glyph_at(line, at) else {
             return spot;
         };
         spot = Spot {
@@ -324,7 +383,7 @@ fn over_blanks(line: &[u8], from: Spot, tab: usize, glue: bool) -> Spot
 // The spot behind the characters that begin before a place.
 fn measure_to(line: &[u8], place: usize, tab: usize) -> Spot
     requires { ⌜ (place ≤ length (now line)) × (length (now line) ≤ 65536) × (1 ≤ tab) × (tab ≤ 100) ⌝ }
-    ensures { λ r. ⌜ Inside (now (line .entry)) r × ((glue : Bool) → BehindPlace glue tab (now (line .entry)) place r) ⌝ }
+    ensures { λ r. ⌜ Inside (now (line .entry)) r × BehindPlace tab (now (line .entry)) place r ⌝ }
 {
     let mut spot = Spot { at: 0, column: 0 };
     while spot.at < place {
@@ -336,7 +395,7 @@ fn measure_to(line: &[u8], place: usize, tab: usize) -> Spot
 // The spot behind the character at a spot. A damaged byte is one by itself.
 fn behind(line: &[u8], spot: Spot, tab: usize) -> Spot
     requires { ⌜ Inside (now line) spot × (spot .at < length (now line)) × (length (now line) ≤ 65536) × (1 ≤ tab) × (tab ≤ 100) ⌝ }
-    ensures { λ r. ⌜ ((glue : Bool) → Behind glue tab (now (line .entry)) spot r) ⌝ }
+    ensures { λ r. ⌜ Behind tab (now (line .entry)) spot r ⌝ }
 {
     let at = spot.at;
     let b = line[at];

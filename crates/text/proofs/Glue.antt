@@ -47,13 +47,14 @@ module _ (g : Glyph) (gs : List Glyph) where
   unfolding glued
   glued-other ink h = rw (h, glued)
 
-  pub behind-run : (ink : Bool) → noBreak g ≡ true → inkBehind ink g ≡ ink
-  unfolding inkBehind
-  behind-run ink h = rw (h, inkBehind)
+-- whether ink is before what follows a character
+pub behind-run : (ink : Bool) (g : Glyph) → noBreak g ≡ true → inkBehind ink g ≡ ink
+unfolding inkBehind
+behind-run ink g h = rw (h, inkBehind)
 
-  pub behind-other : (ink : Bool) → noBreak g ≡ false → inkBehind ink g ≡ not (g .blank)
-  unfolding inkBehind
-  behind-other ink h = rw (h, inkBehind)
+pub behind-other : (ink : Bool) (g : Glyph) → noBreak g ≡ false → inkBehind ink g ≡ not (g .blank)
+unfolding inkBehind
+behind-other ink g h = rw (h, inkBehind)
 
 -- one character more: it is itself or made ordinary, and the rest is behind it
 pub settle-first : (glue ink : Bool) (g : Glyph) (gs : List Glyph) → (t : Bool) × (settle glue ink (g ∷ gs) ≡ cond t (ordinary g) g ∷ settle glue (inkBehind ink g) gs)
@@ -62,8 +63,8 @@ settle-first false ink g gs = (false, refl)
 settle-first true ink g gs = pick (noBreak g) refl
   where
     pick : (n : Bool) → noBreak g ≡ n → (t : Bool) × (glued ink (g ∷ gs) ≡ cond t (ordinary g) g ∷ glued (inkBehind ink g) gs)
-    pick true h = (ink && inkAhead gs, rw (glued-run g gs ink h, behind-run g gs ink h))
-    pick false h = (false, rw (glued-other g gs ink h, behind-other g gs ink h))
+    pick true h = (ink && inkAhead gs, rw (glued-run g gs ink h, behind-run ink g h))
+    pick false h = (false, rw (glued-other g gs ink h, behind-other ink g h))
 
 module _ (glue : Bool) (g : Glyph) (gs : List Glyph) where
   -- another character than U+00A0 is itself
@@ -97,8 +98,8 @@ module _ (glue : Bool) (g : Glyph) (gs : List Glyph) where
   settle-edge = pick (noBreak g) refl
     where
       pick : (n : Bool) → noBreak g ≡ n → settle glue false (g ∷ gs) ≡ g ∷ settle glue (inkBehind false g) gs
-      pick true h = settle-still h ∙ ap (λ (t : Bool). g ∷ settle glue t gs) (sym (behind-run g gs false h))
-      pick false h = settle-other false h ∙ ap (λ (t : Bool). g ∷ settle glue t gs) (sym (behind-other g gs false h))
+      pick true h = settle-still h ∙ ap (λ (t : Bool). g ∷ settle glue t gs) (sym (behind-run false g h))
+      pick false h = settle-other false h ∙ ap (λ (t : Bool). g ∷ settle glue t gs) (sym (behind-other false g h))
 
   -- what is before another character than U+00A0 does not matter
   pub settle-start : noBreak g ≡ false → settle glue true (g ∷ gs) ≡ settle glue false (g ∷ gs)

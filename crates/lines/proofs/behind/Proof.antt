@@ -19,10 +19,10 @@ column-behind-requires : tie.Need-column-behind-requires
 column-behind-requires c κs = search needs
 
 returns : tie.Need-returns
-returns c glue =
+returns c =
     let p = c .before .before .before .before .before .pre in
-    let h = ascii-here glue _ _ (p .1) (c .before .before .if1 .taken) in
-    behind-char _ _ _ _ _ (p .0) h (rw (c .before .wide .ensures) at (c .column-behind .ensures .0)) (c .column-behind .ensures .1)
+    let h = ascii-here _ _ (p .1) (c .before .before .if1 .taken) in
+    behind-char _ _ _ _ (p .0) h (rw (c .before .wide .ensures) at (c .column-behind .ensures .0)) (c .column-behind .ensures .1)
 
 char-at-requires : tie.Need-char-at-requires
 char-at-requires c κs = search needs
@@ -40,19 +40,19 @@ add-t16 : tie.Need-add-t16
 add-t16 c = search needs
 
 returns-2 : tie.Need-returns-2
-returns-2 c glue =
+returns-2 c =
     let p = c .before .before .before .before .before .before .before .pre in
-    let b = char-damaged-here glue _ _ (p .1) (sym (c .before .before .before .char-at .ensures) ∙ c .before .enum-told .given .1) in
-    behind-damaged _ _ _ _ _ (p .0) b (p .1) refl refl
+    let b = char-damaged-here _ _ (p .1) (sym (c .before .before .before .char-at .ensures) ∙ c .before .enum-told .given .1) in
+    behind-damaged _ _ _ _ (p .0) b (p .1) refl refl
 
 column-behind-requires-2 : tie.Need-column-behind-requires-2
 column-behind-requires-2 c κs = search needs
 
 returns-3 : tie.Need-returns-3
-returns-3 c glue =
+returns-3 c =
     let p = c .before .before .before .before .before .before .before .before .pre in
-    let h = char-here glue _ _ _ _ (sym (c .before .before .before .before .char-at .ensures) ∙ c .before .before .code .given .1) in
-    behind-char _ _ _ _ _ (p .0) h (c .column-behind2 .ensures .0) (c .column-behind2 .ensures .1)
+    let h = char-here _ _ _ _ (sym (c .before .before .before .before .char-at .ensures) ∙ c .before .before .code .given .1) in
+    behind-char _ _ _ _ (p .0) h (c .column-behind2 .ensures .0) (c .column-behind2 .ensures .1)
 
 pub behind-spec : {M : Type 1} → statement M
 behind-spec =

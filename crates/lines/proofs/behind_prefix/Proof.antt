@@ -20,30 +20,32 @@ enum-told : tie.Need-enum-told
 enum-told c = search needs
 
 returns : tie.Need-returns
-returns c = rw (sym (c .before .before .find .ensures) ∙ c .enum-told .given .1)
+returns c = rw (sym (c .before .before .find .ensures (c .before .before .before .before .before .args .glue)) ∙ c .enum-told .given .1)
 
 -- the prefix ends within the line
 within : (c : tie.After-place) → c .place .given .0 .0 + length (now (c .before .before .before .before .before .args .p)) ≤ length (now (c .before .before .before .before .before .args .line))
-within c = omega (arith, search-within _ _ _ _ _ _ (sym (c .before .before .find .ensures) ∙ c .place .given .1))
+within c = omega (arith, search-within _ _ _ _ _ _ (sym (c .before .before .find .ensures (c .before .before .before .before .before .args .glue)) ∙ c .place .given .1))
 
-add-measure-to : tie.Need-add-measure-to
-add-measure-to c = omega (arith, within (c .before))
+add-end : tie.Need-add-end
+add-end c = omega (arith, within (c .before))
 
 measure-to-requires : tie.Need-measure-to-requires
 measure-to-requires c κs = let p = c .before .before .before .before .before .before .pre in (within (c .before), p .0, p .1, p .2)
 
-over-blanks-requires : tie.Need-over-blanks-requires
-over-blanks-requires c κs = search needs
+behind-margin-requires : tie.Need-behind-margin-requires
+behind-margin-requires c κs =
+    let p = c .before .before .before .before .before .before .before .pre in
+    (within (c .before .before), c .measure-to .ensures .0, p .0, p .1, p .2)
 
 returns-2 : tie.Need-returns-2
 returns-2 c =
     let k = c .before .before .before .before in
-    class-ended _ _ _ _ _ _ _ _ (sym (k .before .before .find .ensures) ∙ k .place .given .1) (c .before .before .measure-to .ensures .1 _) (c .before .over-blanks .ensures) (c .if1 .taken)
+    class-ended _ _ _ _ _ _ _ _ (sym (k .before .before .find .ensures _) ∙ k .place .given .1) (c .before .before .measure-to .ensures .1) (c .before .behind-margin .ensures) (c .if1 .taken)
 
 returns-3 : tie.Need-returns-3
 returns-3 c =
     let k = c .before .before .before .before in
-    class-shaped _ _ _ _ _ _ _ _ (sym (k .before .before .find .ensures) ∙ k .place .given .1) (c .before .before .measure-to .ensures .1 _) (c .before .over-blanks .ensures) (c .if1 .left)
+    class-shaped _ _ _ _ _ _ _ _ (sym (k .before .before .find .ensures _) ∙ k .place .given .1) (c .before .before .measure-to .ensures .1) (c .before .behind-margin .ensures) (c .if1 .left)
 
 pub behind-prefix-spec : {M : Type 1} → statement M
 behind-prefix-spec =
@@ -53,8 +55,8 @@ behind-prefix-spec =
     enum-known-place
     enum-told
     returns
-    add-measure-to
+    add-end
     measure-to-requires
-    over-blanks-requires
+    behind-margin-requires
     returns-2
     returns-3)

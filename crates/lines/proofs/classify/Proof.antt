@@ -19,7 +19,7 @@ is-all-blank-requires c κs = search needs
 
 returns : tie.Need-returns
 unfolding meant
-returns c = class-blank _ _ (sym (c .before .is-all-blank .ensures) ∙ c .if1 .taken)
+returns c = class-blank _ _ (sym (c .before .is-all-blank .ensures _) ∙ c .if1 .taken)
 
 first-damage-requires : tie.Need-first-damage-requires
 first-damage-requires c κs = search needs
@@ -32,7 +32,7 @@ enum-told-2 c = search needs
 
 -- the line is not blank
 ink : (c : tie.Else1) → every isBlank (glyphs (c .before .before .before .before .args .o .glue) (now (c .before .before .before .before .args .line))) ≡ false
-ink c = sym (c .before .is-all-blank .ensures) ∙ c .if1 .left
+ink c = sym (c .before .is-all-blank .ensures _) ∙ c .if1 .left
 
 returns-2 : tie.Need-returns-2
 unfolding meant
@@ -52,7 +52,7 @@ returns-3 : tie.Need-returns-3
 unfolding meant
 returns-3 c =
     let k = c .before .before in
-    class-skipped _ _ (ink (k .before .before .before)) (good k) (sym (c .before .is-skipped .ensures) ∙ c .if2 .taken)
+    class-skipped _ _ (ink (k .before .before .before)) (good k) (sym (c .before .is-skipped .ensures _) ∙ c .if2 .taken)
 
 enum-known-prefix : tie.Need-enum-known-prefix
 enum-known-prefix c = search needs
@@ -69,7 +69,7 @@ returns-4 c =
     let i = c .before .before .before in
     let k = i .before .before in
     let e = k .before .before .before in
-    class-bare _ _ (ink e) (good k) (sym (i .before .is-skipped .ensures) ∙ i .if2 .left) _ (rw (c .before .enum-told3 .given .1)) (c .over-blanks .ensures .spot)
+    class-bare _ _ (ink e) (good k) (sym (i .before .is-skipped .ensures _) ∙ i .if2 .left) _ (rw (c .before .enum-told3 .given .1)) (c .over-blanks .ensures _ .spot)
 
 -- the prefix lies in the block
 lies : (c : tie.After-prefix)
@@ -94,7 +94,7 @@ returns-5 c =
     let g = c .before .before .before in
     let i = g .before .before in
     let k = i .before .before in
-    class-given _ _ (ink (k .before .before .before)) (good k) (sym (i .before .is-skipped .ensures) ∙ i .if2 .left) _ _ (rw (g .prefix .given .1)) (rw (part-between _ _ _ (lies g .0)) at (c .behind-prefix .ensures))
+    class-given _ _ (ink (k .before .before .before)) (good k) (sym (i .before .is-skipped .ensures _) ∙ i .if2 .left) _ _ (rw (g .prefix .given .1)) (rw (part-between _ _ _ (lies g .0)) at (c .behind-prefix .ensures))
 
 pub classify-spec : {M : Type 1} → statement M
 classify-spec =

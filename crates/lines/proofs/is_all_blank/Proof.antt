@@ -1,7 +1,7 @@
 -- `lines::is_all_blank` meets its contract. Invariant: what is left of the line is all blank if and only if the line is.
 use mathlib.Core.Path.{_≡_, refl, sym, _∙_}
 use denote.Ref.{now}
-use mathlib.Core.Bool.{true}
+use mathlib.Core.Bool.{Bool, true}
 use Prim.Native.Nat.{_+_, _-_, _≤_}
 use native.Mathlib.Omega.{arith}
 use lib.ListN.{length, getD, drop}
@@ -14,13 +14,13 @@ use Rattle.lines.proofs.is_all_blank.Statement.{statement}
 use Rattle.lines.proofs.is_all_blank.Tie as tie
 
 abbrev Inv-loop : tie.InvT-loop
-Inv-loop line glue i₀ i = (i ≤ length line) × (every isBlank (glyphs glue (drop i line)) ≡ every isBlank (glyphs glue line))
+Inv-loop line i₀ i = (i ≤ length line) × ((glue : Bool) → every isBlank (glyphs glue (drop i line)) ≡ every isBlank (glyphs glue line))
 
 abbrev μ-loop : tie.MeasureT-loop
-μ-loop line glue i₀ i = length line - i
+μ-loop line i₀ i = length line - i
 
 loop-holds : tie.Need-loop-holds Inv-loop μ-loop
-loop-holds c = (search needs, refl)
+loop-holds c = (search needs, λ glue. refl)
 
 shared-slice-read-b : tie.Need-shared-slice-read-b Inv-loop μ-loop
 shared-slice-read-b c = search needs
@@ -39,14 +39,14 @@ loop-less c = search needs
 
 -- the byte that the loop's turn reads, a character by itself
 octet : (c : tie.After-is-blank Inv-loop μ-loop)
-    → Here (c .before .before .before .before .before .before .before .args .glue) (c .is-blank .result) (now (c .before .before .before .before .before .before .before .args .line)) (c .before .before .before .before .before .loop .i) (getD (now (c .before .before .before .before .before .before .before .args .line)) (c .before .before .before .before .before .loop .i) 0) (c .before .before .before .before .before .loop .i + 1)
-octet c = rw (c .is-blank .ensures, c .before .wide .ensures) (ascii-here _ _ _ (c .before .before .before .before .loop-test .taken) (c .before .before .if1 .taken))
+    → Here (c .is-blank .result) (now (c .before .before .before .before .before .before .before .args .line)) (c .before .before .before .before .before .loop .i) (getD (now (c .before .before .before .before .before .before .before .args .line)) (c .before .before .before .before .before .loop .i) 0) (c .before .before .before .before .before .loop .i + 1)
+octet c = rw (c .is-blank .ensures, c .before .wide .ensures) (ascii-here _ _ (c .before .before .before .before .loop-test .taken) (c .before .before .if1 .taken))
 
 loop-again : tie.Need-loop-again Inv-loop μ-loop
-loop-again c = (search needs, sym (all-on _ _ _ _ _ (rw (c .if2 .taken) at (octet (c .before)))) ∙ c .before .before .before .before .before .before .loop .inv .1)
+loop-again c = (search needs, λ glue. sym (all-on glue _ _ _ _ (rw (c .if2 .taken) at (octet (c .before)))) ∙ c .before .before .before .before .before .before .loop .inv .1 glue)
 
 returns : tie.Need-returns Inv-loop μ-loop
-returns c = sym (all-stop _ _ _ (c .before .before .before .before .before .loop-test .taken) (octet (c .before) .isBlank ∙ c .if2 .left)) ∙ c .before .before .before .before .before .before .loop .inv .1
+returns c = λ glue. sym (all-stop glue _ _ (c .before .before .before .before .before .loop-test .taken) (octet (c .before) .isBlank ∙ c .if2 .left)) ∙ c .before .before .before .before .before .before .loop .inv .1 glue
 
 glyph-at-requires : tie.Need-glyph-at-requires Inv-loop μ-loop
 glyph-at-requires c κs = search needs
@@ -55,20 +55,20 @@ enum-known-next : tie.Need-enum-known-next Inv-loop μ-loop
 enum-known-next c = search needs
 
 returns-2 : tie.Need-returns-2 Inv-loop μ-loop
-returns-2 c = sym (all-stop _ _ _ (c .before .before .before .before .loop-test .taken) (not-blank _ _ _ _ (c .before .glyph-at .ensures) (c .match .keys2))) ∙ c .before .before .before .before .before .loop .inv .1
+returns-2 c = λ glue. sym (all-stop glue _ _ (c .before .before .before .before .loop-test .taken) (not-blank _ _ _ (c .before .glyph-at .ensures) (c .match .keys2))) ∙ c .before .before .before .before .before .loop .inv .1 glue
 
 -- the blank that it reads else
-read : (c : tie.After-next Inv-loop μ-loop) → Here (c .before .before .before .before .before .before .before .before .args .glue) true (now (c .before .before .before .before .before .before .before .before .args .line)) (c .before .before .before .before .before .before .loop .i) (c .next .given .0 .0) (c .next .given .0 .1 .0)
-read c = blank-here _ _ _ _ _ (sym (c .before .before .glyph-at .ensures) ∙ c .next .given .1)
+read : (c : tie.After-next Inv-loop μ-loop) → Here true (now (c .before .before .before .before .before .before .before .before .args .line)) (c .before .before .before .before .before .before .loop .i) (c .next .given .0 .0) (c .next .given .0 .1 .0)
+read c = blank-here _ _ _ _ (sym (c .before .before .glyph-at .ensures) ∙ c .next .given .1)
 
 loop-less-2 : tie.Need-loop-less-2 Inv-loop μ-loop
 loop-less-2 c = let h = read (c .before) in omega (arith, h .on, h .within)
 
 loop-again-2 : tie.Need-loop-again-2 Inv-loop μ-loop
-loop-again-2 c = let h = read (c .before) in (h .within, sym (all-on _ _ _ _ _ h) ∙ c .before .before .before .before .before .before .before .loop .inv .1)
+loop-again-2 c = let h = read (c .before) in (h .within, λ glue. sym (all-on glue _ _ _ _ h) ∙ c .before .before .before .before .before .before .before .loop .inv .1 glue)
 
 returns-3 : tie.Need-returns-3 Inv-loop μ-loop
-returns-3 c = sym (all-past _ _ _ (c .loop-test .left)) ∙ c .before .loop .inv .1
+returns-3 c = λ glue. sym (all-past glue _ _ (c .loop-test .left)) ∙ c .before .loop .inv .1 glue
 
 pub is-all-blank-spec : {M : Type 1} → statement M
 is-all-blank-spec =

@@ -4,6 +4,7 @@ use mathlib.Core.Path.{_≡_, sym, ap, _∙_}
 use Prim.Native.Nat.{_≤_}
 use lib.ListN.{length}
 use borrow.Author.Needs.{needs}
+use mathlib.Core.Bool.{Bool}
 use Rattle.lists.proofs.Fronts.{part-between}
 use Rattle.text.specs.Characters.{glyphs}
 use Rattle.options.specs.Opts.{textOf}
@@ -19,7 +20,7 @@ enum-told : tie.Need-enum-told
 enum-told c = search needs
 
 returns : tie.Need-returns
-returns c = search needs
+returns c = λ glue. rw (c .enum-told .given .1)
 
 -- the part lies in the block
 lies : (c : tie.After-skip)
@@ -45,20 +46,20 @@ enum-told-3 : tie.Need-enum-told-3
 enum-told-3 c = search needs
 
 -- the answer, from that of find
-answer : (c : tie.After-find)
+answer : (c : tie.After-find) (glue : Bool)
     → somewhere (c .find .result)
     ≡ somewhere
     (skipFound (c .before .before .before .before .before .before .before .args .exact) (textOf (now (c .before .before .before .before .before .before .before .args .block)) (c .before .before .before .before .before .before .before .args .skip))
-    (now (c .before .before .before .before .before .before .before .args .line)) (glyphs (c .before .before .before .before .before .before .before .args .glue) (now (c .before .before .before .before .before .before .before .args .line))))
-answer c =
+    (now (c .before .before .before .before .before .before .before .args .line)) (glyphs glue (now (c .before .before .before .before .before .before .before .args .line))))
+answer c glue =
     let k = c .before .before .before in
-    skip-given _ _ _ _ _ _ _ _ (k .skip .given .1) (rw (part-between _ _ _ (lies k .0)) at (c .find .ensures))
+    skip-given _ _ _ _ _ _ _ _ (k .skip .given .1) (rw (part-between _ _ _ (lies k .0)) at (c .find .ensures glue))
 
 returns-2 : tie.Need-returns-2
-returns-2 c = sym (ap somewhere (c .enum-told2 .given .1)) ∙ answer (c .before .before)
+returns-2 c = λ glue. sym (ap somewhere (c .enum-told2 .given .1)) ∙ answer (c .before .before) glue
 
 returns-3 : tie.Need-returns-3
-returns-3 c = sym (ap somewhere (c .enum-told3 .given .1)) ∙ answer (c .before .before)
+returns-3 c = λ glue. sym (ap somewhere (c .enum-told3 .given .1)) ∙ answer (c .before .before) glue
 
 pub is-skipped-spec : {M : Type 1} → statement M
 is-skipped-spec =

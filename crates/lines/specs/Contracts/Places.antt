@@ -1,12 +1,13 @@
 -- How the code's answers, which are places and counts, mean what the definitions say of bytes and glyphs.
 use mathlib.Core.Path.{_≡_}
-use mathlib.Core.Bool.{Bool, cond}
+use mathlib.Core.Bool.{Bool, false, cond, _&&_}
 use mathlib.Core.List.{List, _∷_}
 use Prim.Native.Nat.{ℕ, _+_, _-_, _*_, _≤_, _<_}
 use lib.Dec.{eqb}
 use lib.ListN.{length, drop}
 use Rattle.lists.specs.Runs.{while, every}
-use Rattle.text.specs.Characters.{Glyph, glyph, glyphs, isBlank, extent}
+use Rattle.text.specs.Characters.{Glyph, glyph, characters, inkAhead, isBlank, extent}
+use Rattle.text.specs.Contracts.Places.{settle, inkAfter, noBreakAt}
 use Rattle.text.specs.declared.Found.{Found}
 use Rattle.text.specs.declared.Found.the-variants.{At, Nowhere}
 use Rattle.options.specs.declared.Part.{Part}
@@ -52,21 +53,33 @@ abbrev pub classAt : ℕ → ℕ → List Glyph → Found → Class
 classAt tab size gs Nowhere = Plain
 classAt tab size gs (At place) = cond (every isBlank (glyphsFrom (place + size) gs)) Plain (Formatted (shapeAt tab size gs place))
 
--- r is the spot behind the glyph at m
-pub record Behind (glue : Bool) (tab : ℕ) (line : List ℕ) (m r : Spot) : Type 0 where
+-- r is the spot behind the character at m
+pub record Behind (tab : ℕ) (line : List ℕ) (m r : Spot) : Type 0 where
   pub on : m .at < r .at
   pub inside : Inside line r
-  pub first : glyphs glue (drop (m .at) line) ≡ glyph glue (drop (m .at) line) ∷ glyphs glue (drop (r .at) line)
-  pub count : length (glyph glue (drop (m .at) line) .bytes) ≡ r .at - m .at
-  pub column : columnBehind tab (m .column) (glyph glue (drop (m .at) line)) ≡ r .column
+  pub first : characters (drop (m .at) line) ≡ glyph (drop (m .at) line) ∷ characters (drop (r .at) line)
+  pub count : length (glyph (drop (m .at) line) .bytes) ≡ r .at - m .at
+  pub column : columnBehind tab (m .column) (glyph (drop (m .at) line)) ≡ r .column
 
--- r is the spot behind the blanks at m; the line's end, if only blanks stand there
-pub record BehindBlanks (glue : Bool) (tab : ℕ) (line : List ℕ) (m r : Spot) : Type 0 where
+-- gs is the line from m on; r is the spot behind its blanks there; the line's end, if they are only blanks
+pub record BehindBlanks (tab : ℕ) (line : List ℕ) (gs : List Glyph) (m r : Spot) : Type 0 where
   pub inside : Inside line r
-  pub spot : r ≡ behindAll tab m (while isBlank (glyphs glue (drop (m .at) line)))
-  pub blank : every isBlank (glyphs glue (drop (m .at) line)) ≡ eqb (r .at) (length line)
+  pub spot : r ≡ behindAll tab m (while isBlank gs)
+  pub blank : every isBlank gs ≡ eqb (r .at) (length line)
 
--- r is the spot behind the glyphs before a place, where those from it on stand
-pub record BehindPlace (glue : Bool) (tab : ℕ) (line : List ℕ) (place : ℕ) (r : Spot) : Type 0 where
-  pub spot : r ≡ behindAll tab lineStart (glyphsBefore place (glyphs glue line))
-  pub rest : glyphs glue (drop (r .at) line) ≡ glyphsFrom place (glyphs glue line)
+-- r is the spot behind the characters before a place, where those from it on stand
+pub record BehindPlace (tab : ℕ) (line : List ℕ) (place : ℕ) (r : Spot) : Type 0 where
+  pub spot : r ≡ behindAll tab lineStart (glyphsBefore place (characters line))
+  pub rest : characters (drop (r .at) line) ≡ glyphsFrom place (characters line)
+
+-- whether the nearest character before a place, skipping U+00A0, is there and not a blank
+unfoldable pub inkBefore : ℕ → List ℕ → Bool
+inkBefore place line = inkAfter false (glyphsBefore place (characters line))
+
+-- the glyphs of a line from its prefix's end on, which is at a place
+abbrev pub glyphsBehind : Bool → List ℕ → ℕ → ℕ → List Glyph
+glyphsBehind glue line end at = settle glue (inkBefore end line) (characters (drop at line))
+
+-- an ordinary U+00A0 stands there
+unfoldable pub gluedAt : Bool → List ℕ → ℕ → ℕ → Bool
+gluedAt glue line end at = glue && noBreakAt line at && inkAhead (characters (drop at line)) && inkBefore end line
