@@ -122,7 +122,7 @@ module _ (s : List ℕ) (at : ℕ) where
   run-on e =
       settle-run (characters (drop at s)) e
       ∙ ap (λ (gs : List Glyph). map ordinary (while noBreak (characters (drop at s))) ++ settle true true gs)
-        (sym (characters-behind noBreak (drop at s)) ∙ ap characters (drop-drop (extent (while noBreak (characters (drop at s)))) at s))
+      (sym (characters-behind noBreak (drop at s)) ∙ ap characters (drop-drop (extent (while noBreak (characters (drop at s)))) at s))
 
 -- the glyphs' bytes, joined, are the text
 pub glyphs-joined : (glue : Bool) (xs : List ℕ) → joined (λ g. g .bytes) (glyphs glue xs) ≡ xs
