@@ -19,7 +19,7 @@ def flags(*bits):
     return number(1, sum(1 << b for b in bits))
 
 
-CROWN, TAGGED, MAIL, UNIFORM, QUICK, KEEP, GLUE, CHARACTERS = 0, 1, 2, 4, 5, 8, 9, 10
+CROWN, TAGGED, MAIL, SPLIT, UNIFORM, QUICK, EXACT, EXACT_SKIP, KEEP, GLUE, CHARACTERS = range(11)
 keep, glue = flags(KEEP), flags(GLUE)
 
 
@@ -37,6 +37,20 @@ def damaged(notes, place):
 
 def kept(block, notes, out):
     return (block, notes, len(out) + 1, 0, len(out), out + b".")
+
+
+def glued(bits, fields, notes, out):
+    """With glue on. `~` is U+00A0 and `^` is U+0085."""
+    spelled = [text.replace(b"~", b"\xc2\xa0").replace(b"^", b"\xc2\x85") for text in (fields, notes, out)]
+    return kept(flags(GLUE, *bits) + spelled[0], *spelled[1:])
+
+
+def prefix(text):
+    return b"\x05" + bytes([0, len(text) + text.count(b"~")]) + text
+
+
+def skip(text):
+    return b"\x06" + bytes([0, len(text) + text.count(b"~")]) + text
 
 
 w10 = number(2, 10)
@@ -135,12 +149,80 @@ CASES = TRIALS + [
     kept(keep, b"a\nb\n\xb0  x \nc\nd\n", b"a b\n\xb0  x \nc d\n"),
     kept(keep, b"a\xc3\nb\n", b"a\xc3\nb\n"),
     kept(keep, b"\xc2\xad\n\xe2\x82\xac\n", b"\xc2\xad\n\xe2\x82\xac\n"),
-    # glue: U+00A0 is an ordinary character
+    # glue off: U+00A0 is a blank everywhere
     kept(flags(UNIFORM), b"4.2\xc2\xa0K\n", b"4.2 K\n"),
-    kept(flags(UNIFORM, GLUE), b"4.2\xc2\xa0K\n", b"4.2\xc2\xa0K\n"),
     kept(b"", b"\xc2\xa0\n", b"\n"),
-    kept(glue, b"\xc2\xa0\n", b"\xc2\xa0\n"),
-    kept(glue, b"\xc2\xa0a\n\xc2\xa0b\n", b"\xc2\xa0a \xc2\xa0b\n"),
+    kept(quick10, b"aaaa bb\xc2\xa0bbb c\n", b"aaaa bb\nbbb c\n"),
+    kept(field(5, b">"), b">\xc2\xa0a\n>\xc2\xa0b\n", b">\xc2\xa0a b\n"),
+    # document 02, P2: ordinary between two characters that are no blanks, in a run as well; a column each, and part of its word
+    glued([UNIFORM], b"", b"4.2~K\n", b"4.2~K\n"),
+    glued([UNIFORM], b"", b"a~~b ~~~c\n", b"a~~b c\n"),
+    glued([QUICK], w10, b"aaaa bb~bbb c\n", b"aaaa\nbb~bbb c\n"),
+    glued([QUICK], w10, b"aaaa b~bbb c\n", b"aaaa b~bbb\nc\n"),
+    # a line of U+00A0 alone is blank and ends a paragraph
+    glued([], b"", b"~\n", b"\n"),
+    glued([], b"", b"~~~", b"\n"),
+    glued([], b"", b"a\n~~\nb\n", b"a\n\nb\n"),
+    glued([], b"", b"a\n~\r\nb\n", b"a\n\nb\n"),
+    glued([], b"", b"a\n ~\t^\nb\n", b"a\n\nb\n"),
+    # at a line's edges it is blank: part of the indent, or left out
+    glued([], b"", b"~a~\n", b"~a\n"),
+    glued([], b"", b"~a\n~b\n", b"~a b\n"),
+    glued([], b"", b"~~a~~b~~\n~~c~~\n", b"~~a~~b c\n"),
+    glued([], b"", b"~a\nb\n", b"~a\nb\n"),
+    glued([], b"", b"a~\r\nb\n", b"a b\n"),
+    glued([], b"", b"a~\r", b"a\n"),
+    glued([], b"", b" ~a\n ~b\n", b" ~a b\n"),
+    glued([TAGGED], b"", b"a\n~b\n~c\n", b"a b c\n"),
+    glued([CROWN], b"", b"~a\n~~b\n~~c\n", b"~a b c\n"),
+    # beside a blank it is blank: a space, a tab, U+0085, a carriage return, on either side, and through further U+00A0
+    *(glued([UNIFORM], b"", b"a" + gap + b"b\n", b"a b\n") for gap in (b" ~", b"~ ", b"~ ~", b"\t~", b"~\t", b"^~", b"~^", b"~^~", b"\r~", b"~\r", b" ~~", b"~~\t", b"~~ ~")),
+    glued([], b"", b"a ~b\n", b"a ~b\n"),
+    glued([UNIFORM], b"", b"a~b ~c~ d~e\n", b"a~b c d~e\n"),
+    # beside punctuation, and where sentences part: a word that ends in U+00A0 there is none
+    glued([UNIFORM], b"", b"a.~b\n", b"a.~b\n"),
+    glued([UNIFORM], b"", b"a.~ b\n", b"a.  b\n"),
+    glued([UNIFORM], b"", b"a~.  b\n", b"a~.  b\n"),
+    glued([UNIFORM], b"", b"a.~~b. ~c\n", b"a.~~b.  c\n"),
+    glued([], b"", b"x a.~\nb\n", b"x a.  b\n"),
+    glued([UNIFORM, CHARACTERS], b"", b"a.~ b c. d\n", b"a.  b c. d\n"),
+    # behind a prefix the whole line decides
+    glued([], prefix(b">"), b">~a\n>~b\n", b">~a ~b\n"),
+    glued([], prefix(b">"), b">~~a\n>~~b\n", b">~~a ~~b\n"),
+    glued([], prefix(b">"), b"> ~a\n> ~b\n", b"> ~a b\n"),
+    glued([], prefix(b">"), b">~ a\n>~ b\n", b">~ a b\n"),
+    glued([], prefix(b">"), b">~a\n> b\n", b">~a\n> b\n"),
+    glued([UNIFORM], prefix(b">"), b">~a ~b\n", b">~a b\n"),
+    glued([], prefix(b"> "), b"> ~a\n> ~b\n", b"> ~a b\n"),
+    glued([], prefix(b""), b"~a\n~b\n", b"~a b\n"),
+    # only blanks behind the prefix: plain
+    glued([], prefix(b">"), b">~\n>~a\n", b">~\n>~a\n"),
+    glued([], prefix(b">"), b">a\n>~ ~\n>b\n", b">a\n>~ ~\n>b\n"),
+    # behind blanks and a prefix; exact, at the line's start alone
+    glued([], prefix(b">"), b"~>a\n~>b\n", b"~>a b\n"),
+    glued([], prefix(b">"), b" ~>~a\n ~>~b\n", b" ~>~a ~b\n"),
+    glued([], prefix(b">"), b"~ > ~a\n~ > ~b\n", b"~ > ~a b\n"),
+    glued([EXACT], prefix(b">"), b"~>a\n~>b\n", b"~>a\n~>b\n"),
+    glued([EXACT], prefix(b">"), b">~a\n>~b\n", b">~a ~b\n"),
+    glued([], skip(b"#"), b"~#a\n~b\n", b"~#a\n~b\n"),
+    glued([EXACT_SKIP], skip(b"#"), b"~#a\n~b\n", b"~#a b\n"),
+    # prefix text is matched by its bytes
+    glued([], prefix(b"~"), b"~a\n~b\nc~d\n", b"~a b\nc~d\n"),
+    glued([], prefix(b"~"), b"~~a\n~~b\n", b"~~a b\n"),
+    glued([], prefix(b">~"), b">~a\n>~b\n", b">~a b\n"),
+    glued([], prefix(b">~"), b">~~a\n>~~b\n", b">~~a ~b\n"),
+    glued([], prefix(b">~"), b">~ a\n>~ b\n", b">~ a b\n"),
+    glued([], skip(b"a~"), b"a~b\na~\nc\n", b"a~b\na~\nc\n"),
+    # mail headers: their lines are taken whole
+    glued([MAIL], b"", b"To:~a\n~b\n", b"To:~a b\n"),
+    glued([MAIL], b"", b"To: a~\n ~b~c\n", b"To: a b~c\n"),
+    glued([MAIL], b"", b"~To: a\n b\n", b"~To: a\n b\n"),
+    glued([MAIL], b"", b"A~: b\n c\n", b"A~: b\n c\n"),
+    glued([MAIL], b"", b"From~a\n b\n", b"From~a\n b\n"),
+    # damaged bytes: the line is plain, the lines beside it as ever
+    glued([KEEP], b"", b"a~\xb0\n~b\n~c\n", b"a~\xb0\n~b c\n"),
+    glued([KEEP], b"", b"~\xb0\n\xb0~\n~\n\xc2\n", b"~\xb0\n\xb0~\n\n\xc2\n"),
+    glued([KEEP, UNIFORM], b"", b"a~b\n\xc3~\nc ~d\n", b"a~b\n\xc3~\nc d\n"),
     # document 02, P13: one blank of two bytes is over one by bytes, not by characters; two blanks and a tab part sentences by either
     *(
         kept(flags(UNIFORM, *more), b"a" + end + gap + b"b\n", b"a" + end + (b"  b\n" if wide else b" b\n"))
@@ -156,7 +238,7 @@ CASES = TRIALS + [
         )
         for end, wide in ((b".", many), (b"?", many), (b"!", many), (b"", False))
     ),
-    # it shows under uniform alone; with glue U+00A0 is no blank
+    # it shows under uniform alone; with glue an ordinary U+00A0 is no blank
     kept(flags(CHARACTERS), b"a.\xc2\xa0b\n", b"a.\xc2\xa0b\n"),
     kept(flags(CHARACTERS), b"a.\xc2\x85b c.\nd\n", b"a.\xc2\x85b c.  d\n"),
     kept(flags(UNIFORM, CHARACTERS, GLUE), b"a.\xc2\xa0b\n", b"a.\xc2\xa0b\n"),

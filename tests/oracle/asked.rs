@@ -55,6 +55,30 @@ fn raw(symbols: u32) -> impl Iterator<Item = Asked> {
     })
 }
 
+/// Symbols beside which U+00A0 has every class, and prefixes with and without it.
+const NEAR: [&str; 6] = ["\u{a0}", "a", " ", ">", "\n", "."];
+const BEHIND: [&str; 6] = ["", ">", "> ", "\u{a0}", ">\u{a0}", "\u{a0}>"];
+
+/// Every text of up to so many symbols, with glue.
+fn no_breaks(symbols: u32) -> impl Iterator<Item = Asked> {
+    let mut sets = Vec::new();
+    for more in [0, UNIFORM, MAIL, CROWN | EXACT, TAGGED | KEEP, QUICK | EXACT_SKIP] {
+        let opts = Opts { flags: Some(GLUE | more), width: Some(6), goal: Some(4), ..Opts::default() };
+        let prefix = Some(BEHIND[sets.len() % 6].to_string());
+        sets.push(opts.clone());
+        sets.push(Opts { prefix: Some(">".to_string()), ..opts.clone() });
+        sets.push(Opts { prefix: prefix.clone(), ..opts.clone() });
+        sets.push(Opts { skip: prefix, prefix: Some(BEHIND[sets.len() % 5].to_string()), ..opts });
+    }
+    let base = NEAR.len();
+    sets.into_iter().flat_map(move |opts| {
+        (1..=symbols).flat_map(move |length| {
+            let block = opts.block();
+            (0..base.pow(length)).map(move |n| (block.clone(), (0..length).map(|place| NEAR[n / base.pow(place) % base]).collect::<String>().into_bytes()))
+        })
+    })
+}
+
 /// Every number that a field of two bytes can have, where it has a bound, and every width with every goal about the bounds.
 fn numbers(step: usize) -> impl Iterator<Item = Asked> {
     let notes = b"a b.  c\n\tdd e\n";
@@ -157,6 +181,7 @@ pub fn tables(seed: u64, step: usize, symbols: u32) -> Vec<Kind> {
         ("pairs of bytes", Box::new(pairs(step))),
         ("short texts", Box::new(cases::exhaustive(symbols).map(of))),
         ("short texts, damaged", Box::new(raw(symbols - 1))),
+        ("short texts, no-break spaces", Box::new(no_breaks(symbols + 1))),
     ]
 }
 

@@ -9,6 +9,7 @@
 //!     oracle terms                              powf against the cube, by terms
 
 mod cases;
+mod glue;
 mod options;
 mod texts;
 
@@ -61,7 +62,7 @@ fn answer(case: &Case) -> Vec<u8> {
     let shown = case.opts.shown(&case.notes);
     let output = String::from_utf8(cube(case.opts.args())(shown.as_bytes())).unwrap();
     if case.opts.has(GLUE) {
-        output.replace(STAND_IN, NO_BREAK).into_bytes()
+        STAND_INS.back(&output).into_bytes()
     } else {
         output.into_bytes()
     }
@@ -78,7 +79,7 @@ fn assert_accepted(case: &Case) {
     assert!(opts.tab.map_or(true, |tab| tab <= 100));
     assert!(opts.prefix.iter().chain(&opts.skip).all(|prefix| prefix.len() <= 255));
     for text in [&case.notes].into_iter().chain(&opts.prefix).chain(&opts.skip) {
-        assert!(text.chars().all(|c| c <= '\u{2ff}' && c != '\u{ad}') && !text.contains(STAND_IN));
+        assert!(text.chars().all(|c| c <= '\u{2ff}' && c != '\u{ad}') && STAND_INS.back(text) == *text);
     }
     assert!(case.notes.len() <= 65536);
     let mut words = 0;

@@ -2,8 +2,7 @@
 //! the original's.
 //!
 //! The original has neither keep nor glue, so it is shown notes that document 01 treats alike:
-//! - Glue: U+00A0 is an ordinary character. In its place the original is shown a character of as many bytes that is no blank and that
-//!   occurs nowhere else, and the digest is turned back.
+//! - Glue: the head of `glue.rs` says what is shown for U+00A0; the digest is turned back.
 //! - Keep: a damaged line is a plain line, as is a line with the skip prefix. In its place the original is shown a line that begins with
 //!   the skip prefix (or, where none is given or it has a line feed and so is never found, with a character that occurs nowhere else),
 //!   and in the digest that line is turned back into the damaged one.
@@ -11,6 +10,7 @@
 //!   stands alone between two words is shown as a form feed, a blank of one byte. Uniform drops both, so nothing is turned back. Two blanks
 //!   or more are over one by either rule, and a tab parts sentences by either.
 
+use crate::glue::{found, is_blank, text_of, StandIns};
 use parts::guard::Answer;
 
 // ---------------------------------------------------------------- characters
@@ -170,11 +170,9 @@ impl Original {
 /// Notes as the original is shown them, and what turns its digest back.
 struct Shown {
     text: String,
-    glue: Option<char>,
+    glue: Option<StandIns>,
     lines: Vec<(String, Vec<u8>)>, // each damaged line's stand-in, and the line
 }
-
-const NO_BREAK: char = '\u{a0}';
 
 impl Shown {
     fn new(fields: &mut Fields, notes: &[u8]) -> Shown {
@@ -198,11 +196,11 @@ impl Shown {
         };
         let mut glue = None;
         if fields.has(GLUE) {
-            let stand_in = spare(fields, 1);
-            glue = Some(stand_in);
-            let show = |text: &str| text.replace(NO_BREAK, &stand_in.to_string());
-            text = show(&text);
-            fields.prefixes.iter_mut().flatten().for_each(|p| *p = show(p));
+            let stand_ins = StandIns { ordinary: spare(fields, 1), matched: spare(fields, 2) };
+            let [prefix, skip] = &fields.prefixes;
+            text = stand_ins.notes(&text, (prefix.as_ref(), fields.has(EXACT)), (skip.as_ref(), fields.has(EXACT_SKIP)));
+            fields.prefixes.iter_mut().flatten().for_each(|p| *p = stand_ins.prefix(p));
+            glue = Some(stand_ins);
         }
         if fields.has(CHARACTERS) && fields.has(UNIFORM) {
             text = text.split_inclusive('\n').map(|line| one_byte_blanks(fields, line)).collect();
@@ -215,8 +213,8 @@ impl Shown {
             return digest;
         }
         let mut text = String::from_utf8(digest).unwrap();
-        if let Some(stand_in) = self.glue {
-            text = text.replace(stand_in, &NO_BREAK.to_string());
+        if let Some(stand_ins) = &self.glue {
+            text = stand_ins.back(&text);
         }
         let mut damaged = self.lines.iter().peekable();
         let mut back = Vec::new();
@@ -254,19 +252,6 @@ fn without_damage(notes: &[u8], stand_in: &str, lines: &mut Vec<(String, Vec<u8>
 
 // ---------------------------------------------------------------- blanks by characters
 
-fn is_blank(c: char) -> bool {
-    matches!(c, '\t'..='\r' | ' ' | '\u{85}' | '\u{a0}')
-}
-
-/// Where a prefix is found: at the line's start or, unless exact, at the first place with only blanks before it.
-fn found(line: &str, prefix: &str, exact: bool) -> Option<usize> {
-    if exact {
-        return Some(0).filter(|_| line.starts_with(prefix));
-    }
-    let blanks = line.len() - line.trim_start_matches(is_blank).len();
-    line.char_indices().map(|(at, _)| at).chain([line.len()]).filter(|at| *at <= blanks).find(|at| line[*at..].starts_with(prefix))
-}
-
 /// Where the indent of a formatted line ends. Other lines have none.
 fn indent_end(fields: &Fields, line: &str) -> Option<usize> {
     if let Some(skip) = &fields.prefixes[1] {
@@ -284,7 +269,7 @@ fn indent_end(fields: &Fields, line: &str) -> Option<usize> {
 
 /// A line in which each blank of two bytes that stands alone between two words is a blank of one byte.
 fn one_byte_blanks(fields: &Fields, line: &str) -> String {
-    let body = line.strip_suffix('\n').map_or(line, |body| body.strip_suffix('\r').unwrap_or(body));
+    let body = text_of(line);
     let from = match indent_end(fields, body) {
         Some(from) => from,
         None => return line.to_string(),

@@ -10,7 +10,7 @@ restart test, and that a width alone is at least 6 (the narrower ones fail the r
 import pathlib
 import sys
 
-LINES, BREAKS, OPTIONS, MODEL = "cube/parasplit.rs", "cube/linebreak.rs", "cube/fmt.rs", "model.rs"
+LINES, BREAKS, OPTIONS, MODEL, GLUE = "cube/parasplit.rs", "cube/linebreak.rs", "cube/fmt.rs", "model.rs", "glue.rs"
 
 # (file, old text, new text); the first place where the old text stands is changed
 MUTANTS = [
@@ -103,6 +103,13 @@ MUTANTS = [
     (MODEL, "if fields.has(CHARACTERS) && fields.has(UNIFORM) {", "if false {"),
     (MODEL, "if fields.has(CHARACTERS) && fields.has(UNIFORM) {", "if fields.has(UNIFORM) {"),
     (MODEL, ".take(line)", ".take(line + 1)"),
+    # glue: the edge taken for ordinary; one neighbour asked; U+00A0 taken for a neighbour; the class by what is behind a prefix
+    (GLUE, "nearest.map_or(false,", "nearest.map_or(true,"),
+    (GLUE, "is_ink(line[..at].iter().rev().find(|c| **c != NO_BREAK)) && ", ""),
+    (GLUE, " && is_ink(line[at..].iter().find(|c| **c != NO_BREAK))", ""),
+    (GLUE, "line[..at].iter().rev().find(|c| **c != NO_BREAK)", "line[..at].iter().rev().next()"),
+    (GLUE, "line[at..].iter().find(|c| **c != NO_BREAK)", "line[at + 1..].iter().next()"),
+    (GLUE, "is_ordinary(&chars, n)", "matched.end <= at && is_ordinary(&chars[text[..matched.end].chars().count()..], n - text[..matched.end].chars().count())"),
 ]
 
 

@@ -1,6 +1,8 @@
 //! The options of one case, as document 01's option block and as the original's
 //! arguments.
 
+use crate::glue::StandIns;
+
 pub const CROWN: u16 = 1 << 0;
 pub const TAGGED: u16 = 1 << 1;
 pub const MAIL: u16 = 1 << 2;
@@ -13,10 +15,8 @@ pub const KEEP: u16 = 1 << 8;
 pub const GLUE: u16 = 1 << 9;
 pub const CHARACTERS: u16 = 1 << 10;
 
-/// What the original is shown in the place of U+00A0 when glue is on: a
-/// character of as many bytes that is no blank. No case has it otherwise.
-pub const STAND_IN: &str = "\u{2fe}";
-pub const NO_BREAK: &str = "\u{a0}";
+/// What the original is shown for U+00A0 when glue is on. No case has them otherwise.
+pub const STAND_INS: StandIns = StandIns { ordinary: '\u{2fe}', matched: '\u{2fd}' };
 
 #[derive(Clone, Default)]
 pub struct Opts {
@@ -58,7 +58,7 @@ impl Opts {
 
     /// The same options as arguments of the original. It has no keep and no
     /// glue: keep changes nothing in undamaged notes, and glue is acted out
-    /// with the stand-in.
+    /// with the stand-ins.
     pub fn args(&self) -> Vec<String> {
         let mut args = Vec::new();
         for (bit, flag) in ["-c", "-t", "-m", "-s", "-u", "-q", "-x", "-X"].iter().enumerate() {
@@ -73,18 +73,19 @@ impl Opts {
         }
         for (flag, text) in [("-p", &self.prefix), ("-P", &self.skip)] {
             if let Some(text) = text {
-                args.extend([flag.to_string(), self.shown(text)]);
+                let shown = if self.has(GLUE) { STAND_INS.prefix(text) } else { text.clone() };
+                args.extend([flag.to_string(), shown]);
             }
         }
         args
     }
 
-    /// A text as the original is shown it.
-    pub fn shown(&self, text: &str) -> String {
+    /// Notes as the original is shown them.
+    pub fn shown(&self, notes: &str) -> String {
         if self.has(GLUE) {
-            text.replace(NO_BREAK, STAND_IN)
+            STAND_INS.notes(notes, (self.prefix.as_ref(), self.has(EXACT)), (self.skip.as_ref(), self.has(EXACT_SKIP)))
         } else {
-            text.to_string()
+            notes.to_string()
         }
     }
 }

@@ -3,6 +3,8 @@
 pub mod asked;
 #[allow(dead_code)]
 pub mod cases;
+#[allow(dead_code)]
+pub mod glue;
 pub mod guard;
 #[allow(dead_code)]
 pub mod options;

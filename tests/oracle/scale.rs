@@ -6,6 +6,7 @@
 //!
 //! Exit: 0 no difference, 1 a difference or a byte read or written outside.
 
+mod glue;
 mod model;
 
 use model::Original;
