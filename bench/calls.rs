@@ -1,12 +1,17 @@
 //! Times whole calls against the original, in one process, on the same texts.
 //!
 //!     calls [MILLISECONDS]              how long each text is timed on each side, by default 100
+//!     calls --glue [MILLISECONDS]       only the part with glue on and off
 //!     calls --once TEXT KIB WHO CALLS   one text, so often, for a profiler; WHO is here (writing), cube, powf, measure or both
 
+#[allow(dead_code)]
+#[path = "../tests/oracle/glue.rs"]
+mod glue;
 #[allow(dead_code)]
 #[path = "../tests/oracle/options.rs"]
 mod options;
 mod clock;
+mod no_breaks;
 mod notes;
 mod opaque;
 mod programs;
@@ -226,6 +231,7 @@ fn all(milliseconds: usize) {
         }
     }
     print(&rows);
+    no_breaks::print(milliseconds);
     programs::print();
 }
 
@@ -234,11 +240,13 @@ fn main() {
     let number = |i: usize| args[i].parse().expect("a number");
     match args.len() {
         0 => all(100),
+        1 if args[0] == "--glue" => no_breaks::print(100),
+        2 if args[0] == "--glue" => no_breaks::print(number(1)),
         1 => all(number(0)),
         5 if args[0] == "--once" => {
             let side = SIDES.iter().position(|s| *s == args[3]).expect("here, cube, powf, measure or both");
             once(&args[1], number(2), side, number(4))
         }
-        _ => eprintln!("usage: [MILLISECONDS] | --once TEXT KIB WHO CALLS"),
+        _ => eprintln!("usage: [MILLISECONDS] | --glue [MILLISECONDS] | --once TEXT KIB WHO CALLS"),
     }
 }
