@@ -6,23 +6,27 @@ use Prim.Native.Nat.{ℕ, _+_, _*_, _/_, _≤_, _<_}
 use native.Mathlib.Nat.{add-mul, div-add-mod'}
 use native.Mathlib.Omega.{arith}
 use lib.Dec.{ltb, eqb}
-use lib.ListN.{length, drop}
+use lib.ListN.{length, drop, length-drop}
 use borrow.Author.Tests.{ltb-true, ltb-false, eq-eqb, ne-eqb}
 use Rattle.lists.specs.Runs.{while, behind}
 use Rattle.lists.proofs.Runs.{while-more, while-end, behind-more, behind-end}
+use Rattle.lists.proofs.Parts.{while-behind}
 use Rattle.text.proofs.Glyph.{the-type}
 use denote.Enum.Declared.{tagOf}
 use types.Run.{OneOf}
-use Rattle.text.specs.Characters.{blankCode, Glyph, glyph, glyphs, isBlank, extent}
-use Rattle.text.specs.Contracts.Places.{seenAs}
+use Rattle.text.specs.Characters.{blankCode, Glyph, glyph, noBreak, glyphs, isBlank, extent}
+use Rattle.text.specs.Contracts.Places.{seenAs, inkGlyphs}
 use Rattle.text.specs.declared.Glyph.{Glyph as Seen}
-use Rattle.text.proofs.Glyphs.{Here, glyphs-past, glyphs-first, not-blank, ascii-here}
+use Rattle.text.proofs.Glyphs.{Here, not-blank, ascii-here}
+use Rattle.text.proofs.Extents.{glyph-read}
+use Rattle.text.proofs.NoBreaks.{no-break-blank}
+use Rattle.text.proofs.Edges.{glyphs-past, ink-past, glyphs-first, ink-begins, blank-on}
 use Rattle.lines.specs.Classes.{nextStop}
 use Rattle.records.specs.Contracts.Table.{beforeNumber}
 use Rattle.records.specs.declared.Before.{Before}
 use Rattle.records.specs.declared.Before.the-variants.{Absent, Count}
 use Rattle.words.specs.Words.{Gap, gapTab, gapFrom, gapOf}
-use Rattle.words.specs.Contracts.Scan.{gapIn, gapBehind, OverBlanks, OneSpace}
+use Rattle.words.specs.Contracts.Scan.{gapIn, gapBehind, noBlanks, OverBlanks, OneSpace}
 use Rattle.words.specs.declared.Blanks.{Blanks}
 use Rattle.words.proofs.PlainRuns.{plain-here}
 
@@ -80,25 +84,35 @@ pub record BlanksLeft (glue : Bool) (tab : ℕ) (s : List ℕ) (at : ℕ) (b : B
   pub before : beforeNumber (b .before) ≤ 100 * b .end
   pub after : b .after ≤ 100 * b .end
 
--- no blank stands at a place
+-- no blank stands at a place: ink does, or the line ends
 pub record NoBlank (glue : Bool) (s : List ℕ) (at : ℕ) : Type 0 where
   pub none : blanksAt glue s at ≡ []
-  pub rest : behind isBlank (glyphs glue (drop at s)) ≡ glyphs glue (drop at s)
+  pub rest : behind isBlank (glyphs glue (drop at s)) ≡ inkGlyphs glue (drop at s)
+
+-- a glyph that is no blank is no U+00A0
+ink-other : (s : List ℕ) (at : ℕ) → at < length s → glyph (drop at s) .blank ≡ false → noBreak (glyph (drop at s)) ≡ false
+ink-other s at h b = pick (noBreak (glyph (drop at s))) refl
+  where
+    pick : (t : Bool) → noBreak (glyph (drop at s)) ≡ t → t ≡ false
+    pick true n = sym (no-break-blank (glyph (drop at s)) (glyph-read (drop at s) (simp length-drop (omega arith))) n) ∙ b
+    pick false n = refl
 
 module _ (glue : Bool) (s : List ℕ) (at : ℕ) where
   no-blank-past : length s ≤ at → NoBlank glue s at
   unfolding while behind
-  no-blank-past h = let g = glyphs-past glue s at h in record { none = rw g; rest = rw g }
+  no-blank-past h = let g = glyphs-past glue s at h in record { none = rw g; rest = rw (g, ink-past glue s at h) }
 
-  no-blank-first : (gs : List Glyph) → glyphs glue (drop at s) ≡ glyph glue (drop at s) ∷ gs → glyph glue (drop at s) .blank ≡ false → NoBlank glue s at
-  no-blank-first gs f b = record { none = rw f (while-end isBlank _ gs b); rest = rw f (behind-end isBlank _ gs b) }
+  no-blank-first : at < length s → glyph (drop at s) .blank ≡ false → NoBlank glue s at
+  no-blank-first h b =
+      let f = glyphs-first glue s at h in
+      record { none = rw f (while-end isBlank _ _ b); rest = ap (behind isBlank) f ∙ behind-end isBlank _ _ b ∙ sym f ∙ sym (ink-begins glue s at (ink-other s at h b)) }
 
   -- from an answer of glyph_at that is no blank
-  pub no-blank : (r : Seen) → r ≡ seenAs at (glyph glue (drop at s)) → OneOf (0 ∷ 2 ∷ []) (tagOf the-type r) → NoBlank glue s at
+  pub no-blank : (r : Seen) → r ≡ seenAs at (glyph (drop at s)) → OneOf (0 ∷ 2 ∷ []) (tagOf the-type r) → NoBlank glue s at
   no-blank r e h = pick (ltb at (length s)) refl
     where
       pick : (t : Bool) → ltb at (length s) ≡ t → NoBlank glue s at
-      pick true k = no-blank-first _ (glyphs-first glue s at (ltb-true _ _ k)) (not-blank glue s at r e h)
+      pick true k = no-blank-first (ltb-true _ _ k) (not-blank s at r e h)
       pick false k = no-blank-past (ltb-false at (length s) k)
 
 module _ {glue : Bool} {tab : ℕ} {s : List ℕ} {at : ℕ} where
@@ -106,12 +120,13 @@ module _ {glue : Bool} {tab : ℕ} {s : List ℕ} {at : ℕ} where
   unfolding gapOf
   blanks-first h = record { end = refl; gap = refl; rest = refl; within = h; before = omega arith; after = omega arith }
 
-  pub blanks-more : (b r : Blanks) {code next : ℕ} → BlanksLeft glue tab s at b → tab ≤ 100 → Here glue true s (b .end) code next → r .end ≡ next → gapIn r ≡ gapBehind tab code (gapIn b) → BlanksLeft glue tab s at r
+  pub blanks-more : (b r : Blanks) {code next : ℕ} → BlanksLeft glue tab s at b → tab ≤ 100 → Here true s (b .end) code next → r .end ≡ next → gapIn r ≡ gapBehind tab code (gapIn b) → BlanksLeft glue tab s at r
   unfolding extent gapFrom
   blanks-more b r {code} {next} i few h e g =
       let f = gap-few tab (100 * b .end) few code (gapIn b) (i .before) (i .after) in
-      let l : blanksAt glue s (b .end) ≡ glyph glue (drop (b .end) s) ∷ blanksAt glue s next = rw (h .first) (while-more isBlank _ _ (h .isBlank)) in
-      let m : behind isBlank (glyphs glue (drop (b .end) s)) ≡ behind isBlank (glyphs glue (drop next s)) = rw (h .first) (behind-more isBlank _ _ (h .isBlank)) in
+      let o = blank-on glue s (b .end) h in
+      let l : blanksAt glue s (b .end) ≡ glyph (drop (b .end) s) ∷ blanksAt glue s next = rw o (while-more isBlank _ _ (h .isBlank)) in
+      let m : behind isBlank (glyphs glue (drop (b .end) s)) ≡ behind isBlank (glyphs glue (drop next s)) = rw o (behind-more isBlank _ _ (h .isBlank)) in
       record {
         end = rw e (omega (arith, rw l at (i .end), h .count, h .on));
         gap = rw (e, g) (rw (l, h .hasCode) at (i .gap));
@@ -121,7 +136,7 @@ module _ {glue : Bool} {tab : ℕ} {s : List ℕ} {at : ℕ} where
         after = rw (e, ap (λ (x : Gap). x .after) g) (omega (arith, f .1, h .on));
       }
 
-  pub blanks-done : (b : Blanks) → BlanksLeft glue tab s at b → NoBlank glue s (b .end) → OverBlanks glue tab s at b
+  pub blanks-done : (b : Blanks) → BlanksLeft glue tab s at b → NoBlank glue s (b .end) → OverBlanks glue tab false s at b
   unfolding extent gapFrom
   blanks-done b i n = record {
     end = omega (arith, rw (n .none) at (i .end));
@@ -133,13 +148,26 @@ module _ {glue : Bool} {tab : ℕ} {s : List ℕ} {at : ℕ} where
   }
 
 -- one space, and a plain character behind it
-space-here : (glue : Bool) (s : List ℕ) (at : ℕ) → OneSpace s at → Here glue true s at 32 (at + 1)
+space-here : (s : List ℕ) (at : ℕ) → OneSpace s at → Here true s at 32 (at + 1)
 unfolding blankCode
-space-here glue s at o = rw (o .space) at (ascii-here glue s at (omega (arith, o .within)) (omega (arith, o .space)))
+space-here s at o = rw (o .space) at (ascii-here s at (omega (arith, o .within)) (omega (arith, o .space)))
 
-pub blanks-one : {glue : Bool} {tab : ℕ} {s : List ℕ} {at : ℕ} → OneSpace s at → tab ≤ 100 → OverBlanks glue tab s at (record { end = at + 1; before = Absent; after = 1 })
+pub blanks-one : {glue : Bool} {tab : ℕ} {s : List ℕ} {at : ℕ} → OneSpace s at → tab ≤ 100 → OverBlanks glue tab false s at (record { end = at + 1; before = Absent; after = 1 })
 blanks-one {glue} {tab} {s} {at} o few =
-    let p = plain-here glue s (at + 1) (at + 1) refl (o .within) (o .least) (o .most) in
+    let p = plain-here s (at + 1) (at + 1) refl (o .within) (o .least) (o .most) in
     let left : BlanksLeft glue tab s at (record { end = at + 1; before = Absent; after = 1 }) =
-    blanks-more (record { end = at; before = Absent; after = 0 }) (record { end = at + 1; before = Absent; after = 1 }) (blanks-first (omega (arith, o .within))) few (space-here glue s at o) refl refl in
-    blanks-done (record { end = at + 1; before = Absent; after = 1 }) left (no-blank-first glue s (at + 1) _ (p .first) (p .isBlank))
+    blanks-more (record { end = at; before = Absent; after = 0 }) (record { end = at + 1; before = Absent; after = 1 }) (blanks-first (omega (arith, o .within))) few (space-here s at o) refl refl in
+    blanks-done (record { end = at + 1; before = Absent; after = 1 }) left (no-blank-first glue s (at + 1) (o .within) (p .isBlank))
+
+-- no blank stands before the first word of a line
+pub blanks-none : {glue : Bool} {tab : ℕ} {s : List ℕ} {at : ℕ} → at ≤ length s → while isBlank (inkGlyphs glue (drop at s)) ≡ [] → OverBlanks glue tab true s at (noBlanks at)
+unfolding extent gapOf gapFrom
+blanks-none {glue} {tab} {s} {at} h e =
+    let w = while-behind isBlank (inkGlyphs glue (drop at s)) in
+    record { end = rw e (omega arith); gap = rw e; rest = sym (rw e at w); within = h; before = omega arith; after = omega arith }
+
+-- so the blanks before a word are known, the first of its line or another
+pub blanks-before : {glue : Bool} {tab : ℕ} (first : Bool) {s : List ℕ} {at : ℕ} {b : Blanks} → at ≤ length s → (first ≡ true → while isBlank (inkGlyphs glue (drop at s)) ≡ [])
+    → (first ≡ true → b ≡ noBlanks at) × (first ≡ false → (any : Bool) → OverBlanks any tab false s at b) → OverBlanks glue tab first s at b
+blanks-before true h ink found = rw (found .0 refl) (blanks-none h (ink refl))
+blanks-before {glue} false h ink found = found .1 refl glue

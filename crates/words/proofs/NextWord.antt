@@ -10,8 +10,11 @@ use lib.Seq.{slice, slice-empty, length-slice}
 use Rattle.lists.specs.Runs.{while, behind}
 use Rattle.lists.proofs.Runs.{while-more}
 use Rattle.lists.proofs.RunParts.{behind-fails}
-use Rattle.text.specs.Characters.{Glyph, glyph, glyphs, isBlank, extent}
-use Rattle.text.proofs.Glyphs.{bytes-of, glyphs-past, glyphs-first}
+use Rattle.text.specs.Characters.{Glyph, glyph, characters, ordinary, glyphs, isBlank, extent}
+use Rattle.text.specs.Contracts.Places.{settle, inkGlyphs}
+use Rattle.text.proofs.Glyphs.{bytes-of, characters-first}
+use Rattle.text.proofs.Glue.{settle-first}
+use Rattle.text.proofs.Edges.{ink-past}
 use Rattle.options.specs.Opts.{Opts}
 use Rattle.records.specs.Word.{meaning}
 use Rattle.records.specs.Contracts.Table.{beforeNumber, Small, Within}
@@ -19,65 +22,80 @@ use Rattle.records.specs.declared.Word.{Word as Record}
 use Rattle.records.specs.declared.Before.the-variants.{Absent}
 use Rattle.words.specs.Words.{Run, isInk, runOf, runs, bytesOf, widthSum, Gap, noGap, gapOf, hasTab, punctAtEnd, counting, wideGap, wordOf, mailWord}
 use Rattle.words.specs.Contracts.Places.{endsFrom}
-use Rattle.words.specs.Contracts.Scan.{gapIn, OverBlanks, OverInk, wordAt, mailAt, wordsFrom, NextWord}
+use Rattle.words.specs.Contracts.Scan.{glyphsBehind, gapIn, OverBlanks, OverInk, wordAt, mailAt, wordsFrom, NextWord}
 use Rattle.words.specs.declared.Blanks.{Blanks}
 use Rattle.words.specs.declared.Ink.{Ink}
-use Rattle.words.proofs.WordRuns.{run-bytes, words-none, ends-none, wordFor, words-one, ends-one}
+use Rattle.words.proofs.WordRuns.{behind-joined, run-bytes, words-none, ends-none, wordFor, words-one, ends-one}
 use Rattle.words.proofs.Tabless.{tabless-wide}
 
-module _ (o : Opts) (s : List ℕ) (at : ℕ) (b : Blanks) (over : OverBlanks (o .glue) (o .tab) s at b) where
-  pub next-none : (mail newLine previous : Bool) → length s ≤ b .end → wordsFrom o mail newLine previous (glyphs (o .glue) (drop at s)) ≡ []
-  next-none mail newLine previous h = words-none o mail newLine previous _ (sym (over .rest) ∙ glyphs-past (o .glue) s (b .end) h)
+-- some glyph stands first, and it has a byte
+ink-some : (glue : Bool) (s : List ℕ) (at : ℕ) → at < length s → (g : Glyph) × (rest : List Glyph) × (inkGlyphs glue (drop at s) ≡ g ∷ rest) × (0 < length (g .bytes))
+unfolding inkGlyphs
+ink-some glue s at h =
+    let g = glyph (drop at s) in
+    let b = bytes-of (drop at s) (simp length-drop (omega arith)) in
+    let v = settle-first glue true g (characters (drop (at + length (g .bytes)) s)) in
+    (_, _, ap (settle glue true) (characters-first s at h) ∙ v .1, some (v .0) (omega (arith, b .some, b .count)))
+  where
+    some : (t : Bool) → 0 < length (glyph (drop at s) .bytes) → 0 < length (cond t (ordinary (glyph (drop at s))) (glyph (drop at s)) .bytes)
+    some true k = k
+    some false k = k
 
-  pub ends-past : length s ≤ b .end → endsFrom at (runs (glyphs (o .glue) (drop at s))) ≡ []
-  ends-past h = ends-none at _ (sym (over .rest) ∙ glyphs-past (o .glue) s (b .end) h)
+module _ (o : Opts) (newLine : Bool) (s : List ℕ) (at : ℕ) (b : Blanks) (over : OverBlanks (o .glue) (o .tab) newLine s at b) where
+  abbrev line : List Glyph
+  line = glyphsBehind (o .glue) newLine (drop at s)
+
+  pub next-none : (mail previous : Bool) → length s ≤ b .end → wordsFrom o mail newLine previous line ≡ []
+  next-none mail previous h = words-none o mail newLine previous _ (sym (over .rest) ∙ ink-past (o .glue) s (b .end) h)
+
+  pub ends-past : length s ≤ b .end → endsFrom at (runs line) ≡ []
+  ends-past h = ends-none at _ (sym (over .rest) ∙ ink-past (o .glue) s (b .end) h)
 
   module _ (w : Ink) (ink : OverInk (o .glue) s (b .end) w) (more : b .end < length s) where
-    rest : List Glyph
-    rest = glyphs (o .glue) (drop (b .end + length (glyph (o .glue) (drop (b .end) s) .bytes)) s)
+    abbrev rest : List Glyph
+    rest = ink-some (o .glue) s (b .end) more .1
 
-    starts : behind isBlank (glyphs (o .glue) (drop at s)) ≡ glyph (o .glue) (drop (b .end) s) ∷ rest
-    unfolding rest
-    starts = sym (over .rest) ∙ glyphs-first (o .glue) s (b .end) more
+    starts : behind isBlank line ≡ ink-some (o .glue) s (b .end) more .0 ∷ rest
+    starts = sym (over .rest) ∙ ink-some (o .glue) s (b .end) more .2
 
     run : Run
-    run = runOf (glyphs (o .glue) (drop at s))
+    run = runOf line
 
-    text-is : while isInk (behind isBlank (glyphs (o .glue) (drop at s))) ≡ while isInk (glyphs (o .glue) (drop (b .end) s))
+    text-is : while isInk (behind isBlank line) ≡ while isInk (inkGlyphs (o .glue) (drop (b .end) s))
     text-is = rw (over .rest)
 
     text-bytes : bytesOf (run .text) ≡ slice (b .end) (w .end) s
     unfolding run runOf
-    text-bytes = rw text-is (run-bytes isInk (o .glue) s (b .end) (w .end) (ink .end))
+    text-bytes = rw text-is (run-bytes isInk (inkGlyphs (o .glue) (drop (b .end) s)) s (b .end) (w .end) (behind-joined (o .glue) true (drop (b .end) s)) (ink .end))
 
     blank-bytes : bytesOf (run .blanks) ≡ slice at (b .end) s
     unfolding run runOf
-    blank-bytes = run-bytes isBlank (o .glue) s at (b .end) (over .end)
+    blank-bytes = run-bytes isBlank line s at (b .end) (behind-joined (o .glue) newLine (drop at s)) (over .end)
 
     -- the word is at least a byte long
     ends : b .end < w .end
     unfolding extent
     ends =
-        let i : isInk (glyph (o .glue) (drop (b .end) s)) ≡ true = rw (behind-fails isBlank _ starts) in
-        let e : while isInk (glyphs (o .glue) (drop (b .end) s)) ≡ glyph (o .glue) (drop (b .end) s) ∷ while isInk rest = rw (over .rest, starts) (while-more isInk _ _ i) in
-        let f = bytes-of (o .glue) (drop (b .end) s) (simp length-drop (omega arith)) in
-        omega (arith, ink .end, ap extent e, f .some, f .count)
+        let f = ink-some (o .glue) s (b .end) more in
+        let i : isInk (f .0) ≡ true = rw (behind-fails isBlank _ starts) in
+        let e : while isInk (inkGlyphs (o .glue) (drop (b .end) s)) ≡ f .0 ∷ while isInk rest = rw (f .2) (while-more isInk _ _ i) in
+        omega (arith, ink .end, ap extent e, f .3)
 
     -- the words from here on, with the next written as the code's record
-    onward : (mail newLine previous : Bool) (r : Record) → meaning s r ≡ wordFor o mail newLine previous run → r .end ≡ w .end
-        → wordsFrom o mail newLine previous (glyphs (o .glue) (drop at s)) ≡ meaning s r ∷ wordsFrom o mail false (w .punct) (glyphs (o .glue) (drop (r .end) s))
+    onward : (mail previous : Bool) (r : Record) → meaning s r ≡ wordFor o mail newLine previous run → r .end ≡ w .end
+        → wordsFrom o mail newLine previous line ≡ meaning s r ∷ wordsFrom o mail false (w .punct) (glyphs (o .glue) (drop (r .end) s))
     unfolding run
-    onward mail newLine previous r m e =
+    onward mail previous r m e =
         rw (m, e, ink .punct, ink .rest, over .rest) (words-one _ starts o mail newLine previous)
 
     -- and it ends where the record says
-    ended : endsFrom at (runs (glyphs (o .glue) (drop at s))) ≡ w .end ∷ endsFrom (w .end) (runs (glyphs (o .glue) (drop (w .end) s)))
+    ended : endsFrom at (runs line) ≡ w .end ∷ endsFrom (w .end) (runs (glyphs (o .glue) (drop (w .end) s)))
     ended = rw (ink .rest, over .rest) (ends-one _ starts at (w .end) (ink .end ∙ ap₂ (λ (n : ℕ) (gs : List Glyph). n + extent (while isInk gs)) (over .end) (over .rest)))
 
     -- in mail
-    mail-means : (newLine previous : Bool) → meaning s (mailAt (b .end) (w .end)) ≡ wordFor o true newLine previous run
+    mail-means : (previous : Bool) → meaning s (mailAt (b .end) (w .end)) ≡ wordFor o true newLine previous run
     unfolding meaning wordFor mailWord
-    mail-means newLine previous = rw (slice-empty (b .end) s, text-bytes, length-slice (b .end) (w .end) s (ink .within))
+    mail-means previous = rw (slice-empty (b .end) s, text-bytes, length-slice (b .end) (w .end) s (ink .within))
 
     -- elsewhere
     text-width : widthSum (run .text) ≡ w .width
@@ -101,9 +119,9 @@ module _ (o : Opts) (s : List ℕ) (at : ℕ) (b : Blanks) (over : OverBlanks (o
     blank-wide true = tabless-wide (o .tab) (run .blanks) ∙ ap (λ (g : Gap). hasTab (g .before) || ltb 1 (g .after)) blank-gap
     blank-wide false = ap₂ (λ (g : Gap) (n : ℕ). hasTab (g .before) || ltb 1 n) blank-gap blank-count
 
-    line-means : (newLine previous : Bool) → meaning s (wordAt (o .uniform) (o .characters) newLine previous at b w) ≡ wordFor o false newLine previous run
+    line-means : (previous : Bool) → meaning s (wordAt (o .uniform) (o .characters) newLine previous at b w) ≡ wordFor o false newLine previous run
     unfolding meaning wordFor wordOf
-    line-means newLine previous =
+    line-means previous =
         rw (text-width, text-punct, blank-wide (o .characters), blank-gap, text-bytes, blank-bytes) (pick (o .uniform))
       where
         pick : (u : Bool) → meaning s (wordAt u (o .characters) newLine previous at b w) ≡ record {
@@ -119,10 +137,10 @@ module _ (o : Opts) (s : List ℕ) (at : ℕ) (b : Blanks) (over : OverBlanks (o
         pick true = rw (slice-empty (b .end) s)
         pick false = refl
 
-    pub next-mail : (newLine previous : Bool) → NextWord o true newLine previous s at (mailAt (b .end) (w .end))
+    pub next-mail : (previous : Bool) → NextWord o true newLine previous s at (mailAt (b .end) (w .end))
     unfolding wordsFrom
-    next-mail newLine previous = let e = ends in record {
-      first = onward true newLine previous (mailAt (b .end) (w .end)) (mail-means newLine previous) refl;
+    next-mail previous = let e = ends in record {
+      first = onward true previous (mailAt (b .end) (w .end)) (mail-means previous) refl;
       ends = ended;
       within = record { gap = omega arith; text = omega arith; end = ink .within };
       on = omega (arith, over .end);
@@ -132,9 +150,9 @@ module _ (o : Opts) (s : List ℕ) (at : ℕ) (b : Blanks) (over : OverBlanks (o
       after = omega arith;
     }
 
-    pub next-line : (newLine previous : Bool) → NextWord o false newLine previous s at (wordAt (o .uniform) (o .characters) newLine previous at b w)
-    next-line newLine previous = let e = ends in record {
-      first = onward false newLine previous (wordAt (o .uniform) (o .characters) newLine previous at b w) (line-means newLine previous) refl;
+    pub next-line : (previous : Bool) → NextWord o false newLine previous s at (wordAt (o .uniform) (o .characters) newLine previous at b w)
+    next-line previous = let e = ends in record {
+      first = onward false previous (wordAt (o .uniform) (o .characters) newLine previous at b w) (line-means previous) refl;
       ends = ended;
       within = pick-within (o .uniform);
       on = omega (arith, over .end);

@@ -12,7 +12,7 @@ use Rattle.lists.proofs.All.{all-front, all-back, all-map, all-weaken, all-join
 use Rattle.text.specs.Characters.{Glyph, glyphs, isBlank}
 use Rattle.text.specs.Theorems.Blanks.{Blanks}
 use Rattle.text.proofs.Extents.{Sound, glyphs-sound}
-use Rattle.text.proofs.Glyphs.{glyphs-joined}
+use Rattle.text.proofs.Edges.{glyphs-joined}
 use Rattle.text.proofs.Blanks.{blanks-none, blanks-glyphs}
 use Rattle.options.specs.Opts.{Opts}
 use Rattle.lines.specs.Lines.{Line, noFeed}

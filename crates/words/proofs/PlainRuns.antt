@@ -16,12 +16,12 @@ use Rattle.words.specs.declared.Ink.{Ink}
 use Rattle.words.proofs.InkRuns.{InkLeft, ink-more}
 
 -- a plain character is no blank
-pub plain-ink : (glue : Bool) (c : ℕ) → 33 ≤ c → c < 128 → blankCode glue c ≡ false
+plain-ink : (c : ℕ) → 33 ≤ c → c < 128 → blankCode c ≡ false
 unfolding blankCode
-plain-ink glue c h k = rw (le-leb 9 c (omega arith), lt-leb c 13 (omega arith), ne-eqb c 0x20 (omega arith), ne-eqb c 0x85 (omega arith), ne-eqb c 0xA0 (omega arith))
+plain-ink c h k = rw (le-leb 9 c (omega arith), lt-leb c 13 (omega arith), ne-eqb c 0x20 (omega arith), ne-eqb c 0x85 (omega arith), ne-eqb c 0xA0 (omega arith))
 
-pub plain-here : (glue : Bool) (s : List ℕ) (at i : ℕ) → at ≡ i → i < length s → 33 ≤ getD s i 0 → getD s i 0 < 128 → Here glue false s at (getD s i 0) (i + 1)
-plain-here glue s at i e h k l = rw (e, ← plain-ink glue (getD s i 0) k l) (ascii-here glue s i h (omega arith))
+pub plain-here : (s : List ℕ) (at i : ℕ) → at ≡ i → i < length s → 33 ≤ getD s i 0 → getD s i 0 < 128 → Here false s at (getD s i 0) (i + 1)
+plain-here s at i e h k l = rw (e, ← plain-ink (getD s i 0) k l) (ascii-here s i h (omega arith))
 
 -- ---- a run, character by character
 
@@ -64,8 +64,8 @@ module _ {s : List ℕ} {from : ℕ} where
   pub plain-front : {to end : ℕ} → Plain s from to → from ≤ end → end ≤ to → Plain s from end
   plain-front p h k = record { on = h; within = omega (arith, p .within); least = λ i a b. p .least i a (omega arith); most = λ i a b. p .most i a (omega arith) }
 
-  plain-last : (glue : Bool) {last : ℕ} → Plain s from (last + 1) → {i : ℕ} → i ≡ last → from ≤ last → Here glue false s i (getD s last 0) (last + 1)
-  plain-last glue {last} p e h = plain-here glue s _ last e (omega (arith, p .within)) (p .least last h (omega arith)) (p .most last h (omega arith))
+  plain-last : {last : ℕ} → Plain s from (last + 1) → {i : ℕ} → i ≡ last → from ≤ last → Here false s i (getD s last 0) (last + 1)
+  plain-last {last} p e h = plain-here s _ last e (omega (arith, p .within)) (p .least last h (omega arith)) (p .most last h (omega arith))
 
 -- ---- a run in ink
 
@@ -80,11 +80,11 @@ module _ {glue : Bool} {s : List ℕ} {at : ℕ} where
         → InkLeft glue s at (record { end = last + 1; width = w .width + (last + 1 - w .end); punct = punctCode (getD s last 0) })
     unfolding widthOf
     ink-run zero last e p =
-        ink-more w (record { end = last + 1; width = w .width + (last + 1 - w .end); punct = punctCode (getD s last 0) }) left (plain-last glue p (omega arith) (omega arith)) {n = 1} refl (omega arith) refl
+        ink-more w (record { end = last + 1; width = w .width + (last + 1 - w .end); punct = punctCode (getD s last 0) }) left (plain-last p (omega arith) (omega arith)) {n = 1} refl (omega arith) refl
     ink-run (suc n) last e p =
         let i = ink-run n (w .end + n) refl (plain-front p (omega arith) (omega arith)) in
         ink-more (record { end = w .end + n + 1; width = w .width + (w .end + n + 1 - w .end); punct = punctCode (getD s (w .end + n) 0) }) (record { end = last + 1; width = w .width + (last + 1 - w .end); punct = punctCode (getD s last 0) }) i
-        (plain-last glue p (omega arith) (omega arith)) {n = 1} refl (omega arith) refl
+        (plain-last p (omega arith) (omega arith)) {n = 1} refl (omega arith) refl
 
     pub ink-plain : (r : Ink) → OverPlain s w r → InkLeft glue s at r
     ink-plain r o =

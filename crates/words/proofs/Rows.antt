@@ -1,26 +1,28 @@
 -- The words of a paragraph, line by line; and that they hang on no prefix.
 use mathlib.Core.Path.{_≡_, refl, sym, ap, ap₂, _∙_}
-use mathlib.Core.Bool.{Bool, true, false, cond}
+use mathlib.Core.Bool.{Bool, true, false, cond, not}
 use mathlib.Core.List.{List, [], _∷_, _++_}
 use Prim.Native.Nat.{ℕ, _+_, _-_, _≤_, _<_}
 use native.Mathlib.Omega.{arith}
 use lib.ListN.{length, take, drop, length-take}
 use lib.Seq.{slice, drop-drop, take-take, length-slice, length-take-le}
 use Rattle.lists.proofs.Fronts.{part-to-end}
-use Rattle.lists.specs.Runs.{joined}
-use Rattle.text.specs.Characters.{Glyph, glyphs}
+use Rattle.lists.specs.Runs.{while, joined}
+use Rattle.text.specs.Characters.{Glyph, glyphs, isBlank}
+use Rattle.text.specs.Contracts.Places.{inkGlyphs}
 use Rattle.options.specs.Opts.{Opts, meant}
 use Rattle.options.specs.declared.Options.{Options}
 use Rattle.lines.specs.Lines.{Line, firstLine, linesOf}
+use Rattle.lines.specs.Classes.{glyphsFrom}
 use Rattle.lines.specs.Contracts.Places.{lengthsOf}
 use Rattle.lines.specs.declared.Extent.{Extent}
 use Rattle.lines.proofs.Lines.{LineHere, lines-past, line-here}
 use Rattle.pieces.specs.Pieces.{Row}
-use Rattle.pieces.specs.Contracts.Bounds.{GlyphBegins, AllBegin}
+use Rattle.pieces.specs.Contracts.Bounds.{InkBegins, AllBegin}
 use Rattle.records.specs.Word.{Word}
 use Rattle.words.specs.Words.{Run, runs, counting, wordOf, lineWords, rowWords}
 use Rattle.words.specs.Contracts.Places.{rowsAt, wordsAt, endsFrom, endsAt}
-use Rattle.words.specs.Contracts.Scan.{wordsFrom}
+use Rattle.words.specs.Contracts.Scan.{glyphsBehind, wordsFrom}
 use Rattle.words.specs.Contracts.Split.{WordsFilled, Split}
 use Rattle.words.specs.declared.Count.{Count}
 use Rattle.words.proofs.Filling.{filled-split}
@@ -67,16 +69,23 @@ module _ (o : Opts) (mail : Bool) (start later : ℕ) where
   rows-first l ls = refl
 
 ends-first : (glue mail : Bool) (at start later : ℕ) (l : Line) (ls : List Line) → endsAt glue mail at start later (l ∷ ls)
-    ≡ endsFrom (at + cond mail 0 start) (runs (glyphs glue (drop (cond mail 0 start) (l .text)))) ++ endsAt glue mail (at + length (l .raw)) later later ls
+    ≡ endsFrom (at + cond mail 0 start) (runs (cond mail (glyphs glue (l .text)) (glyphsFrom start (glyphs glue (l .text))))) ++ endsAt glue mail (at + length (l .raw)) later later ls
 unfolding endsAt
 ends-first glue mail at start later l ls = refl
 
-begin-first : (glue : Bool) (start later : ℕ) (l : Line) (ls : List Line) → AllBegin glue start later (l ∷ ls) → GlyphBegins glue start (l .text) × AllBegin glue later later ls
+begin-first : (glue : Bool) (start later : ℕ) (l : Line) (ls : List Line) → AllBegin glue start later (l ∷ ls) → InkBegins glue start (l .text) × AllBegin glue later later ls
 unfolding AllBegin
 begin-first glue start later l ls a = a
 
-row-words : (o : Opts) (mail : Bool) (text : List ℕ) (start : ℕ) → (mail ≡ false → GlyphBegins (o .glue) start text)
-    → rowWords o mail (record { text = text; start = start }) ≡ wordsFrom o mail true false (glyphs (o .glue) (drop (cond mail 0 start) text))
+-- a line's glyphs where its words begin: behind ink, unless it is mail
+module _ (glue : Bool) (text : List ℕ) (start : ℕ) where
+  row-glyphs : (mail : Bool) → (mail ≡ false → InkBegins glue start text)
+      → cond mail (glyphs glue text) (glyphsFrom start (glyphs glue text)) ≡ glyphsBehind glue (not mail) (drop (cond mail 0 start) text)
+  row-glyphs true b = refl
+  row-glyphs false b = b refl .glyph
+
+row-words : (o : Opts) (mail : Bool) (text : List ℕ) (start : ℕ) → (mail ≡ false → InkBegins (o .glue) start text)
+    → rowWords o mail (record { text = text; start = start }) ≡ wordsFrom o mail (not mail) false (glyphsBehind (o .glue) (not mail) (drop (cond mail 0 start) text))
 unfolding rowWords wordsFrom
 row-words o true text start b = refl
 row-words o false text start b = rw (b refl .glyph)
@@ -89,9 +98,10 @@ pub record LineAt (o : Opts) (mail : Bool) (skip later : ℕ) (notes : List ℕ)
   pub starts : mail ≡ false → skip ≤ e .text
   pub begins : cond mail 0 skip ≤ e .text
   pub words : wordsAt o mail skip later (linesOf (slice i next notes))
-      ≡ wordsFrom o mail true false (glyphs (o .glue) (slice (i + cond mail 0 skip) (i + e .text) notes)) ++ wordsAt o mail later later (linesOf (slice (i + e .whole) next notes))
+      ≡ wordsFrom o mail (not mail) false (glyphsBehind (o .glue) (not mail) (slice (i + cond mail 0 skip) (i + e .text) notes)) ++ wordsAt o mail later later (linesOf (slice (i + e .whole) next notes))
   pub ends : endsAt (o .glue) mail i skip later (linesOf (slice i next notes))
-      ≡ endsFrom (i + cond mail 0 skip) (runs (glyphs (o .glue) (slice (i + cond mail 0 skip) (i + e .text) notes))) ++ endsAt (o .glue) mail (i + e .whole) later later (linesOf (slice (i + e .whole) next notes))
+      ≡ endsFrom (i + cond mail 0 skip) (runs (glyphsBehind (o .glue) (not mail) (slice (i + cond mail 0 skip) (i + e .text) notes))) ++ endsAt (o .glue) mail (i + e .whole) later later (linesOf (slice (i + e .whole) next notes))
+  pub ink : mail ≡ false → while isBlank (inkGlyphs (o .glue) (slice (i + cond mail 0 skip) (i + e .text) notes)) ≡ []
   pub rest : mail ≡ false → AllBegin (o .glue) later later (linesOf (slice (i + e .whole) next notes))
 
 module _ (o : Opts) (mail : Bool) (skip later : ℕ) (notes : List ℕ) (next i : ℕ) (e : Extent) where
@@ -105,7 +115,8 @@ module _ (o : Opts) (mail : Bool) (skip later : ℕ) (notes : List ℕ) (next i 
     starts = starts;
     begins = low mail starts;
     words = rw (here .first, rows-first o mail skip later, row-words o mail (line .text) skip (λ m. begin m .0), text, drop-drop (cond mail 0 skip) i (take (i + e .text) notes));
-    ends = rw (here .first, ends-first (o .glue) mail i skip later, text, drop-drop (cond mail 0 skip) i (take (i + e .text) notes), size);
+    ends = rw (here .first, ends-first (o .glue) mail i skip later, row-glyphs (o .glue) (line .text) skip mail (λ m. begin m .0), text, drop-drop (cond mail 0 skip) i (take (i + e .text) notes), size);
+    ink = λ m. rw (m, ← drop-drop skip i (take (i + e .text) notes), ← text) (begin m .0 .ink);
     rest = λ m. begin m .1;
   }
     where
@@ -125,7 +136,7 @@ module _ (o : Opts) (mail : Bool) (skip later : ℕ) (notes : List ℕ) (next i 
       size : length (line .raw) ≡ e .whole
       size = rw (here .raw, length-slice i (i + e .whole) (take next notes) (here .within)) (omega arith)
 
-      begin : mail ≡ false → GlyphBegins (o .glue) skip (line .text) × AllBegin (o .glue) later later (linesOf (slice (i + e .whole) next notes))
+      begin : mail ≡ false → InkBegins (o .glue) skip (line .text) × AllBegin (o .glue) later later (linesOf (slice (i + e .whole) next notes))
       begin m = begin-first (o .glue) skip later line _ (rw (here .first) at (begins m))
 
       text : line .text ≡ slice i (i + e .text) notes

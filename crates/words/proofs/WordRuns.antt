@@ -12,13 +12,16 @@ use Rattle.lists.proofs.Runs.{while-more}
 use Rattle.lists.proofs.Parts.{while-behind, joined-append}
 use Rattle.lists.proofs.RunParts.{drop-while, behind-fails}
 use Rattle.lists.proofs.Slices.{slice-is}
-use Rattle.text.specs.Characters.{Glyph, glyphs, isBlank, extent}
-use Rattle.text.proofs.Glyphs.{glyphs-joined}
+use Rattle.text.specs.Characters.{Glyph, characters, isBlank, extent}
+use Rattle.text.specs.Contracts.Places.{inkGlyphs}
+use Rattle.text.proofs.Glyphs.{characters-joined}
+use Rattle.text.proofs.Glue.{settle-joined}
+use Rattle.text.proofs.Edges.{glyphs-joined}
 use Rattle.options.specs.Opts.{Opts}
 use Rattle.records.specs.Word.{Word}
 use Rattle.words.specs.Words.{Run, isInk, runOf, runs, glyphBytes, bytesOf, punctAtEnd, counting, wordOf, lineWords, mailWord, mailWords}
 use Rattle.words.specs.Contracts.Places.{endsFrom}
-use Rattle.words.specs.Contracts.Scan.{wordsFrom}
+use Rattle.words.specs.Contracts.Scan.{glyphsBehind, wordsFrom}
 
 -- ---- bytes
 
@@ -27,15 +30,20 @@ unfolding extent bytesOf joined
 extent-bytes [] = refl
 extent-bytes (g ∷ gs) = rw (length-append, ← extent-bytes gs)
 
--- the bytes of the run at a place stand there up to its end
-pub run-bytes : (test : Glyph → Bool) (glue : Bool) (s : List ℕ) (at end : ℕ) → end ≡ at + extent (while test (glyphs glue (drop at s)))
-    → bytesOf (while test (glyphs glue (drop at s))) ≡ slice at end s
+-- the glyphs of a text have its bytes
+pub behind-joined : (glue ink : Bool) (xs : List ℕ) → joined glyphBytes (glyphsBehind glue ink xs) ≡ xs
+unfolding inkGlyphs
+behind-joined glue true xs = settle-joined glue true (characters xs) ∙ characters-joined xs
+behind-joined glue false xs = glyphs-joined glue xs
+
+-- those of the run at a place stand there up to its end
+pub run-bytes : (test : Glyph → Bool) (gs : List Glyph) (s : List ℕ) (at end : ℕ) → joined glyphBytes gs ≡ drop at s → end ≡ at + extent (while test gs)
+    → bytesOf (while test gs) ≡ slice at end s
 unfolding bytesOf
-run-bytes test glue s at end e =
-    let gs = glyphs glue (drop at s) in
+run-bytes test gs s at end j e =
     let n = extent (while test gs) in
     let whole : joined glyphBytes (while test gs) ++ joined glyphBytes (behind test gs) ≡ drop at s =
-    sym (joined-append glyphBytes (while test gs) (behind test gs)) ∙ ap (joined glyphBytes) (while-behind test gs) ∙ glyphs-joined glue (drop at s) in
+    sym (joined-append glyphBytes (while test gs) (behind test gs)) ∙ ap (joined glyphBytes) (while-behind test gs) ∙ j in
     sym (take-at (joined glyphBytes (while test gs)) (joined glyphBytes (behind test gs)) n (sym (extent-bytes (while test gs))))
     ∙ ap (take n) whole ∙ sym (slice-is at n s) ∙ ap (λ (k : ℕ). slice at k s) (sym e)
 

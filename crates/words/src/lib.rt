@@ -1,19 +1,21 @@
 // Words: a paragraph's word records.
 ghost use mathlib.Core.Path.{_≡_};
-ghost use mathlib.Core.Bool.{true, false, cond, _&&_, _||_};
+ghost use mathlib.Core.Bool.{Bool, true, false, cond, not, _&&_, _||_};
 ghost use mathlib.Core.List.{List, [], _++_};
 ghost use Prim.Native.Nat.{ℕ, _+_, _-_, _*_, _^_, _≤_, _<_};
 ghost use lib.Dec.{ltb, eqb};
-ghost use lib.ListN.{length, getD};
+ghost use lib.ListN.{length, getD, drop};
 ghost use lib.Seq.{slice};
-ghost use Rattle.text.specs.Characters.{glyphs};
+ghost use Rattle.lists.specs.Runs.{while};
+ghost use Rattle.text.specs.Characters.{characters, isBlank};
+ghost use Rattle.text.specs.Contracts.Places.{inkGlyphs};
 ghost use Rattle.options.specs.Opts.{meant};
 ghost use Rattle.lines.specs.Lines.{linesOf};
 ghost use Rattle.pieces.specs.Contracts.Bounds.{AllBegin};
 ghost use Rattle.records.specs.Contracts.Table.{Holds, wordsIn};
 ghost use Rattle.words.specs.Words.{hasTab, runs};
 ghost use Rattle.words.specs.Contracts.Places.{wordsAt, endsFrom, endsAt};
-ghost use Rattle.words.specs.Contracts.Scan.{gapIn, gapBehind, punctCode, OverBlanks, OverInk, asNumber, eightAt, Plain, OverPlain, OneSpace, wordAt, mailAt, wordsFrom, NextIs};
+ghost use Rattle.words.specs.Contracts.Scan.{glyphsBehind, gapIn, gapBehind, noBlanks, OverBlanks, punctCode, gluedBytes, OverInk, asNumber, eightAt, Plain, OverPlain, OneSpace, wordAt, mailAt, wordsFrom, NextIs};
 ghost use Rattle.words.specs.Contracts.Split.{Kept, endsIn, WordsFilled, Split};
 use options::Options;
 use records::Before;
@@ -88,7 +90,8 @@ fn begin(mail: bool, line: usize, start: usize) -> usize
     if mail { line } else { line + start }
 }
 
-// The words of a line from start up to end, behind the first n of the table; or that there are too many.
+// The words of a line from start up to end, behind the first n of the table; or that there are too many. Unless it is mail, its first word
+// begins at start.
 fn split_line(
     notes: &[u8],
     start: usize,
@@ -99,13 +102,13 @@ fn split_line(
     most: usize,
     table: &mut [u32],
 ) -> Count
-    requires { ⌜ (start ≤ end) × (end ≤ length (now notes)) × (length (now notes) ≤ 65536) × (1 ≤ o .tab) × (o .tab ≤ 100) × Kept most (length (now notes)) n (now table) ⌝ }
-    ensures { λ r. ⌜ WordsFilled most (now (notes .entry)) (wordsIn (now (notes .entry)) n (now (table .entry)) ++ wordsFrom (meant [] o) mail true false (glyphs (o .glue) (slice start end (now (notes .entry))))) (endsIn n (now (table .entry)) ++ endsFrom start (runs (glyphs (o .glue) (slice start end (now (notes .entry)))))) (now (table .exit)) r ⌝ }
+    requires { ⌜ (start ≤ end) × (end ≤ length (now notes)) × (length (now notes) ≤ 65536) × (1 ≤ o .tab) × (o .tab ≤ 100) × Kept most (length (now notes)) n (now table) × (mail ≡ false → while isBlank (inkGlyphs (o .glue) (slice start end (now notes))) ≡ []) ⌝ }
+    ensures { λ r. ⌜ WordsFilled most (now (notes .entry)) (wordsIn (now (notes .entry)) n (now (table .entry)) ++ wordsFrom (meant [] o) mail (not mail) false (glyphsBehind (o .glue) (not mail) (slice start end (now (notes .entry))))) (endsIn n (now (table .entry)) ++ endsFrom start (runs (glyphsBehind (o .glue) (not mail) (slice start end (now (notes .entry)))))) (now (table .exit)) r ⌝ }
 {
     let s = &notes[..end];
     let mut count = n;
     let mut at = start;
-    let mut first = true;
+    let mut first = !mail;
     let mut previous = false;
     loop {
         let Next::One(w) = next_word(s, at, mail, first, previous, o) else {
@@ -122,12 +125,12 @@ fn split_line(
     }
 }
 
-// The next word from a place on. Blanks at the end belong to no word.
+// The next word from a place on; the first of a line begins at the place. Blanks at the end belong to no word.
 fn next_word(s: &[u8], at: usize, mail: bool, first: bool, previous: bool, o: Options) -> Next
-    requires { ⌜ (at ≤ length (now s)) × (length (now s) ≤ 65536) × (1 ≤ o .tab) × (o .tab ≤ 100) ⌝ }
+    requires { ⌜ (at ≤ length (now s)) × (length (now s) ≤ 65536) × (1 ≤ o .tab) × (o .tab ≤ 100) × (first ≡ true → while isBlank (inkGlyphs (o .glue) (drop at (now s))) ≡ []) ⌝ }
     ensures { λ r. ⌜ NextIs (meant [] o) mail first previous (now (s .entry)) at r ⌝ }
 {
-    let b = over_blanks(s, at, o.tab, o.glue);
+    let b = blanks_at(s, at, o.tab, first);
     let start = b.end;
     if s.len() <= start {
         return Next::End;
@@ -222,10 +225,25 @@ fn mail_word(start: usize, end: usize) -> Word
     }
 }
 
-// The blanks at a place.
-fn over_blanks(s: &[u8], at: usize, tab: usize, glue: bool) -> Blanks
+// The blanks before a word: none before the first of a line, which may begin with U+00A0 where glue is on and a prefix stands before it.
+fn blanks_at(s: &[u8], at: usize, tab: usize, first: bool) -> Blanks
     requires { ⌜ (at ≤ length (now s)) × (length (now s) ≤ 65536) × (1 ≤ tab) × (tab ≤ 100) ⌝ }
-    ensures { λ r. ⌜ OverBlanks glue tab (now (s .entry)) at r ⌝ }
+    ensures { λ r. ⌜ (first ≡ true → r ≡ noBlanks at) × (first ≡ false → (glue : Bool) → OverBlanks glue tab false (now (s .entry)) at r) ⌝ }
+{
+    if first {
+        return Blanks {
+            end: at,
+            before: Before::Absent,
+            after: 0,
+        };
+    }
+    over_blanks(s, at, tab)
+}
+
+// The blanks at a place behind which a word has ended. They are the same with glue and without: a U+00A0 among them is blank.
+fn over_blanks(s: &[u8], at: usize, tab: usize) -> Blanks
+    requires { ⌜ (at ≤ length (now s)) × (length (now s) ≤ 65536) × (1 ≤ tab) × (tab ≤ 100) ⌝ }
+    ensures { λ r. ⌜ ((glue : Bool) → OverBlanks glue tab false (now (s .entry)) at r) ⌝ }
 {
     // Between most words.
     if is_one_space(s, at) {
@@ -245,7 +263,7 @@ fn over_blanks(s: &[u8], at: usize, tab: usize, glue: bool) -> Blanks
         if is_tab(s, end) {
             b = behind_blank(b, 9, end + 1, tab);
         } else {
-            let Glyph::Blank { code, next } = text::glyph_at(s, end, glue) else {
+            let Glyph::Blank { code, next } = text::glyph_at(s, end) else {
                 return b;
             };
             b = behind_blank(b, code, next, tab);
@@ -312,7 +330,7 @@ fn behind_blank(b: Blanks, code: u32, next: usize, tab: usize) -> Blanks
     }
 }
 
-// The ink at a place: all up to the next blank.
+// The ink at a place: all up to the next blank. With glue on, U+00A0 that have ink behind them too are part of it.
 fn over_ink(s: &[u8], at: usize, glue: bool) -> Ink
     requires { ⌜ (at ≤ length (now s)) × (length (now s) ≤ 65536) ⌝ }
     ensures { λ r. ⌜ OverInk glue (now (s .entry)) at r ⌝ }
@@ -339,9 +357,17 @@ fn over_ink(s: &[u8], at: usize, glue: bool) -> Ink
             if ends_word(s[end]) {
                 return w;
             }
-            match text::glyph_at(s, end, glue) {
+            match text::glyph_at(s, end) {
                 Glyph::Blank { code: _, next: _ } => {
-                    return w;
+                    let on = glued_end(s, end, glue);
+                    if on == end {
+                        return w;
+                    }
+                    w = Ink {
+                        end: on,
+                        width: w.width + (on - end) / 2,
+                        punct: false,
+                    };
                 }
                 Glyph::Ink { code, next } => {
                     w = Ink {
@@ -361,6 +387,14 @@ fn over_ink(s: &[u8], at: usize, glue: bool) -> Ink
             }
         }
     }
+}
+
+// The end of the U+00A0 by which a word goes on from a place: one column each, of two bytes.
+fn glued_end(s: &[u8], at: usize, glue: bool) -> usize
+    requires { ⌜ at ≤ length (now s) ⌝ }
+    ensures { λ r. ⌜ (r ≡ at + gluedBytes glue (characters (drop at (now (s .entry))))) × (r ≤ length (now (s .entry))) ⌝ }
+{
+    if glue { text::glued_end(s, at) } else { at }
 }
 
 // Whether a byte is a space or a tab, at which most words end.

@@ -1,12 +1,14 @@
 -- What a piece's places and numbers keep to: they stand in order inside the notes, columns and further spaces are few, and words begin
--- where a glyph does. Promised beside the piece itself, for those who go on with it.
+-- at ink. Promised beside the piece itself, for those who go on with it.
 use mathlib.Core.Path.{_≡_}
 use mathlib.Core.Bool.{Bool, false}
 use mathlib.Core.List.{List, [], _∷_}
 use Prim.Native.Nat.{ℕ, _≤_, _<_}
 use lib.ListN.{length, drop}
 use lib.Seq.{slice}
-use Rattle.text.specs.Characters.{glyphs}
+use Rattle.lists.specs.Runs.{while}
+use Rattle.text.specs.Characters.{glyphs, isBlank}
+use Rattle.text.specs.Contracts.Places.{inkGlyphs}
 use Rattle.lines.specs.Lines.{Line, linesOf}
 use Rattle.lines.specs.Classes.{glyphsFrom}
 use Rattle.pieces.specs.declared.Margin.{Margin}
@@ -14,15 +16,16 @@ use Rattle.pieces.specs.declared.Paragraph.{Paragraph}
 use Rattle.pieces.specs.declared.Piece.{Piece}
 use Rattle.pieces.specs.declared.Piece.the-variants.{Blank, Plain, Text}
 
--- a glyph begins at a place of a line, or the line ends there
-pub record GlyphBegins (glue : Bool) (start : ℕ) (text : List ℕ) : Type 0 where
+-- a glyph begins at a place of a line, and it is no blank: what stands there is read as behind ink
+pub record InkBegins (glue : Bool) (start : ℕ) (text : List ℕ) : Type 0 where
   pub within : start ≤ length text
-  pub glyph : glyphsFrom start (glyphs glue text) ≡ glyphs glue (drop start text)
+  pub glyph : glyphsFrom start (glyphs glue text) ≡ inkGlyphs glue (drop start text)
+  pub ink : while isBlank (inkGlyphs glue (drop start text)) ≡ []
 
 -- so at the start of the first line and at the later start of the others
 unfoldable pub AllBegin : Bool → ℕ → ℕ → List Line → Type 0
 AllBegin glue start later [] = Unit {0}
-AllBegin glue start later (l ∷ ls) = GlyphBegins glue start (l .text) × AllBegin glue later later ls
+AllBegin glue start later (l ∷ ls) = InkBegins glue start (l .text) × AllBegin glue later later ls
 
 -- an indent of a paragraph that stands from at up to next; a tab takes up to 100 columns, and four spaces may be added
 pub record MarginWithin (at next : ℕ) (m : Margin) : Type 0 where

@@ -1,6 +1,6 @@
 -- `words::split_line` meets its contract. Invariant: the words in the table, with those of what is left of the line, are all the words.
 use mathlib.Core.Path.{_≡_, refl, sym, ap, _∙_}
-use mathlib.Core.Bool.{true, false}
+use mathlib.Core.Bool.{Bool, true, false, not, false≢true}
 use mathlib.Core.List.{[], _++_}
 use Prim.Native.Nat.{_-_, _≤_}
 use native.Mathlib.Omega.{arith}
@@ -8,13 +8,15 @@ use lib.ListN.{length, take, drop, length-take}
 use lib.Seq.{length-take-le}
 use denote.Ref.{now}
 use borrow.Author.Needs.{needs}
-use Rattle.text.specs.Characters.{glyphs}
+use Rattle.lists.specs.Runs.{while}
+use Rattle.text.specs.Characters.{isBlank}
+use Rattle.text.specs.Contracts.Places.{inkGlyphs}
 use Rattle.options.specs.Opts.{meant}
 use Rattle.records.specs.Contracts.Table.{wordsIn}
 use Rattle.words.specs.Words.{runs}
 use Rattle.words.specs.Contracts.Places.{endsFrom}
 use Rattle.words.specs.Contracts.Split.{endsIn}
-use Rattle.words.specs.Contracts.Scan.{wordsFrom, NextWord}
+use Rattle.words.specs.Contracts.Scan.{glyphsBehind, wordsFrom, NextWord}
 use Rattle.records.proofs.Table.{length-with}
 use Rattle.words.proofs.NextWord.{next-small}
 use Rattle.words.proofs.Filling.{Filling, filling-first, filling-more, filling-done, filling-full}
@@ -24,23 +26,29 @@ use Rattle.words.proofs.split_line.Tie as tie
 abbrev Inv-loop : tie.InvT-loop
 Inv-loop notes start end mail o n most table₀ s count₀ at₀ first₀ previous₀ table count at first previous =
     (at ≤ length s)
-    × Filling most notes (wordsIn notes n table₀ ++ wordsFrom (meant [] o) mail true false (glyphs (meant [] o .glue) (drop start s)))
-    (wordsFrom (meant [] o) mail first previous (glyphs (meant [] o .glue) (drop at s)))
-    (endsIn n table₀ ++ endsFrom start (runs (glyphs (meant [] o .glue) (drop start s)))) (endsFrom at (runs (glyphs (meant [] o .glue) (drop at s)))) count table
+    × Filling most notes (wordsIn notes n table₀ ++ wordsFrom (meant [] o) mail (not mail) false (glyphsBehind (meant [] o .glue) (not mail) (drop start s)))
+    (wordsFrom (meant [] o) mail first previous (glyphsBehind (meant [] o .glue) first (drop at s)))
+    (endsIn n table₀ ++ endsFrom start (runs (glyphsBehind (meant [] o .glue) (not mail) (drop start s)))) (endsFrom at (runs (glyphsBehind (meant [] o .glue) first (drop at s)))) count table
     × (length table ≡ length table₀)
+    × (first ≡ true → while isBlank (inkGlyphs (o .glue) (drop at s)) ≡ [])
 
 abbrev μ-loop : tie.MeasureT-loop
 μ-loop notes start end mail o n most table₀ s count₀ at₀ first₀ previous₀ table count at first previous =
     length s - at
 
+-- the first word of a line that is not mail
+not-mail : (mail : Bool) → not mail ≡ true → mail ≡ false
+not-mail true e = absurd (false≢true e)
+not-mail false e = refl
+
 slice-aggregate-s : tie.Need-slice-aggregate-s Inv-loop μ-loop
 slice-aggregate-s c = sym (length-take-le _ _ (c .before .before .before .pre .1))
 
 loop-holds : tie.Need-loop-holds Inv-loop μ-loop
-loop-holds c = (rw (length-take-le _ _ (c .before .before .before .pre .1)) (search needs), filling-first (c .before .before .before .pre .5), refl)
+loop-holds c = (rw (length-take-le _ _ (c .before .before .before .pre .1)) (search needs), filling-first (c .before .before .before .pre .5), refl, λ e. c .before .before .before .pre .6 (not-mail _ e))
 
 next-word-requires : tie.Need-next-word-requires Inv-loop μ-loop
-next-word-requires c κs = let l = length-take (c .before .before .before .before .args .end) (now (c .before .before .before .before .args .notes)) in (c .loop .inv .0, omega arith, search needs, search needs)
+next-word-requires c κs = let l = length-take (c .before .before .before .before .args .end) (now (c .before .before .before .before .args .notes)) in (c .loop .inv .0, omega arith, search needs, search needs, c .loop .inv .3)
 
 enum-known-w : tie.Need-enum-known-w Inv-loop μ-loop
 enum-known-w c = search needs
@@ -77,7 +85,7 @@ loop-less : tie.Need-loop-less Inv-loop μ-loop
 loop-less c = let w = word (c .before .before .before .before .before .before) in omega (arith, w .on, w .within .end)
 
 loop-again : tie.Need-loop-again Inv-loop μ-loop
-loop-again c = let w = word (c .before .before .before .before .before .before) in (w .within .end, rw (c .before .before .store .ensures) (filling-more (c .before .before .before .before .before .before .before .before .before .loop .inv .1) (c .before .before .before .before .before .before .before .before .before .before .before .before .before .args .end) _ (w .first) (w .ends) (search needs) (w .within) (w .some) (w .narrow)), ap length (c .before .before .store .ensures) ∙ length-with _ _ _ ∙ c .before .before .before .before .before .before .before .before .before .loop .inv .2)
+loop-again c = let w = word (c .before .before .before .before .before .before) in (w .within .end, rw (c .before .before .store .ensures) (filling-more (c .before .before .before .before .before .before .before .before .before .loop .inv .1) (c .before .before .before .before .before .before .before .before .before .before .before .before .before .args .end) _ (w .first) (w .ends) (search needs) (w .within) (w .some) (w .narrow)), ap length (c .before .before .store .ensures) ∙ length-with _ _ _ ∙ c .before .before .before .before .before .before .before .before .before .loop .inv .2, λ e. absurd (false≢true e))
 
 pub split-line-spec : {M : Type 1} → statement M
 split-line-spec =

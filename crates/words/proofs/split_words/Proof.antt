@@ -1,6 +1,6 @@
 -- `words::split_words` meets its contract. Invariant: the words in the table, with those of the lines that are left, are all the words.
 use mathlib.Core.Path.{_≡_, refl, sym, _∙_}
-use mathlib.Core.Bool.{true, false, cond}
+use mathlib.Core.Bool.{false, cond, not}
 use mathlib.Core.List.{List, [], _++_}
 use Prim.Native.Nat.{ℕ, _+_, _-_, _≤_}
 use native.Mathlib.Omega.{arith}
@@ -14,8 +14,7 @@ use Rattle.pieces.specs.Contracts.Bounds.{AllBegin}
 use Rattle.words.specs.Words.{runs}
 use Rattle.words.specs.Contracts.Places.{wordsAt, endsFrom, endsAt}
 use Rattle.words.specs.Contracts.Split.{endsIn, WordsFilled}
-use Rattle.words.specs.Contracts.Scan.{wordsFrom}
-use Rattle.text.specs.Characters.{glyphs}
+use Rattle.words.specs.Contracts.Scan.{glyphsBehind, wordsFrom}
 use Rattle.records.specs.Word.{Word}
 use Rattle.records.specs.Contracts.Table.{wordsIn}
 use Rattle.words.proofs.Filling.{Filling, filling-none, filling-line, filling-over, filling-done}
@@ -65,7 +64,8 @@ add-split-line : tie.Need-add-split-line Inv-loop μ-loop
 add-split-line c = let l = line (c .before .before) in omega (arith, l .shorter, l .within, c .before .before .before .before .before .before .before .before .before .pre .1, c .before .before .before .before .before .before .before .before .before .pre .2)
 
 split-line-requires : tie.Need-split-line-requires Inv-loop μ-loop
-split-line-requires c κs = let l = line (c .before .before .before) in (omega (arith, l .begins, c .before .before .begin .ensures), omega (arith, l .shorter, l .within, c .before .before .before .before .before .before .before .before .before .before .pre .1), search needs, search needs, search needs, c .before .before .before .before .before .before .loop .inv .2 .kept)
+unfolding meant
+split-line-requires c κs = let l = line (c .before .before .before) in (omega (arith, l .begins, c .before .before .begin .ensures), omega (arith, l .shorter, l .within, c .before .before .before .before .before .before .before .before .before .before .pre .1), search needs, search needs, search needs, c .before .before .before .before .before .before .loop .inv .2 .kept, λ m. rw (c .before .before .begin .ensures) (l .ink m))
 
 enum-known-m : tie.Need-enum-known-m Inv-loop μ-loop
 enum-known-m c = search needs
@@ -79,13 +79,13 @@ added c =
     let a = c .before .before .before .before .before .before .before .before .before .before .before .args in
     let l = c .before .before .before .before .before .before .before .loop in
     wordsIn (now (a .notes)) (l .n) (l .table)
-    ++ wordsFrom (meant [] (a .o)) (a .mail) true false (glyphs (meant [] (a .o) .glue) (slice (l .i + cond (a .mail) 0 (l .skip)) (l .i + c .before .before .before .before .first-line .result .text) (now (a .notes))))
+    ++ wordsFrom (meant [] (a .o)) (a .mail) (not (a .mail)) false (glyphsBehind (meant [] (a .o) .glue) (not (a .mail)) (slice (l .i + cond (a .mail) 0 (l .skip)) (l .i + c .before .before .before .before .first-line .result .text) (now (a .notes))))
 
 addedEnds : (c : tie.After-split-line Inv-loop μ-loop) → List ℕ
 addedEnds c =
     let a = c .before .before .before .before .before .before .before .before .before .before .before .args in
     let l = c .before .before .before .before .before .before .before .loop in
-    endsIn (l .n) (l .table) ++ endsFrom (l .i + cond (a .mail) 0 (l .skip)) (runs (glyphs (meant [] (a .o) .glue) (slice (l .i + cond (a .mail) 0 (l .skip)) (l .i + c .before .before .before .before .first-line .result .text) (now (a .notes)))))
+    endsIn (l .n) (l .table) ++ endsFrom (l .i + cond (a .mail) 0 (l .skip)) (runs (glyphsBehind (meant [] (a .o) .glue) (not (a .mail)) (slice (l .i + cond (a .mail) 0 (l .skip)) (l .i + c .before .before .before .before .first-line .result .text) (now (a .notes)))))
 
 filled : (c : tie.After-split-line Inv-loop μ-loop)
     → WordsFilled (c .before .before .before .before .before .before .before .before .before .before .before .args .most) (now (c .before .before .before .before .before .before .before .before .before .before .before .args .notes)) (added c) (addedEnds c) (c .split-line .last .1 .1 .1 .1 .1 .1 .1 .0) (c .split-line .result)

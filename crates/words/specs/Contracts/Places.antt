@@ -3,11 +3,12 @@ use mathlib.Core.Bool.{Bool, cond}
 use mathlib.Core.List.{List, [], _∷_, _++_}
 use Prim.Native.Nat.{ℕ, _+_}
 use lib.Dec.{leb}
-use lib.ListN.{length, drop}
+use lib.ListN.{length}
 use Rattle.lists.specs.Runs.{joined}
 use Rattle.text.specs.Characters.{glyphs, extent}
 use Rattle.options.specs.Opts.{Opts}
 use Rattle.lines.specs.Lines.{Line}
+use Rattle.lines.specs.Classes.{glyphsFrom}
 use Rattle.pieces.specs.Pieces.{Row}
 use Rattle.records.specs.Word.{Word}
 use Rattle.words.specs.Words.{Run, runs, rowWords}
@@ -32,7 +33,8 @@ endsFrom at (r ∷ rs) =
 unfoldable pub endsAt : Bool → Bool → ℕ → ℕ → ℕ → List Line → List ℕ
 endsAt glue mail at start later [] = []
 endsAt glue mail at start later (l ∷ ls) =
-    endsFrom (at + cond mail 0 start) (runs (glyphs glue (drop (cond mail 0 start) (l .text)))) ++ endsAt glue mail (at + length (l .raw)) later later ls
+    let gs = glyphs glue (l .text) in
+    endsFrom (at + cond mail 0 start) (runs (cond mail gs (glyphsFrom start gs))) ++ endsAt glue mail (at + length (l .raw)) later later ls
 
 -- up to so many words are counted
 unfoldable pub counted : ℕ → List Word → Count

@@ -7,6 +7,7 @@ use lib.Dec.{ltb, eqb}
 use lib.ListN.{length, getD, drop}
 use Rattle.lists.specs.Runs.{while, behind}
 use Rattle.text.specs.Characters.{Glyph, glyphs, isBlank, extent}
+use Rattle.text.specs.Contracts.Places.{inkGlyphs, gluedExtent}
 use Rattle.options.specs.Opts.{Opts}
 use Rattle.records.specs.Word.{Word, meaning}
 use Rattle.records.specs.Contracts.Table.{beforeNumber, Within}
@@ -19,6 +20,11 @@ use Rattle.words.specs.declared.Ink.{Ink}
 use Rattle.words.specs.declared.Next.{Next}
 use Rattle.words.specs.declared.Next.the-variants.{One, End}
 
+-- the glyphs of a line's rest, that stands behind ink or not
+abbrev pub glyphsBehind : Bool → Bool → List ℕ → List Glyph
+glyphsBehind glue true xs = inkGlyphs glue xs
+glyphsBehind glue false xs = glyphs glue xs
+
 -- the counts that the code found
 abbrev pub gapIn : Blanks → Gap
 gapIn b = record { before = b .before; after = b .after }
@@ -27,11 +33,15 @@ gapIn b = record { before = b .before; after = b .after }
 abbrev pub gapBehind : ℕ → ℕ → Gap → Gap
 gapBehind tab code g = cond (eqb code 9) (gapTab tab (g .before) (g .after)) (record { before = g .before; after = g .after + 1 })
 
--- r is what stands of blanks at a place
-pub record OverBlanks (glue : Bool) (tab : ℕ) (s : List ℕ) (at : ℕ) (r : Blanks) : Type 0 where
-  pub end : r .end ≡ at + extent (while isBlank (glyphs glue (drop at s)))
-  pub gap : gapIn r ≡ gapOf tab (while isBlank (glyphs glue (drop at s)))
-  pub rest : glyphs glue (drop (r .end) s) ≡ behind isBlank (glyphs glue (drop at s))
+-- no blank stands at a place
+abbrev pub noBlanks : ℕ → Blanks
+noBlanks at = record { end = at; before = Absent; after = 0 }
+
+-- r is what stands of blanks at a place, behind ink or not; behind it a word may begin
+pub record OverBlanks (glue : Bool) (tab : ℕ) (ink : Bool) (s : List ℕ) (at : ℕ) (r : Blanks) : Type 0 where
+  pub end : r .end ≡ at + extent (while isBlank (glyphsBehind glue ink (drop at s)))
+  pub gap : gapIn r ≡ gapOf tab (while isBlank (glyphsBehind glue ink (drop at s)))
+  pub rest : inkGlyphs glue (drop (r .end) s) ≡ behind isBlank (glyphsBehind glue ink (drop at s))
   pub within : r .end ≤ length s
   pub before : beforeNumber (r .before) ≤ 100 * length s
   pub after : r .after ≤ 100 * length s
@@ -39,12 +49,16 @@ pub record OverBlanks (glue : Bool) (tab : ℕ) (s : List ℕ) (at : ℕ) (r : B
 abbrev pub punctCode : ℕ → Bool
 punctCode code = eqb code 33 || eqb code 46 || eqb code 63
 
--- r is what stands of ink at a place; a damaged byte is ink
+-- how many bytes of U+00A0 go on with a word
+abbrev pub gluedBytes : Bool → List Glyph → ℕ
+gluedBytes glue gs = cond glue (gluedExtent gs) 0
+
+-- r is what stands of ink at a place, where a word begins or goes on; a damaged byte is ink
 pub record OverInk (glue : Bool) (s : List ℕ) (at : ℕ) (r : Ink) : Type 0 where
-  pub end : r .end ≡ at + extent (while isInk (glyphs glue (drop at s)))
-  pub width : r .width ≡ widthSum (while isInk (glyphs glue (drop at s)))
-  pub punct : r .punct ≡ punctAtEnd (while isInk (glyphs glue (drop at s)))
-  pub rest : glyphs glue (drop (r .end) s) ≡ behind isInk (glyphs glue (drop at s))
+  pub end : r .end ≡ at + extent (while isInk (inkGlyphs glue (drop at s)))
+  pub width : r .width ≡ widthSum (while isInk (inkGlyphs glue (drop at s)))
+  pub punct : r .punct ≡ punctAtEnd (while isInk (inkGlyphs glue (drop at s)))
+  pub rest : glyphs glue (drop (r .end) s) ≡ behind isInk (inkGlyphs glue (drop at s))
   pub within : r .end ≤ length s
   pub narrow : r .width ≤ r .end
   pub some : r .end ≤ at + 4 * r .width
@@ -103,10 +117,10 @@ unfoldable pub wordsFrom : Opts → Bool → Bool → Bool → List Glyph → Li
 wordsFrom o true newLine previousPunct gs = mailWords (runs gs)
 wordsFrom o false newLine previousPunct gs = lineWords (counting (o .characters)) o newLine previousPunct (runs gs)
 
--- w is the next word at a place
+-- w is the next word at a place; the first of its line begins there, and behind others there are blanks
 pub record NextWord (o : Opts) (mail newLine previousPunct : Bool) (s : List ℕ) (at : ℕ) (w : Record) : Type 0 where
-  pub first : wordsFrom o mail newLine previousPunct (glyphs (o .glue) (drop at s)) ≡ meaning s w ∷ wordsFrom o mail false (w .punct) (glyphs (o .glue) (drop (w .end) s))
-  pub ends : endsFrom at (runs (glyphs (o .glue) (drop at s))) ≡ w .end ∷ endsFrom (w .end) (runs (glyphs (o .glue) (drop (w .end) s)))
+  pub first : wordsFrom o mail newLine previousPunct (glyphsBehind (o .glue) newLine (drop at s)) ≡ meaning s w ∷ wordsFrom o mail false (w .punct) (glyphs (o .glue) (drop (w .end) s))
+  pub ends : endsFrom at (runs (glyphsBehind (o .glue) newLine (drop at s))) ≡ w .end ∷ endsFrom (w .end) (runs (glyphs (o .glue) (drop (w .end) s)))
   pub within : Within (length s) w
   pub on : at < w .end
   pub some : 1 ≤ w .width
@@ -116,5 +130,5 @@ pub record NextWord (o : Opts) (mail newLine previousPunct : Bool) (s : List ℕ
 
 abbrev pub NextIs : Opts → Bool → Bool → Bool → List ℕ → ℕ → Next → Type 0
 NextIs o mail newLine previousPunct s at End =
-    (wordsFrom o mail newLine previousPunct (glyphs (o .glue) (drop at s)) ≡ []) × (endsFrom at (runs (glyphs (o .glue) (drop at s))) ≡ [])
+    (wordsFrom o mail newLine previousPunct (glyphsBehind (o .glue) newLine (drop at s)) ≡ []) × (endsFrom at (runs (glyphsBehind (o .glue) newLine (drop at s))) ≡ [])
 NextIs o mail newLine previousPunct s at (One w) = NextWord o mail newLine previousPunct s at w
