@@ -1,7 +1,7 @@
 -- Blank characters: none, spaces, and a text's blank glyphs where the text has no line feed. And a damaged text is not all blank.
 use mathlib.Core.Path.{_≡_, refl, sym, ap, _∙_}
 use mathlib.Core.Bool.{Bool, true, false, cond, not, _&&_, false≢true, and-eq-true-iff}
-use mathlib.Core.List.{List, [], _∷_, _++_}
+use mathlib.Core.List.{List, [], _∷_, _++_, map}
 use Prim.Native.Nat.{ℕ, zero, suc}
 use lib.Dec.{eqb}
 use lib.ListN.{replicate}
@@ -16,21 +16,20 @@ use Rattle.text.specs.Theorems.Blanks.{spaceCode, Blanks}
 use Rattle.text.proofs.Extents.{Sound}
 use Rattle.text.proofs.Glue.{every-good}
 
-pub blanks-none : Blanks []
-blanks-none = record { codes = []; blank = every-nil spaceCode; octets = sym (joined-nil encode) }
+pub blanks-none : Blanks [] []
+blanks-none = record { blank = every-nil spaceCode; octets = sym (joined-nil encode) }
 
 -- one blank character more at the front
-blanks-cons : (c : ℕ) (bytes : List ℕ) → spaceCode c ≡ true → Blanks bytes → Blanks (encode c ++ bytes)
-blanks-cons c bytes e b = record {
-  codes = c ∷ b .codes;
-  blank = rw (every-cons spaceCode c (b .codes), e, b .blank);
-  octets = rw (joined-cons encode c (b .codes)) (ap (λ (l : List ℕ). encode c ++ l) (b .octets));
+blanks-cons : (c : ℕ) (codes bytes : List ℕ) → spaceCode c ≡ true → Blanks codes bytes → Blanks (c ∷ codes) (encode c ++ bytes)
+blanks-cons c codes bytes e b = record {
+  blank = rw (every-cons spaceCode c codes, e, b .blank);
+  octets = rw (joined-cons encode c codes) (ap (λ (l : List ℕ). encode c ++ l) (b .octets));
 }
 
-pub blanks-spaces : (n : ℕ) (bytes : List ℕ) → Blanks bytes → Blanks (replicate n 32 ++ bytes)
+pub blanks-spaces : (n : ℕ) (codes bytes : List ℕ) → Blanks codes bytes → Blanks (replicate n 32 ++ codes) (replicate n 32 ++ bytes)
 unfolding encode blankCode
-blanks-spaces zero bytes b = b
-blanks-spaces (suc n) bytes b = blanks-cons 32 (replicate n 32 ++ bytes) refl (blanks-spaces n bytes b)
+blanks-spaces zero codes bytes b = b
+blanks-spaces (suc n) codes bytes b = blanks-cons 32 (replicate n 32 ++ codes) (replicate n 32 ++ bytes) refl (blanks-spaces n codes bytes b)
 
 -- a blank glyph in which no line feed stands
 no-feed : (g : Glyph) → Sound g → g .blank ≡ true → every (λ b. not (eqb b 10)) (g .bytes) ≡ true → spaceCode (g .code) ≡ true
@@ -45,12 +44,12 @@ no-feed g s e f = go (eqb (g .code) 10) refl
 
 -- the blank glyphs of a text that has no line feed
 pub blanks-glyphs : (gs : List Glyph) → All Sound gs → every isBlank gs ≡ true → every (λ b. not (eqb b 10)) (joined (λ (g : Glyph). g .bytes) gs) ≡ true
-    → Blanks (joined (λ (g : Glyph). g .bytes) gs)
+    → Blanks (map (λ (g : Glyph). g .code) gs) (joined (λ (g : Glyph). g .bytes) gs)
 blanks-glyphs [] s e f = rw joined-nil blanks-none
 blanks-glyphs (g ∷ gs) s e f =
     let h = and-eq-true-iff (g .blank) (every isBlank gs) .0 (rw every-cons at e) in
     let k = and-eq-true-iff _ _ .0 (rw (joined-cons, every-append) at f) in
-    rw (joined-cons, s .0 .octets (h .0)) (blanks-cons (g .code) _ (no-feed g (s .0) (h .0) (k .0)) (blanks-glyphs gs (s .1) (h .1) (k .1)))
+    rw (joined-cons, s .0 .octets (h .0)) (blanks-cons (g .code) _ _ (no-feed g (s .0) (h .0) (k .0)) (blanks-glyphs gs (s .1) (h .1) (k .1)))
 
 blank-good : (gs : List Glyph) → All Sound gs → every isBlank gs ≡ true → every isGood gs ≡ true
 blank-good [] s e = every-nil isGood

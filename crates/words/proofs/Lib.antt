@@ -8,6 +8,7 @@ pub mod Tabless
 pub mod NextWord
 pub mod Filling
 pub mod Rows
+pub mod Gaps
 pub mod Spelled
 pub mod Order
 pub mod Unique

@@ -1,9 +1,10 @@
--- Bytes that spell blank characters and nothing else, none of them a line feed.
+-- Bytes that spell blank characters and nothing else, none of them a line feed; and those between two words.
 use mathlib.Core.Path.{_≡_}
-use mathlib.Core.Bool.{Bool, true, not, _&&_}
+use mathlib.Core.Bool.{Bool, true, false, not, _&&_}
 use mathlib.Core.List.{List}
-use Prim.Native.Nat.{ℕ}
+use Prim.Native.Nat.{ℕ, _<_}
 use lib.Dec.{eqb}
+use lib.ListN.{length}
 use Rattle.lists.specs.Runs.{every, joined}
 use Rattle.text.specs.Rfc3629.{encode}
 use Rattle.text.specs.Characters.{blankCode}
@@ -11,7 +12,15 @@ use Rattle.text.specs.Characters.{blankCode}
 abbrev pub spaceCode : ℕ → Bool
 spaceCode c = blankCode c && not (eqb c 10)
 
-pub record Blanks (bytes : List ℕ) : Type 0 where
-  pub codes : List ℕ
+-- bytes that spell these characters
+pub record Blanks (codes bytes : List ℕ) : Type 0 where
   pub blank : every spaceCode codes ≡ true
   pub octets : bytes ≡ joined encode codes
+
+-- What parts two words of a line: such bytes, and some. With glue on, one of the characters at least is no U+00A0; so by the rule of document 02,
+-- P2, none of them is ordinary, whatever stands before and behind them (`gap-stays` in proofs/Gaps.antt).
+pub record Gap (glue : Bool) (bytes : List ℕ) : Type 0 where
+  pub codes : List ℕ
+  pub blanks : Blanks codes bytes
+  pub some : 0 < length bytes
+  pub other : glue ≡ true → every (λ c. eqb c 0xA0) codes ≡ false
