@@ -1,4 +1,4 @@
--- A paragraph's lines are formatted, and the words of its first line and of its other lines begin where the code was told: at a glyph.
+-- A paragraph's lines are formatted, and the words of its first line and of its other lines begin where the code was told: at ink.
 use mathlib.Core.Path.{_≡_, refl, sym}
 use mathlib.Core.Bool.{Bool, true, false, cond, _&&_, _||_, false≢true}
 use mathlib.Core.List.{List, [], _∷_}
@@ -17,7 +17,7 @@ use Rattle.lines.specs.declared.Class.the-variants.{Blank, Plain, Formatted}
 use Rattle.lines.proofs.Shapes.{known}
 use Rattle.pieces.specs.Pieces.{agrees, secondRule, follow, alone, joins, secondAs, secondOf, followSecond, further}
 use Rattle.pieces.specs.Contracts.Places.{laterStart, startAt}
-use Rattle.pieces.specs.Contracts.Bounds.{GlyphBegins, AllBegin}
+use Rattle.pieces.specs.Contracts.Bounds.{InkBegins, AllBegin}
 
 -- a formatted line whose words begin at a place
 pub record Starts (o : Opts) (start : ℕ) (l : Line) : Type 0 where
@@ -80,13 +80,13 @@ module _ (o : Opts) where
       go false true = second-starts s ls
       go false false = follow-starts (agrees s) (s .«indent_end») (agree-indent s) ls
 
-  -- ---- so a glyph begins at each start
+  -- ---- so ink stands at each start
 
   module _ (least : 1 ≤ o .tab) (most : o .tab ≤ 100) where
-    begin : (start : ℕ) (l : Line) → Starts o start l → GlyphBegins (o .glue) start (l .text)
+    begin : (start : ℕ) (l : Line) → Starts o start l → InkBegins (o .glue) start (l .text)
     begin start l s =
         let k = known o (l .text) (s .shape) least most (s .formatted) in
-        rw (← s .indent) (record { within = omega (arith, k .indent); glyph = k .rest })
+        rw (← s .indent) (record { within = omega (arith, k .indent); glyph = k .rest; ink = k .ink })
 
     all-begin : (start : ℕ) (ls : List Line) → All (Starts o start) ls → AllBegin (o .glue) start start ls
     unfolding AllBegin

@@ -157,7 +157,6 @@ module _ {glue : Bool} {s : List ℕ} {at : ℕ} where
       let f = e ∙ blank-on glue s (w .end) h in
       ink-end w i (rw f (while-end isInk _ _ t)) (ap (behind isInk) f ∙ behind-end isInk _ _ t ∙ sym (blank-on glue s (w .end) h))
 
-
 -- U+00A0 by which a word goes on, one column each
 module _ (s : List ℕ) (w : Ink) (end : ℕ) where
   abbrev run : List Glyph
