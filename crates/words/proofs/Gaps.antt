@@ -65,11 +65,11 @@ behind-ink (c ∷ cs) a = pick (settle-first true true c cs) (behind-ink cs (a .
         still b = run (noBreak c) refl
           where
             run : (n : Bool) → noBreak c ≡ n → inkBehind true c ≡ true
-            run true h = behind-run c cs true h
+            run true h = behind-run true c h
             run false h =
                 let f = sym (settle-other true c cs true h) ∙ e in
                 let q : c ≡ cond t (ordinary c) c = cc in
-                behind-other c cs true h ∙ ap (λ (g : Glyph). not (g .blank)) q ∙ ap not b
+                behind-other true c h ∙ ap (λ (g : Glyph). not (g .blank)) q ∙ ap not b
 
         go : (b : Bool) → cond t (ordinary c) c .blank ≡ b → OfLine true (behind isInk (settle true true (c ∷ cs)))
         go true b = record { cs = c ∷ cs; read = a; are = ap (behind isInk) e ∙ behind-end isInk _ _ (ap not b) ∙ sym e }
