@@ -10,7 +10,7 @@ use borrow.Author.Tests.{eqb-true, leb-true, ltb-true}
 use Rattle.lists.specs.Walk.{walk}
 use Rattle.lists.specs.Runs.{every}
 use Rattle.lists.proofs.Walk.{walk-nil, walk-step}
-use Rattle.text.specs.Characters.{glyphs, isGood}
+use Rattle.text.specs.Characters.{characters, isGood}
 use Rattle.text.specs.declared.Found.{Found}
 use Rattle.text.specs.declared.Found.the-variants.{At, Nowhere}
 use Rattle.options.specs.OptionBlock.{number, Field, tagOf, sizeOf, valueOf, Start, nextField, fields, flagBits, allowed, wellFormed, firstFault, leastWidth, partOf, optionsOf, fits, judged, readBlock}
@@ -30,17 +30,17 @@ allowed-small tag size v h = one (eqb tag 1) refl h
     both false true n m p q k = (omega (arith, eqb-true tag 6 q), and-eq-true-iff n m .0 k .0)
     both false false n m p q k = absurd (false≢true k)
 
-    five : cond (eqb tag 5 || eqb tag 6) (leb size 255 && every isGood (glyphs false v)) false ≡ true → (tag ≤ 6) × (size ≤ 255)
+    five : cond (eqb tag 5 || eqb tag 6) (leb size 255 && every isGood (characters v)) false ≡ true → (tag ≤ 6) × (size ≤ 255)
     five k = let b = both (eqb tag 5) (eqb tag 6) (leb size 255) _ refl refl k in (b .0, leb-true size 255 (b .1))
 
     four : (t : Bool) → eqb tag 4 ≡ t
-        → cond t (eqb size 2 && leb (number v) 100) (cond (eqb tag 5 || eqb tag 6) (leb size 255 && every isGood (glyphs false v)) false) ≡ true → (tag ≤ 6) × (size ≤ 255)
+        → cond t (eqb size 2 && leb (number v) 100) (cond (eqb tag 5 || eqb tag 6) (leb size 255 && every isGood (characters v)) false) ≡ true → (tag ≤ 6) × (size ≤ 255)
     four true p k = (omega (arith, eqb-true tag 4 p), two (eqb size 2) refl (and-eq-true-iff _ _ .0 k .0))
     four false p k = five k
 
     three : (a b : Bool) → eqb tag 2 ≡ a → eqb tag 3 ≡ b
         → cond (a || b) (eqb size 2 && leb 1 (number v) && leb (number v) 1000)
-        (cond (eqb tag 4) (eqb size 2 && leb (number v) 100) (cond (eqb tag 5 || eqb tag 6) (leb size 255 && every isGood (glyphs false v)) false))
+        (cond (eqb tag 4) (eqb size 2 && leb (number v) 100) (cond (eqb tag 5 || eqb tag 6) (leb size 255 && every isGood (characters v)) false))
         ≡ true → (tag ≤ 6) × (size ≤ 255)
     three true b p q k = (omega (arith, eqb-true tag 2 p), two (eqb size 2) refl (and-eq-true-iff _ _ .0 (and-eq-true-iff _ _ .0 k .0) .0))
     three false true p q k = (omega (arith, eqb-true tag 3 q), two (eqb size 2) refl (and-eq-true-iff _ _ .0 (and-eq-true-iff _ _ .0 k .0) .0))
@@ -49,7 +49,7 @@ allowed-small tag size v h = one (eqb tag 1) refl h
     one : (t : Bool) → eqb tag 1 ≡ t
         → cond t (eqb size 2 && ltb (number v) (2 ^ flagBits))
         (cond (eqb tag 2 || eqb tag 3) (eqb size 2 && leb 1 (number v) && leb (number v) 1000)
-        (cond (eqb tag 4) (eqb size 2 && leb (number v) 100) (cond (eqb tag 5 || eqb tag 6) (leb size 255 && every isGood (glyphs false v)) false)))
+        (cond (eqb tag 4) (eqb size 2 && leb (number v) 100) (cond (eqb tag 5 || eqb tag 6) (leb size 255 && every isGood (characters v)) false)))
         ≡ true → (tag ≤ 6) × (size ≤ 255)
     one true p k = (omega (arith, eqb-true tag 1 p), two (eqb size 2) refl (and-eq-true-iff _ _ .0 k .0))
     one false p k = three (eqb tag 2) (eqb tag 3) refl refl k

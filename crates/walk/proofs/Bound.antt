@@ -14,7 +14,7 @@ use Rattle.lists.specs.Theorems.All.{All}
 use Rattle.lists.proofs.Parts.{joined-nil, joined-cons, joined-append}
 use Rattle.lists.proofs.Extents.{each-all}
 use Rattle.text.specs.Characters.{Glyph, glyphs}
-use Rattle.text.proofs.Glyphs.{glyphs-joined}
+use Rattle.text.proofs.Edges.{glyphs-joined}
 use Rattle.options.specs.Opts.{Opts}
 use Rattle.lines.specs.Lines.{Line, body, firstLine, linesOf}
 use Rattle.lines.specs.Classes.{glyphsBefore, glyphsFrom}
