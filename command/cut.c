@@ -6,8 +6,8 @@
  * feed ends its line even inside a broken character, so the first damaged character of the whole is that of the first damaged part, and
  * no paragraph reaches over a blank line.
  *
- * Which lines are blank depends on the options: U+00A0 is no blank under glue. A line of ASCII's blanks alone, an empty one or one of a
- * carriage return among them, is blank under all options, and no other line is cut at. A last line without a line feed is not either. */
+ * Which lines are blank does not depend on the options. Only those of ASCII's blanks alone, an empty one or one of a carriage return among
+ * them, are cut at; others, of U+0085 or U+00A0, are not looked for. A last line without a line feed is not cut at either. */
 #include "command.h"
 
 #include <string.h>

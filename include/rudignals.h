@@ -77,7 +77,8 @@ enum rudignals_flag {
     RUDIGNALS_EXACT_PREFIX = 64, /* the prefix stands at the line's start, not behind blanks */
     RUDIGNALS_EXACT_SKIP = 128,  /* likewise the skip prefix */
     RUDIGNALS_KEEP = 256,        /* a line with a damaged character is kept as it is, not refused */
-    RUDIGNALS_GLUE = 512,        /* U+00A0 is an ordinary character and no blank */
+    RUDIGNALS_GLUE = 512,        /* U+00A0 is part of a word, unless the nearest other character of its line, left or right, is a blank or
+                                  * not there: then it is a blank, as it is everywhere without glue */
     RUDIGNALS_SENTENCE_CHARACTERS = 1024 /* where sentences part, blanks are counted by characters and not by bytes. It shows under uniform
                                           * alone: elsewhere only the first word of a line gets an added space, and it starts no sentence */
 };

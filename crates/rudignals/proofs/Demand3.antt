@@ -1,7 +1,7 @@
 -- Demand 3, in the customer's sentences. Each statement is about the definitions of specs/ alone, no code, and is proved with nothing
 -- assumed; where a proof is long it stands in the file cited. The words of the statements: `answer`, `measuring`,
 -- `writing` and `done` (specs/Format.antt and Answers.antt; `done bytes` is code 0 with those bytes), `LineEnd` and `LineIs` (specs/Theorems/LineEnds.antt), `Closed` (lines/specs),
--- `Blanks` (text/specs), `InOrder` (output/specs/Theorems/Order.antt), `rowInk` (words/specs/Theorems/Ink.antt), `All` and `∈`
+-- `Gap` (text/specs/Theorems/Blanks.antt), `InOrder` (output/specs/Theorems/Order.antt), `rowInk` (words/specs/Theorems/Ink.antt), `All` and `∈`
 -- (lists/specs/Theorems/All.antt), `joined` (lists/specs/Runs.antt).
 use mathlib.Core.Path.{_≡_, refl, sym, _∙_}
 use mathlib.Core.Bool.{Bool, true, false, _||_}
@@ -16,8 +16,8 @@ use Rattle.lists.specs.Theorems.All.{All, _∈_}
 use Rattle.lists.proofs.All.{all-back, all-weaken}
 use Rattle.lists.proofs.Parts.{every-nil}
 use Rattle.text.specs.Characters.{damage}
-use Rattle.text.specs.Theorems.Blanks.{Blanks}
-use Rattle.text.specs.declared.Found.the-variants.{At}
+use Rattle.text.specs.Theorems.Blanks.{Gap}
+use Rattle.text.specs.declared.Found.the-variants.{At, Nowhere}
 use Rattle.options.specs.Opts.{Opts, meant}
 use Rattle.options.specs.OptionBlock.{readBlock}
 use Rattle.options.specs.declared.Options.{Options}
@@ -41,6 +41,7 @@ use Rattle.rudignals.specs.Theorems.LineEnds.{LineEnd, feed, LineIs}
 use Rattle.formatter.proofs.Together.{together-they-do-what-the-old-call-did, measured-room-suffices}
 use Rattle.formatter.proofs.Answers.{measured-done, answer-measured}
 use Rattle.rudignals.proofs.Boundary.{measuring-boundary}
+use Rattle.rudignals.proofs.Gaps.{Stands, gap-stands}
 use Rattle.rudignals.proofs.Order.{rows-of, paragraph-order}
 use Rattle.walk.proofs.Extents.{extents-are-notes, extents-some, joined-at, output-some, damaged-pieces, plain-digest}
 use Rattle.rudignals.proofs.LineEnds.{LineAt, line-of-bytes, line-at}
@@ -135,12 +136,21 @@ module _ (block first second : List ℕ) (o : Options) (digest₁ digest₂ : Li
 -- ---- 2. words stand once and in order
 
 -- A paragraph's output is its first indent, then its words in order, each once, and a line feed at the end; between two neighbours
--- stand blanks only, at least one, or a line feed and the paragraph's indent. The breaks may be quick's, Knuth-Plass's or mail's.
+-- stands a gap, at least one blank character and nothing else, with glue on not U+00A0 alone; or a line feed and the paragraph's indent.
+-- The breaks may be quick's, Knuth-Plass's or mail's.
 pub words-stand-once-and-in-order : (o : Opts) (notes : List ℕ) (q : Piece) (p : Paragraph)
     → q ∈ pieces o notes
     → q .kind ≡ paragraph p
-    → InOrder (λ s. ((0 < length s) × Blanks (o .glue) s) ⊎ (s ≡ 10 ∷ p .indent .bytes)) (p .first .bytes) (wordsOf o p) (pieceOutput o q)
+    → InOrder (λ s. Gap (o .glue) s ⊎ (s ≡ 10 ∷ p .indent .bytes)) (p .first .bytes) (wordsOf o p) (pieceOutput o q)
 words-stand-once-and-in-order = paragraph-order
+
+-- A gap is blank by the rule of document 02, P2, read on the line that it stands on, whatever is before and behind it there: the line's
+-- glyphs are those of the undamaged text before the gap, those of the gap, each of them a blank, and the rest. (`Stands`: proofs/Gaps.)
+pub a-gap-is-blank-where-it-stands : (glue : Bool) (before gap after : List ℕ)
+    → damage before ≡ Nowhere
+    → Gap glue gap
+    → Stands glue before gap after
+a-gap-is-blank-where-it-stands = gap-stands
 
 -- Its words are those of its lines, line by line ..
 pub words-come-from-the-lines : (o : Opts) (notes : List ℕ) (q : Piece) (p : Paragraph)

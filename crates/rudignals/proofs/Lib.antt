@@ -2,5 +2,6 @@ pub mod Boundary
 pub mod Order
 pub mod LineEnds
 pub mod Undamaged
+pub mod Gaps
 pub mod Demand3
 pub mod Unique

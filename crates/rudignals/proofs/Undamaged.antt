@@ -12,7 +12,7 @@ use Rattle.lists.proofs.Parts.{every-cons, every-append}
 use Rattle.lists.proofs.Walk.{each-step}
 use Rattle.lists.proofs.Extents.{each-append}
 use Rattle.text.specs.Rfc3629.{Front, front, nothing, scalar, encode, spelled, decode}
-use Rattle.text.specs.Characters.{Glyph, accepted, character, glyphAs, glyph, glyphs, isGood, damage}
+use Rattle.text.specs.Characters.{Glyph, accepted, character, glyphAs, glyph, characters, glyphs, isGood, damage}
 use Rattle.text.specs.declared.Found.the-variants.{Nowhere}
 use Rattle.text.proofs.Decoder.{complete}
 use Rattle.text.proofs.Places.{accepted-front}
@@ -34,31 +34,31 @@ front-append a b c n e =
     rw (complete c (a ++ b) (drop n a ++ b) (record { isScalar = d .stands .isScalar; octets = s }), k .isAccepted, ← d .count)
 
 -- a good glyph too
-good-append : (a b : List ℕ) → glyph false a .damaged ≡ false → glyph false (a ++ b) ≡ glyph false a
+good-append : (a b : List ℕ) → glyph a .damaged ≡ false → glyph (a ++ b) ≡ glyph a
 unfolding glyph
 good-append a b h = go (character a) refl h
   where
-    go : (f : Front) → character a ≡ f → glyphAs false a f .damaged ≡ false → glyph false (a ++ b) ≡ glyph false a
+    go : (f : Front) → character a ≡ f → glyphAs a f .damaged ≡ false → glyph (a ++ b) ≡ glyph a
     go (front c n) e k = rw (e, front-append a b c n e, take-append-le n a b (accepted-front a c n e .decoded .within))
     go nothing e k = absurd (false≢true (sym k))
 
-abbrev Good : List ℕ → Type 0
-Good a = every isGood (glyphs false a) ≡ true
+abbrev pub Good : List ℕ → Type 0
+Good a = every isGood (characters a) ≡ true
 
-glyphs-append : (a b : List ℕ) → Good a → glyphs false (a ++ b) ≡ glyphs false a ++ glyphs false b
-unfolding glyphs
-glyphs-append a b g = each-append cut (glyph false) Good b stays a g
+pub characters-append : (a b : List ℕ) → Good a → characters (a ++ b) ≡ characters a ++ characters b
+unfolding characters
+characters-append a b g = each-append cut glyph Good b stays a g
   where
     cut : List ℕ → ℕ
-    cut xs = length (glyph false xs .bytes) - 1
+    cut xs = length (glyph xs .bytes) - 1
 
     stays : (d : List ℕ) → Good d → 0 < length d
-        → (glyph false (d ++ b) ≡ glyph false d) × (cut (d ++ b) ≡ cut d) × (cut d < length d) × Good (drop (suc (cut d)) d)
+        → (glyph (d ++ b) ≡ glyph d) × (cut (d ++ b) ≡ cut d) × (cut d < length d) × Good (drop (suc (cut d)) d)
     stays d w h =
-        let s = each-step cut (glyph false) d h in
-        let k = and-eq-true-iff (isGood (glyph false d)) (every isGood (glyphs false (drop (suc (cut d)) d))) .0 (rw (s, every-cons isGood) at w) in
-        let y = bytes-of false d h in
-        let e = good-append d b (not-damaged (glyph false d .damaged) (k .0)) in
+        let s = each-step cut glyph d h in
+        let k = and-eq-true-iff (isGood (glyph d)) (every isGood (characters (drop (suc (cut d)) d))) .0 (rw (s, every-cons isGood) at w) in
+        let y = bytes-of d h in
+        let e = good-append d b (not-damaged (glyph d .damaged) (k .0)) in
         (e, ap (λ (q : Glyph). length (q .bytes) - 1) e, omega (arith, y .some, y .within, y .count), k .1)
       where
         not-damaged : (t : Bool) → not t ≡ true → t ≡ false
@@ -69,14 +69,17 @@ good-sound : (a : List ℕ) → Good a → damage a ≡ Nowhere
 unfolding damage
 good-sound a g = rw g
 
+pub damage-good : (a : List ℕ) → damage a ≡ Nowhere → Good a
+damage-good a h = sym (every-good false a) ∙ damage-none false a h
+
 pub damage-append : (a b : List ℕ) → damage a ≡ Nowhere → damage b ≡ Nowhere → damage (a ++ b) ≡ Nowhere
 damage-append a b h g =
-    let p = damage-none false a h in
-    good-sound (a ++ b) (rw (glyphs-append a b p, every-append isGood (glyphs false a) (glyphs false b), p, damage-none false b g))
+    let p = damage-good a h in
+    good-sound (a ++ b) (rw (characters-append a b p, every-append isGood (characters a) (characters b), p, damage-good b g))
 
 -- a blank line is not damaged
 pub blank-sound : (o : Opts) (line : List ℕ) → classify o line ≡ Blank → damage line ≡ Nowhere
-blank-sound o line e = good-sound line (every-good false (o .glue) line ∙ go (every isGood (glyphs (o .glue) line)) refl)
+blank-sound o line e = good-sound line (sym (every-good (o .glue) line) ∙ go (every isGood (glyphs (o .glue) line)) refl)
   where
     go : (t : Bool) → every isGood (glyphs (o .glue) line) ≡ t → every isGood (glyphs (o .glue) line) ≡ true
     go true g = g
@@ -84,9 +87,9 @@ blank-sound o line e = good-sound line (every-good false (o .glue) line ∙ go (
 
 -- nor is a line end
 pub feed-sound : damage (10 ∷ []) ≡ Nowhere
-unfolding damage glyphs each piece walk walkUpTo glyph character decode spelled encode scalar accepted begins every
+unfolding damage characters each piece walk walkUpTo glyph character decode spelled encode scalar accepted begins every
 feed-sound = refl
 
 pub return-feed-sound : damage (13 ∷ 10 ∷ []) ≡ Nowhere
-unfolding damage glyphs each piece walk walkUpTo glyph character decode spelled encode scalar accepted begins every
+unfolding damage characters each piece walk walkUpTo glyph character decode spelled encode scalar accepted begins every
 return-feed-sound = refl

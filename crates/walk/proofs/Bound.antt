@@ -46,12 +46,12 @@ bytes-append : (a b : List Glyph) → length (bytesOf (a ++ b)) ≡ length (byte
 unfolding bytesOf
 bytes-append a b = rw joined-append (length-append (bytesOf a) (bytesOf b))
 
-spelled-bulk : (uniform : Bool) (ws : List Word) (gs : List Glyph) → Spelled uniform ws gs → bulk ws ≤ length (bytesOf gs)
+spelled-bulk : (glue uniform : Bool) (ws : List Word) (gs : List Glyph) → Spelled glue uniform ws gs → bulk ws ≤ length (bytesOf gs)
 unfolding bulk
-spelled-bulk uniform [] gs s = omega arith
-spelled-bulk uniform (w ∷ ws) gs s =
+spelled-bulk glue uniform [] gs s = omega arith
+spelled-bulk glue uniform (w ∷ ws) gs s =
     let b = s .1 in
-    let r = spelled-bulk uniform ws (s .0) (s .2) in
+    let r = spelled-bulk glue uniform ws (s .0) (s .2) in
     let p = ap (λ (l : List Glyph). length (bytesOf l)) (b .parts) ∙ bytes-append (b .blanks) (b .ink ++ s .0) in
     let q = bytes-append (b .ink) (s .0) in
     let t = ap length (b .text) in
@@ -65,7 +65,7 @@ spelled-bulk uniform (w ∷ ws) gs s =
 
 row-bulk : (o : Opts) (mail : Bool) (row : Row) → bulk (rowWords o mail row) ≤ length (row .text)
 unfolding bytesOf
-row-bulk o mail row = omega (arith, spelled-bulk (o .uniform || mail) (rowWords o mail row) (cond mail gs (glyphsFrom (row .start) gs)) (row-spelled o mail row), read mail)
+row-bulk o mail row = omega (arith, spelled-bulk (o .glue) (o .uniform || mail) (rowWords o mail row) (cond mail gs (glyphsFrom (row .start) gs)) (row-spelled o mail row), read mail)
   where
     gs : List Glyph
     gs = glyphs (o .glue) (row .text)
