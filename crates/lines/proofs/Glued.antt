@@ -1,18 +1,18 @@
 -- A line's glyphs and its characters: cut at a place, both are cut alike and take the same columns, and U+00A0 behind the cut is classed
--- by what stands before it. And whether a run of U+00A0 at a place is ordinary.
-use mathlib.Core.Path.{_≡_, refl, sym, ap, ap₂, _∙_}
-use mathlib.Core.Bool.{Bool, true, false, cond, not, _&&_, and-eq-true-iff}
+-- by what stands before it.
+use mathlib.Core.Path.{_≡_, refl, sym, ap, _∙_}
+use mathlib.Core.Bool.{Bool, true, false, cond}
 use mathlib.Core.List.{List, [], _∷_, _++_}
 use Prim.Native.Nat.{ℕ, _+_, _-_}
 use native.Mathlib.Omega.{arith}
 use lib.Dec.{ltb}
-use lib.ListN.{length, drop}
+use lib.ListN.{length}
 use borrow.Author.Tests.{ltb-true, ltb-false}
-use Rattle.text.specs.Characters.{Glyph, characters, ordinary, glyphs, isTab, extent}
+use Rattle.text.specs.Characters.{Glyph, ordinary, extent}
 use Rattle.text.specs.Contracts.Places.{settle, inkBehind, inkAfter}
-use Rattle.text.proofs.Glue.{glyphs-settle, settle-none, settle-first}
+use Rattle.text.proofs.Glue.{settle-none, settle-first}
 use Rattle.lines.specs.Classes.{glyphsBefore, glyphsFrom, columnBehind, columnsOf}
-use Rattle.lines.specs.Contracts.Places.{behindAll, inkBefore}
+use Rattle.lines.specs.Contracts.Places.{behindAll}
 use Rattle.lines.specs.declared.Spot.{Spot}
 use Rattle.lines.proofs.Measures.{behind-cons, upTo-zero, upTo-more, from-zero, from-more}
 

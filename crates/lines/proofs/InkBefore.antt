@@ -2,17 +2,17 @@
 -- are looked for.
 use mathlib.Core.Path.{_≡_, refl, sym, ap, _∙_}
 use mathlib.Core.Bool.{Bool, true, false, not, _&&_, and-eq-true-iff}
-use mathlib.Core.List.{List, [], _∷_, _++_, map}
+use mathlib.Core.List.{List, _∷_, _++_, map}
 use Prim.Native.Nat.{ℕ, _+_, _-_, _≤_, _<_}
 use native.Mathlib.Nat.{sub-zero}
 use native.Mathlib.Omega.{arith}
-use lib.Dec.{ltb, eqb}
+use lib.Dec.{ltb}
 use lib.ListN.{length, drop}
 use borrow.Author.Tests.{ltb-true, ltb-false, eq-eqb, ne-eqb}
-use Rattle.lists.specs.Runs.{while, every}
+use Rattle.lists.specs.Runs.{while}
 use Rattle.lists.proofs.Runs.{while-more, while-end, every-end}
 use Rattle.text.specs.Characters.{Glyph, glyph, characters, noBreak, ordinary, inkAhead, glyphs, isBlank, extent}
-use Rattle.text.specs.Contracts.Places.{settle, inkGlyphs, inkBehind, inkAfter, noBreakAt}
+use Rattle.text.specs.Contracts.Places.{inkGlyphs, inkBehind, inkAfter, noBreakAt}
 use Rattle.text.proofs.Glyphs.{Here, DamagedHere}
 use Rattle.text.proofs.Glue.{behind-run, behind-other, glyphs-settle}
 use Rattle.text.proofs.NoBreaks.{no-break-here, no-break-other, ink-past}

@@ -25,13 +25,13 @@ unfolding inkGlyphs settle glyphs
 ink-off xs = refl
 
 -- another character than U+00A0
-blank-code : {t : Bool} {s : List ℕ} {at code next : ℕ} → Here t s at code next → (code ≡ 0xA0 → ⊥) → noBreak (glyph (drop at s)) ≡ false
-blank-code g h = ne-eqb _ _ (λ e. h (sym (g .hasCode) ∙ e))
+other-code : {t : Bool} {s : List ℕ} {at code next : ℕ} → Here t s at code next → (code ≡ 0xA0 → ⊥) → noBreak (glyph (drop at s)) ≡ false
+other-code g h = ne-eqb _ _ (λ e. h (sym (g .hasCode) ∙ e))
 
 damaged-code : {s : List ℕ} {at : ℕ} → DamagedHere s at → noBreak (glyph (drop at s)) ≡ false
 damaged-code g = ap (λ (c : ℕ). eqb c 0xA0) (g .hasCode)
 
-pub ink-code : {s : List ℕ} {at code next : ℕ} → Here false s at code next → code ≡ 0xA0 → ⊥
+ink-code : {s : List ℕ} {at code next : ℕ} → Here false s at code next → code ≡ 0xA0 → ⊥
 unfolding blankCode
 ink-code g e = let k = sym (ap blankCode e) ∙ g .isBlankCode in let z : _≡_ {A = ℕ} 0 1 = cc in omega arith
 
@@ -58,12 +58,13 @@ module _ (glue : Bool) (s : List ℕ) (at : ℕ) where
           ap (settle glue true) f ∙ settle-start glue (glyph (drop at s)) (characters (drop (at + length (glyph (drop at s) .bytes)) s)) e ∙ sym (ap (settle glue false) f) ∙ sym (glyphs-settle glue (drop at s))
       pick false h = let l = ltb-false at (length s) h in ink-past l ∙ sym (glyphs-past l)
 
-  -- any character but U+00A0: behind a blank is no ink
-  other-on : (next : ℕ) (ink blank : Bool) → characters (drop at s) ≡ glyph (drop at s) ∷ characters (drop next s) → noBreak (glyph (drop at s)) ≡ false → glyph (drop at s) .blank ≡ blank
-      → settle glue ink (characters (drop at s)) ≡ glyph (drop at s) ∷ settle glue (not blank) (characters (drop next s))
-  other-on next ink blank e n b =
-      ap (settle glue ink) e
-      ∙ settle-other glue (glyph (drop at s)) (characters (drop next s)) ink n
+  -- one character more that is no blank
+  more : (next : ℕ) → characters (drop at s) ≡ glyph (drop at s) ∷ characters (drop next s) → noBreak (glyph (drop at s)) ≡ false → glyph (drop at s) .blank ≡ false
+      → inkGlyphs glue (drop at s) ≡ glyph (drop at s) ∷ inkGlyphs glue (drop next s)
+  unfolding inkGlyphs
+  more next e n b =
+      ap (settle glue true) e
+      ∙ settle-other glue (glyph (drop at s)) (characters (drop next s)) true n
       ∙ ap (λ (t : Bool). glyph (drop at s) ∷ settle glue (not t) (characters (drop next s))) b
 
   module _ {code next : ℕ} where
@@ -75,27 +76,17 @@ module _ (glue : Bool) (s : List ℕ) (at : ℕ) where
         ∙ settle-blank glue (glyph (drop at s)) (characters (drop next s)) (g .isBlank)
         ∙ ap (λ (gs : List Glyph). glyph (drop at s) ∷ gs) (sym (glyphs-settle glue (drop next s)))
 
-    -- ink: the first of a word, and one more
-    pub ink-start : Here false s at code next → glyphs glue (drop at s) ≡ glyph (drop at s) ∷ inkGlyphs glue (drop next s)
-    unfolding inkGlyphs
-    ink-start g = glyphs-settle glue (drop at s) ∙ other-on next false false (g .first) (blank-code g (ink-code g)) (g .isBlank)
-
+    -- one more character of a word
     pub ink-on : Here false s at code next → inkGlyphs glue (drop at s) ≡ glyph (drop at s) ∷ inkGlyphs glue (drop next s)
-    unfolding inkGlyphs
-    ink-on g = other-on next true false (g .first) (blank-code g (ink-code g)) (g .isBlank)
+    ink-on g = more next (g .first) (other-code g (ink-code g)) (g .isBlank)
 
     -- a word ends at another blank than U+00A0
     pub ink-stop : Here true s at code next → (code ≡ 0xA0 → ⊥) → inkGlyphs glue (drop at s) ≡ glyphs glue (drop at s)
-    ink-stop g h = ink-begins (blank-code g h)
+    ink-stop g h = ink-begins (other-code g h)
 
   -- a damaged byte is ink
-  pub damaged-start : DamagedHere s at → glyphs glue (drop at s) ≡ glyph (drop at s) ∷ inkGlyphs glue (drop (at + 1) s)
-  unfolding inkGlyphs
-  damaged-start g = glyphs-settle glue (drop at s) ∙ other-on (at + 1) false false (g .first) (damaged-code g) (g .isBlank)
-
   pub damaged-on : DamagedHere s at → inkGlyphs glue (drop at s) ≡ glyph (drop at s) ∷ inkGlyphs glue (drop (at + 1) s)
-  unfolding inkGlyphs
-  damaged-on g = other-on (at + 1) true false (g .first) (damaged-code g) (g .isBlank)
+  damaged-on g = more (at + 1) (g .first) (damaged-code g) (g .isBlank)
 
   -- what stands first is not changed: behind no ink nothing is made ordinary
   pub glyphs-first : at < length s → glyphs glue (drop at s) ≡ glyph (drop at s) ∷ settle glue (inkBehind false (glyph (drop at s))) (characters (drop (at + length (glyph (drop at s) .bytes)) s))
@@ -127,10 +118,6 @@ module _ (s : List ℕ) (at : ℕ) where
 -- the glyphs' bytes, joined, are the text
 pub glyphs-joined : (glue : Bool) (xs : List ℕ) → joined (λ g. g .bytes) (glyphs glue xs) ≡ xs
 glyphs-joined glue xs = ap (joined (λ g. g .bytes)) (glyphs-settle glue xs) ∙ settle-joined glue false (characters xs) ∙ characters-joined xs
-
-pub ink-joined : (glue : Bool) (xs : List ℕ) → joined (λ g. g .bytes) (inkGlyphs glue xs) ≡ xs
-unfolding inkGlyphs
-ink-joined glue xs = settle-joined glue true (characters xs) ∙ characters-joined xs
 
 -- where what is left of a line begins with no blank, it is read as behind ink: U+00A0 is blank elsewhere
 pub ink-stands : (glue ink : Bool) (xs : List ℕ) (g : Glyph) (gs : List Glyph) → settle glue ink (characters xs) ≡ g ∷ gs → g .blank ≡ false → settle glue ink (characters xs) ≡ inkGlyphs glue xs

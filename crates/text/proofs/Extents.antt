@@ -89,7 +89,7 @@ ordinary-sound : (g : Glyph) → Sound g → Sound (ordinary g)
 ordinary-sound g s = record { some = s .some; good = λ e. absurd (false≢true e); code = λ e. absurd (false≢true e); octets = λ e. absurd (false≢true e) }
 
 -- of all glyphs of the rest of a line, and of a whole one
-pub settle-sound : (glue ink : Bool) (xs : List ℕ) → All Sound (settle glue ink (characters xs))
+settle-sound : (glue ink : Bool) (xs : List ℕ) → All Sound (settle glue ink (characters xs))
 settle-sound glue ink xs = settle-all Sound ordinary-sound glue ink (characters xs) (all-weaken Read Sound (λ g r. r .isSound) (characters xs) (characters-read xs))
 
 pub glyphs-sound : (glue : Bool) (xs : List ℕ) → All Sound (glyphs glue xs)

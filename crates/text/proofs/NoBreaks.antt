@@ -1,11 +1,11 @@
 -- U+00A0: its two bytes at a place tell it; and a run of it, with what is behind it.
 use mathlib.Core.Path.{_≡_, refl, sym, ap, _∙_}
-use mathlib.Core.Bool.{Bool, true, false, cond, not, _&&_, and-eq-true-iff, false≢true}
+use mathlib.Core.Bool.{Bool, true, false, not, _&&_, and-eq-true-iff, false≢true}
 use mathlib.Core.List.{List, [], _∷_, _++_}
 use Prim.Native.Nat.{ℕ, suc, _+_, _*_, _≤_, _<_}
 use native.Mathlib.Omega.{arith}
 use lib.Dec.{ltb, eqb}
-use lib.ListN.{length, getD, take, drop, length-drop, take-append-drop, List·getD-eq-default}
+use lib.ListN.{length, getD, drop, length-drop, take-append-drop, List·getD-eq-default}
 use lib.Seq.{getD-drop}
 use borrow.Author.Tests.{ltb-true, ltb-false, eqb-true, eq-eqb, ne-eqb}
 use Rattle.lists.specs.Runs.{while}
@@ -18,7 +18,7 @@ use Rattle.text.specs.Contracts.Places.{pairCode, Pair, noBreakAt, glued
 use Rattle.text.proofs.Forms.{lead}
 use Rattle.text.proofs.Glyphs.{Here, bytes-of, characters-past, characters-first}
 use Rattle.text.proofs.Letters.{pair-here}
-use Rattle.text.proofs.Extents.{Read, glyph-read, characters-read}
+use Rattle.text.proofs.Extents.{Read, glyph-read}
 use Rattle.text.proofs.Glue.{ahead-none, ahead-run, ahead-other}
 
 -- one that was read

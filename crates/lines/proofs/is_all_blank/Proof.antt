@@ -7,7 +7,7 @@ use native.Mathlib.Omega.{arith}
 use lib.ListN.{length, getD, drop}
 use borrow.Author.Needs.{needs}
 use Rattle.lists.specs.Runs.{every}
-use Rattle.text.specs.Characters.{blankCode, glyphs, isBlank}
+use Rattle.text.specs.Characters.{glyphs, isBlank}
 use Rattle.text.proofs.Glyphs.{Here, ascii-here, blank-here, not-blank}
 use Rattle.lines.proofs.Turns.{all-on, all-stop, all-past}
 use Rattle.lines.proofs.is_all_blank.Statement.{statement}

@@ -1,8 +1,7 @@
 -- `text::is_ink` meets its contract: the first character there is not U+00A0, so that it alone decides.
 use denote.Ref.{now}
 use mathlib.Core.Path.{sym, ap, _∙_}
-use mathlib.Core.Bool.{Bool, not}
-use native.Mathlib.Omega.{arith}
+use mathlib.Core.Bool.{not}
 use borrow.Author.Needs.{needs}
 use Rattle.text.proofs.Glyphs.{blank-here, not-blank}
 use Rattle.text.proofs.NoBreaks.{ink-past, ink-first}
