@@ -2,7 +2,9 @@
 -- The public functions of all crates, and the law that each stands on:
 --
 --   widths        width, is_white_space, leaf, mid, top                                     an equation
---   text          decode_at, char_at, is_blank, width, glyph_at, is_letter, first_damage    an equation: `equal-unique`
+--   text          decode_at, char_at, is_blank, width, glyph_at, is_no_break, is_letter,
+--                 first_damage                                                              an equation: `equal-unique`
+--   text          glued_end                                                                 an equation, with a bound: `bounded-unique`
 --   options       read_block                                                                an equation
 --   lines         first_line, begins, classify                                              an equation
 --   pieces        is_header                                                                 an equation
