@@ -3,7 +3,7 @@
 use pieces::Margin;
 use records::Word;
 ghost use mathlib.Core.Path.{_≡_};
-ghost use mathlib.Core.Bool.{true, false};
+ghost use mathlib.Core.Bool.{true, false, cond};
 ghost use mathlib.Core.List.{_++_};
 ghost use Prim.Native.Nat.{_+_, _-_, _≤_, _<_, _^_, min};
 ghost use lib.ListN.{length, take, replicate};
@@ -361,6 +361,47 @@ fn emit_rest(
     k + put_feed(&mut out[place..])
 }
 
+// The bytes of an indent.
+fn margin_size(m: Margin) -> usize
+    requires { ⌜ (m .start ≤ m .end) × (m .end < 2 ^ 32) × (m .more < 2 ^ 32) ⌝ }
+    ensures { λ r. ⌜ (r ≡ m .end - m .start + m .more) × (r < 2 ^ 33) ⌝ }
+{
+    m.end - m.start + m.more
+}
+
+// The bytes of a word with what stands before it: on a fresh line a line feed and the indent, of so many bytes.
+fn placed_size(w: Word, fresh: bool, added: usize, indent: usize) -> usize
+    requires { ⌜ Within (2 ^ 32) w × (added ≤ 2) × (indent < 2 ^ 33) ⌝ }
+    ensures { λ r. ⌜ (r ≡ cond fresh (1 + indent + (w .end - w .start)) (added + (w .end - w .from))) × (r < 2 ^ 34) ⌝ }
+{
+    if fresh {
+        return 1 + indent + (w.end - w.start);
+    }
+    added + (w.end - w.from)
+}
+
+// The bytes of a paragraph, where none of them is to be written: counted from the table, without a look at the notes.
+fn emitted_size(notes: &[u8], table: &[u32], n: usize, marks: &[bool], l: Layout) -> usize
+    requires { ⌜ Laid (now notes) (now table) n (now marks) l ⌝ }
+    ensures { λ r. ⌜ (r ≡ length (emitted (now (notes .entry)) (now (table .entry)) n (now (marks .entry)) l)) × (r < 2 ^ 62) ⌝ }
+{
+    let head = records::get(table, 0);
+    let first = l.first;
+    let indent = margin_size(l.indent);
+    let mut k = margin_size(first) + (head.end - head.start);
+    // The first word's own punctuation does not count.
+    let mut punct = false;
+    let mut i = 1;
+    while i < n {
+        let w = records::get(table, i);
+        let added = spacing::added_space(l.uniform, w.first, w.sentence, punct);
+        k += placed_size(w, marks[i], added, indent);
+        punct = w.punct;
+        i += 1;
+    }
+    k + 1
+}
+
 // A paragraph of n words, broken where the marks say, written behind at bytes. Answers the written end, whether or not all of it fitted.
 pub fn emit(
     notes: &[u8],
@@ -374,6 +415,9 @@ pub fn emit(
     requires { ⌜ Laid (now notes) (now table) n (now marks) l × (at < 2 ^ 62) ⌝ }
     ensures { λ r. ⌜ Wrote (now (out .entry)) at (emitted (now (notes .entry)) (now (table .entry)) n (now (marks .entry)) l) (now (out .exit)) r × (r ≤ at + mostEmitted (now (notes .entry)) (now (table .entry)) n l) ⌝ }
 {
+    if out.len() <= at {
+        return at + emitted_size(notes, table, n, marks, l);
+    }
     let w = records::get(table, 0);
     let first = l.first;
     // The first word's own punctuation does not count.
