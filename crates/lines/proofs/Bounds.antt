@@ -7,8 +7,9 @@ use Prim.Native.Nat.{ℕ, _+_, _-_, _*_, _≤_}
 use native.Mathlib.Omega.{arith}
 use lib.ListN.{length, drop, length-drop}
 use lib.Seq.{drop-drop}
-use Rattle.text.specs.Rfc3629.{Front, front, nothing}
-use Rattle.text.specs.Characters.{character, widthOf, Glyph, glyphAs, glyph, characters, glyphs, isTab, extent}
+use Rattle.text.specs.Rfc3629.{Front, front, nothing, decode}
+use Rattle.widths.specs.Widths.{widthOf}
+use Rattle.text.specs.Characters.{Glyph, glyphAs, glyph, characters, glyphs, isTab, extent}
 use Rattle.text.specs.Contracts.Places.{settle, inkAfter}
 use Rattle.text.proofs.Glyphs.{Bytes, characters-past, characters-step, characters-induct}
 use Rattle.text.proofs.Glue.{glyphs-settle}
@@ -20,7 +21,7 @@ use Rattle.lines.proofs.Glued.{columns-settle, settle-cut}
 
 glyph-narrow : (xs : List ℕ) → glyph xs .width ≤ 2
 unfolding glyph widthOf
-glyph-narrow xs = pick (character xs)
+glyph-narrow xs = pick (decode xs)
   where
     pick : (f : Front) → glyphAs xs f .width ≤ 2
     pick nothing = omega arith

@@ -10,7 +10,8 @@ use lib.ListN.{length, drop}
 use borrow.Author.Tests.{eq-eqb, ne-eqb}
 use Rattle.lists.specs.Runs.{while, every}
 use Rattle.lists.proofs.Runs.{while-more, every-more}
-use Rattle.text.specs.Characters.{widthOf, Glyph, glyph, characters, glyphs, isBlank, extent}
+use Rattle.widths.specs.Widths.{widthOf}
+use Rattle.text.specs.Characters.{Glyph, glyph, characters, glyphs, isBlank, extent}
 use Rattle.text.proofs.Glyphs.{Here, DamagedHere}
 use Rattle.text.proofs.Edges.{blank-on}
 use Rattle.lines.specs.Classes.{glyphsBefore, glyphsFrom, nextStop, columnBehind, columnsOf}

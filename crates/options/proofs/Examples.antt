@@ -6,7 +6,9 @@ use Prim.Native.Nat.{ℕ}
 use Rattle.lists.specs.Walk.{walk, walkUpTo, piece, each}
 use Rattle.lists.specs.Runs.{every, begins}
 use Rattle.text.specs.Rfc3629.{scalar, encode, spelled, decode}
-use Rattle.text.specs.Characters.{accepted, character, blankCode, widthOf, glyph, characters}
+use Rattle.widths.specs.Widths.{widthOf}
+use Rattle.widths.specs.WhiteSpace.{whiteSpace}
+use Rattle.text.specs.Characters.{glyph, characters}
 use Rattle.options.specs.declared.Part.{Part}
 use Rattle.options.specs.declared.Part.the-variants.{Absent, Given}
 use Rattle.options.specs.declared.Block.{Block}
@@ -64,7 +66,7 @@ record Worked : Type 0 where
   damaged : readBlock (6 ∷ 0 ∷ 2 ∷ 62 ∷ 0xC2 ∷ []) ≡ Fault 0
 
 worked : Worked
-unfolding number tagOf sizeOf valueOf nextField fields allowed wellFormed firstFault partOf fits optionsOf readBlock walk walkUpTo piece each every begins scalar encode spelled decode accepted character blankCode widthOf glyph characters
+unfolding number tagOf sizeOf valueOf nextField fields allowed wellFormed firstFault partOf fits optionsOf readBlock walk walkUpTo piece each every begins scalar encode spelled decode accepted character whiteSpace widthOf glyph characters
 worked = record {
   defaults = refl;
   width5 = refl;

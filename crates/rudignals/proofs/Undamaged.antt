@@ -12,10 +12,9 @@ use Rattle.lists.proofs.Parts.{every-cons, every-append}
 use Rattle.lists.proofs.Walk.{each-step}
 use Rattle.lists.proofs.Extents.{each-append}
 use Rattle.text.specs.Rfc3629.{Front, front, nothing, scalar, encode, spelled, decode}
-use Rattle.text.specs.Characters.{Glyph, accepted, character, glyphAs, glyph, characters, glyphs, isGood, damage}
+use Rattle.text.specs.Characters.{Glyph, glyphAs, glyph, characters, glyphs, isGood, damage}
 use Rattle.text.specs.declared.Found.the-variants.{Nowhere}
-use Rattle.text.proofs.Decoder.{complete}
-use Rattle.text.proofs.Places.{accepted-front}
+use Rattle.text.proofs.Decoder.{sound, complete}
 use Rattle.text.proofs.Glyphs.{bytes-of}
 use Rattle.text.proofs.Glue.{every-good}
 use Rattle.text.proofs.Damage.{damage-none}
@@ -25,21 +24,19 @@ use Rattle.lines.specs.declared.Class.the-variants.{Blank}
 use Rattle.lines.proofs.Ink.{damaged-plain}
 
 -- a character at the front of a text is found there with more behind the text
-front-append : (a b : List ℕ) (c n : ℕ) → character a ≡ front c n → character (a ++ b) ≡ front c n
-unfolding character
+front-append : (a b : List ℕ) (c n : ℕ) → decode a ≡ front c n → decode (a ++ b) ≡ front c n
 front-append a b c n e =
-    let k = accepted-front a c n e in
-    let d = k .decoded in
+    let d = sound a c n e in
     let s : a ++ b ≡ encode c ++ (drop n a ++ b) = ap (λ (l : List ℕ). l ++ b) (d .stands .octets) ∙ append-assoc (encode c) (drop n a) b in
-    rw (complete c (a ++ b) (drop n a ++ b) (record { isScalar = d .stands .isScalar; octets = s }), k .isAccepted, ← d .count)
+    rw (complete c (a ++ b) (drop n a ++ b) (record { isScalar = d .stands .isScalar; octets = s }), ← d .count)
 
 -- a good glyph too
 good-append : (a b : List ℕ) → glyph a .damaged ≡ false → glyph (a ++ b) ≡ glyph a
 unfolding glyph
-good-append a b h = go (character a) refl h
+good-append a b h = go (decode a) refl h
   where
-    go : (f : Front) → character a ≡ f → glyphAs a f .damaged ≡ false → glyph (a ++ b) ≡ glyph a
-    go (front c n) e k = rw (e, front-append a b c n e, take-append-le n a b (accepted-front a c n e .decoded .within))
+    go : (f : Front) → decode a ≡ f → glyphAs a f .damaged ≡ false → glyph (a ++ b) ≡ glyph a
+    go (front c n) e k = rw (e, front-append a b c n e, take-append-le n a b (sound a c n e .within))
     go nothing e k = absurd (false≢true (sym k))
 
 abbrev pub Good : List ℕ → Type 0
@@ -87,9 +84,9 @@ blank-sound o line e = good-sound line (sym (every-good (o .glue) line) ∙ go (
 
 -- nor is a line end
 pub feed-sound : damage (10 ∷ []) ≡ Nowhere
-unfolding damage characters each piece walk walkUpTo glyph character decode spelled encode scalar accepted begins every
+unfolding damage characters each piece walk walkUpTo glyph decode spelled encode scalar begins every
 feed-sound = refl
 
 pub return-feed-sound : damage (13 ∷ 10 ∷ []) ≡ Nowhere
-unfolding damage characters each piece walk walkUpTo glyph character decode spelled encode scalar accepted begins every
+unfolding damage characters each piece walk walkUpTo glyph decode spelled encode scalar begins every
 return-feed-sound = refl

@@ -10,7 +10,8 @@ use Rattle.lists.specs.Runs.{every, joined, while}
 use Rattle.lists.specs.Theorems.All.{All}
 use Rattle.lists.proofs.Parts.{every-nil, every-cons, every-append, joined-nil, joined-cons}
 use Rattle.text.specs.Rfc3629.{encode}
-use Rattle.text.specs.Characters.{blankCode, Glyph, characters, glyphs, isBlank, isGood, extent, damage}
+use Rattle.widths.specs.WhiteSpace.{whiteSpace}
+use Rattle.text.specs.Characters.{Glyph, characters, glyphs, isBlank, isGood, extent, damage}
 use Rattle.text.specs.declared.Found.the-variants.{At, Nowhere}
 use Rattle.text.specs.Theorems.Blanks.{spaceCode, Blanks}
 use Rattle.text.proofs.Extents.{Sound}
@@ -27,7 +28,7 @@ blanks-cons c codes bytes e b = record {
 }
 
 pub blanks-spaces : (n : ℕ) (codes bytes : List ℕ) → Blanks codes bytes → Blanks (replicate n 32 ++ codes) (replicate n 32 ++ bytes)
-unfolding encode blankCode
+unfolding encode whiteSpace
 blanks-spaces zero codes bytes b = b
 blanks-spaces (suc n) codes bytes b = blanks-cons 32 (replicate n 32 ++ codes) (replicate n 32 ++ bytes) refl (blanks-spaces n codes bytes b)
 
@@ -36,7 +37,7 @@ no-feed : (g : Glyph) → Sound g → g .blank ≡ true → every (λ b. not (eq
 unfolding every encode
 no-feed g s e f = go (eqb (g .code) 10) refl
   where
-    go : (t : Bool) → eqb (g .code) 10 ≡ t → (blankCode (g .code) && not t) ≡ true
+    go : (t : Bool) → eqb (g .code) 10 ≡ t → (whiteSpace (g .code) && not t) ≡ true
     go true k =
         let o : g .bytes ≡ encode 10 = s .octets e ∙ ap encode (eqb-true (g .code) 10 k) in
         absurd (false≢true (rw o at f))

@@ -12,7 +12,8 @@ use borrow.Author.Tests.{ltb-true, ltb-false, ne-eqb}
 use Rattle.lists.specs.Runs.{while, behind, joined}
 use Rattle.lists.specs.Theorems.All.{All}
 use Rattle.lists.proofs.Runs.{while-more, while-end, behind-more, behind-end}
-use Rattle.text.specs.Characters.{blankCode, Glyph, glyph, characters, noBreak, ordinary, inkAhead, glyphs, extent}
+use Rattle.widths.specs.WhiteSpace.{whiteSpace}
+use Rattle.text.specs.Characters.{Glyph, glyph, characters, noBreak, ordinary, inkAhead, glyphs, extent}
 use Rattle.text.specs.Contracts.Places.{settle, inkGlyphs, inkBehind}
 use Rattle.text.proofs.Glyphs.{Here, DamagedHere, Bytes, characters-past, characters-first, characters-step, characters-induct, characters-joined}
 use Rattle.text.proofs.Extents.{Read, characters-read}
@@ -32,8 +33,8 @@ damaged-code : {s : List ℕ} {at : ℕ} → DamagedHere s at → noBreak (glyph
 damaged-code g = ap (λ (c : ℕ). eqb c 0xA0) (g .hasCode)
 
 ink-code : {s : List ℕ} {at code next : ℕ} → Here false s at code next → code ≡ 0xA0 → ⊥
-unfolding blankCode
-ink-code g e = let k = sym (ap blankCode e) ∙ g .isBlankCode in let z : _≡_ {A = ℕ} 0 1 = cc in omega arith
+unfolding whiteSpace
+ink-code g e = let k = sym (ap whiteSpace e) ∙ g .isBlankCode in let z : _≡_ {A = ℕ} 0 1 = cc in omega arith
 
 module _ (glue : Bool) (s : List ℕ) (at : ℕ) where
   pub glyphs-past : length s ≤ at → glyphs glue (drop at s) ≡ []

@@ -13,7 +13,9 @@ use Rattle.lists.proofs.Runs.{begins-front}
 use Rattle.lists.proofs.All.{all-weaken}
 use Rattle.lists.proofs.Extents.{each-all}
 use Rattle.text.specs.Rfc3629.{Front, front, nothing, scalar, encode, spelled, decode}
-use Rattle.text.specs.Characters.{accepted, onlyAccepted, character, blankCode, widthOf, Glyph, glyphAs, glyph, characters, ordinary, glyphs}
+use Rattle.widths.specs.Widths.{widthOf}
+use Rattle.widths.specs.WhiteSpace.{whiteSpace}
+use Rattle.text.specs.Characters.{Glyph, glyphAs, glyph, characters, ordinary, glyphs}
 use Rattle.text.specs.Contracts.Places.{settle}
 use Rattle.text.proofs.Glue.{glyphs-settle, settle-all}
 
@@ -45,17 +47,17 @@ decode-octets (a ∷ xs) c n e = go (spelled a xs) (scalar (spelled a xs)) (begi
 pub record Sound (g : Glyph) : Type 0 where
   pub some : 0 < length (g .bytes)
   pub good : g .blank ≡ true → g .damaged ≡ false
-  pub code : g .blank ≡ true → blankCode (g .code) ≡ true
+  pub code : g .blank ≡ true → whiteSpace (g .code) ≡ true
   pub octets : g .blank ≡ true → g .bytes ≡ encode (g .code)
 
 -- what holds of each character besides
 pub record Read (g : Glyph) : Type 0 where
   pub isSound : Sound g
-  pub isBlank : blankCode (g .code) ≡ g .blank
+  pub isBlank : whiteSpace (g .code) ≡ g .blank
   pub hasWidth : g .damaged ≡ false → g .width ≡ widthOf (g .code)
 
 pub glyph-read : (xs : List ℕ) → 0 < length xs → Read (glyph xs)
-unfolding glyph character blankCode
+unfolding glyph whiteSpace
 glyph-read [] h = absurd (omega arith)
 glyph-read (x ∷ xs) h = read (decode (x ∷ xs)) refl
   where
@@ -69,16 +71,12 @@ glyph-read (x ∷ xs) h = read (decode (x ∷ xs)) refl
       hasWidth = λ e. absurd (false≢true (sym e));
     }
 
-    some : (c n : ℕ) (a : Bool) → decode (x ∷ xs) ≡ front c n → ReadAs (cond a (front c n) nothing)
-    some c n true e =
+    read : (f : Front) → decode (x ∷ xs) ≡ f → ReadAs f
+    read (front c n) e =
         let d = decode-octets (x ∷ xs) c n e in
         let l : length (take n (x ∷ xs)) ≡ n = rw (d .1) (sym (d .0)) in
         let s = encode-some c in
         record { isSound = record { some = omega arith; good = λ e. refl; code = λ e. e; octets = λ e. d .1 }; isBlank = refl; hasWidth = λ e. refl }
-    some c n false e = none
-
-    read : (f : Front) → decode (x ∷ xs) ≡ f → ReadAs (onlyAccepted f)
-    read (front c n) e = some c n (accepted c) e
     read nothing e = none
 
 pub characters-read : (xs : List ℕ) → All Read (characters xs)

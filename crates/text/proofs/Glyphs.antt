@@ -13,8 +13,10 @@ use Rattle.lists.proofs.Walk.{each-nil, each-step, each-at}
 use Rattle.lists.proofs.Pieces.{each-induct}
 use Rattle.lists.proofs.Views.{drop-here, drop-none}
 use Rattle.lists.proofs.Slices.{slice-is, slice-one}
-use Rattle.text.specs.Rfc3629.{Front, front, nothing}
-use Rattle.text.specs.Characters.{accepted, character, blankCode, widthOf, Glyph, glyphAs, glyph, characters}
+use Rattle.text.specs.Rfc3629.{Front, front, nothing, decode}
+use Rattle.widths.specs.Widths.{widthOf}
+use Rattle.widths.specs.WhiteSpace.{whiteSpace}
+use Rattle.text.specs.Characters.{Glyph, glyphAs, glyph, characters}
 use Rattle.text.specs.Contracts.Places.{readAs, seenAs}
 use Rattle.text.specs.declared.Char.the-variants.{Good, Damaged}
 use Rattle.text.specs.declared.Glyph.{Glyph as Seen}
@@ -22,12 +24,9 @@ use Rattle.text.specs.declared.Glyph.the-variants.{Ink, Blank, Damaged a
 use Rattle.text.proofs.Glyph.{the-type}
 use denote.Enum.Declared.{tagOf}
 use types.Run.{OneOf}
+use Rattle.text.proofs.Decoder.{sound}
 use Rattle.text.proofs.Forms.{ascii}
-use Rattle.text.proofs.Places.{accepted-front, seen-char, glyph-char, damaged-char, good-front, damaged-front}
-
-ascii-character : (a : ℕ) (xs : List ℕ) → a < 0x80 → character (a ∷ xs) ≡ front a 1
-unfolding character accepted
-ascii-character a xs h = rw (ascii a xs h, le-leb a 0x2FF (omega arith), ne-eqb a 0xAD (omega arith))
+use Rattle.text.proofs.Places.{seen-char, glyph-char, damaged-char, good-front, damaged-front}
 
 -- how many bytes the first character has
 pub record Bytes (xs : List ℕ) : Type 0 where
@@ -39,13 +38,13 @@ pub record Bytes (xs : List ℕ) : Type 0 where
 
 pub bytes-of : (xs : List ℕ) → 0 < length xs → Bytes xs
 unfolding glyph
-bytes-of xs h = pick (character xs) refl
+bytes-of xs h = pick (decode xs) refl
   where
-    pick : (f : Front) → character xs ≡ f → Bytes xs
+    pick : (f : Front) → decode xs ≡ f → Bytes xs
     pick nothing e = record { n = 1; some = omega arith; within = h; are = rw e; count = rw e (length-take-le 1 xs h) }
-    pick (front c m) e = let d = accepted-front xs c m e .decoded in record { n = m; some = d .some; within = d .within; are = rw e; count = rw e (length-take-le m xs (d .within)) }
+    pick (front c m) e = let d = sound xs c m e in record { n = m; some = d .some; within = d .within; are = rw e; count = rw e (length-take-le m xs (d .within)) }
 
--- an accepted character stands at a place, and the next one at next
+-- a character stands at a place, and the next one at next
 pub record Here (blank : Bool) (s : List ℕ) (at code next : ℕ) : Type 0 where
   pub on : at < next
   pub few : next ≤ at + 4
@@ -53,14 +52,13 @@ pub record Here (blank : Bool) (s : List ℕ) (at code next : ℕ) : Type 0 wher
   pub first : characters (drop at s) ≡ glyph (drop at s) ∷ characters (drop next s)
   pub isGood : glyph (drop at s) .damaged ≡ false
   pub isBlank : glyph (drop at s) .blank ≡ blank
-  pub isBlankCode : blankCode code ≡ blank
+  pub isBlankCode : whiteSpace code ≡ blank
   pub hasCode : glyph (drop at s) .code ≡ code
-  pub isAccepted : accepted code ≡ true
   pub hasWidth : glyph (drop at s) .width ≡ widthOf code
   pub hasBytes : glyph (drop at s) .bytes ≡ slice at next s
   pub count : length (glyph (drop at s) .bytes) ≡ next - at
 
--- no accepted character stands at a place, and the next one stands behind the byte there
+-- no character stands at a place, and the next one stands behind the byte there
 pub record DamagedHere (s : List ℕ) (at : ℕ) : Type 0 where
   pub first : characters (drop at s) ≡ glyph (drop at s) ∷ characters (drop (at + 1) s)
   pub isDamaged : glyph (drop at s) .damaged ≡ true
@@ -82,14 +80,13 @@ module _ (s : List ℕ) (at : ℕ) where
   pub characters-first : at < length s → characters (drop at s) ≡ glyph (drop at s) ∷ characters (drop (at + length (glyph (drop at s) .bytes)) s)
   characters-first h = let b = bytes-of (drop at s) (simp length-drop (omega arith)) in characters-at _ h (omega arith) refl
 
-  glyph-is : (f : Front) → character (drop at s) ≡ f → glyph (drop at s) ≡ glyphAs (drop at s) f
+  glyph-is : (f : Front) → decode (drop at s) ≡ f → glyph (drop at s) ≡ glyphAs (drop at s) f
   unfolding glyph
   glyph-is f e = ap (glyphAs (drop at s)) e
 
-  front-here : (c n : ℕ) → character (drop at s) ≡ front c n → Here (blankCode c) s at c (at + n)
+  front-here : (c n : ℕ) → decode (drop at s) ≡ front c n → Here (whiteSpace c) s at c (at + n)
   front-here c n e =
-      let a = accepted-front (drop at s) c n e in
-      let d = a .decoded in
+      let d = sound (drop at s) c n e in
       let g = glyph-is (front c n) e in
       let w : n ≤ length s - at = rw (← length-drop at s) (d .within) in
       let l : length (take n (drop at s)) ≡ n = length-take-le n (drop at s) (d .within) in
@@ -103,26 +100,25 @@ module _ (s : List ℕ) (at : ℕ) where
         isBlank = rw g;
         isBlankCode = refl;
         hasCode = rw g;
-        isAccepted = a .isAccepted;
         hasWidth = rw g;
         hasBytes = rw g (sym (slice-is at n s));
         count = omega arith;
       }
 
-  -- from the answer of char_at
-  pub char-here : (code next : ℕ) → readAs at (character (drop at s)) ≡ Good code next → Here (blankCode code) s at code next
-  char-here code next h = let v = good-front at (character (drop at s)) code next h in rw (← v .2) (front-here code (v .0) (v .1))
+  -- from the answer of decode_at
+  pub char-here : (code next : ℕ) → readAs at (decode (drop at s)) ≡ Good code next → Here (whiteSpace code) s at code next
+  char-here code next h = let v = good-front at (decode (drop at s)) code next h in rw (← v .2) (front-here code (v .0) (v .1))
 
-  pub char-damaged-here : at < length s → readAs at (character (drop at s)) ≡ Damaged → DamagedHere s at
+  pub char-damaged-here : at < length s → readAs at (decode (drop at s)) ≡ Damaged → DamagedHere s at
   char-damaged-here h e =
-      let g = glyph-is nothing (damaged-front at (character (drop at s)) e) in
+      let g = glyph-is nothing (damaged-front at (decode (drop at s)) e) in
       let b : glyph (drop at s) .bytes ≡ getD s at 0 ∷ [] = rw g (sym (slice-is at 1 s) ∙ slice-one 0 s at h) in
       record { first = characters-at 1 h (omega arith) (ap length b); isDamaged = rw g; isBlank = rw g; hasCode = rw g; hasWidth = rw g; hasBytes = b }
 
   -- from the answer of glyph_at
   glyph-here : (t : Bool) (code next : ℕ) → seenAs at (glyph (drop at s)) ≡ cond t (Blank code next) (Ink code next) → Here t s at code next
   glyph-here t code next h =
-      let v = glyph-char (readAs at (character (drop at s))) t code next (seen-char at (drop at s) ∙ h) in
+      let v = glyph-char (readAs at (decode (drop at s))) t code next (seen-char at (drop at s) ∙ h) in
       rw (← v .1) (char-here code next (v .0))
 
   pub ink-here : (code next : ℕ) → seenAs at (glyph (drop at s)) ≡ Ink code next → Here false s at code next
@@ -131,15 +127,15 @@ module _ (s : List ℕ) (at : ℕ) where
   pub blank-here : (code next : ℕ) → seenAs at (glyph (drop at s)) ≡ Blank code next → Here true s at code next
   blank-here code next h = glyph-here true code next h
 
-  damaged-char-here : seenAs at (glyph (drop at s)) ≡ Broken → readAs at (character (drop at s)) ≡ Damaged
-  damaged-char-here e = damaged-char (readAs at (character (drop at s))) (seen-char at (drop at s) ∙ e)
+  damaged-char-here : seenAs at (glyph (drop at s)) ≡ Broken → readAs at (decode (drop at s)) ≡ Damaged
+  damaged-char-here e = damaged-char (readAs at (decode (drop at s))) (seen-char at (drop at s) ∙ e)
 
   pub damaged-here : at < length s → seenAs at (glyph (drop at s)) ≡ Broken → DamagedHere s at
   damaged-here h e = char-damaged-here h (damaged-char-here e)
 
   -- where a pattern for one variant did not fit, the answer's tag is another's
   damaged-is : Broken ≡ seenAs at (glyph (drop at s)) → glyph (drop at s) ≡ glyphAs (drop at s) nothing
-  damaged-is e = glyph-is nothing (damaged-front at (character (drop at s)) (damaged-char-here (sym e)))
+  damaged-is e = glyph-is nothing (damaged-front at (decode (drop at s)) (damaged-char-here (sym e)))
 
   pub not-blank : (r : Seen) → r ≡ seenAs at (glyph (drop at s)) → OneOf (0 ∷ 2 ∷ []) (tagOf the-type r) → glyph (drop at s) .blank ≡ false
   not-blank (Ink c n) e h = ink-here c n (sym e) .isBlank
@@ -147,8 +143,8 @@ module _ (s : List ℕ) (at : ℕ) where
   not-blank Broken e h = rw (damaged-is e)
 
   -- a byte below 0x80 reads as itself
-  pub ascii-here : at < length s → getD s at 0 < 0x80 → Here (blankCode (getD s at 0)) s at (getD s at 0) (at + 1)
-  ascii-here h k = front-here (getD s at 0) 1 (rw (drop-here 0 s at h) (ascii-character (getD s at 0) (drop (at + 1) s) k))
+  pub ascii-here : at < length s → getD s at 0 < 0x80 → Here (whiteSpace (getD s at 0)) s at (getD s at 0) (at + 1)
+  ascii-here h k = front-here (getD s at 0) 1 (rw (drop-here 0 s at h) (ascii (getD s at 0) (drop (at + 1) s) k))
 
 -- the first character of a text, and the rest
 pub characters-step : (xs : List ℕ) (b : Bytes xs) → characters xs ≡ glyph xs ∷ characters (drop (b .n) xs)

@@ -13,7 +13,9 @@ use Rattle.lists.specs.Theorems.All.{All}
 use Rattle.lists.proofs.Runs.{while-more, while-end}
 use Rattle.lists.proofs.Parts.{while-nil}
 use Rattle.text.specs.Rfc3629.{encode}
-use Rattle.text.specs.Characters.{blankCode, widthOf, Glyph, glyph, characters, noBreak, inkAhead, extent}
+use Rattle.widths.specs.Widths.{widthOf}
+use Rattle.widths.specs.WhiteSpace.{whiteSpace}
+use Rattle.text.specs.Characters.{Glyph, glyph, characters, noBreak, inkAhead, extent}
 use Rattle.text.specs.Contracts.Places.{pairCode, Pair, noBreakAt, gluedExtent, RunOver}
 use Rattle.text.proofs.Forms.{lead}
 use Rattle.text.proofs.Glyphs.{Here, bytes-of, characters-past, characters-first}
@@ -24,8 +26,8 @@ use Rattle.text.proofs.Glue.{ahead-none, ahead-run, ahead-other}
 -- one that was read
 module _ (g : Glyph) (r : Read g) (h : noBreak g ≡ true) where
   pub no-break-blank : g .blank ≡ true
-  unfolding blankCode
-  no-break-blank = sym (r .isBlank) ∙ ap blankCode (eqb-true (g .code) 0xA0 h)
+  unfolding whiteSpace
+  no-break-blank = sym (r .isBlank) ∙ ap whiteSpace (eqb-true (g .code) 0xA0 h)
 
   pub no-break-bytes : g .bytes ≡ 0xC2 ∷ 0xA0 ∷ []
   unfolding encode
@@ -58,13 +60,13 @@ module _ (s : List ℕ) (at : ℕ) where
 
 module _ (s : List ℕ) (at : ℕ) where
   pub no-break-here : noBreakAt s at ≡ true → Here true s at 0xA0 (at + 2)
-  unfolding noBreakAt blankCode
+  unfolding noBreakAt whiteSpace
   no-break-here e =
       let b = and-eq-true-iff _ _ .0 e in
       let x : getD s at 0 ≡ 0xC2 = eqb-true _ _ (b .0) in
       let y : getD s (at + 1) 0 ≡ 0xA0 = eqb-true _ _ (b .1) in
       let c : pairCode s at ≡ 0xA0 = rw (x, y) in
-      let p : Pair s at = record { within = within s (at + 1) y; least = omega arith; most = omega arith; second = rw y; other = λ z. omega arith } in
+      let p : Pair s at = record { within = within s (at + 1) y; least = omega arith; most = omega arith; second = rw y } in
       rw c at (pair-here s at p)
 
   pub no-break-other : at < length s → noBreakAt s at ≡ false → noBreak (glyph (drop at s)) ≡ false

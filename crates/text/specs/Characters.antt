@@ -1,42 +1,24 @@
--- Document 01, "Characters and lines": accepted characters, damaged places, blanks and widths; and document 02, P2: which U+00A0 are
--- ordinary with glue on. A glyph is what stands at a place of a line, with all that later sections ask of it; they look at glyphs alone.
-use mathlib.Core.Bool.{Bool, true, false, cond, not, _&&_, _||_}
+-- Document 01, "Characters and lines", as amended by document 02, P4: characters, damaged places, blanks and widths; and P2: which U+00A0
+-- are ordinary with glue on. A glyph is what stands at a place of a line, with all that later sections ask of it; they look at glyphs alone.
+use mathlib.Core.Bool.{Bool, true, false, cond, not, _&&_}
 use mathlib.Core.List.{List, [], _∷_}
 use Prim.Native.Nat.{ℕ, _+_, _-_}
-use lib.Dec.{leb, eqb}
+use lib.Dec.{eqb}
 use lib.ListN.{length, take}
+use Rattle.widths.specs.WhiteSpace.{whiteSpace}
+use Rattle.widths.specs.Widths.{widthOf}
 use Rattle.lists.specs.Walk.{each}
 use Rattle.lists.specs.Runs.{while, every}
 use Rattle.text.specs.Rfc3629.{Front, front, nothing, decode}
 use Rattle.text.specs.declared.Found.{Found}
 use Rattle.text.specs.declared.Found.the-variants.{At, Nowhere}
 
--- U+0000 to U+02FF except U+00AD
-unfoldable pub accepted : ℕ → Bool
-accepted c = leb c 0x2FF && not (eqb c 0xAD)
-
--- an accepted character at the front of a list
-abbrev pub onlyAccepted : Front → Front
-onlyAccepted (front c n) = cond (accepted c) (front c n) nothing
-onlyAccepted nothing = nothing
-
-unfoldable pub character : List ℕ → Front
-character xs = onlyAccepted (decode xs)
-
--- blanks: U+0009 to U+000D, U+0020, U+0085, U+00A0
-unfoldable pub blankCode : ℕ → Bool
-blankCode c = leb 9 c && leb c 13 || eqb c 0x20 || eqb c 0x85 || eqb c 0xA0
-
--- each accepted character has width 1
-unfoldable pub widthOf : ℕ → ℕ
-widthOf c = 1
-
 pub record Glyph : Type 0 where
   -- its bytes, as they stand in the line
   pub bytes : List ℕ
   -- the character's number; U+FFFD of a damaged byte
   pub code : ℕ
-  -- no accepted character begins here
+  -- no character of RFC 3629 begins here
   pub damaged : Bool
   pub blank : Bool
   pub width : ℕ
@@ -44,13 +26,14 @@ pub record Glyph : Type 0 where
 abbrev pub isTab : Glyph → Bool
 isTab g = eqb (g .code) 9
 
--- the character at the front of a list; a damaged one has one byte
+-- P4: every well-formed character is accepted; blanks are the White_Space set, and each has its width by the table.
+-- The character at the front of a list; a damaged one has one byte
 abbrev pub glyphAs : List ℕ → Front → Glyph
-glyphAs xs (front c n) = record { bytes = take n xs; code = c; damaged = false; blank = blankCode c; width = widthOf c }
+glyphAs xs (front c n) = record { bytes = take n xs; code = c; damaged = false; blank = whiteSpace c; width = widthOf c }
 glyphAs xs nothing = record { bytes = take 1 xs; code = 0xFFFD; damaged = true; blank = false; width = 1 }
 
 unfoldable pub glyph : List ℕ → Glyph
-glyph xs = glyphAs xs (character xs)
+glyph xs = glyphAs xs (decode xs)
 
 -- a text as its characters, read from the front, each by itself
 unfoldable pub characters : List ℕ → List Glyph
@@ -94,6 +77,6 @@ unfoldable pub extent : List Glyph → ℕ
 extent [] = 0
 extent (g ∷ gs) = length (g .bytes) + extent gs
 
--- the damaged place of a text: the first byte at which no accepted character begins
+-- the damaged place of a text: the first byte at which no character begins
 unfoldable pub damage : List ℕ → Found
 damage xs = let gs = characters xs in cond (every isGood gs) Nowhere (At (extent (while isGood gs)))

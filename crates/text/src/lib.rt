@@ -1,10 +1,10 @@
-// Characters: what stands at a place of a line. RFC 3629 decides decoding; document 01 says which characters are accepted.
+// Characters: what stands at a place of a line. RFC 3629 decides which bytes are characters.
 ghost use mathlib.Core.Path.{_≡_};
 ghost use mathlib.Core.Bool.{true, false};
 ghost use Prim.Native.Nat.{_+_, _-_, _≤_, _<_, _^_};
 ghost use lib.ListN.{length, getD, drop};
 ghost use Rattle.text.specs.Rfc3629.{decode};
-ghost use Rattle.text.specs.Characters.{accepted, character, blankCode, widthOf, glyph, characters, inkAhead, damage};
+ghost use Rattle.text.specs.Characters.{glyph, characters, inkAhead, damage};
 ghost use Rattle.text.specs.Contracts.Places.{readAs, seenAs, letterAt, Pair, Ascii, noBreakAt, gluedExtent, RunOver};
 
 // A place, or none.
@@ -146,52 +146,14 @@ fn wide(b: u8) -> u32
     b as u32
 }
 
-// The accepted character at a place.
-pub fn char_at(s: &[u8], at: usize) -> Char
-    ensures { λ r. ⌜ r ≡ readAs at (character (drop at (now (s .entry)))) ⌝ }
-{
-    let Char::Good { code, next } = decode_at(s, at) else {
-        return Char::Damaged;
-    };
-    if is_accepted(code) {
-        Char::Good { code, next }
-    } else {
-        Char::Damaged
-    }
-}
-
-// U+0000 to U+02FF except U+00AD, the soft hyphen.
-fn is_accepted(code: u32) -> bool
-    ensures { λ r. ⌜ r ≡ accepted code ⌝ }
-{
-    code <= 0x2FF && code != 0xAD
-}
-
-// Whether a character separates words. With glue on, some U+00A0 do not: see `glued_end`.
-pub fn is_blank(code: u32) -> bool
-    ensures { λ r. ⌜ r ≡ blankCode code ⌝ }
-{
-    match code {
-        9..=13 | 0x20 | 0x85 | 0xA0 => true,
-        _ => false,
-    }
-}
-
-// How many columns an accepted character takes: so far each takes one.
-pub fn width(code: u32) -> usize
-    ensures { λ r. ⌜ r ≡ widthOf code ⌝ }
-{
-    1
-}
-
 // The character at a place, for all that formatting asks of it; each U+00A0 is blank here.
 pub fn glyph_at(s: &[u8], at: usize) -> Glyph
     ensures { λ r. ⌜ r ≡ seenAs at (glyph (drop at (now (s .entry)))) ⌝ }
 {
-    let Char::Good { code, next } = char_at(s, at) else {
+    let Char::Good { code, next } = decode_at(s, at) else {
         return Glyph::Damaged;
     };
-    if is_blank(code) {
+    if widths::is_white_space(code) {
         Glyph::Blank { code, next }
     } else {
         Glyph::Ink { code, next }
@@ -251,7 +213,8 @@ fn is_ink(s: &[u8], at: usize) -> bool
     false
 }
 
-// Whether a letter of two bytes stands at a place, U+00C0 to U+02FF: each is accepted and none is blank, so that no more need be asked.
+// Whether a letter of two bytes stands at a place, U+00C0 to U+02FF: each takes one column and none is blank, so that no more need be
+// asked.
 pub fn is_letter(s: &[u8], at: usize) -> bool
     ensures { λ r. ⌜ r ≡ letterAt (now (s .entry)) at ⌝ }
 {
@@ -272,7 +235,7 @@ pub fn is_letter(s: &[u8], at: usize) -> bool
     s[next] / 64 == 2
 }
 
-// Whether an accepted character of two bytes stands at a place, U+0080 to U+02FF: each of them but the soft hyphen.
+// Whether a character of two bytes stands at a place, U+0080 to U+07FF.
 fn is_pair(s: &[u8], at: usize) -> bool
     requires { ⌜ at < length (now s) ⌝ }
     ensures { λ r. ⌜ (r ≡ true → Pair (now (s .entry)) at) ⌝ }
@@ -283,13 +246,10 @@ fn is_pair(s: &[u8], at: usize) -> bool
     }
     let a = s[at];
     let b = s[next];
-    if a == 0xC2 {
-        return (b / 64 == 2) & (b != 0xAD);
-    }
-    (0xC3 <= a) & (a <= 0xCB) & (b / 64 == 2)
+    (0xC2 <= a) & (a <= 0xDF) & (b / 64 == 2)
 }
 
-// The first place at which no accepted character begins. Most are of one or two bytes; what else there is, is read in full.
+// The first place at which no character begins. Most are of one or two bytes; what else there is, is read in full.
 pub fn first_damage(s: &[u8]) -> Found
     ensures { λ r. ⌜ r ≡ damage (now (s .entry)) ⌝ }
 {
@@ -300,7 +260,7 @@ pub fn first_damage(s: &[u8]) -> Found
         } else if is_pair(s, i) {
             i += 2;
         } else {
-            let Char::Good { code: _, next } = char_at(s, i) else {
+            let Char::Good { code: _, next } = decode_at(s, i) else {
                 return Found::At(i);
             };
             i = next;
@@ -309,7 +269,7 @@ pub fn first_damage(s: &[u8]) -> Found
     Found::Nowhere
 }
 
-// The end of the bytes below 0x80 at a place, of which each is an accepted character.
+// The end of the bytes below 0x80 at a place, of which each is a character.
 fn ascii_end(s: &[u8], from: usize) -> usize
     requires { ⌜ from ≤ length (now s) ⌝ }
     ensures { λ r. ⌜ Ascii (now (s .entry)) from r ⌝ }

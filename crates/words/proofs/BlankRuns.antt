@@ -14,7 +14,8 @@ use Rattle.lists.proofs.Parts.{while-behind}
 use Rattle.text.proofs.Glyph.{the-type}
 use denote.Enum.Declared.{tagOf}
 use types.Run.{OneOf}
-use Rattle.text.specs.Characters.{blankCode, Glyph, glyph, noBreak, glyphs, isBlank, extent}
+use Rattle.widths.specs.WhiteSpace.{whiteSpace}
+use Rattle.text.specs.Characters.{Glyph, glyph, noBreak, glyphs, isBlank, extent}
 use Rattle.text.specs.Contracts.Places.{seenAs, inkGlyphs}
 use Rattle.text.specs.declared.Glyph.{Glyph as Seen}
 use Rattle.text.proofs.Glyphs.{Here, not-blank, ascii-here}
@@ -149,7 +150,7 @@ module _ {glue : Bool} {tab : ℕ} {s : List ℕ} {at : ℕ} where
 
 -- one space, and a plain character behind it
 space-here : (s : List ℕ) (at : ℕ) → OneSpace s at → Here true s at 32 (at + 1)
-unfolding blankCode
+unfolding whiteSpace
 space-here s at o = rw (o .space) at (ascii-here s at (omega (arith, o .within)) (omega (arith, o .space)))
 
 pub blanks-one : {glue : Bool} {tab : ℕ} {s : List ℕ} {at : ℕ} → OneSpace s at → tab ≤ 100 → OverBlanks glue tab false s at (record { end = at + 1; before = Absent; after = 1 })

@@ -11,7 +11,8 @@ use Rattle.lists.specs.Runs.{while, behind}
 use Rattle.lists.specs.Theorems.All.{All}
 use Rattle.lists.proofs.Runs.{while-more, while-end, behind-more, behind-end}
 use Rattle.lists.proofs.Parts.{while-nil}
-use Rattle.text.specs.Characters.{widthOf, Glyph, glyph, characters, noBreak, ordinary, inkAhead, glyphs, extent}
+use Rattle.widths.specs.Widths.{widthOf}
+use Rattle.text.specs.Characters.{Glyph, glyph, characters, noBreak, ordinary, inkAhead, glyphs, extent}
 use Rattle.text.specs.Contracts.Places.{inkGlyphs, gluedExtent}
 use Rattle.text.proofs.Glyphs.{Here, DamagedHere}
 use Rattle.text.proofs.Letters.{Letter, letter-least, letter-here}

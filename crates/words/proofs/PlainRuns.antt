@@ -9,15 +9,16 @@ use native.Mathlib.Omega.{arith}
 use lib.ListN.{length, getD}
 use borrow.Author.Tests.{lt-leb, le-leb, ne-eqb, ltb-true, ltb-false}
 use lib.Dec.{ltb}
-use Rattle.text.specs.Characters.{blankCode, widthOf}
+use Rattle.widths.specs.Widths.{widthOf}
+use Rattle.widths.specs.WhiteSpace.{whiteSpace}
 use Rattle.text.proofs.Glyphs.{Here, ascii-here}
 use Rattle.words.specs.Contracts.Scan.{punctCode, Plain, OverPlain}
 use Rattle.words.specs.declared.Ink.{Ink}
 use Rattle.words.proofs.InkRuns.{InkLeft, ink-more}
 
 -- a plain character is no blank
-plain-ink : (c : ℕ) → 33 ≤ c → c < 128 → blankCode c ≡ false
-unfolding blankCode
+plain-ink : (c : ℕ) → 33 ≤ c → c < 128 → whiteSpace c ≡ false
+unfolding whiteSpace
 plain-ink c h k = rw (le-leb 9 c (omega arith), lt-leb c 13 (omega arith), ne-eqb c 0x20 (omega arith), ne-eqb c 0x85 (omega arith), ne-eqb c 0xA0 (omega arith))
 
 pub plain-here : (s : List ℕ) (at i : ℕ) → at ≡ i → i < length s → 33 ≤ getD s i 0 → getD s i 0 < 128 → Here false s at (getD s i 0) (i + 1)

@@ -7,22 +7,23 @@ use native.Mathlib.Omega.{arith}
 use lib.Dec.{eqb}
 use lib.ListN.{length, getD, drop}
 use borrow.Author.Tests.{eqb-true}
-use Rattle.text.specs.Characters.{blankCode, glyphs}
+use Rattle.widths.specs.WhiteSpace.{whiteSpace}
+use Rattle.text.specs.Characters.{glyphs}
 use Rattle.text.specs.Contracts.Places.{inkGlyphs}
 use Rattle.text.proofs.Glyphs.{Here, ascii-here}
 use Rattle.text.proofs.Edges.{ink-stop}
 
 module _ (s : List ℕ) (at : ℕ) (h : at < length s) where
   -- a byte that is blank as a character
-  blank-byte : (b : ℕ) → getD s at 0 ≡ b → b < 0x80 → blankCode b ≡ true → Here true s at b (at + 1)
+  blank-byte : (b : ℕ) → getD s at 0 ≡ b → b < 0x80 → whiteSpace b ≡ true → Here true s at b (at + 1)
   blank-byte b e k t = rw (e, t) at (ascii-here s at h (rw e k))
 
   pub tab-here : getD s at 0 ≡ 9 → Here true s at 9 (at + 1)
-  unfolding blankCode
+  unfolding whiteSpace
   tab-here e = blank-byte 9 e (omega arith) refl
 
   space-here : getD s at 0 ≡ 32 → Here true s at 32 (at + 1)
-  unfolding blankCode
+  unfolding whiteSpace
   space-here e = blank-byte 32 e (omega arith) refl
 
   -- by the test for both

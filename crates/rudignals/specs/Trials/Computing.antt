@@ -3,7 +3,11 @@ use lib.Ieee.{mul, div, sub, ofInt}
 use Rattle.lists.specs.Walk.{walkUpTo, walk, piece, each}
 use Rattle.lists.specs.Runs.{while, behind, every, begins, joined}
 use Rattle.text.specs.Rfc3629.{scalar, encode, spelled, decode}
-use Rattle.text.specs.Characters.{accepted, character, blankCode, widthOf, glyph, characters, inkAhead, glued, glyphs, extent, damage}
+use Rattle.widths.specs.Ranges.{widthIn}
+use Rattle.widths.specs.Table.{table}
+use Rattle.widths.specs.Widths.{widthOf}
+use Rattle.widths.specs.WhiteSpace.{whiteSpace}
+use Rattle.text.specs.Characters.{glyph, characters, inkAhead, glued, glyphs, extent, damage}
 use Rattle.options.specs.Opts.{meant}
 use Rattle.options.specs.OptionBlock.{number, tagOf, sizeOf, valueOf, nextField, fields, allowed, wellFormed, firstFault, partOf, fits, optionsOf, readBlock}
 use Rattle.lines.specs.Lines.{body, withoutReturn, firstLine, linesOf}
@@ -21,5 +25,5 @@ use Rattle.walk.specs.Digest.{formatted, outputOf, digest, extentOf, longParagr
 use Rattle.formatter.specs.Format.{answer, measuring, writing}
 
 unfoldable pub everything : Unit {0}
-unfolding mul div sub ofInt walkUpTo walk piece each while behind every begins joined scalar encode spelled decode accepted character blankCode widthOf glyph characters inkAhead glued glyphs extent damage meant number tagOf sizeOf valueOf nextField fields allowed wellFormed firstFault partOf fits optionsOf readBlock body withoutReturn firstLine linesOf glyphsBefore glyphsFrom nextStop columnBehind columnsOf search shapeAt classify fromWord headerText startsMail continues agrees secondRule follow secondOf further indentOf firstIndent indentFor rowOf paragraphAt nextPiece pieces runOf runs bytesOf widthSum gapFrom gapOf punctAtEnd counting wideGap wordOf lineWords mailWord mailWords rowWords wordsOf gapWidth addedSpace spaceBefore emitRest emit quickFrom quickBreaks term ratio wordTerm cost firstBreak reduced reached staying offerOf lesser bestOffer leastFrom least restart round roundsFrom pathOf startsLine marksFrom bestBreaks numbered outputAfter settingOf formatted outputOf digest extentOf longParagraph answer measuring writing
+unfolding mul div sub ofInt walkUpTo walk piece each while behind every begins joined scalar encode spelled decode widthIn table widthOf whiteSpace glyph characters inkAhead glued glyphs extent damage meant number tagOf sizeOf valueOf nextField fields allowed wellFormed firstFault partOf fits optionsOf readBlock body withoutReturn firstLine linesOf glyphsBefore glyphsFrom nextStop columnBehind columnsOf search shapeAt classify fromWord headerText startsMail continues agrees secondRule follow secondOf further indentOf firstIndent indentFor rowOf paragraphAt nextPiece pieces runOf runs bytesOf widthSum gapFrom gapOf punctAtEnd counting wideGap wordOf lineWords mailWord mailWords rowWords wordsOf gapWidth addedSpace spaceBefore emitRest emit quickFrom quickBreaks term ratio wordTerm cost firstBreak reduced reached staying offerOf lesser bestOffer leastFrom least restart round roundsFrom pathOf startsLine marksFrom bestBreaks numbered outputAfter settingOf formatted outputOf digest extentOf longParagraph answer measuring writing
 everything = tt

@@ -5,7 +5,8 @@ use mathlib.Core.Path.{_≡_, sym, _∙_}
 use Prim.Native.Nat.{_≤_, _-_}
 use native.Mathlib.Omega.{arith}
 use lib.ListN.{length, drop}
-use Rattle.text.specs.Characters.{blankCode, damage}
+use Rattle.widths.specs.WhiteSpace.{whiteSpace}
+use Rattle.text.specs.Characters.{damage}
 use Rattle.text.proofs.Glyphs.{Here, char-here, char-damaged-here}
 use Rattle.text.proofs.Letters.{pair-here}
 use Rattle.text.proofs.Damage.{later, later-zero, damage-past, damage-here, damage-on}
@@ -54,8 +55,8 @@ loop-again-2 c =
     let h = pair-here _ _ (c .before .is-pair .ensures (c .if2 .taken)) in
     (h .within, sym (damage-on _ _ h) ∙ c .before .before .before .before .before .loop .inv .1)
 
-char-at-requires : tie.Need-char-at-requires Inv-loop μ-loop
-char-at-requires c κs = search needs
+decode-at-requires : tie.Need-decode-at-requires Inv-loop μ-loop
+decode-at-requires c κs = search needs
 
 enum-known-next : tie.Need-enum-known-next Inv-loop μ-loop
 enum-known-next c = search needs
@@ -66,11 +67,11 @@ enum-told c = search needs
 returns : tie.Need-returns Inv-loop μ-loop
 returns c =
     let l = c .before .before .before .before .before .before .before .before in
-    sym (damage-here (now (c .before .before .before .before .before .before .before .before .before .before .args .s)) (l .loop .i) (char-damaged-here _ _ (c .before .before .before .before .before .before .before .loop-test .taken) (sym (c .before .before .char-at .ensures) ∙ c .enum-told .given .1))) ∙ l .loop .inv .1
+    sym (damage-here (now (c .before .before .before .before .before .before .before .before .before .before .args .s)) (l .loop .i) (char-damaged-here _ _ (c .before .before .before .before .before .before .before .loop-test .taken) (sym (c .before .before .decode-at .ensures) ∙ c .enum-told .given .1))) ∙ l .loop .inv .1
 
 -- the character that the turn reads
-read : (c : tie.After-known-told Inv-loop μ-loop) → Here (blankCode (c .before .next .given .0 .0)) (now (c .before .before .before .before .before .before .before .before .before .before .before .args .s)) (c .before .before .before .before .before .before .before .before .before .loop .i) (c .before .next .given .0 .0) (c .before .next .given .0 .1 .0)
-read c = char-here _ _ _ _ (sym (c .before .before .before .char-at .ensures) ∙ c .before .next .given .1)
+read : (c : tie.After-known-told Inv-loop μ-loop) → Here (whiteSpace (c .before .next .given .0 .0)) (now (c .before .before .before .before .before .before .before .before .before .before .before .args .s)) (c .before .before .before .before .before .before .before .before .before .loop .i) (c .before .next .given .0 .0) (c .before .next .given .0 .1 .0)
+read c = char-here _ _ _ _ (sym (c .before .before .before .decode-at .ensures) ∙ c .before .next .given .1)
 
 loop-less-3 : tie.Need-loop-less-3 Inv-loop μ-loop
 loop-less-3 c = let r = read c in omega (arith, r .within, r .on)
@@ -99,7 +100,7 @@ first-damage-spec =
     add-i
     loop-less-2
     loop-again-2
-    char-at-requires
+    decode-at-requires
     enum-known-next
     enum-told
     returns

@@ -3,7 +3,7 @@ use mathlib.Core.Path.{_≡_}
 use Prim.Native.Nat.{ℕ}
 use native.Mathlib.Omega.{arith}
 use borrow.Author.Needs.{needs}
-use Rattle.text.proofs.Letters.{low-pair, high-pair}
+use Rattle.text.proofs.Letters.{pair-by}
 use Rattle.text.proofs.is_pair.Statement.{statement}
 use Rattle.text.proofs.is_pair.Tie as tie
 
@@ -20,10 +20,7 @@ shared-slice-read-b : tie.Need-shared-slice-read-b
 shared-slice-read-b c = search needs
 
 returns-2 : tie.Need-returns-2
-returns-2 c = low-pair _ _ (c .before .before .before .if1 .left) (c .if2 .taken)
-
-returns-3 : tie.Need-returns-3
-returns-3 c = high-pair _ _ (c .before .before .before .if1 .left)
+returns-2 c = pair-by _ _ (c .before .before .if1 .left)
 
 pub is-pair-spec : {M : Type 1} → statement M
-is-pair-spec = tie.close (tie.spec add-next returns shared-slice-read-a shared-slice-read-b returns-2 returns-3)
+is-pair-spec = tie.close (tie.spec add-next returns shared-slice-read-a shared-slice-read-b returns-2)

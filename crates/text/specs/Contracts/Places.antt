@@ -26,18 +26,17 @@ pub record Ascii (s : List ℕ) (from to : ℕ) : Type 0 where
   pub within : to ≤ length s
   pub small : (i : ℕ) → from ≤ i → i < to → getD s i 0 < 0x80
 
--- an accepted character of two bytes stands at a place, U+0080 to U+02FF: its number is not the soft hyphen's
+-- a character of two bytes stands at a place, U+0080 to U+07FF
 abbrev pub pairCode : List ℕ → ℕ → ℕ
 pairCode s at = getD s at 0 % 32 * 64 + getD s (at + 1) 0 % 64
 
 pub record Pair (s : List ℕ) (at : ℕ) : Type 0 where
   pub within : at + 1 < length s
   pub least : 0xC2 ≤ getD s at 0
-  pub most : getD s at 0 ≤ 0xCB
+  pub most : getD s at 0 ≤ 0xDF
   pub second : getD s (at + 1) 0 / 64 ≡ 2
-  pub other : pairCode s at ≡ 0xAD → ⊥
 
--- a letter of two bytes stands at a place, U+00C0 to U+02FF: each is accepted, and none is blank
+-- a letter of two bytes stands at a place, U+00C0 to U+02FF: each takes one column, and none is blank
 unfoldable pub letterAt : List ℕ → ℕ → Bool
 letterAt s at = ltb (at + 1) (length s) && (leb 0xC3 (getD s at 0) && (leb (getD s at 0) 0xCB && eqb (getD s (at + 1) 0 / 64) 2))
 

@@ -7,10 +7,10 @@ use lib.Dec.{eqb}
 use lib.ListN.{length}
 use Rattle.lists.specs.Runs.{every, joined}
 use Rattle.text.specs.Rfc3629.{encode}
-use Rattle.text.specs.Characters.{blankCode}
+use Rattle.widths.specs.WhiteSpace.{whiteSpace}
 
 abbrev pub spaceCode : ℕ → Bool
-spaceCode c = blankCode c && not (eqb c 10)
+spaceCode c = whiteSpace c && not (eqb c 10)
 
 -- bytes that spell these characters
 pub record Blanks (codes bytes : List ℕ) : Type 0 where
