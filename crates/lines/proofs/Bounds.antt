@@ -8,7 +8,7 @@ use native.Mathlib.Omega.{arith}
 use lib.ListN.{length, drop, length-drop}
 use lib.Seq.{drop-drop}
 use Rattle.text.specs.Rfc3629.{Front, front, nothing, decode}
-use Rattle.widths.specs.Widths.{widthOf}
+use Rattle.widths.proofs.Laws.{at-most-two}
 use Rattle.text.specs.Characters.{Glyph, glyphAs, glyph, characters, glyphs, isTab, extent}
 use Rattle.text.specs.Contracts.Places.{settle, inkAfter}
 use Rattle.text.proofs.Glyphs.{Bytes, characters-past, characters-step, characters-induct}
@@ -20,12 +20,12 @@ use Rattle.lines.proofs.Glued.{columns-settle, settle-cut}
 -- ---- columns
 
 glyph-narrow : (xs : List ℕ) → glyph xs .width ≤ 2
-unfolding glyph widthOf
+unfolding glyph
 glyph-narrow xs = pick (decode xs)
   where
     pick : (f : Front) → glyphAs xs f .width ≤ 2
     pick nothing = omega arith
-    pick (front c n) = omega arith
+    pick (front c n) = at-most-two c
 
 module _ (tab : ℕ) (least : 1 ≤ tab) where
   column-on : (column : ℕ) (g : Glyph) → column ≤ columnBehind tab column g

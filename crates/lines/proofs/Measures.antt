@@ -11,6 +11,7 @@ use borrow.Author.Tests.{eq-eqb, ne-eqb}
 use Rattle.lists.specs.Runs.{while, every}
 use Rattle.lists.proofs.Runs.{while-more, every-more}
 use Rattle.widths.specs.Widths.{widthOf}
+use Rattle.widths.proofs.Laws.{at-most-two}
 use Rattle.text.specs.Characters.{Glyph, glyph, characters, glyphs, isBlank, extent}
 use Rattle.text.proofs.Glyphs.{Here, DamagedHere}
 use Rattle.text.proofs.Edges.{blank-on}
@@ -36,8 +37,7 @@ width-is column tab code w h e = rw (ne-eqb code 9 h, e)
 
 -- a character is at most two columns wide
 pub narrow : (code w : ℕ) → w ≡ widthOf code → w ≤ 2
-unfolding widthOf
-narrow code w e = omega arith
+narrow code w e = rw e (at-most-two code)
 
 -- ---- behind glyphs
 

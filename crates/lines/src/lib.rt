@@ -5,7 +5,8 @@ ghost use Prim.Native.Nat.{_+_, _-_, _≤_, _<_};
 ghost use lib.Dec.{eqb};
 ghost use lib.ListN.{length, drop};
 ghost use Rattle.lists.specs.Runs.{every, begins};
-ghost use Rattle.text.specs.Characters.{widthOf, glyphs, isBlank};
+ghost use Rattle.widths.specs.Widths.{widthOf};
+ghost use Rattle.text.specs.Characters.{glyphs, isBlank};
 ghost use Rattle.options.specs.Opts.{textOf, meant};
 ghost use Rattle.lines.specs.Lines.{body, withoutReturn, firstLine};
 ghost use Rattle.lines.specs.Classes.{nextStop, search, skipFound, somewhere, classify};
@@ -227,7 +228,7 @@ fn is_all_blank(line: &[u8]) -> bool
     while i < line.len() {
         let b = line[i];
         if b < 0x80 {
-            if text::is_blank(wide(b)) {
+            if widths::is_white_space(wide(b)) {
                 i += 1;
             } else {
                 return false;
@@ -406,7 +407,7 @@ fn behind(line: &[u8], spot: Spot, tab: usize) -> Spot
             column: column_behind(spot.column, wide(b), tab),
         };
     }
-    let Char::Good { code, next } = text::char_at(line, at) else {
+    let Char::Good { code, next } = text::decode_at(line, at) else {
         return Spot {
             at: at + 1,
             column: spot.column + 1,
@@ -426,6 +427,6 @@ fn column_behind(column: usize, code: u32, tab: usize) -> usize
     if code == 9 {
         (column / tab + 1) * tab
     } else {
-        column + text::width(code)
+        column + widths::width(code)
     }
 }

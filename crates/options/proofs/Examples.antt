@@ -6,7 +6,6 @@ use Prim.Native.Nat.{ℕ}
 use Rattle.lists.specs.Walk.{walk, walkUpTo, piece, each}
 use Rattle.lists.specs.Runs.{every, begins}
 use Rattle.text.specs.Rfc3629.{scalar, encode, spelled, decode}
-use Rattle.widths.specs.Widths.{widthOf}
 use Rattle.widths.specs.WhiteSpace.{whiteSpace}
 use Rattle.text.specs.Characters.{glyph, characters}
 use Rattle.options.specs.declared.Part.{Part}
@@ -66,7 +65,7 @@ record Worked : Type 0 where
   damaged : readBlock (6 ∷ 0 ∷ 2 ∷ 62 ∷ 0xC2 ∷ []) ≡ Fault 0
 
 worked : Worked
-unfolding number tagOf sizeOf valueOf nextField fields allowed wellFormed firstFault partOf fits optionsOf readBlock walk walkUpTo piece each every begins scalar encode spelled decode accepted character whiteSpace widthOf glyph characters
+unfolding number tagOf sizeOf valueOf nextField fields allowed wellFormed firstFault partOf fits optionsOf readBlock walk walkUpTo piece each every begins scalar encode spelled decode whiteSpace glyph characters
 worked = record {
   defaults = refl;
   width5 = refl;

@@ -372,7 +372,7 @@ fn over_ink(s: &[u8], at: usize, glue: bool) -> Ink
                 Glyph::Ink { code, next } => {
                     w = Ink {
                         end: next,
-                        width: w.width + text::width(code),
+                        width: w.width + widths::width(code),
                         punct: is_punct(code),
                     };
                 }

@@ -24,8 +24,8 @@ returns c =
     let h = ascii-here _ _ (p .1) (c .before .before .if1 .taken) in
     behind-char _ _ _ _ (p .0) h (rw (c .before .wide .ensures) at (c .column-behind .ensures .0)) (c .column-behind .ensures .1)
 
-char-at-requires : tie.Need-char-at-requires
-char-at-requires c κs = search needs
+decode-at-requires : tie.Need-decode-at-requires
+decode-at-requires c κs = search needs
 
 enum-known-code : tie.Need-enum-known-code
 enum-known-code c = search needs
@@ -42,7 +42,7 @@ add-t16 c = search needs
 returns-2 : tie.Need-returns-2
 returns-2 c =
     let p = c .before .before .before .before .before .before .before .pre in
-    let b = char-damaged-here _ _ (p .1) (sym (c .before .before .before .char-at .ensures) ∙ c .before .enum-told .given .1) in
+    let b = char-damaged-here _ _ (p .1) (sym (c .before .before .before .decode-at .ensures) ∙ c .before .enum-told .given .1) in
     behind-damaged _ _ _ _ (p .0) b (p .1) refl refl
 
 column-behind-requires-2 : tie.Need-column-behind-requires-2
@@ -51,7 +51,7 @@ column-behind-requires-2 c κs = search needs
 returns-3 : tie.Need-returns-3
 returns-3 c =
     let p = c .before .before .before .before .before .before .before .before .pre in
-    let h = char-here _ _ _ _ (sym (c .before .before .before .before .char-at .ensures) ∙ c .before .before .code .given .1) in
+    let h = char-here _ _ _ _ (sym (c .before .before .before .before .decode-at .ensures) ∙ c .before .before .code .given .1) in
     behind-char _ _ _ _ (p .0) h (c .column-behind2 .ensures .0) (c .column-behind2 .ensures .1)
 
 pub behind-spec : {M : Type 1} → statement M
@@ -63,7 +63,7 @@ behind-spec =
     wide-requires
     column-behind-requires
     returns
-    char-at-requires
+    decode-at-requires
     enum-known-code
     enum-told
     add-t15

@@ -28,8 +28,8 @@ shared-slice-read-b c = search needs
 wide-requires : tie.Need-wide-requires Inv-loop μ-loop
 wide-requires c κs = search needs
 
-is-blank-requires : tie.Need-is-blank-requires Inv-loop μ-loop
-is-blank-requires c κs = search needs
+is-white-space-requires : tie.Need-is-white-space-requires Inv-loop μ-loop
+is-white-space-requires c κs = search needs
 
 add-i : tie.Need-add-i Inv-loop μ-loop
 add-i c = search needs
@@ -38,9 +38,9 @@ loop-less : tie.Need-loop-less Inv-loop μ-loop
 loop-less c = search needs
 
 -- the byte that the loop's turn reads, a character by itself
-octet : (c : tie.After-is-blank Inv-loop μ-loop)
-    → Here (c .is-blank .result) (now (c .before .before .before .before .before .before .before .args .line)) (c .before .before .before .before .before .loop .i) (getD (now (c .before .before .before .before .before .before .before .args .line)) (c .before .before .before .before .before .loop .i) 0) (c .before .before .before .before .before .loop .i + 1)
-octet c = rw (c .is-blank .ensures, c .before .wide .ensures) (ascii-here _ _ (c .before .before .before .before .loop-test .taken) (c .before .before .if1 .taken))
+octet : (c : tie.After-is-white-space Inv-loop μ-loop)
+    → Here (c .is-white-space .result) (now (c .before .before .before .before .before .before .before .args .line)) (c .before .before .before .before .before .loop .i) (getD (now (c .before .before .before .before .before .before .before .args .line)) (c .before .before .before .before .before .loop .i) 0) (c .before .before .before .before .before .loop .i + 1)
+octet c = rw (c .is-white-space .ensures, c .before .wide .ensures) (ascii-here _ _ (c .before .before .before .before .loop-test .taken) (c .before .before .if1 .taken))
 
 loop-again : tie.Need-loop-again Inv-loop μ-loop
 loop-again c = (search needs, λ glue. sym (all-on glue _ _ _ _ (rw (c .if2 .taken) at (octet (c .before)))) ∙ c .before .before .before .before .before .before .loop .inv .1 glue)
@@ -79,7 +79,7 @@ is-all-blank-spec =
     loop-holds
     shared-slice-read-b
     wide-requires
-    is-blank-requires
+    is-white-space-requires
     add-i
     loop-less
     loop-again
