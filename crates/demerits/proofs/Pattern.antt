@@ -3,7 +3,7 @@
 use mathlib.Core.Path.{_≡_, refl, sym, ap, _∙_, subst}
 use mathlib.Core.Logic.{inl, inr}
 use Prim.Native.Nat.{ℕ, suc, _+_, _-_, _*_, _/_, _%_, _^_, _≤_, _<_}
-use native.Mathlib.Nat.{le-trans, le-of-eq, lt-of-lt-of-le, lt-of-le-of-lt, zero-add, mul-comm, mul-assoc, mul-right-comm, mul-pos, mul-le-mul-right, eq-zero-or-pos, div-div-eq-div-mul, div-eq-of-lt, le-div-iff-mul-le, div-lt-iff-lt-mul, le-of-suc-le-suc}
+use native.Mathlib.Nat.{le-trans, le-of-eq, lt-of-lt-of-le, lt-of-le-of-lt, zero-add, mul-comm, mul-assoc, mul-right-comm, mul-pos, mul-le-mul-right, mul-lt-mul-of-pos-right, eq-zero-or-pos, div-div-eq-div-mul, div-eq-of-lt, le-div-iff-mul-le, div-lt-iff-lt-mul, le-of-suc-le-suc}
 use native.Mathlib.Omega.{arith}
 use mathlib.Core.Bool.{Bool, true, false, not, cond}
 use lib.IntN.{ℤ}
@@ -15,7 +15,7 @@ use lib.Ieee.Digits.{size-lt, size-le, size-reaches}
 use lib.Ieee.Fits.{down-pos, kept-lt}
 use lib.Ieee.Nearest.{div-same}
 use borrow.Author.Tests.{ltb-true, ltb-false}
-use Rattle.demerits.specs.Contracts.Bounds.{atMost, mostTruncated, places}
+use Rattle.demerits.specs.Contracts.Bounds.{atMost, places}
 use Rattle.demerits.specs.Demerits.{whole}
 
 -- ---- the arithmetic of a pattern b = k * 2 ^ 23 + q
@@ -46,7 +46,7 @@ low-field k q b s h =
     some : b ≡ k * 8388608 + q → 8388608 ≤ q → k ≤ 125
     some e g = omega arith
 
-high-field : (k q b : ℕ) → Split k q b → k ≤ 135 → b / 8388608 ≤ 136
+high-field : (k q b : ℕ) → Split k q b → k ≤ 149 → b / 8388608 ≤ 150
 unfolding Split
 high-field k q b s h = let e = s .0 in let l = s .1 in omega arith
 
@@ -64,9 +64,9 @@ split-of n = (refl, kept-lt 24 n, λ (p : 0 < size n - 24). le-div-iff-mul-le (p
     room : (z : ℕ) → 0 < z - 24 → 23 + (z - 24) < z
     room z h = omega arith
 
-few : (n : ℕ) → n ≤ mostTruncated * 2 ^ 149 → dropped n ≤ 135
+few : (most n : ℕ) → most < 2 ^ 24 → n ≤ most * 2 ^ 149 → dropped n ≤ 149
 unfolding dropped
-few n h = let s : size n ≤ 159 = size-le n 159 (lt-of-le-of-lt h (lit< tt)) in omega arith
+few most n M h = let s : size n ≤ 173 = size-le n 173 (lt-of-le-of-lt h (mul-lt-mul-of-pos-right M (pow-pos 149))) in omega arith
 
 -- ---- what the function works out of the pattern
 abbrev pub digits : ℕ → ℕ
@@ -81,7 +81,7 @@ digits-are b = ap (λ (x : ℕ). bitOr x 8388608) (and-mask b 23) ∙ or-shifted
     swap : (a : ℕ) → 8388608 + a ≡ a + 8388608
     swap a = omega arith
 
-cut-is : (n b k q : ℕ) → Split k q b → q ≡ n / 2 ^ k → k ≤ 135 → 127 ≤ b / 8388608 → digits b / 2 ^ (150 - b / 8388608) ≡ n / 2 ^ 149
+cut-is : (n b k q : ℕ) → Split k q b → q ≡ n / 2 ^ k → k ≤ 149 → 127 ≤ b / 8388608 → digits b / 2 ^ (150 - b / 8388608) ≡ n / 2 ^ 149
 cut-is n b k q s e h l =
     let f = field k q b s l in
     let g : 150 - b / 8388608 ≡ 149 - k = omega (arith, f .0) in
@@ -119,64 +119,66 @@ units-whole m e =
     same : (a b c : ℕ) → a * c * b ≡ a * (b * c)
     same a b c = mul-assoc a c b ∙ ap (λ (x : ℕ). a * x) (mul-comm c b)
 
-units-le : (m : ℕ) (e : ℤ) → m * up e ≤ mostTruncated * down e → inUnits m e ≤ mostTruncated * 2 ^ 149
+units-le : (most m : ℕ) (e : ℤ) → m * up e ≤ most * down e → inUnits m e ≤ most * 2 ^ 149
 unfolding inUnits
-units-le m e h = le-of-suc-le-suc (div-lt-iff-lt-mul (down-pos e) .1 (below (m * up e) (down e) (2 ^ 149) (down-pos e) h))
+units-le most m e h = le-of-suc-le-suc (div-lt-iff-lt-mul (down-pos e) .1 (below (m * up e) (down e) (2 ^ 149) (down-pos e) h))
   where
-    below : (a b c : ℕ) → 0 < b → a ≤ mostTruncated * b → a * c < suc (mostTruncated * c) * b
-    below a b c B h = omega (arith, native.Mathlib.Nat.suc-mul (mostTruncated * c) b, mul-right-comm mostTruncated b c, mul-le-mul-right c h)
+    below : (a b c : ℕ) → 0 < b → a ≤ most * b → a * c < suc (most * c) * b
+    below a b c B h = omega (arith, native.Mathlib.Nat.suc-mul (most * c) b, mul-right-comm most b c, mul-le-mul-right c h)
 
 bits-are : (m : ℕ) (e : ℤ) → toBits binary32 (fin false m e) ≡ dropped (inUnits m e) * 8388608 + inUnits m e / 2 ^ dropped (inUnits m e)
 unfolding toBits dropped inUnits
 bits-are m e = let n = m * up e * 2 ^ 149 / down e in ap (λ (x : ℕ). x + n / 2 ^ (size n - 24)) (zero-add ((size n - 24) * 8388608))
 
-module _ (m : ℕ) (e : ℤ) (h : m * up e ≤ mostTruncated * down e) where
-  the-split : Split (dropped (inUnits m e)) (inUnits m e / 2 ^ dropped (inUnits m e)) (toBits binary32 (fin false m e))
-  the-split = subst (λ (b : ℕ). Split (dropped (inUnits m e)) (inUnits m e / 2 ^ dropped (inUnits m e)) b) (sym (bits-are m e)) (split-of (inUnits m e))
+-- ---- a float of at most `most`, a number that has no more than the 24 digits of an f32
+module _ (most : ℕ) (M : most < 2 ^ 24) where
+  module _ (m : ℕ) (e : ℤ) (h : m * up e ≤ most * down e) where
+    the-split : Split (dropped (inUnits m e)) (inUnits m e / 2 ^ dropped (inUnits m e)) (toBits binary32 (fin false m e))
+    the-split = subst (λ (b : ℕ). Split (dropped (inUnits m e)) (inUnits m e / 2 ^ dropped (inUnits m e)) b) (sym (bits-are m e)) (split-of (inUnits m e))
 
-  the-few : dropped (inUnits m e) ≤ 135
-  the-few = few (inUnits m e) (units-le m e h)
+    the-few : dropped (inUnits m e) ≤ 149
+    the-few = few most (inUnits m e) M (units-le most m e h)
 
-small : (x : Float) → T (atMost mostTruncated x) → toBits binary32 x / 8388608 < 127 → 0 ≡ whole x
-small nan u l = absurd u
-small (inf s) u l = absurd u
-small (fin true m e) u l = absurd u
-small (fin false m e) u l =
-    let h = leb→le (m * up e) (mostTruncated * down e) u in
-    let n = inUnits m e in
-    sym (div-eq-of-lt (lt-of-lt-of-le (covers n (dropped n) (unfold dropped in native.Mathlib.Nat.le-refl (size n - 24))) (pow-mono (room (dropped n) (low-field (dropped n) (n / 2 ^ dropped n) (toBits binary32 (fin false m e)) (the-split m e h) l))))) ∙ units-whole m e
-  where
-    room : (k : ℕ) → k ≤ 125 → 24 + k ≤ 149
-    room k h = omega arith
+  small : (x : Float) → T (atMost most x) → toBits binary32 x / 8388608 < 127 → 0 ≡ whole x
+  small nan u l = absurd u
+  small (inf s) u l = absurd u
+  small (fin true m e) u l = absurd u
+  small (fin false m e) u l =
+      let h = leb→le (m * up e) (most * down e) u in
+      let n = inUnits m e in
+      sym (div-eq-of-lt (lt-of-lt-of-le (covers n (dropped n) (unfold dropped in native.Mathlib.Nat.le-refl (size n - 24))) (pow-mono (room (dropped n) (low-field (dropped n) (n / 2 ^ dropped n) (toBits binary32 (fin false m e)) (the-split m e h) l))))) ∙ units-whole m e
+    where
+      room : (k : ℕ) → k ≤ 125 → 24 + k ≤ 149
+      room k h = omega arith
 
-large : (x : Float) → T (atMost mostTruncated x) → 127 ≤ toBits binary32 x / 8388608 → digits (toBits binary32 x) / 2 ^ (150 - toBits binary32 x / 8388608) ≡ whole x
-large nan u l = absurd u
-large (inf s) u l = absurd u
-large (fin true m e) u l = absurd u
-large (fin false m e) u l =
-    let h = leb→le (m * up e) (mostTruncated * down e) u in
-    let n = inUnits m e in
-    cut-is n (toBits binary32 (fin false m e)) (dropped n) (n / 2 ^ dropped n) (the-split m e h) refl (the-few m e h) l ∙ units-whole m e
+  large : (x : Float) → T (atMost most x) → 127 ≤ toBits binary32 x / 8388608 → digits (toBits binary32 x) / 2 ^ (150 - toBits binary32 x / 8388608) ≡ whole x
+  large nan u l = absurd u
+  large (inf s) u l = absurd u
+  large (fin true m e) u l = absurd u
+  large (fin false m e) u l =
+      let h = leb→le (m * up e) (most * down e) u in
+      let n = inUnits m e in
+      cut-is n (toBits binary32 (fin false m e)) (dropped n) (n / 2 ^ dropped n) (the-split m e h) refl (the-few m e h) l ∙ units-whole m e
 
-pub shift-fits : (x : Float) → T (atMost mostTruncated x) → toBits binary32 x / 8388608 ≤ 136
-shift-fits nan u = absurd u
-shift-fits (inf s) u = absurd u
-shift-fits (fin true m e) u = absurd u
-shift-fits (fin false m e) u =
-    let h = leb→le (m * up e) (mostTruncated * down e) u in
-    let n = inUnits m e in
-    high-field (dropped n) (n / 2 ^ dropped n) (toBits binary32 (fin false m e)) (the-split m e h) (the-few m e h)
+  pub shift-fits : (x : Float) → T (atMost most x) → toBits binary32 x / 8388608 ≤ 150
+  shift-fits nan u = absurd u
+  shift-fits (inf s) u = absurd u
+  shift-fits (fin true m e) u = absurd u
+  shift-fits (fin false m e) u =
+      let h = leb→le (m * up e) (most * down e) u in
+      let n = inUnits m e in
+      high-field (dropped n) (n / 2 ^ dropped n) (toBits binary32 (fin false m e)) (the-split m e h) (the-few m e h)
 
--- the digits before the point are the whole part
-pub cut-whole : (x : Float) → T (atMost mostTruncated x) → digits (toBits binary32 x) / 2 ^ places (toBits binary32 x / 8388608) ≡ whole x
-cut-whole x u = by (ltb (toBits binary32 x / 8388608) 127) refl
-  where
-    by : (y : Bool) → ltb (toBits binary32 x / 8388608) 127 ≡ y → digits (toBits binary32 x) / 2 ^ cond y 24 (150 - toBits binary32 x / 8388608) ≡ whole x
-    by true e = none-left (toBits binary32 x) ∙ small x u (ltb-true (toBits binary32 x / 8388608) 127 e)
-    by false e = large x u (ltb-false (toBits binary32 x / 8388608) 127 e)
+  -- the digits before the point are the whole part
+  pub cut-whole : (x : Float) → T (atMost most x) → digits (toBits binary32 x) / 2 ^ places (toBits binary32 x / 8388608) ≡ whole x
+  cut-whole x u = by (ltb (toBits binary32 x / 8388608) 127) refl
+    where
+      by : (y : Bool) → ltb (toBits binary32 x / 8388608) 127 ≡ y → digits (toBits binary32 x) / 2 ^ cond y 24 (150 - toBits binary32 x / 8388608) ≡ whole x
+      by true e = none-left (toBits binary32 x) ∙ small x u (ltb-true (toBits binary32 x / 8388608) 127 e)
+      by false e = large x u (ltb-false (toBits binary32 x / 8388608) 127 e)
 
-pub no-nan : (x : Float) → T (atMost mostTruncated x) → T (not (isNan x))
+pub no-nan : (most : ℕ) (x : Float) → T (atMost most x) → T (not (isNan x))
 unfolding isNan
-no-nan nan u = absurd u
-no-nan (inf s) u = tt
-no-nan (fin s m e) u = tt
+no-nan most nan u = absurd u
+no-nan most (inf s) u = tt
+no-nan most (fin s m e) u = tt

@@ -1,14 +1,14 @@
 -- The terms and the cost, each with its bound. Assumes nothing.
 use mathlib.Core.Path.{_≡_, refl, _∙_}
 use mathlib.Core.Bool.{Bool, true, false, cond, _||_}
-use Prim.Native.Nat.{ℕ, _+_, _-_, _*_, _^_, _≤_, _<_, zero-le}
+use Prim.Native.Nat.{ℕ, _+_, _-_, _*_, _^_, _≤_, _<_}
 use native.Mathlib.Nat.{le-trans, mul-le-mul}
 use native.Mathlib.Omega.{arith}
 use lib.Dec.{T, leb, lit≤, lit<}
 use lib.Ieee.{Float, binary32, mul, sub, div, ofInt}
 use lib.Ieee.Back.{round-whole}
 use borrow.Author.Tests.{leb-true, leb-false, le-leb, lt-leb}
-use Rattle.demerits.specs.Contracts.Bounds.{within, atMost, mostCost}
+use Rattle.demerits.specs.Contracts.Bounds.{within, atMost, mostWord, mostCost}
 use Rattle.demerits.specs.Demerits.{abs, cube, float, term, lineTerm, wordTerm, ratioTerm, cost, costWith}
 use Rattle.demerits.proofs.Operations.{abs-upTo, upTo-more, float-upTo, mul-within, mul-upTo, sub-within, div-within}
 use Rattle.demerits.proofs.Ratios.{quotient-within}
@@ -69,17 +69,12 @@ word-any s w k N = by (leb s w) refl
     by true e = let h = leb-true s w e in let z = none h in (let q : term 300 (div binary32 (float (s - w)) (float (s - 1))) ≡ 0 = omega arith in q) ∙ word-long s w h
     by false e = word-short s w (leb-false s w e) k
 
-pub word-within : (s w : ℕ) → 1 ≤ w → 1 < s → s ≤ 2 ^ 24 → T (within 1 (div binary32 (float (s - w)) (float (s - 1))))
-word-within s w h k N = quotient-within 1 (s - w) (s - 1) (lit≤ tt) (omega arith) (omega arith) (omega arith) (omega arith)
+-- a stretch from 2 on is at most twice what it is divided by
+pub word-within : (s w : ℕ) → 1 < s → s ≤ 2 ^ 24 → T (within 2 (div binary32 (float (s - w)) (float (s - 1))))
+word-within s w k N = quotient-within 2 (s - w) (s - 1) (lit≤ tt) (omega arith) (omega arith) (omega arith) (omega arith)
 
-pub word-le : (s w : ℕ) → 1 ≤ w → s ≤ 2 ^ 24 → wordTerm s w ≤ 300
-word-le s w h N = pick (leb s w) refl
-  where
-    pick : (b : Bool) → leb s w ≡ b → wordTerm s w ≤ 300
-    pick true e = rw (← word-long s w (leb-true s w e)) zero-le
-    pick false e =
-        let k : w < s = leb-false s w e in
-        rw (← word-short s w k (omega arith)) (term-le 300 300 1 _ (lit≤ tt) (lit≤ tt) (lit≤ tt) (word-within s w h (omega arith) N))
+pub word-le : (s w : ℕ) → 1 < s → s ≤ 2 ^ 24 → wordTerm s w ≤ mostWord
+word-le s w k N = rw (← word-any s w k N) (term-le mostWord 300 2 _ (lit≤ tt) (lit≤ tt) (lit≤ tt) (word-within s w k N))
 
 -- ---- D
 pub change-within : (r old : Float) → T (within 1 r) → T (within 1 old) → T (within 1 (div binary32 (sub binary32 r old) (float 2)))
@@ -95,5 +90,5 @@ pub cost-with : (r old : Float) (s word w : ℕ) → w ≡ wordTerm s word → c
 unfolding cost
 cost-with r old s word w e = rw e
 
-pub square-le-most : (l w d : ℕ) → l ≤ 100 → w ≤ 300 → d ≤ 600 → (1 + l + w + d) * (1 + l + w + d) ≤ mostCost
-square-le-most l w d L W D = let s : 1 + l + w + d ≤ 1001 = omega arith in mul-le-mul s s
+pub square-le-most : (l w d : ℕ) → l ≤ 100 → w ≤ mostWord → d ≤ 600 → (1 + l + w + d) * (1 + l + w + d) ≤ mostCost
+square-le-most l w d L W D = let s : 1 + l + w + d ≤ 3101 = omega arith in mul-le-mul s s

@@ -43,7 +43,7 @@ ratio goal t stretch = cond (eqb t goal) noRatio (div binary32 (ofInt binary32 (
 abbrev pub lineTerm : Float → ℕ
 lineTerm r = term 100 r
 
--- W = 0 if word ≥ stretch, else 300 × |cube((stretch − word)/(stretch − 1))|; at stretch 1 nothing is divided by 0
+-- W = 0 if word ≥ stretch, and at stretch 1 (document 02, P4: a word may have width 0); else 300 × |cube((stretch − word)/(stretch − 1))|
 unfoldable pub wordTerm : ℕ → ℕ → ℕ
 wordTerm stretch word = cond (leb stretch word || leb stretch 1) 0 (term 300 (div binary32 (float (stretch - word)) (float (stretch - 1))))
 
@@ -51,7 +51,7 @@ wordTerm stretch word = cond (leb stretch word || leb stretch 1) 0 (term 300 (di
 abbrev pub ratioTerm : Float → Float → ℕ
 ratioTerm r old = term 600 (div binary32 (sub binary32 r old) (float 2))
 
--- cost = (1 + L + W + D)², at most 1,002,001 by a law (proofs/Terms, `square-le-most`): with W given, and with W as above
+-- cost = (1 + L + W + D)², at most 9,616,201 by a law (proofs/Terms, `square-le-most`): with W given, and with W as above
 abbrev pub costWith : Float → Float → ℕ → ℕ
 costWith r old w = let c = 1 + lineTerm r + w + ratioTerm r old in c * c
 

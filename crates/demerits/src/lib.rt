@@ -38,7 +38,7 @@ fn abs(x: f32) -> f32
 
 // How many of an f32's 24 digits stand behind the point. A value below 1 has no whole part: all of them do.
 fn places(exponent: u32) -> u32
-    requires { ⌜ exponent ≤ 136 ⌝ }
+    requires { ⌜ exponent ≤ 150 ⌝ }
     ensures { λ r. ⌜ r ≡ B.places exponent ⌝ }
 {
     if exponent < 127 {
@@ -105,10 +105,10 @@ fn less(a: usize, b: usize) -> usize
     a - b
 }
 
-// W, for the width of the line's last word. A word of the stretch or more leaves 0 to divide. At a stretch of 1 nothing is divided by 0, whatever the word.
+// W, for the width of the line's last word. A word of the stretch or more leaves 0 to divide. At a stretch of 1 nothing is divided by 0, and W is 0, whatever the word.
 pub fn word_term(stretch: usize, word: usize) -> u16
-    requires { ⌜ (stretch ≤ 1000) × (1 ≤ word) ⌝ }
-    ensures { λ w. ⌜ (w ≡ S.wordTerm stretch word) × (w ≤ 300) ⌝ }
+    requires { ⌜ stretch ≤ 1000 ⌝ }
+    ensures { λ w. ⌜ (w ≡ S.wordTerm stretch word) × (w ≤ B.mostWord) ⌝ }
 {
     if stretch <= 1 {
         return 0;
@@ -126,7 +126,7 @@ pub fn ratio_term(r: f32, old: f32) -> u16
 
 // The cost of a break after a word of weight W, of a line with the ratio r, where the line before has the ratio old.
 pub fn cost(r: f32, old: f32, weight: u16) -> u64
-    requires { ⌜ T (B.within 1 r) × T (B.within 1 old) × (weight ≤ 300) ⌝ }
+    requires { ⌜ T (B.within 1 r) × T (B.within 1 old) × (weight ≤ B.mostWord) ⌝ }
     ensures { λ c. ⌜ (c ≡ S.costWith r old weight) × (c ≤ B.mostCost) ⌝ }
 {
     let sum = 1 + line_term(r) + weight + ratio_term(r, old);

@@ -27,7 +27,7 @@ term-requires : tie.Need-term-requires
 term-requires c κs =
     let a = c .before .before .before .before .args in
     rw (c .before .float .ensures, c .float2 .ensures, c .before .before .less .ensures)
-    (weighted-upTo mostTruncated 300 1 _ (lit≤ tt) (lit≤ tt) (lit≤ tt) (word-within (a .stretch) (a .word) (omega arith) (omega arith) (omega arith)))
+    (weighted-upTo mostTruncated 300 2 _ (lit≤ tt) (lit≤ tt) (lit≤ tt) (word-within (a .stretch) (a .word) (omega arith) (omega arith)))
 
 returns-2 : tie.Need-returns-2
 returns-2 c =

@@ -5,13 +5,17 @@ use lib.Dec.{T, leb, ltb}
 use lib.Ieee.{Float, nan, inf, fin, up, down, neg}
 use Rattle.demerits.specs.Demerits.{float}
 
--- the greatest value that is ever truncated: the weight of D
-abbrev pub mostTruncated : ℕ
-mostTruncated = 600
+-- the greatest W, 300 × 2³: of a word of width 0 at stretch 2
+abbrev pub mostWord : ℕ
+mostWord = 2400
 
--- the greatest cost: (1 + 100 + 300 + 600)²
+-- the greatest value that is ever truncated is that of W
+abbrev pub mostTruncated : ℕ
+mostTruncated = mostWord
+
+-- the greatest cost: (1 + 100 + 2,400 + 600)²
 abbrev pub mostCost : ℕ
-mostCost = 1002001
+mostCost = 9616201
 
 -- x is finite and |x| ≤ n
 abbrev pub within : ℕ → Float → Bool
