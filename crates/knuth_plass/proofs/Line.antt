@@ -12,7 +12,7 @@ use Rattle.records.specs.Word.{meaning}
 use Rattle.spacing.specs.Spacing.{gapWidth}
 use Rattle.spacing.specs.declared.Setting.{Setting}
 use Rattle.demerits.specs.Demerits.{noRatio, ratio, lineTerm, ratioTerm, cost, costWith}
-use Rattle.demerits.specs.Contracts.Bounds.{within, mostCost}
+use Rattle.demerits.specs.Contracts.Bounds.{within, mostWord, mostCost}
 use Rattle.demerits.proofs.Terms.{line-le, ratio-le, cost-with, square-le-most}
 use Rattle.knuth_plass.specs.declared.Break.{Break as Record}
 use Rattle.knuth_plass.specs.declared.Best.{Best}
@@ -29,8 +29,8 @@ plain-small true space width after r e = omega arith
 plain-small false space width after r e = omega arith
 
 -- the square of what the word alone weighs
-pub square-small : (w : ℕ) → w ≤ 300 → (1 + w) * (1 + w) ≤ mostCost
-square-small w h = let s : 1 + w ≤ 1001 = omega arith in mul-le-mul s s
+pub square-small : (w : ℕ) → w ≤ mostWord → (1 + w) * (1 + w) ≤ mostCost
+square-small w h = let s : 1 + w ≤ 3101 = omega arith in mul-le-mul s s
 
 -- the cost is never below the floor
 floor-least : (r old : Float) (w f : ℕ) → Floor w f → f ≤ costWith r old w

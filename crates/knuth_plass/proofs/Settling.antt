@@ -53,11 +53,10 @@ module _ (g : Setting) (turn : Turn) (st : Standing) (t : Tables) (a : List ℕ)
   -- the new break's numbers fit the table
   sound-fits : (b : Record) → Sound (suc (turn .number)) b → b .previous < st .size → Fits b
   sound-fits b sound before =
-      let d = sound .demerits in
       let w = sound .word in
       let f = turns .few in
       let h = fit .few in
-      record { previous = omega arith; word = omega arith; demerits = omega arith; columns = sound .columns }
+      record { previous = omega arith; word = omega arith; columns = sound .columns }
 
   pub restart-fits : (b c : Record) → Restarted g turn (s .from) c b → Fits b
   restart-fits b c again = sound-fits b (again .sound) (rw (again .previous) (fit .from))

@@ -188,17 +188,9 @@ module _ (g : Setting) (turn : Turn) (st : Standing) (k : ℕ) (t : Tables) (a :
     pub offers : (x : ℕ) → Limits g → x ≡ lineAt g turn b → x ≤ g .width → Offers g turn b x
     offers x limits line fits = record { limits = limits; turns = turns; is = line; fits = fits; sound = rw is sound }
 
-    -- its demerits fit the table
-    demerits-fit : b .demerits < 2 ^ 32
-    demerits-fit =
-        let q : Sound (turn .number) b = rw is sound in
-        let d = q .demerits in
-        let f = turns .few in
-        omega arith
-
     -- the tables have room for what is stored where it stays
     pub keep-room : (after : State) (x : ℕ) → after ≡ noted s (getD a k 0) (b .demerits) → Limits g → x ≤ g .width
-        → (getD a k 0 < 1024) × (getD a k 0 * 6 + 6 ≤ length (t .numbers)) × (b .demerits < 2 ^ 32) × (x < 2 ^ 32) × (after .kept < length a) × (after .kept < 1024)
+        → (getD a k 0 < 1024) × (getD a k 0 * 8 + 8 ≤ length (t .numbers)) × (x < 2 ^ 32) × (after .kept < length a) × (after .kept < 1024)
     keep-room after x e limits h =
         let r = room in
         let q = kept-room after (getD a k 0) (b .demerits) e in
@@ -206,7 +198,7 @@ module _ (g : Setting) (turn : Turn) (st : Standing) (k : ℕ) (t : Tables) (a :
         let n = fit .filled .sized .numbers in
         let l = fit .active in
         let w = limits .wide in
-        (omega arith, omega arith, demerits-fit, omega arith, omega arith, omega arith)
+        (omega arith, omega arith, omega arith, omega arith, omega arith)
 
     -- a line too short to end offers nothing
     pub short-fits : (x : ℕ) → Limits g → x < minimumOf g → x ≤ g .width

@@ -10,6 +10,7 @@ ghost use Prim.Native.Nat.{ℕ, _+_, _-_, _*_, _<_, _≤_, _^_};
 ghost use lib.ListN.{length, take, drop, getD, set};
 ghost use Rattle.records.specs.Word.{meaning};
 ghost use Rattle.records.specs.Contracts.Table.{Holds, Room, wordIn, wordsIn};
+ghost use Rattle.demerits.specs.Contracts.Bounds.{mostWord};
 ghost use Rattle.knuth_plass.specs.KnuthPlass.{minimumOf, startsLine, reduced, sentenceBehind};
 ghost use Rattle.knuth_plass.specs.Contracts.Table as T;
 ghost use Rattle.knuth_plass.specs.Contracts.Round as R;
@@ -35,12 +36,6 @@ fn bit(mark: bool) -> u32
     0
 }
 
-fn wide(x: usize) -> u64
-    ensures { λ r. ⌜ r ≡ x ⌝ }
-{
-    x as u64
-}
-
 fn place(x: u32) -> usize
     ensures { λ r. ⌜ r ≡ x ⌝ }
 {
@@ -49,11 +44,27 @@ fn place(x: u32) -> usize
 
 // Number j of record i.
 fn number(breaks: &[u32], i: usize, j: usize) -> usize
-    requires { ⌜ (i * 6 + 6 ≤ length (now breaks)) × (j < 6) ⌝ }
+    requires { ⌜ (i * 8 + 8 ≤ length (now breaks)) × (j < 8) ⌝ }
     ensures { λ r. ⌜ r ≡ T.breakNumber (now (breaks .entry)) i j ⌝ }
 {
-    let k = i * 6 + j;
+    let k = i * 8 + j;
     place(breaks[k])
+}
+
+fn joined(high: u32, low: u32) -> u64
+    ensures { λ r. ⌜ r ≡ high * 2 ^ 32 + low ⌝ }
+{
+    high as u64 * 0x1_0000_0000 + low as u64
+}
+
+// The demerits of record i: a number of 64 bits in two places, the lower half first.
+fn demerits_of(breaks: &[u32], i: usize) -> u64
+    requires { ⌜ i * 8 + 8 ≤ length (now breaks) ⌝ }
+    ensures { λ r. ⌜ r ≡ T.demeritsIn (now (breaks .entry)) i ⌝ }
+{
+    let low = i * 8 + 4;
+    let high = i * 8 + 5;
+    joined(breaks[high], breaks[low])
 }
 
 // The record at i, put together.
@@ -65,30 +76,39 @@ fn get_break(breaks: &[u32], ratios: &[f32], i: usize) -> Break
         previous: number(breaks, i, 0),
         word: number(breaks, i, 1),
         before: number(breaks, i, 2) == 1,
-        demerits: wide(number(breaks, i, 3)),
+        demerits: demerits_of(breaks, i),
         ratio: ratios[i],
-        columns: number(breaks, i, 4),
-        fresh: number(breaks, i, 5) == 1,
+        columns: number(breaks, i, 6),
+        fresh: number(breaks, i, 7) == 1,
     }
 }
 
-// The six numbers of a record.
-fn put(breaks: &mut [u32], i: usize, n0: u32, n1: u32, n2: u32, n3: u32, n4: u32, n5: u32)
-    requires { ⌜ i * 6 + 6 ≤ length (now breaks) ⌝ }
-    ensures { λ _. ⌜ now (breaks .exit) ≡ T.stored (now (breaks .entry)) (i * 6) n0 n1 n2 n3 n4 n5 ⌝ }
+// Where the break stands and where it comes from: of the record's numbers those that stay as they are.
+fn put_place(breaks: &mut [u32], i: usize, b: Break)
+    requires { ⌜ (i * 8 + 8 ≤ length (now breaks)) × (b .previous < 2 ^ 32) × (b .word < 2 ^ 32) ⌝ }
+    ensures { λ _. ⌜ now (breaks .exit) ≡ T.withPlace (now (breaks .entry)) i b ⌝ }
 {
-    let k = i * 6;
+    let k = i * 8;
+    let k1 = k + 1;
+    let k2 = k + 2;
+    breaks[k] = b.previous as u32;
+    breaks[k1] = b.word as u32;
+    breaks[k2] = bit(b.before);
+}
+
+// The record of a break that stays active, taken apart again: of its numbers, its demerits and its line are new.
+fn keep_break(breaks: &mut [u32], i: usize, b: Break)
+    requires { ⌜ (i * 8 + 8 ≤ length (now breaks)) × (b .columns < 2 ^ 32) ⌝ }
+    ensures { λ _. ⌜ now (breaks .exit) ≡ T.withLine (now (breaks .entry)) i b ⌝ }
+{
+    let k = i * 8 + 4;
     let k1 = k + 1;
     let k2 = k + 2;
     let k3 = k + 3;
-    let k4 = k + 4;
-    let k5 = k + 5;
-    breaks[k] = n0;
-    breaks[k1] = n1;
-    breaks[k2] = n2;
-    breaks[k3] = n3;
-    breaks[k4] = n4;
-    breaks[k5] = n5;
+    breaks[k] = (b.demerits % 0x1_0000_0000) as u32;
+    breaks[k1] = (b.demerits / 0x1_0000_0000) as u32;
+    breaks[k2] = b.columns as u32;
+    breaks[k3] = bit(b.fresh);
 }
 
 // The record taken apart into the tables at i.
@@ -96,30 +116,9 @@ fn store_break(breaks: &mut [u32], ratios: &mut [f32], i: usize, b: Break)
     requires { ⌜ T.Room i (T.tables (now breaks) (now ratios)) × T.Fits b ⌝ }
     ensures { λ _. ⌜ T.tables (now (breaks .exit)) (now (ratios .exit)) ≡ T.withBreak (T.tables (now (breaks .entry)) (now (ratios .entry))) i b ⌝ }
 {
-    put(
-        breaks,
-        i,
-        b.previous as u32,
-        b.word as u32,
-        bit(b.before),
-        b.demerits as u32,
-        b.columns as u32,
-        bit(b.fresh),
-    );
+    put_place(breaks, i, b);
+    keep_break(breaks, i, b);
     ratios[i] = b.ratio;
-}
-
-// The record of a break that stays active, taken apart again: of its numbers, its demerits and its line are new.
-fn keep_break(breaks: &mut [u32], i: usize, b: Break)
-    requires { ⌜ (i * 6 + 6 ≤ length (now breaks)) × (b .demerits < 2 ^ 32) × (b .columns < 2 ^ 32) ⌝ }
-    ensures { λ _. ⌜ now (breaks .exit) ≡ T.withLine (now (breaks .entry)) i b ⌝ }
-{
-    let k = i * 6 + 3;
-    let k1 = k + 1;
-    let k2 = k + 2;
-    breaks[k] = b.demerits as u32;
-    breaks[k1] = b.columns as u32;
-    breaks[k2] = bit(b.fresh);
 }
 
 // ---- a round
@@ -286,7 +285,7 @@ fn reach(g: Setting, turn: Turn, b: Break) -> usize
 // What a break after a word of this weight costs at the least: what the word alone weighs. With a small stretch few breaks offer, and
 // whether one is beaten by this much is not to be foreseen: there it is nothing.
 fn floor(stretch: usize, weight: u16) -> u64
-    requires { ⌜ weight ≤ 300 ⌝ }
+    requires { ⌜ weight ≤ mostWord ⌝ }
     ensures { λ r. ⌜ R.Floor weight r ⌝ }
 {
     if stretch < 4 {
@@ -328,7 +327,7 @@ fn keep(
     s: State,
     best: Best,
 ) -> State
-    requires { ⌜ (n < 1024) × (n * 6 + 6 ≤ length (now breaks)) × (b .demerits < 2 ^ 32) × (t < 2 ^ 32) × (s .kept < length (now active)) × (s .kept < 1024) ⌝ }
+    requires { ⌜ (n < 1024) × (n * 8 + 8 ≤ length (now breaks)) × (t < 2 ^ 32) × (s .kept < length (now active)) × (s .kept < 1024) ⌝ }
     ensures { λ r. ⌜ (now (breaks .exit) ≡ T.withLine (now (breaks .entry)) n (R.extended t b)) × (now (active .exit) ≡ set (now (active .entry)) (s .kept) n) × (r ≡ R.stays s best) ⌝ }
 {
     let kept = s.kept;
@@ -526,7 +525,7 @@ fn round(
     ratios: &mut [f32],
     active: &mut [u32],
 ) -> Standing
-    requires { ⌜ R.Limits g × (i < length (now ratios)) × Room i (now table) × R.Wide i (now table) × R.RoundReady i st (T.tables (now breaks) (now ratios)) (now active) ⌝ }
+    requires { ⌜ R.Limits g × (i < length (now ratios)) × Room i (now table) × R.Narrow i (now table) × R.RoundReady i st (T.tables (now breaks) (now ratios)) (now active) ⌝ }
     ensures { λ r. ⌜ R.RoundIs g last sentence i (wordIn (now (table .entry)) i) st (T.tables (now (breaks .entry)) (now (ratios .entry))) (now (active .entry)) (T.tables (now (breaks .exit)) (now (ratios .exit))) (now (active .exit)) r ⌝ }
 {
     let word = records::get(table, i);
@@ -572,7 +571,7 @@ fn rounds(
     ratios: &mut [f32],
     active: &mut [u32],
 ) -> Standing
-    requires { ⌜ R.Limits g × (1 ≤ n) × (n ≤ length (now ratios)) × Holds n (now table) × R.AllWide n (now table) × T.Sized (T.tables (now breaks) (now ratios)) × (length (now active) ≡ length (now ratios)) ⌝ }
+    requires { ⌜ R.Limits g × (1 ≤ n) × (n ≤ length (now ratios)) × Holds n (now table) × R.AllNarrow n (now table) × T.Sized (T.tables (now breaks) (now ratios)) × (length (now active) ≡ length (now ratios)) ⌝ }
     ensures { λ r. ⌜ R.RoundsAre g n (now (table .entry)) (T.tables (now (breaks .exit)) (now (ratios .exit))) (now (active .exit)) r ⌝ }
 {
     let w = records::get(table, 0);
@@ -699,7 +698,7 @@ pub fn best_breaks(
     active: &mut [u32],
     marks: &mut [bool],
 )
-    requires { ⌜ R.Limits g × (1 ≤ n) × (n ≤ length (now ratios)) × Holds n (now table) × R.AllWide n (now table) × R.Lent (T.tables (now breaks) (now ratios)) (now active) (now marks) ⌝ }
+    requires { ⌜ R.Limits g × (1 ≤ n) × (n ≤ length (now ratios)) × Holds n (now table) × R.AllNarrow n (now table) × R.Lent (T.tables (now breaks) (now ratios)) (now active) (now marks) ⌝ }
     ensures { λ _. ⌜ R.BestAre g n (now (table .entry)) (now (marks .entry)) (T.tables (now (breaks .exit)) (now (ratios .exit))) (now (active .exit)) (now (marks .exit)) ⌝ }
 {
     let st = rounds(g, table, n, breaks, ratios, active);

@@ -1,4 +1,4 @@
--- `knuth_plass::floor` meets its contract. The square of at most 301.
+-- `knuth_plass::floor` meets its contract. The square of at most 2,401.
 use native.Mathlib.Omega.{arith}
 use Rattle.knuth_plass.proofs.Line.{square-small}
 use borrow.Author.Needs.{needs}

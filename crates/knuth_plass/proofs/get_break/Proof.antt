@@ -13,23 +13,20 @@ number-requires-2 c κs = search needs
 number-requires-3 : tie.Need-number-requires-3
 number-requires-3 c κs = search needs
 
+demerits-of-requires : tie.Need-demerits-of-requires
+demerits-of-requires c κs = search needs
+
+mul-t9 : tie.Need-mul-t9
+mul-t9 c = search needs
+
+shared-slice-read-t11 : tie.Need-shared-slice-read-t11
+shared-slice-read-t11 c = search needs
+
 number-requires-4 : tie.Need-number-requires-4
 number-requires-4 c κs = search needs
 
-wide-requires : tie.Need-wide-requires
-wide-requires c κs = search needs
-
-mul-t10 : tie.Need-mul-t10
-mul-t10 c = search needs
-
-shared-slice-read-t12 : tie.Need-shared-slice-read-t12
-shared-slice-read-t12 c = search needs
-
 number-requires-5 : tie.Need-number-requires-5
 number-requires-5 c κs = search needs
-
-number-requires-6 : tie.Need-number-requires-6
-number-requires-6 c κs = search needs
 
 returns : tie.Need-returns
 unfolding breakIn
@@ -42,10 +39,9 @@ get-break-spec =
     number-requires
     number-requires-2
     number-requires-3
+    demerits-of-requires
+    mul-t9
+    shared-slice-read-t11
     number-requires-4
-    wide-requires
-    mul-t10
-    shared-slice-read-t12
     number-requires-5
-    number-requires-6
     returns)

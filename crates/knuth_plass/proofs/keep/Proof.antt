@@ -9,7 +9,7 @@ extended-requires : tie.Need-extended-requires
 extended-requires c κs = search needs
 
 keep-break-requires : tie.Need-keep-break-requires
-keep-break-requires c κs = let p = c .before .before .before .before .pre in (p .1, rw (c .extended .ensures) (p .2), rw (c .extended .ensures) (p .3))
+keep-break-requires c κs = let p = c .before .before .before .before .pre in (p .1, rw (c .extended .ensures) (p .2))
 
 cast-active : tie.Need-cast-active
 cast-active c = search needs

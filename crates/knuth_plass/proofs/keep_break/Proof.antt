@@ -1,7 +1,7 @@
--- `knuth_plass::keep_break` meets its contract. Three stores, one by one.
-use Rattle.knuth_plass.proofs.Table.{stored-line}
+-- `knuth_plass::keep_break` meets its contract. Four stores, one by one.
 use native.Mathlib.Omega.{arith}
 use lib.ListN.{length-set}
+use Rattle.knuth_plass.proofs.Table.{stored-line}
 use borrow.Author.Needs.{needs}
 use Rattle.knuth_plass.proofs.keep_break.Statement.{statement}
 use Rattle.knuth_plass.proofs.keep_break.Tie as tie
@@ -17,6 +17,9 @@ add-k1 c = search needs
 
 add-k2 : tie.Need-add-k2
 add-k2 c = search needs
+
+add-k3 : tie.Need-add-k3
+add-k3 c = search needs
 
 cast-breaks : tie.Need-cast-breaks
 cast-breaks c = search needs
@@ -36,14 +39,23 @@ mul-breaks-2 c = search needs
 slice-write-breaks-2 : tie.Need-slice-write-breaks-2
 slice-write-breaks-2 c = simp length-set (omega arith)
 
-bit-requires : tie.Need-bit-requires
-bit-requires c κs = search needs
+cast-breaks-3 : tie.Need-cast-breaks-3
+cast-breaks-3 c = search needs
 
 mul-breaks-3 : tie.Need-mul-breaks-3
 mul-breaks-3 c = search needs
 
 slice-write-breaks-3 : tie.Need-slice-write-breaks-3
 slice-write-breaks-3 c = simp length-set (omega arith)
+
+bit-requires : tie.Need-bit-requires
+bit-requires c κs = search needs
+
+mul-breaks-4 : tie.Need-mul-breaks-4
+mul-breaks-4 c = search needs
+
+slice-write-breaks-4 : tie.Need-slice-write-breaks-4
+slice-write-breaks-4 c = simp length-set (omega arith)
 
 same-length : tie.Need-same-length
 same-length c = search needs
@@ -59,14 +71,18 @@ keep-break-spec =
     add-k
     add-k1
     add-k2
+    add-k3
     cast-breaks
     mul-breaks
     slice-write-breaks
     cast-breaks-2
     mul-breaks-2
     slice-write-breaks-2
-    bit-requires
+    cast-breaks-3
     mul-breaks-3
     slice-write-breaks-3
+    bit-requires
+    mul-breaks-4
+    slice-write-breaks-4
     same-length
     returns)

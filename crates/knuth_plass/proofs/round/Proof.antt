@@ -16,21 +16,21 @@ sub-word-term : tie.Need-sub-word-term
 sub-word-term c = search needs
 
 word-term-requires : tie.Need-word-term-requires
-word-term-requires c κs = let p = c .before .before .before .before .before .before .before .pre in let w = p .0 .wide in (omega arith, rw (c .before .before .get .ensures .is) (p .3 .some))
+word-term-requires c κs = let p = c .before .before .before .before .before .before .before .pre in let w = p .0 .wide in omega arith
 
 advance-requires : tie.Need-advance-requires
 advance-requires c κs =
     let p = c .before .before .before .before .before .before .before .before .before .before .before .pre in
     let w = c .before .before .before .before .before .before .get .ensures in
     let t = c .before .before .before .word-term .ensures in
-    (p .0, record { some = rw (w .is) (p .3 .some); narrow = rw (w .is) (p .3 .narrow); small = w .small; space = c .before .before .before .before .before .added-space .ensures .most; few = omega (arith, p .1, p .4 .filled .sized .few); weight = t .0; light = t .1 }, p .1, p .4)
+    (p .0, record { narrow = rw (w .is) (p .3); small = w .small; space = c .before .before .before .before .before .added-space .ensures .most; few = omega (arith, p .1, p .4 .filled .sized .few); weight = t .0; light = t .1 }, p .1, p .4)
 
 settle-requires : tie.Need-settle-requires
 settle-requires c κs =
     let p = c .before .before .before .before .before .before .before .before .before .before .before .before .before .before .before .before .before .before .before .pre in
     let w = c .before .before .before .before .before .before .before .before .before .before .before .before .before .before .get .ensures in
     let t = c .before .before .before .before .before .before .before .before .before .before .before .word-term .ensures in
-    (p .0, record { some = rw (w .is) (p .3 .some); narrow = rw (w .is) (p .3 .narrow); small = w .small; space = c .before .before .before .before .before .before .before .before .before .before .before .before .before .added-space .ensures .most; few = omega (arith, p .1, p .4 .filled .sized .few); weight = t .0; light = t .1 }, c .before .before .before .before .before .before .before .advance .ensures .0)
+    (p .0, record { narrow = rw (w .is) (p .3); small = w .small; space = c .before .before .before .before .before .before .before .before .before .before .before .before .before .added-space .ensures .most; few = omega (arith, p .1, p .4 .filled .sized .few); weight = t .0; light = t .1 }, c .before .before .before .before .before .before .before .advance .ensures .0)
 
 same-length : tie.Need-same-length
 same-length c = search needs

@@ -37,10 +37,10 @@ add-t12 c = let f = c .before .before .before .before .before .before .before .p
 append-requires : tie.Need-append-requires Inv-loop μ-loop
 append-requires c κs =
     let p = c .before .before .before .before .before .before .before .before .before .before .pre in
-    let w : c .before .before .before .before .before .get .result .width < 2 ^ 31 = rw (c .before .before .before .before .before .get .ensures .is) (p .4 0 (p .1) .narrow) in
+    let w : c .before .before .before .before .before .get .result .width < 2 ^ 31 = rw (c .before .before .before .before .before .get .ensures .is) (p .4 0 (p .1)) in
     let f = p .0 .first in
     let n = p .6 in
-    (omega arith, has-room (tables (c .before .before .before .before .before .before .before .before .before .before .args .breaks .now) (c .before .before .before .before .before .before .before .before .before .before .args .ratios .now)) 0 (p .5) (omega arith), omega arith, record { previous = omega arith; word = omega arith; demerits = omega arith; columns = omega arith })
+    (omega arith, has-room (tables (c .before .before .before .before .before .before .before .before .before .before .args .breaks .now) (c .before .before .before .before .before .before .before .before .before .before .args .ratios .now)) 0 (p .5) (omega arith), omega arith, record { previous = omega arith; word = omega arith; columns = omega arith })
 
 loop-holds : tie.Need-loop-holds Inv-loop μ-loop
 unfolding ofBits
@@ -48,7 +48,7 @@ loop-holds c =
     let p = c .before .before .before .before .before .before .before .before .before .before .before .before .before .before .before .before .before .pre in
     let a = c .before .before .before .before .before .before .before .before .before .before .before .before .before .before .before .before .before .args in
     let w = c .before .before .before .before .before .before .before .before .before .before .before .before .get .ensures in
-    let narrow : c .before .before .before .before .before .before .before .before .before .before .before .before .get .result .width < 2 ^ 31 = rw (w .is) (p .4 0 (p .1) .narrow) in
+    let narrow : c .before .before .before .before .before .before .before .before .before .before .before .before .get .result .width < 2 ^ 31 = rw (w .is) (p .4 0 (p .1)) in
     let some : 0 < length (a .ratios .now) = omega arith in
     let ready = ready-first (a .g) (c .before .before .before .before .before .before .before .before .before .before .before .before .get .result) _ refl (p .0) narrow (tables (c .before .before .before .before .before .before .before .before .before .before .before .before .before .before .before .before .before .args .breaks .now) (c .before .before .before .before .before .before .before .before .before .before .before .before .before .before .before .before .before .args .ratios .now)) (a .active .now) _ _ (p .5) (p .6) some (c .before .before .before .before .before .before .append .ensures .0) (c .before .before .before .before .before .before .append .ensures .1) in
     let start = begins (a .g) (c .before .before .before .before .before .before .before .before .before .before .before .before .get .result) _ refl (p .0) narrow (tables (c .before .before .before .before .before .before .before .before .before .before .before .before .before .before .before .before .before .args .breaks .now) (c .before .before .before .before .before .before .before .before .before .before .before .before .before .before .before .before .before .args .ratios .now)) (a .active .now) _ _ (p .5) (p .6) some (c .before .before .before .before .before .before .append .ensures .0) (c .before .before .before .before .before .before .append .ensures .1) in

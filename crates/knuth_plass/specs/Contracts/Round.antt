@@ -14,7 +14,7 @@ use Rattle.records.specs.declared.Word.{Word as WordRecord}
 use Rattle.spacing.specs.Spacing.{gapWidth}
 use Rattle.spacing.specs.declared.Setting.{Setting}
 use Rattle.demerits.specs.Demerits.{wordTerm}
-use Rattle.demerits.specs.Contracts.Bounds.{within, mostCost}
+use Rattle.demerits.specs.Contracts.Bounds.{within, mostWord, mostCost}
 use Rattle.knuth_plass.specs.declared.Break.{Break as Record}
 use Rattle.knuth_plass.specs.declared.Best.{Best}
 use Rattle.knuth_plass.specs.declared.Turn.{Turn}
@@ -35,13 +35,12 @@ pub record Limits (g : Setting) : Type 0 where
   pub indent : g .indent < 2 ^ 31
 
 pub record Turns (g : Setting) (turn : Turn) : Type 0 where
-  pub some : 1 ≤ turn .word .width
   pub narrow : turn .word .width < 2 ^ 31
   pub small : Small (turn .word)
   pub space : turn .space ≤ 2
   pub few : turn .number < 1024
   pub weight : turn .weight ≡ wordTerm (stretchOf g) (turn .word .width)
-  pub light : turn .weight ≤ 300
+  pub light : turn .weight ≤ mostWord
 
 -- ---- one active break
 
@@ -208,14 +207,13 @@ pub record RoundIs (g : Setting) (last sentence : Bool) (i : ℕ) (w : WordRecor
   pub ready : RoundReady (i + 1) r t₁ a₁
   pub is : (notes : List ℕ) → standing r t₁ a₁ ≡ round g last sentence i (meaning notes w) (standing st t a)
 
--- word i is at least a column wide, and not too wide to be added to
-pub record Wide (i : ℕ) (table : List ℕ) : Type 0 where
-  pub some : 1 ≤ wordIn table i .width
-  pub narrow : wordIn table i .width < 2 ^ 31
+-- word i is not too wide to be added to
+abbrev pub Narrow : ℕ → List ℕ → Type 0
+Narrow i table = wordIn table i .width < 2 ^ 31
 
--- so is each of n words
-abbrev pub AllWide : ℕ → List ℕ → Type 0
-AllWide n table = (i : ℕ) → i < n → Wide i table
+-- nor is any of n words
+abbrev pub AllNarrow : ℕ → List ℕ → Type 0
+AllNarrow n table = (i : ℕ) → i < n → Narrow i table
 
 -- what the definition's rounds begin with
 unfoldable pub begin : Setting → Word → Active

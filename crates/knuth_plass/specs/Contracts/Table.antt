@@ -1,9 +1,9 @@
--- The break table: records of six numbers each, and their ratios beside them. What a record's path is, and the break of document 01
+-- The break table: records of eight places each, one of them unused, and their ratios beside them. What a record's path is, and the break of document 01
 -- that a record means.
 use mathlib.Core.Bool.{Bool, false, cond}
 use mathlib.Core.List.{List, [], _∷_}
 use mathlib.Core.Path.{_≡_}
-use Prim.Native.Nat.{ℕ, zero, suc, _+_, _*_, _^_, _≤_, _<_}
+use Prim.Native.Nat.{ℕ, zero, suc, _+_, _*_, _/_, _%_, _^_, _≤_, _<_}
 use lib.Dec.{T, eqb, ltb}
 use lib.Ieee.{Float, nan}
 use lib.ListN.{length, getD, set}
@@ -22,17 +22,21 @@ tables numbers ratios = record { numbers = numbers; ratios = ratios }
 
 -- they have room for the same number of records, which is at most that of a paragraph's words
 pub record Sized (t : Tables) : Type 0 where
-  pub numbers : length (t .numbers) ≡ length (t .ratios) * 6
+  pub numbers : length (t .numbers) ≡ length (t .ratios) * 8
   pub few : length (t .ratios) ≤ 1024
 
 -- there is room for record i
 pub record Room (i : ℕ) (t : Tables) : Type 0 where
-  pub numbers : i * 6 + 6 ≤ length (t .numbers)
+  pub numbers : i * 8 + 8 ≤ length (t .numbers)
   pub ratio : i < length (t .ratios)
 
 -- number j of record i
 abbrev pub breakNumber : List ℕ → ℕ → ℕ → ℕ
-breakNumber numbers i j = getD numbers (i * 6 + j) 0
+breakNumber numbers i j = getD numbers (i * 8 + j) 0
+
+-- the demerits of record i, of 64 bits, stand in two places, the lower half first
+abbrev pub demeritsIn : List ℕ → ℕ → ℕ
+demeritsIn numbers i = breakNumber numbers i 5 * 2 ^ 32 + breakNumber numbers i 4
 
 -- record i, put together
 unfoldable pub breakIn : Tables → ℕ → Record
@@ -40,32 +44,34 @@ breakIn t i = record {
   previous = breakNumber (t .numbers) i 0;
   word = breakNumber (t .numbers) i 1;
   before = eqb (breakNumber (t .numbers) i 2) 1;
-  demerits = breakNumber (t .numbers) i 3;
+  demerits = demeritsIn (t .numbers) i;
   ratio = getD (t .ratios) i nan;
-  columns = breakNumber (t .numbers) i 4;
-  fresh = eqb (breakNumber (t .numbers) i 5) 1;
+  columns = breakNumber (t .numbers) i 6;
+  fresh = eqb (breakNumber (t .numbers) i 7) 1;
 }
 
--- the tables with b taken apart into record i
-unfoldable pub breakNumbers : Record → List ℕ
-breakNumbers b = b .previous ∷ b .word ∷ cond (b .before) 1 0 ∷ b .demerits ∷ b .columns ∷ cond (b .fresh) 1 0 ∷ []
+-- record i with the place of b and the break before it
+abbrev pub placeNumbers : Record → List ℕ
+placeNumbers b = b .previous ∷ b .word ∷ cond (b .before) 1 0 ∷ []
 
-unfoldable pub withBreak : Tables → ℕ → Record → Tables
-withBreak t i b = record { numbers = sets (t .numbers) (i * 6) (breakNumbers b); ratios = set (t .ratios) i (b .ratio) }
+unfoldable pub withPlace : List ℕ → ℕ → Record → List ℕ
+withPlace numbers i b = sets numbers (i * 8) (placeNumbers b)
 
--- six numbers stored one by one
-abbrev pub stored : List ℕ → ℕ → ℕ → ℕ → ℕ → ℕ → ℕ → ℕ → List ℕ
-stored l k a b c d e f = set (set (set (set (set (set l k a) (k + 1) b) (k + 2) c) (k + 3) d) (k + 4) e) (k + 5) f
+-- record i with the demerits and the line of b: what changes where a break stays
+abbrev pub lineNumbers : Record → List ℕ
+lineNumbers b = b .demerits % 2 ^ 32 ∷ b .demerits / 2 ^ 32 ∷ b .columns ∷ cond (b .fresh) 1 0 ∷ []
 
--- record i with the demerits and the line of b
 unfoldable pub withLine : List ℕ → ℕ → Record → List ℕ
-withLine numbers i b = sets numbers (i * 6 + 3) (b .demerits ∷ b .columns ∷ cond (b .fresh) 1 0 ∷ [])
+withLine numbers i b = sets numbers (i * 8 + 4) (lineNumbers b)
+
+-- the tables with b taken apart into record i
+unfoldable pub withBreak : Tables → ℕ → Record → Tables
+withBreak t i b = record { numbers = withLine (withPlace (t .numbers) i b) i b; ratios = set (t .ratios) i (b .ratio) }
 
 -- a record whose numbers fit the table
 pub record Fits (b : Record) : Type 0 where
   pub previous : b .previous < 2 ^ 32
   pub word : b .word < 2 ^ 32
-  pub demerits : b .demerits < 2 ^ 32
   pub columns : b .columns < 2 ^ 32
 
 -- record i is b now, and the others are as they were
