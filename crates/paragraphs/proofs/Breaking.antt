@@ -26,7 +26,7 @@ use Rattle.output.specs.Contracts.Writers.{marginOf, emitted}
 use Rattle.output.specs.declared.Layout.{Layout}
 use Rattle.quick.specs.Quick.{quickBreaks}
 use Rattle.knuth_plass.specs.Contracts.Table.{Tables}
-use Rattle.knuth_plass.specs.Contracts.Round.{Limits, AllWide, BestAre}
+use Rattle.knuth_plass.specs.Contracts.Round.{Limits, AllNarrow, BestAre}
 use Rattle.paragraphs.specs.Breaks.{settingOf, breaksBy}
 use Rattle.paragraphs.specs.Contracts.Steps.{settingFor, Broken, Placed}
 
@@ -57,9 +57,9 @@ module _ {longest : ℕ} {notes t : List ℕ} {r : Count} {ws : List Word} {es :
   pub split-few : (n : ℕ) → r ≡ Words n → (length ws ≡ n) × (length ws ≤ longest)
   split-few n e = counted-few longest ws n (sym (s .count) ∙ e)
 
-  -- each word is as wide as its columns, and no wider than the notes are long
-  pub split-wide : (n : ℕ) → r ≡ Words n → length notes ≤ 65536 → AllWide n t
-  split-wide n e h i l = let k = s .kept n e in record { some = k .some i l; narrow = omega (arith, k .narrow i l) }
+  -- no word is wider than the notes are long
+  pub split-narrow : (n : ℕ) → r ≡ Words n → length notes ≤ 65536 → AllNarrow n t
+  split-narrow n e h i l = omega (arith, s .kept n e .narrow i l)
 
 module _ (fast : Bool) (g : Setting) (n : ℕ) (table : List ℕ) (marks marks′ : List Bool) where
   pub broken-fast : fast ≡ true → ((notes : List ℕ) → Marked n marks (quickBreaks g (wordsIn notes n table)) marks′) → Broken fast g n table marks′

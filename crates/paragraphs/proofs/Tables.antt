@@ -21,7 +21,7 @@ room-under f a b e h = rw (← e) h
 
 -- tables as they are declared: for w words and b breaks
 pub scratch-of : {table breaks : List ℕ} {ratios : List Float} {active : List ℕ} {marks : List Bool} (w b : ℕ) → length table ≡ w * 7 → length marks ≡ w
-    → length breaks ≡ b * 6 → length ratios ≡ b → length active ≡ b → w ≤ 1024 → b ≤ w → Scratch table breaks ratios active marks
+    → length breaks ≡ b * 8 → length ratios ≡ b → length active ≡ b → w ≤ 1024 → b ≤ w → Scratch table breaks ratios active marks
 scratch-of w b t m k r a few less = record {
   few = omega (arith, m, few);
   held = omega (arith, m, t);

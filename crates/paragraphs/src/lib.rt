@@ -10,7 +10,7 @@ ghost use mathlib.Core.List.{List};
 ghost use Prim.Native.Nat.{ℕ, _^_, _≤_, _<_};
 ghost use lib.ListN.{length};
 ghost use Rattle.records.specs.Contracts.Table.{Holds};
-ghost use Rattle.knuth_plass.specs.Contracts.Round.{Limits, AllWide};
+ghost use Rattle.knuth_plass.specs.Contracts.Round.{Limits, AllNarrow};
 ghost use Rattle.paragraphs.specs.Contracts.Steps.{Scratch, settingFor, Broken, Placed, TextStepped};
 
 // Where the work stands: the place in the notes, the length of the digest up to there, and next-mail.
@@ -86,7 +86,7 @@ fn mark_breaks(
     active: &mut [u32],
     marks: &mut [bool],
 )
-    requires { ⌜ Limits g × (1 ≤ n) × (n ≤ cond fast (length (now marks)) (length (now ratios))) × Holds n (now table) × AllWide n (now table) × Scratch (now table) (now breaks) (now ratios) (now active) (now marks) ⌝ }
+    requires { ⌜ Limits g × (1 ≤ n) × (n ≤ cond fast (length (now marks)) (length (now ratios))) × Holds n (now table) × AllNarrow n (now table) × Scratch (now table) (now breaks) (now ratios) (now active) (now marks) ⌝ }
     ensures { λ _. ⌜ Broken fast g n (now (table .entry)) (now (marks .exit)) ⌝ }
 {
     if fast {

@@ -90,45 +90,10 @@ fn put_lines(o: Options, block: &[u8], notes: &[u8], from: Cursor, out: &mut [u8
     Ahead::End(c.written)
 }
 
-// Writes everything from the first paragraph on. All working storage is declared in this function and the next ones, each for longer
-// paragraphs than the one before, and lent from there on: a call has no more of it cleared than its paragraphs ask for, and notes
-// without a paragraph do without. Here it is for few words, and none for Knuth-Plass.
+// Writes everything from the first paragraph on. All working storage is declared in the functions that follow, each for longer paragraphs
+// than the one before it, and lent from there on: a call has no more of it cleared than its paragraphs ask for, and notes without a
+// paragraph do without.
 fn put_from(
-    o: Options,
-    block: &[u8],
-    notes: &[u8],
-    c: Cursor,
-    p: Paragraph,
-    out: &mut [u8],
-) -> Ended
-    requires { ⌜ Admitted (now block) (now notes) o × CursorIn (now notes) c × TextAhead (now block) o (now notes) c p ⌝ }
-    ensures { λ r. ⌜ FinishedFrom (meant (now (block .entry)) o) (now (notes .entry)) c (now (out .entry)) (now (out .exit)) r ⌝ }
-{
-    let mut table = [0u32; 336];
-    let mut marks = [false; 48];
-    let mut breaks = [0u32; 6];
-    let mut ratios = [0f32; 1];
-    let mut active = [0u32; 1];
-    match put_texts(
-        o,
-        block,
-        notes,
-        c,
-        p,
-        out,
-        &mut table,
-        &mut breaks,
-        &mut ratios,
-        &mut active,
-        &mut marks,
-    ) {
-        Course::End(needed) => Ended::All(needed),
-        Course::Short { c: d, p: q } => put_further(o, block, notes, d, q, out),
-    }
-}
-
-// Goes on at a paragraph that asks for more storage.
-fn put_further(
     o: Options,
     block: &[u8],
     notes: &[u8],
@@ -145,8 +110,43 @@ fn put_further(
     put_best(o, block, notes, c, p, out)
 }
 
-// The same for 512 words, which is as many as notes of 1 KiB can have, still without Knuth-Plass.
+// Quick, for the words of a few lines. It needs none of Knuth-Plass's storage.
 fn put_quick(
+    o: Options,
+    block: &[u8],
+    notes: &[u8],
+    c: Cursor,
+    p: Paragraph,
+    out: &mut [u8],
+) -> Ended
+    requires { ⌜ Admitted (now block) (now notes) o × CursorIn (now notes) c × TextAhead (now block) o (now notes) c p × (o .quick ≡ true) ⌝ }
+    ensures { λ r. ⌜ FinishedFrom (meant (now (block .entry)) o) (now (notes .entry)) c (now (out .entry)) (now (out .exit)) r ⌝ }
+{
+    let mut table = [0u32; 336];
+    let mut marks = [false; 48];
+    let mut breaks = [0u32; 8];
+    let mut ratios = [0f32; 1];
+    let mut active = [0u32; 1];
+    match put_texts(
+        o,
+        block,
+        notes,
+        c,
+        p,
+        out,
+        &mut table,
+        &mut breaks,
+        &mut ratios,
+        &mut active,
+        &mut marks,
+    ) {
+        Course::End(needed) => Ended::All(needed),
+        Course::Short { c: d, p: q } => put_quick_more(o, block, notes, d, q, out),
+    }
+}
+
+// The same for 512 words, which is as many as notes of 1 KiB can have.
+fn put_quick_more(
     o: Options,
     block: &[u8],
     notes: &[u8],
@@ -159,7 +159,7 @@ fn put_quick(
 {
     let mut table = [0u32; 3584];
     let mut marks = [false; 512];
-    let mut breaks = [0u32; 6];
+    let mut breaks = [0u32; 8];
     let mut ratios = [0f32; 1];
     let mut active = [0u32; 1];
     match put_texts(
@@ -194,7 +194,7 @@ fn put_quick_long(
 {
     let mut table = [0u32; 7168];
     let mut marks = [false; 1024];
-    let mut breaks = [0u32; 6];
+    let mut breaks = [0u32; 8];
     let mut ratios = [0f32; 1];
     let mut active = [0u32; 1];
     match put_texts(
@@ -215,7 +215,7 @@ fn put_quick_long(
     }
 }
 
-// The same with Knuth-Plass: for the words of a line.
+// The same with Knuth-Plass: for the words of a few lines.
 fn put_best(
     o: Options,
     block: &[u8],
@@ -229,7 +229,7 @@ fn put_best(
 {
     let mut table = [0u32; 280];
     let mut marks = [false; 40];
-    let mut breaks = [0u32; 240];
+    let mut breaks = [0u32; 320];
     let mut ratios = [0f32; 40];
     let mut active = [0u32; 40];
     match put_texts(
@@ -262,11 +262,11 @@ fn put_best_more(
     requires { ⌜ Admitted (now block) (now notes) o × CursorIn (now notes) c × TextAhead (now block) o (now notes) c p ⌝ }
     ensures { λ r. ⌜ FinishedFrom (meant (now (block .entry)) o) (now (notes .entry)) c (now (out .entry)) (now (out .exit)) r ⌝ }
 {
-    let mut table = [0u32; 1400];
-    let mut marks = [false; 200];
-    let mut breaks = [0u32; 1200];
-    let mut ratios = [0f32; 200];
-    let mut active = [0u32; 200];
+    let mut table = [0u32; 1372];
+    let mut marks = [false; 196];
+    let mut breaks = [0u32; 1568];
+    let mut ratios = [0f32; 196];
+    let mut active = [0u32; 196];
     match put_texts(
         o,
         block,
@@ -299,7 +299,7 @@ fn put_best_long(
 {
     let mut table = [0u32; 7168];
     let mut marks = [false; 1024];
-    let mut breaks = [0u32; 6144];
+    let mut breaks = [0u32; 8192];
     let mut ratios = [0f32; 1024];
     let mut active = [0u32; 1024];
     match put_texts(

@@ -4,7 +4,7 @@ use native.Mathlib.Omega.{arith}
 use lib.ListN.{length}
 use borrow.Author.Needs.{needs}
 use Rattle.paragraphs.proofs.Tables.{room-holds, room-over, room-within, room-under, scratch-same}
-use Rattle.paragraphs.proofs.Breaking.{limits-of, split-many, split-few, split-wide, emitted-is, wrote-as, most-as}
+use Rattle.paragraphs.proofs.Breaking.{limits-of, split-many, split-few, split-narrow, emitted-is, wrote-as, most-as}
 use Rattle.paragraphs.proofs.put_paragraph.Statement.{statement}
 use Rattle.paragraphs.proofs.put_paragraph.Tie as tie
 
@@ -43,7 +43,7 @@ mark-breaks-requires c κs =
       omega (arith, n .0, p .0 .some),
       room-under (c .before .before .before .before .before .before .before .before .before .before .before .before .before .before .either .result) (length (c .before .before .before .before .before .before .before .before .before .before .before .before .before .before .before .before .before .before .before .before .before .before .args .marks .now)) (length (c .before .before .before .before .before .before .before .before .before .before .before .before .before .before .before .before .before .before .before .before .before .before .args .ratios .now)) (c .before .before .before .before .before .before .before .before .before .before .before .before .before .pick .ensures) (k .few),
       omega (arith, k .few, k .held),
-      split-wide s _ w (p .0 .short),
+      split-narrow s _ w (p .0 .short),
       scratch-same _ _ _ _ _ (p .1) _ _ _ _ _ (c .before .before .before .before .before .before .before .before .before .before .table .given) refl refl refl refl,
     )
 

@@ -24,7 +24,7 @@ slice-aggregate-put-texts-5 : tie.Need-slice-aggregate-put-texts-5
 slice-aggregate-put-texts-5 c = search needs
 
 put-texts-requires : tie.Need-put-texts-requires
-put-texts-requires c κs = let p = c .before .before .before .before .before .before .before .before .before .pre in (p .0, p .1, p .2, scratch-of 200 200 refl refl refl refl refl (omega arith) (omega arith))
+put-texts-requires c κs = let p = c .before .before .before .before .before .before .before .before .before .pre in (p .0, p .1, p .2, scratch-of 196 196 refl refl refl refl refl (omega arith) (omega arith))
 
 enum-known-needed : tie.Need-enum-known-needed
 enum-known-needed c = search needs

@@ -1,66 +1,33 @@
--- `walk::put_from` meets its contract: what the tables reach, and what is left goes on from there.
-use mathlib.Core.Path.{refl}
-use native.Mathlib.Omega.{arith}
+-- `walk::put_from` meets its contract.
 use borrow.Author.Needs.{needs}
-use Rattle.output.proofs.Sink.{wrote-length}
-use Rattle.walk.proofs.Loop.{course-end, course-short, going-finished}
-use Rattle.paragraphs.proofs.Tables.{scratch-of}
 use Rattle.walk.proofs.put_from.Statement.{statement}
 use Rattle.walk.proofs.put_from.Tie as tie
 
-slice-aggregate-put-texts : tie.Need-slice-aggregate-put-texts
-slice-aggregate-put-texts c = search needs
-
-slice-aggregate-put-texts-2 : tie.Need-slice-aggregate-put-texts-2
-slice-aggregate-put-texts-2 c = search needs
-
-slice-aggregate-put-texts-3 : tie.Need-slice-aggregate-put-texts-3
-slice-aggregate-put-texts-3 c = search needs
-
-slice-aggregate-put-texts-4 : tie.Need-slice-aggregate-put-texts-4
-slice-aggregate-put-texts-4 c = search needs
-
-slice-aggregate-put-texts-5 : tie.Need-slice-aggregate-put-texts-5
-slice-aggregate-put-texts-5 c = search needs
-
-put-texts-requires : tie.Need-put-texts-requires
-put-texts-requires c κs = let p = c .before .before .before .before .before .before .before .before .before .pre in (p .0, p .1, p .2, scratch-of 48 1 refl refl refl refl refl (omega arith) (omega arith))
-
-enum-known-needed : tie.Need-enum-known-needed
-enum-known-needed c = search needs
-
-enum-known-d : tie.Need-enum-known-d
-enum-known-d c = search needs
-
-put-further-requires : tie.Need-put-further-requires
-put-further-requires c κs = let t = course-short _ _ _ _ _ _ _ _ (c .before .before .before .before .before .before .before .before .before .before .before .put-texts .result) (c .before .before .before .before .before .before .before .before .before .before .before .put-texts .ensures) (c .before .before .d .given .1) in (c .before .before .before .before .before .before .before .before .before .before .before .before .before .before .before .before .before .before .before .before .before .pre .0, t .0 .stands, t .1)
+put-quick-requires : tie.Need-put-quick-requires
+put-quick-requires c κs = let p = c .before .before .before .before .before .pre in (p .0, p .1, p .2, c .before .if1 .taken)
 
 same-length : tie.Need-same-length
-same-length c = wrote-length (course-end _ _ _ _ _ _ _ _ (c .before .before .before .before .before .before .before .before .before .before .put-texts .result) (c .before .before .before .before .before .before .before .before .before .before .put-texts .ensures) (c .before .needed .given .1) .1)
+same-length c = search needs
 
 returns : tie.Need-returns
-returns c = course-end _ _ _ _ _ _ _ _ (c .before .before .before .before .before .before .before .before .before .before .put-texts .result) (c .before .before .before .before .before .before .before .before .before .before .put-texts .ensures) (c .before .needed .given .1)
+returns c = search needs
+
+put-best-requires : tie.Need-put-best-requires
+put-best-requires c κs = c .before .before .before .before .before .pre
 
 same-length-2 : tie.Need-same-length-2
 same-length-2 c = search needs
 
 returns-2 : tie.Need-returns-2
-returns-2 c = let t = course-short _ _ _ _ _ _ _ _ (c .before .before .before .before .before .before .before .before .before .before .before .before .before .before .put-texts .result) (c .before .before .before .before .before .before .before .before .before .before .before .before .before .before .put-texts .ensures) (c .before .before .before .before .before .d .given .1) in going-finished _ _ (t .0) _ (c .before .before .put-further .result) (c .before .before .put-further .ensures)
+returns-2 c = search needs
 
 pub put-from-spec : {M : Type 1} → statement M
 put-from-spec =
     tie.close
     (tie.spec
-    slice-aggregate-put-texts
-    slice-aggregate-put-texts-2
-    slice-aggregate-put-texts-3
-    slice-aggregate-put-texts-4
-    slice-aggregate-put-texts-5
-    put-texts-requires
-    enum-known-needed
-    enum-known-d
-    put-further-requires
+    put-quick-requires
     same-length
     returns
+    put-best-requires
     same-length-2
     returns-2)
