@@ -29,12 +29,22 @@ row c = pick (ltb c 0x80) (ltb c 0x800) (ltb c 0x10000) refl refl refl
     pick false false false a b d = row4 (ltb-false _ _ d) (rw (a, b, d))
 
 -- a character has one to four octets
-some-octets : (c : ℕ) → (1 ≤ length (encode c)) × (length (encode c) ≤ 4)
+pub some-octets : (c : ℕ) → (1 ≤ length (encode c)) × (length (encode c) ≤ 4)
 some-octets c = pick (row c)
   where
     pick : Row c → (1 ≤ length (encode c)) × (length (encode c) ≤ 4)
     pick (row1 h e) = rw e (omega arith)
     pick (row2 h k e) = rw e (omega arith)
+    pick (row3 h k e) = rw e (omega arith)
+    pick (row4 h e) = rw e (omega arith)
+
+-- from U+0800 on three at least
+pub three-octets : (c : ℕ) → 0x800 ≤ c → 3 ≤ length (encode c)
+three-octets c least = pick (row c)
+  where
+    pick : Row c → 3 ≤ length (encode c)
+    pick (row1 h e) = absurd (omega arith)
+    pick (row2 h k e) = absurd (omega arith)
     pick (row3 h k e) = rw e (omega arith)
     pick (row4 h e) = rw e (omega arith)
 

@@ -15,17 +15,10 @@ use Rattle.lists.proofs.Extents.{each-all}
 use Rattle.text.specs.Rfc3629.{Front, front, nothing, scalar, encode, spelled, decode}
 use Rattle.widths.specs.Widths.{widthOf}
 use Rattle.widths.specs.WhiteSpace.{whiteSpace}
+use Rattle.text.proofs.Decoder.{some-octets}
 use Rattle.text.specs.Characters.{Glyph, glyphAs, glyph, characters, ordinary, glyphs}
 use Rattle.text.specs.Contracts.Places.{settle}
 use Rattle.text.proofs.Glue.{glyphs-settle, settle-all}
-
-either-some : (b : Bool) (x y : List ℕ) → 0 < length x → 0 < length y → 0 < length (cond b x y)
-either-some true x y h k = h
-either-some false x y h k = k
-
-encode-some : (c : ℕ) → 0 < length (encode c)
-unfolding encode
-encode-some c = either-some (ltb c 0x80) _ _ (omega arith) (either-some (ltb c 0x800) _ _ (omega arith) (either-some (ltb c 0x10000) _ _ (omega arith) (omega arith)))
 
 -- what the decoder finds has its encoding's length, and that encoding begins the list
 decode-octets : (xs : List ℕ) (c n : ℕ) → decode xs ≡ front c n → (n ≡ length (encode c)) × (take n xs ≡ encode c)
@@ -75,7 +68,7 @@ glyph-read (x ∷ xs) h = read (decode (x ∷ xs)) refl
     read (front c n) e =
         let d = decode-octets (x ∷ xs) c n e in
         let l : length (take n (x ∷ xs)) ≡ n = rw (d .1) (sym (d .0)) in
-        let s = encode-some c in
+        let s = some-octets c in
         record { isSound = record { some = omega arith; good = λ e. refl; code = λ e. e; octets = λ e. d .1 }; isBlank = refl; hasWidth = λ e. refl }
     read nothing e = none
 

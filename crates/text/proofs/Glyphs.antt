@@ -7,15 +7,17 @@ use Prim.Native.Nat.{ℕ, suc, _+_, _-_, _≤_, _<_}
 use native.Mathlib.Omega.{arith}
 use lib.ListN.{length, getD, take, drop, length-drop, take-append-drop}
 use lib.Seq.{slice, length-take-le}
-use borrow.Author.Tests.{le-leb, ne-eqb}
+use lib.Dec.{ltb}
+use borrow.Author.Tests.{ltb-true, ltb-false}
 use Rattle.lists.specs.Runs.{joined}
 use Rattle.lists.proofs.Walk.{each-nil, each-step, each-at}
 use Rattle.lists.proofs.Pieces.{each-induct}
 use Rattle.lists.proofs.Views.{drop-here, drop-none}
 use Rattle.lists.proofs.Slices.{slice-is, slice-one}
-use Rattle.text.specs.Rfc3629.{Front, front, nothing, decode}
+use Rattle.text.specs.Rfc3629.{Front, front, nothing, encode, decode}
 use Rattle.widths.specs.Widths.{widthOf}
 use Rattle.widths.specs.WhiteSpace.{whiteSpace}
+use Rattle.widths.proofs.Laws.{at-most-two, at-most-one-before-1100}
 use Rattle.text.specs.Characters.{Glyph, glyphAs, glyph, characters}
 use Rattle.text.specs.Contracts.Places.{readAs, seenAs}
 use Rattle.text.specs.declared.Char.the-variants.{Good, Damaged}
@@ -24,9 +26,17 @@ use Rattle.text.specs.declared.Glyph.the-variants.{Ink, Blank, Damaged a
 use Rattle.text.proofs.Glyph.{the-type}
 use denote.Enum.Declared.{tagOf}
 use types.Run.{OneOf}
-use Rattle.text.proofs.Decoder.{sound}
+use Rattle.text.proofs.Decoder.{some-octets, three-octets, sound}
 use Rattle.text.proofs.Forms.{ascii}
 use Rattle.text.proofs.Places.{seen-char, glyph-char, damaged-char, good-front, damaged-front}
+
+-- a character that may take two columns has three octets: none takes more columns than it has octets
+width-octets : (c : ℕ) → widthOf c ≤ length (encode c)
+width-octets c = go (ltb c 0x1100) refl
+  where
+    go : (t : Bool) → ltb c 0x1100 ≡ t → widthOf c ≤ length (encode c)
+    go true e = let w = at-most-one-before-1100 c (ltb-true c 0x1100 e) in let s = some-octets c in omega arith
+    go false e = let w = at-most-two c in let s = three-octets c (let l = ltb-false c 0x1100 e in omega arith) in omega arith
 
 -- how many bytes the first character has
 pub record Bytes (xs : List ℕ) : Type 0 where
@@ -55,6 +65,7 @@ pub record Here (blank : Bool) (s : List ℕ) (at code next : ℕ) : Type 0 wher
   pub isBlankCode : whiteSpace code ≡ blank
   pub hasCode : glyph (drop at s) .code ≡ code
   pub hasWidth : glyph (drop at s) .width ≡ widthOf code
+  pub narrow : widthOf code ≤ next - at
   pub hasBytes : glyph (drop at s) .bytes ≡ slice at next s
   pub count : length (glyph (drop at s) .bytes) ≡ next - at
 
@@ -101,6 +112,7 @@ module _ (s : List ℕ) (at : ℕ) where
         isBlankCode = refl;
         hasCode = rw g;
         hasWidth = rw g;
+        narrow = let k = width-octets c in let e = d .count in omega arith;
         hasBytes = rw g (sym (slice-is at n s));
         count = omega arith;
       }
