@@ -56,9 +56,9 @@ module _ {most : ℕ} {notes : List ℕ} {whole left : List Word} {es fs : List 
     filling-full e h =
         omega (arith, ap length (rw e at (f .words)), simp length-append at (ap length (rw e at (f .words))), words-length notes n t)
 
-    pub filling-more : (end : ℕ) (w : Record) {rest : List Word} {gs : List ℕ} → left ≡ meaning (take end notes) w ∷ rest → fs ≡ w .end ∷ gs → n < most → Within (length (take end notes)) w → 1 ≤ w .width → w .width ≤ length (take end notes)
+    pub filling-more : (end : ℕ) (w : Record) {rest : List Word} {gs : List ℕ} → left ≡ meaning (take end notes) w ∷ rest → fs ≡ w .end ∷ gs → n < most → Within (length (take end notes)) w → w .width ≤ length (take end notes)
         → Filling most notes whole rest es gs (n + 1) (withWord t n w)
-    filling-more end w {rest} {gs} e q more inside some narrow =
+    filling-more end w {rest} {gs} e q more inside narrow =
         let k = f .kept in
         let h = k .held in
         let room : Room n t = omega arith in
@@ -70,7 +70,6 @@ module _ {most : ℕ} {notes : List ℕ} {whole left : List Word} {es fs : List 
             few = omega arith;
             held = rw (length-with t n w) h;
             within = within-more t n w room (k .within) (record { gap = inside .gap; text = inside .text; end = omega (arith, inside .end) });
-            some = all-more (λ r. 1 ≤ r .width) t n w room (k .some) some;
             narrow = all-more (λ r. r .width ≤ length notes) t n w room (k .narrow) (omega arith);
           };
         }
@@ -92,7 +91,7 @@ module _ {most : ℕ} {notes : List ℕ} {whole left : List Word} {es fs : List 
 
 -- no word is there yet
 pub kept-none : (most size : ℕ) (t : List ℕ) → Holds most t → Kept most size 0 t
-kept-none most size t h = record { few = omega arith; held = h; within = λ i l. absurd (omega arith); some = λ i l. absurd (omega arith); narrow = λ i l. absurd (omega arith) }
+kept-none most size t h = record { few = omega arith; held = h; within = λ i l. absurd (omega arith); narrow = λ i l. absurd (omega arith) }
 
 pub filling-none : {most : ℕ} {notes : List ℕ} {left : List Word} {fs : List ℕ} {t : List ℕ} → Holds most t → Filling most notes left left fs fs 0 t
 unfolding wordsIn recordsOf endsIn

@@ -12,10 +12,11 @@ use Rattle.lists.specs.Theorems.All.{All}
 use Rattle.lists.proofs.Runs.{while-more, while-end, behind-more, behind-end}
 use Rattle.lists.proofs.Parts.{while-nil}
 use Rattle.widths.specs.Widths.{widthOf}
+use Rattle.widths.proofs.Laws.{at-most-two, one-before-300}
 use Rattle.text.specs.Characters.{Glyph, glyph, characters, noBreak, ordinary, inkAhead, glyphs, extent}
 use Rattle.text.specs.Contracts.Places.{inkGlyphs, gluedExtent}
 use Rattle.text.proofs.Glyphs.{Here, DamagedHere}
-use Rattle.text.proofs.Letters.{Letter, letter-least, letter-here}
+use Rattle.text.proofs.Letters.{Letter, letter-least, letter-most, letter-here}
 use Rattle.text.proofs.Extents.{Read, characters-read}
 use Rattle.text.proofs.NoBreaks.{no-break-width, run-bytes}
 use Rattle.text.proofs.Edges.{glyphs-past, blank-on, damaged-on, ink-off, ink-edge, ink-begins, run-on, ink-past as ink-nil, ink-on as ink-first-on}
@@ -42,10 +43,9 @@ unfolding punctBehind punctAtEnd
 punct-more p g [] = refl
 punct-more p g (h ∷ gs) = refl
 
--- a character is at most one column wide
-pub narrow : (code w : ℕ) → w ≡ widthOf code → w ≤ 1
-unfolding widthOf
-narrow code w e = omega arith
+-- a character is at most two columns wide
+pub narrow : (code w : ℕ) → w ≡ widthOf code → w ≤ 2
+narrow code w e = rw e (at-most-two code)
 
 no-punct : (code : ℕ) → 0xC0 ≤ code → false ≡ punctCode code
 no-punct code h = rw (ne-eqb code 33 (omega arith), ne-eqb code 46 (omega arith), ne-eqb code 63 (omega arith))
@@ -59,7 +59,7 @@ record RunInk (run left : List Glyph) : Type 0 where
   punct : (p : Bool) → punctBehind p (while isInk (map ordinary run ++ left)) ≡ punctBehind (cond (eqb (length run) 0) p false) (while isInk left)
 
 run-ink : (left gs : List Glyph) → All Read gs → RunInk (while noBreak gs) left
-unfolding extent widthSum widthOf
+unfolding extent widthSum
 run-ink left [] a = rw (while-nil noBreak) (record { extents = omega arith; widths = omega arith; rest = refl; punct = λ p. refl })
 run-ink left (g ∷ gs) a = pick (noBreak g) refl (run-ink left gs (a .1))
   where
@@ -80,7 +80,7 @@ run-ink left (g ∷ gs) a = pick (noBreak g) refl (run-ink left gs (a .1))
         rw (while-more noBreak g gs h)
         (record {
           extents = rw m (omega (arith, r .extents));
-          widths = rw m (let w = no-break-width g (a .0) h in omega (arith, r .widths));
+          widths = rw m (let w = no-break-width g (a .0) h ∙ one-before-300 0xA0 (omega arith) in omega (arith, r .widths));
           rest = behind-more isInk (ordinary g) (map ordinary (while noBreak gs) ++ left) refl ∙ r .rest;
           punct = λ p. rw (m, ne-eqb (suc (length (while noBreak gs))) 0 (λ z. omega arith)) (punct-more p (ordinary g) _ ∙ rw (no-break-punct h, r .punct false, none (length (while noBreak gs))));
         })
@@ -94,18 +94,17 @@ pub record InkLeft (glue : Bool) (s : List ℕ) (at : ℕ) (w : Ink) : Type 0 wh
   pub rest : behind isInk (inkGlyphs glue (drop (w .end) s)) ≡ behind isInk (inkGlyphs glue (drop at s))
   pub within : w .end ≤ length s
   pub narrow : w .width ≤ w .end
-  pub some : w .end ≤ at + 4 * w .width
 
 module _ {glue : Bool} {s : List ℕ} {at : ℕ} where
   pub ink-first : at ≤ length s → InkLeft glue s at (record { end = at; width = 0; punct = false })
-  ink-first h = record { end = refl; width = omega arith; punct = punct-start _; rest = refl; within = h; narrow = omega arith; some = omega arith }
+  ink-first h = record { end = refl; width = omega arith; punct = punct-start _; rest = refl; within = h; narrow = omega arith }
 
   -- a glyph more, which is no blank and ends at next
   ink-on : (w r : Ink) → InkLeft glue s at w → inkGlyphs glue (drop (w .end) s) ≡ glyph (drop (w .end) s) ∷ inkGlyphs glue (drop (r .end) s) → glyph (drop (w .end) s) .blank ≡ false
-      → length (glyph (drop (w .end) s) .bytes) ≡ r .end - w .end → w .end < r .end → r .end ≤ w .end + 4 → r .end ≤ length s
-      → r .width ≡ w .width + glyph (drop (w .end) s) .width → glyph (drop (w .end) s) .width ≡ 1 → r .punct ≡ isPunct (glyph (drop (w .end) s)) → InkLeft glue s at r
+      → length (glyph (drop (w .end) s) .bytes) ≡ r .end - w .end → w .end < r .end → r .end ≤ length s
+      → r .width ≡ w .width + glyph (drop (w .end) s) .width → glyph (drop (w .end) s) .width ≤ r .end - w .end → r .punct ≡ isPunct (glyph (drop (w .end) s)) → InkLeft glue s at r
   unfolding extent widthSum
-  ink-on w r i first ink count on few within width one punct =
+  ink-on w r i first ink count on within width most punct =
       let t : isInk (glyph (drop (w .end) s)) ≡ true = rw ink in
       let l : inkAt glue s (w .end) ≡ glyph (drop (w .end) s) ∷ inkAt glue s (r .end) = rw first (while-more isInk _ _ t) in
       let m : behind isInk (inkGlyphs glue (drop (w .end) s)) ≡ behind isInk (inkGlyphs glue (drop (r .end) s)) = rw first (behind-more isInk _ _ t) in
@@ -116,23 +115,20 @@ module _ {glue : Bool} {s : List ℕ} {at : ℕ} where
         rest = sym m ∙ i .rest;
         within = within;
         narrow = omega (arith, i .narrow);
-        some = omega (arith, i .some);
       }
 
   -- from the answers of glyph_at, width and is_punct
   pub ink-more : (w r : Ink) {code : ℕ} → InkLeft glue s at w → Here false s (w .end) code (r .end) → {n : ℕ} → n ≡ widthOf code → r .width ≡ w .width + n → r .punct ≡ punctCode code → InkLeft glue s at r
-  unfolding widthOf
   ink-more w r {code} i h {n} e width punct =
-      ink-on w r i (ink-first-on glue s (w .end) h) (h .isBlank) (h .count) (h .on) (h .few) (h .within) (rw (h .hasWidth) (omega arith)) (h .hasWidth) (rw (h .hasCode) punct)
+      ink-on w r i (ink-first-on glue s (w .end) h) (h .isBlank) (h .count) (h .on) (h .within) (rw (h .hasWidth) (omega arith)) (rw (h .hasWidth) (h .narrow)) (rw (h .hasCode) punct)
 
   -- a letter of two bytes, which is no punctuation
   pub ink-letter : (w : Ink) → InkLeft glue s at w → Letter s (w .end) → InkLeft glue s at (record { end = w .end + 2; width = w .width + 1; punct = false })
-  unfolding widthOf
-  ink-letter w i l = ink-more w (record { end = w .end + 2; width = w .width + 1; punct = false }) i (letter-here s (w .end) l) {n = 1} refl refl (no-punct _ (letter-least s (w .end) l))
+  ink-letter w i l = ink-more w (record { end = w .end + 2; width = w .width + 1; punct = false }) i (letter-here s (w .end) l) {n = 1} (sym (one-before-300 _ (letter-most s (w .end) l))) refl (no-punct _ (letter-least s (w .end) l))
 
   pub ink-damaged : (w : Ink) → InkLeft glue s at w → w .end < length s → DamagedHere s (w .end) → InkLeft glue s at (record { end = w .end + 1; width = w .width + 1; punct = false })
   ink-damaged w i k h =
-      ink-on w (record { end = w .end + 1; width = w .width + 1; punct = false }) i (damaged-on glue s (w .end) h) (h .isBlank) (rw (h .hasBytes) (omega arith)) (omega arith) (omega arith) (omega arith) (rw (h .hasWidth)) (h .hasWidth) (rw (h .hasCode))
+      ink-on w (record { end = w .end + 1; width = w .width + 1; punct = false }) i (damaged-on glue s (w .end) h) (h .isBlank) (rw (h .hasBytes) (omega arith)) (omega arith) (omega arith) (rw (h .hasWidth)) (rw (h .hasWidth) (omega arith)) (rw (h .hasCode))
 
   -- no ink is left
   ink-end : (w : Ink) → InkLeft glue s at w → inkAt glue s (w .end) ≡ [] → behind isInk (inkGlyphs glue (drop (w .end) s)) ≡ glyphs glue (drop (w .end) s) → OverInk glue s at w
@@ -144,7 +140,6 @@ module _ {glue : Bool} {s : List ℕ} {at : ℕ} where
     rest = sym rest ∙ i .rest;
     within = i .within;
     narrow = i .narrow;
-    some = i .some;
   }
 
   pub ink-past : (w : Ink) → InkLeft glue s at w → length s ≤ w .end → OverInk glue s at w
@@ -178,7 +173,6 @@ module _ (s : List ℕ) (w : Ink) (end : ℕ) where
         rest = sym (r .rest) ∙ rw f at (i .rest);
         within = within;
         narrow = omega (arith, i .narrow);
-        some = omega (arith, i .some);
       }
 
 pub ink-glued : {glue : Bool} {s : List ℕ} {at : ℕ} (w : Ink) (end : ℕ) → InkLeft glue s at w → end ≡ w .end + gluedBytes glue (characters (drop (w .end) s)) → (end ≡ w .end → ⊥) → end ≤ length s

@@ -144,7 +144,6 @@ module _ (o : Opts) (newLine : Bool) (s : List ℕ) (at : ℕ) (b : Blanks) (ove
       ends = ended;
       within = record { gap = omega arith; text = omega arith; end = ink .within };
       on = omega (arith, over .end);
-      some = omega arith;
       narrow = omega (arith, ink .within);
       before = omega arith;
       after = omega arith;
@@ -156,7 +155,6 @@ module _ (o : Opts) (newLine : Bool) (s : List ℕ) (at : ℕ) (b : Blanks) (ove
       ends = ended;
       within = pick-within (o .uniform);
       on = omega (arith, over .end);
-      some = omega (arith, ink .some);
       narrow = omega (arith, ink .narrow, ink .within);
       before = pick-before (o .uniform);
       after = pick-after (o .uniform);

@@ -10,6 +10,7 @@ use lib.ListN.{length, getD}
 use borrow.Author.Tests.{lt-leb, le-leb, ne-eqb, ltb-true, ltb-false}
 use lib.Dec.{ltb}
 use Rattle.widths.specs.Widths.{widthOf}
+use Rattle.widths.proofs.Laws.{one-before-300}
 use Rattle.widths.specs.WhiteSpace.{whiteSpace}
 use Rattle.text.proofs.Glyphs.{Here, ascii-here}
 use Rattle.words.specs.Contracts.Scan.{punctCode, Plain, OverPlain}
@@ -19,7 +20,20 @@ use Rattle.words.proofs.InkRuns.{InkLeft, ink-more}
 -- a plain character is no blank
 plain-ink : (c : ℕ) → 33 ≤ c → c < 128 → whiteSpace c ≡ false
 unfolding whiteSpace
-plain-ink c h k = rw (le-leb 9 c (omega arith), lt-leb c 13 (omega arith), ne-eqb c 0x20 (omega arith), ne-eqb c 0x85 (omega arith), ne-eqb c 0xA0 (omega arith))
+plain-ink c h k =
+    rw (
+      le-leb 9 c (omega arith),
+      lt-leb c 13 (omega arith),
+      ne-eqb c 0x20 (omega arith),
+      ne-eqb c 0x85 (omega arith),
+      ne-eqb c 0xA0 (omega arith),
+      ne-eqb c 0x1680 (omega arith),
+      lt-leb 0x2000 c (omega arith),
+      lt-leb 0x2028 c (omega arith),
+      ne-eqb c 0x202F (omega arith),
+      ne-eqb c 0x205F (omega arith),
+      ne-eqb c 0x3000 (omega arith),
+    )
 
 pub plain-here : (s : List ℕ) (at i : ℕ) → at ≡ i → i < length s → 33 ≤ getD s i 0 → getD s i 0 < 128 → Here false s at (getD s i 0) (i + 1)
 plain-here s at i e h k l = rw (e, ← plain-ink (getD s i 0) k l) (ascii-here s i h (omega arith))
@@ -68,6 +82,10 @@ module _ {s : List ℕ} {from : ℕ} where
   plain-last : {last : ℕ} → Plain s from (last + 1) → {i : ℕ} → i ≡ last → from ≤ last → Here false s i (getD s last 0) (last + 1)
   plain-last {last} p e h = plain-here s _ last e (omega (arith, p .within)) (p .least last h (omega arith)) (p .most last h (omega arith))
 
+  -- each takes a column
+  plain-width : {last : ℕ} → Plain s from (last + 1) → from ≤ last → 1 ≡ widthOf (getD s last 0)
+  plain-width {last} p h = sym (one-before-300 (getD s last 0) (let m = p .most last h (omega arith) in omega arith))
+
 -- ---- a run in ink
 
 module _ {glue : Bool} {s : List ℕ} {at : ℕ} where
@@ -79,13 +97,12 @@ module _ {glue : Bool} {s : List ℕ} {at : ℕ} where
     -- up to the character n places on
     ink-run : (n last : ℕ) → last ≡ w .end + n → Plain s (w .end) (last + 1)
         → InkLeft glue s at (record { end = last + 1; width = w .width + (last + 1 - w .end); punct = punctCode (getD s last 0) })
-    unfolding widthOf
     ink-run zero last e p =
-        ink-more w (record { end = last + 1; width = w .width + (last + 1 - w .end); punct = punctCode (getD s last 0) }) left (plain-last p (omega arith) (omega arith)) {n = 1} refl (omega arith) refl
+        ink-more w (record { end = last + 1; width = w .width + (last + 1 - w .end); punct = punctCode (getD s last 0) }) left (plain-last p (omega arith) (omega arith)) {n = 1} (plain-width p (omega arith)) (omega arith) refl
     ink-run (suc n) last e p =
         let i = ink-run n (w .end + n) refl (plain-front p (omega arith) (omega arith)) in
         ink-more (record { end = w .end + n + 1; width = w .width + (w .end + n + 1 - w .end); punct = punctCode (getD s (w .end + n) 0) }) (record { end = last + 1; width = w .width + (last + 1 - w .end); punct = punctCode (getD s last 0) }) i
-        (plain-last p (omega arith) (omega arith)) {n = 1} refl (omega arith) refl
+        (plain-last p (omega arith) (omega arith)) {n = 1} (plain-width p (omega arith)) (omega arith) refl
 
     pub ink-plain : (r : Ink) → OverPlain s w r → InkLeft glue s at r
     ink-plain r o =

@@ -85,7 +85,7 @@ loop-less : tie.Need-loop-less Inv-loop μ-loop
 loop-less c = let w = word (c .before .before .before .before .before .before) in omega (arith, w .on, w .within .end)
 
 loop-again : tie.Need-loop-again Inv-loop μ-loop
-loop-again c = let w = word (c .before .before .before .before .before .before) in (w .within .end, rw (c .before .before .store .ensures) (filling-more (c .before .before .before .before .before .before .before .before .before .loop .inv .1) (c .before .before .before .before .before .before .before .before .before .before .before .before .before .args .end) _ (w .first) (w .ends) (search needs) (w .within) (w .some) (w .narrow)), ap length (c .before .before .store .ensures) ∙ length-with _ _ _ ∙ c .before .before .before .before .before .before .before .before .before .loop .inv .2, λ e. absurd (false≢true e))
+loop-again c = let w = word (c .before .before .before .before .before .before) in (w .within .end, rw (c .before .before .store .ensures) (filling-more (c .before .before .before .before .before .before .before .before .before .loop .inv .1) (c .before .before .before .before .before .before .before .before .before .before .before .before .before .args .end) _ (w .first) (w .ends) (search needs) (w .within) (w .narrow)), ap length (c .before .before .store .ensures) ∙ length-with _ _ _ ∙ c .before .before .before .before .before .before .before .before .before .loop .inv .2, λ e. absurd (false≢true e))
 
 pub split-line-spec : {M : Type 1} → statement M
 split-line-spec =

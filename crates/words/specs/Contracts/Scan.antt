@@ -61,7 +61,6 @@ pub record OverInk (glue : Bool) (s : List ℕ) (at : ℕ) (r : Ink) : Type 0 wh
   pub rest : glyphs glue (drop (r .end) s) ≡ behind isInk (inkGlyphs glue (drop at s))
   pub within : r .end ≤ length s
   pub narrow : r .width ≤ r .end
-  pub some : r .end ≤ at + 4 * r .width
 
 -- bytes as one number, the first its least digit
 unfoldable pub asNumber : List ℕ → ℕ
@@ -123,7 +122,6 @@ pub record NextWord (o : Opts) (mail newLine previousPunct : Bool) (s : List ℕ
   pub ends : endsFrom at (runs (glyphsBehind (o .glue) newLine (drop at s))) ≡ w .end ∷ endsFrom (w .end) (runs (glyphs (o .glue) (drop (w .end) s)))
   pub within : Within (length s) w
   pub on : at < w .end
-  pub some : 1 ≤ w .width
   pub narrow : w .width ≤ length s
   pub before : beforeNumber (w .before) ≤ 100 * length s
   pub after : w .after ≤ 100 * length s

@@ -15,7 +15,6 @@ pub record Kept (most size n : ℕ) (t : List ℕ) : Type 0 where
   pub few : n ≤ most
   pub held : Holds most t
   pub within : AllWithin size n t
-  pub some : (i : ℕ) → i < n → 1 ≤ wordIn t i .width
   pub narrow : (i : ℕ) → i < n → wordIn t i .width ≤ size
 
 -- where the first n records end
