@@ -18,7 +18,7 @@ static const char LIMITS[] = "\n"
                              "an empty line and no more than 1024 words in a paragraph. WIDTH and GOAL are\n"
                              "1 to 1000, and WIDTH is from once to twice GOAL; WIDTH alone is 6 to 1000,\n"
                              "GOAL alone 3 to 940. TAB is 0 to 100. PREFIX and PSKIP have at most 255\n"
-                             "bytes. Characters are U+0000 to U+02FF but U+00AD, in UTF-8.\n"
+                             "bytes. Text is UTF-8; columns count by Unicode 15.0.0.\n"
                              "\n"
                              "Exit status: 0 all was formatted; 1 something was refused, not read or not\n"
                              "written; 2 a wrong call.\n";

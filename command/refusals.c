@@ -4,8 +4,6 @@
 #include <stdlib.h>
 #include <string.h>
 
-#define ACCEPTED "U+0000 to U+02FF but U+00AD, in UTF-8"
-
 static void say_option(const struct options *options, int option, const char *rule) {
     const char *value = options->value[option];
     say("--%s %s: must be %s", name_of(option), *value == '\0' ? "''" : value, rule);
@@ -17,7 +15,7 @@ static void say_prefix(const struct options *options, int option) {
     if (length > RUDIGNALS_MOST_PREFIX)
         say("--%s: must have at most %u bytes, and has %lu", name_of(option), RUDIGNALS_MOST_PREFIX, (unsigned long)length);
     else
-        say("--%s: must be of accepted characters (" ACCEPTED ")", name_of(option));
+        say("--%s: must be UTF-8", name_of(option));
 }
 
 /* Each number is in its range, and width and goal do not go together: goal <= width <= 2 * goal. */
@@ -66,7 +64,7 @@ void say_refusal(const char *name, const struct refusal *at) {
         say(AT "more than %u bytes from here on have no empty line; put one between paragraphs", name, at->line, at->column, RUDIGNALS_MOST_NOTES);
         break;
     case RUDIGNALS_TEXT:
-        say(AT "byte %02X begins no accepted character (" ACCEPTED "); --keep leaves such a line as it is", name, at->line, at->column,
+        say(AT "byte %02X begins no UTF-8 character; --keep leaves such a line as it is", name, at->line, at->column,
             (unsigned)at->byte);
         break;
     case RUDIGNALS_WORDS:

@@ -37,8 +37,8 @@ extern "C" {
  *             RUDIGNALS_MOST_WORDS words                first line begins
  *   5 room    the digest has over output_len bytes      how many bytes it has                           all zero
  *
- * Places are counted in bytes from 0: in the block for code 1, in the notes for codes 3 and 4. Accepted are the characters U+0000 to U+02FF
- * but U+00AD, in UTF-8; where none of them begins stands a damaged one. */
+ * Places are counted in bytes from 0: in the block for code 1, in the notes for codes 3 and 4. Every character of UTF-8 (RFC 3629) is
+ * accepted; where none begins stands a damaged one. Columns count by Unicode 15.0.0. */
 enum rudignals_code {
     RUDIGNALS_DONE = 0,
     RUDIGNALS_OPTIONS = 1,

@@ -3,8 +3,7 @@ import re
 
 from .calls import FMT, RUDIGNALS, expect, run
 
-ACCEPTED = "(U+0000 to U+02FF but U+00AD, in UTF-8)"
-DAMAGED = f"begins no accepted character {ACCEPTED}; --keep leaves such a line as it is\n"
+DAMAGED = "begins no UTF-8 character; --keep leaves such a line as it is\n"
 MANY = "the paragraph that begins here has more than 1024 words; part it by an empty line\n"
 LONG = "more than 65536 bytes from here on have no empty line; put one between paragraphs\n"
 HINT = "Try 'fmt --help'.\n"
@@ -35,7 +34,7 @@ REFUSED_OPTIONS = [
     (["-w", "51", "-g", "25"], "--goal 25: must be 26 to 51 with --width 51\n"),
     (["-p", "x" * 256], "--prefix: must have at most 255 bytes, and has 256\n"),
     (["-p", "x" * 70000], "--prefix: must have at most 255 bytes, and has 70000\n"),
-    (["-P", b"\xe4\xb8\x80"], f"--skip-prefix: must be of accepted characters {ACCEPTED}\n"),
+    (["-P", b"\xe4\xb8"], "--skip-prefix: must be UTF-8\n"),
     (["-P", b"x" * 255 + b"\xb0"], "--skip-prefix: must have at most 255 bytes, and has 256\n"),
 ]
 
@@ -43,7 +42,7 @@ REFUSED_OPTIONS = [
 REFUSED_NOTES = [
     ([], b"\xb0", "line 1, column 1: byte B0 " + DAMAGED),
     ([], b"a\r\n\tb\xc3\xa9 \xb0x\n\xff", "line 2, column 5: byte B0 " + DAMAGED),
-    ([], b"a\n\n\xc2\xad\n", "line 3, column 1: byte C2 " + DAMAGED),
+    ([], "a\n\n中e\u0301\U0001f600".encode() + b"\xed\xa0\x80\n", "line 3, column 5: byte ED " + DAMAGED),
     ([], b"a \xc3\n", "line 1, column 3: byte C3 " + DAMAGED),
     ([], b"a" * 65537, "line 1, column 1: " + LONG),
     (["--keep"], b"\xb0" * 70000, "line 1, column 1: " + LONG),

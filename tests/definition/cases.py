@@ -53,6 +53,10 @@ def skip(text):
     return b"\x06" + bytes([0, len(text) + text.count(b"~")]) + text
 
 
+def prefix_of(text):
+    return field(5, text.encode())
+
+
 w10 = number(2, 10)
 quick10 = flags(QUICK) + w10
 
@@ -105,7 +109,9 @@ CASES = TRIALS + [
     faulty(number(3, 1001), 0),
     faulty(number(4, 101), 0),
     faulty(field(5, b"\xb0"), 0),
-    faulty(field(6, b"a\xc2\xad"), 0),
+    faulty(field(6, b"a\xed\xa0\x80"), 0),
+    accepted(field(6, b"a\xc2\xad")),
+    accepted(field(6, "中\u0301\U0001f600".encode())),
     faulty(field(5, b"x" * 256), 0),
     accepted(field(6, b"x" * 255)),
     accepted(number(4, 0)),
@@ -127,28 +133,55 @@ CASES = TRIALS + [
     # 2: notes over 65,536 bytes; a faulty block comes before
     (b"", b"a" * 65537, 3, 2, 0, SAME),
     (b"\x02", b"a" * 65537, 3, 1, 0, SAME),
-    # 3: the first byte at which no accepted character begins
+    # 3: the first byte at which no character of RFC 3629 begins
     damaged(b"\xb0", 0),
     damaged(b"a\n\xb0", 2),
-    damaged(b"\xc2\xad", 0),
-    damaged(b"ab\xcc\x80", 2),
+    damaged(b"ab\xcc", 2),
     damaged(b"\xc0\x80", 0),
     damaged(b"\xe0\x80\x80", 0),
     damaged(b"a\xc3", 1),
     damaged(b"a\xc3\nb", 1),
     damaged(b"\xed\xa0\x80", 0),
-    damaged(b"\xe2\x82\xac", 0),
+    damaged(b"\xed\xbf\xbf", 0),
+    damaged(b"\xe2\x82", 0),
+    damaged("\u20ac中".encode() + b"\xe4\xb8", 6),
+    damaged(b"\xf0\x8f\xbf\xbf", 0),
+    damaged(b"\xf4\x90\x80\x80", 0),
     damaged(b"\xf5\x80\x80\x80", 0),
     damaged(b"\x80", 0),
     damaged(b"\xff", 0),
-    damaged(b"\xcb\xbf\xcc\x80", 2),
+    damaged(b"\xcb\xbf\xcc\x80\xcc", 4),
     # keep: a damaged line is plain, up to its line end
     kept(keep, b"\xb0", b"\xb0\n"),
     kept(keep, b"a\xb0\r\nb", b"a\xb0\nb\n"),
     kept(keep, b"\xb0\r", b"\xb0\r\n"),
     kept(keep, b"a\nb\n\xb0  x \nc\nd\n", b"a b\n\xb0  x \nc d\n"),
     kept(keep, b"a\xc3\nb\n", b"a\xc3\nb\n"),
-    kept(keep, b"\xc2\xad\n\xe2\x82\xac\n", b"\xc2\xad\n\xe2\x82\xac\n"),
+    kept(keep, b"\xc2\xad\n\xe2\x82\xac\n", b"\xc2\xad \xe2\x82\xac\n"),
+    # document 02, P4: every character of RFC 3629, noncharacters too; two columns, one, none
+    *(kept(b"", (c + "\n").encode(), (c + "\n").encode()) for c in "\u00ad\u0300\u07ff\u0800\ud7ff\ue000\ufffd\uffff\U00010000\U0010ffff"),
+    kept(quick10, "中中 中中 c\n".encode(), "中中 中中\nc\n".encode()),
+    kept(quick10, "中中 中中a c\n".encode(), "中中 中中a\nc\n".encode()),
+    kept(quick10, "中中a 中中a c\n".encode(), "中中a\n中中a c\n".encode()),
+    kept(quick10, "a\u0301a\u0301a\u0301a\u0301a\u0301 bbbb c\n".encode(), "a\u0301a\u0301a\u0301a\u0301a\u0301 bbbb\nc\n".encode()),
+    kept(quick10, "aaaa \u0301 bbbb c\n".encode(), "aaaa \u0301 bbbb\nc\n".encode()),
+    kept(quick10, "\U0001f600\U0001f600\U0001f600\U0001f600\U0001f600 c\n".encode(), "\U0001f600\U0001f600\U0001f600\U0001f600\U0001f600\nc\n".encode()),
+    # blanks are the White_Space set: one column between words, their own width in an indent
+    *(kept(b"", (c + "\n").encode(), b"\n") for c in "\u1680\u2000\u200a\u2028\u2029\u202f\u205f\u3000"),
+    *(kept(b"", (c + "\n").encode(), (c + "\n").encode()) for c in "\u180e\u200b\u2060\ufeff"),
+    kept(quick10, "aaaa\u3000bbbbb c\n".encode(), "aaaa\u3000bbbbb\nc\n".encode()),
+    kept(quick10, "aaaa\u3000bbbbbb c\n".encode(), "aaaa\nbbbbbb c\n".encode()),
+    kept(quick10, "\u3000aaa bbbb c\n".encode(), "\u3000aaa bbbb\n\u3000c\n".encode()),
+    kept(quick10, "\u3000aaa bbbbb c\n".encode(), "\u3000aaa\n\u3000bbbbb c\n".encode()),
+    kept(quick10, "\u2003aaa bbbbb c\n".encode(), "\u2003aaa bbbbb\n\u2003c\n".encode()),
+    kept(flags(UNIFORM), "a\u2003b\u3000\u3000c\n".encode(), b"a b c\n"),
+    # sentences part by bytes, or by characters with bit 10; mail counts bytes
+    kept(flags(UNIFORM), "a.\u3000b\n".encode(), b"a.  b\n"),
+    kept(flags(UNIFORM, CHARACTERS), "a.\u3000b\n".encode(), b"a. b\n"),
+    kept(flags(UNIFORM, CHARACTERS), "a.\u3000\u3000b\n".encode(), b"a.  b\n"),
+    kept(flags(MAIL, QUICK) + w10, "To: 中中 bb\n".encode(), "To: 中中\n  bb\n".encode()),
+    # prefixes accept what notes accept
+    kept(prefix_of("中"), "中 a\n中 b\nc\n".encode(), "中 a b\nc\n".encode()),
     # glue off: U+00A0 is a blank everywhere
     kept(flags(UNIFORM), b"4.2\xc2\xa0K\n", b"4.2 K\n"),
     kept(b"", b"\xc2\xa0\n", b"\n"),

@@ -79,6 +79,28 @@ fn no_breaks(symbols: u32) -> impl Iterator<Item = Asked> {
     })
 }
 
+/// Characters of every width and blanks of every width, and what makes them words and lines.
+const WIDE: [&str; 8] = ["a", " ", "\u{301}", "中", "\u{3000}", "\u{2003}", "\n", "."];
+
+/// Every text of up to so many symbols, with stretch 1 to 3: the widths at every edge.
+fn wide(symbols: u32) -> impl Iterator<Item = Asked> {
+    let mut sets = Vec::new();
+    for (width, goal) in [(2, 1), (3, 2), (4, 2), (5, 3), (6, 3), (7, 4)] {
+        for flags in [0, QUICK, UNIFORM, CROWN | GLUE, TAGGED | QUICK, UNIFORM | CHARACTERS] {
+            let opts = Opts { flags: Some(flags), width: Some(width), goal: Some(goal), ..Opts::default() };
+            sets.push(opts.clone());
+            sets.push(Opts { prefix: Some(["中", "\u{301}", "\u{3000}", "a\u{301}"][sets.len() / 2 % 4].to_string()), ..opts });
+        }
+    }
+    let base = WIDE.len();
+    sets.into_iter().flat_map(move |opts| {
+        (1..=symbols).flat_map(move |length| {
+            let block = opts.block();
+            (0..base.pow(length)).map(move |n| (block.clone(), (0..length).map(|place| WIDE[n / base.pow(place) % base]).collect::<String>().into_bytes()))
+        })
+    })
+}
+
 /// Every number that a field of two bytes can have, where it has a bound, and every width with every goal about the bounds.
 fn numbers(step: usize) -> impl Iterator<Item = Asked> {
     let notes = b"a b.  c\n\tdd e\n";
@@ -182,6 +204,7 @@ pub fn tables(seed: u64, step: usize, symbols: u32) -> Vec<Kind> {
         ("short texts", Box::new(cases::exhaustive(symbols).map(of))),
         ("short texts, damaged", Box::new(raw(symbols - 1))),
         ("short texts, no-break spaces", Box::new(no_breaks(symbols + 1))),
+        ("short texts, every width", Box::new(wide(symbols))),
     ]
 }
 
@@ -204,6 +227,26 @@ fn long_prefix(r: &mut Rng) -> String {
     prefix
 }
 
+/// Characters of other scripts, of every width and from every plane, noncharacters among them; and the blanks of three bytes.
+const SCRIPTS: &str = "ЖяΩλשبकि\u{94d}ไ\u{e31}ท\u{301}\u{308}\u{483}\u{200b}\u{200d}\u{feff}\u{ad}\u{1160}\u{11ff}\u{1100}한中日本語。あア\u{ff76}Ａ\u{fffd}\u{ffff}\u{1f600}\u{1f468}\u{20000}\u{2ffff}\u{e0001}\u{e0100}\u{10ffff}\u{2500}\u{303f}\u{a66f}\u{fe0f}";
+const THREE_BYTES: &str = "\u{1680}\u{2000}\u{2003}\u{200a}\u{2028}\u{2029}\u{202f}\u{205f}\u{3000}\u{3000}";
+
+fn any(r: &mut Rng, of: &str) -> char {
+    of.chars().nth(r.below(of.chars().count())).unwrap()
+}
+
+/// The same text with letters and blanks of other scripts put in their places.
+fn other_scripts(r: &mut Rng, text: &str) -> String {
+    let (letters, blanks) = (10 + r.below(80), r.below(30));
+    let other = |c: char| match c {
+        '\n' | '\r' | '\t' => c,
+        c if c.is_whitespace() => if r.chance(blanks) { any(r, THREE_BYTES) } else { c },
+        c if c.is_alphanumeric() => if r.chance(letters) { any(r, SCRIPTS) } else { c },
+        c => c,
+    };
+    text.chars().map(other).collect()
+}
+
 fn case(r: &mut Rng) -> Case {
     let short = r.chance(80);
     let most = r.below(if short { 2 } else { 5 });
@@ -221,6 +264,13 @@ fn case(r: &mut Rng) -> Case {
         1 => plain_words(r),
         _ => random_text(r, &opts, size),
     };
+    if r.chance(60) {
+        return Case { opts, notes };
+    }
+    if r.chance(20) {
+        opts.prefix = opts.prefix.map(|p| other_scripts(r, &p));
+    }
+    let notes = other_scripts(r, &notes);
     Case { opts, notes }
 }
 

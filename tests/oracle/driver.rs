@@ -79,7 +79,7 @@ fn assert_accepted(case: &Case) {
     assert!(opts.tab.map_or(true, |tab| tab <= 100));
     assert!(opts.prefix.iter().chain(&opts.skip).all(|prefix| prefix.len() <= 255));
     for text in [&case.notes].into_iter().chain(&opts.prefix).chain(&opts.skip) {
-        assert!(text.chars().all(|c| c <= '\u{2ff}' && c != '\u{ad}') && STAND_INS.back(text) == *text);
+        assert!(STAND_INS.back(text) == *text);
     }
     assert!(case.notes.len() <= 65536);
     let mut words = 0;
@@ -245,11 +245,11 @@ fn check() {
     println!("checks: {}", checks.0);
 }
 
-/// Every accepted character that is no blank has width 1: three of them, a
-/// blank and two letters make 6 columns.
+/// Every character before U+0300 that is no blank has width 1: three of them, a
+/// blank and two letters make 6 columns. (tests/widths has them all.)
 fn widths(checks: &mut Checks) {
     let format = cube(vec!["-q".to_string(), "-w".to_string(), "6".to_string()]);
-    for c in ('\0'..='\u{2ff}').filter(|c| !c.is_whitespace() && *c != '\u{ad}') {
+    for c in ('\0'..='\u{2ff}').filter(|c| !c.is_whitespace()) {
         let fits = format!("{c}{c}{c} aa\n");
         let over = format!("{c}{c}{c} aaa\n");
         checks.that(format(fits.as_bytes()) == fits.as_bytes(), &format!("{c:?} is too wide"));

@@ -11,7 +11,7 @@ use std::ops::Range;
 pub const NO_BREAK: char = '\u{a0}';
 
 pub fn is_blank(c: char) -> bool {
-    matches!(c, '\t'..='\r' | ' ' | '\u{85}' | NO_BREAK)
+    c.is_whitespace()
 }
 
 /// Whether the U+00A0 at a place of a line is ordinary.

@@ -6,8 +6,8 @@
 //! - Keep: a damaged line is a plain line, as is a line with the skip prefix. In its place the original is shown a line that begins with
 //!   the skip prefix (or, where none is given or it has a line feed and so is never found, with a character that occurs nowhere else),
 //!   and in the digest that line is turned back into the damaged one.
-//! - Blanks counted by characters where sentences part (document 02, P13), which shows under uniform alone: there a blank of two bytes that
-//!   stands alone between two words is shown as a form feed, a blank of one byte. Uniform drops both, so nothing is turned back. Two blanks
+//! - Blanks counted by characters where sentences part (document 02, P13), which shows under uniform alone: there a blank of two bytes
+//!   or three that stands alone between two words is shown as a form feed, a blank of one byte. Uniform drops both, so nothing is turned back. Two blanks
 //!   or more are over one by either rule, and a tab parts sentences by either.
 
 use crate::glue::{found, is_blank, text_of, StandIns};
@@ -15,18 +15,9 @@ use parts::guard::Answer;
 
 // ---------------------------------------------------------------- characters
 
-/// The place of the first damaged character: accepted are U+0000 to U+007F in one byte, U+0080 to U+02FF in two, without U+00AD.
+/// The place of the first damaged character: the standard library's decoder says where one is not well formed.
 fn damage(bytes: &[u8]) -> Option<usize> {
-    let mut at = 0;
-    while at < bytes.len() {
-        at += match (bytes[at], bytes.get(at + 1)) {
-            (0x00..=0x7f, _) => 1,
-            (0xc2, Some(0xad)) => return Some(at),
-            (0xc2..=0xcb, Some(0x80..=0xbf)) => 2,
-            _ => return Some(at),
-        };
-    }
-    None
+    std::str::from_utf8(bytes).err().map(|e| e.valid_up_to())
 }
 
 // ---------------------------------------------------------------- option block
@@ -267,7 +258,7 @@ fn indent_end(fields: &Fields, line: &str) -> Option<usize> {
     Some(line.len() - words.len()).filter(|_| !words.is_empty())
 }
 
-/// A line in which each blank of two bytes that stands alone between two words is a blank of one byte.
+/// A line in which each blank of more than one byte that stands alone between two words is a blank of one byte.
 fn one_byte_blanks(fields: &Fields, line: &str) -> String {
     let body = text_of(line);
     let from = match indent_end(fields, body) {
@@ -278,7 +269,7 @@ fn one_byte_blanks(fields: &Fields, line: &str) -> String {
     let is_ink = |at: Option<usize>| at.and_then(|at| chars.get(at)).map_or(false, |c| !is_blank(*c));
     let shown = chars.iter().enumerate().map(|(at, c)| {
         let alone = is_ink(at.checked_sub(1)) && is_ink(Some(at + 1));
-        if alone && is_blank(*c) && c.len_utf8() == 2 { '\u{c}' } else { *c }
+        if alone && is_blank(*c) && c.len_utf8() > 1 { '\u{c}' } else { *c }
     });
     format!("{}{}{}", &body[..from], shown.collect::<String>(), &line[body.len()..])
 }
