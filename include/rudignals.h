@@ -89,8 +89,8 @@ enum rudignals_flag {
  * The output overlaps neither of the other two. A call keeps no state, takes no memory from a heap and calls nothing back; it may run on
  * several threads at once.
  *
- * Its working storage is on the stack, at most 78,528 bytes of tables, and no more than its paragraphs ask for. The most that was measured
- * for a whole call on x86-64 (tests/stack/run): 81,479 bytes. In a dynamically linked program the first call also resolves `memset`, which
+ * Its working storage is on the stack, at most 86,940 bytes of tables, and no more than its paragraphs ask for. The most that was measured
+ * for a whole call on x86-64 (tests/stack/run): 89,767 bytes. In a dynamically linked program the first call also resolves `memset`, which
  * took 2,128 bytes more at an earlier state. Give a thread 256 KiB: the tests fail above that. */
 
 /* Measures: the code and N of a call with these options and notes and all the room that it needs. N of code 0 is the digest's length: the

@@ -1,6 +1,7 @@
-//! The oracle: the Rust original, built twice, behind one command.
+//! The oracle: the Rust original, built three times, behind one command.
 //!
-//!     oracle fmt [--build powf|cube] [OPTIONS]  format standard input
+//!     oracle fmt [--build powf|cube|amended] [OPTIONS]
+//!                                               format standard input
 //!     oracle vectors                            print the committed list anew
 //!     oracle cases exhaustive SYMBOLS           print more of the same form
 //!     oracle cases random|prose SEED COUNT
@@ -34,6 +35,11 @@ fn cube(args: Vec<String>) -> Build {
     Box::new(move |notes| fmt_cube::format(&options, notes))
 }
 
+fn amended(args: Vec<String>) -> Build {
+    let options = fmt_amended::options(args);
+    Box::new(move |notes| fmt_amended::format(&options, notes))
+}
+
 fn format(mut args: Vec<String>) {
     let build = match args.first().map(|arg| &arg[..]) {
         Some("--build") if args.len() > 1 => args.drain(..2).nth(1).unwrap(),
@@ -42,6 +48,7 @@ fn format(mut args: Vec<String>) {
     let format = match &build[..] {
         "powf" => powf(args),
         "cube" => cube(args),
+        "amended" => amended(args),
         _ => fail(&format!("no build {build}")),
     };
     let mut notes = Vec::new();
@@ -241,6 +248,7 @@ fn check() {
     }
     widths(&mut checks);
     differences(&mut checks);
+    widthless(&mut checks);
     checks.that(compare_all(SEED, 4, 20_000, 200) == 0, "powf against the cube");
     println!("checks: {}", checks.0);
 }
@@ -255,6 +263,37 @@ fn widths(checks: &mut Checks) {
         checks.that(format(fits.as_bytes()) == fits.as_bytes(), &format!("{c:?} is too wide"));
         checks.that(format(over.as_bytes()) != over.as_bytes(), &format!("{c:?} is too narrow"));
     }
+}
+
+/// Words of width 0 (document 02, P4). The amended build differs from the cube in their W at stretch 1 and nowhere else; their terms are
+/// near the exact ones; and the smallest text on which it shows.
+fn widthless(checks: &mut Checks) {
+    use fmt_amended::linebreak::compute_demerits as amended;
+    use fmt_cube::linebreak::compute_demerits as cube;
+    for stretch in 0..=500 {
+        for word in 0..=stretch + 1 {
+            let same = amended(0, stretch, word, 0.0).0 == cube(0, stretch, word, 0.0).0;
+            checks.that(same != (stretch == 1 && word == 0), &format!("W amended at stretch {stretch} for a word of {word}"));
+        }
+    }
+    for (delta, old) in [(-1, -1.0), (0, 0.0), (1, 1.0), (1, -1.0), (-1, 0.0)] {
+        let (word, wide) = (amended(delta, 1, 0, old), amended(delta, 1, 1, old));
+        checks.that(word.0 == wide.0, "at stretch 1 a word of width 0 costs what one of width 1 does");
+    }
+    for stretch in 2i64..=500 {
+        // In f32 the term may be the whole number beside the one that 300 s³ / (s − 1)³ has.
+        let exact = 300 * stretch.pow(3) / (stretch - 1).pow(3);
+        let term = terms_sum(amended(0, stretch as isize, 0, 0.0).0);
+        checks.that((term - exact).abs() <= 1, &format!("W of width 0 at stretch {stretch}"));
+    }
+    checks.that(terms_sum(amended(0, 2, 0, 0.0).0) == 2400, "the greatest W");
+    checks.that(amended(-2, 2, 0, 1.0).0 == 9_616_201, "the greatest cost with words of width 0");
+    let run = |build: fn(Vec<String>) -> Build, notes: &str| {
+        build(["-g", "2", "-w", "3"].iter().map(|arg| arg.to_string()).collect())(notes.as_bytes())
+    };
+    let notes = "\u{301} a a \u{301} a\n";
+    checks.that(run(crate::amended, notes) == "\u{301} a\na \u{301}\na\n".as_bytes(), "the smallest text, amended");
+    checks.that(run(crate::cube, notes) == "\u{301} a\na\n\u{301} a\n".as_bytes(), "the smallest text, as the Rust has it");
 }
 
 /// What docs/DIFFERENCES.md says of the original outside the accepted domain.

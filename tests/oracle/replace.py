@@ -1,7 +1,7 @@
 #!/usr/bin/env python3
 """Copy the Rust original into a build folder, changed by the replacements below.
 
-Usage: replace.py SOURCE TARGET powf|cube
+Usage: replace.py SOURCE TARGET powf|cube|amended
 
 Every replacement states how often its old text occurs. Any other count stops
 the build, so the original cannot drift away from what is listed here.
@@ -62,11 +62,15 @@ CUBE = [
     ("linebreak.rs", 3, ".powf(3f32)", ".cube()"),
     ("linebreak.rs", 1, "use std::mem;\n", "use std::mem;\nuse uucore::Cube;\n"),
 ]
+# Document 02, P4: at stretch 1 the W of a word of width 0 is 0. The original divides 1 by 0 there.
+AMENDED = [
+    ("linebreak.rs", 1, "if wlen >= stretch {", "if wlen >= stretch || stretch == 1 {"),
+]
 
 
 def main():
     source, target, build = pathlib.Path(sys.argv[1]), pathlib.Path(sys.argv[2]), sys.argv[3]
-    changes = {"powf": BOTH, "cube": BOTH + CUBE}[build]
+    changes = {"powf": BOTH, "cube": BOTH + CUBE, "amended": BOTH + CUBE + AMENDED}[build]
     target.mkdir(parents=True, exist_ok=True)
     for name in ("fmt.rs", "linebreak.rs", "parasplit.rs"):
         text = (source / name).read_text(encoding="utf-8")

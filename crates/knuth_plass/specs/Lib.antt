@@ -1,2 +1,3 @@
 pub mod KnuthPlass
 pub mod Contracts
+pub mod Trials

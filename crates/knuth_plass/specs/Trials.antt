@@ -1,0 +1,2 @@
+-- Words of the papers, broken by computing.
+pub mod Widthless
