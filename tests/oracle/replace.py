@@ -57,8 +57,6 @@ BOTH = [
     ("linebreak.rs", 1, "fn compute_demerits(", "pub fn compute_demerits("),
 ]
 CUBE = [
-    # The one departure (document 02, P4): at stretch 1 W is 0 for words of width 0 too, where the original divides by 0.
-    ("linebreak.rs", 1, "let bad_wordlen = if wlen >= stretch {", "let bad_wordlen = if wlen >= stretch || stretch <= 1 {"),
     ("linebreak.rs", 3, ".powf(3f32)", ".cube()"),
     ("linebreak.rs", 1, "use std::mem;\n", "use std::mem;\nuse uucore::Cube;\n"),
 ]
