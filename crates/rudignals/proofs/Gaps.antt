@@ -7,18 +7,19 @@ use native.Mathlib.Omega.{arith}
 use lib.Dec.{T, eqb, leb}
 use lib.ListN.{length, length-append}
 use lib.Seq.{take-append-seam, drop-at}
-use borrow.Author.Tests.{le-leb, lt-leb, ne-eqb, leb-true, eqb-true}
+use borrow.Author.Tests.{le-leb, lt-leb, ne-eqb, leb-true, leb-false}
 use Rattle.lists.specs.Runs.{every, joined}
 use Rattle.lists.proofs.Runs.{every-map}
 use Rattle.lists.proofs.Parts.{every-nil, every-cons, joined-nil, joined-cons}
 use Rattle.text.specs.Rfc3629.{front, scalar, encode, decode}
-use Rattle.text.specs.Characters.{accepted, character, blankCode, widthOf, Glyph, glyph, characters, noBreak, ordinary, inkAhead, glyphs, isBlank, isGood, damage}
+use Rattle.widths.specs.Widths.{widthOf}
+use Rattle.widths.specs.WhiteSpace.{whiteSpace}
+use Rattle.text.specs.Characters.{Glyph, glyph, characters, noBreak, ordinary, inkAhead, glyphs, isBlank, isGood, damage}
 use Rattle.text.specs.Contracts.Places.{settle, inkBehind, inkAfter}
 use Rattle.text.specs.Theorems.Blanks.{spaceCode, Blanks, Gap}
 use Rattle.text.specs.declared.Found.the-variants.{Nowhere}
-use Rattle.text.proofs.Decoder.{complete}
+use Rattle.text.proofs.Decoder.{some-octets, complete}
 use Rattle.text.proofs.Glyphs.{bytes-of, characters-past, characters-step, characters-joined}
-use Rattle.text.proofs.Places.{accepted-front}
 use Rattle.text.proofs.Glue.{glyphs-settle, ahead-run, ahead-other, settle-first, settle-blank, settle-end}
 use Rattle.rudignals.proofs.Undamaged.{Good, damage-good, characters-append}
 
@@ -75,29 +76,44 @@ parted glue ink (x ∷ xs) ys =
 
 -- ---- blank characters, read again from their bytes
 
--- a blank is an accepted character
-blank-small : (c : ℕ) → blankCode c ≡ true → c ≤ 0xA0
-unfolding blankCode
-blank-small c h = pick (leb 9 c && leb c 13) (eqb c 0x20) (eqb c 0x85) (eqb c 0xA0) refl refl refl refl h
-  where
-    pick : (w r s t : Bool) → (leb 9 c && leb c 13) ≡ w → eqb c 0x20 ≡ r → eqb c 0x85 ≡ s → eqb c 0xA0 ≡ t → (w || r || s || t) ≡ true → c ≤ 0xA0
-    pick true r s t a b d e k = omega (arith, leb-true c 13 (and-eq-true-iff (leb 9 c) (leb c 13) .0 a .1))
-    pick false true s t a b d e k = omega (arith, eqb-true c 0x20 b)
-    pick false false true t a b d e k = omega (arith, eqb-true c 0x85 d)
-    pick false false false true a b d e k = omega (arith, eqb-true c 0xA0 e)
-    pick false false false false a b d e k = absurd (false≢true k)
+-- behind U+3000 there is no blank
+no-blank : (c : ℕ) → 0x3000 < c → whiteSpace c ≡ false
+unfolding whiteSpace
+no-blank c h =
+    rw (
+      le-leb 9 c (omega arith),
+      lt-leb c 13 (omega arith),
+      ne-eqb c 0x20 (omega arith),
+      ne-eqb c 0x85 (omega arith),
+      ne-eqb c 0xA0 (omega arith),
+      ne-eqb c 0x1680 (omega arith),
+      le-leb 0x2000 c (omega arith),
+      lt-leb c 0x200A (omega arith),
+      le-leb 0x2028 c (omega arith),
+      lt-leb c 0x2029 (omega arith),
+      ne-eqb c 0x202F (omega arith),
+      ne-eqb c 0x205F (omega arith),
+      ne-eqb c 0x3000 (omega arith),
+    )
 
-blank-front : (c : ℕ) (rest : List ℕ) → blankCode c ≡ true → character (encode c ++ rest) ≡ front c (length (encode c))
-unfolding character accepted scalar
+blank-small : (c : ℕ) → whiteSpace c ≡ true → c ≤ 0x3000
+blank-small c h = pick (leb c 0x3000) refl
+  where
+    pick : (t : Bool) → leb c 0x3000 ≡ t → c ≤ 0x3000
+    pick true e = leb-true c 0x3000 e
+    pick false e = absurd (false≢true (sym (no-blank c (let l = leb-false c 0x3000 e in omega arith)) ∙ h))
+
+blank-front : (c : ℕ) (rest : List ℕ) → whiteSpace c ≡ true → decode (encode c ++ rest) ≡ front c (length (encode c))
+unfolding scalar
 blank-front c rest h =
     let l = blank-small c h in
     let s : T (scalar c) = rw (le-leb c 0x10FFFF (omega arith), lt-leb 0xD800 c (omega arith)) tt in
-    rw (complete c (encode c ++ rest) rest (record { isScalar = s; octets = refl }), le-leb c 0x2FF (omega arith), ne-eqb c 0xAD (omega arith))
+    complete c (encode c ++ rest) rest (record { isScalar = s; octets = refl })
 
 abbrev blankAs : ℕ → Glyph
 blankAs c = record { bytes = encode c; code = c; damaged = false; blank = true; width = widthOf c }
 
-blank-glyph : (c : ℕ) (rest : List ℕ) → blankCode c ≡ true → glyph (encode c ++ rest) ≡ blankAs c
+blank-glyph : (c : ℕ) (rest : List ℕ) → whiteSpace c ≡ true → glyph (encode c ++ rest) ≡ blankAs c
 unfolding glyph
 blank-glyph c rest h = rw (blank-front c rest h, h, take-append-seam (encode c) rest)
 
@@ -113,11 +129,11 @@ again [] h = let n : characters [] ≡ [] = characters-past [] 0 (omega arith) i
     none n = record { code = ap (map (λ (g : Glyph). g .code)) n; blank = rw (n, every-nil); good = rw (n, every-nil) }
 again (c ∷ codes) h =
     let k = and-eq-true-iff (spaceCode c) (every spaceCode codes) .0 (rw every-cons at h) in
-    let b = and-eq-true-iff (blankCode c) (not (eqb c 10)) .0 (k .0) .0 in
+    let b = and-eq-true-iff (whiteSpace c) (not (eqb c 10)) .0 (k .0) .0 in
     let rest = joined encode codes in
     let r = again codes (k .1) in
     let g = blank-glyph c rest b in
-    let n : 0 < length (encode c ++ rest) = rw length-append (omega (arith, accepted-front (encode c ++ rest) c (length (encode c)) (blank-front c rest b) .decoded .some)) in
+    let n : 0 < length (encode c ++ rest) = rw length-append (omega (arith, some-octets c)) in
     let y = bytes-of (encode c ++ rest) n in
     let m : length (encode c) ≡ y .n = sym (ap (λ (q : Glyph). length (q .bytes)) g) ∙ y .count in
     let e : characters (encode c ++ rest) ≡ glyph (encode c ++ rest) ∷ characters rest = characters-step (encode c ++ rest) y ∙ ap (λ (l : List ℕ). glyph (encode c ++ rest) ∷ characters l) (drop-at (encode c) rest (y .n) m) in
