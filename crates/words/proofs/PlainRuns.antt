@@ -1,14 +1,14 @@
 -- Plain characters in ink: a run of them is as many glyphs of ink, each of one column.
 use mathlib.Core.Path.{_≡_, refl, sym}
-use mathlib.Core.Bool.{Bool, true, false}
+use mathlib.Core.Bool.{Bool, true, false, _&&_, and-eq-true-iff}
 use mathlib.Core.Logic.{⊎-elim}
 use mathlib.Core.List.{List}
 use Prim.Native.Nat.{ℕ, zero, suc, _+_, _-_, _≤_, _<_}
 use native.Mathlib.Nat.{eq-or-lt-of-le}
 use native.Mathlib.Omega.{arith}
 use lib.ListN.{length, getD}
-use borrow.Author.Tests.{lt-leb, le-leb, ne-eqb, ltb-true, ltb-false}
-use lib.Dec.{ltb}
+use borrow.Author.Tests.{lt-leb, le-leb, leb-true, ne-eqb, ltb-true, ltb-false}
+use lib.Dec.{ltb, leb}
 use Rattle.widths.specs.Widths.{widthOf}
 use Rattle.widths.proofs.Laws.{one-before-300}
 use Rattle.widths.specs.WhiteSpace.{whiteSpace}
@@ -65,6 +65,10 @@ module _ {s : List ℕ} {from : ℕ} where
     least = before-and-at (λ b. 33 ≤ b) s from to (p .least) k;
     most = before-and-at (λ b. b < 128) s from to (p .most) l;
   }
+
+  -- one character, by its tests
+  pub plain-by : from < length s → (leb 33 (getD s from 0) && ltb (getD s from 0) 128) ≡ true → Plain s from (from + 1)
+  plain-by h e = let t = and-eq-true-iff _ _ .0 e in plain-more (plain-none (omega arith)) h (leb-true _ _ (t .0)) (ltb-true _ _ (t .1))
 
   -- one run behind another
   pub plain-join : {i to : ℕ} → Plain s from i → Plain s i to → Plain s from to

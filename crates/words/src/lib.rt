@@ -410,16 +410,27 @@ fn over_plain(s: &[u8], w: Ink) -> Ink
     ensures { λ r. ⌜ OverPlain (now (s .entry)) w r ⌝ }
 {
     let from = w.end;
-    let end = plain_end(s, from);
-    if end == from {
+    if !is_plain(s, from) {
         return w;
     }
+    let end = plain_end(s, from + 1);
     let last = end - 1;
     Ink {
         end,
         width: w.width + (end - from),
         punct: is_punct(wide(s[last])),
     }
+}
+
+// Whether a plain character stands at a place.
+fn is_plain(s: &[u8], at: usize) -> bool
+    ensures { λ r. ⌜ (r ≡ true → Plain (now (s .entry)) at (at + 1)) ⌝ }
+{
+    if s.len() <= at {
+        return false;
+    }
+    let b = s[at];
+    (33 <= b) & (b < 128)
 }
 
 // The end of the plain characters at a place.
