@@ -5,7 +5,7 @@ ghost use Prim.Native.Nat.{_+_, _-_, _≤_, _<_, _^_};
 ghost use lib.ListN.{length, getD, drop};
 ghost use Rattle.text.specs.Rfc3629.{decode};
 ghost use Rattle.text.specs.Characters.{glyph, characters, inkAhead, damage};
-ghost use Rattle.text.specs.Contracts.Places.{readAs, seenAs, letterAt, Pair, Ascii, noBreakAt, gluedExtent, RunOver};
+ghost use Rattle.text.specs.Contracts.Places.{readAs, seenAs, letterAt, Pair, Triple, Ascii, noBreakAt, gluedExtent, RunOver};
 
 // A place, or none.
 pub enum Found {
@@ -249,7 +249,24 @@ fn is_pair(s: &[u8], at: usize) -> bool
     (0xC2 <= a) & (a <= 0xDF) & (b / 64 == 2)
 }
 
-// The first place at which no character begins. Most are of one or two bytes; what else there is, is read in full.
+// Whether a character of three bytes stands at a place, of those whose first byte shows that it is one: U+1000 to U+CFFF and U+E000 to
+// U+FFFF. Behind E0 two bytes might do, and behind ED there may be a surrogate.
+fn is_triple(s: &[u8], at: usize) -> bool
+    requires { ⌜ at < length (now s) ⌝ }
+    ensures { λ r. ⌜ (r ≡ true → Triple (now (s .entry)) at) ⌝ }
+{
+    let next = at + 1;
+    let last = at + 2;
+    if s.len() <= last {
+        return false;
+    }
+    let a = s[at];
+    let b = s[next];
+    let c = s[last];
+    (0xE1 <= a) & (a <= 0xEF) & (a != 0xED) & (b / 64 == 2) & (c / 64 == 2)
+}
+
+// The first place at which no character begins. Most are seen by their first byte; what else there is, is read in full.
 pub fn first_damage(s: &[u8]) -> Found
     ensures { λ r. ⌜ r ≡ damage (now (s .entry)) ⌝ }
 {
@@ -259,6 +276,8 @@ pub fn first_damage(s: &[u8]) -> Found
             i = ascii_end(s, i + 1);
         } else if is_pair(s, i) {
             i += 2;
+        } else if is_triple(s, i) {
+            i += 3;
         } else {
             let Char::Good { code: _, next } = decode_at(s, i) else {
                 return Found::At(i);
