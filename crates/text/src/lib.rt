@@ -213,8 +213,8 @@ fn is_ink(s: &[u8], at: usize) -> bool
     false
 }
 
-// Whether a letter of two bytes stands at a place, U+00C0 to U+02FF: each takes one column and none is blank, so that no more need be
-// asked.
+// Whether a letter of two bytes stands at a place, U+00C0 to U+02FF or U+0380 to U+047F, Latin, Greek or Cyrillic: each takes one
+// column and none is blank, so that no more need be asked.
 pub fn is_letter(s: &[u8], at: usize) -> bool
     ensures { λ r. ⌜ r ≡ letterAt (now (s .entry)) at ⌝ }
 {
@@ -225,7 +225,11 @@ pub fn is_letter(s: &[u8], at: usize) -> bool
     if a < 0xC3 {
         return false;
     }
-    if 0xCB < a {
+    if 0xD1 < a {
+        return false;
+    }
+    // CC and CD begin accents, which take none.
+    if a / 2 == 0x66 {
         return false;
     }
     let next = at + 1;

@@ -16,7 +16,7 @@ use Rattle.widths.proofs.Laws.{at-most-two, one-before-300}
 use Rattle.text.specs.Characters.{Glyph, glyph, characters, noBreak, ordinary, inkAhead, glyphs, extent}
 use Rattle.text.specs.Contracts.Places.{inkGlyphs, gluedExtent}
 use Rattle.text.proofs.Glyphs.{Here, DamagedHere}
-use Rattle.text.proofs.Letters.{Letter, letter-least, letter-most, letter-here}
+use Rattle.text.proofs.Letters.{Letter, letter-least, letter-width, letter-here}
 use Rattle.text.proofs.Extents.{Read, characters-read}
 use Rattle.text.proofs.NoBreaks.{no-break-width, run-bytes}
 use Rattle.text.proofs.Edges.{glyphs-past, blank-on, damaged-on, ink-off, ink-edge, ink-begins, run-on, ink-past as ink-nil, ink-on as ink-first-on}
@@ -124,7 +124,7 @@ module _ {glue : Bool} {s : List ℕ} {at : ℕ} where
 
   -- a letter of two bytes, which is no punctuation
   pub ink-letter : (w : Ink) → InkLeft glue s at w → Letter s (w .end) → InkLeft glue s at (record { end = w .end + 2; width = w .width + 1; punct = false })
-  ink-letter w i l = ink-more w (record { end = w .end + 2; width = w .width + 1; punct = false }) i (letter-here s (w .end) l) {n = 1} (sym (one-before-300 _ (letter-most s (w .end) l))) refl (no-punct _ (letter-least s (w .end) l))
+  ink-letter w i l = ink-more w (record { end = w .end + 2; width = w .width + 1; punct = false }) i (letter-here s (w .end) l) {n = 1} (letter-width s (w .end) l) refl (no-punct _ (letter-least s (w .end) l))
 
   pub ink-damaged : (w : Ink) → InkLeft glue s at w → w .end < length s → DamagedHere s (w .end) → InkLeft glue s at (record { end = w .end + 1; width = w .width + 1; punct = false })
   ink-damaged w i k h =

@@ -48,9 +48,11 @@ pub record Triple (s : List ℕ) (at : ℕ) : Type 0 where
   pub second : getD s (at + 1) 0 / 64 ≡ 2
   pub third : getD s (at + 2) 0 / 64 ≡ 2
 
--- a letter of two bytes stands at a place, U+00C0 to U+02FF: each takes one column, and none is blank
+-- a letter of two bytes stands at a place, U+00C0 to U+02FF or U+0380 to U+047F: each takes one column, and none is blank; those between
+-- begin with CC or CD
 unfoldable pub letterAt : List ℕ → ℕ → Bool
-letterAt s at = ltb (at + 1) (length s) && (leb 0xC3 (getD s at 0) && (leb (getD s at 0) 0xCB && eqb (getD s (at + 1) 0 / 64) 2))
+letterAt s at =
+    ltb (at + 1) (length s) && (leb 0xC3 (getD s at 0) && (leb (getD s at 0) 0xD1 && (not (eqb (getD s at 0 / 2) 0x66) && eqb (getD s (at + 1) 0 / 64) 2)))
 
 -- the rest of a line as its glyphs, with glue or without: whether the nearest character to the left, skipping U+00A0, is there and not a blank
 unfoldable pub settle : Bool → Bool → List Glyph → List Glyph
