@@ -56,7 +56,8 @@ enum rudignals_tag {
     RUDIGNALS_TAG_FLAGS = 1,
     /* Numbers, 1 to 1,000: the columns of a line, and those aimed at. Neither given: 79 and 74. Both: goal <= width <= 2 * goal. Width alone:
      * 6 to 1,000, and goal = min(width * 94 / 100, width - 3). Goal alone: 3 to 940, and width = max(goal * 100 / 94, goal + 3). Quotients
-     * are rounded down. That no line is wider than the width is not promised. */
+     * are rounded down. With quick a line that is wider holds a single word (mail
+     * apart, and but for U+3000 between words); of the others that is not promised. */
     RUDIGNALS_TAG_WIDTH = 2,
     RUDIGNALS_TAG_GOAL = 3,
     /* a number, 0 to 100: the columns between tab stops; 8 by default, and 0 acts as 1 */

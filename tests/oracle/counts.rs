@@ -10,3 +10,29 @@ pub fn counts(opts: &FmtOptions, notes: &[u8]) -> Vec<(usize, usize)> {
         })
         .collect()
 }
+
+/// A piece as it is laid out: its words (of a line that is not formatted none), its indents, and whether it is mail.
+pub struct Laid {
+    pub words: usize,
+    pub init: String,
+    pub indent: String,
+    pub mail: bool,
+}
+
+pub fn laid(opts: &FmtOptions, notes: &[u8]) -> Vec<Laid> {
+    let mut fp = ::std::io::Cursor::new(notes.to_vec());
+    ParagraphStream::new(opts, &mut fp)
+        .map(|piece| match piece {
+            Ok(para) => {
+                let words = ParaWords::new(opts, &para).words().len();
+                Laid { words: words, init: para.init_str, indent: para.indent_str, mail: para.mail_header }
+            }
+            Err(_) => Laid { words: 0, init: String::new(), indent: String::new(), mail: false },
+        })
+        .collect()
+}
+
+/// The columns that a character takes.
+pub fn width_of(c: char) -> usize {
+    char_width(c)
+}

@@ -11,6 +11,7 @@
 //!   or more are over one by either rule, and a tab parts sentences by either.
 
 use crate::glue::{found, is_blank, text_of, StandIns};
+use crate::width::Width;
 use parts::guard::Answer;
 
 // ---------------------------------------------------------------- characters
@@ -32,6 +33,7 @@ const KEEP: usize = 1 << 8;
 const GLUE: usize = 1 << 9;
 const CHARACTERS: usize = 1 << 10;
 const UNIFORM: usize = 1 << 4;
+const QUICK: usize = 1 << 5;
 const EXACT: usize = 1 << 6;
 const EXACT_SKIP: usize = 1 << 7;
 
@@ -94,11 +96,13 @@ fn number(bytes: &[u8]) -> usize {
 pub struct Original {
     args: Vec<String>,
     options: fmt_cube::FmtOptions,
+    /// Of the right digests: whether quick keeps to the width.
+    pub width: Width,
 }
 
 impl Original {
     pub fn new() -> Original {
-        Original { args: Vec::new(), options: fmt_cube::options(Vec::new()) }
+        Original { args: Vec::new(), options: fmt_cube::options(Vec::new()), width: Width::default() }
     }
 
     fn set(&mut self, fields: &Fields) {
@@ -138,7 +142,15 @@ impl Original {
         self.set(&fields);
         match self.long_paragraph(shown.text.as_bytes()) {
             Some(line) => Answer::Words(notes.split_inclusive(|b| *b == b'\n').take(line).map(|l| l.len()).sum()),
-            None => Answer::Done(shown.back(fmt_cube::format(&self.options, shown.text.as_bytes()))),
+            None => {
+                let digest = fmt_cube::format(&self.options, shown.text.as_bytes());
+                if fields.has(QUICK) {
+                    let laid = fmt_cube::parasplit::laid(&self.options, shown.text.as_bytes());
+                    let tab = fields.numbers[3].map_or(8, |tab| tab.max(1));
+                    self.width.count(&laid, std::str::from_utf8(&digest).unwrap(), self.options.width, tab);
+                }
+                Answer::Done(shown.back(digest))
+            }
         }
     }
 

@@ -8,6 +8,7 @@
 
 mod glue;
 mod model;
+mod width;
 
 use model::Original;
 use parts::asked;
@@ -177,7 +178,12 @@ fn run(seed: u64, count: u64, long: bool, harness: Harness) -> i32 {
     }
     let codes: Vec<String> = run.codes.iter().enumerate().map(|(code, n)| format!("code {code} {n}")).collect();
     println!("answers: {}", codes.join(", "));
+    let width = &run.original.width;
+    println!("quick: {} lines counted afresh, {} of them just full, {} over the width with a single word, {} with a wide blank, {} otherwise", width.lines, width.full, width.single, width.wide, width.over);
     println!("scale: seed {seed}, {cases} cases, {} times measured, written and formatted, {} differ", run.calls, run.differ);
+    if run.original.width.over > 0 {
+        return 1;
+    }
     if let Some((call, what)) = run.least.take() {
         let (call, what) = run.shrink(call, what);
         println!("differ: {what}\nreplay: {}", call.replay());

@@ -1,6 +1,7 @@
 pub mod Boundary
 pub mod Extents
 pub mod Ink
+pub mod Columns
 pub mod Lines
 pub mod Measures
 pub mod Glued

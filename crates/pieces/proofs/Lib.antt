@@ -11,6 +11,7 @@ pub mod Next
 pub mod Fronts
 pub mod Indents
 pub mod Starting
+pub mod Columns
 pub mod Taken
 pub mod Indented
 pub mod Meaning

@@ -1,5 +1,6 @@
 pub mod Boundary
 pub mod Order
+pub mod Width
 pub mod LineEnds
 pub mod Undamaged
 pub mod Gaps

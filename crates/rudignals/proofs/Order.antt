@@ -37,7 +37,7 @@ spaces-other zero codes h = h refl
 spaces-other (suc n) codes h = every-cons (λ c. eqb c 0xA0) 32 (replicate n 32 ++ codes)
 
 -- what stands before a word on its line parts it from the one before
-space-separates : (glue uniform previousPunct : Bool) (w : Word) → Whole glue uniform w → Gap glue (spaceBefore uniform previousPunct w)
+pub space-separates : (glue uniform previousPunct : Bool) (w : Word) → Whole glue uniform w → Gap glue (spaceBefore uniform previousPunct w)
 unfolding spaceBefore
 space-separates glue uniform previousPunct w h = record {
   codes = replicate added 32 ++ h .codes;

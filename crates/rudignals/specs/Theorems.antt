@@ -1,2 +1,3 @@
 -- Words that the theorems of proofs/Demand3 use.
 pub mod LineEnds
+pub mod Width

@@ -39,11 +39,11 @@ module _ (g : Glyph) (gs : List Glyph) where
   unfolding inkAhead
   ahead-other h = rw (h, inkAhead)
 
-  glued-run : (ink : Bool) → noBreak g ≡ true → glued ink (g ∷ gs) ≡ cond (ink && inkAhead gs) (ordinary g) g ∷ glued ink gs
+  pub glued-run : (ink : Bool) → noBreak g ≡ true → glued ink (g ∷ gs) ≡ cond (ink && inkAhead gs) (ordinary g) g ∷ glued ink gs
   unfolding glued
   glued-run ink h = rw (h, glued)
 
-  glued-other : (ink : Bool) → noBreak g ≡ false → glued ink (g ∷ gs) ≡ g ∷ glued (not (g .blank)) gs
+  pub glued-other : (ink : Bool) → noBreak g ≡ false → glued ink (g ∷ gs) ≡ g ∷ glued (not (g .blank)) gs
   unfolding glued
   glued-other ink h = rw (h, glued)
 

@@ -9,6 +9,7 @@ pub mod Rows
 pub mod Asciis
 mod Worked
 pub mod Extents
+pub mod Spelling
 pub mod Blanks
 pub mod NoBreaks
 pub mod Edges

@@ -11,4 +11,5 @@ pub mod Rows
 pub mod Gaps
 pub mod Spelled
 pub mod Order
+pub mod Columns
 pub mod Unique

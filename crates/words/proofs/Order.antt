@@ -72,13 +72,15 @@ row-ink o mail row = spelled-ink (o .glue) (o .uniform || mail) _ _ (row-spelled
 -- ---- each word
 
 -- a word has a byte; the blanks of its record are blank characters, where it is neither uniform nor the first of its line some, with glue on
--- not U+00A0 alone
+-- not U+00A0 alone; no line feed stands in it or in its blanks
 pub record Whole (glue uniform : Bool) (w : Word) : Type 0 where
   pub some : 0 < length (w .text)
   pub codes : List ℕ
   pub blanks : Blanks codes (w .blanks)
   pub gap : uniform ≡ false → w .newLine ≡ false → 0 < length (w .blanks)
   pub other : glue ≡ true → uniform ≡ false → w .newLine ≡ false → every (λ c. eqb c 0xA0) codes ≡ false
+  pub feedless : every noFeed (w .text) ≡ true
+  pub blanksFeedless : every noFeed (w .blanks) ≡ true
 
 -- glyphs as they are read from a text without a line feed
 record Clean (gs : List Glyph) : Type 0 where
@@ -111,11 +113,17 @@ module _ (glue : Bool) where
       blanks = rw (b .before) (held uniform);
       gap = gap uniform refl;
       other = other uniform refl;
+      feedless = rw (b .text) (d .feedless);
+      blanksFeedless = rw (b .before) (one-line uniform);
     }
       where
         held : (u : Bool) → Blanks (cond u [] (map (λ (g : Glyph). g .code) (b .blanks))) (cond u [] (bytesOf (b .blanks)))
         held true = blanks-none
         held false = blank-bytes (b .blanks) c (b .blank)
+
+        one-line : (u : Bool) → every noFeed (cond u [] (bytesOf (b .blanks))) ≡ true
+        one-line true = every-nil noFeed
+        one-line false = c .feedless
 
         gap : (u : Bool) → uniform ≡ u → u ≡ false → w .newLine ≡ false → 0 < length (w .blanks)
         gap true e u n = absurd (true≢false u)

@@ -22,19 +22,19 @@ use Rattle.words.proofs.Gaps.{Lined, line-lined, from-lined, behind-wor
 -- ---- a line's runs
 
 -- if there is a glyph, the first is blank; with glue on, a blank before a word is no U+00A0
-record Parted (glue : Bool) (gs : List Glyph) : Type 0 where
-  first : 0 < length gs → 0 < length (while isBlank gs)
-  other : glue ≡ true → 0 < length (behind isBlank gs) → every noBreak (while isBlank gs) ≡ false
+pub record Parted (glue : Bool) (gs : List Glyph) : Type 0 where
+  pub first : 0 < length gs → 0 < length (while isBlank gs)
+  pub other : glue ≡ true → 0 < length (behind isBlank gs) → every noBreak (while isBlank gs) ≡ false
 
 -- glyphs are a run's blanks, all that lead, its word, and the rest, which begins with a blank; behind a run without a word is nothing
-record First (glue : Bool) (r : Run) (gs rest : List Glyph) : Type 0 where
-  parts : gs ≡ r .blanks ++ (r .text ++ rest)
-  lead : r .blanks ≡ while isBlank gs
-  ink : every isInk (r .text) ≡ true
-  next : Parted glue rest
-  end : r .text ≡ [] → rest ≡ []
+pub record First (glue : Bool) (r : Run) (gs rest : List Glyph) : Type 0 where
+  pub parts : gs ≡ r .blanks ++ (r .text ++ rest)
+  pub lead : r .blanks ≡ while isBlank gs
+  pub ink : every isInk (r .text) ≡ true
+  pub next : Parted glue rest
+  pub end : r .text ≡ [] → rest ≡ []
 
-abbrev Splits : Bool → List Run → List Glyph → Type 0
+abbrev pub Splits : Bool → List Run → List Glyph → Type 0
 Splits glue [] gs = gs ≡ []
 Splits glue (r ∷ rs) gs = (rest : List Glyph) × First glue r gs rest × Splits glue rs rest
 
@@ -126,7 +126,7 @@ splits-upto glue (suc k) (g ∷ gs) h n =
     let l = simp length-append at (ap length (run-parts (g ∷ gs))) in
     rw runs-step (restOf (g ∷ gs), first-run glue (g ∷ gs) n, splits-upto glue k (restOf (g ∷ gs)) (omega arith) (rest-lined glue (g ∷ gs) n))
 
-runs-split : (glue : Bool) (gs : List Glyph) → Lined glue gs → Splits glue (runs gs) gs
+pub runs-split : (glue : Bool) (gs : List Glyph) → Lined glue gs → Splits glue (runs gs) gs
 runs-split glue gs l = splits-upto glue (length gs) gs (omega arith) l
 
 -- ---- words

@@ -1,2 +1,3 @@
 -- Words that the theorems of rudignals/proofs/Demand3 use.
 pub mod Ink
+pub mod PlainGap
