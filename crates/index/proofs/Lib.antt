@@ -1,0 +1,4 @@
+pub mod Laws
+pub mod Test
+pub mod Walk
+pub mod Worked
