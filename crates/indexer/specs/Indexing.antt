@@ -1,0 +1,38 @@
+-- Document 02, P3: what the writing call with an index answers. Measuring tells 1 to 4; then comes 6, given exactly when there are more
+-- pieces than records; then 5.
+use mathlib.Core.Bool.{cond}
+use mathlib.Core.List.{List, []}
+use Prim.Native.Nat.{ℕ}
+use lib.Dec.{leb}
+use lib.ListN.{length}
+use Rattle.options.specs.Opts.{meant}
+use Rattle.options.specs.OptionBlock.{readBlock}
+use Rattle.options.specs.declared.Block.{Block}
+use Rattle.options.specs.declared.Block.the-variants.{Accepted, Fault}
+use Rattle.formatter.specs.Answers.{Answer, done as measured, options as faulty, long as tooLong, text as damaged, words as manyWords, room as noRoom}
+use Rattle.formatter.specs.Format.{measuring}
+use Rattle.index.specs.declared.Record.{Record}
+use Rattle.indexer.specs.Index.{indexOf}
+use Rattle.indexer.specs.Answers.{Indexed, done, options, long, text, words, full, room}
+
+-- with a digest and its index, an output slice of so many bytes and a list of so many records
+abbrev pub withIndex : ℕ → ℕ → List Record → List ℕ → Indexed
+withIndex space records index digest =
+    cond (leb (length index) records) (cond (leb (length digest) space) (done digest index) (room (length digest))) (full (length index))
+
+abbrev pub inIndex : ℕ → ℕ → List Record → Answer → Indexed
+inIndex space records index (measured digest) = withIndex space records index digest
+inIndex space records index (faulty place) = options place
+inIndex space records index tooLong = long
+inIndex space records index (damaged place) = text place
+inIndex space records index (manyWords place) = words place
+-- (measuring does not answer so)
+inIndex space records index (noRoom needed) = room needed
+
+-- the index under the options that a block means; of a faulty block none is asked
+abbrev pub indexUnder : List ℕ → List ℕ → Block → List Record
+indexUnder block notes (Fault place) = []
+indexUnder block notes (Accepted o) = indexOf (meant block o) notes
+
+unfoldable pub indexing : List ℕ → List ℕ → ℕ → ℕ → Indexed
+indexing block notes space records = inIndex space records (indexUnder block notes (readBlock block)) (measuring block notes)

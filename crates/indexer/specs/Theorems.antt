@@ -1,0 +1,2 @@
+-- Words that the theorems on the index use.
+pub mod Follows
