@@ -3,9 +3,10 @@
 // that can work on a record by value is a covered function of its own.
 ghost use mathlib.Core.Path.{_≡_};
 ghost use mathlib.Core.Bool.{cond};
+ghost use mathlib.Core.List.{map};
 ghost use lib.Dec.{leb};
 ghost use lib.ListN.{length};
-ghost use Rattle.index.specs.Lookup.{holds, partIn, lookup, answered, partAfter};
+ghost use Rattle.index.specs.Lookup.{recordOf, holds, partIn, lookup, answered, partAfter};
 ghost use Rattle.index.specs.Contracts.Lists.{noRecord, partIf};
 
 // A piece: its place and length in the notes, its first output line and its count of output lines.
@@ -38,6 +39,28 @@ pub fn lookup(index: &[Record], filled: u64, size: usize, line: u64) -> Part
         i += 1;
     }
     part_if(r, line, size)
+}
+
+// The same over rows of four numbers, which have a record's bytes, and which the borrow checker covers: so the call is lent them.
+pub fn find(index: &[[u64; 4]], filled: u64, size: usize, line: u64) -> Part
+    ensures { λ p. ⌜ p ≡ lookup (map recordOf (now (index .entry))) filled size line ⌝ }
+{
+    let n = within(filled, index.len());
+    let mut i = 0;
+    while i < n {
+        let row = index[i];
+        let r = Record {
+            place: row[0],
+            length: row[1],
+            first: row[2],
+            count: row[3],
+        };
+        if is_holding(r, line) {
+            return part_in(r, size);
+        }
+        i += 1;
+    }
+    Part::Nowhere
 }
 
 // The count of records to look at: none if it runs past the list.
