@@ -105,6 +105,31 @@ uint64_t rudignals_write(const uint8_t *options, size_t options_len, const uint8
 /* The two in sequence: it answers and writes what rudignals_write does. */
 uint64_t rudignals_format(const uint8_t *options, size_t options_len, const uint8_t *notes, size_t notes_len, uint8_t *output, size_t output_len);
 
+/* ---- From a digest line back to the note: an index beside the output.
+ *
+ * A record stands for a paragraph, a plain line or a blank line of the notes: its place and length in them, line ends included, and its first
+ * output line and count of output lines. Places, lines and records are counted from 0. */
+enum { RUDIGNALS_INDEX_FULL = 6 }; /* write_indexed, behind 4 and before 5: there are N such pieces and fewer records */
+
+struct rudignals_record {
+    uint64_t place, length, first, count;
+};
+
+/* Writes as rudignals_write does, and fills the first records of the index, in order: they follow each other without a gap from place 0 to
+ * notes_len and from line 0 to the digest's last. *filled is their number. Refusals, the first that applies: 1 to 4 as for writing;
+ * RUDIGNALS_INDEX_FULL, N is the number of pieces, and the output is all zero; RUDIGNALS_ROOM. On a refusal *filled is 0 and every record is
+ * unchanged; else those behind the filled ones are. notes_len records always do; with none a host learns how many pieces there are.
+ *
+ * Its tables for the ends of pieces come on the stack on top of writing's: 8,192 bytes where notes_len or records is at most 1,024, 131,072
+ * where it is at most 16,384, else 524,288. */
+uint64_t rudignals_write_indexed(const uint8_t *options, size_t options_len, const uint8_t *notes, size_t notes_len, uint8_t *output, size_t output_len,
+                                 struct rudignals_record *index, size_t records, uint64_t *filled);
+
+/* The part of the notes that output line `line` stands for: 1, with its place and length in part, or 0, and part is as it was. It is the part
+ * of the first of the filled records that holds the line. None is found where no record holds it, where filled is over records, and where that
+ * record's part runs past the notes: no later one is tried. The records may have any content, and nothing wraps. */
+uint64_t rudignals_lookup(const struct rudignals_record *index, size_t records, uint64_t filled, const uint8_t *notes, size_t notes_len, uint64_t line, uint64_t part[2]);
+
 /* The wall panel: the last 24 lines of a digest as 24 rows of 80 cells, row by row, each a code point; fewer lines stand at the bottom.
  * A tab moves on and marks nothing; a wide character is its cell and a filler cell, 0; a byte that begins no well-formed character is
  * U+FFFD; a line that runs past the last column has `+` in its last cell. What the cells held before is gone. Code 0 or, for a tab width

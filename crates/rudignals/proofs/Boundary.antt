@@ -59,7 +59,7 @@ module _ (o : Opts) (a line end b : List ℕ) (closed : Closed a) (feedless : ev
   abbrev the-line : Line
   the-line = record { raw = line ++ end; text = line }
 
-  pieces-boundary : pieces o whole ≡ pieces o a ++ blankPiece the-line ∷ pieces o b
+  pub pieces-boundary : pieces o whole ≡ pieces o a ++ blankPiece the-line ∷ pieces o b
   unfolding pieces
   pieces-boundary =
       blank-stands o whole (linesOf a) the-line (linesOf b) blank (line-of-bytes a line end b closed (record { feedless = feedless; ended = byFeed ends }))

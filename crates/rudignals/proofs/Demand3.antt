@@ -44,6 +44,13 @@ use Rattle.rudignals.proofs.Boundary.{measuring-boundary}
 use Rattle.rudignals.proofs.Gaps.{Stands, gap-stands}
 use Rattle.rudignals.proofs.Order.{rows-of, paragraph-order}
 use Rattle.walk.proofs.Extents.{extents-are-notes, extents-some, joined-at, output-some, damaged-pieces, plain-digest}
+use Rattle.index.specs.declared.Record.{Record}
+use Rattle.indexer.specs.Index.{indexOf}
+use Rattle.indexer.specs.Answers.{done as indexed}
+use Rattle.indexer.specs.Indexing.{indexing}
+use Rattle.indexer.specs.Theorems.Follows.{Follows}
+use Rattle.indexer.proofs.Follows.{the-records-follow-without-a-gap as without-a-gap}
+use Rattle.rudignals.proofs.Indexed.{blankRecord, behindBlank, indexed-boundary}
 use Rattle.rudignals.proofs.LineEnds.{LineAt, line-of-bytes, line-at}
 
 -- What measuring has found, and what a call that is done has written, is the digest of its notes, of which 2 to 4 speak, under the
@@ -247,3 +254,29 @@ each-piece-has-its-place o notes before q after e = record {
   puts = output-some o q;
   in-the-digest = the-digest-is-the-outputs-in-order o notes ∙ joined-at (pieceOutput o) before q after (pieces o notes) e;
 }
+
+-- ---- 5. from a digest line back to the note (document 02, P3)
+
+-- The records of the index follow each other without a gap: in the notes from place 0 to the notes' end, in the digest from line 0 to its last line.
+pub the-records-follow-without-a-gap : (o : Opts) (notes : List ℕ) → Follows 0 0 (indexOf o notes) (length notes) (length (linesOf (digest o notes)))
+the-records-follow-without-a-gap = without-a-gap
+
+-- The parts are those of 1, a blank line between them. Each part by itself is done with an index, whatever room it had; and there is room
+-- for both outputs and a byte, and for both indexes and a record.
+module _ (block first line end second : List ℕ) (o : Options) (digest₁ digest₂ : List ℕ) (index₁ index₂ : List Record)
+    (block-accepted : readBlock block ≡ Accepted o)
+    (first-ends : Closed first)
+    (one-line : every noFeed line ≡ true)
+    (line-ends : LineEnd line end)
+    (blank : classify (meant block o) line ≡ Blank)
+    (within-limit : length (first ++ (line ++ (end ++ second))) ≤ mostBytes)
+    (space₁ records₁ space₂ records₂ space records : ℕ)
+    (first-done : indexing block first space₁ records₁ ≡ indexed digest₁ index₁)
+    (second-done : indexing block second space₂ records₂ ≡ indexed digest₂ index₂)
+    (enough-room : length digest₁ + 1 + length digest₂ ≤ space)
+    (enough-records : length index₁ + 1 + length index₂ ≤ records) where
+  -- The joined index is the first's records, one for the blank line, and the second's, moved on.
+  pub the-indexes-join : indexing block (first ++ (line ++ (end ++ second))) space records
+      ≡ indexed (digest₁ ++ 10 ∷ digest₂) (index₁ ++ blankRecord (meant block o) first (line ++ end) ∷ behindBlank (meant block o) first (line ++ end) index₂)
+  the-indexes-join =
+      indexed-boundary block first line end second o digest₁ digest₂ index₁ index₂ space₁ records₁ space₂ records₂ space records block-accepted first-ends one-line line-ends blank within-limit first-done second-done enough-room enough-records

@@ -23,6 +23,10 @@
 --   panel         draw, number_of                                                           an equation for the answer, one for the cells
 --   salvage       mend, restore                                                             salvage/proofs/Unique: `mends-unique`, `restores-unique`
 --   salvage       mended_number, restored_number                                            an equation
+--   index         lookup, find                                                              an equation
+--   index         tell                                                                      an equation for the answer, one for the part
+--   indexer       write_indexed                                                             indexer/proofs/Unique: `indexes-unique`
+--   indexer       number_of, records_in                                                     an equation
 --   paragraphs    put_paragraph                                                             paragraphs/proofs/Unique: `step-unique`
 --   walk          put_all                                                                   walk/proofs/Unique: `ended-unique`
 --   walk          clear                                                                     an equation
@@ -30,6 +34,7 @@
 --   formatter     write                                                                     an equation for the reply, one for the output
 --   formatter     admit                                                                     formatter/proofs/Unique: `admission-unique`
 --   rudignals     rudignals_measure                                                         an equation
+--   rudignals     rudignals_write_indexed, rudignals_lookup                                 an equation for each of what they answer and leave
 --   rudignals     rudignals_write, rudignals_format                                         `call-unique`
 --   rudignals     rudignals_panel, rudignals_mend, rudignals_restore                        an equation for the number, one for each slice
 --

@@ -1,3 +1,4 @@
 -- Texts and numbers of the papers, computed.
 pub mod Computing
 pub mod MarkedTexts
+pub mod Indexes

@@ -1,0 +1,130 @@
+-- Document 02, P3: what the indexed call answers for two parts with a blank line between them, and the index of the three.
+use mathlib.Core.Path.{_≡_, refl, sym, ap, _∙_}
+use mathlib.Core.Bool.{Bool, true, false, cond}
+use mathlib.Core.List.{List, [], _∷_, _++_, map, append-nil}
+use Prim.Native.Nat.{ℕ, _+_, _≤_}
+use native.Mathlib.Omega.{arith}
+use lib.Dec.{leb}
+use lib.ListN.{length, length-append, length-map}
+use borrow.Author.Tests.{le-leb}
+use Rattle.lists.specs.Walk.{walkUpTo, walk, piece, each}
+use Rattle.lists.specs.Runs.{while, every, joined}
+use Rattle.options.specs.Opts.{Opts, meant}
+use Rattle.options.specs.OptionBlock.{readBlock}
+use Rattle.options.specs.declared.Options.{Options}
+use Rattle.options.specs.declared.Block.{Block}
+use Rattle.options.specs.declared.Block.the-variants.{Accepted}
+use Rattle.lines.specs.Lines.{Line, noFeed, body, withoutReturn, firstLine, linesOf}
+use Rattle.lines.specs.Classes.{classify}
+use Rattle.lines.specs.declared.Class.the-variants.{Blank}
+use Rattle.lines.specs.Theorems.Closed.{Closed}
+use Rattle.pieces.proofs.Boundary.{blankPiece}
+use Rattle.walk.specs.Digest.{outputOf, digest, extentOf}
+use Rattle.formatter.specs.Answers.{Answer, done as measured, options as faulty, long as tooLong, text as damaged, words as manyWords, room as noRoom}
+use Rattle.formatter.specs.Format.{mostBytes, measuring}
+use Rattle.index.specs.declared.Record.{Record}
+use Rattle.indexer.specs.Index.{lineCount, indexOf}
+use Rattle.indexer.specs.Answers.{Indexed, done, options, long, text, words, full, room, code}
+use Rattle.indexer.specs.Indexing.{inIndex, indexUnder, indexing}
+use Rattle.indexer.specs.Theorems.Follows.{shifted}
+use Rattle.indexer.proofs.Follows.{index-between}
+use Rattle.rudignals.specs.Theorems.LineEnds.{LineEnd}
+use Rattle.rudignals.proofs.Boundary.{pieces-boundary, measuring-boundary}
+
+-- ---- the index of two parts and a blank line between them
+
+-- the record of the blank line, and those of the second part, which stand behind it
+abbrev pub blankRecord : Opts → List ℕ → List ℕ → Record
+blankRecord o first line = record { place = length first; length = length line; first = length (linesOf (digest o first)); count = 1 }
+
+abbrev pub behindBlank : Opts → List ℕ → List ℕ → List Record → List Record
+behindBlank o first line rs = map (shifted (length first + length line) (length (linesOf (digest o first)) + 1)) rs
+
+blank-extent : (l : Line) → extentOf (blankPiece l) ≡ l .raw
+unfolding extentOf joined
+blank-extent l = append-nil (l .raw)
+
+blank-count : (o : Opts) (l : Line) → lineCount o (blankPiece l) ≡ 1
+unfolding lineCount outputOf linesOf each walk walkUpTo piece body while firstLine withoutReturn
+blank-count o l = refl
+
+module _ (o : Opts) (first line end second : List ℕ) (closed : Closed first) (feedless : every noFeed line ≡ true) (ends : LineEnd line end) (blank : classify o line ≡ Blank) where
+  pub index-boundary : indexOf o (first ++ (line ++ (end ++ second))) ≡ indexOf o first ++ blankRecord o first (line ++ end) ∷ behindBlank o first (line ++ end) (indexOf o second)
+  index-boundary =
+      let l : Line = record { raw = line ++ end; text = line } in
+      let n : List ℕ → ℕ → List Record =
+      λ e c. indexOf o first ++ record { place = length first; length = length e; first = length (linesOf (digest o first)); count = c }
+      ∷ map (shifted (length first + length e) (length (linesOf (digest o first)) + c)) (indexOf o second) in
+      index-between o first second (first ++ (line ++ (end ++ second))) (blankPiece l) (pieces-boundary o first line end second closed feedless ends blank)
+      ∙ ap (λ (e : List ℕ). n e (lineCount o (blankPiece l))) (blank-extent l) ∙ ap (n (line ++ end)) (blank-count o l)
+
+-- ---- a call that is done
+
+digestIn : Indexed → List ℕ
+digestIn (done d i) = d
+digestIn (options place) = []
+digestIn long = []
+digestIn (text place) = []
+digestIn (words place) = []
+digestIn (full pieces) = []
+digestIn (room needed) = []
+
+recordsIn : Indexed → List Record
+recordsIn (done d i) = i
+recordsIn (options place) = []
+recordsIn long = []
+recordsIn (text place) = []
+recordsIn (words place) = []
+recordsIn (full pieces) = []
+recordsIn (room needed) = []
+
+-- it was measured as done, and its records are the index
+record IsDone (rs : List Record) (a : Answer) (d : List ℕ) (i : List Record) : Type 0 where
+  is : a ≡ measured d
+  index : i ≡ rs
+
+in-done : (space records : ℕ) (rs : List Record) (a : Answer) (d : List ℕ) (i : List Record) → inIndex space records rs a ≡ done d i → IsDone rs a d i
+unfolding digestIn recordsIn
+in-done space records rs (measured e) d i h = go (leb (length rs) records) (leb (length e) space) h
+  where
+    go : (a b : Bool) → cond a (cond b (done e rs) (room (length e))) (full (length rs)) ≡ done d i → IsDone rs (measured e) d i
+    go true true k = record { is = ap measured (ap digestIn k); index = sym (ap recordsIn k) }
+    go true false k = absurd (let z = ap code k in omega (arith, z))
+    go false b k = absurd (let z = ap code k in omega (arith, z))
+in-done space records rs (faulty place) d i h = absurd (let z = ap code h in omega (arith, z))
+in-done space records rs tooLong d i h = absurd (let z = ap code h in omega (arith, z))
+in-done space records rs (damaged place) d i h = absurd (let z = ap code h in omega (arith, z))
+in-done space records rs (manyWords place) d i h = absurd (let z = ap code h in omega (arith, z))
+in-done space records rs (noRoom needed) d i h = absurd (let z = ap code h in omega (arith, z))
+
+indexed-done : (block notes : List ℕ) (o : Options) (space records : ℕ) (d : List ℕ) (i : List Record) → readBlock block ≡ Accepted o → indexing block notes space records ≡ done d i
+    → IsDone (indexOf (meant block o) notes) (measuring block notes) d i
+unfolding indexing
+indexed-done block notes o space records d i b h =
+    in-done space records (indexOf (meant block o) notes) (measuring block notes) d i (ap (λ (x : Block). inIndex space records (indexUnder block notes x) (measuring block notes)) (sym b) ∙ h)
+
+done-indexed : (block notes : List ℕ) (o : Options) (space records : ℕ) (d : List ℕ) → readBlock block ≡ Accepted o → measuring block notes ≡ measured d
+    → length d ≤ space → length (indexOf (meant block o) notes) ≤ records → indexing block notes space records ≡ done d (indexOf (meant block o) notes)
+unfolding indexing
+done-indexed block notes o space records d b m r s =
+    ap (λ (x : Block). inIndex space records (indexUnder block notes x) (measuring block notes)) b ∙ ap (inIndex space records (indexOf (meant block o) notes)) m
+    ∙ rw (le-leb (length (indexOf (meant block o) notes)) records s, le-leb (length d) space r)
+
+-- the room that suffices for the three is that of the outputs and one byte, and that of the indexes and one record
+pub indexed-boundary : (block first line end second : List ℕ) (o : Options) (digest₁ digest₂ : List ℕ) (index₁ index₂ : List Record) (space₁ records₁ space₂ records₂ space records : ℕ)
+    → readBlock block ≡ Accepted o → Closed first → every noFeed line ≡ true → LineEnd line end → classify (meant block o) line ≡ Blank
+    → length (first ++ (line ++ (end ++ second))) ≤ mostBytes
+    → indexing block first space₁ records₁ ≡ done digest₁ index₁ → indexing block second space₂ records₂ ≡ done digest₂ index₂
+    → length digest₁ + 1 + length digest₂ ≤ space → length index₁ + 1 + length index₂ ≤ records
+    → indexing block (first ++ (line ++ (end ++ second))) space records
+    ≡ done (digest₁ ++ 10 ∷ digest₂) (index₁ ++ blankRecord (meant block o) first (line ++ end) ∷ behindBlank (meant block o) first (line ++ end) index₂)
+indexed-boundary block first line end second o digest₁ digest₂ index₁ index₂ space₁ records₁ space₂ records₂ space records b c f e k n h₁ h₂ r s =
+    let m = meant block o in
+    let a₁ = indexed-done block first o space₁ records₁ digest₁ index₁ b h₁ in
+    let a₂ = indexed-done block second o space₂ records₂ digest₂ index₂ b h₂ in
+    let i : indexOf m (first ++ (line ++ (end ++ second))) ≡ index₁ ++ blankRecord m first (line ++ end) ∷ behindBlank m first (line ++ end) index₂ = rw (a₁ .index, a₂ .index) (index-boundary m first line end second c f e k) in
+    let l = length-append digest₁ (10 ∷ digest₂) in
+    let p = ap length i ∙ length-append index₁ (blankRecord m first (line ++ end) ∷ behindBlank m first (line ++ end) index₂) in
+    let q = length-map index₂ (shifted (length first + length (line ++ end)) (length (linesOf (digest m first)) + 1)) in
+    done-indexed block (first ++ (line ++ (end ++ second))) o space records (digest₁ ++ 10 ∷ digest₂) b (measuring-boundary block first line end second o digest₁ digest₂ b c f e k (a₁ .is) (a₂ .is) n) (omega (arith, l, r)) (omega (arith, p, q, s))
+    ∙ ap (done (digest₁ ++ 10 ∷ digest₂)) i
