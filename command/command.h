@@ -64,8 +64,9 @@ int close_output(int status);
 
 /* ---- options.c: the command line */
 
-/* An option is named by its letter; those without one have numbers that no letter has. The last three are the panel's own. */
-enum { KEEP = 256, GLUE, CHARACTERS, TEXT, SVG, FOLLOW, OPTIONS };
+/* An option is named by its letter; those without one have numbers that no letter has. The next three are the panel's own, the last
+ * is the index's. */
+enum { KEEP = 256, GLUE, CHARACTERS, TEXT, SVG, FOLLOW, LINE, OPTIONS };
 
 /* What was asked for. Values stand as they were typed, to be named if they are refused; null is not given, and an option that takes no value
  * has the empty one. */

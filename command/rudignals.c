@@ -8,6 +8,7 @@
 #define SUBCOMMANDS(X)                                                                                                                       \
     X(format, "reformat the paragraphs of notes; also called fmt")                                                                            \
     X(panel, "show the last lines of formatted notes as a wall panel does")                                                                   \
+    X(index, "show which notes each line of their digest comes from")                                                                         \
     X(salvage, "mend notes in ISO 8859-1, with a list of what was changed")                                                                   \
     X(restore, "bring the old notes back from a mended copy and its list")
 
