@@ -148,6 +148,34 @@ static void text(const uint8_t *block, size_t block_len, int split, const uint8_
     }
 }
 
+/* ---- any options but mail, where a piece does not hang on those before it: each record's part by itself is one piece, and is written as its
+ * lines of the digest; the parts are the notes, and the lines the digest */
+
+static void alone(const uint8_t *block, size_t block_len, const uint8_t *s, size_t n) {
+    static uint8_t out[1 << 20], part[1 << 20];
+    static record index[MOST];
+    uint64_t filled = 0, one, a = rudignals_write_indexed(block, block_len, s, n, out, sizeof out, index, MOST, &filled);
+    size_t i, at = 0, from = 0, line = 0;
+    calls++;
+    if (rudignals_code_of(a))
+        fail("an answer with room for all");
+    for (i = 0; i < filled; i++) {
+        size_t length = (size_t)index[i].length, k, to = from;
+        if (index[i].place != at || index[i].first != line || length == 0 || index[i].count == 0)
+            fail("a gap");
+        for (k = 0; k < index[i].count; k++)
+            while (out[to++] != 10)
+                ;
+        if (rudignals_write(block, block_len, s + at, length, part, sizeof part) != to - from || memcmp(part, out + from, to - from))
+            fail("a part by itself has other lines");
+        if (rudignals_write_indexed(block, block_len, s + at, length, part, sizeof part, index, 0, &one) != ((uint64_t)6 << 32) + 1)
+            fail("a part by itself is not one piece");
+        at += length, from = to, line += index[i].count;
+    }
+    if (at != n || from != rudignals_number_of(a))
+        fail("an end");
+}
+
 /* ---- lists of any content */
 
 static void any_list(void) {
@@ -245,6 +273,14 @@ static void scale(unsigned long count) {
         }
         text(block, b, (int)split, s, n);
         any_list();
+        b = rudignals_put_number(block, 0, RUDIGNALS_TAG_FLAGS, roll(2048) & ~(unsigned)RUDIGNALS_MAIL);
+        if (roll(2))
+            b = rudignals_put_number(block, b, RUDIGNALS_TAG_WIDTH, 6 + roll(40));
+        if (roll(2))
+            b = rudignals_put_prefix(block, b, RUDIGNALS_TAG_PREFIX, (const uint8_t *)"a", roll(2));
+        if (roll(4) == 0)
+            b = rudignals_put_prefix(block, b, RUDIGNALS_TAG_SKIP, (const uint8_t *)"bb", 2);
+        alone(block, b, s, n);
     }
 }
 
