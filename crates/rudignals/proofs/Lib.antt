@@ -4,7 +4,6 @@ pub mod Width
 pub mod LineEnds
 pub mod Undamaged
 pub mod Gaps
-
 pub mod Indexed
 pub mod Demand3
 pub mod Unique
