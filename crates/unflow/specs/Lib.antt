@@ -1,0 +1,4 @@
+pub mod Flowed
+pub mod Unflow
+pub mod Contracts
+pub mod Trials
