@@ -10,7 +10,8 @@
     X(panel, "show the last lines of formatted notes as a wall panel does")                                                                   \
     X(index, "show which notes each line of their digest comes from")                                                                         \
     X(salvage, "mend notes in ISO 8859-1, with a list of what was changed")                                                                   \
-    X(restore, "bring the old notes back from a mended copy and its list")
+    X(restore, "bring the old notes back from a mended copy and its list")                                                                    \
+    X(unflow, "read mail of format=flowed, a paragraph a line")
 
 #define DECLARED(name, does) int run_##name(int argc, char **argv);
 SUBCOMMANDS(DECLARED)

@@ -1,4 +1,4 @@
-/* What salvage.c and restore.c share: a text that grows, a part of a file that ends with a line, and their command line. */
+/* What salvage.c, restore.c and, of the first, unflow.c share: a text that grows, a part of a file that ends with a line, and their command line. */
 #ifndef SALVAGE_H
 #define SALVAGE_H
 

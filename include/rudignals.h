@@ -209,6 +209,21 @@ uint64_t rudignals_mend(const uint8_t *notes, size_t notes_len, uint8_t *copy, s
  * needed. On a refusal nothing is written. A list that is accepted loses nothing: from the notes and that list the copy can be made again. */
 uint64_t rudignals_restore(const uint8_t *copy, size_t copy_len, const uint32_t *places, size_t places_len, const uint8_t *bytes, size_t bytes_len, uint8_t *notes, size_t notes_len);
 
+/* ---- Mail of format=flowed (RFC 3676, with DelSp=no) read. The call has no tables on the stack.
+ *
+ * Lines are read as in notes: a line feed ends one, and a carriage return just before it goes too; a last line without a line feed counts. A
+ * line's quote marks `>` are counted, and one space behind them is stuffing. A line that ends in a space is soft: the next line goes on in it,
+ * if it has as many quote marks and is no separator. The separator `-- `, which may be quoted, or quoted and stuffed, is not soft. */
+
+/* Each paragraph of the mail as one line, ended by CR LF: its quote marks, a space if what follows starts with a space, `>` or `From `, and
+ * its lines, joined as they are. Answers 0 and N, the bytes written; the rest of output is unchanged. Refusals, the first that applies:
+ * RUDIGNALS_LONG, a text of over RUDIGNALS_MOST_NOTES bytes, N is 0 and output unchanged; RUDIGNALS_ROOM, N is the length needed and output all
+ * zero. Every text, of whatever bytes, has an answer. */
+uint64_t rudignals_unflow(const uint8_t *text, size_t text_len, uint8_t *output, size_t output_len);
+
+/* No reading of so many bytes is longer: room that always does. */
+#define RUDIGNALS_MOST_UNFLOWED(text_len) ((size_t)4 * (size_t)(text_len))
+
 #ifdef __cplusplus
 }
 #endif

@@ -27,6 +27,9 @@
 --   index         tell                                                                      an equation for the answer, one for the part
 --   indexer       write_indexed                                                             indexer/proofs/Unique: `indexes-unique`
 --   indexer       number_of, records_in                                                     an equation
+
+--   unflow        unflow                                                                    unflow/proofs/Unique: `reads-unique`
+--   unflow        reading_number                                                            an equation
 --   paragraphs    put_paragraph                                                             paragraphs/proofs/Unique: `step-unique`
 --   walk          put_all                                                                   walk/proofs/Unique: `ended-unique`
 --   walk          clear                                                                     an equation
@@ -36,7 +39,8 @@
 --   rudignals     rudignals_measure                                                         an equation
 --   rudignals     rudignals_write_indexed, rudignals_lookup                                 an equation for each of what they answer and leave
 --   rudignals     rudignals_write, rudignals_format                                         `call-unique`
---   rudignals     rudignals_panel, rudignals_mend, rudignals_restore                        an equation for the number, one for each slice
+--   rudignals     rudignals_panel, rudignals_mend, rudignals_restore,
+--                 rudignals_unflow                                                          an equation for the number, one for each slice
 --
 -- What stays open is scratch that nobody reads afterwards: docs/PROMISES.md lists it.
 use mathlib.Core.Path.{_≡_, sym, _∙_}

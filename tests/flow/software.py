@@ -1,0 +1,93 @@
+#!/usr/bin/env python3
+"""Other mail software reads what is written here, and its mail is read here: software.py [SEED [COUNT]]
+
+Horde's Text_Flowed (Debian's php-horde-text-flowed) and Roundcube's rcube_mime (roundcube-core). Their readings are compared with the model's,
+paragraph by paragraph, behind what each of them does to a text besides: Horde takes white space from a paragraph's end and takes a line `0` for
+an empty one. Exit: 0 no difference, 77 neither is at hand, 1 a difference.
+"""
+import base64
+import pathlib
+import subprocess
+import sys
+
+import model
+import texts
+
+HERE = pathlib.Path(__file__).resolve().parent
+
+
+def through(which, way, given):
+    """The texts that a program gives for texts, or None if it is not at hand."""
+    lines = b"".join(base64.b64encode(text) + b"\n" for text in given)
+    try:
+        run = subprocess.run(["php", str(HERE / "readers.php"), which, way], input=lines, capture_output=True)
+    except FileNotFoundError:
+        return None
+    out = [base64.b64decode(line) for line in run.stdout.split(b"\n")[:-1]]
+    return out if run.returncode == 0 and len(out) == len(given) else None
+
+
+def ours(text):
+    """The paragraphs as such software tells them: quote marks and content."""
+    return [b">" * depth + content for depth, content in model.paragraphs(text)]
+
+
+WHITE = b" \t\n\r\0\x0b"
+
+
+def horde_like(paragraphs):
+    """A paragraph's end without white space, and a paragraph `0` as none; no reading gives `-- ` another end."""
+    found = []
+    for depth, content in paragraphs:
+        kept = content if content == b"-- " else content.rstrip(WHITE)
+        found.append(b">" * depth + (b"" if kept == b"0" else kept))
+    return found
+
+
+def known(which, text):
+    """Where Roundcube is known to read otherwise: a line `0` behind a soft line, which its program takes for an empty one."""
+    return which == "roundcube" and b"0" in [model.taken_apart(line)[1] for line in model.lines(text)]
+
+
+def compare(which, name, sent, read, expected):
+    different = passed = 0
+    for text, got in zip(sent, read):
+        want = b"\n".join(expected(text) + [b""])
+        if got == want:
+            continue
+        if known(which, text):
+            passed += 1
+            continue
+        different += 1
+        if different <= 3:
+            print(f"{name}: {text[:300]!r}\n  reads {got[:300]!r}\n  ours  {want[:300]!r}")
+    print(f"{name}: {len(sent)} texts, {different} read otherwise" + (f", besides {passed} with a line `0`" if passed else ""))
+    return different
+
+
+def words(text):
+    return text.replace(b"\0", b"").split()
+
+
+def main():
+    seed, count = (int(a) for a in (sys.argv[1:] + ["2026", "50000"][len(sys.argv) - 1 :]))
+    rng = texts.seeded(seed)
+    sent = []
+    while len(sent) < count:
+        o = model.Options(width=rng.choice([10, 20, 40, 72]))
+        code, _, text, _ = model.flow(o, texts.notes(rng), 1 << 22)
+        if code == 0 and text:
+            sent.append(text)
+    faults = tried = 0
+    for which, expected in (("horde", lambda text: horde_like(model.paragraphs(text))), ("roundcube", ours)):
+        read = through(which, "read", sent)
+        if read is None:
+            print(f"{which}: not at hand")
+            continue
+        tried += 1
+        faults += compare(which, f"{which} reads what is written here", sent, read, expected)
+    return 77 if not tried else 1 if faults else 0
+
+
+if __name__ == "__main__":
+    sys.exit(main())
