@@ -104,8 +104,8 @@ def columns(tab, indent):
 class Options:
     """What the writer's rules ask of a block, with the defaults of document 01."""
 
-    def __init__(self, width=79, tab=8, split=False, keep=False, glue=False, skip=None, exact_skip=False):
-        self.width, self.tab, self.split, self.keep, self.glue = width, tab or 1, split, keep, glue
+    def __init__(self, width=79, tab=8, split=False, keep=False, glue=False, characters=False, skip=None, exact_skip=False):
+        self.width, self.tab, self.split, self.keep, self.glue, self.characters = width, tab or 1, split, keep, glue, characters
         self.skip, self.exact_skip = skip, exact_skip
 
 
@@ -126,19 +126,20 @@ def classified(line, o):
     return line[: found[front][0]], columns(o.tab, found[:front]), found[front:]
 
 
-def words_of(found, glue):
-    """The words of a line: bytes, characters, the bytes of blank before each, whether it ends in punctuation."""
+def words_of(found, o):
+    """The words of a line: bytes, characters, the blank before each in bytes (or characters: P13), whether it ends in punctuation."""
     words, gap, at = [], 0, 0
     while at < len(found):
         end = at
-        while end < len(found) and not is_blank(found[end][2], glue):
+        while end < len(found) and not is_blank(found[end][2], o.glue):
             end += 1
         if end > at:
             text = b"".join(b for _, b, _ in found[at:end])
             words.append((text, end - at, gap, text[-1:] in (b".", b"?", b"!")))
             gap, at = 0, end
         else:
-            gap += len(found[at][1])
+            # a tab is as wide as two blanks
+            gap += 2 if found[at][2] == 9 else 1 if o.characters else len(found[at][1])
             at += 1
     return words
 
@@ -151,9 +152,9 @@ def pieces(notes, o):
         if isinstance(shape, tuple):
             key = len(shape[0]), shape[1]
             if open_shape == key and not o.split:
-                found[-1][2].append(words_of(shape[2], o.glue))
+                found[-1][2].append(words_of(shape[2], o))
             else:
-                found.append([place, shape[0], [words_of(shape[2], o.glue)], shape[1]])
+                found.append([place, shape[0], [words_of(shape[2], o)], shape[1]])
             open_shape = key
         else:
             found.append(shape)

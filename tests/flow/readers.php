@@ -22,6 +22,7 @@ if ($which === 'horde') {
         return str_replace("\n", "\r\n", $flowed->toFlowed());
     };
 } else {
+    define('RCUBE_CHARSET', 'UTF-8');
     require getenv('ROUNDCUBE') ?: '/usr/share/roundcube/program/lib/Roundcube/rcube_mime.php';
     $read = fn($text) => str_replace("\r\n", "\n", rcube_mime::unfold_flowed($text));
     $write = fn($text) => rcube_mime::format_flowed($text, 72, 'UTF-8');

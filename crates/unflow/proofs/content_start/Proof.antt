@@ -5,7 +5,6 @@ use Rattle.unflow.proofs.Lines.{content-none, content-stuffed, content-
 use Rattle.unflow.proofs.content_start.Statement.{statement}
 use Rattle.unflow.proofs.content_start.Tie as tie
 
-
 returns : tie.Need-returns
 returns c = (content-none _ _ (c .before .pre .0) (c .if1 .taken), omega arith, c .before .pre .1)
 

@@ -6,7 +6,6 @@ use Rattle.unflow.proofs.Lines.{ends-none}
 use Rattle.unflow.proofs.ends_in_space.Statement.{statement}
 use Rattle.unflow.proofs.ends_in_space.Tie as tie
 
-
 returns : tie.Need-returns
 returns c = sym (ends-none _ (c .if1 .taken))
 

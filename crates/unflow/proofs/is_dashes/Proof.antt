@@ -9,7 +9,6 @@ use Rattle.unflow.specs.Flowed.{isDashes}
 use Rattle.unflow.proofs.is_dashes.Statement.{statement}
 use Rattle.unflow.proofs.is_dashes.Tie as tie
 
-
 begins-requires : tie.Need-begins-requires
 begins-requires c κs = search needs
 

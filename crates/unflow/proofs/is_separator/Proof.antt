@@ -7,7 +7,6 @@ use Rattle.unflow.proofs.Lines.{part-all, separator-whole, separator-qu
 use Rattle.unflow.proofs.is_separator.Statement.{statement}
 use Rattle.unflow.proofs.is_separator.Tie as tie
 
-
 is-dashes-requires : tie.Need-is-dashes-requires
 is-dashes-requires c κs = search needs
 

@@ -12,7 +12,6 @@ use Rattle.unflow.specs.Flowed.{isMark, quoteDepth}
 use Rattle.unflow.proofs.marks_end.Statement.{statement}
 use Rattle.unflow.proofs.marks_end.Tie as tie
 
-
 abbrev Inv-loop : tie.InvT-loop
 Inv-loop line i₀ i = (i ≤ length line) × (i + length (while isMark (drop i line)) ≡ quoteDepth line)
 

@@ -6,7 +6,6 @@ use Rattle.unflow.proofs.Puts.{end-not, end-none, end-one, end-both}
 use Rattle.unflow.proofs.put_end.Statement.{statement}
 use Rattle.unflow.proofs.put_end.Tie as tie
 
-
 returns : tie.Need-returns
 returns c = end-not _ _ (c .if1 .taken)
 

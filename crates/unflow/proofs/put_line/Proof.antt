@@ -8,7 +8,6 @@ use Rattle.unflow.proofs.Puts.{line-placed, wrote-start, wrote-end, wro
 use Rattle.unflow.proofs.put_line.Statement.{statement}
 use Rattle.unflow.proofs.put_line.Tie as tie
 
-
 put-start-requires : tie.Need-put-start-requires
 put-start-requires c κs = search needs
 

@@ -11,7 +11,6 @@ use Rattle.unflow.proofs.Puts.{wrote-end}
 use Rattle.unflow.proofs.put_paragraphs.Statement.{statement}
 use Rattle.unflow.proofs.put_paragraphs.Tie as tie
 
-
 abbrev Inv-loop : tie.InvT-loop
 Inv-loop text out₀ at₀ k₀ going₀ depth₀ out at k going depth = Turning text out₀ at k going depth out
 

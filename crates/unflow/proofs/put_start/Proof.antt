@@ -7,7 +7,6 @@ use Rattle.unflow.proofs.Puts.{start-joined, start-apart, wrote-end, wr
 use Rattle.unflow.proofs.put_start.Statement.{statement}
 use Rattle.unflow.proofs.put_start.Tie as tie
 
-
 returns : tie.Need-returns
 returns c = start-joined _ _ _ _ (c .before .before .before .before .before .pre .0) _ (c .if1 .taken)
 

@@ -7,7 +7,6 @@ use Rattle.unflow.proofs.Lines.{needs-none, needs-space, needs-mark, ne
 use Rattle.unflow.proofs.stuffing_of.Statement.{statement}
 use Rattle.unflow.proofs.stuffing_of.Tie as tie
 
-
 returns : tie.Need-returns
 returns c = (sym (needs-none _ (c .if1 .taken)), omega arith)
 

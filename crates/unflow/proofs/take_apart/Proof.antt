@@ -4,7 +4,6 @@ use Rattle.unflow.proofs.Lines.{parted}
 use Rattle.unflow.proofs.take_apart.Statement.{statement}
 use Rattle.unflow.proofs.take_apart.Tie as tie
 
-
 marks-end-requires : tie.Need-marks-end-requires
 marks-end-requires c κs = search needs
 

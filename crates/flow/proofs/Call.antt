@@ -1,0 +1,113 @@
+-- What the writing call has written comes back: its answers lead to the statements about what is sent.
+use mathlib.Core.Path.{_≡_, refl, sym, ap, _∙_}
+use mathlib.Core.Bool.{Bool, true, false, cond, not, _&&_, _||_, true≢false}
+use mathlib.Core.List.{List, [], _∷_, map}
+use Prim.Native.Nat.{ℕ, _+_}
+use native.Mathlib.Omega.{arith}
+use lib.Dec.{ltb, leb}
+use lib.ListN.{length, length-map}
+use Rattle.lists.specs.Runs.{joined}
+use Rattle.text.specs.declared.Found.{Found}
+use Rattle.text.specs.declared.Found.the-variants.{At, Nowhere}
+use Rattle.options.specs.Opts.{Opts, meant}
+use Rattle.options.specs.OptionBlock.{fields, firstFault, partOf, leastWidth, fits, bit, optionsOf, judged, readBlock}
+use Rattle.options.specs.declared.Options.{Options}
+use Rattle.options.specs.declared.Block.{Block}
+use Rattle.options.specs.declared.Block.the-variants.{Accepted, Fault}
+use Rattle.pieces.specs.Pieces.{Piece, pieces}
+use Rattle.walk.specs.Digest.{longParagraph}
+use Rattle.formatter.specs.Answers.{Answer, done, options, long, room}
+use Rattle.formatter.specs.Format.{mostBytes, damageIn, withDigest}
+use Rattle.unflow.specs.Unflow.{paragraphs, mailLines}
+use Rattle.flow.specs.Flow.{mailed, flowed, dashesIn}
+use Rattle.flow.specs.Answers.{isGiven, flagsOf, unfit, sentWords, sentText, sentNotes, sentBlock, flow, countedBy, dashesOf}
+use Rattle.flow.specs.Theorems.ReadBack.{unquoted, cameBack}
+use Rattle.flow.proofs.Theorems.{what-was-written-comes-back, each-piece-once-and-each-such-line}
+
+-- ---- what an answer that is done says
+
+sent-notes : (space : ℕ) (o : Opts) (notes bytes : List ℕ) → sentNotes space o notes ≡ done bytes → bytes ≡ flowed o notes
+sent-notes space o notes bytes h = size (ltb mostBytes (length notes)) h
+  where
+    fitted : (b : Bool) → cond b (done (flowed o notes)) (room (length (flowed o notes))) ≡ done bytes → bytes ≡ flowed o notes
+    fitted true k = cc
+    fitted false k = cc
+
+    count : (f : Found) → sentWords space o notes f ≡ done bytes → bytes ≡ flowed o notes
+    count (At place) k = cc
+    count Nowhere k = fitted (leb (length (flowed o notes)) space) k
+
+    damaged : (f : Found) → sentText space o notes f ≡ done bytes → bytes ≡ flowed o notes
+    damaged (At place) k = cc
+    damaged Nowhere k = count (longParagraph o 0 (pieces o notes)) k
+
+    size : (b : Bool) → elim b as (λ z. Answer) [ true ↦ long | false ↦ sentText space o notes (damageIn (o .keep) notes) ] ≡ done bytes → bytes ≡ flowed o notes
+    size true k = cc
+    size false k = damaged (damageIn (o .keep) notes) k
+
+-- ---- the options of an accepted block that the writer does not refuse
+
+accepted-are : (block : List ℕ) (o : Options) → readBlock block ≡ Accepted o → o ≡ optionsOf block (fields block)
+unfolding readBlock
+accepted-are block o h = go (firstFault (fields block)) h
+  where
+    fitted : (b : Bool) → cond b (Accepted (optionsOf block (fields block))) (Fault (length block)) ≡ Accepted o → o ≡ optionsOf block (fields block)
+    fitted true k = cc
+    fitted false k = cc
+
+    go : (f : Found) → judged block (fields block) f ≡ Accepted o → o ≡ optionsOf block (fields block)
+    go (At place) k = cc
+    go Nowhere k = fitted (fits (leastWidth (partOf 2 (fields block)) (partOf 3 (fields block))) (optionsOf block (fields block) .width) (optionsOf block (fields block) .goal)) k
+
+-- neither crown nor tagged is on
+fit-flat : (block : List ℕ) (o : Options) → readBlock block ≡ Accepted o → unfit block ≡ false → (mailed (meant block o) .crown || mailed (meant block o) .tagged) ≡ false
+unfolding mailed meant optionsOf unfit flagsOf
+fit-flat block o e u =
+    ap (λ (p : Options). p .crown || p .tagged) (accepted-are block o e)
+    ∙ go (bit 0 (flagsOf block)) (bit 1 (flagsOf block)) (bit 2 (flagsOf block)) (isGiven (partOf 5 (fields block))) (not (bit 3 (flagsOf block))) u
+  where
+    go : (a b c d s : Bool) → (a || b || c || d) ≡ false → (a && s || b && not a && s) ≡ false
+    go true b c d s k = absurd (true≢false k)
+    go false true c d s k = absurd (true≢false k)
+    go false false c d s k = refl
+
+-- ---- the count of `--` lines
+
+dashes-done : (block notes : List ℕ) (space : ℕ) (bytes : List ℕ) (o : Options) → flow block notes space ≡ done bytes → readBlock block ≡ Accepted o
+    → dashesOf block notes space ≡ dashesIn (mailed (meant block o)) (pieces (mailed (meant block o)) notes)
+unfolding dashesOf
+dashes-done block notes space bytes o h e = ap (λ (a : Answer). countedBy a block notes (readBlock block)) h ∙ ap (countedBy (done bytes) block notes) e
+
+-- ---- the theorem
+
+-- What the writer has written, when it answers that it is done, and how it comes back.
+pub record ComesBack (block notes : List ℕ) (space : ℕ) (bytes : List ℕ) : Type 0 where
+  pub options : Options
+  pub accepted : readBlock block ≡ Accepted options
+  pub sent : bytes ≡ flowed (mailed (meant block options)) notes
+  pub back : let o = mailed (meant block options) in paragraphs (mailLines bytes) ≡ map unquoted (joined (λ (q : Piece). cameBack o (q .kind)) (pieces o notes))
+  -- of the notes' pieces each came back once, and one more for each line `--` that the answer counts
+  pub count : let o = mailed (meant block options) in length (paragraphs (mailLines bytes)) ≡ length (pieces o notes) + dashesOf block notes space
+
+pub what-the-call-wrote-comes-back : (block notes : List ℕ) (space : ℕ) (bytes : List ℕ) → flow block notes space ≡ done bytes → ComesBack block notes space bytes
+unfolding flow
+what-the-call-wrote-comes-back block notes space bytes h = read (readBlock block) refl h
+  where
+    fit : (o : Options) → readBlock block ≡ Accepted o → (b : Bool) → unfit block ≡ b
+        → elim b as (λ z. Answer) [ true ↦ options (length block) | false ↦ sentNotes space (mailed (meant block o)) notes ] ≡ done bytes → ComesBack block notes space bytes
+    fit o e true u k = absurd (let z : _≡_ {A = ℕ} 0 1 = cc in omega arith)
+    fit o e false u k =
+        let m = mailed (meant block o) in
+        let s = sent-notes space m notes bytes k in
+        let b = ap (λ (t : List ℕ). paragraphs (mailLines t)) s ∙ what-was-written-comes-back m notes (fit-flat block o e u) in
+        record {
+          options = o;
+          accepted = e;
+          sent = s;
+          back = b;
+          count = ap length b ∙ length-map (joined (λ (q : Piece). cameBack m (q .kind)) (pieces m notes)) unquoted ∙ each-piece-once-and-each-such-line m notes ∙ ap (λ (n : ℕ). length (pieces m notes) + n) (sym (dashes-done block notes space bytes o h e));
+        }
+
+    read : (b : Block) → readBlock block ≡ b → sentBlock space block notes b ≡ done bytes → ComesBack block notes space bytes
+    read (Fault place) e k = absurd (let z : _≡_ {A = ℕ} 0 1 = cc in omega arith)
+    read (Accepted o) e k = fit o e (unfit block) refl k

@@ -1,0 +1,4 @@
+pub mod Flow
+pub mod Answers
+pub mod Theorems
+pub mod Trials

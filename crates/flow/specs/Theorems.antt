@@ -1,0 +1,2 @@
+-- Words that the theorems use.
+pub mod ReadBack

@@ -1,0 +1,2 @@
+-- Worked texts: no part of what must be believed, they show that the definition says what the paper does.
+pub mod Sent

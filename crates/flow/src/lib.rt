@@ -1,0 +1,1 @@
+// Digests by mail: what is sent, and what comes back of it.
