@@ -10,7 +10,7 @@ use lib.Seq.{slice}
 use borrow.Author.Tests.{not-true, not-false}
 use Rattle.output.specs.Contracts.Sink.{paint, written, Wrote}
 use Rattle.output.proofs.Sink.{written-past, wrote-nil, wrote-then}
-use Rattle.unflow.specs.Flowed.{crLf, quoteMark, quoteDepth, stuffing, contentOf, isSeparator, isSoft}
+use Rattle.unflow.specs.Flowed.{crLf, stuffing, contentOf}
 use Rattle.unflow.specs.Contracts.Steps.{Parted, joins, endOf, startOf, placed}
 use Rattle.unflow.specs.declared.Line.{Line}
 use Rattle.unflow.proofs.Lines.{slice-all, part-all}

@@ -1,13 +1,11 @@
 // Reading mail: lines of format=flowed (RFC 3676, DelSp=no) are joined to paragraphs, and each paragraph is written as one line.
 ghost use mathlib.Core.Path.{_≡_};
-ghost use mathlib.Core.Bool.{not};
-ghost use mathlib.Core.List.{_++_};
 ghost use Prim.Native.Nat.{_+_, _*_, _^_, _≤_, _<_, min};
 ghost use lib.ListN.{length, drop, replicate};
 ghost use Rattle.output.specs.Contracts.Sink.{Wrote};
-ghost use Rattle.unflow.specs.Flowed.{quoteMark, crLf, quoteDepth, stuffing, contentOf, isDashes, isSeparator, endsInSpace};
+ghost use Rattle.unflow.specs.Flowed.{quoteDepth, stuffing, contentOf, isDashes, isSeparator, endsInSpace};
 ghost use Rattle.unflow.specs.Unflow.{unflow as unflowOf, unflowed};
-ghost use Rattle.unflow.specs.Contracts.Steps.{Reads, numberOf, Parted, joins, endOf, startOf, placed};
+ghost use Rattle.unflow.specs.Contracts.Steps.{Reads, numberOf, Parted, endOf, startOf, placed};
 
 // What reading answers: the length of what was read, or a refusal with what is told of it.
 pub enum Reading {
