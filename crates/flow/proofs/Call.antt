@@ -1,12 +1,13 @@
 -- What the writing call has written comes back: its answers lead to the statements about what is sent.
 use mathlib.Core.Path.{_≡_, refl, sym, ap, _∙_}
 use mathlib.Core.Bool.{Bool, true, false, cond, not, _&&_, _||_, true≢false}
-use mathlib.Core.List.{List, [], _∷_, map}
+use mathlib.Core.List.{List, _++_, map}
 use Prim.Native.Nat.{ℕ, _+_}
 use native.Mathlib.Omega.{arith}
 use lib.Dec.{ltb, leb}
 use lib.ListN.{length, length-map}
 use Rattle.lists.specs.Runs.{joined}
+use Rattle.lists.specs.Theorems.All.{_∈_}
 use Rattle.text.specs.declared.Found.{Found}
 use Rattle.text.specs.declared.Found.the-variants.{At, Nowhere}
 use Rattle.options.specs.Opts.{Opts, meant}
@@ -14,15 +15,17 @@ use Rattle.options.specs.OptionBlock.{fields, firstFault, partOf, leastWidth, f
 use Rattle.options.specs.declared.Options.{Options}
 use Rattle.options.specs.declared.Block.{Block}
 use Rattle.options.specs.declared.Block.the-variants.{Accepted, Fault}
-use Rattle.pieces.specs.Pieces.{Piece, pieces}
-use Rattle.walk.specs.Digest.{longParagraph}
+use Rattle.pieces.specs.Pieces.{Piece, Paragraph, paragraph, pieces}
+use Rattle.words.specs.Words.{wordsOf}
+use Rattle.output.specs.Emission.{lineFeed}
+use Rattle.walk.specs.Digest.{formatted, longParagraph}
 use Rattle.formatter.specs.Answers.{Answer, done, options, long, room}
-use Rattle.formatter.specs.Format.{mostBytes, damageIn, withDigest}
+use Rattle.formatter.specs.Format.{mostBytes, damageIn}
 use Rattle.unflow.specs.Unflow.{paragraphs, mailLines}
-use Rattle.flow.specs.Flow.{mailed, flowed, dashesIn}
+use Rattle.flow.specs.Flow.{mailed, paragraphLines, flowed, dashesIn}
 use Rattle.flow.specs.Answers.{isGiven, flagsOf, unfit, sentWords, sentText, sentNotes, sentBlock, flow, countedBy, dashesOf}
-use Rattle.flow.specs.Theorems.ReadBack.{unquoted, cameBack}
-use Rattle.flow.proofs.Theorems.{what-was-written-comes-back, each-piece-once-and-each-such-line}
+use Rattle.flow.specs.Theorems.ReadBack.{unquoted, back, cameBack, Carry}
+use Rattle.flow.proofs.Theorems.{what-was-written-comes-back, its-words-come-back-in-order, each-piece-once-and-each-such-line, its-lines-are-the-digest's}
 
 -- ---- what an answer that is done says
 
@@ -71,6 +74,10 @@ fit-flat block o e u =
     go false true c d s k = absurd (true≢false k)
     go false false c d s k = refl
 
+uniform-on : (o : Opts) → mailed o .uniform ≡ true
+unfolding mailed
+uniform-on o = refl
+
 -- ---- the count of `--` lines
 
 dashes-done : (block notes : List ℕ) (space : ℕ) (bytes : List ℕ) (o : Options) → flow block notes space ≡ done bytes → readBlock block ≡ Accepted o
@@ -80,12 +87,18 @@ dashes-done block notes space bytes o h e = ap (λ (a : Answer). countedBy a blo
 
 -- ---- the theorem
 
+-- a paragraph's words came back in order, and its lines are the digest's
+abbrev pub InOrder : Opts → Paragraph → Type 0
+InOrder o p =
+    Carry (o .glue) (p .first .bytes) (p .indent .bytes) (wordsOf o p) (back (paragraphLines o p)) × (joined (λ (line : List ℕ). line ++ lineFeed) (paragraphLines o p) ≡ formatted o p)
+
 -- What the writer has written, when it answers that it is done, and how it comes back.
 pub record ComesBack (block notes : List ℕ) (space : ℕ) (bytes : List ℕ) : Type 0 where
   pub options : Options
   pub accepted : readBlock block ≡ Accepted options
   pub sent : bytes ≡ flowed (mailed (meant block options)) notes
   pub back : let o = mailed (meant block options) in paragraphs (mailLines bytes) ≡ map unquoted (joined (λ (q : Piece). cameBack o (q .kind)) (pieces o notes))
+  pub words : (q : Piece) (p : Paragraph) → q ∈ pieces (mailed (meant block options)) notes → q .kind ≡ paragraph p → InOrder (mailed (meant block options)) p
   -- of the notes' pieces each came back once, and one more for each line `--` that the answer counts
   pub count : let o = mailed (meant block options) in length (paragraphs (mailLines bytes)) ≡ length (pieces o notes) + dashesOf block notes space
 
@@ -105,6 +118,7 @@ what-the-call-wrote-comes-back block notes space bytes h = read (readBlock block
           accepted = e;
           sent = s;
           back = b;
+          words = λ q p i k. (its-words-come-back-in-order m notes q p i k (uniform-on (meant block o)), its-lines-are-the-digest's m notes q p i k (uniform-on (meant block o)));
           count = ap length b ∙ length-map (joined (λ (q : Piece). cameBack m (q .kind)) (pieces m notes)) unquoted ∙ each-piece-once-and-each-such-line m notes ∙ ap (λ (n : ℕ). length (pieces m notes) + n) (sym (dashes-done block notes space bytes o h e));
         }
 

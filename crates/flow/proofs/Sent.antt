@@ -1,13 +1,12 @@
 -- The lines that are sent of a piece have no line feed, the last of them is fixed, and they are read as the piece comes back.
 use mathlib.Core.Path.{_≡_, refl, sym, ap, _∙_, subst⁻¹}
 use mathlib.Core.Bool.{Bool, true, false, cond, _||_, and-eq-true-iff}
-use mathlib.Core.List.{List, [], _∷_, _++_, append-nil}
+use mathlib.Core.List.{List, [], _∷_, _++_}
 use Prim.Native.Nat.{ℕ, zero, suc, _<_}
 use native.Mathlib.Omega.{arith}
 use lib.Dec.{eqb}
 use lib.ListN.{length, take, replicate, length-append}
-use Rattle.lists.specs.Walk.{walk}
-use Rattle.lists.specs.Runs.{every, joined}
+use Rattle.lists.specs.Runs.{every}
 use Rattle.lists.specs.Theorems.All.{All}
 use Rattle.lists.proofs.Parts.{every-nil, every-cons, every-append}
 use Rattle.lists.proofs.All.{all-drop}
@@ -30,7 +29,7 @@ use Rattle.unflow.proofs.Lines.{ends-append}
 use Rattle.flow.specs.Flow.{linesFrom, brokenInto, paragraphLines, isDashed, softened, allButLast, before, trimmed, plainSent, sentLines}
 use Rattle.flow.specs.Theorems.ReadBack.{flows, readFrom, read, back, cameBack}
 use Rattle.flow.proofs.Readings.{Ended}
-use Rattle.flow.proofs.Back.{LastBare, fixed-flows, sent-ended, read-back, plain-fixed}
+use Rattle.flow.proofs.Back.{LastBare, sent-ended, read-back, plain-fixed}
 use Rattle.flow.proofs.Solid.{Solid}
 
 abbrev pub Feed : List ℕ → Type 0

@@ -21,6 +21,7 @@ use Rattle.words.specs.Words.{wordsOf}
 use Rattle.words.proofs.Order.{Whole, paragraph-some, paragraph-whole}
 use Rattle.output.specs.Emission.{lineFeed, emit}
 use Rattle.paragraphs.specs.Breaks.{settingOf, breaksBy}
+use Rattle.walk.specs.Digest.{formatted}
 use Rattle.unflow.specs.Unflow.{Paragraph as Read, paragraphs, asLine, mailLines, unflowed, unflow, done}
 use Rattle.flow.specs.Flow.{brokenInto, paragraphLines, dashesAmong, sentLines, sent, sentPiece, flowed, pieceDashes, dashesIn}
 use Rattle.flow.specs.Theorems.ReadBack.{read, unquoted, back, cameBack, Carry}
@@ -104,7 +105,7 @@ lines-some : (o : Opts) (p : Paragraph) → 0 < length (wordsOf o p) → 0 < len
 unfolding paragraphLines brokenInto
 lines-some o p h = go (wordsOf o p) h
   where
-    go : (ws : List Word) → 0 < length ws → 0 < length (brokenInto (p .first .bytes) (p .indent .bytes) (breaksBy true (settingOf o (p .mail) (p .first .columns) (p .indent .columns)) (wordsOf o p)) ws)
+    go : (ws : List Word) → 0 < length ws → 0 < length (brokenInto (p .first .bytes) (p .indent .bytes) (breaksBy (o .quick || p .mail) (settingOf o (p .mail) (p .first .columns) (p .indent .columns)) (wordsOf o p)) ws)
     go [] k = absurd (omega arith)
     go (w ∷ ws) k = from-some true (p .first .bytes) (p .indent .bytes) (p .first .bytes ++ w .text) false _ ws
 
@@ -126,13 +127,15 @@ each-piece-once-and-each-such-line o notes = counted o (pieces o notes) (pieces-
 
 -- ---- the lines are the digest's
 
--- A paragraph's lines, each with a line feed behind it, are what document 01 emits for it with quick and uniform on.
+-- A paragraph's lines, each with a line feed behind it, are its output by document 01, where uniform is on.
 pub its-lines-are-the-digest's : (o : Opts) (notes : List ℕ) (q : Piece) (p : Paragraph)
     → q ∈ pieces o notes
     → q .kind ≡ paragraph p
-    → joined (λ (line : List ℕ). line ++ lineFeed) (paragraphLines o p)
-    ≡ emit true (p .first .bytes) (p .indent .bytes) (breaksBy true (settingOf o (p .mail) (p .first .columns) (p .indent .columns)) (wordsOf o p)) (wordsOf o p)
-unfolding paragraphLines
-its-lines-are-the-digest's o notes q p m e =
+    → o .uniform ≡ true
+    → joined (λ (line : List ℕ). line ++ lineFeed) (paragraphLines o p) ≡ formatted o p
+unfolding paragraphLines formatted
+its-lines-are-the-digest's o notes q p m e u =
     let r : Rows o (q .lines) p = rw e at (all-at (OfPiece o) (pieces-rows o notes) m) in
-    lines-are-emitted (p .first .bytes) (p .indent .bytes) _ (wordsOf o p) (paragraph-some o (q .lines) p r)
+    let breaks = breaksBy (o .quick || p .mail) (settingOf o (p .mail) (p .first .columns) (p .indent .columns)) (wordsOf o p) in
+    lines-are-emitted (p .first .bytes) (p .indent .bytes) breaks (wordsOf o p) (paragraph-some o (q .lines) p r)
+    ∙ ap (λ (b : Bool). emit (b || p .mail) (p .first .bytes) (p .indent .bytes) breaks (wordsOf o p)) (sym u)

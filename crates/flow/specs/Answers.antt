@@ -1,6 +1,6 @@
 -- Document 02, P10: what the writer answers. It refuses a well-formed block with prefix, crown, tagged or mail; its other refusals are
 -- those of the writing call, in their order, with what is sent in the digest's place.
-use mathlib.Core.Bool.{Bool, true, false, cond, _||_}
+use mathlib.Core.Bool.{Bool, true, false, _||_}
 use mathlib.Core.List.{List}
 use Prim.Native.Nat.{ℕ}
 use lib.Dec.{ltb}

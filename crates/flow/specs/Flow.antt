@@ -1,6 +1,6 @@
 -- Document 02, P10: a digest by mail, as format=flowed. Its lines are those that document 01 gives with quick and uniform on; what is
 -- said here is how they are sent.
-use mathlib.Core.Bool.{Bool, true, false, cond}
+use mathlib.Core.Bool.{Bool, true, false, cond, _||_}
 use mathlib.Core.List.{List, [], _∷_, _++_}
 use Prim.Native.Nat.{ℕ, _+_}
 use lib.Dec.{eqb}
@@ -36,7 +36,7 @@ mailed o = record {
 
 -- ---- a paragraph's lines, without line ends: words behind an indent, and a new line where the breaks say so
 
--- from a line on that has come to `line`; document 01's emission, line by line (proofs/Lines, `lines-are-the-digest's`)
+-- from a line on that has come to `line`: document 01's emission, line by line (proofs/Theorems, `its-lines-are-the-digest's`)
 unfoldable pub linesFrom : List ℕ → List ℕ → Bool → List Bool → List Word → List (List ℕ)
 linesFrom indent line previousPunct breaks [] = line ∷ []
 linesFrom indent line previousPunct [] (w ∷ ws) = linesFrom indent (line ++ (spaceBefore true previousPunct w ++ w .text)) (w .endsPunct) [] ws
@@ -53,7 +53,7 @@ brokenInto first indent breaks (w ∷ ws) = linesFrom indent (first ++ w .text) 
 unfoldable pub paragraphLines : Opts → Paragraph → List (List ℕ)
 paragraphLines o p =
     let ws = wordsOf o p in
-    brokenInto (p .first .bytes) (p .indent .bytes) (breaksBy true (settingOf o (p .mail) (p .first .columns) (p .indent .columns)) ws) ws
+    brokenInto (p .first .bytes) (p .indent .bytes) (breaksBy (o .quick || p .mail) (settingOf o (p .mail) (p .first .columns) (p .indent .columns)) ws) ws
 
 -- ---- how they are sent
 
