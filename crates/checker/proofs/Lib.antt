@@ -1,2 +1,4 @@
 mod Feeds
 mod Decides
+mod Codes
+mod Gaps

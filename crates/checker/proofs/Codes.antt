@@ -1,0 +1,251 @@
+-- A text that begins with characters of a kind, as their numbers and what is behind them: by their octets, by the text's glyphs, and before
+-- a line feed, behind which nothing matters.
+use mathlib.Core.Path.{_≡_, refl, sym, ap, ap₂, _∙_}
+use mathlib.Core.Bool.{Bool, true, false, cond, not, _&&_, _||_, false≢true, true≢false, and-eq-true-iff}
+use mathlib.Core.List.{List, [], _∷_, _++_, append-assoc, map}
+use Prim.Native.Nat.{ℕ, suc, _+_, _*_, _/_, _%_, _≤_, _<_}
+use native.Mathlib.Omega.{arith}
+use lib.Dec.{T, eqb, ltb, leb}
+use lib.ListN.{length, take, drop, length-append}
+use lib.Seq.{take-append-seam, drop-append-seam}
+use borrow.Author.Tests.{eqb-true, eq-eqb, ne-eqb, leb-true, le-leb, lt-leb}
+use Rattle.lists.specs.Runs.{while, every, joined}
+use Rattle.lists.specs.Theorems.All.{All}
+use Rattle.lists.proofs.Runs.{while-more, while-end}
+use Rattle.lists.proofs.Parts.{every-nil, every-cons, every-append, joined-nil, joined-cons, while-nil}
+use Rattle.lines.specs.Lines.{noFeed}
+use Rattle.text.specs.Rfc3629.{Front, front, nothing, scalar, encode, StandsFirst}
+use Rattle.text.specs.Characters.{accepted, character, blankCode, widthOf, Glyph, glyphAs, glyph, glyphs, extent}
+use Rattle.text.specs.Theorems.Blanks.{spaceCode}
+use Rattle.text.proofs.Decoder.{Scalar, scalar-true, complete, Decoded}
+use Rattle.text.proofs.Places.{accepted-front}
+use Rattle.text.proofs.Glyphs.{Bytes, bytes-of, glyphs-first, glyphs-induct}
+use Rattle.checker.proofs.Feeds.{Feedless, Inside, feedless-inside}
+
+-- a number that is an accepted character's
+pub record Character (c : ℕ) : Type 0 where
+  pub isScalar : T (scalar c)
+  pub isAccepted : accepted c ≡ true
+
+-- its glyph
+abbrev pub glyphOf : ℕ → Glyph
+glyphOf c = record { bytes = encode c; code = c; damaged = false; blank = blankCode false c; width = widthOf c }
+
+module _ (c : ℕ) (h : Character c) (rest : List ℕ) where
+  character-here : character (encode c ++ rest) ≡ front c (length (encode c))
+  unfolding character
+  character-here = rw (complete c (encode c ++ rest) rest (record { isScalar = h .isScalar; octets = refl }), h .isAccepted)
+
+  pub glyph-here : glyph false (encode c ++ rest) ≡ glyphOf c
+  unfolding glyph
+  glyph-here = rw (character-here, take-append-seam (encode c) rest)
+
+  pub encode-some : 0 < length (encode c)
+  encode-some = let b = accepted-front (encode c ++ rest) c (length (encode c)) character-here .decoded .some in omega arith
+
+  pub glyphs-here : glyphs false (encode c ++ rest) ≡ glyphOf c ∷ glyphs false rest
+  glyphs-here =
+      let l = length-append (encode c) rest in
+      let s = encode-some in
+      let z : 0 + length (encode c) ≡ length (encode c) = omega arith in
+      glyphs-first false (encode c ++ rest) 0 (omega arith) ∙ rw (glyph-here, z, drop-append-seam (encode c) rest)
+
+-- the character that a good glyph is read from
+pub record Read (xs : List ℕ) (g : Glyph) : Type 0 where
+  pub code : ℕ
+  pub is : Character code
+  pub glyph-is : g ≡ glyphOf code
+  pub rest : List ℕ
+  pub octets : xs ≡ encode code ++ rest
+
+pub good-read : (xs : List ℕ) → glyph false xs .damaged ≡ false → Read xs (glyph false xs)
+unfolding glyph
+good-read xs h = go (character xs) refl h
+  where
+    go : (f : Front) → character xs ≡ f → glyphAs false xs f .damaged ≡ false → Read xs (glyphAs false xs f)
+    go (front c n) e k =
+        let a = accepted-front xs c n e in
+        let o = a .decoded .stands .octets in
+        let t : take n xs ≡ encode c = rw (a .decoded .count) (ap (take (length (encode c))) (rw (a .decoded .count) at o) ∙ take-append-seam (encode c) (drop (length (encode c)) xs)) in
+        record {
+          code = c;
+          is = record { isScalar = a .decoded .stands .isScalar; isAccepted = a .isAccepted };
+          glyph-is = rw t;
+          rest = drop n xs;
+          octets = o;
+        }
+    go nothing e k = absurd (true≢false k)
+
+-- a damaged glyph has a number of its own
+pub damaged-code : (xs : List ℕ) → glyph false xs .damaged ≡ true → glyph false xs .code ≡ 0xFFFD
+unfolding glyph
+damaged-code xs h = go (character xs) h
+  where
+    go : (f : Front) → glyphAs false xs f .damaged ≡ true → glyphAs false xs f .code ≡ 0xFFFD
+    go (front c n) k = absurd (false≢true k)
+    go nothing k = refl
+
+-- ---- characters in a row
+
+-- no octet of a character is a line feed's but its own
+pub encode-feedless : (c : ℕ) → eqb c 10 ≡ false → Feedless (encode c)
+unfolding encode
+encode-feedless c h = go (ltb c 0x80) (ltb c 0x800) (ltb c 0x10000)
+  where
+    high : (n : ℕ) (xs : List ℕ) → 10 < n → Feedless xs → Feedless (n ∷ xs)
+    high n xs k f = rw (every-cons, ne-eqb n 10 (λ e. omega arith), f)
+
+    go : (t u v : Bool) → Feedless (cond t (c ∷ []) (cond u ((0xC0 + c / 64) ∷ (0x80 + c % 64) ∷ []) (cond v ((0xE0 + c / 4096) ∷ (0x80 + c / 64 % 64) ∷ (0x80 + c % 64) ∷ []) ((0xF0 + c / 262144) ∷ (0x80 + c / 4096 % 64) ∷ (0x80 + c / 64 % 64) ∷ (0x80 + c % 64) ∷ []))))
+    go true u v = rw (every-cons, h, every-nil)
+    go false true v = high _ _ (omega arith) (high _ _ (omega arith) (every-nil noFeed))
+    go false false true = high _ _ (omega arith) (high _ _ (omega arith) (high _ _ (omega arith) (every-nil noFeed)))
+    go false false false = high _ _ (omega arith) (high _ _ (omega arith) (high _ _ (omega arith) (high _ _ (omega arith) (every-nil noFeed))))
+
+abbrev pub octets : List ℕ → List ℕ
+octets codes = joined encode codes
+
+pub extent-codes : (codes : List ℕ) → extent (map glyphOf codes) ≡ length (octets codes)
+unfolding extent
+extent-codes [] = rw joined-nil
+extent-codes (c ∷ codes) = rw (joined-cons encode c codes, length-append (encode c) (octets codes), extent-codes codes)
+
+-- a kind of characters: by number; a damaged glyph is none of it, and no line feed
+module _ (kind : ℕ → Bool) (no-damage : kind 0xFFFD ≡ false) (no-feed : kind 10 ≡ false) where
+  abbrev ofKind : Glyph → Bool
+  ofKind g = kind (g .code)
+
+  -- a text begins with characters of the kind, and behind them with none
+  pub record Begins (xs : List ℕ) : Type 0 where
+    pub codes : List ℕ
+    pub rest : List ℕ
+    pub are : All Character codes
+    pub each : every kind codes ≡ true
+    pub is : xs ≡ octets codes ++ rest
+    pub stops : while ofKind (glyphs false rest) ≡ []
+    pub glyphs-are : while ofKind (glyphs false xs) ≡ map glyphOf codes
+
+  none-begins : (xs : List ℕ) → while ofKind (glyphs false xs) ≡ [] → Begins xs
+  none-begins xs h = record { codes = []; rest = xs; are = tt; each = every-nil kind; is = rw joined-nil; stops = h; glyphs-are = h }
+
+  more-begins : (c : ℕ) (ys : List ℕ) → Character c → kind c ≡ true → Begins ys → Begins (encode c ++ ys)
+  more-begins c ys h k b = record {
+    codes = c ∷ b .codes;
+    rest = b .rest;
+    are = (h, b .are);
+    each = rw (every-cons, k, b .each);
+    is = rw (joined-cons encode c (b .codes), append-assoc (encode c) (octets (b .codes)) (b .rest)) (ap (λ (l : List ℕ). encode c ++ l) (b .is));
+    stops = b .stops;
+    glyphs-are = rw (glyphs-here c h ys, while-more ofKind (glyphOf c) (glyphs false ys) k, b .glyphs-are);
+  }
+
+  pub begins-of : (xs : List ℕ) → Begins xs
+  begins-of xs = glyphs-induct false (λ ys gs. gs ≡ glyphs false ys → Begins ys) (λ e. none-begins [] (rw (← e) (while-nil ofKind))) turn xs refl
+    where
+      turn : (ys : List ℕ) (b : Bytes false ys) → (glyphs false (drop (b .n) ys) ≡ glyphs false (drop (b .n) ys) → Begins (drop (b .n) ys))
+          → glyph false ys ∷ glyphs false (drop (b .n) ys) ≡ glyphs false ys → Begins ys
+      turn ys b ih e = go (kind (glyph false ys .code)) (glyph false ys .damaged) refl refl
+        where
+          go : (t u : Bool) → kind (glyph false ys .code) ≡ t → glyph false ys .damaged ≡ u → Begins ys
+          go false u k d = none-begins ys (rw (← e) (while-end ofKind (glyph false ys) (glyphs false (drop (b .n) ys)) k))
+          go true true k d = absurd (false≢true (sym no-damage ∙ ap kind (sym (damaged-code ys d)) ∙ k))
+          go true false k d =
+              let r = good-read ys d in
+              let n : b .n ≡ length (encode (r .code)) = sym (b .count) ∙ ap (λ (g : Glyph). length (g .bytes)) (r .glyph-is) in
+              let s : drop (b .n) ys ≡ r .rest = rw n (ap (drop (length (encode (r .code)))) (r .octets) ∙ drop-append-seam (encode (r .code)) (r .rest)) in
+              let m : Begins (r .rest) = rw s at (ih refl) in
+              rw (r .octets) (more-begins (r .code) (r .rest) (r .is) (sym (ap kind (ap (λ (g : Glyph). g .code) (r .glyph-is))) ∙ k) m)
+
+  -- characters of the kind in front of a text that begins with none
+  pub kind-glyphs : (codes rest : List ℕ) → All Character codes → every kind codes ≡ true → while ofKind (glyphs false rest) ≡ [] → while ofKind (glyphs false (octets codes ++ rest)) ≡ map glyphOf codes
+  kind-glyphs [] rest a e s = rw joined-nil s
+  kind-glyphs (c ∷ codes) rest a e s =
+      let k = and-eq-true-iff (kind c) (every kind codes) .0 (rw every-cons at e) in
+      rw (
+        joined-cons encode c codes,
+        append-assoc (encode c) (octets codes) rest,
+        glyphs-here c (a .0) (octets codes ++ rest),
+        while-more ofKind (glyphOf c) (glyphs false (octets codes ++ rest)) (k .0),
+        kind-glyphs codes rest (a .1) (k .1) s,
+      )
+
+  -- another character stops them
+  pub other-stops : (c : ℕ) (rest : List ℕ) → Character c → kind c ≡ false → while ofKind (glyphs false (encode c ++ rest)) ≡ []
+  other-stops c rest h k = rw (glyphs-here c h rest) (while-end ofKind (glyphOf c) (glyphs false rest) k)
+
+  kind-other : (c : ℕ) → kind c ≡ true → eqb c 10 ≡ false
+  kind-other c k = go (eqb c 10) refl
+    where
+      go : (t : Bool) → eqb c 10 ≡ t → t ≡ false
+      go true e = absurd (false≢true (sym no-feed ∙ ap kind (sym (eqb-true c 10 e)) ∙ k))
+      go false e = refl
+
+  pub octets-feedless : (codes : List ℕ) → every kind codes ≡ true → Feedless (octets codes)
+  octets-feedless [] e = rw joined-nil (every-nil noFeed)
+  octets-feedless (c ∷ codes) e =
+      let k = and-eq-true-iff (kind c) (every kind codes) .0 (rw every-cons at e) in
+      rw (joined-cons encode c codes, every-append noFeed (encode c) (octets codes), encode-feedless c (kind-other c (k .0)), octets-feedless codes (k .1))
+
+  -- what stops them does not hang on what stands behind a line feed
+  pub stops-before : (left below others : List ℕ) → while ofKind (glyphs false (left ++ 10 ∷ below)) ≡ [] → while ofKind (glyphs false (left ++ 10 ∷ others)) ≡ []
+  stops-before left below others s = go (begins-of (left ++ 10 ∷ others))
+    where
+      go : Begins (left ++ 10 ∷ others) → while ofKind (glyphs false (left ++ 10 ∷ others)) ≡ []
+      go b = pick (b .codes) (b .are) (b .each) (b .is) (b .glyphs-are)
+        where
+          pick : (codes : List ℕ) → All Character codes → every kind codes ≡ true → left ++ 10 ∷ others ≡ octets codes ++ b .rest → while ofKind (glyphs false (left ++ 10 ∷ others)) ≡ map glyphOf codes
+              → while ofKind (glyphs false (left ++ 10 ∷ others)) ≡ []
+          pick [] a e i g = g
+          pick (c ∷ codes) a e i g =
+              let k = and-eq-true-iff (kind c) (every kind codes) .0 (rw every-cons at e) in
+              let o : encode c ++ (octets codes ++ b .rest) ≡ left ++ 10 ∷ others = sym (append-assoc (encode c) (octets codes) (b .rest)) ∙ ap (λ (l : List ℕ). l ++ b .rest) (sym (joined-cons encode c codes)) ∙ sym i in
+              let f = feedless-inside (encode c) (octets codes ++ b .rest) left others (encode-feedless c (kind-other c (k .0))) o in
+              let z : left ++ 10 ∷ below ≡ encode c ++ (f .left ++ 10 ∷ below) = ap (λ (l : List ℕ). l ++ 10 ∷ below) (f .body-is) ∙ append-assoc (encode c) (f .left) (10 ∷ below) in
+              let w : glyphOf c ∷ while ofKind (glyphs false (f .left ++ 10 ∷ below)) ≡ [] =
+                  sym (while-more ofKind (glyphOf c) (glyphs false (f .left ++ 10 ∷ below)) (k .0)) ∙ ap (while ofKind) (sym (glyphs-here c (a .0) (f .left ++ 10 ∷ below)) ∙ ap (glyphs false) (sym z)) ∙ s in
+              absurd (let q : _≡_ {A = ℕ} 0 1 = cc in omega arith)
+
+-- ---- blanks
+
+-- a blank character's number is small
+space-small : (c : ℕ) → spaceCode false c ≡ true → c ≤ 0xA0
+unfolding blankCode
+space-small c h = go (leb 9 c) (leb c 13) (eqb c 0x20) (eqb c 0x85) (eqb c 0xA0) (not (eqb c 10)) refl refl refl refl h
+  where
+    go : (a b t u v f : Bool) → leb c 13 ≡ b → eqb c 0x20 ≡ t → eqb c 0x85 ≡ u → eqb c 0xA0 ≡ v → ((a && b || t || u || v && true) && f) ≡ true → c ≤ 0xA0
+    go true true t u v f eb et eu ev k = let q = leb-true c 13 eb in omega arith
+    go true false true u v f eb et eu ev k = let q = eqb-true c 0x20 et in omega arith
+    go true false false true v f eb et eu ev k = let q = eqb-true c 0x85 eu in omega arith
+    go true false false false true f eb et eu ev k = let q = eqb-true c 0xA0 ev in omega arith
+    go true false false false false f eb et eu ev k = absurd (false≢true k)
+    go false b true u v f eb et eu ev k = let q = eqb-true c 0x20 et in omega arith
+    go false b false true v f eb et eu ev k = let q = eqb-true c 0x85 eu in omega arith
+    go false b false false true f eb et eu ev k = let q = eqb-true c 0xA0 ev in omega arith
+    go false b false false false f eb et eu ev k = absurd (false≢true k)
+
+small-character : (c : ℕ) → c ≤ 0xA0 → Character c
+unfolding accepted
+small-character c h = record {
+  isScalar = rw (scalar-true c (record { most = omega arith; noSurrogate = λ a b. omega arith })) tt;
+  isAccepted = rw (le-leb c 0x2FF (omega arith), ne-eqb c 0xAD (λ e. omega arith));
+}
+
+pub space-character : (c : ℕ) → spaceCode false c ≡ true → Character c
+space-character c h = small-character c (space-small c h)
+
+pub space-characters : (codes : List ℕ) → every (spaceCode false) codes ≡ true → All Character codes
+space-characters [] e = tt
+space-characters (c ∷ codes) e =
+    let k = and-eq-true-iff (spaceCode false c) (every (spaceCode false) codes) .0 (rw every-cons at e) in
+    (space-character c (k .0), space-characters codes (k .1))
+
+pub no-break-space : spaceCode false 0xA0 ≡ true
+unfolding blankCode
+no-break-space = refl
+
+pub space-space : spaceCode false 32 ≡ true
+unfolding blankCode
+space-space = refl
+
+pub space-octets : encode 32 ≡ 32 ∷ []
+unfolding encode
+space-octets = refl
