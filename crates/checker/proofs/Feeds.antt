@@ -86,6 +86,12 @@ feed-first [] [] ys zs = refl
 feed-first [] (x ∷ b) ys zs = refl
 feed-first (x ∷ a) b ys zs = refl
 
+-- a feedless text that is not empty does not begin with one
+pub feedless-first : (xs rest : List ℕ) → 0 < length xs → Feedless xs → begins lineFeed (xs ++ rest) ≡ false
+unfolding begins
+feedless-first [] rest h f = absurd (omega arith)
+feedless-first (x ∷ xs) rest h f = rw (ne-eqb 10 x (λ e. absurd (false≢true (sym (feedless-cons x xs f .0) ∙ eq-eqb x 10 (sym e)))), begins)
+
 -- ---- first lines
 
 first-end : (k x : ℕ) (xs : List ℕ) → eqb x 10 ≡ true → firstLines (suc k) (x ∷ xs) ≡ x ∷ firstLines k xs

@@ -19,7 +19,7 @@ use Rattle.output.specs.Emission.{lineFeed}
 use Rattle.checker.specs.Acceptable.{glued, Gap, Then}
 use Rattle.checker.specs.Named.{feeds}
 use Rattle.checker.specs.Matching.{Match, on, fault, matchText, isSpace, spaces, parting, isNoBreak, lead, matchSpaced}
-use Rattle.checker.proofs.Feeds.{Feedless, Inside, feedless-inside, feeds-nil, feeds-append, feedless-feeds, begins-feed}
+use Rattle.checker.proofs.Feeds.{Feedless, Inside, feedless-inside, feedless-first, feeds-nil, feeds-append, feedless-feeds, begins-feed}
 use Rattle.checker.proofs.Decides.{Language, Took, Faults, Decides, Is, on-fault, decides-text}
 use Rattle.checker.proofs.Codes.{Character, encode-some, glyphOf, octets, extent-codes, Begins, begins-of, kind-glyphs, other-stops, octets-feedless, stops-before, space-characters, no-break-space, space-space, space-octets}
 
@@ -345,3 +345,69 @@ module _ (glue : Bool) (w : List ℕ) (f : Fits glue w) where
       go : (t : Bool) (start : ℕ) → start ≤ length body → cond t (matchText w (drop start (body ++ 10 ∷ below)) n) (fault n) ≡ fault n → cond t (matchText w (drop start (body ++ 10 ∷ others)) k) (fault k) ≡ fault k
       go true start h e = text start h e
       go false start h e = refl
+
+  -- one space and the word
+  by-a-space : Behind (32 ∷ w)
+  by-a-space = record {
+    part = 32 ∷ [];
+    rest = w;
+    bytes-are = refl;
+    first = record {
+      codes = 32 ∷ [];
+      blank = rw (every-cons, space-space, every-nil);
+      parts = rw every-cons (pick glue);
+      octets = rw (joined-cons, joined-nil, space-octets);
+    };
+    second = refl;
+  }
+    where
+      pick : (b : Bool) → (b && false && every (glued glue) []) ≡ false
+      pick true = refl
+      pick false = refl
+
+  -- a fault is in the line that the word is looked for in
+  text-line : (ys : List ℕ) (n m : ℕ) → matchText w ys n ≡ fault m → m ≡ n
+  unfolding matchText
+  text-line ys n m e = go (begins w ys) e
+    where
+      go : (t : Bool) → cond t (on (drop (length w) ys) n) (fault n) ≡ fault m → m ≡ n
+      go true k = on-fault k
+      go false k = cc
+
+  spaced-line : (xs : List ℕ) (n m : ℕ) → matchSpaced glue w xs n ≡ fault m → m ≡ n
+  spaced-line xs n m e = go (ltb 0 (parting glue (spaces xs)) && leb (parting glue (spaces xs) + lead w) (extent (spaces xs))) (sym (spaced-as xs n (spaces xs) refl) ∙ e)
+    where
+      go : (t : Bool) → cond t (matchText w (drop (extent (spaces xs) - lead w) xs) n) (fault n) ≡ fault m → m ≡ n
+      go true k = text-line (drop (extent (spaces xs) - lead w) xs) n m k
+      go false k = cc
+
+  spaced-faults : (xs : List ℕ) (n m : ℕ) → matchSpaced glue w xs n ≡ fault m → Faults Behind (matchSpaced glue w) xs n m
+  spaced-faults xs n m e =
+      let z : m ≡ n = spaced-line xs n m e in
+      let q : (k : ℕ) → k ≡ k + feeds [] = λ k. omega (arith, feeds-nil) in
+      record {
+        upTo = [];
+        rest = xs;
+        is = refl;
+        line = z ∙ q n;
+        more = 32 ∷ w;
+        goesOn = by-a-space;
+        never = λ body below h x others k. spaced-never body below others n k (ap (λ (l : List ℕ). matchSpaced glue w l n) (sym x) ∙ e ∙ ap fault z) ∙ ap fault (q k);
+      }
+
+  pub decides-spaced : Decides (Then (Gap glue) (Is w)) (matchSpaced glue w)
+  decides-spaced = record { found = spaced-found; finds = spaced-finds; example = 32 ∷ w; some = by-a-space; faults = spaced-faults }
+
+-- a gap does not begin with a line feed
+pub gap-no-feed : (glue : Bool) (gap rest : List ℕ) → Gap glue gap → begins lineFeed (gap ++ rest) ≡ false
+gap-no-feed glue gap rest g = rw (g .octets) (go (g .codes) (g .blank) (g .parts))
+  where
+    first : (xs : List ℕ) → 0 < length xs → Feedless xs → begins lineFeed (xs ++ rest) ≡ false
+    first xs h f = feedless-first xs rest h f
+
+    go : (codes : List ℕ) → every (spaceCode false) codes ≡ true → every (glued glue) codes ≡ false → begins lineFeed (octets codes ++ rest) ≡ false
+    go [] b p = absurd (true≢false (sym (every-nil (glued glue)) ∙ p))
+    go (c ∷ codes) b p =
+        let s = encode-some c (space-characters (c ∷ codes) b .0) [] in
+        let l = length-append (encode c) (octets codes) in
+        first (octets (c ∷ codes)) (omega (arith, ap length (joined-cons encode c codes))) (octets-feedless (spaceCode false) spaces-damage spaces-feed (c ∷ codes) b)
