@@ -15,11 +15,11 @@ use Rattle.lists.proofs.Runs.{while-more, while-end}
 use Rattle.lists.proofs.Parts.{every-nil, every-cons, every-append, joined-nil, joined-cons, while-nil}
 use Rattle.lines.specs.Lines.{noFeed}
 use Rattle.text.specs.Rfc3629.{Front, front, nothing, scalar, encode, StandsFirst}
-use Rattle.text.specs.Characters.{accepted, character, blankCode, widthOf, Glyph, glyphAs, glyph, glyphs, extent}
+use Rattle.text.specs.Characters.{accepted, character, blankCode, widthOf, Glyph, glyphAs, glyph, characters, extent}
 use Rattle.text.specs.Theorems.Blanks.{spaceCode}
 use Rattle.text.proofs.Decoder.{Scalar, scalar-true, complete, Decoded}
 use Rattle.text.proofs.Places.{accepted-front}
-use Rattle.text.proofs.Glyphs.{Bytes, bytes-of, glyphs-first, glyphs-induct}
+use Rattle.text.proofs.Glyphs.{Bytes, characters-first, characters-induct}
 use Rattle.checker.proofs.Feeds.{Feedless, Inside, feedless-inside}
 
 -- a number that is an accepted character's
@@ -29,26 +29,26 @@ pub record Character (c : ℕ) : Type 0 where
 
 -- its glyph
 abbrev pub glyphOf : ℕ → Glyph
-glyphOf c = record { bytes = encode c; code = c; damaged = false; blank = blankCode false c; width = widthOf c }
+glyphOf c = record { bytes = encode c; code = c; damaged = false; blank = blankCode c; width = widthOf c }
 
 module _ (c : ℕ) (h : Character c) (rest : List ℕ) where
   character-here : character (encode c ++ rest) ≡ front c (length (encode c))
   unfolding character
   character-here = rw (complete c (encode c ++ rest) rest (record { isScalar = h .isScalar; octets = refl }), h .isAccepted)
 
-  pub glyph-here : glyph false (encode c ++ rest) ≡ glyphOf c
+  pub glyph-here : glyph (encode c ++ rest) ≡ glyphOf c
   unfolding glyph
   glyph-here = rw (character-here, take-append-seam (encode c) rest)
 
   pub encode-some : 0 < length (encode c)
   encode-some = let b = accepted-front (encode c ++ rest) c (length (encode c)) character-here .decoded .some in omega arith
 
-  pub glyphs-here : glyphs false (encode c ++ rest) ≡ glyphOf c ∷ glyphs false rest
+  pub glyphs-here : characters (encode c ++ rest) ≡ glyphOf c ∷ characters rest
   glyphs-here =
       let l = length-append (encode c) rest in
       let s = encode-some in
       let z : 0 + length (encode c) ≡ length (encode c) = omega arith in
-      glyphs-first false (encode c ++ rest) 0 (omega arith) ∙ rw (glyph-here, z, drop-append-seam (encode c) rest)
+      characters-first (encode c ++ rest) 0 (omega arith) ∙ rw (glyph-here, z, drop-append-seam (encode c) rest)
 
 -- the character that a good glyph is read from
 pub record Read (xs : List ℕ) (g : Glyph) : Type 0 where
@@ -58,11 +58,11 @@ pub record Read (xs : List ℕ) (g : Glyph) : Type 0 where
   pub rest : List ℕ
   pub octets : xs ≡ encode code ++ rest
 
-pub good-read : (xs : List ℕ) → glyph false xs .damaged ≡ false → Read xs (glyph false xs)
+pub good-read : (xs : List ℕ) → glyph xs .damaged ≡ false → Read xs (glyph xs)
 unfolding glyph
 good-read xs h = go (character xs) refl h
   where
-    go : (f : Front) → character xs ≡ f → glyphAs false xs f .damaged ≡ false → Read xs (glyphAs false xs f)
+    go : (f : Front) → character xs ≡ f → glyphAs xs f .damaged ≡ false → Read xs (glyphAs xs f)
     go (front c n) e k =
         let a = accepted-front xs c n e in
         let o = a .decoded .stands .octets in
@@ -77,11 +77,11 @@ good-read xs h = go (character xs) refl h
     go nothing e k = absurd (true≢false k)
 
 -- a damaged glyph has a number of its own
-pub damaged-code : (xs : List ℕ) → glyph false xs .damaged ≡ true → glyph false xs .code ≡ 0xFFFD
+pub damaged-code : (xs : List ℕ) → glyph xs .damaged ≡ true → glyph xs .code ≡ 0xFFFD
 unfolding glyph
 damaged-code xs h = go (character xs) h
   where
-    go : (f : Front) → glyphAs false xs f .damaged ≡ true → glyphAs false xs f .code ≡ 0xFFFD
+    go : (f : Front) → glyphAs xs f .damaged ≡ true → glyphAs xs f .code ≡ 0xFFFD
     go (front c n) k = absurd (false≢true k)
     go nothing k = refl
 
@@ -121,10 +121,10 @@ module _ (kind : ℕ → Bool) (no-damage : kind 0xFFFD ≡ false) (no-feed : ki
     pub are : All Character codes
     pub each : every kind codes ≡ true
     pub is : xs ≡ octets codes ++ rest
-    pub stops : while ofKind (glyphs false rest) ≡ []
-    pub glyphs-are : while ofKind (glyphs false xs) ≡ map glyphOf codes
+    pub stops : while ofKind (characters rest) ≡ []
+    pub glyphs-are : while ofKind (characters xs) ≡ map glyphOf codes
 
-  none-begins : (xs : List ℕ) → while ofKind (glyphs false xs) ≡ [] → Begins xs
+  none-begins : (xs : List ℕ) → while ofKind (characters xs) ≡ [] → Begins xs
   none-begins xs h = record { codes = []; rest = xs; are = tt; each = every-nil kind; is = rw joined-nil; stops = h; glyphs-are = h }
 
   more-begins : (c : ℕ) (ys : List ℕ) → Character c → kind c ≡ true → Begins ys → Begins (encode c ++ ys)
@@ -135,18 +135,18 @@ module _ (kind : ℕ → Bool) (no-damage : kind 0xFFFD ≡ false) (no-feed : ki
     each = rw (every-cons, k, b .each);
     is = rw (joined-cons encode c (b .codes), append-assoc (encode c) (octets (b .codes)) (b .rest)) (ap (λ (l : List ℕ). encode c ++ l) (b .is));
     stops = b .stops;
-    glyphs-are = rw (glyphs-here c h ys, while-more ofKind (glyphOf c) (glyphs false ys) k, b .glyphs-are);
+    glyphs-are = rw (glyphs-here c h ys, while-more ofKind (glyphOf c) (characters ys) k, b .glyphs-are);
   }
 
   pub begins-of : (xs : List ℕ) → Begins xs
-  begins-of xs = glyphs-induct false (λ ys gs. gs ≡ glyphs false ys → Begins ys) (λ e. none-begins [] (rw (← e) (while-nil ofKind))) turn xs refl
+  begins-of xs = characters-induct (λ ys gs. gs ≡ characters ys → Begins ys) (λ e. none-begins [] (rw (← e) (while-nil ofKind))) turn xs refl
     where
-      turn : (ys : List ℕ) (b : Bytes false ys) → (glyphs false (drop (b .n) ys) ≡ glyphs false (drop (b .n) ys) → Begins (drop (b .n) ys))
-          → glyph false ys ∷ glyphs false (drop (b .n) ys) ≡ glyphs false ys → Begins ys
-      turn ys b ih e = go (kind (glyph false ys .code)) (glyph false ys .damaged) refl refl
+      turn : (ys : List ℕ) (b : Bytes ys) → (characters (drop (b .n) ys) ≡ characters (drop (b .n) ys) → Begins (drop (b .n) ys))
+          → glyph ys ∷ characters (drop (b .n) ys) ≡ characters ys → Begins ys
+      turn ys b ih e = go (kind (glyph ys .code)) (glyph ys .damaged) refl refl
         where
-          go : (t u : Bool) → kind (glyph false ys .code) ≡ t → glyph false ys .damaged ≡ u → Begins ys
-          go false u k d = none-begins ys (rw (← e) (while-end ofKind (glyph false ys) (glyphs false (drop (b .n) ys)) k))
+          go : (t u : Bool) → kind (glyph ys .code) ≡ t → glyph ys .damaged ≡ u → Begins ys
+          go false u k d = none-begins ys (rw (← e) (while-end ofKind (glyph ys) (characters (drop (b .n) ys)) k))
           go true true k d = absurd (false≢true (sym no-damage ∙ ap kind (sym (damaged-code ys d)) ∙ k))
           go true false k d =
               let r = good-read ys d in
@@ -156,7 +156,7 @@ module _ (kind : ℕ → Bool) (no-damage : kind 0xFFFD ≡ false) (no-feed : ki
               rw (r .octets) (more-begins (r .code) (r .rest) (r .is) (sym (ap kind (ap (λ (g : Glyph). g .code) (r .glyph-is))) ∙ k) m)
 
   -- characters of the kind in front of a text that begins with none
-  pub kind-glyphs : (codes rest : List ℕ) → All Character codes → every kind codes ≡ true → while ofKind (glyphs false rest) ≡ [] → while ofKind (glyphs false (octets codes ++ rest)) ≡ map glyphOf codes
+  pub kind-glyphs : (codes rest : List ℕ) → All Character codes → every kind codes ≡ true → while ofKind (characters rest) ≡ [] → while ofKind (characters (octets codes ++ rest)) ≡ map glyphOf codes
   kind-glyphs [] rest a e s = rw joined-nil s
   kind-glyphs (c ∷ codes) rest a e s =
       let k = and-eq-true-iff (kind c) (every kind codes) .0 (rw every-cons at e) in
@@ -164,13 +164,13 @@ module _ (kind : ℕ → Bool) (no-damage : kind 0xFFFD ≡ false) (no-feed : ki
         joined-cons encode c codes,
         append-assoc (encode c) (octets codes) rest,
         glyphs-here c (a .0) (octets codes ++ rest),
-        while-more ofKind (glyphOf c) (glyphs false (octets codes ++ rest)) (k .0),
+        while-more ofKind (glyphOf c) (characters (octets codes ++ rest)) (k .0),
         kind-glyphs codes rest (a .1) (k .1) s,
       )
 
   -- another character stops them
-  pub other-stops : (c : ℕ) (rest : List ℕ) → Character c → kind c ≡ false → while ofKind (glyphs false (encode c ++ rest)) ≡ []
-  other-stops c rest h k = rw (glyphs-here c h rest) (while-end ofKind (glyphOf c) (glyphs false rest) k)
+  pub other-stops : (c : ℕ) (rest : List ℕ) → Character c → kind c ≡ false → while ofKind (characters (encode c ++ rest)) ≡ []
+  other-stops c rest h k = rw (glyphs-here c h rest) (while-end ofKind (glyphOf c) (characters rest) k)
 
   kind-other : (c : ℕ) → kind c ≡ true → eqb c 10 ≡ false
   kind-other c k = go (eqb c 10) refl
@@ -186,32 +186,32 @@ module _ (kind : ℕ → Bool) (no-damage : kind 0xFFFD ≡ false) (no-feed : ki
       rw (joined-cons encode c codes, every-append noFeed (encode c) (octets codes), encode-feedless c (kind-other c (k .0)), octets-feedless codes (k .1))
 
   -- what stops them does not hang on what stands behind a line feed
-  pub stops-before : (left below others : List ℕ) → while ofKind (glyphs false (left ++ 10 ∷ below)) ≡ [] → while ofKind (glyphs false (left ++ 10 ∷ others)) ≡ []
+  pub stops-before : (left below others : List ℕ) → while ofKind (characters (left ++ 10 ∷ below)) ≡ [] → while ofKind (characters (left ++ 10 ∷ others)) ≡ []
   stops-before left below others s = go (begins-of (left ++ 10 ∷ others))
     where
-      go : Begins (left ++ 10 ∷ others) → while ofKind (glyphs false (left ++ 10 ∷ others)) ≡ []
+      go : Begins (left ++ 10 ∷ others) → while ofKind (characters (left ++ 10 ∷ others)) ≡ []
       go b = pick (b .codes) (b .are) (b .each) (b .is) (b .glyphs-are)
         where
-          pick : (codes : List ℕ) → All Character codes → every kind codes ≡ true → left ++ 10 ∷ others ≡ octets codes ++ b .rest → while ofKind (glyphs false (left ++ 10 ∷ others)) ≡ map glyphOf codes
-              → while ofKind (glyphs false (left ++ 10 ∷ others)) ≡ []
+          pick : (codes : List ℕ) → All Character codes → every kind codes ≡ true → left ++ 10 ∷ others ≡ octets codes ++ b .rest → while ofKind (characters (left ++ 10 ∷ others)) ≡ map glyphOf codes
+              → while ofKind (characters (left ++ 10 ∷ others)) ≡ []
           pick [] a e i g = g
           pick (c ∷ codes) a e i g =
               let k = and-eq-true-iff (kind c) (every kind codes) .0 (rw every-cons at e) in
               let o : encode c ++ (octets codes ++ b .rest) ≡ left ++ 10 ∷ others = sym (append-assoc (encode c) (octets codes) (b .rest)) ∙ ap (λ (l : List ℕ). l ++ b .rest) (sym (joined-cons encode c codes)) ∙ sym i in
               let f = feedless-inside (encode c) (octets codes ++ b .rest) left others (encode-feedless c (kind-other c (k .0))) o in
               let z : left ++ 10 ∷ below ≡ encode c ++ (f .left ++ 10 ∷ below) = ap (λ (l : List ℕ). l ++ 10 ∷ below) (f .body-is) ∙ append-assoc (encode c) (f .left) (10 ∷ below) in
-              let w : glyphOf c ∷ while ofKind (glyphs false (f .left ++ 10 ∷ below)) ≡ [] =
-                  sym (while-more ofKind (glyphOf c) (glyphs false (f .left ++ 10 ∷ below)) (k .0)) ∙ ap (while ofKind) (sym (glyphs-here c (a .0) (f .left ++ 10 ∷ below)) ∙ ap (glyphs false) (sym z)) ∙ s in
+              let w : glyphOf c ∷ while ofKind (characters (f .left ++ 10 ∷ below)) ≡ [] =
+                  sym (while-more ofKind (glyphOf c) (characters (f .left ++ 10 ∷ below)) (k .0)) ∙ ap (while ofKind) (sym (glyphs-here c (a .0) (f .left ++ 10 ∷ below)) ∙ ap (characters) (sym z)) ∙ s in
               absurd (let q : _≡_ {A = ℕ} 0 1 = cc in omega arith)
 
 -- ---- blanks
 
 -- a blank character's number is small
-space-small : (c : ℕ) → spaceCode false c ≡ true → c ≤ 0xA0
+space-small : (c : ℕ) → spaceCode c ≡ true → c ≤ 0xA0
 unfolding blankCode
 space-small c h = go (leb 9 c) (leb c 13) (eqb c 0x20) (eqb c 0x85) (eqb c 0xA0) (not (eqb c 10)) refl refl refl refl h
   where
-    go : (a b t u v f : Bool) → leb c 13 ≡ b → eqb c 0x20 ≡ t → eqb c 0x85 ≡ u → eqb c 0xA0 ≡ v → ((a && b || t || u || v && true) && f) ≡ true → c ≤ 0xA0
+    go : (a b t u v f : Bool) → leb c 13 ≡ b → eqb c 0x20 ≡ t → eqb c 0x85 ≡ u → eqb c 0xA0 ≡ v → ((a && b || t || u || v) && f) ≡ true → c ≤ 0xA0
     go true true t u v f eb et eu ev k = let q = leb-true c 13 eb in omega arith
     go true false true u v f eb et eu ev k = let q = eqb-true c 0x20 et in omega arith
     go true false false true v f eb et eu ev k = let q = eqb-true c 0x85 eu in omega arith
@@ -229,20 +229,20 @@ small-character c h = record {
   isAccepted = rw (le-leb c 0x2FF (omega arith), ne-eqb c 0xAD (λ e. omega arith));
 }
 
-pub space-character : (c : ℕ) → spaceCode false c ≡ true → Character c
+pub space-character : (c : ℕ) → spaceCode c ≡ true → Character c
 space-character c h = small-character c (space-small c h)
 
-pub space-characters : (codes : List ℕ) → every (spaceCode false) codes ≡ true → All Character codes
+pub space-characters : (codes : List ℕ) → every spaceCode codes ≡ true → All Character codes
 space-characters [] e = tt
 space-characters (c ∷ codes) e =
-    let k = and-eq-true-iff (spaceCode false c) (every (spaceCode false) codes) .0 (rw every-cons at e) in
+    let k = and-eq-true-iff (spaceCode c) (every spaceCode codes) .0 (rw every-cons at e) in
     (space-character c (k .0), space-characters codes (k .1))
 
-pub no-break-space : spaceCode false 0xA0 ≡ true
+pub no-break-space : spaceCode 0xA0 ≡ true
 unfolding blankCode
 no-break-space = refl
 
-pub space-space : spaceCode false 32 ≡ true
+pub space-space : spaceCode 32 ≡ true
 unfolding blankCode
 space-space = refl
 

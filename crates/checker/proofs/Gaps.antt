@@ -13,14 +13,14 @@ use Rattle.lists.specs.Theorems.All.{All}
 use Rattle.lists.proofs.Parts.{every-nil, every-cons, every-append, joined-nil, joined-cons, joined-append}
 use Rattle.lists.proofs.All.{all-front, all-append}
 use Rattle.text.specs.Rfc3629.{encode}
-use Rattle.text.specs.Characters.{Glyph, blankCode, glyphs, extent}
-use Rattle.text.specs.Theorems.Blanks.{spaceCode}
+use Rattle.text.specs.Characters.{Glyph, blankCode, characters, noBreak, extent}
+use Rattle.text.specs.Theorems.Blanks.{spaceCode, Gap}
 use Rattle.output.specs.Emission.{lineFeed}
-use Rattle.checker.specs.Acceptable.{glued, Gap, Then}
+use Rattle.checker.specs.Acceptable.{Then}
 use Rattle.checker.specs.Named.{feeds}
-use Rattle.checker.specs.Matching.{Match, on, fault, matchText, isSpace, spaces, parting, isNoBreak, lead, matchSpaced}
+use Rattle.checker.specs.Matching.{Match, on, fault, matchText, isSpace, spaces, soft, parting, lead, matchSpaced}
 use Rattle.checker.proofs.Feeds.{Feedless, Inside, feedless-inside, feedless-first, feeds-nil, feeds-append, feedless-feeds, begins-feed}
-use Rattle.checker.proofs.Decides.{Language, Took, Faults, Decides, Is, on-fault, decides-text}
+use Rattle.checker.proofs.Decides.{Language, Took, Faults, Decides, Is, on-fault, decides-text, decides-same}
 use Rattle.checker.proofs.Codes.{Character, encode-some, glyphOf, octets, extent-codes, Begins, begins-of, kind-glyphs, other-stops, octets-feedless, stops-before, space-characters, no-break-space, space-space, space-octets}
 
 -- a word that notes can have: no line feed; behind any U+00A0 of its own in front, which it has with glue on alone, a character that is no blank
@@ -30,23 +30,48 @@ pub record Fits (glue : Bool) (w : List ℕ) : Type 0 where
   pub none : glue ≡ false → count ≡ 0
   pub ink : ℕ
   pub isCharacter : Character ink
-  pub isInk : blankCode false ink ≡ false
+  pub isInk : blankCode ink ≡ false
   pub tail : List ℕ
   pub is : w ≡ octets (replicate count 0xA0) ++ (encode ink ++ tail)
 
+-- what parts two words of a line, by its characters' numbers
+record Spaces (glue : Bool) (bytes : List ℕ) : Type 0 where
+  codes : List ℕ
+  blank : every spaceCode codes ≡ true
+  parts : every (soft glue) codes ≡ false
+  octets : bytes ≡ joined encode codes
+
+gap-spaces : (glue : Bool) (bytes : List ℕ) → Gap glue bytes → Spaces glue bytes
+gap-spaces glue bytes g = record { codes = g .codes; blank = g .blanks .blank; parts = go glue refl (g .codes) (g .blanks .octets) (g .other); octets = g .blanks .octets }
+  where
+    go : (t : Bool) → glue ≡ t → (codes : List ℕ) → bytes ≡ joined encode codes → (glue ≡ true → every (λ c. eqb c 0xA0) codes ≡ false) → every (soft t) codes ≡ false
+    go true e codes o h = h e
+    go false e [] o h = absurd (let s = g .some in omega (arith, ap length (o ∙ joined-nil encode)))
+    go false e (c ∷ codes) o h = every-cons (soft false) c codes
+
+spaces-gap : (glue : Bool) (bytes : List ℕ) → Spaces glue bytes → Gap glue bytes
+spaces-gap glue bytes s = record { codes = s .codes; blanks = record { blank = s .blank; octets = s .octets }; some = some (s .codes) (s .blank) (s .parts) (s .octets); other = λ e. rw (← e) at (s .parts) }
+  where
+    some : (codes : List ℕ) → every spaceCode codes ≡ true → every (soft glue) codes ≡ false → bytes ≡ joined encode codes → 0 < length bytes
+    some [] b p o = absurd (true≢false (sym (every-nil (soft glue)) ∙ p))
+    some (c ∷ codes) b p o =
+        let k = encode-some c (space-characters (c ∷ codes) b .0) [] in
+        let l = length-append (encode c) (octets codes) in
+        omega (arith, ap length (o ∙ joined-cons encode c codes))
+
 -- ---- the characters
 
-spaces-damage : spaceCode false 0xFFFD ≡ false
+spaces-damage : spaceCode 0xFFFD ≡ false
 unfolding blankCode
 spaces-damage = refl
 
-spaces-feed : spaceCode false 10 ≡ false
+spaces-feed : spaceCode 10 ≡ false
 unfolding blankCode
 spaces-feed = refl
 
 -- no-break spaces in a row
-no-breaks : (k : ℕ) → (every (spaceCode false) (replicate k 0xA0) ≡ true) × (every (λ c. eqb c 0xA0) (replicate k 0xA0) ≡ true)
-no-breaks zero = (every-nil (spaceCode false), every-nil (λ c. eqb c 0xA0))
+no-breaks : (k : ℕ) → (every spaceCode (replicate k 0xA0) ≡ true) × (every (λ c. eqb c 0xA0) (replicate k 0xA0) ≡ true)
+no-breaks zero = (every-nil spaceCode, every-nil (λ c. eqb c 0xA0))
 no-breaks (suc k) = let h = no-breaks k in (rw (every-cons, no-break-space, h .0), rw (every-cons, h .1))
 
 replicate-add : (a b c : ℕ) → replicate (a + b) c ≡ replicate a c ++ replicate b c
@@ -66,17 +91,17 @@ no-breaks-size (suc k) =
 shorter : (k j : ℕ) → length (octets (replicate k 0xA0)) ≤ length (octets (replicate j 0xA0)) → k ≤ j
 shorter k j h = omega (arith, no-breaks-size k, no-breaks-size j)
 
-ink-no-break : (c : ℕ) → blankCode false c ≡ false → eqb c 0xA0 ≡ false
+ink-no-break : (c : ℕ) → blankCode c ≡ false → eqb c 0xA0 ≡ false
 unfolding blankCode
 ink-no-break c h = go (eqb c 0xA0) refl
   where
     go : (t : Bool) → eqb c 0xA0 ≡ t → t ≡ false
-    go true e = absurd (false≢true (sym h ∙ ap (blankCode false) (eqb-true c 0xA0 e)))
+    go true e = absurd (false≢true (sym h ∙ ap (blankCode) (eqb-true c 0xA0 e)))
     go false e = refl
 
 -- ---- what parts
 
-parting-more : (glue : Bool) (g : Glyph) (gs : List Glyph) → parting glue (g ∷ gs) ≡ cond (ltb 0 (parting glue gs) || not (glued glue (g .code))) (length (g .bytes) + parting glue gs) 0
+parting-more : (glue : Bool) (g : Glyph) (gs : List Glyph) → parting glue (g ∷ gs) ≡ cond (ltb 0 (parting glue gs) || not (soft glue (g .code))) (length (g .bytes) + parting glue gs) 0
 unfolding parting
 parting-more glue g gs = refl
 
@@ -91,7 +116,7 @@ record Parts (glue : Bool) (codes : List ℕ) : Type 0 where
   are : codes ≡ front ++ replicate back 0xA0
   none : glue ≡ false → back ≡ 0
   size : parting glue (map glyphOf codes) ≡ length (octets front)
-  some : 0 < parting glue (map glyphOf codes) → every (glued glue) front ≡ false
+  some : 0 < parting glue (map glyphOf codes) → every (soft glue) front ≡ false
 
 octets-empty : (codes : List ℕ) → All Character codes → length (octets codes) ≡ 0 → codes ≡ []
 octets-empty [] a h = refl
@@ -102,13 +127,13 @@ octets-empty (c ∷ codes) a h =
 
 parts-of : (glue : Bool) (codes : List ℕ) → All Character codes → Parts glue codes
 parts-of glue [] a = record { front = []; back = 0; are = refl; none = λ e. refl; size = rw (parting-none, joined-nil); some = λ h. absurd (omega (arith, parting-none glue)) }
-parts-of glue (c ∷ codes) a = go (ltb 0 (parting glue (map glyphOf codes))) (glued glue c) refl refl (parts-of glue codes (a .1))
+parts-of glue (c ∷ codes) a = go (ltb 0 (parting glue (map glyphOf codes))) (soft glue c) refl refl (parts-of glue codes (a .1))
   where
-    here : (t u : Bool) → ltb 0 (parting glue (map glyphOf codes)) ≡ t → glued glue c ≡ u → parting glue (map glyphOf (c ∷ codes)) ≡ cond (t || not u) (length (encode c) + parting glue (map glyphOf codes)) 0
+    here : (t u : Bool) → ltb 0 (parting glue (map glyphOf codes)) ≡ t → soft glue c ≡ u → parting glue (map glyphOf (c ∷ codes)) ≡ cond (t || not u) (length (encode c) + parting glue (map glyphOf codes)) 0
     here t u et eu = parting-more glue (glyphOf c) (map glyphOf codes) ∙ rw (et, eu)
 
     -- with a part behind it
-    more : (u : Bool) → ltb 0 (parting glue (map glyphOf codes)) ≡ true → glued glue c ≡ u → Parts glue codes → Parts glue (c ∷ codes)
+    more : (u : Bool) → ltb 0 (parting glue (map glyphOf codes)) ≡ true → soft glue c ≡ u → Parts glue codes → Parts glue (c ∷ codes)
     more u t g p =
         let k = here true u t g in
         let l = length-append (encode c) (octets (p .front)) in
@@ -118,14 +143,14 @@ parts-of glue (c ∷ codes) a = go (ltb 0 (parting glue (map glyphOf codes))) (g
           are = ap (λ (l : List ℕ). c ∷ l) (p .are);
           none = p .none;
           size = rw (k, joined-cons encode c (p .front), length-append (encode c) (octets (p .front)), p .size);
-          some = λ h. rw (every-cons, p .some (ltb-true _ _ t)) (both (glued glue c));
+          some = λ h. rw (every-cons, p .some (ltb-true _ _ t)) (both (soft glue c));
         }
       where
         both : (b : Bool) → (b && false) ≡ false
         both true = refl
         both false = refl
 
-    go : (t u : Bool) → ltb 0 (parting glue (map glyphOf codes)) ≡ t → glued glue c ≡ u → Parts glue codes → Parts glue (c ∷ codes)
+    go : (t u : Bool) → ltb 0 (parting glue (map glyphOf codes)) ≡ t → soft glue c ≡ u → Parts glue codes → Parts glue (c ∷ codes)
     go true u et eu p = more u et eu p
     go false false et eu p =
         let q : length (octets (p .front)) ≡ 0 = let z = ltb-false 0 (parting glue (map glyphOf codes)) et in omega (arith, p .size) in
@@ -156,14 +181,14 @@ parts-of glue (c ∷ codes) a = go (ltb 0 (parting glue (map glyphOf codes))) (g
         }
 
 -- a gap's blanks part, whatever stands behind them
-parting-some : (glue : Bool) (codes : List ℕ) (gs : List Glyph) → All Character codes → every (glued glue) codes ≡ false → 0 < parting glue (map glyphOf codes ++ gs)
-parting-some glue [] gs a e = absurd (true≢false (sym (every-nil (glued glue)) ∙ e))
-parting-some glue (c ∷ codes) gs a e = rw (parting-more glue (glyphOf c) (map glyphOf codes ++ gs)) (go (glued glue c) refl (parting-some glue codes gs (a .1)))
+parting-some : (glue : Bool) (codes : List ℕ) (gs : List Glyph) → All Character codes → every (soft glue) codes ≡ false → 0 < parting glue (map glyphOf codes ++ gs)
+parting-some glue [] gs a e = absurd (true≢false (sym (every-nil (soft glue)) ∙ e))
+parting-some glue (c ∷ codes) gs a e = rw (parting-more glue (glyphOf c) (map glyphOf codes ++ gs)) (go (soft glue c) refl (parting-some glue codes gs (a .1)))
   where
-    go : (t : Bool) → glued glue c ≡ t → (every (glued glue) codes ≡ false → 0 < parting glue (map glyphOf codes ++ gs))
-        → 0 < cond (ltb 0 (parting glue (map glyphOf codes ++ gs)) || not (glued glue c)) (length (encode c) + parting glue (map glyphOf codes ++ gs)) 0
+    go : (t : Bool) → soft glue c ≡ t → (every (soft glue) codes ≡ false → 0 < parting glue (map glyphOf codes ++ gs))
+        → 0 < cond (ltb 0 (parting glue (map glyphOf codes ++ gs)) || not (soft glue c)) (length (encode c) + parting glue (map glyphOf codes ++ gs)) 0
     go true k ih =
-        let h = ih (sym (ap (λ (b : Bool). b && every (glued glue) codes) k) ∙ sym (every-cons (glued glue) c codes) ∙ e) in
+        let h = ih (sym (ap (λ (b : Bool). b && every (soft glue) codes) k) ∙ sym (every-cons (soft glue) c codes) ∙ e) in
         rw (lt-ltb 0 _ h) (omega arith)
     go false k ih = let s = encode-some c (a .0) [] in rw k (pick (ltb 0 (parting glue (map glyphOf codes ++ gs))))
       where
@@ -175,7 +200,7 @@ parting-some glue (c ∷ codes) gs a e = rw (parting-more glue (glyphOf c) (map 
 parting-least : (glue : Bool) (gs hs : List Glyph) → parting glue hs ≡ 0 → parting glue (gs ++ hs) ≤ extent gs
 unfolding extent
 parting-least glue [] hs h = omega arith
-parting-least glue (g ∷ gs) hs h = rw (parting-more glue g (gs ++ hs)) (go (ltb 0 (parting glue (gs ++ hs)) || not (glued glue (g .code))) (parting-least glue gs hs h))
+parting-least glue (g ∷ gs) hs h = rw (parting-more glue g (gs ++ hs)) (go (ltb 0 (parting glue (gs ++ hs)) || not (soft glue (g .code))) (parting-least glue gs hs h))
   where
     go : (t : Bool) → parting glue (gs ++ hs) ≤ extent gs → cond t (length (g .bytes) + parting glue (gs ++ hs)) 0 ≤ length (g .bytes) + extent gs
     go true ih = omega arith
@@ -205,7 +230,7 @@ module _ (glue : Bool) (w : List ℕ) (f : Fits glue w) where
       rw (f .is, kind-glyphs (λ c. eqb c 0xA0) refl refl (replicate (f .count) 0xA0) (encode (f .ink) ++ f .tail) (space-characters (replicate (f .count) 0xA0) (k .0)) (k .1) s) (extent-codes (replicate (f .count) 0xA0))
 
   abbrev Behind : Language
-  Behind = Then (Gap glue) (Is w)
+  Behind = Then (Spaces glue) (Is w)
 
   -- what is matched, by what the blanks in front come to
   spaced-as : (xs : List ℕ) (n : ℕ) (gs : List Glyph) → spaces xs ≡ gs
@@ -213,21 +238,21 @@ module _ (glue : Bool) (w : List ℕ) (f : Fits glue w) where
   unfolding matchSpaced
   spaced-as xs n gs e = rw e
 
-  spaces-of : (xs : List ℕ) → spaces xs ≡ while isSpace (glyphs false xs)
+  spaces-of : (xs : List ℕ) → spaces xs ≡ while isSpace (characters xs)
   unfolding spaces
   spaces-of xs = refl
 
-  spaces-codes : (xs : List ℕ) → Begins (spaceCode false) spaces-damage spaces-feed xs
-  spaces-codes xs = begins-of (spaceCode false) spaces-damage spaces-feed xs
+  spaces-codes : (xs : List ℕ) → Begins spaceCode spaces-damage spaces-feed xs
+  spaces-codes xs = begins-of spaceCode spaces-damage spaces-feed xs
 
   spaces-are : (xs : List ℕ) → spaces xs ≡ map glyphOf (spaces-codes xs .codes)
   unfolding spaces
   spaces-are xs = spaces-codes xs .glyphs-are
 
   -- the gap that stands before the word, where the tests hold
-  gap-before : (xs codes left : List ℕ) → All Character codes → every (spaceCode false) codes ≡ true → xs ≡ octets codes ++ left
+  gap-before : (xs codes left : List ℕ) → All Character codes → every spaceCode codes ≡ true → xs ≡ octets codes ++ left
       → 0 < parting glue (map glyphOf codes) → parting glue (map glyphOf codes) + length own ≤ length (octets codes)
-      → (gap : List ℕ) × Gap glue gap × (xs ≡ gap ++ drop (length (octets codes) - length own) xs)
+      → (gap : List ℕ) × Spaces glue gap × (xs ≡ gap ++ drop (length (octets codes) - length own) xs)
   unfolding own
   gap-before xs codes left a e x some fits =
       let p = parts-of glue codes a in
@@ -244,13 +269,13 @@ module _ (glue : Bool) (w : List ℕ) (f : Fits glue w) where
       let all : xs ≡ gap ++ (octets (replicate k 0xA0) ++ left) = x ∙ ap (λ (l : List ℕ). l ++ left) bytes ∙ append-assoc gap (octets (replicate k 0xA0)) left in
       let start : length (octets codes) - length (octets (replicate k 0xA0)) ≡ length gap = omega (arith, ap length bytes ∙ length-append gap (octets (replicate k 0xA0))) in
       let rest : drop (length (octets codes) - length (octets (replicate k 0xA0))) xs ≡ octets (replicate k 0xA0) ++ left = rw (start, all) (drop-append-seam gap (octets (replicate k 0xA0) ++ left)) in
-      let spaced = and-eq-true-iff (every (spaceCode false) (p .front)) (every (spaceCode false) (replicate j 0xA0)) .0 (sym (every-append (spaceCode false) (p .front) (replicate j 0xA0)) ∙ ap (every (spaceCode false)) (sym (p .are)) ∙ e) in
+      let spaced = and-eq-true-iff (every spaceCode (p .front)) (every spaceCode (replicate j 0xA0)) .0 (sym (every-append spaceCode (p .front) (replicate j 0xA0)) ∙ ap (every spaceCode) (sym (p .are)) ∙ e) in
       (
         gap,
         record {
           codes = p .front ++ replicate (j - k) 0xA0;
-          blank = rw (every-append (spaceCode false) (p .front) (replicate (j - k) 0xA0), spaced .0, no-breaks (j - k) .0);
-          parts = rw (every-append (glued glue) (p .front) (replicate (j - k) 0xA0), p .some some);
+          blank = rw (every-append spaceCode (p .front) (replicate (j - k) 0xA0), spaced .0, no-breaks (j - k) .0);
+          parts = rw (every-append (soft glue) (p .front) (replicate (j - k) 0xA0), p .some some);
           octets = refl;
         },
         all ∙ ap (λ (l : List ℕ). gap ++ l) (sym rest)
@@ -259,7 +284,7 @@ module _ (glue : Bool) (w : List ℕ) (f : Fits glue w) where
   spaced-found : (xs : List ℕ) (n : ℕ) (rest : List ℕ) (m : ℕ) → matchSpaced glue w xs n ≡ on rest m → Took Behind xs n rest m
   spaced-found xs n rest m e = go (ltb 0 (parting glue (map glyphOf codes))) (leb (parting glue (map glyphOf codes) + lead w) (extent (map glyphOf codes))) refl refl (sym (spaced-as xs n (map glyphOf codes) (spaces-are xs)) ∙ e)
     where
-      b : Begins (spaceCode false) spaces-damage spaces-feed xs
+      b : Begins spaceCode spaces-damage spaces-feed xs
       b = spaces-codes xs
 
       codes : List ℕ
@@ -273,7 +298,7 @@ module _ (glue : Bool) (w : List ℕ) (f : Fits glue w) where
           let g = gap-before xs codes (b .rest) (b .are) (b .each) (b .is) (ltb-true _ _ et) fits in
           let start : extent (map glyphOf codes) - lead w ≡ length (octets codes) - length own = rw (x, lead-is) in
           let a = decides-text w (f .feedless) .found (drop (length (octets codes) - length own) xs) n rest m (rw (← start) k) in
-          let z : feeds (g .0) ≡ 0 = rw (g .1 .octets) (feedless-feeds _ (octets-feedless (spaceCode false) spaces-damage spaces-feed (g .1 .codes) (g .1 .blank))) in
+          let z : feeds (g .0) ≡ 0 = rw (g .1 .octets) (feedless-feeds _ (octets-feedless spaceCode spaces-damage spaces-feed (g .1 .codes) (g .1 .blank))) in
           record {
             part = g .0 ++ w;
             is = g .2 ∙ ap (λ (l : List ℕ). g .0 ++ l) (a .is ∙ ap (λ (l : List ℕ). l ++ rest) (a .takes)) ∙ sym (append-assoc (g .0) w rest);
@@ -296,8 +321,8 @@ module _ (glue : Bool) (w : List ℕ) (f : Fits glue w) where
           ap (λ (l : List ℕ). l ++ rest) (t .bytes-are ∙ ap₂ (λ (l r : List ℕ). l ++ r) (g .octets) (t .second)) ∙ append-assoc (octets (g .codes)) w rest in
       let xs-is : part ++ rest ≡ octets codes ++ behind =
           xs-w ∙ ap (λ (l : List ℕ). octets (g .codes) ++ l) w-rest ∙ sym (append-assoc (octets (g .codes)) (octets (replicate k 0xA0)) behind) ∙ ap (λ (l : List ℕ). l ++ behind) (sym (joined-append encode (g .codes) (replicate k 0xA0))) in
-      let blank : every (spaceCode false) codes ≡ true = rw (every-append (spaceCode false) (g .codes) (replicate k 0xA0), g .blank, no-breaks k .0) in
-      let stop = other-stops (spaceCode false) spaces-damage spaces-feed (f .ink) (f .tail ++ rest) (f .isCharacter) (rw (f .isInk)) in
+      let blank : every spaceCode codes ≡ true = rw (every-append spaceCode (g .codes) (replicate k 0xA0), g .blank, no-breaks k .0) in
+      let stop = other-stops spaceCode spaces-damage spaces-feed (f .ink) (f .tail ++ rest) (f .isCharacter) (rw (f .isInk)) in
       let gs : spaces (part ++ rest) ≡ map glyphOf codes = found (part ++ rest) codes behind xs-is blank stop in
       let some : 0 < parting glue (map glyphOf codes) = rw (map-append (g .codes) (replicate k 0xA0)) (parting-some glue (g .codes) (map glyphOf (replicate k 0xA0)) (space-characters (g .codes) (g .blank)) (g .parts)) in
       let least : parting glue (map glyphOf codes) ≤ extent (map glyphOf (g .codes)) = rw (map-append (g .codes) (replicate k 0xA0)) (parting-least glue (map glyphOf (g .codes)) (map glyphOf (replicate k 0xA0)) (no-breaks-part glue k (f .none))) in
@@ -306,14 +331,14 @@ module _ (glue : Bool) (w : List ℕ) (f : Fits glue w) where
       let start : extent (map glyphOf codes) - lead w ≡ length (octets (g .codes)) = let z = extent-codes (g .codes) in omega arith in
       let place : drop (extent (map glyphOf codes) - lead w) (part ++ rest) ≡ w ++ rest = rw (start, xs-w) (drop-append-seam (octets (g .codes)) (w ++ rest)) in
       let line : n + feeds w ≡ n + feeds part =
-          let z = feedless-feeds (octets (g .codes)) (octets-feedless (spaceCode false) spaces-damage spaces-feed (g .codes) (g .blank)) in
+          let z = feedless-feeds (octets (g .codes)) (octets-feedless spaceCode spaces-damage spaces-feed (g .codes) (g .blank)) in
           omega (arith, ap feeds (t .bytes-are) ∙ feeds-append (t .part) (t .rest), ap feeds (g .octets), ap feeds (t .second)) in
       spaced-as (part ++ rest) n (map glyphOf codes) gs
       ∙ rw (lt-ltb 0 (parting glue (map glyphOf codes)) some, le-leb (parting glue (map glyphOf codes) + lead w) (extent (map glyphOf codes)) (omega arith), place) (decides-text w (f .feedless) .finds w rest n refl)
       ∙ ap (on rest) line
     where
-      found : (xs codes behind : List ℕ) → xs ≡ octets codes ++ behind → every (spaceCode false) codes ≡ true → while isSpace (glyphs false behind) ≡ [] → spaces xs ≡ map glyphOf codes
-      found xs codes behind x e s = spaces-of xs ∙ ap (λ (l : List ℕ). while isSpace (glyphs false l)) x ∙ kind-glyphs (spaceCode false) spaces-damage spaces-feed codes behind (space-characters codes e) e s
+      found : (xs codes behind : List ℕ) → xs ≡ octets codes ++ behind → every spaceCode codes ≡ true → while isSpace (characters behind) ≡ [] → spaces xs ≡ map glyphOf codes
+      found xs codes behind x e s = spaces-of xs ∙ ap (λ (l : List ℕ). while isSpace (characters l)) x ∙ kind-glyphs spaceCode spaces-damage spaces-feed codes behind (space-characters codes e) e s
 
   text-never : (left below others : List ℕ) (n k : ℕ) → matchText w (left ++ 10 ∷ below) n ≡ fault n → matchText w (left ++ 10 ∷ others) k ≡ fault k
   unfolding matchText
@@ -327,10 +352,10 @@ module _ (glue : Bool) (w : List ℕ) (f : Fits glue w) where
   spaced-never : (body below others : List ℕ) (n k : ℕ) → matchSpaced glue w (body ++ 10 ∷ below) n ≡ fault n → matchSpaced glue w (body ++ 10 ∷ others) k ≡ fault k
   spaced-never body below others n k e =
       let b = spaces-codes (body ++ 10 ∷ below) in
-      let i = feedless-inside (octets (b .codes)) (b .rest) body below (octets-feedless (spaceCode false) spaces-damage spaces-feed (b .codes) (b .each)) (sym (b .is)) in
-      let stop = stops-before (spaceCode false) spaces-damage spaces-feed (i .left) below others (rw (i .rest-is) at (b .stops)) in
+      let i = feedless-inside (octets (b .codes)) (b .rest) body below (octets-feedless spaceCode spaces-damage spaces-feed (b .codes) (b .each)) (sym (b .is)) in
+      let stop = stops-before spaceCode spaces-damage spaces-feed (i .left) below others (rw (i .rest-is) at (b .stops)) in
       let x : body ++ 10 ∷ others ≡ octets (b .codes) ++ (i .left ++ 10 ∷ others) = ap (λ (l : List ℕ). l ++ 10 ∷ others) (i .body-is) ∙ append-assoc (octets (b .codes)) (i .left) (10 ∷ others) in
-      let gs : spaces (body ++ 10 ∷ others) ≡ map glyphOf (b .codes) = spaces-of (body ++ 10 ∷ others) ∙ ap (λ (l : List ℕ). while isSpace (glyphs false l)) x ∙ kind-glyphs (spaceCode false) spaces-damage spaces-feed (b .codes) (i .left ++ 10 ∷ others) (b .are) (b .each) stop in
+      let gs : spaces (body ++ 10 ∷ others) ≡ map glyphOf (b .codes) = spaces-of (body ++ 10 ∷ others) ∙ ap (λ (l : List ℕ). while isSpace (characters l)) x ∙ kind-glyphs spaceCode spaces-damage spaces-feed (b .codes) (i .left ++ 10 ∷ others) (b .are) (b .each) stop in
       let few : extent (map glyphOf (b .codes)) - lead w ≤ length body = omega (arith, extent-codes (b .codes), ap length (i .body-is) ∙ length-append (octets (b .codes)) (i .left)) in
       spaced-as (body ++ 10 ∷ others) k (map glyphOf (b .codes)) gs
       ∙ go (ltb 0 (parting glue (map glyphOf (b .codes))) && leb (parting glue (map glyphOf (b .codes)) + lead w) (extent (map glyphOf (b .codes)))) (extent (map glyphOf (b .codes)) - lead w) few
@@ -361,7 +386,7 @@ module _ (glue : Bool) (w : List ℕ) (f : Fits glue w) where
     second = refl;
   }
     where
-      pick : (b : Bool) → (b && false && every (glued glue) []) ≡ false
+      pick : (b : Bool) → (b && false && every (soft glue) []) ≡ false
       pick true = refl
       pick false = refl
 
@@ -396,18 +421,22 @@ module _ (glue : Bool) (w : List ℕ) (f : Fits glue w) where
       }
 
   pub decides-spaced : Decides (Then (Gap glue) (Is w)) (matchSpaced glue w)
-  decides-spaced = record { found = spaced-found; finds = spaced-finds; example = 32 ∷ w; some = by-a-space; faults = spaced-faults }
+  decides-spaced =
+      decides-same Behind (Then (Gap glue) (Is w)) (matchSpaced glue w)
+      (λ part t. record { part = t .part; rest = t .rest; bytes-are = t .bytes-are; first = spaces-gap glue (t .part) (t .first); second = t .second })
+      (λ part t. record { part = t .part; rest = t .rest; bytes-are = t .bytes-are; first = gap-spaces glue (t .part) (t .first); second = t .second })
+      (record { found = spaced-found; finds = spaced-finds; example = 32 ∷ w; some = by-a-space; faults = spaced-faults })
 
 -- a gap does not begin with a line feed
 pub gap-no-feed : (glue : Bool) (gap rest : List ℕ) → Gap glue gap → begins lineFeed (gap ++ rest) ≡ false
-gap-no-feed glue gap rest g = rw (g .octets) (go (g .codes) (g .blank) (g .parts))
+gap-no-feed glue gap rest p = let g = gap-spaces glue gap p in rw (g .octets) (go (g .codes) (g .blank) (g .parts))
   where
     first : (xs : List ℕ) → 0 < length xs → Feedless xs → begins lineFeed (xs ++ rest) ≡ false
     first xs h f = feedless-first xs rest h f
 
-    go : (codes : List ℕ) → every (spaceCode false) codes ≡ true → every (glued glue) codes ≡ false → begins lineFeed (octets codes ++ rest) ≡ false
-    go [] b p = absurd (true≢false (sym (every-nil (glued glue)) ∙ p))
+    go : (codes : List ℕ) → every spaceCode codes ≡ true → every (soft glue) codes ≡ false → begins lineFeed (octets codes ++ rest) ≡ false
+    go [] b p = absurd (true≢false (sym (every-nil (soft glue)) ∙ p))
     go (c ∷ codes) b p =
         let s = encode-some c (space-characters (c ∷ codes) b .0) [] in
         let l = length-append (encode c) (octets codes) in
-        first (octets (c ∷ codes)) (omega (arith, ap length (joined-cons encode c codes))) (octets-feedless (spaceCode false) spaces-damage spaces-feed (c ∷ codes) b)
+        first (octets (c ∷ codes)) (omega (arith, ap length (joined-cons encode c codes))) (octets-feedless spaceCode spaces-damage spaces-feed (c ∷ codes) b)

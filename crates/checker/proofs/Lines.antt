@@ -9,11 +9,12 @@ use lib.ListN.{length}
 use Rattle.lists.specs.Runs.{begins, every, joined}
 use Rattle.lists.specs.Theorems.All.{All}
 use Rattle.lists.proofs.Parts.{every-append, joined-nil, joined-cons}
+use Rattle.text.specs.Theorems.Blanks.{Gap}
 use Rattle.records.specs.Word.{Word}
 use Rattle.lines.specs.Lines.{noFeed}
 use Rattle.output.specs.Emission.{lineFeed}
 use Rattle.output.specs.Theorems.Order.{laidOut, InOrder}
-use Rattle.checker.specs.Acceptable.{Gap, Cut, cutWords, cutBytes, LineOf, Carries, Then}
+use Rattle.checker.specs.Acceptable.{Cut, cutWords, cutBytes, LineOf, Carries, Then}
 use Rattle.checker.specs.Matching.{matchText, matchFeed, matchSpaced, matchNext, matchRest, matchWords}
 use Rattle.checker.proofs.Feeds.{Feedless}
 use Rattle.checker.proofs.Decides.{Language, Decides, Is, decides-text, decides-feed, decides-then, decides-either, decides-same}

@@ -1,31 +1,18 @@
 -- Document 02, P11: the digests that are acceptable for notes. Their plain and blank lines are those that document 01 emits, and each
 -- paragraph's lines carry its words once each, in order.
 use mathlib.Core.Path.{_≡_}
-use mathlib.Core.Bool.{Bool, true, false, _&&_}
+use mathlib.Core.Bool.{Bool}
 use mathlib.Core.List.{List, [], _∷_, _++_}
 use Prim.Native.Nat.{ℕ}
-use lib.Dec.{eqb}
-use Rattle.lists.specs.Runs.{every, joined}
+use Rattle.lists.specs.Runs.{joined}
 use Rattle.lists.specs.Theorems.All.{All}
-use Rattle.text.specs.Rfc3629.{encode}
-use Rattle.text.specs.Theorems.Blanks.{spaceCode}
+use Rattle.text.specs.Theorems.Blanks.{Gap}
 use Rattle.options.specs.Opts.{Opts}
 use Rattle.pieces.specs.Pieces.{Paragraph, Kind, Piece, blankLine, plainLine, paragraph, pieces}
 use Rattle.records.specs.Word.{Word}
 use Rattle.words.specs.Words.{wordsOf}
 use Rattle.output.specs.Emission.{lineFeed}
 use Rattle.output.specs.Theorems.Order.{InOrder}
-
--- With glue on, U+00A0 is a blank only beside another (P2): between two words, a gap of nothing else is none.
-abbrev pub glued : Bool → ℕ → Bool
-glued glue c = glue && eqb c 0xA0
-
--- what stands between two words of a line: blank characters, one or more, and no line feed; with glue on not U+00A0 alone
-pub record Gap (glue : Bool) (bytes : List ℕ) : Type 0 where
-  pub codes : List ℕ
-  pub blank : every (spaceCode false) codes ≡ true
-  pub parts : every (glued glue) codes ≡ false
-  pub octets : bytes ≡ joined encode codes
 
 -- a line of a digest: the words that it carries, and its bytes
 pub record Cut : Type 0 where
@@ -38,7 +25,8 @@ cutWords l = l .words
 abbrev pub cutBytes : Cut → List ℕ
 cutBytes l = l .bytes
 
--- every such line is its right indent, one or more words with at least one blank between two, and a line feed, with nothing else
+-- every such line is its right indent, one or more words with at least one blank between two, and a line feed, with nothing else. (`InOrder`
+-- says so of what stands between two words; `Gap` are blank characters, read by P2's rule.)
 abbrev pub LineOf : Bool → List ℕ → Cut → Type 0
 LineOf glue indent l = InOrder (Gap glue) indent (l .words) (l .bytes)
 

@@ -6,14 +6,13 @@ use Prim.Native.Nat.{ℕ, suc, _+_, _-_}
 use lib.Dec.{eqb, ltb, leb}
 use lib.ListN.{length, drop}
 use Rattle.lists.specs.Runs.{while, begins}
-use Rattle.text.specs.Characters.{Glyph, glyphs, extent}
+use Rattle.text.specs.Characters.{Glyph, characters, noBreak, extent}
 use Rattle.text.specs.Theorems.Blanks.{spaceCode}
 use Rattle.options.specs.Opts.{Opts}
 use Rattle.pieces.specs.Pieces.{Paragraph, Kind, Piece, blankLine, plainLine, paragraph, pieces}
 use Rattle.records.specs.Word.{Word}
 use Rattle.words.specs.Words.{wordsOf}
 use Rattle.output.specs.Emission.{lineFeed}
-use Rattle.checker.specs.Acceptable.{glued}
 
 pub data Match : Type 0 where
   -- what is left of the digest, and the line in which it begins
@@ -39,23 +38,24 @@ matchLine text xs n = andThen (matchText text xs n) matchFeed
 
 -- a blank character of a digest's line
 abbrev pub isSpace : Glyph → Bool
-isSpace g = spaceCode false (g .code)
+isSpace g = spaceCode (g .code)
 
 -- the blank characters at the front
 unfoldable pub spaces : List ℕ → List Glyph
-spaces xs = while isSpace (glyphs false xs)
+spaces xs = while isSpace (characters xs)
 
--- how many of their bytes a gap has at least: up to the last that is one by itself
+-- with glue on, U+00A0 parts words only beside another blank (P2)
+abbrev pub soft : Bool → ℕ → Bool
+soft glue c = glue && eqb c 0xA0
+
+-- how many of their bytes a gap has at least: up to the last that parts words by itself
 unfoldable pub parting : Bool → List Glyph → ℕ
 parting glue [] = 0
-parting glue (g ∷ gs) = cond (ltb 0 (parting glue gs) || not (glued glue (g .code))) (length (g .bytes) + parting glue gs) 0
+parting glue (g ∷ gs) = cond (ltb 0 (parting glue gs) || not (soft glue (g .code))) (length (g .bytes) + parting glue gs) 0
 
 -- the bytes of U+00A0 that a word begins with, which are the word's
-abbrev pub isNoBreak : Glyph → Bool
-isNoBreak g = eqb (g .code) 0xA0
-
 unfoldable pub lead : List ℕ → ℕ
-lead w = extent (while isNoBreak (glyphs false w))
+lead w = extent (while noBreak (characters w))
 
 -- the word behind a gap: it begins where the blanks end, or so much earlier as it has U+00A0 of its own in front
 unfoldable pub matchSpaced : Bool → List ℕ → List ℕ → ℕ → Match
