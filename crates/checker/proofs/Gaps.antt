@@ -50,7 +50,7 @@ gap-spaces glue bytes g = record { codes = g .codes; blank = g .blanks .blank; p
     go false e (c ∷ codes) o h = every-cons (soft false) c codes
 
 spaces-gap : (glue : Bool) (bytes : List ℕ) → Spaces glue bytes → Gap glue bytes
-spaces-gap glue bytes s = record { codes = s .codes; blanks = record { blank = s .blank; octets = s .octets }; some = some (s .codes) (s .blank) (s .parts) (s .octets); other = λ e. rw (← e) at (s .parts) }
+spaces-gap glue bytes s = record { codes = s .codes; blanks = record { blank = s .blank; octets = s .octets }; some = some (s .codes) (s .blank) (s .parts) (s .octets); other = λ e. rw e at (s .parts) }
   where
     some : (codes : List ℕ) → every spaceCode codes ≡ true → every (soft glue) codes ≡ false → bytes ≡ joined encode codes → 0 < length bytes
     some [] b p o = absurd (true≢false (sym (every-nil (soft glue)) ∙ p))

@@ -5,3 +5,5 @@ mod Gaps
 mod Lines
 mod Pieces
 mod Verdicts
+mod Fitting
+mod Spots
