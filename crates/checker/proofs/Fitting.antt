@@ -1,6 +1,6 @@
 -- The words of an undamaged line fit: behind any U+00A0 of its own in front a word has a character that is no blank. With glue on, an
 -- ordinary U+00A0 has ink behind it.
-use mathlib.Core.Path.{_≡_, refl, sym, ap, _∙_}
+use mathlib.Core.Path.{_≡_, refl, sym, ap, _∙_, subst⁻¹}
 use mathlib.Core.Bool.{Bool, true, false, cond, not, _&&_, false≢true, true≢false, and-eq-true-iff}
 use mathlib.Core.List.{List, [], _∷_, _++_, append-assoc}
 use mathlib.Core.Logic.{_⊎_, inl, inr}
@@ -52,9 +52,9 @@ characters-sound = characters-induct (λ ys gs. every isGood gs ≡ true → Fee
         let k = and-eq-true-iff (isGood (glyph ys)) (every isGood (characters (drop (b .n) ys))) .0 (rw every-cons at e) in
         let r = good-read ys (not-damaged (glyph ys .damaged) (k .0)) in
         let n : b .n ≡ length (encode (r .code)) = sym (b .count) ∙ ap (λ (g : Glyph). length (g .bytes)) (r .glyph-is) in
-        let s : drop (b .n) ys ≡ r .rest = rw n (ap (drop (length (encode (r .code)))) (r .octets) ∙ drop-append-seam (encode (r .code)) (r .rest)) in
+        let s : drop (b .n) ys ≡ r .rest = ap (λ (i : ℕ). drop i ys) n ∙ ap (drop (length (encode (r .code)))) (r .octets) ∙ drop-append-seam (encode (r .code)) (r .rest) in
         let h = and-eq-true-iff (every noFeed (encode (r .code))) (every noFeed (r .rest)) .0 (sym (every-append noFeed (encode (r .code)) (r .rest)) ∙ ap (every noFeed) (sym (r .octets)) ∙ f) in
-        (rw (r .glyph-is) (record { isCharacter = r .is; bytes-are = refl; isBlank = refl; feedless = h .0 }), rest (k .1) (rw s (h .1)))
+        (subst⁻¹ Sound (r .glyph-is) (record { isCharacter = r .is; bytes-are = refl; isBlank = refl; feedless = h .0 }), rest (k .1) (ap (every noFeed) s ∙ h .1))
 
 -- ---- the glyphs of a line
 

@@ -6,4 +6,7 @@ mod Lines
 mod Pieces
 mod Verdicts
 mod Fitting
+mod Notes
+mod Theorems
 mod Spots
+mod Scans

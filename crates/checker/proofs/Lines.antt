@@ -134,6 +134,37 @@ module _ (glue : Bool) (indent : List ℕ) where
             ∙ sym (append-assoc first (w .text ++ laidOut (t .separators) (t .here)) (joined cutBytes (t .others)));
       }
 
+  -- ---- so are words in order, with a gap or a line feed and the indent between two
+
+  order-rest : (separators : List (List ℕ)) (ws : List Word) → length ws ≡ length separators → All (λ s. Gap glue s ⊎ (s ≡ 10 ∷ indent)) separators → Rest glue indent ws (laidOut separators ws)
+  unfolding laidOut
+  order-rest [] [] m e = refl
+  order-rest (s ∷ separators) [] m e = absurd (omega arith)
+  order-rest [] (w ∷ ws) m e = absurd (omega arith)
+  order-rest (s ∷ separators) (w ∷ ws) m e = record {
+    part = s ++ w .text;
+    rest = laidOut separators ws;
+    bytes-are = sym (append-assoc s (w .text) (laidOut separators ws));
+    first = go (e .0);
+    second = order-rest separators ws (omega arith) (e .1);
+  }
+    where
+      go : Gap glue s ⊎ (s ≡ 10 ∷ indent) → Next glue indent (w .text) (s ++ w .text)
+      go (inl g) = inr (record { part = s; rest = w .text; bytes-are = refl; first = g; second = refl })
+      go (inr q) = inl (record { part = lineFeed; rest = indent ++ w .text; bytes-are = ap (λ (l : List ℕ). l ++ w .text) q; first = refl; second = refl })
+
+  pub order-carried : (first : List ℕ) (ws : List Word) (bytes : List ℕ) → InOrder (λ s. Gap glue s ⊎ (s ≡ 10 ∷ indent)) first ws bytes → Carries glue first indent ws bytes
+  unfolding laidOut
+  order-carried first [] bytes i = absurd (omega (arith, i .one-less))
+  order-carried first (w ∷ ws) bytes i =
+      words-carried first w ws bytes (record {
+        part = first ++ w .text;
+        rest = laidOut (i .separators) ws;
+        bytes-are = i .laid ∙ sym (append-assoc first (w .text) (laidOut (i .separators) ws));
+        first = refl;
+        second = order-rest (i .separators) ws (omega (arith, i .one-less)) (i .each);
+      })
+
   -- ---- and back
 
   -- what is left of a line, before words that begin a line

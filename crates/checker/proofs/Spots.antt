@@ -13,9 +13,9 @@ use Rattle.lists.proofs.Runs.{begins-append, begins-front, while-more, while-en
 use Rattle.lists.proofs.RunsAt.{begins-within}
 use Rattle.lists.proofs.Parts.{while-nil}
 use Rattle.lists.proofs.Views.{drop-here, drop-none}
-use Rattle.text.specs.Characters.{Glyph, glyph, characters, noBreak, blankCode, extent}
-use Rattle.text.specs.Theorems.Blanks.{spaceCode}
-use Rattle.text.proofs.Glyphs.{Here, characters-past}
+use Rattle.text.specs.Characters.{extent}
+
+use Rattle.text.proofs.Forms.{rest-is}
 use Rattle.output.specs.Emission.{lineFeed}
 use Rattle.checker.specs.Matching.{Match, on, fault, andThen, matchText, matchFeed, isSpace, spaces, soft, parting, lead, matchSpaced, matchNext}
 use Rattle.checker.specs.Contracts.Places.{SpotIn, matched, MatchedIn, Matches, GapAt}
@@ -39,11 +39,11 @@ module _ {digest : List ℕ} {m : Match} {r : Matched} (a : Matches digest m r) 
   pub on-in : {q : Spot} → r ≡ On q → SpotIn digest q
   on-in e = rw e at (a .inside)
 
-  pub then-fault : {f : List ℕ → ℕ → Match} {line : ℕ} → r ≡ Fault line → Matches digest (andThen m f) (Fault line)
-  then-fault {f} e = record { is = sym (ap (λ (x : Match). andThen x f) (fault-is e)); inside = fault-line e }
+  pub then-fault : (f : List ℕ → ℕ → Match) {line : ℕ} → r ≡ Fault line → Matches digest (andThen m f) (Fault line)
+  then-fault f e = record { is = sym (ap (λ (x : Match). andThen x f) (fault-is e)); inside = fault-line e }
 
-  pub then-on : {f : List ℕ → ℕ → Match} {q : Spot} {r′ : Matched} → r ≡ On q → Matches digest (f (drop (q .at) digest) (q .line)) r′ → Matches digest (andThen m f) r′
-  then-on {f} e b = record { is = b .is ∙ sym (ap (λ (x : Match). andThen x f) (on-is e)); inside = b .inside }
+  pub then-on : (f : List ℕ → ℕ → Match) {q : Spot} {r′ : Matched} → r ≡ On q → Matches digest (f (drop (q .at) digest) (q .line)) r′ → Matches digest (andThen m f) r′
+  then-on f e b = record { is = b .is ∙ sym (ap (λ (x : Match). andThen x f) (on-is e)); inside = b .inside }
 
 pub matches-same : {digest : List ℕ} {m m′ : Match} {r : Matched} → m ≡ m′ → Matches digest m r → Matches digest m′ r
 matches-same e a = record { is = a .is ∙ e; inside = a .inside }
@@ -98,3 +98,71 @@ module _ (digest : List ℕ) (p : Spot) (s : SpotIn digest p) where
   feed-on h k =
       let z : p .line + 1 ≡ suc (p .line) = omega arith in
       record { is = rw (drop-here 0 digest (p .at) h, k, z); inside = record { within = omega arith; line = omega (arith, s .line) } }
+
+-- ---- a gap
+
+pub soft-on : (glue : Bool) (c : ℕ) → glue ≡ true → eqb c 0xA0 ≡ soft glue c
+soft-on true c e = refl
+soft-on false c e = absurd (false≢true e)
+
+pub soft-off : (glue : Bool) (c : ℕ) → glue ≡ false → false ≡ soft glue c
+soft-off true c e = absurd (false≢true (sym e))
+soft-off false c e = refl
+
+-- spaces of a part of four
+pub spaces-part : (count : ℕ) → count ≤ 4 → take count (replicate {A = ℕ} 4 32) ≡ replicate count 32
+spaces-part 0 h = refl
+spaces-part 1 h = refl
+spaces-part 2 h = refl
+spaces-part 3 h = refl
+spaces-part 4 h = refl
+spaces-part (suc (suc (suc (suc (suc n))))) h = absurd (omega arith)
+
+module _ (glue : Bool) (w digest : List ℕ) (p : Spot) (s : SpotIn digest p) (g : Gap) (a : GapAt glue digest (p .at) g) where
+  -- too few blanks
+  pub spaced-short : g .hard ≤ p .at → Matches digest (matchSpaced glue w (drop (p .at) digest) (p .line)) (Fault (p .line))
+  unfolding matchSpaced
+  spaced-short h = record { is = rw (le-ltb 0 (parting glue (spaces (drop (p .at) digest))) (omega (arith, a .hard))); inside = omega (arith, s .within, s .line) }
+
+  module _ (own : ℕ) (o : own ≡ lead w) (h : p .at < g .hard) where
+    pub spaced-few : g .end - g .hard < own → Matches digest (matchSpaced glue w (drop (p .at) digest) (p .line)) (Fault (p .line))
+    unfolding matchSpaced
+    spaced-few k = record {
+      is = rw (lt-ltb 0 (parting glue (spaces (drop (p .at) digest))) (omega (arith, a .hard)), lt-leb (parting glue (spaces (drop (p .at) digest)) + lead w) (extent (spaces (drop (p .at) digest))) (omega (arith, a .hard, a .end, a .order)));
+      inside = omega (arith, s .within, s .line);
+    }
+
+    pub spaced-spot : own ≤ g .end - g .hard → SpotIn digest (record { at = g .end - own; line = p .line })
+    spaced-spot k = record { within = omega (arith, a .within); line = omega (arith, s .line, a .order) }
+
+    pub spaced-text : own ≤ g .end - g .hard → {r : Matched} → Matches digest (matchText w (drop (g .end - own) digest) (p .line)) r → Matches digest (matchSpaced glue w (drop (p .at) digest) (p .line)) r
+    unfolding matchSpaced
+    spaced-text k m =
+        let z : g .end - own ≡ p .at + (extent (spaces (drop (p .at) digest)) - lead w) = omega (arith, a .hard, a .end, a .order) in
+        let e : drop (extent (spaces (drop (p .at) digest)) - lead w) (drop (p .at) digest) ≡ drop (g .end - own) digest = drop-drop (extent (spaces (drop (p .at) digest)) - lead w) (p .at) digest ∙ ap (λ (i : ℕ). drop i digest) (sym z) in
+        matches-same (rw (lt-ltb 0 (parting glue (spaces (drop (p .at) digest))) (omega (arith, a .hard)), le-leb (parting glue (spaces (drop (p .at) digest)) + lead w) (extent (spaces (drop (p .at) digest))) (omega (arith, a .hard, a .end, a .order)), e)) m
+
+-- ---- the next word
+
+module _ (glue : Bool) (indent w digest : List ℕ) (p : Spot) {r : Matched} (a : Matches digest (matchFeed (drop (p .at) digest) (p .line)) r) where
+  pub next-fresh : {q : Spot} {r′ : Matched} → r ≡ On q → Matches digest (matchText (indent ++ w) (drop (q .at) digest) (q .line)) r′ → Matches digest (matchNext glue indent w (drop (p .at) digest) (p .line)) r′
+  unfolding matchNext matchFeed
+  next-fresh {q} {r′} e b = go (begins lineFeed (drop (p .at) digest)) refl (on-is a e)
+    where
+      go : (t : Bool) → begins lineFeed (drop (p .at) digest) ≡ t → cond (begins lineFeed (drop (p .at) digest)) (on (drop 1 (drop (p .at) digest)) (suc (p .line))) (fault (p .line)) ≡ on (drop (q .at) digest) (q .line)
+          → Matches digest (matchNext glue indent w (drop (p .at) digest) (p .line)) r′
+      go true t k = matches-same (rw t (sym (ap (λ (m : Match). andThen m (matchText (indent ++ w))) (rw t at k)))) b
+      go false t k = absurd (let q : fault (p .line) ≡ on (drop (q .at) digest) (q .line) = rw t at k in let z : _≡_ {A = ℕ} 0 1 = cc in omega arith)
+
+  pub next-spaced : {line : ℕ} {r′ : Matched} → r ≡ Fault line → Matches digest (matchSpaced glue w (drop (p .at) digest) (p .line)) r′ → Matches digest (matchNext glue indent w (drop (p .at) digest) (p .line)) r′
+  unfolding matchNext matchFeed
+  next-spaced {line} {r′} e b = go (begins lineFeed (drop (p .at) digest)) refl (fault-is a e)
+    where
+      go : (t : Bool) → begins lineFeed (drop (p .at) digest) ≡ t → cond (begins lineFeed (drop (p .at) digest)) (on (drop 1 (drop (p .at) digest)) (suc (p .line))) (fault (p .line)) ≡ fault line
+          → Matches digest (matchNext glue indent w (drop (p .at) digest) (p .line)) r′
+      go true t k = absurd (let q : on (drop 1 (drop (p .at) digest)) (suc (p .line)) ≡ fault line = rw t at k in let z : _≡_ {A = ℕ} 0 1 = cc in omega arith)
+      go false t k = matches-same (rw t) b
+
+-- what the code lends of a digest is all of it from a place on
+pub part-begins : (text s : List ℕ) (at : ℕ) (b : Bool) → begins text (take (length s - at) (drop at s)) ≡ b → begins text (drop at s) ≡ b
+part-begins text s at b e = ap (begins text) (sym (rest-is s at)) ∙ e

@@ -107,10 +107,10 @@ fn match_next(
     requires { ⌜ MarginFits (now notes) indent × SpotIn (now digest) p ⌝ }
     ensures { λ r. ⌜ Matches (now (digest .entry)) (matchNext glue (marginOf (now (notes .entry)) indent) (now (word .entry)) (drop (p .at) (now (digest .entry))) (p .line)) r ⌝ }
 {
-    let Matched::On(q) = match_feed(digest, p) else {
-        return match_spaced(word, glue, digest, p);
-    };
-    match_behind(word, notes, indent, digest, q)
+    match match_feed(digest, p) {
+        Matched::On(q) => match_behind(word, notes, indent, digest, q),
+        Matched::Fault(_) => match_spaced(word, glue, digest, p),
+    }
 }
 
 // A word behind an indent.
@@ -142,7 +142,7 @@ fn match_spaces(count: usize, digest: &[u8], p: Spot) -> Matched
     requires { ⌜ (count ≤ 4) × SpotIn (now digest) p ⌝ }
     ensures { λ r. ⌜ Matches (now (digest .entry)) (matchText (replicate count 32) (drop (p .at) (now (digest .entry))) (p .line)) r ⌝ }
 {
-    let spaces = b"    ";
+    let spaces = [32u8; 4];
     match_text(&spaces[..count], digest, p)
 }
 
