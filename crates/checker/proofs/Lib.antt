@@ -2,11 +2,13 @@ mod Feeds
 mod Decides
 mod Codes
 mod Gaps
-mod Lines
+pub mod Lines
 mod Pieces
 mod Verdicts
 mod Fitting
 mod Notes
-mod Theorems
+pub mod Theorems
 mod Spots
 mod Scans
+mod Rests
+pub mod Unique

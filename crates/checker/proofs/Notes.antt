@@ -1,5 +1,5 @@
 -- The pieces of notes fit: no line feed stands in a plain line or an indent, and a paragraph's words are those of undamaged lines.
-use mathlib.Core.Path.{_≡_, refl, sym, ap, _∙_}
+use mathlib.Core.Path.{_≡_, refl, sym, ap, _∙_, subst⁻¹}
 use mathlib.Core.Bool.{Bool, true, false, cond, _&&_, _||_, and-eq-true-iff}
 use mathlib.Core.List.{List, [], _∷_, _++_, map}
 use Prim.Native.Nat.{ℕ, zero, suc, _<_}
@@ -60,7 +60,7 @@ second-good : (o : Opts) (a : Shape) (ls : List Line) (s : Second) → secondOf 
 second-good o a ls alone e = tt
 second-good o a ls (joins text b) e =
     let s = second-is o a ls text b e in
-    rw (s .are) (formatted-good o (s .head .text) b (ap (classify o) (s .is) ∙ s .formatted), follow-good o (agrees b) (s .tail))
+    subst⁻¹ (λ (xs : List Line). All (LineGood o) (take (suc (follow o (agrees b) (drop 1 xs))) xs)) (s .are) (formatted-good o (s .head .text) b (ap (classify o) (s .is) ∙ s .formatted), follow-good o (agrees b) (s .tail))
 
 further-good : (o : Opts) (mail : Bool) (a : Shape) (ls : List Line) → All (LineGood o) (take (further o mail a ls) ls)
 unfolding further
@@ -130,12 +130,13 @@ next-fits o nextMail (l ∷ ls) h f = go (classify o (l .text)) refl
         let n = further o mail s ls in
         let taken = l ∷ take n ls in
         let feedless : All LineFeedless taken = (f .0, all-take LineFeedless n ls (f .1)) in
-        let rows : Rows o taken _ = record { rows = refl; feedless = feedless; head = l; tail = take n ls; begin = refl; shape = s; formatted = e } in
+        let p : Paragraph = record { mail = mail; first = firstIndent mail (l .text) s; indent = indentFor o mail (l .text) s ls; rows = map (rowOf o) taken } in
+        let rows : Rows o taken p = record { rows = refl; feedless = feedless; head = l; tail = take n ls; begin = refl; shape = s; formatted = e } in
         record {
           first = first-feedless mail (l .text) s (f .0);
           indent = indent-feedless o mail (l .text) s ls (f .0) (f .1);
           words = all-joined (rowWords o mail) _ (map (rowOf o) taken) (all-map _ (rowOf o) taken (row-words o mail taken (formatted-good o (l .text) s e, further-good o mail s ls) feedless));
-          some = paragraph-some o taken _ rows;
+          some = paragraph-some o taken p rows;
         }
 
 pub pieces-fit : (o : Opts) (notes : List ℕ) → All (PieceFits o) (pieces o notes)

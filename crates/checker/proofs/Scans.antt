@@ -45,13 +45,13 @@ module _ (s : List ℕ) (at : ℕ) where
 
   -- a character that is no blank is none of a kind of blanks
   no-blank-none : (test : ℕ → Bool) → ((c : ℕ) → blankCode c ≡ false → test c ≡ false) → glyph (drop at s) .blank ≡ false → while (λ g. test (g .code)) (characters (drop at s)) ≡ []
-  no-blank-none test no b = go (ltb at (length s)) refl
+  no-blank-none test none b = go (ltb at (length s)) refl
     where
       go : (t : Bool) → ltb at (length s) ≡ t → while (λ g. test (g .code)) (characters (drop at s)) ≡ []
       go true k =
           let l = length-drop at s in
-          let r = glyph-read (drop at s) (omega (arith, ltb-true _ _ k)) in
-          first-none (λ g. test (g .code)) (no (glyph (drop at s) .code) (r .isBlank ∙ b))
+          let r = glyph-read (drop at s) (omega (arith, ltb-true at (length s) k)) in
+          first-none (λ g. test (g .code)) (none (glyph (drop at s) .code) (r .isBlank ∙ b))
       go false k = past-none (λ g. test (g .code)) (ltb-false at (length s) k)
 
   pub spaces-ink : glyph (drop at s) .blank ≡ false → spaces (drop at s) ≡ []
@@ -113,13 +113,13 @@ module _ (glue : Bool) (s : List ℕ) (at : ℕ) where
           → cond (ltb 0 (parting glue (spaces (drop next s)))) (next + parting glue (spaces (drop next s))) (r .hard) ≡ at + parting glue (spaces (drop at s))
       go true u et eu w q =
           let x : parting glue (spaces (drop (g .end) s)) ≡ length (glyph (drop (g .end) s) .bytes) + parting glue (spaces (drop next s)) = w ∙ ap (λ (b : Bool). cond (b || not (soft glue code)) (length (glyph (drop (g .end) s) .bytes) + parting glue (spaces (drop next s))) 0) et in
-          let y : ltb 0 (parting glue (spaces (drop (g .end) s))) ≡ true = lt-ltb 0 _ (omega (arith, ltb-true _ _ et)) in
+          let y : ltb 0 (parting glue (spaces (drop (g .end) s))) ≡ true = lt-ltb 0 (parting glue (spaces (drop (g .end) s))) (omega (arith, ltb-true 0 (parting glue (spaces (drop next s))) et)) in
           let z : g .end + parting glue (spaces (drop (g .end) s)) ≡ at + parting glue (spaces (drop at s)) = rw y at (l .hard) in
           rw et (omega (arith, h .on, h .count))
       go false false et eu w q =
           let v = ltb-false 0 (parting glue (spaces (drop next s))) et in
           let x : parting glue (spaces (drop (g .end) s)) ≡ length (glyph (drop (g .end) s) .bytes) + parting glue (spaces (drop next s)) = w ∙ rw (et, eu) in
-          let y : ltb 0 (parting glue (spaces (drop (g .end) s))) ≡ true = lt-ltb 0 _ (omega (arith, h .on, h .count)) in
+          let y : ltb 0 (parting glue (spaces (drop (g .end) s))) ≡ true = lt-ltb 0 (parting glue (spaces (drop (g .end) s))) (omega (arith, h .on, h .count)) in
           let z : g .end + parting glue (spaces (drop (g .end) s)) ≡ at + parting glue (spaces (drop at s)) = rw y at (l .hard) in
           let d : r .hard ≡ next = q ∙ rw eu in
           rw et (omega (arith, h .on, h .count))
@@ -163,3 +163,11 @@ module _ (word : List ℕ) where
         let e : noBreak (glyph (drop i word)) ≡ true = ap (λ (c : ℕ). eqb c 0xA0) (h .hasCode ∙ k) in
         let m = ap (while noBreak) (h .first) ∙ while-more noBreak (glyph (drop i word)) (characters (drop next word)) e in
         record { is = omega (arith, h .on, h .count, ap extent m, l .is); within = h .within }
+
+-- a blank whose number is a line feed's
+pub feed : {s : List ℕ} {at code next : ℕ} → code ≡ 10 → Here true s at code next → Here true s at 10 next
+feed e h = rw e at h
+
+-- whether a blank is soft, as the code has found
+pub soften : (a b : ℕ) {x y : Bool} → x ≡ y → cond x a b ≡ cond y a b
+soften a b e = ap (λ (t : Bool). cond t a b) e

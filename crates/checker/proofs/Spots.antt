@@ -6,7 +6,8 @@ use Prim.Native.Nat.{ℕ, zero, suc, _+_, _-_, _≤_, _<_}
 use native.Mathlib.Omega.{arith}
 use lib.Dec.{eqb, ltb, leb}
 use lib.ListN.{length, getD, take, drop, replicate, length-drop, length-append}
-use lib.Seq.{drop-drop, drop-append-seam}
+use lib.Seq.{slice, drop-drop, length-take-le}
+use Rattle.lists.proofs.Slices.{slice-is}
 use borrow.Author.Tests.{eqb-true, eq-eqb, ne-eqb, lt-ltb, le-ltb, le-leb, lt-leb, ltb-true}
 use Rattle.lists.specs.Runs.{while, begins}
 use Rattle.lists.proofs.Runs.{begins-append, begins-front, while-more, while-end}
@@ -82,6 +83,20 @@ text-append a b xs n = go (begins a xs) refl
     go true e = rw (e, begins-parts a b xs, e, drop-drop (length b) (length a) xs, length-append a b)
     go false e = rw (e, begins-parts a b xs, e)
 
+module _ (a b digest : List ℕ) (p : Spot) {r : Matched} (m : Matches digest (matchText a (drop (p .at) digest) (p .line)) r) where
+  pub append-fault : {line : ℕ} → r ≡ Fault line → Matches digest (matchText (a ++ b) (drop (p .at) digest) (p .line)) (Fault line)
+  append-fault e = matches-same (text-append a b (drop (p .at) digest) (p .line)) (then-fault m (matchText b) e)
+
+  pub append-on : {q : Spot} {r′ : Matched} → r ≡ On q → Matches digest (matchText b (drop (q .at) digest) (q .line)) r′ → Matches digest (matchText (a ++ b) (drop (p .at) digest) (p .line)) r′
+  append-on e n = matches-same (text-append a b (drop (p .at) digest) (p .line)) (then-on m (matchText b) e n)
+
+-- what the code lends of the notes
+pub part-slice : (a b : ℕ) (s : List ℕ) → a ≤ b → take (b - a) (drop a s) ≡ slice a b s
+part-slice a b s h = let z : a + (b - a) ≡ b = omega arith in sym (slice-is a (b - a) s) ∙ ap (λ (i : ℕ). slice a i s) z
+
+pub part-text : (a b : ℕ) (s digest : List ℕ) (p : Spot) {r : Matched} → a ≤ b → Matches digest (matchText (take (b - a) (drop a s)) (drop (p .at) digest) (p .line)) r → Matches digest (matchText (slice a b s) (drop (p .at) digest) (p .line)) r
+part-text a b s digest p h m = matches-same (ap (λ (t : List ℕ). matchText t (drop (p .at) digest) (p .line)) (part-slice a b s h)) m
+
 -- ---- a line feed
 
 module _ (digest : List ℕ) (p : Spot) (s : SpotIn digest p) where
@@ -111,12 +126,15 @@ soft-off false c e = refl
 
 -- spaces of a part of four
 pub spaces-part : (count : ℕ) → count ≤ 4 → take count (replicate {A = ℕ} 4 32) ≡ replicate count 32
-spaces-part 0 h = refl
-spaces-part 1 h = refl
-spaces-part 2 h = refl
-spaces-part 3 h = refl
-spaces-part 4 h = refl
+spaces-part zero h = refl
+spaces-part (suc zero) h = refl
+spaces-part (suc (suc zero)) h = refl
+spaces-part (suc (suc (suc zero))) h = refl
+spaces-part (suc (suc (suc (suc zero)))) h = refl
 spaces-part (suc (suc (suc (suc (suc n))))) h = absurd (omega arith)
+
+pub spaces-count : (count : ℕ) → count ≤ 4 → count ≡ length (take count (replicate {A = ℕ} 4 32))
+spaces-count count h = sym (length-take-le count (replicate {A = ℕ} 4 32) h)
 
 module _ (glue : Bool) (w digest : List ℕ) (p : Spot) (s : SpotIn digest p) (g : Gap) (a : GapAt glue digest (p .at) g) where
   -- too few blanks

@@ -4,10 +4,10 @@ use Rattle.checker.proofs.is_soft.Statement.{statement}
 use Rattle.checker.proofs.is_soft.Tie as tie
 
 returns : tie.Need-returns
-returns c = soft-on _ _ (c .if1 .taken)
+returns c = soft-on (c .before .args .glue) (c .before .args .code) (c .if1 .taken)
 
 returns-2 : tie.Need-returns-2
-returns-2 c = soft-off _ _ (c .if1 .left)
+returns-2 c = soft-off (c .before .args .glue) (c .before .args .code) (c .if1 .left)
 
 pub is-soft-spec : {M : Type 1} → statement M
 is-soft-spec =
