@@ -1,26 +1,26 @@
 -- A text that begins with characters of a kind, as their numbers and what is behind them: by their octets, by the text's glyphs, and before
 -- a line feed, behind which nothing matters.
-use mathlib.Core.Path.{_≡_, refl, sym, ap, ap₂, _∙_}
+use mathlib.Core.Path.{_≡_, refl, sym, ap, _∙_}
 use mathlib.Core.Bool.{Bool, true, false, cond, not, _&&_, _||_, false≢true, true≢false, and-eq-true-iff}
 use mathlib.Core.List.{List, [], _∷_, _++_, append-assoc, map}
-use Prim.Native.Nat.{ℕ, suc, _+_, _*_, _/_, _%_, _≤_, _<_}
+use Prim.Native.Nat.{ℕ, _+_, _/_, _%_, _≤_, _<_}
 use native.Mathlib.Omega.{arith}
 use lib.Dec.{T, eqb, ltb, leb}
 use lib.ListN.{length, take, drop, length-append}
 use lib.Seq.{take-append-seam, drop-append-seam}
-use borrow.Author.Tests.{eqb-true, eq-eqb, ne-eqb, leb-true, le-leb, lt-leb}
+use borrow.Author.Tests.{eqb-true, ne-eqb, leb-true, le-leb}
 use Rattle.lists.specs.Runs.{while, every, joined}
 use Rattle.lists.specs.Theorems.All.{All}
 use Rattle.lists.proofs.Runs.{while-more, while-end}
 use Rattle.lists.proofs.Parts.{every-nil, every-cons, every-append, joined-nil, joined-cons, while-nil}
 use Rattle.lines.specs.Lines.{noFeed}
-use Rattle.text.specs.Rfc3629.{Front, front, nothing, scalar, encode, StandsFirst}
+use Rattle.text.specs.Rfc3629.{Front, front, nothing, scalar, encode}
 use Rattle.text.specs.Characters.{accepted, character, blankCode, widthOf, Glyph, glyphAs, glyph, characters, extent}
 use Rattle.text.specs.Theorems.Blanks.{spaceCode}
-use Rattle.text.proofs.Decoder.{Scalar, scalar-true, complete, Decoded}
+use Rattle.text.proofs.Decoder.{scalar-true, complete}
 use Rattle.text.proofs.Places.{accepted-front}
 use Rattle.text.proofs.Glyphs.{Bytes, characters-first, characters-induct}
-use Rattle.checker.proofs.Feeds.{Feedless, Inside, feedless-inside}
+use Rattle.checker.proofs.Feeds.{Feedless, feedless-inside}
 
 -- a number that is an accepted character's
 pub record Character (c : ℕ) : Type 0 where
@@ -201,7 +201,7 @@ module _ (kind : ℕ → Bool) (no-damage : kind 0xFFFD ≡ false) (no-feed : ki
               let f = feedless-inside (encode c) (octets codes ++ b .rest) left others (encode-feedless c (kind-other c (k .0))) o in
               let z : left ++ 10 ∷ below ≡ encode c ++ (f .left ++ 10 ∷ below) = ap (λ (l : List ℕ). l ++ 10 ∷ below) (f .body-is) ∙ append-assoc (encode c) (f .left) (10 ∷ below) in
               let w : glyphOf c ∷ while ofKind (characters (f .left ++ 10 ∷ below)) ≡ [] =
-                  sym (while-more ofKind (glyphOf c) (characters (f .left ++ 10 ∷ below)) (k .0)) ∙ ap (while ofKind) (sym (glyphs-here c (a .0) (f .left ++ 10 ∷ below)) ∙ ap (characters) (sym z)) ∙ s in
+              sym (while-more ofKind (glyphOf c) (characters (f .left ++ 10 ∷ below)) (k .0)) ∙ ap (while ofKind) (sym (glyphs-here c (a .0) (f .left ++ 10 ∷ below)) ∙ ap (characters) (sym z)) ∙ s in
               absurd (let q : _≡_ {A = ℕ} 0 1 = cc in omega arith)
 
 -- ---- blanks

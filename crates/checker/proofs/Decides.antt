@@ -2,7 +2,7 @@
 -- can be continued to a part of the language, and no digest with the same lines up to that one is matched. Matchers one behind the other, and
 -- one of two by whether a line feed stands in front, decide what their languages come to.
 use mathlib.Core.Path.{_≡_, refl, sym, ap, _∙_}
-use mathlib.Core.Bool.{Bool, true, false, cond, false≢true}
+use mathlib.Core.Bool.{Bool, true, false, cond}
 use mathlib.Core.List.{List, [], _∷_, _++_, append-assoc}
 use mathlib.Core.Logic.{_⊎_, inl, inr}
 use Prim.Native.Nat.{ℕ, suc, _+_}

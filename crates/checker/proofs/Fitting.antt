@@ -4,7 +4,7 @@ use mathlib.Core.Path.{_≡_, refl, sym, ap, _∙_, subst⁻¹}
 use mathlib.Core.Bool.{Bool, true, false, cond, not, _&&_, false≢true, true≢false, and-eq-true-iff}
 use mathlib.Core.List.{List, [], _∷_, _++_, append-assoc}
 use mathlib.Core.Logic.{_⊎_, inl, inr}
-use Prim.Native.Nat.{ℕ, zero, suc, _+_, _-_, _<_}
+use Prim.Native.Nat.{ℕ, zero, suc, _+_, _-_}
 use native.Mathlib.Omega.{arith}
 use lib.Dec.{eqb}
 use lib.ListN.{length, drop, replicate}
@@ -28,7 +28,7 @@ use Rattle.pieces.specs.Pieces.{Row}
 use Rattle.records.specs.Word.{Word}
 use Rattle.words.specs.Words.{Run, isInk, runOf, runs, glyphBytes, bytesOf, punctAtEnd, counting, wordOf, lineWords, mailWord, mailWords, rowWords}
 use Rattle.checker.proofs.Feeds.{Feedless}
-use Rattle.checker.proofs.Codes.{Character, glyphOf, octets, good-read}
+use Rattle.checker.proofs.Codes.{Character, octets, good-read}
 use Rattle.checker.proofs.Gaps.{Fits}
 
 -- ---- the characters of an undamaged text

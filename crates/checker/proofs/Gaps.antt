@@ -1,25 +1,25 @@
 -- A word behind a gap: what is matched is a gap and the word, wherever the word is one that notes can have.
 use mathlib.Core.Path.{_≡_, refl, sym, ap, ap₂, _∙_}
 use mathlib.Core.Bool.{Bool, true, false, cond, not, _&&_, _||_, false≢true, true≢false, and-eq-true-iff}
-use mathlib.Core.List.{List, [], _∷_, _++_, append-assoc, append-nil, map}
+use mathlib.Core.List.{List, [], _∷_, _++_, append-assoc, map}
 use Prim.Native.Nat.{ℕ, zero, suc, _+_, _-_, _≤_, _<_}
 use native.Mathlib.Omega.{arith}
-use lib.Dec.{T, eqb, ltb, leb}
-use lib.ListN.{length, take, drop, replicate, length-append}
-use lib.Seq.{take-append-seam, drop-append-seam, drop-append-le}
-use borrow.Author.Tests.{eqb-true, ltb-true, ltb-false, lt-ltb, le-ltb, leb-true, le-leb}
+use lib.Dec.{eqb, ltb, leb}
+use lib.ListN.{length, drop, replicate, length-append}
+use lib.Seq.{drop-append-seam, drop-append-le}
+use borrow.Author.Tests.{eqb-true, ltb-true, ltb-false, lt-ltb, leb-true, le-leb}
 use Rattle.lists.specs.Runs.{while, every, joined, begins}
 use Rattle.lists.specs.Theorems.All.{All}
 use Rattle.lists.proofs.Parts.{every-nil, every-cons, every-append, joined-nil, joined-cons, joined-append}
-use Rattle.lists.proofs.All.{all-front, all-append}
+use Rattle.lists.proofs.All.{all-front}
 use Rattle.text.specs.Rfc3629.{encode}
-use Rattle.text.specs.Characters.{Glyph, blankCode, characters, noBreak, extent}
+use Rattle.text.specs.Characters.{Glyph, blankCode, characters, extent}
 use Rattle.text.specs.Theorems.Blanks.{spaceCode, Gap}
 use Rattle.output.specs.Emission.{lineFeed}
 use Rattle.checker.specs.Acceptable.{Then}
 use Rattle.checker.specs.Named.{feeds}
-use Rattle.checker.specs.Matching.{Match, on, fault, matchText, isSpace, spaces, soft, parting, lead, matchSpaced}
-use Rattle.checker.proofs.Feeds.{Feedless, Inside, feedless-inside, feedless-first, feeds-nil, feeds-append, feedless-feeds, begins-feed}
+use Rattle.checker.specs.Matching.{on, fault, matchText, isSpace, spaces, soft, parting, lead, matchSpaced}
+use Rattle.checker.proofs.Feeds.{Feedless, feedless-inside, feedless-first, feeds-nil, feeds-append, feedless-feeds, begins-feed}
 use Rattle.checker.proofs.Decides.{Language, Took, Faults, Decides, Is, on-fault, decides-text, decides-same}
 use Rattle.checker.proofs.Codes.{Character, encode-some, glyphOf, octets, extent-codes, Begins, begins-of, kind-glyphs, other-stops, octets-feedless, stops-before, space-characters, no-break-space, space-space, space-octets}
 
@@ -259,18 +259,17 @@ module _ (glue : Bool) (w : List ℕ) (f : Fits glue w) where
       let k = f .count in
       let j = p .back in
       let size : length (octets codes) ≡ length (octets (p .front)) + length (octets (replicate j 0xA0)) =
-          ap (λ (l : List ℕ). length (octets l)) (p .are) ∙ ap length (joined-append encode (p .front) (replicate j 0xA0)) ∙ length-append (octets (p .front)) (octets (replicate j 0xA0)) in
+      ap (λ (l : List ℕ). length (octets l)) (p .are) ∙ ap length (joined-append encode (p .front) (replicate j 0xA0)) ∙ length-append (octets (p .front)) (octets (replicate j 0xA0)) in
       let few : k ≤ j = shorter k j (omega (arith, p .size)) in
       let cut : replicate {A = ℕ} j 0xA0 ≡ replicate (j - k) 0xA0 ++ replicate k 0xA0 = let z : j ≡ (j - k) + k = omega arith in ap (λ (i : ℕ). replicate {A = ℕ} i 0xA0) z ∙ replicate-add (j - k) k 0xA0 in
       let codes-are : codes ≡ (p .front ++ replicate (j - k) 0xA0) ++ replicate k 0xA0 =
-          p .are ∙ ap (λ (l : List ℕ). p .front ++ l) cut ∙ sym (append-assoc (p .front) (replicate (j - k) 0xA0) (replicate k 0xA0)) in
+      p .are ∙ ap (λ (l : List ℕ). p .front ++ l) cut ∙ sym (append-assoc (p .front) (replicate (j - k) 0xA0) (replicate k 0xA0)) in
       let gap = octets (p .front ++ replicate (j - k) 0xA0) in
       let bytes : octets codes ≡ gap ++ octets (replicate k 0xA0) = ap octets codes-are ∙ joined-append encode (p .front ++ replicate (j - k) 0xA0) (replicate k 0xA0) in
       let all : xs ≡ gap ++ (octets (replicate k 0xA0) ++ left) = x ∙ ap (λ (l : List ℕ). l ++ left) bytes ∙ append-assoc gap (octets (replicate k 0xA0)) left in
       let start : length (octets codes) - length (octets (replicate k 0xA0)) ≡ length gap = omega (arith, ap length bytes ∙ length-append gap (octets (replicate k 0xA0))) in
       let rest : drop (length (octets codes) - length (octets (replicate k 0xA0))) xs ≡ octets (replicate k 0xA0) ++ left = rw (start, all) (drop-append-seam gap (octets (replicate k 0xA0) ++ left)) in
-      let spaced = and-eq-true-iff (every spaceCode (p .front)) (every spaceCode (replicate j 0xA0)) .0 (sym (every-append spaceCode (p .front) (replicate j 0xA0)) ∙ ap (every spaceCode) (sym (p .are)) ∙ e) in
-      (
+      let spaced = and-eq-true-iff (every spaceCode (p .front)) (every spaceCode (replicate j 0xA0)) .0 (sym (every-append spaceCode (p .front) (replicate j 0xA0)) ∙ ap (every spaceCode) (sym (p .are)) ∙ e) in (
         gap,
         record {
           codes = p .front ++ replicate (j - k) 0xA0;
@@ -278,7 +277,7 @@ module _ (glue : Bool) (w : List ℕ) (f : Fits glue w) where
           parts = rw (every-append (soft glue) (p .front) (replicate (j - k) 0xA0), p .some some);
           octets = refl;
         },
-        all ∙ ap (λ (l : List ℕ). gap ++ l) (sym rest)
+        all ∙ ap (λ (l : List ℕ). gap ++ l) (sym rest),
       )
 
   spaced-found : (xs : List ℕ) (n : ℕ) (rest : List ℕ) (m : ℕ) → matchSpaced glue w xs n ≡ on rest m → Took Behind xs n rest m
@@ -316,23 +315,23 @@ module _ (glue : Bool) (w : List ℕ) (f : Fits glue w) where
       let codes = g .codes ++ replicate k 0xA0 in
       let behind = encode (f .ink) ++ (f .tail ++ rest) in
       let w-rest : w ++ rest ≡ octets (replicate k 0xA0) ++ behind =
-          ap (λ (l : List ℕ). l ++ rest) (f .is) ∙ append-assoc (octets (replicate k 0xA0)) (encode (f .ink) ++ f .tail) rest ∙ ap (λ (l : List ℕ). octets (replicate k 0xA0) ++ l) (append-assoc (encode (f .ink)) (f .tail) rest) in
+      ap (λ (l : List ℕ). l ++ rest) (f .is) ∙ append-assoc (octets (replicate k 0xA0)) (encode (f .ink) ++ f .tail) rest ∙ ap (λ (l : List ℕ). octets (replicate k 0xA0) ++ l) (append-assoc (encode (f .ink)) (f .tail) rest) in
       let xs-w : part ++ rest ≡ octets (g .codes) ++ (w ++ rest) =
-          ap (λ (l : List ℕ). l ++ rest) (t .bytes-are ∙ ap₂ (λ (l r : List ℕ). l ++ r) (g .octets) (t .second)) ∙ append-assoc (octets (g .codes)) w rest in
+      ap (λ (l : List ℕ). l ++ rest) (t .bytes-are ∙ ap₂ (λ (l r : List ℕ). l ++ r) (g .octets) (t .second)) ∙ append-assoc (octets (g .codes)) w rest in
       let xs-is : part ++ rest ≡ octets codes ++ behind =
-          xs-w ∙ ap (λ (l : List ℕ). octets (g .codes) ++ l) w-rest ∙ sym (append-assoc (octets (g .codes)) (octets (replicate k 0xA0)) behind) ∙ ap (λ (l : List ℕ). l ++ behind) (sym (joined-append encode (g .codes) (replicate k 0xA0))) in
+      xs-w ∙ ap (λ (l : List ℕ). octets (g .codes) ++ l) w-rest ∙ sym (append-assoc (octets (g .codes)) (octets (replicate k 0xA0)) behind) ∙ ap (λ (l : List ℕ). l ++ behind) (sym (joined-append encode (g .codes) (replicate k 0xA0))) in
       let blank : every spaceCode codes ≡ true = rw (every-append spaceCode (g .codes) (replicate k 0xA0), g .blank, no-breaks k .0) in
       let stop = other-stops spaceCode spaces-damage spaces-feed (f .ink) (f .tail ++ rest) (f .isCharacter) (rw (f .isInk)) in
       let gs : spaces (part ++ rest) ≡ map glyphOf codes = found (part ++ rest) codes behind xs-is blank stop in
       let some : 0 < parting glue (map glyphOf codes) = rw (map-append (g .codes) (replicate k 0xA0)) (parting-some glue (g .codes) (map glyphOf (replicate k 0xA0)) (space-characters (g .codes) (g .blank)) (g .parts)) in
       let least : parting glue (map glyphOf codes) ≤ extent (map glyphOf (g .codes)) = rw (map-append (g .codes) (replicate k 0xA0)) (parting-least glue (map glyphOf (g .codes)) (map glyphOf (replicate k 0xA0)) (no-breaks-part glue k (f .none))) in
       let size : extent (map glyphOf codes) ≡ extent (map glyphOf (g .codes)) + lead w =
-          rw (extent-codes codes, joined-append encode (g .codes) (replicate k 0xA0), length-append (octets (g .codes)) (octets (replicate k 0xA0)), extent-codes (g .codes), lead-is) in
+      rw (extent-codes codes, joined-append encode (g .codes) (replicate k 0xA0), length-append (octets (g .codes)) (octets (replicate k 0xA0)), extent-codes (g .codes), lead-is) in
       let start : extent (map glyphOf codes) - lead w ≡ length (octets (g .codes)) = let z = extent-codes (g .codes) in omega arith in
       let place : drop (extent (map glyphOf codes) - lead w) (part ++ rest) ≡ w ++ rest = rw (start, xs-w) (drop-append-seam (octets (g .codes)) (w ++ rest)) in
       let line : n + feeds w ≡ n + feeds part =
-          let z = feedless-feeds (octets (g .codes)) (octets-feedless spaceCode spaces-damage spaces-feed (g .codes) (g .blank)) in
-          omega (arith, ap feeds (t .bytes-are) ∙ feeds-append (t .part) (t .rest), ap feeds (g .octets), ap feeds (t .second)) in
+      let z = feedless-feeds (octets (g .codes)) (octets-feedless spaceCode spaces-damage spaces-feed (g .codes) (g .blank)) in
+      omega (arith, ap feeds (t .bytes-are) ∙ feeds-append (t .part) (t .rest), ap feeds (g .octets), ap feeds (t .second)) in
       spaced-as (part ++ rest) n (map glyphOf codes) gs
       ∙ rw (lt-ltb 0 (parting glue (map glyphOf codes)) some, le-leb (parting glue (map glyphOf codes) + lead w) (extent (map glyphOf codes)) (omega arith), place) (decides-text w (f .feedless) .finds w rest n refl)
       ∙ ap (on rest) line

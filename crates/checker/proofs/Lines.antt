@@ -1,17 +1,16 @@
 -- A paragraph's lines: words one behind the other, each behind a gap or on a line of its own, are the words cut into lines.
 use mathlib.Core.Path.{_≡_, refl, sym, ap, ap₂, _∙_}
-use mathlib.Core.Bool.{Bool, true, false}
-use mathlib.Core.List.{List, [], _∷_, _++_, append-assoc, append-nil}
+use mathlib.Core.Bool.{Bool}
+use mathlib.Core.List.{List, [], _∷_, _++_, append-assoc}
 use mathlib.Core.Logic.{_⊎_, inl, inr}
 use Prim.Native.Nat.{ℕ, suc, _<_}
 use native.Mathlib.Omega.{arith}
 use lib.ListN.{length}
-use Rattle.lists.specs.Runs.{begins, every, joined}
+use Rattle.lists.specs.Runs.{begins, joined}
 use Rattle.lists.specs.Theorems.All.{All}
 use Rattle.lists.proofs.Parts.{every-append, joined-nil, joined-cons}
 use Rattle.text.specs.Theorems.Blanks.{Gap}
 use Rattle.records.specs.Word.{Word}
-use Rattle.lines.specs.Lines.{noFeed}
 use Rattle.output.specs.Emission.{lineFeed}
 use Rattle.output.specs.Theorems.Order.{laidOut, InOrder}
 use Rattle.checker.specs.Acceptable.{Cut, cutWords, cutBytes, LineOf, Carries, Then}
@@ -100,11 +99,11 @@ module _ (glue : Bool) (indent : List ℕ) where
         words-are = ap (λ (l : List Word). w ∷ l) (t .words-are) ∙ sym (joined-cons cutWords cut (t .others));
         bytes-are =
             ap (λ (l : List ℕ). 10 ∷ l) (
-              append-assoc indent (w .text) bytes
-              ∙ ap (λ (l : List ℕ). indent ++ (w .text ++ l)) (t .bytes-are)
-              ∙ ap (λ (l : List ℕ). indent ++ l) (sym (append-assoc (w .text) (laidOut (t .separators) (t .here)) (joined cutBytes (t .others))))
-              ∙ sym (append-assoc indent (w .text ++ laidOut (t .separators) (t .here)) (joined cutBytes (t .others)))
-              ∙ sym (joined-cons cutBytes cut (t .others))
+            append-assoc indent (w .text) bytes
+            ∙ ap (λ (l : List ℕ). indent ++ (w .text ++ l)) (t .bytes-are)
+            ∙ ap (λ (l : List ℕ). indent ++ l) (sym (append-assoc (w .text) (laidOut (t .separators) (t .here)) (joined cutBytes (t .others))))
+            ∙ sym (append-assoc indent (w .text ++ laidOut (t .separators) (t .here)) (joined cutBytes (t .others)))
+            ∙ sym (joined-cons cutBytes cut (t .others))
             );
       }
 
@@ -191,15 +190,14 @@ module _ (glue : Bool) (indent : List ℕ) where
       go : (vs : List Word) → length vs ≡ suc (length (i .separators)) → l .bytes ≡ laidOut (before ∷ i .separators) vs
           → (w : Word) × (us : List Word) × (rest : List ℕ) × (vs ≡ w ∷ us) × (l .bytes ++ more ≡ (before ++ w .text) ++ rest) × Rest glue indent (us ++ ws) rest
       go [] m e = absurd (omega arith)
-      go (v ∷ vs) m e =
-          (
-            v,
-            vs,
-            laidOut (i .separators) vs ++ more,
-            refl,
-            ap (λ (b : List ℕ). b ++ more) e ∙ append-assoc before (v .text ++ laidOut (i .separators) vs) more ∙ ap (λ (b : List ℕ). before ++ b) (append-assoc (v .text) (laidOut (i .separators) vs) more) ∙ sym (append-assoc before (v .text) (laidOut (i .separators) vs ++ more)),
-            spread vs (i .separators) (omega arith) (i .each) ws more r
-          )
+      go (v ∷ vs) m e = (
+        v,
+        vs,
+        laidOut (i .separators) vs ++ more,
+        refl,
+        ap (λ (b : List ℕ). b ++ more) e ∙ append-assoc before (v .text ++ laidOut (i .separators) vs) more ∙ ap (λ (b : List ℕ). before ++ b) (append-assoc (v .text) (laidOut (i .separators) vs) more) ∙ sym (append-assoc before (v .text) (laidOut (i .separators) vs ++ more)),
+        spread vs (i .separators) (omega arith) (i .each) ws more r,
+      )
 
   lines-in : (others : List Cut) → All (LineOf glue indent) others → Rest glue indent (joined cutWords others) (lineFeed ++ joined cutBytes others)
   lines-in [] a = rw (joined-nil cutWords, joined-nil cutBytes) refl

@@ -1,7 +1,7 @@
 -- The pieces of notes fit: no line feed stands in a plain line or an indent, and a paragraph's words are those of undamaged lines.
 use mathlib.Core.Path.{_≡_, refl, sym, ap, _∙_, subst⁻¹}
-use mathlib.Core.Bool.{Bool, true, false, cond, _&&_, _||_, and-eq-true-iff}
-use mathlib.Core.List.{List, [], _∷_, _++_, map}
+use mathlib.Core.Bool.{Bool, true, false, cond, _||_, and-eq-true-iff}
+use mathlib.Core.List.{List, [], _∷_, map}
 use Prim.Native.Nat.{ℕ, zero, suc, _<_}
 use native.Mathlib.Omega.{arith}
 use lib.ListN.{length, take, drop, replicate, take-append-drop}
@@ -27,7 +27,7 @@ use Rattle.words.specs.Words.{rowWords, wordsOf}
 use Rattle.words.proofs.Order.{paragraph-some}
 use Rattle.checker.proofs.Feeds.{Feedless}
 use Rattle.checker.proofs.Gaps.{Fits}
-use Rattle.checker.proofs.Pieces.{Lays, PieceFits}
+use Rattle.checker.proofs.Pieces.{PieceFits}
 use Rattle.checker.proofs.Fitting.{row-fits}
 
 -- ---- a paragraph's lines are formatted, and so undamaged

@@ -1,6 +1,5 @@
 -- The pieces of notes, one behind the other, are decided, wherever they are such as notes can have.
-use mathlib.Core.Path.{_≡_, refl, sym, ap, _∙_}
-use mathlib.Core.Bool.{Bool, true, false}
+use mathlib.Core.Path.{_≡_, refl, ap, _∙_}
 use mathlib.Core.List.{List, [], _∷_, _++_}
 use Prim.Native.Nat.{ℕ, _+_, _<_}
 use native.Mathlib.Omega.{arith}
@@ -13,9 +12,9 @@ use Rattle.pieces.specs.Pieces.{Paragraph, Kind, Piece, blankLine, plainLine, p
 use Rattle.records.specs.Word.{Word}
 use Rattle.words.specs.Words.{wordsOf}
 use Rattle.output.specs.Emission.{lineFeed}
-use Rattle.checker.specs.Acceptable.{Then, Carries, PieceIn, PiecesIn}
+use Rattle.checker.specs.Acceptable.{Then, PieceIn, PiecesIn}
 use Rattle.checker.specs.Named.{feeds}
-use Rattle.checker.specs.Matching.{Match, on, fault, matchText, matchFeed, matchLine, matchWords, matchPiece, matchPieces}
+use Rattle.checker.specs.Matching.{matchText, matchFeed, matchLine, matchPiece, matchPieces}
 use Rattle.checker.proofs.Feeds.{Feedless, feeds-nil}
 use Rattle.checker.proofs.Decides.{Decides, Is, on-fault, decides-text, decides-feed, decides-then, decides-same}
 use Rattle.checker.proofs.Gaps.{Fits}

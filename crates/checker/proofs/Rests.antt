@@ -1,20 +1,20 @@
 -- The words of a table, matched one behind the other.
 use mathlib.Core.Path.{_≡_, refl, sym, ap, _∙_}
 use mathlib.Core.Bool.{Bool}
-use mathlib.Core.List.{List, [], _∷_, _++_}
+use mathlib.Core.List.{List, _++_}
 use Prim.Native.Nat.{ℕ, _+_, _-_, _≤_, _<_}
 use native.Mathlib.Omega.{arith}
-use lib.ListN.{length, take, drop}
+use lib.ListN.{take, drop}
 use Rattle.records.specs.Word.{meaning}
 use Rattle.records.specs.declared.Word.{Word as Record}
-use Rattle.records.specs.Contracts.Table.{wordIn, wordsIn, Got, Within, AllWithin}
+use Rattle.records.specs.Contracts.Table.{wordsIn, Got, Within, AllWithin}
 use Rattle.records.proofs.Table.{words-drop, words-end}
-use Rattle.checker.specs.Matching.{Match, on, fault, andThen, matchText, matchFeed, matchNext, matchRest, matchWords}
-use Rattle.checker.specs.Contracts.Places.{SpotIn, Matches, Matchable}
+use Rattle.checker.specs.Matching.{Match, andThen, matchText, matchFeed, matchNext, matchRest, matchWords}
+use Rattle.checker.specs.Contracts.Places.{SpotIn, Matches}
 use Rattle.checker.specs.declared.Spot.{Spot}
 use Rattle.checker.specs.declared.Matched.{Matched}
 use Rattle.checker.specs.declared.Matched.the-variants.{On, Fault}
-use Rattle.checker.proofs.Spots.{on-in, on-is, fault-is, fault-line, then-fault, then-on, matches-same, part-slice}
+use Rattle.checker.proofs.Spots.{on-in, on-is, then-fault, then-on, matches-same, part-slice}
 
 -- a word of the table lies in the notes
 pub word-within : {size n : ℕ} {table : List ℕ} {i : ℕ} {w : Record} → AllWithin size n table → Got table i w → i < n → Within size w

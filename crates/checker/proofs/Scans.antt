@@ -1,12 +1,12 @@
 -- Blanks of a digest read from a place on, one by one; and the U+00A0 that a word begins with.
 use mathlib.Core.Path.{_≡_, refl, sym, ap, _∙_}
-use mathlib.Core.Bool.{Bool, true, false, cond, not, _&&_, _||_, false≢true, true≢false}
-use mathlib.Core.List.{List, [], _∷_, _++_}
-use Prim.Native.Nat.{ℕ, suc, _+_, _-_, _≤_, _<_}
+use mathlib.Core.Bool.{Bool, true, false, cond, not, _&&_, _||_, true≢false}
+use mathlib.Core.List.{List, [], _∷_}
+use Prim.Native.Nat.{ℕ, _+_, _-_, _≤_}
 use native.Mathlib.Omega.{arith}
 use lib.Dec.{eqb, ltb}
 use lib.ListN.{length, drop, length-drop}
-use borrow.Author.Tests.{eqb-true, ne-eqb, lt-ltb, le-ltb, ltb-true, ltb-false}
+use borrow.Author.Tests.{eqb-true, ne-eqb, lt-ltb, ltb-true, ltb-false}
 use Rattle.lists.specs.Runs.{while}
 use Rattle.lists.proofs.Runs.{while-more, while-end}
 use Rattle.lists.proofs.Parts.{while-nil}

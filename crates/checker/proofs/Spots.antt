@@ -1,25 +1,22 @@
 -- Matching by places: what a step of the code comes to in the digest from a place on.
 use mathlib.Core.Path.{_≡_, refl, sym, ap, _∙_}
-use mathlib.Core.Bool.{Bool, true, false, cond, not, _&&_, _||_, false≢true}
+use mathlib.Core.Bool.{Bool, true, false, cond, _&&_, false≢true}
 use mathlib.Core.List.{List, [], _∷_, _++_}
 use Prim.Native.Nat.{ℕ, zero, suc, _+_, _-_, _≤_, _<_}
 use native.Mathlib.Omega.{arith}
-use lib.Dec.{eqb, ltb, leb}
+use lib.Dec.{eqb}
 use lib.ListN.{length, getD, take, drop, replicate, length-drop, length-append}
 use lib.Seq.{slice, drop-drop, length-take-le}
 use Rattle.lists.proofs.Slices.{slice-is}
-use borrow.Author.Tests.{eqb-true, eq-eqb, ne-eqb, lt-ltb, le-ltb, le-leb, lt-leb, ltb-true}
-use Rattle.lists.specs.Runs.{while, begins}
-use Rattle.lists.proofs.Runs.{begins-append, begins-front, while-more, while-end}
+use borrow.Author.Tests.{ne-eqb, lt-ltb, le-ltb, le-leb, lt-leb}
+use Rattle.lists.specs.Runs.{begins}
 use Rattle.lists.proofs.RunsAt.{begins-within}
-use Rattle.lists.proofs.Parts.{while-nil}
 use Rattle.lists.proofs.Views.{drop-here, drop-none}
 use Rattle.text.specs.Characters.{extent}
-
 use Rattle.text.proofs.Forms.{rest-is}
 use Rattle.output.specs.Emission.{lineFeed}
-use Rattle.checker.specs.Matching.{Match, on, fault, andThen, matchText, matchFeed, isSpace, spaces, soft, parting, lead, matchSpaced, matchNext}
-use Rattle.checker.specs.Contracts.Places.{SpotIn, matched, MatchedIn, Matches, GapAt}
+use Rattle.checker.specs.Matching.{Match, on, fault, andThen, matchText, matchFeed, spaces, soft, parting, lead, matchSpaced, matchNext}
+use Rattle.checker.specs.Contracts.Places.{SpotIn, matched, Matches, GapAt}
 use Rattle.checker.specs.declared.Spot.{Spot}
 use Rattle.checker.specs.declared.Matched.{Matched}
 use Rattle.checker.specs.declared.Matched.the-variants.{On, Fault}

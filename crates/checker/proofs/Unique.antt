@@ -1,10 +1,10 @@
 -- Two results that keep a matching function's promise are equal.
 use mathlib.Core.Path.{_≡_, sym, ap, ap₂, _∙_}
 use mathlib.Core.List.{List}
-use Prim.Native.Nat.{ℕ, _-_, _≤_}
+use Prim.Native.Nat.{ℕ, _-_}
 use native.Mathlib.Omega.{arith}
 use lib.ListN.{length, drop, length-drop}
-use Rattle.checker.specs.Matching.{Match, on, fault}
+use Rattle.checker.specs.Matching.{Match, on}
 use Rattle.checker.specs.Contracts.Places.{SpotIn, Matches}
 use Rattle.checker.specs.declared.Spot.{Spot}
 use Rattle.checker.specs.declared.Matched.{Matched}

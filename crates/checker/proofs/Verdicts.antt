@@ -2,18 +2,16 @@
 use mathlib.Core.Path.{_≡_, refl, sym, ap, _∙_}
 use mathlib.Core.Bool.{Bool, true, false}
 use mathlib.Core.List.{List, [], _∷_, _++_, append-assoc, append-nil}
-use mathlib.Core.Logic.{⊎-elim}
-use Prim.Native.Nat.{ℕ, suc, _+_, _≤_, _<_}
-use native.Mathlib.Nat.{eq-or-lt-of-le}
+use Prim.Native.Nat.{ℕ, suc, _+_}
 use native.Mathlib.Omega.{arith}
-use lib.Dec.{ltb, eqb}
+use lib.Dec.{ltb}
 use lib.ListN.{length, length-append}
-use borrow.Author.Tests.{eqb-true, eqb-false, ltb-true, ltb-false}
+use borrow.Author.Tests.{ltb-true, ltb-false}
 use Rattle.output.specs.Emission.{lineFeed}
-use Rattle.checker.specs.Named.{feeds, firstLines, Continued, Named}
+use Rattle.checker.specs.Named.{feeds, firstLines, Named}
 use Rattle.checker.specs.Matching.{Match, on, fault, Verdict, accepted, at, verdictOf}
 use Rattle.checker.proofs.Feeds.{Feedless, feeds-append, first-behind, first-line, first-within, line-first}
-use Rattle.checker.proofs.Decides.{Language, Matcher, Took, Faults, Decides}
+use Rattle.checker.proofs.Decides.{Language, Matcher, Decides}
 
 accepted-at : {n : ℕ} {A : Type 0} → accepted ≡ at n → A
 accepted-at e = absurd (let z : _≡_ {A = ℕ} 0 1 = cc in omega arith)
@@ -78,18 +76,18 @@ module _ (L : Language) (M : Matcher) (d : Decides L M) (xs : List ℕ) where
     before = λ i h.
         let w = first-within (suc i) (s .upTo) (s .rest) (omega (arith, s .line)) in
         let e : s .upTo ++ s .more ≡ firstLines (suc i) xs ++ (w .left ++ s .more) =
-            ap (λ (l : List ℕ). l ++ s .more) (w .part-is ∙ ap (λ (l : List ℕ). firstLines (suc i) l ++ w .left) (sym (s .is))) ∙ append-assoc (firstLines (suc i) xs) (w .left) (s .more) in
+        ap (λ (l : List ℕ). l ++ s .more) (w .part-is ∙ ap (λ (l : List ℕ). firstLines (suc i) l ++ w .left) (sym (s .is))) ∙ append-assoc (firstLines (suc i) xs) (w .left) (s .more) in
         record { ended = omega (arith, s .line, ap feeds (s .is) ∙ feeds-append (s .upTo) (s .rest)); more = w .left ++ s .more; good = rw (← e) (s .goesOn) };
     here = λ c.
         let f = line-first (s .rest) (omega (arith, c .ended, s .line, ap feeds (s .is) ∙ feeds-append (s .upTo) (s .rest))) in
         let e : firstLines (suc n) xs ≡ s .upTo ++ (f .body ++ lineFeed) =
-            ap (λ (l : List ℕ). firstLines (suc n) l) (s .is)
-            ∙ ap (λ (k : ℕ). firstLines (suc k) (s .upTo ++ s .rest)) (s .line)
-            ∙ first-behind (s .upTo) (s .rest)
-            ∙ ap (λ (l : List ℕ). s .upTo ++ firstLines 1 l) (f .is)
-            ∙ ap (λ (l : List ℕ). s .upTo ++ l) (first-line (f .body) (f .below) (f .feedless)) in
+        ap (λ (l : List ℕ). firstLines (suc n) l) (s .is)
+        ∙ ap (λ (k : ℕ). firstLines (suc k) (s .upTo ++ s .rest)) (s .line)
+        ∙ first-behind (s .upTo) (s .rest)
+        ∙ ap (λ (l : List ℕ). s .upTo ++ firstLines 1 l) (f .is)
+        ∙ ap (λ (l : List ℕ). s .upTo ++ l) (first-line (f .body) (f .below) (f .feedless)) in
         let g : firstLines (suc n) xs ++ c .more ≡ s .upTo ++ (f .body ++ 10 ∷ c .more) =
-            ap (λ (l : List ℕ). l ++ c .more) e ∙ append-assoc (s .upTo) (f .body ++ lineFeed) (c .more) ∙ ap (λ (l : List ℕ). s .upTo ++ l) (append-assoc (f .body) lineFeed (c .more)) in
+        ap (λ (l : List ℕ). l ++ c .more) e ∙ append-assoc (s .upTo) (f .body ++ lineFeed) (c .more) ∙ ap (λ (l : List ℕ). s .upTo ++ l) (append-assoc (f .body) lineFeed (c .more)) in
         s .never (f .body) (f .below) (f .feedless) (f .is) (c .more) (rw g at (c .good));
   }
 

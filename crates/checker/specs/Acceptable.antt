@@ -8,7 +8,7 @@ use Rattle.lists.specs.Runs.{joined}
 use Rattle.lists.specs.Theorems.All.{All}
 use Rattle.text.specs.Theorems.Blanks.{Gap}
 use Rattle.options.specs.Opts.{Opts}
-use Rattle.pieces.specs.Pieces.{Paragraph, Kind, Piece, blankLine, plainLine, paragraph, pieces}
+use Rattle.pieces.specs.Pieces.{Kind, Piece, blankLine, plainLine, paragraph, pieces}
 use Rattle.records.specs.Word.{Word}
 use Rattle.words.specs.Words.{wordsOf}
 use Rattle.output.specs.Emission.{lineFeed}

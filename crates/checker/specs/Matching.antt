@@ -1,6 +1,6 @@
 -- How a digest is matched against the pieces of the notes, from its front. proofs/Theorems shows that this accepts exactly the acceptable
 -- digests (Acceptable) and names the right line of every other (Named).
-use mathlib.Core.Bool.{Bool, true, false, cond, not, _&&_, _||_}
+use mathlib.Core.Bool.{Bool, cond, not, _&&_, _||_}
 use mathlib.Core.List.{List, [], _∷_, _++_}
 use Prim.Native.Nat.{ℕ, suc, _+_, _-_}
 use lib.Dec.{eqb, ltb, leb}
@@ -9,7 +9,7 @@ use Rattle.lists.specs.Runs.{while, begins}
 use Rattle.text.specs.Characters.{Glyph, characters, noBreak, extent}
 use Rattle.text.specs.Theorems.Blanks.{spaceCode}
 use Rattle.options.specs.Opts.{Opts}
-use Rattle.pieces.specs.Pieces.{Paragraph, Kind, Piece, blankLine, plainLine, paragraph, pieces}
+use Rattle.pieces.specs.Pieces.{Kind, Piece, blankLine, plainLine, paragraph, pieces}
 use Rattle.records.specs.Word.{Word}
 use Rattle.words.specs.Words.{wordsOf}
 use Rattle.output.specs.Emission.{lineFeed}

@@ -159,10 +159,14 @@ fn match_spaced(word: &[u8], glue: bool, digest: &[u8], p: Spot) -> Matched
     if g.end - g.hard < own {
         return Matched::Fault(p.line);
     }
-    match_text(word, digest, Spot {
-        at: g.end - own,
-        line: p.line,
-    })
+    match_text(
+        word,
+        digest,
+        Spot {
+            at: g.end - own,
+            line: p.line,
+        },
+    )
 }
 
 // The blanks at a place, up to a line feed.

@@ -3,7 +3,6 @@ use Prim.Native.Nat.{_-_}
 use native.Mathlib.Omega.{arith}
 use borrow.Author.Needs.{needs}
 use Rattle.output.specs.Contracts.Writers.{marginOf}
-use Rattle.checker.proofs.Spots.{on-in}
 use Rattle.checker.proofs.Rests.{word-within, RestLeft, rest-first, rest-fault, rest-more, rest-last}
 use Rattle.checker.proofs.match_rest.Statement.{statement}
 use Rattle.checker.proofs.match_rest.Tie as tie

@@ -5,7 +5,7 @@ use native.Mathlib.Omega.{arith}
 use lib.ListN.{length}
 use denote.Ref.{now}
 use borrow.Author.Needs.{needs}
-use Rattle.text.proofs.Glyphs.{Here, blank-here, not-blank}
+use Rattle.text.proofs.Glyphs.{blank-here, not-blank}
 use Rattle.checker.proofs.Scans.{GapLeft, gap-first, gap-stop, gap-more, spaces-ink, spaces-feed, feed, soften}
 use Rattle.checker.proofs.over_gap.Statement.{statement}
 use Rattle.checker.proofs.over_gap.Tie as tie

@@ -4,7 +4,7 @@ use Prim.Native.Nat.{_-_}
 use native.Mathlib.Omega.{arith}
 use lib.ListN.{length}
 use borrow.Author.Needs.{needs}
-use Rattle.text.proofs.Glyphs.{Here, blank-here, not-blank}
+use Rattle.text.proofs.Glyphs.{blank-here, not-blank}
 use Rattle.checker.proofs.Scans.{LeadLeft, lead-first, lead-ink, lead-other, lead-more}
 use Rattle.checker.proofs.own_no_breaks.Statement.{statement}
 use Rattle.checker.proofs.own_no_breaks.Tie as tie
