@@ -1,6 +1,8 @@
 pub mod Boundary
 pub mod Order
 pub mod Width
+
+pub mod Checked
 pub mod LineEnds
 pub mod Undamaged
 pub mod Gaps

@@ -30,6 +30,8 @@
 
 --   unflow        unflow                                                                    unflow/proofs/Unique: `reads-unique`
 --   unflow        reading_number                                                            an equation
+
+--   checker       match_line, match_words                                                   checker/proofs/Unique: `matches-unique`
 --   paragraphs    put_paragraph                                                             paragraphs/proofs/Unique: `step-unique`
 --   walk          put_all                                                                   walk/proofs/Unique: `ended-unique`
 --   walk          clear                                                                     an equation

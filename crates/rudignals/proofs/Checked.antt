@@ -1,0 +1,41 @@
+-- What the formatter writes, the checker accepts: from the order of its words (Order).
+use mathlib.Core.Path.{_≡_, refl, sym}
+use mathlib.Core.List.{List, [], _∷_, List·Memᴰ·head, List·Memᴰ·tail}
+use Prim.Native.Nat.{ℕ}
+use Rattle.lists.specs.Runs.{joined}
+use Rattle.lists.specs.Theorems.All.{All, _∈_}
+use Rattle.lists.proofs.Parts.{joined-nil, joined-cons}
+use Rattle.options.specs.Opts.{Opts}
+use Rattle.pieces.specs.Pieces.{Kind, Piece, blankLine, plainLine, paragraph, pieces}
+use Rattle.words.specs.Words.{wordsOf}
+use Rattle.walk.specs.Digest.{formatted, outputOf, pieceOutput, digest}
+use Rattle.checker.specs.Acceptable.{PieceIn, PiecesIn, Acceptable}
+use Rattle.checker.specs.Matching.{accepted, verdict}
+use Rattle.checker.proofs.Lines.{order-carried}
+use Rattle.checker.proofs.Theorems.{what-is-acceptable-is-accepted}
+use Rattle.rudignals.proofs.Order.{paragraph-order}
+
+-- what holds of each element of a list
+members-all : {A : Type 0} (P : A → Type 0) (xs : List A) → ((x : A) → x ∈ xs → P x) → All P xs
+members-all P [] f = tt
+members-all P (x ∷ xs) f = (f x (List·Memᴰ·head refl), members-all P xs (λ y m. f y (List·Memᴰ·tail m)))
+
+piece-in : (o : Opts) (notes : List ℕ) (q : Piece) → q ∈ pieces o notes → PieceIn o (q .kind) (pieceOutput o q)
+unfolding outputOf
+piece-in o notes q m = go (q .kind) refl
+  where
+    go : (k : Kind) → q .kind ≡ k → PieceIn o k (outputOf o k)
+    go blankLine e = refl
+    go (plainLine line) e = refl
+    go (paragraph p) e = order-carried (o .glue) (p .indent .bytes) (p .first .bytes) (wordsOf o p) (formatted o p) (rw e at (paragraph-order o notes q p m e))
+
+pieces-in : (o : Opts) (qs : List Piece) → All (λ (q : Piece). PieceIn o (q .kind) (pieceOutput o q)) qs → PiecesIn o qs (joined (pieceOutput o) qs)
+pieces-in o [] a = joined-nil (pieceOutput o)
+pieces-in o (q ∷ qs) a = record { part = pieceOutput o q; rest = joined (pieceOutput o) qs; bytes-are = joined-cons (pieceOutput o) q qs; first = a .0; second = pieces-in o qs (a .1) }
+
+pub what-is-written-is-acceptable : (o : Opts) (notes : List ℕ) → Acceptable o notes (digest o notes)
+unfolding digest
+what-is-written-is-acceptable o notes = pieces-in o (pieces o notes) (members-all _ (pieces o notes) (piece-in o notes))
+
+pub what-is-written-is-accepted : (o : Opts) (notes : List ℕ) → verdict o notes (digest o notes) ≡ accepted
+what-is-written-is-accepted o notes = what-is-acceptable-is-accepted o notes (digest o notes) (what-is-written-is-acceptable o notes)
