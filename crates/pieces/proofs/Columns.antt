@@ -62,8 +62,8 @@ unfolding indentOf
 indent-margined o text s f e = record {
   columns = indent-columns o text s (formatted-indented o text s e);
   feedless =
-    let k = every-append noFeed (take (s .«indent_end») text) (drop (s .«indent_end») text) in
-    and-eq-true-iff (every noFeed (take (s .«indent_end») text)) _ .0 (sym k ∙ ap (every noFeed) (take-append-drop (s .«indent_end») text) ∙ f) .0;
+      let k = every-append noFeed (take (s .«indent_end») text) (drop (s .«indent_end») text) in
+      and-eq-true-iff (every noFeed (take (s .«indent_end») text)) _ .0 (sym k ∙ ap (every noFeed) (take-append-drop (s .«indent_end») text) ∙ f) .0;
 }
 
 widened-margined : (tab : ℕ) (i : Indent) (n : ℕ) → Margined tab i → Margined tab (widened i n)

@@ -1,7 +1,6 @@
 pub mod Boundary
 pub mod Order
 pub mod Width
-
 pub mod Checked
 pub mod LineEnds
 pub mod Undamaged

@@ -134,8 +134,8 @@ module _ (o : Opts) (p : Paragraph) (least : 1 ≤ o .tab) (first : Margined (o 
       one-less = ap suc (r .as-many);
       each = r .between;
       laid =
-        append-assoc (i .bytes) (w .text ++ r .bytes) lineFeed
-        ∙ ap (λ (l : List ℕ). i .bytes ++ l) (append-assoc (w .text) (r .bytes) lineFeed ∙ ap (λ (l : List ℕ). w .text ++ l) (r .laid));
+          append-assoc (i .bytes) (w .text ++ r .bytes) lineFeed
+          ∙ ap (λ (l : List ℕ). i .bytes ++ l) (append-assoc (w .text) (r .bytes) lineFeed ∙ ap (λ (l : List ℕ). w .text ++ l) (r .laid));
     };
     keeps = λ plain h. ⊎-elim (λ (z : (length (r .words) ≡ 0) × (r .bytes ≡ [])). ap suc (z .0)) (λ (z : columnsOf (o .tab) (i .columns + w .width) (characters (r .bytes)) ≤ o .width). absurd (omega (arith, m .columns (w .text ++ r .bytes), placed .0 .text (i .columns) (r .bytes)))) (r .fits plain);
   }
@@ -194,7 +194,7 @@ module _ (o : Opts) (p : Paragraph) (least : 1 ≤ o .tab) (first : Margined (o 
   on-fits column punct w bytes words c within fits plain =
       let h = and-eq-true-iff (plainGap w) (every plainGap words) .0 (rw every-cons at plain) in
       let e : columnsOf (o .tab) column (characters (spaceBefore (o .uniform) punct w ++ (w .text ++ bytes))) ≡ columnsOf (o .tab) (reachedAt column punct w) (characters bytes) =
-        space-columns o least punct w c (h .0) column (w .text ++ bytes) ∙ c .text (column + gapAt (o .tab) column w + added o least punct w) bytes in
+      space-columns o least punct w c (h .0) column (w .text ++ bytes) ∙ c .text (column + gapAt (o .tab) column w + added o least punct w) bytes in
       rw e (⊎-elim (λ (z : (length words ≡ 0) × (bytes ≡ [])). rw (z .1, nothing-read) within) (λ z. z) (fits (h .1)))
 
   -- the word goes on the line
@@ -216,8 +216,8 @@ module _ (o : Opts) (p : Paragraph) (least : 1 ≤ o .tab) (first : Margined (o 
         as-many = ap suc (r .as-many);
         between = (space-separates (o .glue) (o .uniform) punct w (placed .1), r .between);
         laid =
-          append-assoc space (w .text ++ r .bytes) lineFeed
-          ∙ ap (λ (l : List ℕ). space ++ l) (append-assoc (w .text) (r .bytes) lineFeed ∙ ap (λ (l : List ℕ). w .text ++ l) (r .laid));
+            append-assoc space (w .text ++ r .bytes) lineFeed
+            ∙ ap (λ (l : List ℕ). space ++ l) (append-assoc (w .text) (r .bytes) lineFeed ∙ ap (λ (l : List ℕ). w .text ++ l) (r .laid));
         fits = λ plain. inr (on-fits column punct w (r .bytes) (r .words) (placed .0) within (r .fits) plain);
         each = r .each;
       }

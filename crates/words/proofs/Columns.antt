@@ -94,7 +94,7 @@ gap-columns-from tab column gap (b ∷ bs) h n = go (isTab b) refl (λ g. gap-co
         → ((g : Gap) → columnsOf tab (gapEnd tab column (g .before) (g .after)) bs ≡ gapEnd tab column (gapFrom tab g bs .before) (gapFrom tab g bs .after))
         → columnsOf tab (cond t (nextStop tab (gapEnd tab column (gap .before) (gap .after))) (gapEnd tab column (gap .before) (gap .after) + b .width)) bs
         ≡ gapEnd tab column (gapFrom tab (cond t (gapTab tab (gap .before) (gap .after)) (record { before = gap .before; after = gap .after + 1 })) bs .before)
-          (gapFrom tab (cond t (gapTab tab (gap .before) (gap .after)) (record { before = gap .before; after = gap .after + 1 })) bs .after)
+        (gapFrom tab (cond t (gapTab tab (gap .before) (gap .after)) (record { before = gap .before; after = gap .after + 1 })) bs .after)
     go true e ih = rw (tab-end tab column (gap .before) (gap .after) h) (ih (gapTab tab (gap .before) (gap .after)))
     go false e ih = rw (n .0 e, blank-end tab column (gap .before) (gap .after)) (ih (record { before = gap .before; after = gap .after + 1 }))
 
