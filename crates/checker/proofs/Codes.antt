@@ -1,47 +1,46 @@
 -- A text that begins with characters of a kind, as their numbers and what is behind them: by their octets, by the text's glyphs, and before
 -- a line feed, behind which nothing matters.
 use mathlib.Core.Path.{_≡_, refl, sym, ap, _∙_}
-use mathlib.Core.Bool.{Bool, true, false, cond, not, _&&_, _||_, false≢true, true≢false, and-eq-true-iff}
+use mathlib.Core.Bool.{Bool, true, false, cond, not, false≢true, true≢false, and-eq-true-iff}
 use mathlib.Core.List.{List, [], _∷_, _++_, append-assoc, map}
 use Prim.Native.Nat.{ℕ, _+_, _/_, _%_, _≤_, _<_}
 use native.Mathlib.Omega.{arith}
 use lib.Dec.{T, eqb, ltb, leb}
 use lib.ListN.{length, take, drop, length-append}
 use lib.Seq.{take-append-seam, drop-append-seam}
-use borrow.Author.Tests.{eqb-true, ne-eqb, leb-true, le-leb}
+use borrow.Author.Tests.{eqb-true, ne-eqb, leb-true, leb-false, le-leb, lt-leb}
 use Rattle.lists.specs.Runs.{while, every, joined}
 use Rattle.lists.specs.Theorems.All.{All}
 use Rattle.lists.proofs.Runs.{while-more, while-end}
 use Rattle.lists.proofs.Parts.{every-nil, every-cons, every-append, joined-nil, joined-cons, while-nil}
 use Rattle.lines.specs.Lines.{noFeed}
-use Rattle.text.specs.Rfc3629.{Front, front, nothing, scalar, encode}
-use Rattle.text.specs.Characters.{accepted, character, blankCode, widthOf, Glyph, glyphAs, glyph, characters, extent}
+use Rattle.widths.specs.Widths.{widthOf}
+use Rattle.widths.specs.WhiteSpace.{whiteSpace}
+use Rattle.text.specs.Rfc3629.{Front, front, nothing, scalar, encode, decode}
+use Rattle.text.specs.Characters.{Glyph, glyphAs, glyph, characters, extent}
 use Rattle.text.specs.Theorems.Blanks.{spaceCode}
-use Rattle.text.proofs.Decoder.{scalar-true, complete}
-use Rattle.text.proofs.Places.{accepted-front}
+use Rattle.text.proofs.Decoder.{scalar-true, some-octets, sound, complete}
 use Rattle.text.proofs.Glyphs.{Bytes, characters-first, characters-induct}
 use Rattle.checker.proofs.Feeds.{Feedless, feedless-inside}
 
--- a number that is an accepted character's
+-- a number that is a character's
 pub record Character (c : ℕ) : Type 0 where
   pub isScalar : T (scalar c)
-  pub isAccepted : accepted c ≡ true
 
 -- its glyph
 abbrev pub glyphOf : ℕ → Glyph
-glyphOf c = record { bytes = encode c; code = c; damaged = false; blank = blankCode c; width = widthOf c }
+glyphOf c = record { bytes = encode c; code = c; damaged = false; blank = whiteSpace c; width = widthOf c }
 
 module _ (c : ℕ) (h : Character c) (rest : List ℕ) where
-  character-here : character (encode c ++ rest) ≡ front c (length (encode c))
-  unfolding character
-  character-here = rw (complete c (encode c ++ rest) rest (record { isScalar = h .isScalar; octets = refl }), h .isAccepted)
+  character-here : decode (encode c ++ rest) ≡ front c (length (encode c))
+  character-here = complete c (encode c ++ rest) rest (record { isScalar = h .isScalar; octets = refl })
 
   pub glyph-here : glyph (encode c ++ rest) ≡ glyphOf c
   unfolding glyph
   glyph-here = rw (character-here, take-append-seam (encode c) rest)
 
   pub encode-some : 0 < length (encode c)
-  encode-some = let b = accepted-front (encode c ++ rest) c (length (encode c)) character-here .decoded .some in omega arith
+  encode-some = let b = some-octets c .0 in omega arith
 
   pub glyphs-here : characters (encode c ++ rest) ≡ glyphOf c ∷ characters rest
   glyphs-here =
@@ -60,16 +59,16 @@ pub record Read (xs : List ℕ) (g : Glyph) : Type 0 where
 
 pub good-read : (xs : List ℕ) → glyph xs .damaged ≡ false → Read xs (glyph xs)
 unfolding glyph
-good-read xs h = go (character xs) refl h
+good-read xs h = go (decode xs) refl h
   where
-    go : (f : Front) → character xs ≡ f → glyphAs xs f .damaged ≡ false → Read xs (glyphAs xs f)
+    go : (f : Front) → decode xs ≡ f → glyphAs xs f .damaged ≡ false → Read xs (glyphAs xs f)
     go (front c n) e k =
-        let a = accepted-front xs c n e in
-        let o = a .decoded .stands .octets in
-        let t : take n xs ≡ encode c = rw (a .decoded .count) (ap (take (length (encode c))) (rw (a .decoded .count) at o) ∙ take-append-seam (encode c) (drop (length (encode c)) xs)) in
+        let a = sound xs c n e in
+        let o = a .stands .octets in
+        let t : take n xs ≡ encode c = rw (a .count) (ap (take (length (encode c))) (rw (a .count) at o) ∙ take-append-seam (encode c) (drop (length (encode c)) xs)) in
         record {
           code = c;
-          is = record { isScalar = a .decoded .stands .isScalar; isAccepted = a .isAccepted };
+          is = record { isScalar = a .stands .isScalar };
           glyph-is = rw t;
           rest = drop n xs;
           octets = o;
@@ -79,7 +78,7 @@ good-read xs h = go (character xs) refl h
 -- a damaged glyph has a number of its own
 pub damaged-code : (xs : List ℕ) → glyph xs .damaged ≡ true → glyph xs .code ≡ 0xFFFD
 unfolding glyph
-damaged-code xs h = go (character xs) h
+damaged-code xs h = go (decode xs) h
   where
     go : (f : Front) → glyphAs xs f .damaged ≡ true → glyphAs xs f .code ≡ 0xFFFD
     go (front c n) k = absurd (false≢true k)
@@ -206,28 +205,38 @@ module _ (kind : ℕ → Bool) (no-damage : kind 0xFFFD ≡ false) (no-feed : ki
 
 -- ---- blanks
 
--- a blank character's number is small
-space-small : (c : ℕ) → spaceCode c ≡ true → c ≤ 0xA0
-unfolding blankCode
-space-small c h = go (leb 9 c) (leb c 13) (eqb c 0x20) (eqb c 0x85) (eqb c 0xA0) (not (eqb c 10)) refl refl refl refl h
-  where
-    go : (a b t u v f : Bool) → leb c 13 ≡ b → eqb c 0x20 ≡ t → eqb c 0x85 ≡ u → eqb c 0xA0 ≡ v → ((a && b || t || u || v) && f) ≡ true → c ≤ 0xA0
-    go true true t u v f eb et eu ev k = let q = leb-true c 13 eb in omega arith
-    go true false true u v f eb et eu ev k = let q = eqb-true c 0x20 et in omega arith
-    go true false false true v f eb et eu ev k = let q = eqb-true c 0x85 eu in omega arith
-    go true false false false true f eb et eu ev k = let q = eqb-true c 0xA0 ev in omega arith
-    go true false false false false f eb et eu ev k = absurd (false≢true k)
-    go false b true u v f eb et eu ev k = let q = eqb-true c 0x20 et in omega arith
-    go false b false true v f eb et eu ev k = let q = eqb-true c 0x85 eu in omega arith
-    go false b false false true f eb et eu ev k = let q = eqb-true c 0xA0 ev in omega arith
-    go false b false false false f eb et eu ev k = absurd (false≢true k)
+-- behind U+3000 there is no blank
+no-blank : (c : ℕ) → 0x3000 < c → whiteSpace c ≡ false
+unfolding whiteSpace
+no-blank c h =
+    rw (
+      le-leb 9 c (omega arith),
+      lt-leb c 13 (omega arith),
+      ne-eqb c 0x20 (omega arith),
+      ne-eqb c 0x85 (omega arith),
+      ne-eqb c 0xA0 (omega arith),
+      ne-eqb c 0x1680 (omega arith),
+      le-leb 0x2000 c (omega arith),
+      lt-leb c 0x200A (omega arith),
+      le-leb 0x2028 c (omega arith),
+      lt-leb c 0x2029 (omega arith),
+      ne-eqb c 0x202F (omega arith),
+      ne-eqb c 0x205F (omega arith),
+      ne-eqb c 0x3000 (omega arith),
+    )
 
-small-character : (c : ℕ) → c ≤ 0xA0 → Character c
-unfolding accepted
-small-character c h = record {
-  isScalar = rw (scalar-true c (record { most = omega arith; noSurrogate = λ a b. omega arith })) tt;
-  isAccepted = rw (le-leb c 0x2FF (omega arith), ne-eqb c 0xAD (λ e. omega arith));
-}
+space-small : (c : ℕ) → spaceCode c ≡ true → c ≤ 0x3000
+space-small c h = go (leb c 0x3000) refl
+  where
+    blank : whiteSpace c ≡ true
+    blank = and-eq-true-iff (whiteSpace c) (not (eqb c 10)) .0 h .0
+
+    go : (t : Bool) → leb c 0x3000 ≡ t → c ≤ 0x3000
+    go true e = leb-true c 0x3000 e
+    go false e = absurd (false≢true (sym (no-blank c (let l = leb-false c 0x3000 e in omega arith)) ∙ blank))
+
+small-character : (c : ℕ) → c ≤ 0x3000 → Character c
+small-character c h = record { isScalar = rw (scalar-true c (record { most = omega arith; noSurrogate = λ a b. omega arith })) tt }
 
 pub space-character : (c : ℕ) → spaceCode c ≡ true → Character c
 space-character c h = small-character c (space-small c h)
@@ -239,11 +248,11 @@ space-characters (c ∷ codes) e =
     (space-character c (k .0), space-characters codes (k .1))
 
 pub no-break-space : spaceCode 0xA0 ≡ true
-unfolding blankCode
+unfolding whiteSpace
 no-break-space = refl
 
 pub space-space : spaceCode 32 ≡ true
-unfolding blankCode
+unfolding whiteSpace
 space-space = refl
 
 pub space-octets : encode 32 ≡ 32 ∷ []

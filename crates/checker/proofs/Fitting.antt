@@ -17,8 +17,9 @@ use Rattle.lists.proofs.Runs.{while-more, while-end, behind-more, behind-end}
 use Rattle.lists.proofs.Parts.{while-nil, behind-nil, every-nil, every-cons, every-append, joined-nil, joined-cons}
 use Rattle.lists.proofs.RunParts.{behind-fails}
 use Rattle.lists.proofs.Extents.{walk-all}
+use Rattle.widths.specs.WhiteSpace.{whiteSpace}
 use Rattle.text.specs.Rfc3629.{encode}
-use Rattle.text.specs.Characters.{blankCode, Glyph, glyph, characters, noBreak, ordinary, inkAhead, glued, glyphs, isBlank, isGood}
+use Rattle.text.specs.Characters.{Glyph, glyph, characters, noBreak, ordinary, inkAhead, glued, glyphs, isBlank, isGood}
 use Rattle.text.proofs.Glyphs.{Bytes, characters-induct}
 use Rattle.text.proofs.Glue.{ahead-none, ahead-run, ahead-other, every-good}
 use Rattle.options.specs.Opts.{Opts}
@@ -36,7 +37,7 @@ use Rattle.checker.proofs.Gaps.{Fits}
 record Sound (g : Glyph) : Type 0 where
   isCharacter : Character (g .code)
   bytes-are : g .bytes ≡ encode (g .code)
-  isBlank : blankCode (g .code) ≡ g .blank
+  isBlank : whiteSpace (g .code) ≡ g .blank
   feedless : Feedless (g .bytes)
 
 characters-sound : (xs : List ℕ) → every isGood (characters xs) ≡ true → Feedless xs → All Sound (characters xs)
@@ -62,7 +63,7 @@ characters-sound = characters-induct (λ ys gs. every isGood gs ≡ true → Fee
 record Good (glue : Bool) (g : Glyph) : Type 0 where
   isCharacter : Character (g .code)
   bytes-are : g .bytes ≡ encode (g .code)
-  ink : noBreak g ≡ false → g .blank ≡ false → blankCode (g .code) ≡ false
+  ink : noBreak g ≡ false → g .blank ≡ false → whiteSpace (g .code) ≡ false
   off : glue ≡ false → noBreak g ≡ true → g .blank ≡ false → ⊥
   feedless : Feedless (g .bytes)
 
@@ -81,8 +82,8 @@ record Line (glue : Bool) (gs : List Glyph) : Type 0 where
 
 -- U+00A0 is a blank character
 no-break-blank : (g : Glyph) → Sound g → noBreak g ≡ true → g .blank ≡ true
-unfolding blankCode
-no-break-blank g s h = sym (s .isBlank) ∙ ap blankCode (eqb-true (g .code) 0xA0 h)
+unfolding whiteSpace
+no-break-blank g s h = sym (s .isBlank) ∙ ap whiteSpace (eqb-true (g .code) 0xA0 h)
 
 sound-good : (glue : Bool) (g : Glyph) → Sound g → Good glue g
 sound-good glue g s = record {

@@ -12,8 +12,9 @@ use Rattle.lists.specs.Runs.{while, every, joined, begins}
 use Rattle.lists.specs.Theorems.All.{All}
 use Rattle.lists.proofs.Parts.{every-nil, every-cons, every-append, joined-nil, joined-cons, joined-append}
 use Rattle.lists.proofs.All.{all-front}
+use Rattle.widths.specs.WhiteSpace.{whiteSpace}
 use Rattle.text.specs.Rfc3629.{encode}
-use Rattle.text.specs.Characters.{Glyph, blankCode, characters, extent}
+use Rattle.text.specs.Characters.{Glyph, characters, extent}
 use Rattle.text.specs.Theorems.Blanks.{spaceCode, Gap}
 use Rattle.output.specs.Emission.{lineFeed}
 use Rattle.checker.specs.Acceptable.{Then}
@@ -30,7 +31,7 @@ pub record Fits (glue : Bool) (w : List ℕ) : Type 0 where
   pub none : glue ≡ false → count ≡ 0
   pub ink : ℕ
   pub isCharacter : Character ink
-  pub isInk : blankCode ink ≡ false
+  pub isInk : whiteSpace ink ≡ false
   pub tail : List ℕ
   pub is : w ≡ octets (replicate count 0xA0) ++ (encode ink ++ tail)
 
@@ -62,11 +63,11 @@ spaces-gap glue bytes s = record { codes = s .codes; blanks = record { blank = s
 -- ---- the characters
 
 spaces-damage : spaceCode 0xFFFD ≡ false
-unfolding blankCode
+unfolding whiteSpace
 spaces-damage = refl
 
 spaces-feed : spaceCode 10 ≡ false
-unfolding blankCode
+unfolding whiteSpace
 spaces-feed = refl
 
 -- no-break spaces in a row
@@ -91,12 +92,12 @@ no-breaks-size (suc k) =
 shorter : (k j : ℕ) → length (octets (replicate k 0xA0)) ≤ length (octets (replicate j 0xA0)) → k ≤ j
 shorter k j h = omega (arith, no-breaks-size k, no-breaks-size j)
 
-ink-no-break : (c : ℕ) → blankCode c ≡ false → eqb c 0xA0 ≡ false
-unfolding blankCode
+ink-no-break : (c : ℕ) → whiteSpace c ≡ false → eqb c 0xA0 ≡ false
+unfolding whiteSpace
 ink-no-break c h = go (eqb c 0xA0) refl
   where
     go : (t : Bool) → eqb c 0xA0 ≡ t → t ≡ false
-    go true e = absurd (false≢true (sym h ∙ ap (blankCode) (eqb-true c 0xA0 e)))
+    go true e = absurd (false≢true (sym h ∙ ap (whiteSpace) (eqb-true c 0xA0 e)))
     go false e = refl
 
 -- ---- what parts

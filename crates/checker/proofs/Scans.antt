@@ -10,7 +10,8 @@ use borrow.Author.Tests.{eqb-true, ne-eqb, lt-ltb, ltb-true, ltb-false}
 use Rattle.lists.specs.Runs.{while}
 use Rattle.lists.proofs.Runs.{while-more, while-end}
 use Rattle.lists.proofs.Parts.{while-nil}
-use Rattle.text.specs.Characters.{Glyph, glyph, characters, noBreak, blankCode, extent}
+use Rattle.widths.specs.WhiteSpace.{whiteSpace}
+use Rattle.text.specs.Characters.{Glyph, glyph, characters, noBreak, extent}
 use Rattle.text.specs.Theorems.Blanks.{spaceCode}
 use Rattle.text.proofs.Glyphs.{Here, characters-past, characters-first}
 use Rattle.text.proofs.Extents.{glyph-read}
@@ -18,8 +19,8 @@ use Rattle.checker.specs.Matching.{isSpace, spaces, soft, parting, lead}
 use Rattle.checker.specs.Contracts.Places.{GapAt}
 use Rattle.checker.specs.declared.Gap.{Gap}
 
-no-break : blankCode 0xA0 ≡ true
-unfolding blankCode
+no-break : whiteSpace 0xA0 ≡ true
+unfolding whiteSpace
 no-break = refl
 
 -- ---- the blanks at a place
@@ -44,7 +45,7 @@ module _ (s : List ℕ) (at : ℕ) where
   past-none test h = ap (while test) (characters-past s at h) ∙ while-nil test
 
   -- a character that is no blank is none of a kind of blanks
-  no-blank-none : (test : ℕ → Bool) → ((c : ℕ) → blankCode c ≡ false → test c ≡ false) → glyph (drop at s) .blank ≡ false → while (λ g. test (g .code)) (characters (drop at s)) ≡ []
+  no-blank-none : (test : ℕ → Bool) → ((c : ℕ) → whiteSpace c ≡ false → test c ≡ false) → glyph (drop at s) .blank ≡ false → while (λ g. test (g .code)) (characters (drop at s)) ≡ []
   no-blank-none test none b = go (ltb at (length s)) refl
     where
       go : (t : Bool) → ltb at (length s) ≡ t → while (λ g. test (g .code)) (characters (drop at s)) ≡ []
@@ -63,7 +64,7 @@ module _ (s : List ℕ) (at : ℕ) where
   spaces-feed h = first-none isSpace (ap spaceCode (h .hasCode) ∙ last)
     where
       last : spaceCode 10 ≡ false
-      last = and-false (blankCode 10)
+      last = and-false (whiteSpace 10)
         where
           and-false : (b : Bool) → (b && false) ≡ false
           and-false true = refl
@@ -147,11 +148,11 @@ module _ (word : List ℕ) where
     pub lead-ink : glyph (drop i word) .blank ≡ false → (i ≡ lead word) × (i ≤ length word)
     lead-ink b = (lead-none (no-blank-none word i (λ c. eqb c 0xA0) (λ c e. other c e) b), l .within)
       where
-        other : (c : ℕ) → blankCode c ≡ false → eqb c 0xA0 ≡ false
+        other : (c : ℕ) → whiteSpace c ≡ false → eqb c 0xA0 ≡ false
         other c e = go (eqb c 0xA0) refl
           where
             go : (t : Bool) → eqb c 0xA0 ≡ t → t ≡ false
-            go true k = absurd (true≢false (sym no-break ∙ ap blankCode (sym (eqb-true c 0xA0 k)) ∙ e))
+            go true k = absurd (true≢false (sym no-break ∙ ap whiteSpace (sym (eqb-true c 0xA0 k)) ∙ e))
             go false k = refl
 
     pub lead-other : {code next : ℕ} → Here true word i code next → (code ≡ 0xA0 → ⊥) → (i ≡ lead word) × (i ≤ length word)
