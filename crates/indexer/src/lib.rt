@@ -201,7 +201,7 @@ fn note_quick(
 {
     let mut table = [0u32; 7168];
     let mut marks = [false; 1024];
-    let mut breaks = [0u32; 6];
+    let mut breaks = [0u32; 8];
     let mut ratios = [0f32; 1];
     let mut active = [0u32; 1];
     note_with(
@@ -232,7 +232,7 @@ fn note_best(
 {
     let mut table = [0u32; 7168];
     let mut marks = [false; 1024];
-    let mut breaks = [0u32; 6144];
+    let mut breaks = [0u32; 8192];
     let mut ratios = [0f32; 1024];
     let mut active = [0u32; 1024];
     note_with(
