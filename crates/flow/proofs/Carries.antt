@@ -1,18 +1,23 @@
 -- The words of a paragraph, in what comes back of it: each once and in order.
 use mathlib.Core.Path.{_≡_, refl, sym, ap, _∙_}
-use mathlib.Core.Bool.{Bool, true, false, cond, _&&_, _||_}
+use mathlib.Core.Bool.{Bool, true, false}
 use mathlib.Core.List.{List, [], _∷_, _++_, append-assoc, append-nil}
 use mathlib.Core.Logic.{_⊎_, inl, inr}
-use Prim.Native.Nat.{ℕ, _+_, _<_}
+use Prim.Native.Nat.{ℕ, zero, suc, _<_}
 use native.Mathlib.Omega.{arith}
-use lib.ListN.{length, replicate, length-append, length-replicate}
+use lib.Dec.{eqb}
+use lib.ListN.{length, replicate, length-append}
+use Rattle.lists.specs.Runs.{every}
 use Rattle.lists.specs.Theorems.All.{All}
+use Rattle.lists.proofs.Parts.{every-cons}
 use Rattle.lists.proofs.All.{all-append}
 use Rattle.text.proofs.Blanks.{blanks-spaces}
 use Rattle.records.specs.Word.{Word}
 use Rattle.spacing.specs.Spacing.{addedSpace}
+use Rattle.spacing.proofs.Added.{added-some}
 use Rattle.words.proofs.Order.{Whole}
 use Rattle.output.specs.Emission.{spaceBefore}
+use Rattle.output.proofs.Order.{space-some}
 use Rattle.unflow.specs.Flowed.{space}
 use Rattle.flow.specs.Flow.{linesFrom, brokenInto, isDashed}
 use Rattle.flow.specs.Theorems.ReadBack.{backFrom, back, spelt, Between, Spells, Carry}
@@ -46,20 +51,21 @@ module _ (glue : Bool) (first indent : List ℕ) where
 
   -- ---- what stands before a word that goes on its line
 
-  added-some : (newLine sentence punct : Bool) → 0 < addedSpace true newLine sentence punct
-  unfolding addedSpace
-  added-some newLine sentence punct = go (sentence || newLine && punct)
-    where
-      go : (b : Bool) → 0 < cond b 2 1
-      go true = omega arith
-      go false = omega arith
+  -- spaces among blanks are no U+00A0
+  spaces-other : (n : ℕ) (codes : List ℕ) → 0 < n → every (λ c. eqb c 0xA0) (replicate n 32 ++ codes) ≡ false
+  spaces-other zero codes h = absurd (omega arith)
+  spaces-other (suc n) codes h = every-cons (λ c. eqb c 0xA0) 32 (replicate n 32 ++ codes)
 
   before-blank : (punct : Bool) (w : Word) → Whole glue true w → Between glue indent (spaceBefore true punct w)
   unfolding spaceBefore
   before-blank punct w h =
       let n = addedSpace true (w .newLine) (w .sentenceStart) punct in
-      let a = added-some (w .newLine) (w .sentenceStart) punct in
-      inl (omega (arith, a, length-append (replicate n 32) (w .blanks), length-replicate {A = ℕ} n 32), blanks-spaces glue n (w .blanks) (h .blanks))
+      inl (record {
+        codes = replicate n 32 ++ h .codes;
+        blanks = blanks-spaces n (h .codes) (w .blanks) (h .blanks);
+        some = space-some true punct w (h .gap);
+        other = λ g. spaces-other n (h .codes) (added-some true (w .newLine) (w .sentenceStart) punct refl);
+      })
 
   -- ---- line by line: behind `pre` stands the line so far, and both spell the words so far
 

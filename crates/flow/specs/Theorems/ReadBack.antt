@@ -3,10 +3,10 @@ use mathlib.Core.Path.{_≡_}
 use mathlib.Core.Bool.{Bool, true, false, not, _&&_}
 use mathlib.Core.List.{List, [], _∷_, _++_}
 use mathlib.Core.Logic.{_⊎_}
-use Prim.Native.Nat.{ℕ, suc, _<_}
+use Prim.Native.Nat.{ℕ, suc}
 use lib.ListN.{length}
 use Rattle.lists.specs.Theorems.All.{All}
-use Rattle.text.specs.Theorems.Blanks.{Blanks}
+use Rattle.text.specs.Theorems.Blanks.{Gap}
 use Rattle.pieces.specs.Pieces.{Kind, blankLine, plainLine, paragraph}
 use Rattle.options.specs.Opts.{Opts}
 use Rattle.records.specs.Word.{Word}
@@ -56,9 +56,9 @@ spelt befores [] = []
 spelt [] (w ∷ ws) = w .text ++ spelt [] ws
 spelt (s ∷ befores) (w ∷ ws) = s ++ (w .text ++ spelt befores ws)
 
--- between two words stand blanks, at least one, or a space and the paragraph's indent
+-- between two words stand blanks that part words of a line, at least one, or a space and the paragraph's indent
 abbrev pub Between : Bool → List ℕ → List ℕ → Type 0
-Between glue indent s = ((0 < length s) × Blanks glue s) ⊎ (s ≡ space ∷ indent)
+Between glue indent s = Gap glue s ⊎ (s ≡ space ∷ indent)
 
 -- a text: the words that it spells, behind an indent of the paragraph
 pub record Spells (glue : Bool) (first indent : List ℕ) (ws : List Word) (text : List ℕ) : Type 0 where

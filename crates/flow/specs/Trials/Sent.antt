@@ -6,8 +6,12 @@ use Prim.Native.String.{String}
 use lib.Dec.{T, eqb}
 use Rattle.lists.specs.Walk.{walkUpTo, walk, piece, each}
 use Rattle.lists.specs.Runs.{while, behind, every, begins, joined}
+use Rattle.widths.specs.Ranges.{widthIn}
+use Rattle.widths.specs.Table.{table}
+use Rattle.widths.specs.Widths.{widthOf}
+use Rattle.widths.specs.WhiteSpace.{whiteSpace}
 use Rattle.text.specs.Rfc3629.{scalar, encode, spelled, decode}
-use Rattle.text.specs.Characters.{accepted, character, blankCode, widthOf, glyph, glyphs, extent}
+use Rattle.text.specs.Characters.{glyph, characters, glyphs, extent}
 use Rattle.options.specs.Opts.{Opts, Text, absent, given}
 use Rattle.lines.specs.Lines.{body, withoutReturn, firstLine, linesOf}
 use Rattle.lines.specs.Classes.{glyphsBefore, glyphsFrom, nextStop, columnBehind, columnsOf, search, shapeAt, classify}
@@ -94,5 +98,5 @@ plainTable =
     ∷ []
 
 pub sent-texts : T (every (right absent) paragraphTable && every (right (given [])) plainTable)
-unfolding walkUpTo walk piece each while behind every begins joined scalar encode spelled decode accepted character blankCode widthOf glyph glyphs extent body withoutReturn firstLine linesOf glyphsBefore glyphsFrom nextStop columnBehind columnsOf search shapeAt classify fromWord headerText startsMail continues agrees secondRule follow secondOf further indentOf firstIndent indentFor rowOf paragraphAt nextPiece pieces runOf runs bytesOf widthSum gapFrom gapOf punctAtEnd counting wideGap wordOf lineWords mailWord mailWords rowWords wordsOf gapWidth addedSpace spaceBefore quickFrom quickBreaks settingOf needsSpace stuffing isDashes linesFrom brokenInto paragraphLines isDashed softened allButLast dashesAmong trimmed plainSent sentLines sent sentPiece flowed dashesIn
+unfolding walkUpTo walk piece each while behind every begins joined scalar encode spelled decode widthIn table widthOf whiteSpace glyph characters glyphs extent body withoutReturn firstLine linesOf glyphsBefore glyphsFrom nextStop columnBehind columnsOf search shapeAt classify fromWord headerText startsMail continues agrees secondRule follow secondOf further indentOf firstIndent indentFor rowOf paragraphAt nextPiece pieces runOf runs bytesOf widthSum gapFrom gapOf punctAtEnd counting wideGap wordOf lineWords mailWord mailWords rowWords wordsOf gapWidth addedSpace spaceBefore quickFrom quickBreaks settingOf needsSpace stuffing isDashes linesFrom brokenInto paragraphLines isDashed softened allButLast dashesAmong trimmed plainSent sentLines sent sentPiece flowed dashesIn
 sent-texts = tt
