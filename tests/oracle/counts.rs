@@ -25,7 +25,15 @@ pub fn laid(opts: &FmtOptions, notes: &[u8]) -> Vec<Laid> {
         .map(|piece| match piece {
             Ok(para) => {
                 let words = ParaWords::new(opts, &para).words().len();
-                Laid { words: words, init: para.init_str, indent: para.indent_str, mail: para.mail_header }
+                // As linebreak.rs has it: crown and tagged alone write the first indent from its own text; mail has none.
+                let init = if opts.crown || opts.tagged {
+                    para.init_str
+                } else if para.mail_header {
+                    String::new()
+                } else {
+                    para.indent_str.clone()
+                };
+                Laid { words: words, init: init, indent: para.indent_str, mail: para.mail_header }
             }
             Err(_) => Laid { words: 0, init: String::new(), indent: String::new(), mail: false },
         })

@@ -87,7 +87,7 @@ impl Run {
                     3 => 0,
                     4 => n + 1,
                     5 if n < 1 << 20 => n + r.below(70_000),
-                    6 => r.below(2 * n + 1),
+                    6 => r.below(if n < 1 << 20 { 2 * n + 1 } else { n + 1 }),
                     _ => n + r.below(200),
                 };
                 vec![n, other]
