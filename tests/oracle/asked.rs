@@ -334,6 +334,19 @@ fn broken(r: &mut Rng) -> Asked {
     (block, notes)
 }
 
+/// Long notes for quick, without mail, at widths of every kind, a third of them in other scripts.
+pub fn quick_notes(r: &mut Rng) -> Asked {
+    let most = [12, 40, 90][r.below(3)];
+    let mut opts = random_options(r, most);
+    flagged(r, &mut opts, QUICK, 100);
+    flagged(r, &mut opts, MAIL | SPLIT, 0);
+    let mut notes = random_text(r, &opts, 20_000);
+    if r.chance(33) {
+        notes = other_scripts(r, &notes);
+    }
+    (opts.block(), notes.into_bytes())
+}
+
 fn long(r: &mut Rng) -> Asked {
     let mut opts = random_options(r, 90);
     flagged(r, &mut opts, KEEP, 20);

@@ -2,6 +2,7 @@
 //!
 //!     scale run SEED COUNT TABLES [TAMPER]   TABLES is quick or long; TAMPER puts a fault in on purpose
 //!     scale apart FILE SEED COUNT TABLES PROGRAM ...  the calls made by another program (shipped.c), that shares memory as FILE
+//!     scale width SEED LINES                 quick's lines held to the width (width.rs), so many of them
 //!     scale replay BLOCK NOTES ROOM PLACES   one call, in hexadecimal, as a difference was printed
 //!
 //! Exit: 0 no difference, 1 a difference or a byte read or written outside.
@@ -178,8 +179,7 @@ fn run(seed: u64, count: u64, long: bool, harness: Harness) -> i32 {
     }
     let codes: Vec<String> = run.codes.iter().enumerate().map(|(code, n)| format!("code {code} {n}")).collect();
     println!("answers: {}", codes.join(", "));
-    let width = &run.original.width;
-    println!("quick: {} lines counted afresh, {} of them just full, {} over the width with a single word, {} with a wide blank, {} otherwise", width.lines, width.full, width.single, width.wide, width.over);
+    println!("{}", run.original.width.told());
     println!("scale: seed {seed}, {cases} cases, {} times measured, written and formatted, {} differ", run.calls, run.differ);
     if run.original.width.over > 0 {
         return 1;
@@ -190,6 +190,18 @@ fn run(seed: u64, count: u64, long: bool, harness: Harness) -> i32 {
         return 1;
     }
     0
+}
+
+/// Notes for quick, until so many of the lines that come of them have been counted afresh.
+fn width(seed: u64, lines: u64) -> i32 {
+    let mut run = Run::new(seed, Harness::new("none"));
+    let mut r = Rng(seed);
+    while run.original.width.lines < lines && run.differ < ENOUGH {
+        run.ask(asked::quick_notes(&mut r));
+    }
+    println!("{}", run.original.width.told());
+    println!("scale: seed {seed}, {} times measured, written and formatted, {} differ", run.calls, run.differ);
+    (run.differ + run.original.width.over > 0) as i32
 }
 
 fn replay(args: &[String]) -> i32 {
@@ -229,6 +241,10 @@ fn main() {
         }
         ["apart", file, seed, count, tables, ref program @ ..] if !program.is_empty() => match (seed.parse(), count.parse()) {
             (Ok(seed), Ok(count)) => run(seed, count, tables == "long", Harness::apart(file, program)),
+            _ => usage(),
+        },
+        ["width", seed, lines] => match (seed.parse(), lines.parse()) {
+            (Ok(seed), Ok(lines)) => width(seed, lines),
             _ => usage(),
         },
         ["replay", ..] => replay(&args[1..]),

@@ -30,6 +30,13 @@ fn has_wide_blank(words: &str) -> bool {
 }
 
 impl Width {
+    pub fn told(&self) -> String {
+        format!(
+            "quick: {} lines counted afresh, {} of them just full, {} over the width with a single word, {} with a wide blank, {} otherwise",
+            self.lines, self.full, self.single, self.wide, self.over
+        )
+    }
+
     pub fn count(&mut self, laid: &[Laid], digest: &str, width: usize, tab: usize) {
         let mut lines = digest.split_terminator('\n');
         for piece in laid {
