@@ -101,6 +101,19 @@ fn wide(symbols: u32) -> impl Iterator<Item = Asked> {
     })
 }
 
+/// Octets of every class that RFC 3629's section 4 tells apart, each at its bounds.
+const OCTETS: [u8; 25] = [
+    0x00, 0x41, 0x7f, 0x80, 0x8f, 0x90, 0x9f, 0xa0, 0xbf, 0xc0, 0xc1, 0xc2, 0xdf, 0xe0, 0xe1, 0xec, 0xed, 0xee, 0xef, 0xf0, 0xf1, 0xf3, 0xf4, 0xf5, 0xff,
+];
+
+/// Every sequence of up to four of them, under the empty block: damaged where the standard library's decoder says so.
+pub fn octets(step: usize) -> impl Iterator<Item = Asked> {
+    let base = OCTETS.len();
+    (1..=4).flat_map(move |length| {
+        (0..base.pow(length)).step_by(step).map(move |n| (Vec::new(), (0..length).map(|place| OCTETS[n / base.pow(place) % base]).collect()))
+    })
+}
+
 /// Every number that a field of two bytes can have, where it has a bound, and every width with every goal about the bounds.
 fn numbers(step: usize) -> impl Iterator<Item = Asked> {
     let notes = b"a b.  c\n\tdd e\n";
@@ -205,6 +218,7 @@ pub fn tables(seed: u64, step: usize, symbols: u32) -> Vec<Kind> {
         ("short texts, damaged", Box::new(raw(symbols - 1))),
         ("short texts, no-break spaces", Box::new(no_breaks(symbols + 1))),
         ("short texts, every width", Box::new(wide(symbols))),
+        ("sequences of octets", Box::new(octets(step))),
     ]
 }
 

@@ -3,6 +3,7 @@
 //!     scale run SEED COUNT TABLES [TAMPER]   TABLES is quick or long; TAMPER puts a fault in on purpose
 //!     scale apart FILE SEED COUNT TABLES PROGRAM ...  the calls made by another program (shipped.c), that shares memory as FILE
 //!     scale width SEED LINES                 quick's lines held to the width (width.rs), so many of them
+//!     scale octets                           every sequence of up to four octets of a set that has every class
 //!     scale replay BLOCK NOTES ROOM PLACES   one call, in hexadecimal, as a difference was printed
 //!
 //! Exit: 0 no difference, 1 a difference or a byte read or written outside.
@@ -204,6 +205,18 @@ fn width(seed: u64, lines: u64) -> i32 {
     (run.differ + run.original.width.over > 0) as i32
 }
 
+/// Every sequence of octets.
+fn octets() -> i32 {
+    let mut run = Run::new(0, Harness::new("none"));
+    for asked in asked::octets(1) {
+        if run.differ < ENOUGH {
+            run.ask(asked);
+        }
+    }
+    println!("scale: sequences of octets, {} times measured, written and formatted, code 3 {}, {} differ", run.calls, run.codes[3], run.differ);
+    (run.differ > 0) as i32
+}
+
 fn replay(args: &[String]) -> i32 {
     let call = match Call::parse(args) {
         Some(call) => call,
@@ -247,6 +260,7 @@ fn main() {
             (Ok(seed), Ok(lines)) => width(seed, lines),
             _ => usage(),
         },
+        ["octets"] => octets(),
         ["replay", ..] => replay(&args[1..]),
         _ => usage(),
     })
