@@ -70,33 +70,42 @@ def unflow(text, room):
 
 
 def character(data, at):
-    """The character at a place and the bytes that it takes, or None where no accepted one begins: U+0000 to U+02FF except U+00AD."""
-    for size in (1, 2):
+    """The character at a place and the bytes that it takes, or None where none of UTF-8 begins (document 02, P4)."""
+    for size in (1, 2, 3, 4):
         try:
-            code = ord(data[at : at + size].decode("utf-8"))
+            return ord(data[at : at + size].decode("utf-8")), size
         except (UnicodeDecodeError, TypeError):
             continue
-        return (code, size) if code <= 0x2FF and code != 0xAD else None
     return None
 
 
-def glyphs(line):
-    """Its characters: place, bytes, code; of a byte that is damaged the code is None."""
-    at, found = 0, []
+WHITE_SPACE = {9, 10, 11, 12, 13, 0x20, 0x85, 0xA0, 0x1680, *range(0x2000, 0x200B), 0x2028, 0x2029, 0x202F, 0x205F, 0x3000}
+
+
+def glyphs(line, glue):
+    """Its characters: place, bytes, code, whether it is a blank; of a byte that is damaged the code is None."""
+    at, read = 0, []
     while at < len(line):
         code, size = character(line, at) or (None, 1)
-        found.append((at, line[at : at + size], code))
+        read.append((at, line[at : at + size], code))
         at += size
-    return found
+    others = [(n, code) for n, (_, _, code) in enumerate(read) if code != 0xA0]
 
+    def is_blank(n, code):
+        if not glue or code != 0xA0:
+            return code in WHITE_SPACE
+        # document 02, P2: the nearest characters on both sides that are no U+00A0 are there and no blanks
+        before = [c for k, c in others if k < n][-1:]
+        behind = [c for k, c in others if k > n][:1]
+        return not (before and behind and before[0] not in WHITE_SPACE and behind[0] not in WHITE_SPACE)
 
-def is_blank(code, glue):
-    return code in (9, 10, 11, 12, 13, 32, 0x85) or (code == 0xA0 and not glue)
+    return [(at, taken, code, is_blank(n, code)) for n, (at, taken, code) in enumerate(read)]
 
 
 def columns(tab, indent):
+    """Of characters that take a column each, as all do that texts.py has."""
     column = 0
-    for _, _, code in indent:
+    for _, _, code, _ in indent:
         column = (column // tab + 1) * tab if code == 9 else column + 1
     return column
 
@@ -111,16 +120,16 @@ class Options:
 
 def classified(line, o):
     """None for a blank line, the line itself for a plain one, else its indent's bytes, its columns, and its words' glyphs."""
-    found = glyphs(line)
-    if all(is_blank(code, o.glue) for _, _, code in found):
+    found = glyphs(line, o.glue)
+    if all(blank for _, _, _, blank in found):
         return None
-    if any(code is None for _, _, code in found):
+    if any(code is None for _, _, code, _ in found):
         return line
     front = 0
-    while is_blank(found[front][2], o.glue):
+    while found[front][3]:
         front += 1
     if o.skip is not None:
-        places = [0] if o.exact_skip else [at for at, _, _ in found[: front + 1]]
+        places = [0] if o.exact_skip else [at for at, _, _, _ in found[: front + 1]]
         if any(line.startswith(o.skip, at) for at in places):
             return line
     return line[: found[front][0]], columns(o.tab, found[:front]), found[front:]
@@ -131,10 +140,10 @@ def words_of(found, o):
     words, gap, at = [], 0, 0
     while at < len(found):
         end = at
-        while end < len(found) and not is_blank(found[end][2], o.glue):
+        while end < len(found) and not found[end][3]:
             end += 1
         if end > at:
-            text = b"".join(b for _, b, _ in found[at:end])
+            text = b"".join(b for _, b, _, _ in found[at:end])
             words.append((text, end - at, gap, text[-1:] in (b".", b"?", b"!")))
             gap, at = 0, end
         else:
