@@ -31,7 +31,9 @@ use Rattle.pieces.specs.Pieces.{Paragraph, Piece, Row, plainLine, paragraph, ro
 use Rattle.pieces.proofs.Extents.{walk-lines, pieces-lines}
 use Rattle.records.specs.Word.{Word}
 use Rattle.words.specs.Words.{rowWords, wordsOf}
+use Rattle.words.specs.Places.{Standing, wordsStanding}
 use Rattle.words.specs.Theorems.Ink.{rowInk}
+use Rattle.words.specs.Theorems.Standing.{Ascends, Stands, WordsStand}
 use Rattle.words.proofs.Order.{Whole, row-ink, paragraph-whole}
 use Rattle.output.specs.Theorems.Order.{InOrder}
 use Rattle.formatter.specs.Answers.{done, numbered}
@@ -41,8 +43,10 @@ use Rattle.rudignals.specs.Theorems.LineEnds.{LineEnd, feed, LineIs}
 use Rattle.formatter.proofs.Together.{together-they-do-what-the-old-call-did, measured-room-suffices}
 use Rattle.formatter.proofs.Answers.{measured-done, answer-measured}
 use Rattle.rudignals.proofs.Boundary.{measuring-boundary}
-use Rattle.rudignals.proofs.Gaps.{Stands, gap-stands}
-use Rattle.rudignals.proofs.Order.{rows-of, paragraph-order}
+use Rattle.rudignals.proofs.Gaps.{BlankThere, gap-stands}
+use Rattle.rudignals.proofs.Order.{among, rows-of, paragraph-order}
+use Rattle.walk.specs.Standing.{wordsUnder, standingFrom, standingWords}
+use Rattle.walk.proofs.Standing.{words-stand, paragraph-stands-there, standing-there}
 use Rattle.walk.proofs.Extents.{extents-are-notes, extents-some, joined-at, output-some, damaged-pieces, plain-digest}
 use Rattle.index.specs.declared.Record.{Record}
 use Rattle.indexer.specs.Index.{indexOf}
@@ -152,11 +156,11 @@ pub words-stand-once-and-in-order : (o : Opts) (notes : List ℕ) (q : Piece) (p
 words-stand-once-and-in-order = paragraph-order
 
 -- A gap is blank by the rule of document 02, P2, read on the line that it stands on, whatever is before and behind it there: the line's
--- glyphs are those of the undamaged text before the gap, those of the gap, each of them a blank, and the rest. (`Stands`: proofs/Gaps.)
+-- glyphs are those of the undamaged text before the gap, those of the gap, each of them a blank, and the rest. (`BlankThere`: proofs/Gaps.)
 pub a-gap-is-blank-where-it-stands : (glue : Bool) (before gap after : List ℕ)
     → damage before ≡ Nowhere
     → Gap glue gap
-    → Stands glue before gap after
+    → BlankThere glue before gap after
 a-gap-is-blank-where-it-stands = gap-stands
 
 -- Its words are those of its lines, line by line ..
@@ -178,6 +182,39 @@ pub no-word-is-empty : (o : Opts) (notes : List ℕ) (q : Piece) (p : Paragraph)
     → q .kind ≡ paragraph p
     → All (λ (w : Word). 0 < length (w .text)) (wordsOf o p)
 no-word-is-empty o notes q p m e = all-weaken (Whole (o .glue) (o .uniform || p .mail)) _ (λ w h. h .some) (wordsOf o p) (paragraph-whole o (q .lines) p (rows-of o notes q p m e))
+
+-- Each word has its place in the notes (document 02, P3; `standingWords`: walk/specs/Standing.antt, `Stands` and `Ascends`:
+-- words/specs/Theorems/Standing.antt). The words that have one are the words of all paragraphs, each once and in order ..
+pub each-word-has-its-place : (o : Opts) (notes : List ℕ) → map (λ (s : Standing). s .word) (standingWords o notes) ≡ joined (λ (q : Piece). wordsUnder o (q .kind)) (pieces o notes)
+each-word-has-its-place o notes = words-stand o notes .words
+
+-- .. a word's bytes are the notes' bytes at its place, and on its line the character that stands there is no blank ..
+pub a-word-is-the-notes'-bytes-at-its-place : (o : Opts) (notes : List ℕ) → All (λ (s : Standing). Stands (o .glue) notes (s .place) (s .word .text)) (standingWords o notes)
+a-word-is-the-notes'-bytes-at-its-place o notes = words-stand o notes .each
+
+-- .. and places ascend from the first word of the notes to the last: no word begins before the one before it has ended.
+pub places-ascend : (o : Opts) (notes : List ℕ) → Ascends 0 (standingWords o notes) (length notes)
+places-ascend o notes = words-stand o notes .ascend
+
+-- So of each paragraph the words that stand in its output once and in order are known with their places: it takes the bytes of the notes
+-- behind those that the pieces before it take, and its words stand there, within its own lines; they are those words of the notes that
+-- come behind the words of the pieces before it.
+pub record WordsPlaced (o : Opts) (notes : List ℕ) (before : List Piece) (q : Piece) (after : List Piece) (p : Paragraph) (place : ℕ) : Type 0 where
+  pub in-order : InOrder (λ s. Gap (o .glue) s ⊎ (s ≡ 10 ∷ p .indent .bytes)) (p .first .bytes) (map (λ (s : Standing). s .word) (wordsStanding o place (q .lines) p)) (pieceOutput o q)
+  pub in-the-notes : WordsStand o notes place (q .lines) p
+  pub among-all : standingWords o notes ≡ standingFrom o 0 before ++ (wordsStanding o place (q .lines) p ++ standingFrom o (place + length (extentOf q)) after)
+
+pub words-stand-where-the-notes-have-them : (o : Opts) (notes : List ℕ) (before : List Piece) (q : Piece) (after : List Piece) (p : Paragraph)
+    → pieces o notes ≡ before ++ q ∷ after
+    → q .kind ≡ paragraph p
+    → WordsPlaced o notes before q after p (length (joined extentOf before))
+words-stand-where-the-notes-have-them o notes before q after p e k =
+    let s = paragraph-stands-there o notes before q after p e k in
+    record {
+      in-order = rw (s .words) (paragraph-order o notes q p (rw e (among before q after)) k);
+      in-the-notes = s;
+      among-all = standing-there o notes before q after p e k;
+    }
 
 -- ---- 3. a damaged line stands
 

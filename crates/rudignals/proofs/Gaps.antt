@@ -148,7 +148,7 @@ again (c ∷ codes) h =
 -- ---- a gap where it stands
 
 -- the glyphs of a line: those of what is before the gap, those of the gap, all blank, and the rest
-pub record Stands (glue : Bool) (before gap after : List ℕ) : Type 0 where
+pub record BlankThere (glue : Bool) (before gap after : List ℕ) : Type 0 where
   pub left : List Glyph
   pub middle : List Glyph
   pub right : List Glyph
@@ -157,7 +157,7 @@ pub record Stands (glue : Bool) (before gap after : List ℕ) : Type 0 where
   pub gapIs : joined (λ (g : Glyph). g .bytes) middle ≡ gap
   pub blank : every isBlank middle ≡ true
 
-pub gap-stands : (glue : Bool) (before gap after : List ℕ) → damage before ≡ Nowhere → Gap glue gap → Stands glue before gap after
+pub gap-stands : (glue : Bool) (before gap after : List ℕ) → damage before ≡ Nowhere → Gap glue gap → BlankThere glue before gap after
 gap-stands glue xs gap after d g =
     let a = rw (← g .blanks .octets) at (again (g .codes) (g .blanks .blank)) in
     let b = parted glue false (characters xs) (characters gap ++ characters after) in

@@ -1,7 +1,7 @@
 -- A paragraph of the notes: its rows are its lines, it has a word, and its words are emitted in order and each once, whatever the breaks.
 use mathlib.Core.Path.{_≡_, refl}
 use mathlib.Core.Bool.{Bool, true, false, _||_}
-use mathlib.Core.List.{List, _∷_, _++_}
+use mathlib.Core.List.{List, [], _∷_, _++_, List·Memᴰ·head, List·Memᴰ·tail}
 use mathlib.Core.Logic.{_⊎_, inl, inr}
 use Prim.Native.Nat.{ℕ, zero, suc}
 use native.Mathlib.Omega.{arith}
@@ -27,6 +27,11 @@ use Rattle.output.specs.Theorems.Order.{InOrder}
 use Rattle.output.proofs.Order.{space-some, emit-order}
 use Rattle.paragraphs.specs.Breaks.{settingOf, breaksBy}
 use Rattle.walk.specs.Digest.{formatted, outputOf, pieceOutput}
+
+-- an element that stands between others is one of a list's
+pub among : {A : Type 0} (before : List A) (x : A) (after : List A) → x ∈ (before ++ x ∷ after)
+among [] x after = List·Memᴰ·head refl
+among (y ∷ before) x after = List·Memᴰ·tail (among before x after)
 
 pub rows-of : (o : Opts) (notes : List ℕ) (q : Piece) (p : Paragraph) → q ∈ pieces o notes → q .kind ≡ paragraph p → Rows o (q .lines) p
 rows-of o notes q p m e = rw e at (all-at (OfPiece o) (pieces-rows o notes) m)

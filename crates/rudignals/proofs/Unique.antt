@@ -53,7 +53,7 @@ use Rattle.records.specs.Word.{Word}
 use Rattle.records.specs.Contracts.Table.{wordsIn}
 use Rattle.records.specs.Contracts.Marks.{Marked}
 use Rattle.records.proofs.Unique.{marked-unique}
-use Rattle.words.specs.Contracts.Split.{endsIn, Split}
+use Rattle.words.specs.Contracts.Split.{placesIn, Split}
 use Rattle.words.specs.declared.Count.{Count}
 use Rattle.words.specs.declared.Count.the-variants.{Words}
 use Rattle.words.proofs.Unique.{count-unique, split-unique}
@@ -67,12 +67,12 @@ equal-unique x a b e f = e ∙ sym f
 pub bounded-unique : {A : Type 0} (Bounds : A → Type 0) (x a b : A) → (a ≡ x) × Bounds a → (b ≡ x) × Bounds b → a ≡ b
 bounded-unique Bounds x a b e f = e .0 ∙ sym (f .0)
 
--- the count of a paragraph's words, the words that the table's first records are, and where they end, whatever block the options came from
-pub words-unique : (most : ℕ) (notes : List ℕ) (ws : List ℕ → List Word) (es t u : List ℕ) (r s : Count)
-    → ((block : List ℕ) → Split most notes (ws block) es t r) → ((block : List ℕ) → Split most notes (ws block) es u s)
-    → (r ≡ s) × ((n : ℕ) → r ≡ Words n → (wordsIn notes n t ≡ wordsIn notes n u) × (endsIn n t ≡ endsIn n u))
-words-unique most notes ws es t u r s a b =
-    (count-unique most notes (ws []) es t u r s (a []) (b []), λ n e. split-unique most notes (ws []) es t u r s (a []) (b []) n e)
+-- the count of a paragraph's words, the words that the table's first records are, and where they stand, whatever block the options came from
+pub words-unique : (most : ℕ) (notes : List ℕ) (ws : List ℕ → List Word) (ps t u : List ℕ) (r s : Count)
+    → ((block : List ℕ) → Split most notes (ws block) ps t r) → ((block : List ℕ) → Split most notes (ws block) ps u s)
+    → (r ≡ s) × ((n : ℕ) → r ≡ Words n → (wordsIn notes n t ≡ wordsIn notes n u) × (placesIn n t ≡ placesIn n u))
+words-unique most notes ws ps t u r s a b =
+    (count-unique most notes (ws []) ps t u r s (a []) (b []), λ n e. split-unique most notes (ws []) ps t u r s (a []) (b []) n e)
 
 -- every mark
 pub quick-unique : (g : Setting) (n : ℕ) (table : List ℕ) (marks a b : List Bool)

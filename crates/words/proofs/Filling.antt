@@ -12,15 +12,15 @@ use Rattle.records.specs.Word.{Word, meaning}
 use Rattle.records.specs.Contracts.Table.{Holds, Room, wordIn, withWord, recordsOf, wordsIn, Within}
 use Rattle.records.specs.declared.Word.{Word as Record}
 use Rattle.records.proofs.Table.{length-with, read-back, read-other, records-more, within-more, words-length, words-more}
-use Rattle.words.specs.Contracts.Split.{Kept, endsIn, WordsFilled, Split}
+use Rattle.words.specs.Contracts.Split.{Kept, placesIn, WordsFilled, Split}
 use Rattle.words.specs.Contracts.Places.{counted}
 use Rattle.words.specs.declared.Count.{Count}
 use Rattle.words.specs.declared.Count.the-variants.{Words, TooMany}
 
 -- of the whole, the first n words are in the table and the rest is left
-pub record Filling (most : ℕ) (notes : List ℕ) (whole left : List Word) (es fs : List ℕ) (n : ℕ) (t : List ℕ) : Type 0 where
+pub record Filling (most : ℕ) (notes : List ℕ) (whole left : List Word) (ps qs : List ℕ) (n : ℕ) (t : List ℕ) : Type 0 where
   pub words : wordsIn notes n t ++ left ≡ whole
-  pub ends : endsIn n t ++ fs ≡ es
+  pub places : placesIn n t ++ qs ≡ ps
   pub kept : Kept most (length notes) n t
 
 -- what holds of the first n records and of one more
@@ -39,25 +39,25 @@ front-means notes end w h =
     let l = length-take end notes in
     rw (take-take (w .start) end notes (omega (arith, h .text, h .end)), take-take (w .end) end notes (omega (arith, h .end)))
 
-pub filling-first : {most : ℕ} {notes : List ℕ} {left : List Word} {fs : List ℕ} {n : ℕ} {t : List ℕ} → Kept most (length notes) n t → Filling most notes (wordsIn notes n t ++ left) left (endsIn n t ++ fs) fs n t
-filling-first k = record { words = refl; ends = refl; kept = k }
+pub filling-first : {most : ℕ} {notes : List ℕ} {left : List Word} {qs : List ℕ} {n : ℕ} {t : List ℕ} → Kept most (length notes) n t → Filling most notes (wordsIn notes n t ++ left) left (placesIn n t ++ qs) qs n t
+filling-first k = record { words = refl; places = refl; kept = k }
 
 -- one record more
-ends-more : (t : List ℕ) (n : ℕ) (w : Record) → Room n t → endsIn (n + 1) (withWord t n w) ≡ endsIn n t ++ (w .end ∷ [])
-unfolding endsIn
-ends-more t n w room = ap (map (λ (w : Record). w .end)) (records-more t n w room) ∙ map-append (λ (w : Record). w .end) (recordsOf n t) (w ∷ [])
+places-more : (t : List ℕ) (n : ℕ) (w : Record) → Room n t → placesIn (n + 1) (withWord t n w) ≡ placesIn n t ++ (w .start ∷ [])
+unfolding placesIn
+places-more t n w room = ap (map (λ (w : Record). w .start)) (records-more t n w room) ∙ map-append (λ (w : Record). w .start) (recordsOf n t) (w ∷ [])
 
-module _ {most : ℕ} {notes : List ℕ} {whole left : List Word} {es fs : List ℕ} {n : ℕ} {t : List ℕ} where
-  module _ (f : Filling most notes whole left es fs n t) where
-    pub filling-done : left ≡ [] → fs ≡ [] → WordsFilled most notes whole es t (Words n)
-    filling-done e q = (sym (append-nil (wordsIn notes n t)) ∙ rw e at (f .words), sym (append-nil (endsIn n t)) ∙ rw q at (f .ends), f .kept)
+module _ {most : ℕ} {notes : List ℕ} {whole left : List Word} {ps qs : List ℕ} {n : ℕ} {t : List ℕ} where
+  module _ (f : Filling most notes whole left ps qs n t) where
+    pub filling-done : left ≡ [] → qs ≡ [] → WordsFilled most notes whole ps t (Words n)
+    filling-done e q = (sym (append-nil (wordsIn notes n t)) ∙ rw e at (f .words), sym (append-nil (placesIn n t)) ∙ rw q at (f .places), f .kept)
 
-    pub filling-full : {w : Word} {rest : List Word} → left ≡ w ∷ rest → most ≤ n → WordsFilled most notes whole es t TooMany
+    pub filling-full : {w : Word} {rest : List Word} → left ≡ w ∷ rest → most ≤ n → WordsFilled most notes whole ps t TooMany
     filling-full e h =
         omega (arith, ap length (rw e at (f .words)), simp length-append at (ap length (rw e at (f .words))), words-length notes n t)
 
-    pub filling-more : (end : ℕ) (w : Record) {rest : List Word} {gs : List ℕ} → left ≡ meaning (take end notes) w ∷ rest → fs ≡ w .end ∷ gs → n < most → Within (length (take end notes)) w → w .width ≤ length (take end notes)
-        → Filling most notes whole rest es gs (n + 1) (withWord t n w)
+    pub filling-more : (end : ℕ) (w : Record) {rest : List Word} {gs : List ℕ} → left ≡ meaning (take end notes) w ∷ rest → qs ≡ w .start ∷ gs → n < most → Within (length (take end notes)) w → w .width ≤ length (take end notes)
+        → Filling most notes whole rest ps gs (n + 1) (withWord t n w)
     filling-more end w {rest} {gs} e q more inside narrow =
         let k = f .kept in
         let h = k .held in
@@ -65,7 +65,7 @@ module _ {most : ℕ} {notes : List ℕ} {whole left : List Word} {es fs : List 
         let l = length-take end notes in
         record {
           words = rw (words-more notes n t w room) (append-assoc (wordsIn notes n t) (meaning notes w ∷ []) rest ∙ rw (e, front-means notes end w inside) at (f .words));
-          ends = rw (ends-more t n w room) (append-assoc (endsIn n t) (w .end ∷ []) gs ∙ rw q at (f .ends));
+          places = rw (places-more t n w room) (append-assoc (placesIn n t) (w .start ∷ []) gs ∙ rw q at (f .places));
           kept = record {
             few = omega arith;
             held = rw (length-with t n w) h;
@@ -82,36 +82,36 @@ module _ {most : ℕ} {notes : List ℕ} {whole left : List Word} {es fs : List 
       pub filling-over : most < length (wordsIn notes n t ++ line) → most < length whole
       filling-over l = omega (arith, l, simp (length-append (wordsIn notes n t ++ line) rest) at (ap length together))
 
-      module _ (here later : List ℕ) (q : fs ≡ here ++ later) (t′ : List ℕ) where
-        ends-together : (endsIn n t ++ here) ++ later ≡ es
-        ends-together = append-assoc (endsIn n t) here later ∙ rw q at (f .ends)
+      module _ (here later : List ℕ) (q : qs ≡ here ++ later) (t′ : List ℕ) where
+        places-together : (placesIn n t ++ here) ++ later ≡ ps
+        places-together = append-assoc (placesIn n t) here later ∙ rw q at (f .places)
 
-        pub filling-line : (m : ℕ) → WordsFilled most notes (wordsIn notes n t ++ line) (endsIn n t ++ here) t′ (Words m) → Filling most notes whole rest es later m t′
-        filling-line m l = record { words = rw (l .0) together; ends = rw (l .1) ends-together; kept = l .2 }
+        pub filling-line : (m : ℕ) → WordsFilled most notes (wordsIn notes n t ++ line) (placesIn n t ++ here) t′ (Words m) → Filling most notes whole rest ps later m t′
+        filling-line m l = record { words = rw (l .0) together; places = rw (l .1) places-together; kept = l .2 }
 
 -- no word is there yet
 pub kept-none : (most size : ℕ) (t : List ℕ) → Holds most t → Kept most size 0 t
 kept-none most size t h = record { few = omega arith; held = h; within = λ i l. absurd (omega arith); narrow = λ i l. absurd (omega arith) }
 
-pub filling-none : {most : ℕ} {notes : List ℕ} {left : List Word} {fs : List ℕ} {t : List ℕ} → Holds most t → Filling most notes left left fs fs 0 t
-unfolding wordsIn recordsOf endsIn
-filling-none {most = most} {notes = notes} {t = t} h = record { words = refl; ends = refl; kept = kept-none most (length notes) t h }
+pub filling-none : {most : ℕ} {notes : List ℕ} {left : List Word} {qs : List ℕ} {t : List ℕ} → Holds most t → Filling most notes left left qs qs 0 t
+unfolding wordsIn recordsOf placesIn
+filling-none {most = most} {notes = notes} {t = t} h = record { words = refl; places = refl; kept = kept-none most (length notes) t h }
 
 -- what the table holds at last
-pub filled-split : (most : ℕ) (notes : List ℕ) (ws : List Word) (es : List ℕ) (t : List ℕ) (r : Count) → WordsFilled most notes ws es t r → Split most notes ws es t r
+pub filled-split : (most : ℕ) (notes : List ℕ) (ws : List Word) (ps : List ℕ) (t : List ℕ) (r : Count) → WordsFilled most notes ws ps t r → Split most notes ws ps t r
 unfolding counted
-filled-split most notes ws es t (Words n) f =
+filled-split most notes ws ps t (Words n) f =
     let l : length ws ≡ n = sym (ap length (f .0)) ∙ words-length notes n t in
     let same : (m : ℕ) → Words n ≡ Words m → n ≡ m = λ m q. cc in
     record {
       count = rw (l, le-leb n most (f .2 .few));
       words = λ m q. rw (same m q) at (f .0);
-      ends = λ m q. rw (same m q) at (f .1);
+      places = λ m q. rw (same m q) at (f .1);
       kept = λ m q. rw (same m q) at (f .2);
     }
-filled-split most notes ws es t TooMany f = record {
+filled-split most notes ws ps t TooMany f = record {
   count = rw (lt-leb (length ws) most f);
   words = λ m q. absurd (let z : _≡_ {A = ℕ} 0 1 = cc in omega arith);
-  ends = λ m q. absurd (let z : _≡_ {A = ℕ} 0 1 = cc in omega arith);
+  places = λ m q. absurd (let z : _≡_ {A = ℕ} 0 1 = cc in omega arith);
   kept = λ m q. absurd (let z : _≡_ {A = ℕ} 0 1 = cc in omega arith);
 }

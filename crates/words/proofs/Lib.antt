@@ -11,5 +11,6 @@ pub mod Rows
 pub mod Gaps
 pub mod Spelled
 pub mod Order
+pub mod Places
 pub mod Columns
 pub mod Unique

@@ -21,11 +21,11 @@ use Rattle.records.specs.Contracts.Table.{beforeNumber, Small, Within}
 use Rattle.records.specs.declared.Word.{Word as Record}
 use Rattle.records.specs.declared.Before.the-variants.{Absent}
 use Rattle.words.specs.Words.{Run, isInk, runOf, runs, bytesOf, widthSum, Gap, noGap, gapOf, hasTab, punctAtEnd, counting, wideGap, wordOf, mailWord}
-use Rattle.words.specs.Contracts.Places.{endsFrom}
+use Rattle.words.specs.Places.{placesFrom}
 use Rattle.words.specs.Contracts.Scan.{glyphsBehind, gapIn, OverBlanks, OverInk, wordAt, mailAt, wordsFrom, NextWord}
 use Rattle.words.specs.declared.Blanks.{Blanks}
 use Rattle.words.specs.declared.Ink.{Ink}
-use Rattle.words.proofs.WordRuns.{behind-joined, run-bytes, words-none, ends-none, wordFor, words-one, ends-one}
+use Rattle.words.proofs.WordRuns.{behind-joined, run-bytes, words-none, places-none, wordFor, words-one, places-one}
 use Rattle.words.proofs.Tabless.{tabless-wide}
 
 -- some glyph stands first, and it has a byte
@@ -48,8 +48,8 @@ module _ (o : Opts) (newLine : Bool) (s : List ℕ) (at : ℕ) (b : Blanks) (ove
   pub next-none : (mail previous : Bool) → length s ≤ b .end → wordsFrom o mail newLine previous line ≡ []
   next-none mail previous h = words-none o mail newLine previous _ (sym (over .rest) ∙ ink-past (o .glue) s (b .end) h)
 
-  pub ends-past : length s ≤ b .end → endsFrom at (runs line) ≡ []
-  ends-past h = ends-none at _ (sym (over .rest) ∙ ink-past (o .glue) s (b .end) h)
+  pub places-past : length s ≤ b .end → placesFrom at (runs line) ≡ []
+  places-past h = places-none at _ (sym (over .rest) ∙ ink-past (o .glue) s (b .end) h)
 
   module _ (w : Ink) (ink : OverInk (o .glue) s (b .end) w) (more : b .end < length s) where
     abbrev rest : List Glyph
@@ -88,9 +88,9 @@ module _ (o : Opts) (newLine : Bool) (s : List ℕ) (at : ℕ) (b : Blanks) (ove
     onward mail previous r m e =
         rw (m, e, ink .punct, ink .rest, over .rest) (words-one _ starts o mail newLine previous)
 
-    -- and it ends where the record says
-    ended : endsFrom at (runs line) ≡ w .end ∷ endsFrom (w .end) (runs (glyphs (o .glue) (drop (w .end) s)))
-    ended = rw (ink .rest, over .rest) (ends-one _ starts at (w .end) (ink .end ∙ ap₂ (λ (n : ℕ) (gs : List Glyph). n + extent (while isInk gs)) (over .end) (over .rest)))
+    -- and it stands where the record says
+    placed : placesFrom at (runs line) ≡ b .end ∷ placesFrom (w .end) (runs (glyphs (o .glue) (drop (w .end) s)))
+    placed = rw (ink .rest, over .rest) (places-one _ starts at (b .end) (w .end) (over .end) (ink .end ∙ ap (λ (gs : List Glyph). b .end + extent (while isInk gs)) (over .rest)))
 
     -- in mail
     mail-means : (previous : Bool) → meaning s (mailAt (b .end) (w .end)) ≡ wordFor o true newLine previous run
@@ -141,7 +141,7 @@ module _ (o : Opts) (newLine : Bool) (s : List ℕ) (at : ℕ) (b : Blanks) (ove
     unfolding wordsFrom
     next-mail previous = let e = ends in record {
       first = onward true previous (mailAt (b .end) (w .end)) (mail-means previous) refl;
-      ends = ended;
+      place = placed;
       within = record { gap = omega arith; text = omega arith; end = ink .within };
       on = omega (arith, over .end);
       narrow = omega (arith, ink .within);
@@ -152,7 +152,7 @@ module _ (o : Opts) (newLine : Bool) (s : List ℕ) (at : ℕ) (b : Blanks) (ove
     pub next-line : (previous : Bool) → NextWord o false newLine previous s at (wordAt (o .uniform) (o .characters) newLine previous at b w)
     next-line previous = let e = ends in record {
       first = onward false previous (wordAt (o .uniform) (o .characters) newLine previous at b w) (line-means previous) refl;
-      ends = ended;
+      place = placed;
       within = pick-within (o .uniform);
       on = omega (arith, over .end);
       narrow = omega (arith, ink .narrow, ink .within);

@@ -93,7 +93,7 @@ clean-parts xs ys c =
     let f = and-eq-true-iff _ _ .0 (rw (joined-append, every-append) at (c .feedless)) in
     (record { sound = all-front _ xs ys (c .sound); feedless = f .0 }, record { sound = all-back _ xs ys (c .sound); feedless = f .1 })
 
-bytes-some : (gs : List Glyph) → All Sound gs → 0 < length gs → 0 < length (bytesOf gs)
+pub bytes-some : (gs : List Glyph) → All Sound gs → 0 < length gs → 0 < length (bytesOf gs)
 unfolding bytesOf
 bytes-some [] s h = absurd (omega arith)
 bytes-some (g ∷ gs) s h =

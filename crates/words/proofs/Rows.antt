@@ -4,27 +4,32 @@ use mathlib.Core.Bool.{Bool, true, false, cond, not}
 use mathlib.Core.List.{List, [], _∷_, _++_}
 use Prim.Native.Nat.{ℕ, _+_, _-_, _≤_, _<_}
 use native.Mathlib.Omega.{arith}
-use lib.ListN.{length, take, drop, length-take}
+use lib.ListN.{length, take, drop, length-append, length-take, length-drop}
 use lib.Seq.{slice, drop-drop, take-take, length-slice, length-take-le}
 use Rattle.lists.proofs.Fronts.{part-to-end}
+use Rattle.lists.proofs.Parts.{joined-append}
 use Rattle.lists.specs.Runs.{while, joined}
-use Rattle.text.specs.Characters.{Glyph, glyphs, isBlank}
+use Rattle.text.specs.Characters.{Glyph, glyphs, isBlank, extent}
 use Rattle.text.specs.Contracts.Places.{inkGlyphs}
+use Rattle.text.proofs.Edges.{glyphs-joined}
 use Rattle.options.specs.Opts.{Opts, meant}
 use Rattle.options.specs.declared.Options.{Options}
 use Rattle.lines.specs.Lines.{Line, firstLine, linesOf}
-use Rattle.lines.specs.Classes.{glyphsFrom}
+use Rattle.lines.specs.Classes.{glyphsBefore, glyphsFrom}
 use Rattle.lines.specs.Contracts.Places.{lengthsOf}
 use Rattle.lines.specs.declared.Extent.{Extent}
+use Rattle.lines.proofs.Ink.{upTo-from}
 use Rattle.lines.proofs.Lines.{LineHere, lines-past, line-here}
 use Rattle.pieces.specs.Pieces.{Row}
 use Rattle.pieces.specs.Contracts.Bounds.{InkBegins, AllBegin}
 use Rattle.records.specs.Word.{Word}
-use Rattle.words.specs.Words.{Run, runs, counting, wordOf, lineWords, rowWords}
-use Rattle.words.specs.Contracts.Places.{rowsAt, wordsAt, endsFrom, endsAt}
+use Rattle.words.specs.Words.{Run, runs, glyphBytes, bytesOf, counting, wordOf, lineWords, rowWords}
+use Rattle.words.specs.Places.{placesFrom, rowPlaces, placesOf}
+use Rattle.words.specs.Contracts.Places.{rowsAt, wordsAt, placesAt}
 use Rattle.words.specs.Contracts.Scan.{glyphsBehind, wordsFrom}
 use Rattle.words.specs.Contracts.Split.{WordsFilled, Split}
 use Rattle.words.specs.declared.Count.{Count}
+use Rattle.words.proofs.WordRuns.{extent-bytes, behind-joined}
 use Rattle.words.proofs.Filling.{filled-split}
 
 -- ---- of the options, only uniform, tab, glue and the counting rule count
@@ -60,29 +65,38 @@ module _ (o : Opts) (mail : Bool) (start later : ℕ) where
   unfolding wordsAt rowsAt joined
   rows-none = refl
 
-  pub ends-nil : (glue : Bool) (at : ℕ) → endsAt glue mail at start later [] ≡ []
-  unfolding endsAt
-  ends-nil glue at = refl
+  pub places-nil : (glue : Bool) (at : ℕ) → placesAt glue mail at start later [] ≡ []
+  unfolding placesAt placesOf
+  places-nil glue at = refl
 
   rows-first : (l : Line) (ls : List Line) → wordsAt o mail start later (l ∷ ls) ≡ rowWords o mail (record { text = l .text; start = start }) ++ wordsAt o mail later later ls
   unfolding wordsAt rowsAt joined
   rows-first l ls = refl
 
-ends-first : (glue mail : Bool) (at start later : ℕ) (l : Line) (ls : List Line) → endsAt glue mail at start later (l ∷ ls)
-    ≡ endsFrom (at + cond mail 0 start) (runs (cond mail (glyphs glue (l .text)) (glyphsFrom start (glyphs glue (l .text))))) ++ endsAt glue mail (at + length (l .raw)) later later ls
-unfolding endsAt
-ends-first glue mail at start later l ls = refl
+places-first : (glue mail : Bool) (at start later : ℕ) (l : Line) (ls : List Line) → placesAt glue mail at start later (l ∷ ls)
+    ≡ rowPlaces glue mail at (record { text = l .text; start = start }) ++ placesAt glue mail (at + length (l .raw)) later later ls
+unfolding placesAt placesOf rowsAt
+places-first glue mail at start later l ls = refl
 
 begin-first : (glue : Bool) (start later : ℕ) (l : Line) (ls : List Line) → AllBegin glue start later (l ∷ ls) → InkBegins glue start (l .text) × AllBegin glue later later ls
 unfolding AllBegin
 begin-first glue start later l ls a = a
 
--- a line's glyphs where its words begin: behind ink, unless it is mail
-module _ (glue : Bool) (text : List ℕ) (start : ℕ) where
-  row-glyphs : (mail : Bool) → (mail ≡ false → InkBegins glue start text)
-      → cond mail (glyphs glue text) (glyphsFrom start (glyphs glue text)) ≡ glyphsBehind glue (not mail) (drop (cond mail 0 start) text)
-  row-glyphs true b = refl
-  row-glyphs false b = b refl .glyph
+-- the bytes before the place where a line's words begin
+indent-extent : (glue : Bool) (start : ℕ) (text : List ℕ) → InkBegins glue start text → extent (glyphsBefore start (glyphs glue text)) ≡ start
+unfolding bytesOf
+indent-extent glue start text b =
+    let gs = glyphs glue text in
+    let whole : joined glyphBytes (glyphsBefore start gs) ++ joined glyphBytes (glyphsFrom start gs) ≡ text =
+    sym (joined-append glyphBytes (glyphsBefore start gs) (glyphsFrom start gs)) ∙ ap (joined glyphBytes) (upTo-from start gs) ∙ glyphs-joined glue text in
+    let rest : joined glyphBytes (glyphsFrom start gs) ≡ drop start text = ap (joined glyphBytes) (b .glyph) ∙ behind-joined glue true (drop start text) in
+    omega (arith, b .within, extent-bytes (glyphsBefore start gs), simp length-append at (ap length whole), ap length rest, length-drop start text)
+
+row-places : (glue mail : Bool) (at : ℕ) (text : List ℕ) (start : ℕ) → (mail ≡ false → InkBegins glue start text)
+    → rowPlaces glue mail at (record { text = text; start = start }) ≡ placesFrom (at + cond mail 0 start) (runs (glyphsBehind glue (not mail) (drop (cond mail 0 start) text)))
+unfolding rowPlaces
+row-places glue true at text start b = let z : at + 0 ≡ at = omega arith in rw z
+row-places glue false at text start b = rw (indent-extent glue start text (b refl), b refl .glyph)
 
 row-words : (o : Opts) (mail : Bool) (text : List ℕ) (start : ℕ) → (mail ≡ false → InkBegins (o .glue) start text)
     → rowWords o mail (record { text = text; start = start }) ≡ wordsFrom o mail (not mail) false (glyphsBehind (o .glue) (not mail) (drop (cond mail 0 start) text))
@@ -99,8 +113,8 @@ pub record LineAt (o : Opts) (mail : Bool) (skip later : ℕ) (notes : List ℕ)
   pub begins : cond mail 0 skip ≤ e .text
   pub words : wordsAt o mail skip later (linesOf (slice i next notes))
       ≡ wordsFrom o mail (not mail) false (glyphsBehind (o .glue) (not mail) (slice (i + cond mail 0 skip) (i + e .text) notes)) ++ wordsAt o mail later later (linesOf (slice (i + e .whole) next notes))
-  pub ends : endsAt (o .glue) mail i skip later (linesOf (slice i next notes))
-      ≡ endsFrom (i + cond mail 0 skip) (runs (glyphsBehind (o .glue) (not mail) (slice (i + cond mail 0 skip) (i + e .text) notes))) ++ endsAt (o .glue) mail (i + e .whole) later later (linesOf (slice (i + e .whole) next notes))
+  pub places : placesAt (o .glue) mail i skip later (linesOf (slice i next notes))
+      ≡ placesFrom (i + cond mail 0 skip) (runs (glyphsBehind (o .glue) (not mail) (slice (i + cond mail 0 skip) (i + e .text) notes))) ++ placesAt (o .glue) mail (i + e .whole) later later (linesOf (slice (i + e .whole) next notes))
   pub ink : mail ≡ false → while isBlank (inkGlyphs (o .glue) (slice (i + cond mail 0 skip) (i + e .text) notes)) ≡ []
   pub rest : mail ≡ false → AllBegin (o .glue) later later (linesOf (slice (i + e .whole) next notes))
 
@@ -115,7 +129,7 @@ module _ (o : Opts) (mail : Bool) (skip later : ℕ) (notes : List ℕ) (next i 
     starts = starts;
     begins = low mail starts;
     words = rw (here .first, rows-first o mail skip later, row-words o mail (line .text) skip (λ m. begin m .0), text, drop-drop (cond mail 0 skip) i (take (i + e .text) notes));
-    ends = rw (here .first, ends-first (o .glue) mail i skip later, row-glyphs (o .glue) (line .text) skip mail (λ m. begin m .0), text, drop-drop (cond mail 0 skip) i (take (i + e .text) notes), size);
+    places = rw (here .first, places-first (o .glue) mail i skip later, row-places (o .glue) mail i (line .text) skip (λ m. begin m .0), text, drop-drop (cond mail 0 skip) i (take (i + e .text) notes), size);
     ink = λ m. rw (m, ← drop-drop skip i (take (i + e .text) notes), ← text) (begin m .0 .ink);
     rest = λ m. begin m .1;
   }
@@ -151,10 +165,10 @@ module _ (o : Opts) (mail : Bool) (skip later : ℕ) (notes : List ℕ) (next i 
 pub lines-end : (o : Opts) (mail : Bool) (skip later : ℕ) (notes : List ℕ) (next i : ℕ) → next ≤ i → wordsAt o mail skip later (linesOf (slice i next notes)) ≡ []
 lines-end o mail skip later notes next i h = rw (lines-past (take next notes) i (rw length-take (omega arith))) (rows-none o mail skip later)
 
-pub ends-end : (o : Opts) (mail : Bool) (skip later : ℕ) (notes : List ℕ) (next i : ℕ) → next ≤ i → endsAt (o .glue) mail i skip later (linesOf (slice i next notes)) ≡ []
-ends-end o mail skip later notes next i h = rw (lines-past (take next notes) i (rw length-take (omega arith))) (ends-nil o mail skip later (o .glue) i)
+pub places-end : (o : Opts) (mail : Bool) (skip later : ℕ) (notes : List ℕ) (next i : ℕ) → next ≤ i → placesAt (o .glue) mail i skip later (linesOf (slice i next notes)) ≡ []
+places-end o mail skip later notes next i h = rw (lines-past (take next notes) i (rw length-take (omega arith))) (places-nil o mail skip later (o .glue) i)
 
 -- so the table filled answers for every block
-pub filled-words : (most : ℕ) (notes t es : List ℕ) (r : Count) (o : Options) (mail : Bool) (start later : ℕ) (ls : List Line) → WordsFilled most notes (wordsAt (meant [] o) mail start later ls) es t r
-    → (block : List ℕ) → Split most notes (wordsAt (meant block o) mail start later ls) es t r
-filled-words most notes t es r o mail start later ls f block = rw (words-same o block mail start later ls) at (filled-split most notes (wordsAt (meant [] o) mail start later ls) es t r f)
+pub filled-words : (most : ℕ) (notes t ps : List ℕ) (r : Count) (o : Options) (mail : Bool) (start later : ℕ) (ls : List Line) → WordsFilled most notes (wordsAt (meant [] o) mail start later ls) ps t r
+    → (block : List ℕ) → Split most notes (wordsAt (meant block o) mail start later ls) ps t r
+filled-words most notes t ps r o mail start later ls f block = rw (words-same o block mail start later ls) at (filled-split most notes (wordsAt (meant [] o) mail start later ls) ps t r f)

@@ -20,7 +20,7 @@ use Rattle.text.proofs.Edges.{glyphs-joined}
 use Rattle.options.specs.Opts.{Opts}
 use Rattle.records.specs.Word.{Word}
 use Rattle.words.specs.Words.{Run, isInk, runOf, runs, glyphBytes, bytesOf, punctAtEnd, counting, wordOf, lineWords, mailWord, mailWords}
-use Rattle.words.specs.Contracts.Places.{endsFrom}
+use Rattle.words.specs.Places.{placesFrom}
 use Rattle.words.specs.Contracts.Scan.{glyphsBehind, wordsFrom}
 
 -- ---- bytes
@@ -85,23 +85,24 @@ words-none o false newLine previous [] e = rw runs-none (no-runs (counting (o .c
 words-none o true newLine previous (g ∷ gs) e = rw (runs-step (g ∷ gs) (omega arith)) (text-none (counting (o .characters)) o newLine previous (runOf (g ∷ gs)) _ (rw e) .0)
 words-none o false newLine previous (g ∷ gs) e = rw (runs-step (g ∷ gs) (omega arith)) (text-none (counting (o .characters)) o newLine previous (runOf (g ∷ gs)) _ (rw e) .1)
 
--- and end nowhere
-ends-empty : (at : ℕ) → endsFrom at [] ≡ []
-unfolding endsFrom
-ends-empty at = refl
+-- and have no place
+places-empty : (at : ℕ) → placesFrom at [] ≡ []
+unfolding placesFrom
+places-empty at = refl
 
-ends-text-none : (at : ℕ) (r : Run) (rs : List Run) → r .text ≡ [] → endsFrom at (r ∷ rs) ≡ []
-unfolding endsFrom
-ends-text-none at r rs e = rw e
+places-text-none : (at : ℕ) (r : Run) (rs : List Run) → r .text ≡ [] → placesFrom at (r ∷ rs) ≡ []
+unfolding placesFrom
+places-text-none at r rs e = rw e
 
-pub ends-none : (at : ℕ) (gs : List Glyph) → behind isBlank gs ≡ [] → endsFrom at (runs gs) ≡ []
+pub places-none : (at : ℕ) (gs : List Glyph) → behind isBlank gs ≡ [] → placesFrom at (runs gs) ≡ []
 unfolding runOf while
-ends-none at [] e = rw runs-none (ends-empty at)
-ends-none at (g ∷ gs) e = rw (runs-step (g ∷ gs) (omega arith)) (ends-text-none at (runOf (g ∷ gs)) _ (rw e))
+places-none at [] e = rw runs-none (places-empty at)
+places-none at (g ∷ gs) e = rw (runs-step (g ∷ gs) (omega arith)) (places-text-none at (runOf (g ∷ gs)) _ (rw e))
 
-ends-text-some : (at end : ℕ) (r : Run) (rs : List Run) {g : Glyph} {gs : List Glyph} → r .text ≡ g ∷ gs → end ≡ at + extent (r .blanks) + extent (r .text) → endsFrom at (r ∷ rs) ≡ end ∷ endsFrom end rs
-unfolding endsFrom
-ends-text-some at end r rs e q = rw q (pick (r .text) e _)
+places-text-some : (at start end : ℕ) (r : Run) (rs : List Run) {g : Glyph} {gs : List Glyph} → r .text ≡ g ∷ gs → start ≡ at + extent (r .blanks) → end ≡ start + extent (r .text)
+    → placesFrom at (r ∷ rs) ≡ start ∷ placesFrom end rs
+unfolding placesFrom
+places-text-some at start end r rs e p q = rw (q, p) (pick (r .text) e _)
   where
     pick : (t : List Glyph) {h : Glyph} {hs : List Glyph} → t ≡ h ∷ hs → (ns : List ℕ) → elim t as (λ t. List ℕ) [ [] ↦ [] | x ∷ (xs → y) ↦ ns ] ≡ ns
     pick [] z ns = absurd (let k : _≡_ {A = ℕ} 0 1 = cc in omega arith)
@@ -113,7 +114,7 @@ wordFor o true newLine previous r = mailWord r
 wordFor o false newLine previous r = wordOf (counting (o .characters)) o newLine previous r
 
 module _ (gs : List Glyph) {g : Glyph} {rest : List Glyph} (some : behind isBlank gs ≡ g ∷ rest) where
-  text-is : while isInk (behind isBlank gs) ≡ g ∷ while isInk rest
+  pub text-is : while isInk (behind isBlank gs) ≡ g ∷ while isInk rest
   text-is = let b = behind-fails isBlank gs some in rw some (while-more isInk g rest (rw b))
 
   runs-first : runs gs ≡ runOf gs ∷ runs (behind isInk (behind isBlank gs))
@@ -127,9 +128,10 @@ module _ (gs : List Glyph) {g : Glyph} {rest : List Glyph} (some : behind isBlan
       ∙ ap (drop (length (while isInk (behind isBlank gs)))) (drop-while isBlank gs) ∙ drop-while isInk (behind isBlank gs) in
       runs-step gs h ∙ ap (λ (l : List Glyph). runOf gs ∷ runs l) (rw e d)
 
-  pub ends-one : (at end : ℕ) → end ≡ at + extent (while isBlank gs) + extent (while isInk (behind isBlank gs)) → endsFrom at (runs gs) ≡ end ∷ endsFrom end (runs (behind isInk (behind isBlank gs)))
+  pub places-one : (at start end : ℕ) → start ≡ at + extent (while isBlank gs) → end ≡ start + extent (while isInk (behind isBlank gs))
+      → placesFrom at (runs gs) ≡ start ∷ placesFrom end (runs (behind isInk (behind isBlank gs)))
   unfolding runOf
-  ends-one at end e = rw runs-first (ends-text-some at end (runOf gs) _ text-is e)
+  places-one at start end p q = rw runs-first (places-text-some at start end (runOf gs) _ text-is p q)
 
   pub words-one : (o : Opts) (mail newLine previous : Bool)
       → wordsFrom o mail newLine previous gs ≡ wordFor o mail newLine previous (runOf gs) ∷ wordsFrom o mail false (punctAtEnd (while isInk (behind isBlank gs))) (behind isInk (behind isBlank gs))

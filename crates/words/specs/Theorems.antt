@@ -1,3 +1,4 @@
 -- Words that the theorems of rudignals/proofs/Demand3 use.
 pub mod Ink
 pub mod PlainGap
+pub mod Standing

@@ -14,9 +14,10 @@ ghost use Rattle.lines.specs.Lines.{linesOf};
 ghost use Rattle.pieces.specs.Contracts.Bounds.{AllBegin};
 ghost use Rattle.records.specs.Contracts.Table.{Holds, wordsIn};
 ghost use Rattle.words.specs.Words.{hasTab, runs};
-ghost use Rattle.words.specs.Contracts.Places.{wordsAt, endsFrom, endsAt};
+ghost use Rattle.words.specs.Places.{placesFrom};
+ghost use Rattle.words.specs.Contracts.Places.{wordsAt, placesAt};
 ghost use Rattle.words.specs.Contracts.Scan.{glyphsBehind, gapIn, gapBehind, noBlanks, OverBlanks, punctCode, gluedBytes, OverInk, asNumber, eightAt, Plain, OverPlain, OneSpace, wordAt, mailAt, wordsFrom, NextIs};
-ghost use Rattle.words.specs.Contracts.Split.{Kept, endsIn, WordsFilled, Split};
+ghost use Rattle.words.specs.Contracts.Split.{Kept, placesIn, WordsFilled, Split};
 use options::Options;
 use records::Before;
 use records::Word;
@@ -48,9 +49,9 @@ enum Next {
     End,
 }
 
-// The words of a paragraph's lines, which stand in the notes from at up to next: the words of the first line begin at start, those of
-// the others at later. At most so many words are wanted, for which the table has room. What it holds behind the words is scratch, and
-// all of it if there are too many.
+// The words of a paragraph's lines, which stand in the notes from at up to next, with their places: the words of the first line begin at
+// start, those of the others at later. At most so many words are wanted, for which the table has room. What it holds behind the words is
+// scratch, and all of it if there are too many.
 pub fn split_words(
     notes: &[u8],
     at: usize,
@@ -63,7 +64,7 @@ pub fn split_words(
     table: &mut [u32],
 ) -> Count
     requires { ⌜ (at ≤ next) × (next ≤ length (now notes)) × (length (now notes) ≤ 65536) × (1 ≤ o .tab) × (o .tab ≤ 100) × Holds most (now table) × (mail ≡ false → AllBegin (o .glue) start later (linesOf (slice at next (now notes)))) ⌝ }
-    ensures { λ r. ⌜ ((block : List ℕ) → Split most (now (notes .entry)) (wordsAt (meant block o) mail start later (linesOf (slice at next (now (notes .entry))))) (endsAt (o .glue) mail at start later (linesOf (slice at next (now (notes .entry))))) (now (table .exit)) r) ⌝ }
+    ensures { λ r. ⌜ ((block : List ℕ) → Split most (now (notes .entry)) (wordsAt (meant block o) mail start later (linesOf (slice at next (now (notes .entry))))) (placesAt (o .glue) mail at start later (linesOf (slice at next (now (notes .entry))))) (now (table .exit)) r) ⌝ }
 {
     let part = &notes[..next];
     let mut i = at;
@@ -103,7 +104,7 @@ fn split_line(
     table: &mut [u32],
 ) -> Count
     requires { ⌜ (start ≤ end) × (end ≤ length (now notes)) × (length (now notes) ≤ 65536) × (1 ≤ o .tab) × (o .tab ≤ 100) × Kept most (length (now notes)) n (now table) × (mail ≡ false → while isBlank (inkGlyphs (o .glue) (slice start end (now notes))) ≡ []) ⌝ }
-    ensures { λ r. ⌜ WordsFilled most (now (notes .entry)) (wordsIn (now (notes .entry)) n (now (table .entry)) ++ wordsFrom (meant [] o) mail (not mail) false (glyphsBehind (o .glue) (not mail) (slice start end (now (notes .entry))))) (endsIn n (now (table .entry)) ++ endsFrom start (runs (glyphsBehind (o .glue) (not mail) (slice start end (now (notes .entry)))))) (now (table .exit)) r ⌝ }
+    ensures { λ r. ⌜ WordsFilled most (now (notes .entry)) (wordsIn (now (notes .entry)) n (now (table .entry)) ++ wordsFrom (meant [] o) mail (not mail) false (glyphsBehind (o .glue) (not mail) (slice start end (now (notes .entry))))) (placesIn n (now (table .entry)) ++ placesFrom start (runs (glyphsBehind (o .glue) (not mail) (slice start end (now (notes .entry)))))) (now (table .exit)) r ⌝ }
 {
     let s = &notes[..end];
     let mut count = n;

@@ -4,7 +4,7 @@ use denote.Ref.{now}
 use Rattle.options.specs.Opts.{meant}
 use Rattle.words.specs.Contracts.Scan.{OverBlanks}
 use Rattle.words.proofs.BlankRuns.{blanks-before}
-use Rattle.words.proofs.NextWord.{next-none, ends-past, next-mail, next-line}
+use Rattle.words.proofs.NextWord.{next-none, places-past, next-mail, next-line}
 use borrow.Author.Needs.{needs}
 use Rattle.words.proofs.next_word.Statement.{statement}
 use Rattle.words.proofs.next_word.Tie as tie
@@ -18,7 +18,7 @@ over c = blanks-before (c .before .before .args .first) (c .before .before .pre 
 
 returns : tie.Need-returns
 unfolding meant
-returns c = (next-none _ _ _ _ _ (over (c .before)) _ _ (c .if1 .taken), ends-past (meant [] (c .before .before .before .args .o)) _ _ _ _ (over (c .before)) (c .if1 .taken))
+returns c = (next-none _ _ _ _ _ (over (c .before)) _ _ (c .if1 .taken), places-past (meant [] (c .before .before .before .args .o)) _ _ _ _ (over (c .before)) (c .if1 .taken))
 
 over-ink-requires : tie.Need-over-ink-requires
 over-ink-requires c κs = (over (c .before) .within, search needs)

@@ -14,8 +14,8 @@ use Rattle.text.specs.Contracts.Places.{inkGlyphs}
 use Rattle.options.specs.Opts.{meant}
 use Rattle.records.specs.Contracts.Table.{wordsIn}
 use Rattle.words.specs.Words.{runs}
-use Rattle.words.specs.Contracts.Places.{endsFrom}
-use Rattle.words.specs.Contracts.Split.{endsIn}
+use Rattle.words.specs.Places.{placesFrom}
+use Rattle.words.specs.Contracts.Split.{placesIn}
 use Rattle.words.specs.Contracts.Scan.{glyphsBehind, wordsFrom, NextWord}
 use Rattle.records.proofs.Table.{length-with}
 use Rattle.words.proofs.NextWord.{next-small}
@@ -28,7 +28,7 @@ Inv-loop notes start end mail o n most table₀ s count₀ at₀ first₀ previo
     (at ≤ length s)
     × Filling most notes (wordsIn notes n table₀ ++ wordsFrom (meant [] o) mail (not mail) false (glyphsBehind (meant [] o .glue) (not mail) (drop start s)))
     (wordsFrom (meant [] o) mail first previous (glyphsBehind (meant [] o .glue) first (drop at s)))
-    (endsIn n table₀ ++ endsFrom start (runs (glyphsBehind (meant [] o .glue) (not mail) (drop start s)))) (endsFrom at (runs (glyphsBehind (meant [] o .glue) first (drop at s)))) count table
+    (placesIn n table₀ ++ placesFrom start (runs (glyphsBehind (meant [] o .glue) (not mail) (drop start s)))) (placesFrom at (runs (glyphsBehind (meant [] o .glue) first (drop at s)))) count table
     × (length table ≡ length table₀)
     × (first ≡ true → while isBlank (inkGlyphs (o .glue) (drop at s)) ≡ [])
 
@@ -85,7 +85,7 @@ loop-less : tie.Need-loop-less Inv-loop μ-loop
 loop-less c = let w = word (c .before .before .before .before .before .before) in omega (arith, w .on, w .within .end)
 
 loop-again : tie.Need-loop-again Inv-loop μ-loop
-loop-again c = let w = word (c .before .before .before .before .before .before) in (w .within .end, rw (c .before .before .store .ensures) (filling-more (c .before .before .before .before .before .before .before .before .before .loop .inv .1) (c .before .before .before .before .before .before .before .before .before .before .before .before .before .args .end) _ (w .first) (w .ends) (search needs) (w .within) (w .narrow)), ap length (c .before .before .store .ensures) ∙ length-with _ _ _ ∙ c .before .before .before .before .before .before .before .before .before .loop .inv .2, λ e. absurd (false≢true e))
+loop-again c = let w = word (c .before .before .before .before .before .before) in (w .within .end, rw (c .before .before .store .ensures) (filling-more (c .before .before .before .before .before .before .before .before .before .loop .inv .1) (c .before .before .before .before .before .before .before .before .before .before .before .before .before .args .end) _ (w .first) (w .place) (search needs) (w .within) (w .narrow)), ap length (c .before .before .store .ensures) ∙ length-with _ _ _ ∙ c .before .before .before .before .before .before .before .before .before .loop .inv .2, λ e. absurd (false≢true e))
 
 pub split-line-spec : {M : Type 1} → statement M
 split-line-spec =

@@ -12,13 +12,14 @@ use Rattle.options.specs.Opts.{meant}
 use Rattle.lines.specs.Lines.{linesOf}
 use Rattle.pieces.specs.Contracts.Bounds.{AllBegin}
 use Rattle.words.specs.Words.{runs}
-use Rattle.words.specs.Contracts.Places.{wordsAt, endsFrom, endsAt}
-use Rattle.words.specs.Contracts.Split.{endsIn, WordsFilled}
+use Rattle.words.specs.Places.{placesFrom}
+use Rattle.words.specs.Contracts.Places.{wordsAt, placesAt}
+use Rattle.words.specs.Contracts.Split.{placesIn, WordsFilled}
 use Rattle.words.specs.Contracts.Scan.{glyphsBehind, wordsFrom}
 use Rattle.records.specs.Word.{Word}
 use Rattle.records.specs.Contracts.Table.{wordsIn}
 use Rattle.words.proofs.Filling.{Filling, filling-none, filling-line, filling-over, filling-done}
-use Rattle.words.proofs.Rows.{LineAt, line-at, lines-end, ends-end, filled-words}
+use Rattle.words.proofs.Rows.{LineAt, line-at, lines-end, places-end, filled-words}
 use Rattle.words.proofs.split_words.Statement.{statement}
 use Rattle.words.proofs.split_words.Tie as tie
 
@@ -27,7 +28,7 @@ Inv-loop notes at next mail start later o most table₀ part i₀ n₀ skip₀ t
     (i ≤ next)
     × (mail ≡ false → AllBegin (meant [] o .glue) skip later (linesOf (slice i next notes)))
     × Filling most notes (wordsAt (meant [] o) mail start later (linesOf (slice at next notes))) (wordsAt (meant [] o) mail skip later (linesOf (slice i next notes)))
-    (endsAt (meant [] o .glue) mail at start later (linesOf (slice at next notes))) (endsAt (meant [] o .glue) mail i skip later (linesOf (slice i next notes))) n table
+    (placesAt (meant [] o .glue) mail at start later (linesOf (slice at next notes))) (placesAt (meant [] o .glue) mail i skip later (linesOf (slice i next notes))) n table
     × (length table ≡ length table₀)
 
 abbrev μ-loop : tie.MeasureT-loop
@@ -81,22 +82,22 @@ added c =
     wordsIn (now (a .notes)) (l .n) (l .table)
     ++ wordsFrom (meant [] (a .o)) (a .mail) (not (a .mail)) false (glyphsBehind (meant [] (a .o) .glue) (not (a .mail)) (slice (l .i + cond (a .mail) 0 (l .skip)) (l .i + c .before .before .before .before .first-line .result .text) (now (a .notes))))
 
-addedEnds : (c : tie.After-split-line Inv-loop μ-loop) → List ℕ
-addedEnds c =
+addedPlaces : (c : tie.After-split-line Inv-loop μ-loop) → List ℕ
+addedPlaces c =
     let a = c .before .before .before .before .before .before .before .before .before .before .before .args in
     let l = c .before .before .before .before .before .before .before .loop in
-    endsIn (l .n) (l .table) ++ endsFrom (l .i + cond (a .mail) 0 (l .skip)) (runs (glyphsBehind (meant [] (a .o) .glue) (not (a .mail)) (slice (l .i + cond (a .mail) 0 (l .skip)) (l .i + c .before .before .before .before .first-line .result .text) (now (a .notes)))))
+    placesIn (l .n) (l .table) ++ placesFrom (l .i + cond (a .mail) 0 (l .skip)) (runs (glyphsBehind (meant [] (a .o) .glue) (not (a .mail)) (slice (l .i + cond (a .mail) 0 (l .skip)) (l .i + c .before .before .before .before .first-line .result .text) (now (a .notes)))))
 
 filled : (c : tie.After-split-line Inv-loop μ-loop)
-    → WordsFilled (c .before .before .before .before .before .before .before .before .before .before .before .args .most) (now (c .before .before .before .before .before .before .before .before .before .before .before .args .notes)) (added c) (addedEnds c) (c .split-line .last .1 .1 .1 .1 .1 .1 .1 .0) (c .split-line .result)
-unfolding meant added addedEnds
+    → WordsFilled (c .before .before .before .before .before .before .before .before .before .before .before .args .most) (now (c .before .before .before .before .before .before .before .before .before .before .before .args .notes)) (added c) (addedPlaces c) (c .split-line .last .1 .1 .1 .1 .1 .1 .1 .0) (c .split-line .result)
+unfolding meant added addedPlaces
 filled c = rw (c .before .before .before .begin .ensures) at (c .split-line .ensures)
 
 same-length : tie.Need-same-length Inv-loop μ-loop
 same-length c = c .before .before .before .table .given ∙ c .before .before .before .before .before .before .before .before .before .before .before .loop .inv .3
 
 returns : tie.Need-returns Inv-loop μ-loop
-unfolding added addedEnds
+unfolding added addedPlaces
 returns c = filled-words _ _ _ _ _ _ _ _ _ _ (filling-over (c .before .before .before .before .before .before .before .before .before .before .before .loop .inv .2) _ _ (line (c .before .before .before .before .before .before .before .before) .words) (rw (c .enum-told .given .1) at (filled (c .before .before .before .before))))
 
 add-i : tie.Need-add-i Inv-loop μ-loop
@@ -106,8 +107,8 @@ loop-less : tie.Need-loop-less Inv-loop μ-loop
 loop-less c = let l = line (c .before .before .before .before .before .before .before .before .before .before) in omega (arith, l .within, l .on)
 
 loop-again : tie.Need-loop-again Inv-loop μ-loop
-unfolding added addedEnds
-loop-again c = let l = line (c .before .before .before .before .before .before .before .before .before .before) in (l .within, l .rest, filling-line (c .before .before .before .before .before .before .before .before .before .before .before .before .before .loop .inv .2) _ _ (l .words) _ _ (l .ends) _ _ (rw (c .before .before .m .given .1) at (filled (c .before .before .before .before .before .before))), c .before .before .before .before .before .table .given ∙ c .before .before .before .before .before .before .before .before .before .before .before .before .before .loop .inv .3)
+unfolding added addedPlaces
+loop-again c = let l = line (c .before .before .before .before .before .before .before .before .before .before) in (l .within, l .rest, filling-line (c .before .before .before .before .before .before .before .before .before .before .before .before .before .loop .inv .2) _ _ (l .words) _ _ (l .places) _ _ (rw (c .before .before .m .given .1) at (filled (c .before .before .before .before .before .before))), c .before .before .before .before .before .table .given ∙ c .before .before .before .before .before .before .before .before .before .before .before .before .before .loop .inv .3)
 
 same-length-2 : tie.Need-same-length-2 Inv-loop μ-loop
 same-length-2 c = c .before .loop .inv .3
@@ -120,7 +121,7 @@ returns-2 c =
     filled-words (a .most) (now (a .notes)) (l .table) _ _ (a .o) (a .mail) (a .start) (a .later) (linesOf (slice (a .at) (a .next) (now (a .notes))))
     (filling-done (l .inv .2)
     (lines-end (meant [] (a .o)) (a .mail) (l .skip) (a .later) (now (a .notes)) (a .next) (l .i) (c .loop-test .left))
-    (ends-end (meant [] (a .o)) (a .mail) (l .skip) (a .later) (now (a .notes)) (a .next) (l .i) (c .loop-test .left)))
+    (places-end (meant [] (a .o)) (a .mail) (l .skip) (a .later) (now (a .notes)) (a .next) (l .i) (c .loop-test .left)))
 
 pub split-words-spec : {M : Type 1} → statement M
 split-words-spec =

@@ -1,17 +1,16 @@
--- A paragraph's words, of its lines and where their words begin; where each of them ends in the notes; and the code's answer.
+-- A paragraph's words and their places, of its lines and where their words begin; and the code's answer.
 use mathlib.Core.Bool.{Bool, cond}
-use mathlib.Core.List.{List, [], _∷_, _++_}
-use Prim.Native.Nat.{ℕ, _+_}
+use mathlib.Core.List.{List, [], _∷_}
+use Prim.Native.Nat.{ℕ}
 use lib.Dec.{leb}
 use lib.ListN.{length}
 use Rattle.lists.specs.Runs.{joined}
-use Rattle.text.specs.Characters.{glyphs, extent}
 use Rattle.options.specs.Opts.{Opts}
 use Rattle.lines.specs.Lines.{Line}
-use Rattle.lines.specs.Classes.{glyphsFrom}
 use Rattle.pieces.specs.Pieces.{Row}
 use Rattle.records.specs.Word.{Word}
-use Rattle.words.specs.Words.{Run, runs, rowWords}
+use Rattle.words.specs.Words.{rowWords}
+use Rattle.words.specs.Places.{placesOf}
 use Rattle.words.specs.declared.Count.{Count}
 use Rattle.words.specs.declared.Count.the-variants.{Words, TooMany}
 
@@ -23,18 +22,9 @@ rowsAt start later (l ∷ ls) = record { text = l .text; start = start } ∷ row
 unfoldable pub wordsAt : Opts → Bool → ℕ → ℕ → List Line → List Word
 wordsAt o mail start later ls = joined (rowWords o mail) (rowsAt start later ls)
 
--- the places where words end: the runs of a line begin at a place
-unfoldable pub endsFrom : ℕ → List Run → List ℕ
-endsFrom at [] = []
-endsFrom at (r ∷ rs) =
-    elim (r .text) as (λ t. List ℕ) [ [] ↦ [] | g ∷ (gs → h) ↦ (at + extent (r .blanks) + extent (r .text)) ∷ endsFrom (at + extent (r .blanks) + extent (r .text)) rs ]
-
--- a paragraph's lines begin at a place; mail's words begin where its lines do
-unfoldable pub endsAt : Bool → Bool → ℕ → ℕ → ℕ → List Line → List ℕ
-endsAt glue mail at start later [] = []
-endsAt glue mail at start later (l ∷ ls) =
-    let gs = glyphs glue (l .text) in
-    endsFrom (at + cond mail 0 start) (runs (cond mail gs (glyphsFrom start gs))) ++ endsAt glue mail (at + length (l .raw)) later later ls
+-- and where in the notes they stand, if the first line begins at a place
+unfoldable pub placesAt : Bool → Bool → ℕ → ℕ → ℕ → List Line → List ℕ
+placesAt glue mail at start later ls = placesOf glue mail at ls (rowsAt start later ls)
 
 -- up to so many words are counted
 unfoldable pub counted : ℕ → List Word → Count

@@ -14,7 +14,7 @@ use Rattle.records.specs.Contracts.Table.{beforeNumber, Within}
 use Rattle.records.specs.declared.Word.{Word as Record}
 use Rattle.records.specs.declared.Before.the-variants.{Absent}
 use Rattle.words.specs.Words.{isInk, runs, widthSum, Gap, gapTab, gapOf, hasTab, punctAtEnd, counting, lineWords, mailWords}
-use Rattle.words.specs.Contracts.Places.{endsFrom}
+use Rattle.words.specs.Places.{placesFrom}
 use Rattle.words.specs.declared.Blanks.{Blanks}
 use Rattle.words.specs.declared.Ink.{Ink}
 use Rattle.words.specs.declared.Next.{Next}
@@ -119,7 +119,7 @@ wordsFrom o false newLine previousPunct gs = lineWords (counting (o .characters)
 -- w is the next word at a place; the first of its line begins there, and behind others there are blanks
 pub record NextWord (o : Opts) (mail newLine previousPunct : Bool) (s : List ℕ) (at : ℕ) (w : Record) : Type 0 where
   pub first : wordsFrom o mail newLine previousPunct (glyphsBehind (o .glue) newLine (drop at s)) ≡ meaning s w ∷ wordsFrom o mail false (w .punct) (glyphs (o .glue) (drop (w .end) s))
-  pub ends : endsFrom at (runs (glyphsBehind (o .glue) newLine (drop at s))) ≡ w .end ∷ endsFrom (w .end) (runs (glyphs (o .glue) (drop (w .end) s)))
+  pub place : placesFrom at (runs (glyphsBehind (o .glue) newLine (drop at s))) ≡ w .start ∷ placesFrom (w .end) (runs (glyphs (o .glue) (drop (w .end) s)))
   pub within : Within (length s) w
   pub on : at < w .end
   pub narrow : w .width ≤ length s
@@ -128,5 +128,5 @@ pub record NextWord (o : Opts) (mail newLine previousPunct : Bool) (s : List ℕ
 
 abbrev pub NextIs : Opts → Bool → Bool → Bool → List ℕ → ℕ → Next → Type 0
 NextIs o mail newLine previousPunct s at End =
-    (wordsFrom o mail newLine previousPunct (glyphsBehind (o .glue) newLine (drop at s)) ≡ []) × (endsFrom at (runs (glyphsBehind (o .glue) newLine (drop at s))) ≡ [])
+    (wordsFrom o mail newLine previousPunct (glyphsBehind (o .glue) newLine (drop at s)) ≡ []) × (placesFrom at (runs (glyphsBehind (o .glue) newLine (drop at s))) ≡ [])
 NextIs o mail newLine previousPunct s at (One w) = NextWord o mail newLine previousPunct s at w

@@ -17,19 +17,19 @@ pub record Kept (most size n : ℕ) (t : List ℕ) : Type 0 where
   pub within : AllWithin size n t
   pub narrow : (i : ℕ) → i < n → wordIn t i .width ≤ size
 
--- where the first n records end
-unfoldable pub endsIn : ℕ → List ℕ → List ℕ
-endsIn n t = map (λ (w : Record). w .end) (recordsOf n t)
+-- the places of the first n records
+unfoldable pub placesIn : ℕ → List ℕ → List ℕ
+placesIn n t = map (λ (w : Record). w .start) (recordsOf n t)
 
--- the words are in the table, and end where they do in the text, or there are more of them than `most`; then it is scratch, and so is what stands behind the words
+-- the words are in the table, with their places in the text, or there are more of them than `most`; then it is scratch, and so is what stands behind the words
 abbrev pub WordsFilled : ℕ → List ℕ → List Word → List ℕ → List ℕ → Count → Type 0
-WordsFilled most notes ws es t (Words n) = (wordsIn notes n t ≡ ws) × (endsIn n t ≡ es) × Kept most (length notes) n t
-WordsFilled most notes ws es t TooMany = most < length ws
+WordsFilled most notes ws ps t (Words n) = (wordsIn notes n t ≡ ws) × (placesIn n t ≡ ps) × Kept most (length notes) n t
+WordsFilled most notes ws ps t TooMany = most < length ws
 
--- what splitting a paragraph into words answers: their count, and the table with them. A word's bytes and its end are fixed, and with
--- them its start and where the blanks before it begin.
-pub record Split (most : ℕ) (notes : List ℕ) (ws : List Word) (es : List ℕ) (t : List ℕ) (r : Count) : Type 0 where
+-- what splitting a paragraph into words answers: their count, and the table with them. A word's bytes and its place are fixed, and with
+-- them its end and where the blanks before it begin.
+pub record Split (most : ℕ) (notes : List ℕ) (ws : List Word) (ps : List ℕ) (t : List ℕ) (r : Count) : Type 0 where
   pub count : r ≡ counted most ws
   pub words : (n : ℕ) → r ≡ Words n → wordsIn notes n t ≡ ws
-  pub ends : (n : ℕ) → r ≡ Words n → endsIn n t ≡ es
+  pub places : (n : ℕ) → r ≡ Words n → placesIn n t ≡ ps
   pub kept : (n : ℕ) → r ≡ Words n → Kept most (length notes) n t
