@@ -2,15 +2,12 @@
 use mathlib.Core.Path.{_≡_, refl, sym, ap, subst, _∙_}
 use mathlib.Core.Bool.{Bool, true, false, cond}
 use mathlib.Core.List.{List, [], _∷_, _++_, map}
-use Prim.Native.Nat.{ℕ, min, _+_, _≤_, _<_}
+use Prim.Native.Nat.{ℕ, _+_, _≤_, _<_}
 use native.Mathlib.Omega.{arith}
 use lib.Dec.{leb, ltb}
-use lib.ListN.{length, take, drop, replicate, length-append}
-use lib.Seq.{take-append-seam}
+use lib.ListN.{length, take, drop, replicate}
+use lib.Seq.{take-append-seam, drop-append-seam}
 use borrow.Author.Tests.{le-leb, lt-leb}
-use Rattle.lists.specs.Runs.{joined}
-use Rattle.lists.specs.Theorems.All.{All as Every}
-use Rattle.lists.proofs.Parts.{joined-cons}
 use Rattle.text.specs.declared.Found.{Found}
 use Rattle.text.specs.declared.Found.the-variants.{At, Nowhere}
 use Rattle.options.specs.Opts.{Opts, meant}
@@ -23,7 +20,6 @@ use Rattle.output.specs.Contracts.Sink.{Wrote}
 use Rattle.output.proofs.Sink.{written-fits, wrote-length}
 use Rattle.walk.specs.Digest.{pieceOutput, digest, extentOf, longParagraph}
 use Rattle.walk.specs.Contracts.Course.{Admitted}
-use Rattle.walk.proofs.Extents.{extents-are-notes, extents-some}
 use Rattle.formatter.specs.Answers.{Answer, done as measured, options as faulty, long as tooLong, text as damaged, words as manyWords, room as noRoom, code as codeOf, outputAfter as outputLeft}
 use Rattle.formatter.specs.Format.{mostBytes, damageIn, withWords, withText, withNotes, withBlock, measuring}
 use Rattle.formatter.specs.Contracts.Call.{Admits, told as replied}
@@ -34,40 +30,20 @@ use Rattle.index.specs.declared.Record.{Record}
 use Rattle.indexer.specs.Index.{recordsFrom, lineCount, indexOf}
 use Rattle.indexer.specs.Answers.{Indexed, done, options, long, text, words, full, room, numbersOf, outputAfter, recordsAfter}
 use Rattle.indexer.specs.Indexing.{withIndex, inIndex, indexUnder, indexing}
-use Rattle.indexer.specs.Contracts.Noting.{endsFrom, outsFrom, Noted, gathered, Gathers, told, Indexes, refusedAs, wordsOr, leftOf}
+use Rattle.indexer.specs.Contracts.Noting.{endsFrom, outsFrom, Noted, gathered, Gathers, Stores, Stored, told, Indexes, refusedAs, wordsOr, leftOf}
 use Rattle.indexer.specs.declared.Filled.{Filled}
 use Rattle.indexer.specs.declared.Filled.the-variants.{Done, Words, Full, Room}
 use Rattle.indexer.specs.declared.Pieces.{Pieces}
 use Rattle.indexer.specs.declared.Pieces.the-variants.{All, Stopped}
 use Rattle.indexer.proofs.Gathering.{climbs-pieces, gathered-pieces}
+use Rattle.indexer.proofs.Storing.{length-records}
 
--- ---- as many records as pieces, and no more than bytes
-
-length-records : (o : Opts) (place line : ℕ) (qs : List Piece) → length (recordsFrom o place line qs) ≡ length qs
-unfolding recordsFrom
-length-records o place line [] = refl
-length-records o place line (q ∷ qs) = let e = length-records o (place + length (extentOf q)) (line + lineCount o q) qs in omega (arith, e)
+-- ---- as many ends as pieces
 
 length-ends : (place : ℕ) (qs : List Piece) → length (endsFrom place qs) ≡ length qs
 unfolding endsFrom
 length-ends place [] = refl
 length-ends place (q ∷ qs) = let e = length-ends (place + length (extentOf q)) qs in omega (arith, e)
-
-few-pieces : (qs : List Piece) → Every (λ (q : Piece). 0 < length (extentOf q)) qs → length qs ≤ length (joined extentOf qs)
-few-pieces [] a = omega arith
-few-pieces (q ∷ qs) a =
-    let r = few-pieces qs (a .1) in
-    let h = a .0 in
-    let e = ap length (joined-cons extentOf q qs) ∙ length-append (extentOf q) (joined extentOf qs) in
-    omega (arith, r, h, e)
-
-pub few-records : (o : Opts) (notes : List ℕ) → length (indexOf o notes) ≤ length notes
-unfolding indexOf
-few-records o notes =
-    let l = length-records o 0 0 (pieces o notes) in
-    let f = few-pieces (pieces o notes) (extents-some o notes) in
-    let e = ap length (extents-are-notes o notes) in
-    omega (arith, l, f, e)
 
 -- a table whose front holds all of a list
 table-front : (t xs t′ : List ℕ) (k : ℕ) → Wrote t 0 xs t′ k → k ≤ length t → take k t′ ≡ xs
@@ -119,40 +95,54 @@ module _ (o : Opts) (notes : List ℕ) (out ends outs out′ ends′ outs′ : L
           left-is ∙ rw (le-leb (length (indexOf o notes)) (length index) (omega (arith, h, count-is)), lt-leb (length (digest o notes)) (length out) (omega (arith, g, length-is))) in
           record { is = rw (a, length-is); output = rw a (z ∙ ap (λ (m : ℕ). replicate m 0) same-out); records = rw a }
 
-      module _ (most : min (length notes) (length index) ≤ length ends) (both : length outs ≡ length ends) (h : k ≤ length index) (g : n ≤ length out) where
-        reach : k ≤ length ends
-        reach = let f = few-records o notes in let c = count-is in omega (arith, most, h, f, c)
-
-        ends-are : take k ends′ ≡ endsFrom 0 (pieces o notes)
-        ends-are = table-front ends (endsFrom 0 (pieces o notes)) ends′ k (noted .2) reach
-
-        outs-are : take k outs′ ≡ outsFrom o 0 (pieces o notes)
-        outs-are = table-front outs (outsFrom o 0 (pieces o notes)) outs′ k (noted .3) (omega (arith, reach, both))
-
+      module _ (h : k ≤ length index) (g : n ≤ length out) where
         out-is : out′ ≡ digest o notes ++ drop (length (digest o notes)) out
         out-is = noted .1 .bytes ∙ written-fits 0 out (digest o notes) (omega (arith, g, length-is))
 
-        pub gathers : length ends′ ≡ length ends → length outs′ ≡ length outs → Gathers out′ ends′ outs′ k (length index)
-        unfolding digest
-        gathers a b = record {
-          ended = omega (arith, reach, a);
-          put = omega (arith, reach, b, both);
-          few = h;
-          climbs = rw (ends-are, outs-are) (climbs-pieces o (pieces o notes) 0 0 (length out′) (omega (arith, same-out, g, length-is)));
-        }
+        done-is : leftOf o notes (length out) (length index) ≡ done (digest o notes) (indexOf o notes)
+        done-is = left-is ∙ rw (le-leb (length (indexOf o notes)) (length index) (omega (arith, h, count-is)), le-leb (length (digest o notes)) (length out) (omega (arith, g, length-is)))
 
-        pub done-answer : (index′ : List (List ℕ)) → index′ ≡ gathered out′ 0 0 0 (take k ends′) (take k outs′) ++ drop k index
-            → Indexes (leftOf o notes (length out) (length index)) out index (Done n k) out′ index′
-        unfolding outputAfter recordsAfter digest indexOf
-        done-answer index′ e =
-            let a : leftOf o notes (length out) (length index) ≡ done (digest o notes) (indexOf o notes) =
-            left-is ∙ rw (le-leb (length (indexOf o notes)) (length index) (omega (arith, h, count-is)), le-leb (length (digest o notes)) (length out) (omega (arith, g, length-is))) in
-            let r : gathered out′ 0 0 0 (take k ends′) (take k outs′) ≡ map numbersOf (indexOf o notes) = rw (ends-are, outs-are) (gathered-pieces o (pieces o notes) out′ (drop (length (digest o notes)) out) 0 0 0 out-is) in
+        -- the records of a second walk
+        pub stores : Stores o notes (length out′) (length index)
+        stores = record { short = noted .0; room = omega (arith, g, length-is, same-out); few = omega (arith, h, count-is) }
+
+        pub stored-answer : (out″ : List ℕ) (index′ : List (List ℕ)) → Stored o notes out′ index out″ index′ → Indexes (leftOf o notes (length out) (length index)) out index (Done n k) out″ index′
+        unfolding outputAfter recordsAfter
+        stored-answer out″ index′ s =
+            let d = digest o notes in
             record {
-              is = rw (a, length-is, count-is);
-              output = rw a out-is;
-              records = rw a (e ∙ ap (λ (xs : List (List ℕ)). xs ++ drop k index) r ∙ ap (λ (j : ℕ). map numbersOf (indexOf o notes) ++ drop j index) count-is);
+              is = rw (done-is, length-is, count-is);
+              output = rw done-is (s .output ∙ ap (λ (t : List ℕ). d ++ t) (ap (drop (length d)) out-is ∙ drop-append-seam d (drop (length d) out)));
+              records = rw done-is (s .records);
             }
+
+        -- those of the tables, which have all pieces
+        module _ (reach : k ≤ length ends) (both : length outs ≡ length ends) where
+          ends-are : take k ends′ ≡ endsFrom 0 (pieces o notes)
+          ends-are = table-front ends (endsFrom 0 (pieces o notes)) ends′ k (noted .2) reach
+
+          outs-are : take k outs′ ≡ outsFrom o 0 (pieces o notes)
+          outs-are = table-front outs (outsFrom o 0 (pieces o notes)) outs′ k (noted .3) (omega (arith, reach, both))
+
+          pub gathers : length ends′ ≡ length ends → length outs′ ≡ length outs → Gathers out′ ends′ outs′ k (length index)
+          unfolding digest
+          gathers a b = record {
+            ended = omega (arith, reach, a);
+            put = omega (arith, reach, b, both);
+            few = h;
+            climbs = rw (ends-are, outs-are) (climbs-pieces o (pieces o notes) 0 0 (length out′) (omega (arith, same-out, g, length-is)));
+          }
+
+          pub done-answer : (index′ : List (List ℕ)) → index′ ≡ gathered out′ 0 0 0 (take k ends′) (take k outs′) ++ drop k index
+              → Indexes (leftOf o notes (length out) (length index)) out index (Done n k) out′ index′
+          unfolding outputAfter recordsAfter digest indexOf
+          done-answer index′ e =
+              let r : gathered out′ 0 0 0 (take k ends′) (take k outs′) ≡ map numbersOf (indexOf o notes) = rw (ends-are, outs-are) (gathered-pieces o (pieces o notes) out′ (drop (length (digest o notes)) out) 0 0 0 out-is) in
+              record {
+                is = rw (done-is, length-is, count-is);
+                output = rw done-is out-is;
+                records = rw done-is (e ∙ ap (λ (xs : List (List ℕ)). xs ++ drop k index) r ∙ ap (λ (j : ℕ). map numbersOf (indexOf o notes) ++ drop j index) count-is);
+              }
 
 -- ---- what is told before
 

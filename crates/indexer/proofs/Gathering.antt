@@ -1,11 +1,11 @@
 -- The loop that gathers the records, and what they are where the ends are those of the pieces.
 use mathlib.Core.Path.{_≡_, refl, sym, ap, subst, _∙_}
-use mathlib.Core.List.{List, [], _∷_, _++_, map, append-assoc, append-nil}
+use mathlib.Core.List.{List, [], _∷_, _++_, map, append-assoc}
 use Prim.Native.Nat.{ℕ, zero, suc, _+_, _-_, _≤_, _<_}
 use native.Mathlib.Nat.{not-suc-le-zero, le-of-suc-le-suc}
 use native.Mathlib.Numerals.{add-one}
 use native.Mathlib.Omega.{arith}
-use lib.ListN.{length, getD, take, drop, set, length-set, length-append, length-take, take-append-drop}
+use lib.ListN.{length, getD, take, drop, set, length-append, length-take}
 use lib.Seq.{take-append-seam, drop-append-seam, drop-drop}
 use Rattle.lists.specs.Runs.{joined}
 use Rattle.lists.proofs.Parts.{joined-cons}
@@ -16,6 +16,7 @@ use Rattle.walk.specs.Digest.{pieceOutput, extentOf}
 use Rattle.indexer.specs.Index.{lineCount, recordsFrom}
 use Rattle.indexer.specs.Answers.{numbersOf}
 use Rattle.indexer.specs.Contracts.Noting.{endsFrom, outsFrom, Climbs, gathered}
+use Rattle.indexer.proofs.Rows.{Rows, rows-first, rows-on, rows-last}
 
 -- ---- lists
 
@@ -34,40 +35,18 @@ nothing-left [] (suc n) (suc i) l = refl
 nothing-left (x ∷ xs) (suc n) zero l = absurd (not-suc-le-zero l)
 nothing-left (x ∷ xs) (suc n) (suc i) l = nothing-left xs n i (le-of-suc-le-suc l)
 
-module _ {A : Type 0} where
-  drop-set : (xs : List A) (i : ℕ) (v : A) → drop (suc i) (set xs i v) ≡ drop (suc i) xs
-  drop-set [] zero v = refl
-  drop-set [] (suc i) v = refl
-  drop-set (x ∷ xs) zero v = refl
-  drop-set (x ∷ xs) (suc i) v = drop-set xs i v
-
-  take-set : (xs : List A) (i : ℕ) (v : A) → i < length xs → take (suc i) (set xs i v) ≡ take i xs ++ v ∷ []
-  take-set [] i v l = absurd (not-suc-le-zero l)
-  take-set (x ∷ xs) zero v l = refl
-  take-set (x ∷ xs) (suc i) v l = ap (λ (ys : List A). x ∷ ys) (take-set xs i v (le-of-suc-le-suc l))
-
-  drop-next : (xs ys : List A) (i : ℕ) → drop i xs ≡ drop i ys → drop (suc i) xs ≡ drop (suc i) ys
-  drop-next xs ys i e = sym (one-more xs i) ∙ ap (drop 1) e ∙ one-more ys i
-    where
-      one-more : (zs : List A) (i : ℕ) → drop 1 (drop i zs) ≡ drop (suc i) zs
-      one-more zs zero = refl
-      one-more [] (suc i) = refl
-      one-more (z ∷ zs) (suc i) = one-more zs i
-
 -- ---- the loop
 
 -- i records are stored, and what is left behind them comes to the rest
 pub record Gathering (index₀ : List (List ℕ)) (out ends outs : List ℕ) (n : ℕ) (index : List (List ℕ)) (i place from line : ℕ) : Type 0 where
   pub upto : i ≤ n
-  pub same : length index ≡ length index₀
-  pub behind : drop i index ≡ drop i index₀
   pub climbs : Climbs (length out) place from (drop i (take n ends)) (drop i (take n outs))
   pub few : line ≤ from
-  pub left : take i index ++ gathered out place from line (drop i (take n ends)) (drop i (take n outs)) ≡ gathered out 0 0 0 (take n ends) (take n outs)
+  pub rows : Rows index₀ (gathered out 0 0 0 (take n ends) (take n outs)) index i (gathered out place from line (drop i (take n ends)) (drop i (take n outs)))
 
 module _ (index₀ : List (List ℕ)) (out ends outs : List ℕ) (n : ℕ) where
   pub gathering-first : Climbs (length out) 0 0 (take n ends) (take n outs) → Gathering index₀ out ends outs n index₀ 0 0 0 0
-  gathering-first c = record { upto = omega arith; same = refl; behind = refl; climbs = c; few = omega arith; left = refl }
+  gathering-first c = record { upto = omega arith; climbs = c; few = omega arith; rows = rows-first _ _ }
 
   module _ {index : List (List ℕ)} {i place from line : ℕ} (g : Gathering index₀ out ends outs n index i place from line) where
     module _ (less : i < n) (ended : n ≤ length ends) (put : n ≤ length outs) (end to : ℕ) (e : end ≡ getD ends i 0) (f : to ≡ getD outs i 0) where
@@ -94,29 +73,20 @@ module _ (index₀ : List (List ℕ)) (out ends outs : List ℕ) (n : ℕ) where
             ap (λ (es : List ℕ). gathered out place from line es (drop i (take n outs))) ends-here ∙ ap (gathered out place from line (end ∷ drop (suc i) (take n ends))) outs-here
             ∙ ap (λ (k : ℕ). (place ∷ (end - place) ∷ line ∷ k ∷ []) ∷ gathered out end to (line + k) (drop (suc i) (take n ends)) (drop (suc i) (take n outs))) (sym m)
 
-        next : Gathering index₀ out ends outs n (set index i row) (suc i) end to (line + count)
-        next = record {
+        pub gathering-on : Gathering index₀ out ends outs n (set index i row) (i + 1) end to (line + count)
+        gathering-on = subst (λ (k : ℕ). Gathering index₀ out ends outs n (set index i row) k end to (line + count)) (sym (add-one i)) (record {
           upto = less;
-          same = length-set index i row ∙ g .same;
-          behind = drop-set index i row ∙ drop-next index index₀ i (g .behind);
           climbs = climbs-here .3;
           few = line-fits;
-          left =
-              ap (λ (xs : List (List ℕ)). xs ++ gathered out end to (line + count) (drop (suc i) (take n ends)) (drop (suc i) (take n outs))) (take-set index i row (omega (arith, less, room, g .same)))
-              ∙ append-assoc (take i index) (row ∷ []) (gathered out end to (line + count) (drop (suc i) (take n ends)) (drop (suc i) (take n outs)))
-              ∙ ap (λ (xs : List (List ℕ)). take i index ++ xs) (sym gathered-here) ∙ g .left;
-        }
-
-        pub gathering-on : Gathering index₀ out ends outs n (set index i row) (i + 1) end to (line + count)
-        gathering-on = subst (λ (k : ℕ). Gathering index₀ out ends outs n (set index i row) k end to (line + count)) (sym (add-one i)) next
+          rows = rows-on _ _ (rw gathered-here at (g .rows)) (omega (arith, less, room, g .rows .same));
+        })
 
     pub gathering-last : n ≤ i → index ≡ gathered out 0 0 0 (take n ends) (take n outs) ++ drop n index₀
     unfolding gathered
     gathering-last h =
         let k : i ≡ n = omega (arith, h, g .upto) in
-        let e : take i index ≡ gathered out 0 0 0 (take n ends) (take n outs) =
-        sym (append-nil (take i index)) ∙ ap (λ (es : List ℕ). take i index ++ gathered out place from line es (drop i (take n outs))) (sym (nothing-left ends n i h)) ∙ g .left in
-        sym (take-append-drop i index) ∙ ap (λ (xs : List (List ℕ)). xs ++ drop i index) e ∙ ap (λ (xs : List (List ℕ)). gathered out 0 0 0 (take n ends) (take n outs) ++ xs) (g .behind ∙ ap (λ (j : ℕ). drop j index₀) k)
+        rows-last index₀ _ (subst (λ (es : List ℕ). Rows index₀ (gathered out 0 0 0 (take n ends) (take n outs)) index i (gathered out place from line es (drop i (take n outs)))) (nothing-left ends n i h) (g .rows))
+        ∙ ap (λ (j : ℕ). gathered out 0 0 0 (take n ends) (take n outs) ++ drop j index₀) k
 
 -- ---- the ends of pieces
 

@@ -65,11 +65,11 @@ left-length {t₀} {t} {n₀} {n} {d₀} {d} l = sym (length-written n t d) ∙ 
 -- ---- the ends from a place on
 
 module _ (o : Opts) where
-  none-left : (nextMail : Bool) (notes : List ℕ) (at : ℕ) → length notes ≤ at → piecesFrom o nextMail notes at ≡ []
+  pub none-left : (nextMail : Bool) (notes : List ℕ) (at : ℕ) → length notes ≤ at → piecesFrom o nextMail notes at ≡ []
   unfolding piecesFrom
   none-left nextMail notes at h = rw (lines-past notes at h) (walk-nil (nextPiece o) nextMail)
 
-  all-pieces : (notes : List ℕ) → piecesFrom o true notes 0 ≡ pieces o notes
+  pub all-pieces : (notes : List ℕ) → piecesFrom o true notes 0 ≡ pieces o notes
   unfolding piecesFrom pieces
   all-pieces notes = refl
 

@@ -19,7 +19,7 @@ use Rattle.index.specs.declared.Record.{Record}
 use Rattle.indexer.specs.Answers.{Indexed, done, options, long, text, words, full, room, numbered, filledAfter}
 use Rattle.indexer.specs.Indexing.{withIndex, inIndex, indexUnder, indexing}
 use Rattle.indexer.specs.Contracts.Noting.{told, toldNumber, toldFilled}
-use Rattle.indexer.proofs.Answers.{few-records}
+use Rattle.indexer.proofs.Storing.{few-records}
 
 pub told-number : (a : Indexed) → toldNumber (told a) ≡ numbered a
 unfolding numbered

@@ -1,5 +1,6 @@
 // The digest written with an index beside it: a record for each piece of the notes. Nothing is stored in the index before it is known that
 // all of it and all of the digest fit; until then the places where pieces end, in the notes and in the digest, stand in tables of numbers.
+// The tables have room for 8,192 pieces; of notes that have more, which are rare, the records are stored in a second walk.
 use formatter::Admission;
 use formatter::Reply;
 use options::Options;
@@ -16,7 +17,7 @@ ghost use Rattle.lines.specs.Lines.{linesOf};
 ghost use Rattle.output.specs.Contracts.Sink.{written};
 ghost use Rattle.walk.specs.Contracts.Course.{Admitted, CursorIn};
 ghost use Rattle.indexer.specs.Indexing.{indexing};
-ghost use Rattle.indexer.specs.Contracts.Noting.{Ample, PieceStepped, Noted, Gathers, gathered, Indexes, refusedAs, leftOf, toldNumber, toldFilled};
+ghost use Rattle.indexer.specs.Contracts.Noting.{Ample, PieceStepped, Noted, Gathers, gathered, Stores, Stored, Indexes, refusedAs, leftOf, toldNumber, toldFilled};
 
 // What the call replies: the digest's length and the number of records, or a refusal with what is told of it.
 pub enum Filled {
@@ -59,7 +60,7 @@ fn refused(r: Reply) -> Filled
     }
 }
 
-// The tables have room for as many pieces as there can be records: none has fewer bytes than one, and no more records are filled than there are.
+// Working storage for the most words that a paragraph may have; quick does without breaks.
 fn index_notes(
     o: Options,
     block: &[u8],
@@ -70,14 +71,112 @@ fn index_notes(
     requires { ⌜ Admitted (now block) (now notes) o ⌝ }
     ensures { λ r. ⌜ Indexes (leftOf (meant (now (block .entry)) o) (now (notes .entry)) (length (now (out .entry))) (length (now (index .entry)))) (now (out .entry)) (now (index .entry)) r (now (out .exit)) (now (index .exit)) ⌝ }
 {
-    let most = lesser(notes.len(), index.len());
-    if most <= 1024 {
-        return index_few(o, block, notes, out, index);
+    if o.quick {
+        return index_quick(o, block, notes, out, index);
     }
-    if most <= 16384 {
-        return index_more(o, block, notes, out, index);
+    index_best(o, block, notes, out, index)
+}
+
+fn index_quick(
+    o: Options,
+    block: &[u8],
+    notes: &[u8],
+    out: &mut [u8],
+    index: &mut [[u64; 4]],
+) -> Filled
+    requires { ⌜ Admitted (now block) (now notes) o × (o .quick ≡ true) ⌝ }
+    ensures { λ r. ⌜ Indexes (leftOf (meant (now (block .entry)) o) (now (notes .entry)) (length (now (out .entry))) (length (now (index .entry)))) (now (out .entry)) (now (index .entry)) r (now (out .exit)) (now (index .exit)) ⌝ }
+{
+    let mut table = [0u32; 7168];
+    let mut marks = [false; 1024];
+    let mut breaks = [0u32; 8];
+    let mut ratios = [0f32; 1];
+    let mut active = [0u32; 1];
+    index_within(
+        o,
+        block,
+        notes,
+        out,
+        index,
+        &mut table,
+        &mut breaks,
+        &mut ratios,
+        &mut active,
+        &mut marks,
+    )
+}
+
+fn index_best(
+    o: Options,
+    block: &[u8],
+    notes: &[u8],
+    out: &mut [u8],
+    index: &mut [[u64; 4]],
+) -> Filled
+    requires { ⌜ Admitted (now block) (now notes) o ⌝ }
+    ensures { λ r. ⌜ Indexes (leftOf (meant (now (block .entry)) o) (now (notes .entry)) (length (now (out .entry))) (length (now (index .entry)))) (now (out .entry)) (now (index .entry)) r (now (out .exit)) (now (index .exit)) ⌝ }
+{
+    let mut table = [0u32; 7168];
+    let mut marks = [false; 1024];
+    let mut breaks = [0u32; 8192];
+    let mut ratios = [0f32; 1024];
+    let mut active = [0u32; 1024];
+    index_within(
+        o,
+        block,
+        notes,
+        out,
+        index,
+        &mut table,
+        &mut breaks,
+        &mut ratios,
+        &mut active,
+        &mut marks,
+    )
+}
+
+// Tables for the ends of pieces. Where few records can be filled, by the notes' bytes or by the list, small ones will do.
+fn index_within(
+    o: Options,
+    block: &[u8],
+    notes: &[u8],
+    out: &mut [u8],
+    index: &mut [[u64; 4]],
+    table: &mut [u32],
+    breaks: &mut [u32],
+    ratios: &mut [f32],
+    active: &mut [u32],
+    marks: &mut [bool],
+) -> Filled
+    requires { ⌜ Admitted (now block) (now notes) o × Ample o (now table) (now breaks) (now ratios) (now active) (now marks) ⌝ }
+    ensures { λ r. ⌜ Indexes (leftOf (meant (now (block .entry)) o) (now (notes .entry)) (length (now (out .entry))) (length (now (index .entry)))) (now (out .entry)) (now (index .entry)) r (now (out .exit)) (now (index .exit)) ⌝ }
+{
+    if lesser(notes.len(), index.len()) <= 1024 {
+        return index_few(
+            o,
+            block,
+            notes,
+            out,
+            index,
+            table,
+            breaks,
+            ratios,
+            active,
+            marks,
+        );
     }
-    index_most(o, block, notes, out, index)
+    index_many(
+        o,
+        block,
+        notes,
+        out,
+        index,
+        table,
+        breaks,
+        ratios,
+        active,
+        marks,
+    )
 }
 
 fn lesser(a: usize, b: usize) -> usize
@@ -95,46 +194,67 @@ fn index_few(
     notes: &[u8],
     out: &mut [u8],
     index: &mut [[u64; 4]],
+    table: &mut [u32],
+    breaks: &mut [u32],
+    ratios: &mut [f32],
+    active: &mut [u32],
+    marks: &mut [bool],
 ) -> Filled
-    requires { ⌜ Admitted (now block) (now notes) o × (min (length (now notes)) (length (now index)) ≤ 1024) ⌝ }
+    requires { ⌜ Admitted (now block) (now notes) o × Ample o (now table) (now breaks) (now ratios) (now active) (now marks) ⌝ }
     ensures { λ r. ⌜ Indexes (leftOf (meant (now (block .entry)) o) (now (notes .entry)) (length (now (out .entry))) (length (now (index .entry)))) (now (out .entry)) (now (index .entry)) r (now (out .exit)) (now (index .exit)) ⌝ }
 {
     let mut ends = [0u32; 1024];
     let mut outs = [0u32; 1024];
-    index_with(o, block, notes, out, index, &mut ends, &mut outs)
+    index_with(
+        o,
+        block,
+        notes,
+        out,
+        index,
+        &mut ends,
+        &mut outs,
+        table,
+        breaks,
+        ratios,
+        active,
+        marks,
+    )
 }
 
-fn index_more(
+fn index_many(
     o: Options,
     block: &[u8],
     notes: &[u8],
     out: &mut [u8],
     index: &mut [[u64; 4]],
+    table: &mut [u32],
+    breaks: &mut [u32],
+    ratios: &mut [f32],
+    active: &mut [u32],
+    marks: &mut [bool],
 ) -> Filled
-    requires { ⌜ Admitted (now block) (now notes) o × (min (length (now notes)) (length (now index)) ≤ 16384) ⌝ }
+    requires { ⌜ Admitted (now block) (now notes) o × Ample o (now table) (now breaks) (now ratios) (now active) (now marks) ⌝ }
     ensures { λ r. ⌜ Indexes (leftOf (meant (now (block .entry)) o) (now (notes .entry)) (length (now (out .entry))) (length (now (index .entry)))) (now (out .entry)) (now (index .entry)) r (now (out .exit)) (now (index .exit)) ⌝ }
 {
-    let mut ends = [0u32; 16384];
-    let mut outs = [0u32; 16384];
-    index_with(o, block, notes, out, index, &mut ends, &mut outs)
+    let mut ends = [0u32; 8192];
+    let mut outs = [0u32; 8192];
+    index_with(
+        o,
+        block,
+        notes,
+        out,
+        index,
+        &mut ends,
+        &mut outs,
+        table,
+        breaks,
+        ratios,
+        active,
+        marks,
+    )
 }
 
-fn index_most(
-    o: Options,
-    block: &[u8],
-    notes: &[u8],
-    out: &mut [u8],
-    index: &mut [[u64; 4]],
-) -> Filled
-    requires { ⌜ Admitted (now block) (now notes) o ⌝ }
-    ensures { λ r. ⌜ Indexes (leftOf (meant (now (block .entry)) o) (now (notes .entry)) (length (now (out .entry))) (length (now (index .entry)))) (now (out .entry)) (now (index .entry)) r (now (out .exit)) (now (index .exit)) ⌝ }
-{
-    let mut ends = [0u32; 65536];
-    let mut outs = [0u32; 65536];
-    index_with(o, block, notes, out, index, &mut ends, &mut outs)
-}
-
-// Writes the digest; and where there is room for all, the records.
+// Writes the digest; and where there is room for all, the records, from the tables if these have all pieces.
 fn index_with(
     o: Options,
     block: &[u8],
@@ -143,11 +263,28 @@ fn index_with(
     index: &mut [[u64; 4]],
     ends: &mut [u32],
     outs: &mut [u32],
+    table: &mut [u32],
+    breaks: &mut [u32],
+    ratios: &mut [f32],
+    active: &mut [u32],
+    marks: &mut [bool],
 ) -> Filled
-    requires { ⌜ Admitted (now block) (now notes) o × (min (length (now notes)) (length (now index)) ≤ length (now ends)) × (length (now outs) ≡ length (now ends)) ⌝ }
+    requires { ⌜ Admitted (now block) (now notes) o × (length (now outs) ≡ length (now ends)) × Ample o (now table) (now breaks) (now ratios) (now active) (now marks) ⌝ }
     ensures { λ r. ⌜ Indexes (leftOf (meant (now (block .entry)) o) (now (notes .entry)) (length (now (out .entry))) (length (now (index .entry)))) (now (out .entry)) (now (index .entry)) r (now (out .exit)) (now (index .exit)) ⌝ }
 {
-    match note_pieces(o, block, notes, out, ends, outs) {
+    match note_pieces(
+        o,
+        block,
+        notes,
+        out,
+        ends,
+        outs,
+        table,
+        breaks,
+        ratios,
+        active,
+        marks,
+    ) {
         Pieces::Stopped(place) => {
             walk::clear(out);
             Filled::Words(place)
@@ -161,6 +298,24 @@ fn index_with(
                 walk::clear(out);
                 return Filled::Room(written);
             }
+            if ends.len() < pieces {
+                store_pieces(
+                    o,
+                    block,
+                    notes,
+                    out,
+                    index,
+                    table,
+                    breaks,
+                    ratios,
+                    active,
+                    marks,
+                );
+                return Filled::Done {
+                    written,
+                    records: pieces,
+                };
+            }
             gather(index, out, ends, outs, pieces);
             Filled::Done {
                 written,
@@ -170,88 +325,8 @@ fn index_with(
     }
 }
 
-// The pieces written and noted, with working storage for the most words that a paragraph may have.
-fn note_pieces(
-    o: Options,
-    block: &[u8],
-    notes: &[u8],
-    out: &mut [u8],
-    ends: &mut [u32],
-    outs: &mut [u32],
-) -> Pieces
-    requires { ⌜ Admitted (now block) (now notes) o ⌝ }
-    ensures { λ r. ⌜ Noted (meant (now (block .entry)) o) (now (notes .entry)) (now (out .entry)) (now (ends .entry)) (now (outs .entry)) (now (out .exit)) (now (ends .exit)) (now (outs .exit)) r ⌝ }
-{
-    if o.quick {
-        return note_quick(o, block, notes, out, ends, outs);
-    }
-    note_best(o, block, notes, out, ends, outs)
-}
-
-fn note_quick(
-    o: Options,
-    block: &[u8],
-    notes: &[u8],
-    out: &mut [u8],
-    ends: &mut [u32],
-    outs: &mut [u32],
-) -> Pieces
-    requires { ⌜ Admitted (now block) (now notes) o × (o .quick ≡ true) ⌝ }
-    ensures { λ r. ⌜ Noted (meant (now (block .entry)) o) (now (notes .entry)) (now (out .entry)) (now (ends .entry)) (now (outs .entry)) (now (out .exit)) (now (ends .exit)) (now (outs .exit)) r ⌝ }
-{
-    let mut table = [0u32; 7168];
-    let mut marks = [false; 1024];
-    let mut breaks = [0u32; 8];
-    let mut ratios = [0f32; 1];
-    let mut active = [0u32; 1];
-    note_with(
-        o,
-        block,
-        notes,
-        out,
-        ends,
-        outs,
-        &mut table,
-        &mut breaks,
-        &mut ratios,
-        &mut active,
-        &mut marks,
-    )
-}
-
-fn note_best(
-    o: Options,
-    block: &[u8],
-    notes: &[u8],
-    out: &mut [u8],
-    ends: &mut [u32],
-    outs: &mut [u32],
-) -> Pieces
-    requires { ⌜ Admitted (now block) (now notes) o ⌝ }
-    ensures { λ r. ⌜ Noted (meant (now (block .entry)) o) (now (notes .entry)) (now (out .entry)) (now (ends .entry)) (now (outs .entry)) (now (out .exit)) (now (ends .exit)) (now (outs .exit)) r ⌝ }
-{
-    let mut table = [0u32; 7168];
-    let mut marks = [false; 1024];
-    let mut breaks = [0u32; 8192];
-    let mut ratios = [0f32; 1024];
-    let mut active = [0u32; 1024];
-    note_with(
-        o,
-        block,
-        notes,
-        out,
-        ends,
-        outs,
-        &mut table,
-        &mut breaks,
-        &mut ratios,
-        &mut active,
-        &mut marks,
-    )
-}
-
 // Piece by piece: written, and where it ends in the notes and in the digest noted, as far as the tables reach.
-fn note_with(
+fn note_pieces(
     o: Options,
     block: &[u8],
     notes: &[u8],
@@ -350,6 +425,55 @@ fn put_piece(
             active,
             marks,
         ),
+    }
+}
+
+// The records of more pieces than the tables have room for: in a second walk, which writes the same digest again, each is stored as its
+// piece is written. None of them has too many words, and there is room for all.
+fn store_pieces(
+    o: Options,
+    block: &[u8],
+    notes: &[u8],
+    out: &mut [u8],
+    index: &mut [[u64; 4]],
+    table: &mut [u32],
+    breaks: &mut [u32],
+    ratios: &mut [f32],
+    active: &mut [u32],
+    marks: &mut [bool],
+)
+    requires { ⌜ Admitted (now block) (now notes) o × Ample o (now table) (now breaks) (now ratios) (now active) (now marks) × Stores (meant (now block) o) (now notes) (length (now out)) (length (now index)) ⌝ }
+    ensures { λ _. ⌜ Stored (meant (now (block .entry)) o) (now (notes .entry)) (now (out .entry)) (now (index .entry)) (now (out .exit)) (now (index .exit)) ⌝ }
+{
+    let mut c = Cursor {
+        at: 0,
+        written: 0,
+        mail: true,
+    };
+    let mut k = 0;
+    let mut line = 0;
+    while c.at < notes.len() {
+        let Step::On(d) = put_piece(
+            o,
+            block,
+            notes,
+            c,
+            out,
+            table,
+            breaks,
+            ratios,
+            active,
+            marks,
+        ) else {
+            return;
+        };
+        let from = c.written;
+        let to = d.written;
+        let count = count_lines(&out[from..to]);
+        index[k] = [c.at as u64, (d.at - c.at) as u64, line as u64, count as u64];
+        line += count;
+        k += 1;
+        c = d;
     }
 }
 

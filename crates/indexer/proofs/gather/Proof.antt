@@ -50,10 +50,10 @@ sub-t14 : tie.Need-sub-t14 Inv-loop μ-loop
 sub-t14 c = let h = climbs-here _ _ _ _ _ (c .before .before .before .before .before .before .before .loop .inv) (c .before .before .before .before .before .before .loop-test .taken) (c .before .before .before .before .before .before .before .before .before .before .before .pre .ended) (c .before .before .before .before .before .before .before .before .before .before .before .pre .put) _ _ (c .before .before .before .before .wide .ensures .0) (c .before .before .wide2 .ensures .0) in omega (arith, h .0)
 
 mul-t26 : tie.Need-mul-t26 Inv-loop μ-loop
-mul-t26 c = let p = c .before .before .before .before .before .before .before .before .before .before .before .pre .few in let s = c .before .before .before .before .before .before .before .loop .inv .same in omega arith
+mul-t26 c = let p = c .before .before .before .before .before .before .before .before .before .before .before .pre .few in let s = c .before .before .before .before .before .before .before .loop .inv .rows .same in omega arith
 
 slice-set-from-index : tie.Need-slice-set-from-index Inv-loop μ-loop
-slice-set-from-index c = let p = c .before .before .before .before .before .before .before .before .before .before .before .pre .few in let s = c .before .before .before .before .before .before .before .loop .inv .same in omega arith
+slice-set-from-index c = let p = c .before .before .before .before .before .before .before .before .before .before .before .pre .few in let s = c .before .before .before .before .before .before .before .loop .inv .rows .same in omega arith
 
 add-line : tie.Need-add-line Inv-loop μ-loop
 add-line c =
@@ -71,7 +71,7 @@ loop-again : tie.Need-loop-again Inv-loop μ-loop
 loop-again c = gathering-on _ _ _ _ _ (c .before .before .before .before .before .before .before .loop .inv) (c .before .before .before .before .before .before .loop-test .taken) (c .before .before .before .before .before .before .before .before .before .before .before .pre .ended) (c .before .before .before .before .before .before .before .before .before .before .before .pre .put) _ _ (c .before .before .before .before .wide .ensures .0) (c .before .before .wide2 .ensures .0) _ (c .count-lines .ensures .0) (c .count-lines .ensures .1) (c .before .before .before .before .before .before .before .before .before .before .before .pre .few)
 
 same-length : tie.Need-same-length Inv-loop μ-loop
-same-length c = c .before .loop .inv .same
+same-length c = c .before .loop .inv .rows .same
 
 returns : tie.Need-returns Inv-loop μ-loop
 returns c = gathering-last _ _ _ _ _ (c .before .loop .inv) (c .loop-test .left)

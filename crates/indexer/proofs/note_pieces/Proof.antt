@@ -1,4 +1,4 @@
--- `indexer::note_with` meets its contract. Invariant: what is left of the digest and of the tables from the cursor on.
+-- `indexer::note_pieces` meets its contract. Invariant: what is left of the digest and of the tables from the cursor on.
 use mathlib.Core.Path.{_≡_, refl, _∙_}
 use Prim.Native.Nat.{_-_, _≤_}
 use native.Mathlib.Omega.{arith}
@@ -8,8 +8,8 @@ use Rattle.options.specs.Opts.{meant}
 use Rattle.walk.specs.Contracts.Course.{Going, start}
 use Rattle.walk.proofs.Loop.{going-first, going-length, going-on, stands-first}
 use Rattle.indexer.proofs.Laws.{ample-same, stepped-on, stepped-over, left-length, Noting, noting-first, noting-on, noted-all, noted-stopped}
-use Rattle.indexer.proofs.note_with.Statement.{statement}
-use Rattle.indexer.proofs.note_with.Tie as tie
+use Rattle.indexer.proofs.note_pieces.Statement.{statement}
+use Rattle.indexer.proofs.note_pieces.Tie as tie
 
 abbrev Inv-loop : tie.InvT-loop
 Inv-loop o block notes out₀ ends₀ outs₀ table₀ breaks₀ ratios₀ active₀ marks₀ c₀ k₀ out ends outs table breaks ratios active marks c k =
@@ -126,8 +126,8 @@ same-length-16 c = c .before .before .loop .inv .7
 returns-2 : tie.Need-returns-2 Inv-loop μ-loop
 returns-2 c = let i = c .before .before .loop .inv in noted-all _ _ _ _ (i .1) (i .0) (c .if1 .left)
 
-pub note-with-spec : {M : Type 1} → statement M
-note-with-spec =
+pub note-pieces-spec : {M : Type 1} → statement M
+note-pieces-spec =
     tie.close
     (tie.spec
     Inv-loop

@@ -2,7 +2,7 @@
 -- the code's answer.
 use mathlib.Core.Path.{_≡_}
 use mathlib.Core.Bool.{Bool, false}
-use mathlib.Core.List.{List, [], _∷_}
+use mathlib.Core.List.{List, [], _∷_, _++_, map}
 use Prim.Native.Nat.{ℕ, _+_, _-_, _*_, _^_, _≤_}
 use lib.Ieee.{Float}
 use lib.ListN.{length, take, drop}
@@ -22,7 +22,7 @@ use Rattle.walk.specs.Contracts.Course.{longFrom, Put}
 use Rattle.formatter.specs.declared.Reply.{Reply}
 use Rattle.formatter.specs.declared.Reply.the-variants.{Done as ReplyDone, Options as ReplyOptions, Long as ReplyLong, Text as ReplyText, Words as ReplyWords, Room as ReplyRoom}
 use Rattle.indexer.specs.Index.{indexOf}
-use Rattle.indexer.specs.Answers.{Indexed, done, options, long, text, words, full, room, outputAfter, recordsAfter}
+use Rattle.indexer.specs.Answers.{Indexed, done, options, long, text, words, full, room, numbersOf, outputAfter, recordsAfter}
 use Rattle.indexer.specs.Indexing.{withIndex}
 use Rattle.indexer.specs.declared.Filled.{Filled}
 use Rattle.indexer.specs.declared.Filled.the-variants.{Done, Options as Faulty, Long, Text, Words, Full, Room}
@@ -80,6 +80,17 @@ pub record Gathers (out ends outs : List ℕ) (n records : ℕ) : Type 0 where
   pub put : n ≤ length outs
   pub few : n ≤ records
   pub climbs : Climbs (length out) 0 0 (take n ends) (take n outs)
+
+-- ---- the records of a second walk: no paragraph has too many words, and there is room for the digest and for the records
+
+pub record Stores (o : Opts) (notes : List ℕ) (space records : ℕ) : Type 0 where
+  pub short : longParagraph o 0 (pieces o notes) ≡ Nowhere
+  pub room : length (digest o notes) ≤ space
+  pub few : length (indexOf o notes) ≤ records
+
+pub record Stored (o : Opts) (notes out : List ℕ) (index : List (List ℕ)) (out′ : List ℕ) (index′ : List (List ℕ)) : Type 0 where
+  pub output : out′ ≡ digest o notes ++ drop (length (digest o notes)) out
+  pub records : index′ ≡ map numbersOf (indexOf o notes) ++ drop (length (indexOf o notes)) index
 
 -- ---- the answer in code: without the digest's bytes and the records, which stand where they were put
 

@@ -1,0 +1,187 @@
+-- `indexer::store_pieces` meets its contract. Invariant: what is left of the digest and of the records from the cursor on.
+use mathlib.Core.Path.{_≡_, refl, _∙_}
+use Prim.Native.Nat.{_-_}
+use native.Mathlib.Omega.{arith}
+use lib.ListN.{length}
+use borrow.Author.Needs.{needs}
+use Rattle.options.specs.Opts.{meant}
+use Rattle.walk.specs.Contracts.Course.{Going, start}
+use Rattle.walk.proofs.Loop.{going-first, going-length, going-on, stands-first}
+use Rattle.indexer.proofs.Laws.{ample-same, stepped-on, stepped-over}
+use Rattle.indexer.proofs.Storing.{Storing, storing-first, record-fits, record-small, lines-fit, storing-on, going-fits, going-nowhere, stored-all}
+use Rattle.indexer.proofs.store_pieces.Statement.{statement}
+use Rattle.indexer.proofs.store_pieces.Tie as tie
+
+abbrev Inv-loop : tie.InvT-loop
+Inv-loop o block notes out₀ index₀ table₀ breaks₀ ratios₀ active₀ marks₀ c₀ k₀ line₀ out index table breaks ratios active marks c k line =
+    Going (meant block o) notes start out₀ c out × Storing (meant block o) notes index₀ c index k line
+    × (length table ≡ length table₀) × (length breaks ≡ length breaks₀) × (length ratios ≡ length ratios₀) × (length active ≡ length active₀) × (length marks ≡ length marks₀)
+
+abbrev μ-loop : tie.MeasureT-loop
+μ-loop o block notes out₀ index₀ table₀ breaks₀ ratios₀ active₀ marks₀ c₀ k₀ line₀ out index table breaks ratios active marks c k line = length notes - c .at
+
+loop-holds : tie.Need-loop-holds Inv-loop μ-loop
+loop-holds c = (going-first _ _ _ _ (stands-first _), storing-first _ _ _, refl, refl, refl, refl, refl)
+
+put-piece-requires : tie.Need-put-piece-requires Inv-loop μ-loop
+put-piece-requires c κs =
+    let p = c .before .before .before .before .before .before .before .before .before .before .before .before .before .before .before .before .before .pre in
+    let i = c .before .before .before .before .before .before .before .before .loop .inv in
+    (p .0, i .0 .stands, c .before .before .before .before .before .before .if1 .taken, ample-same _ _ _ _ _ _ (p .1) _ _ _ _ _ (i .2) (i .3) (i .4) (i .5) (i .6))
+
+enum-known-d : tie.Need-enum-known-d Inv-loop μ-loop
+enum-known-d c = search needs
+
+enum-told : tie.Need-enum-told Inv-loop μ-loop
+enum-told c = search needs
+
+same-length : tie.Need-same-length Inv-loop μ-loop
+same-length c = c .before .before .before .before .before .before .before .before .before .before .before .before .before .out .given ∙ going-length _ _ (c .before .before .before .before .before .before .before .before .before .before .before .before .before .before .before .before .before .before .before .before .before .before .before .loop .inv .0)
+
+same-length-2 : tie.Need-same-length-2 Inv-loop μ-loop
+same-length-2 c = c .before .before .before .before .before .before .before .before .before .before .before .before .before .before .before .before .before .before .before .before .before .before .before .loop .inv .1 .rows .same
+
+same-length-3 : tie.Need-same-length-3 Inv-loop μ-loop
+same-length-3 c = c .before .before .before .before .before .before .before .before .before .before .before .table .given ∙ c .before .before .before .before .before .before .before .before .before .before .before .before .before .before .before .before .before .before .before .before .before .before .before .loop .inv .2
+
+same-length-4 : tie.Need-same-length-4 Inv-loop μ-loop
+same-length-4 c = c .before .before .before .before .before .before .before .before .before .breaks .given ∙ c .before .before .before .before .before .before .before .before .before .before .before .before .before .before .before .before .before .before .before .before .before .before .before .loop .inv .3
+
+same-length-5 : tie.Need-same-length-5 Inv-loop μ-loop
+same-length-5 c = c .before .before .before .before .before .before .before .ratios .given ∙ c .before .before .before .before .before .before .before .before .before .before .before .before .before .before .before .before .before .before .before .before .before .before .before .loop .inv .4
+
+same-length-6 : tie.Need-same-length-6 Inv-loop μ-loop
+same-length-6 c = c .before .before .before .before .before .active .given ∙ c .before .before .before .before .before .before .before .before .before .before .before .before .before .before .before .before .before .before .before .before .before .before .before .loop .inv .5
+
+same-length-7 : tie.Need-same-length-7 Inv-loop μ-loop
+same-length-7 c = c .before .before .before .marks .given ∙ c .before .before .before .before .before .before .before .before .before .before .before .before .before .before .before .before .before .before .before .before .before .before .before .loop .inv .6
+
+returns : tie.Need-returns Inv-loop μ-loop
+returns c = going-nowhere _ _ _ (c .before .before .before .before .before .before .before .before .before .before .before .before .before .before .before .before .before .before .before .before .before .before .before .loop .inv .0) (c .before .before .before .before .before .before .before .before .before .before .before .before .before .before .before .before .before .before .before .before .before .before .before .before .before .before .before .before .before .before .before .before .pre .2 .short) (stepped-over _ _ _ _ _ (c .before .before .before .before .before .before .before .before .before .before .before .before .before .before .put-piece .ensures) (c .enum-told .given .1) .0)
+
+sub-count-lines : tie.Need-sub-count-lines Inv-loop μ-loop
+sub-count-lines c = let p = stepped-on _ _ _ _ _ (c .before .before .before .before .before .before .before .before .before .before .before .before .before .before .before .put-piece .ensures) (c .before .d .given .1) in omega (arith, p .wrote .count)
+
+part-count-lines-start : tie.Need-part-count-lines-start Inv-loop μ-loop
+part-count-lines-start c = let p = stepped-on _ _ _ _ _ (c .before .before .before .before .before .before .before .before .before .before .before .before .before .before .before .before .put-piece .ensures) (c .before .before .d .given .1) in omega (arith, p .wrote .count)
+
+part-count-lines-end : tie.Need-part-count-lines-end Inv-loop μ-loop
+part-count-lines-end c =
+    let p = stepped-on _ _ _ _ _ (c .before .before .before .before .before .before .before .before .before .before .before .before .before .before .before .before .put-piece .ensures) (c .before .before .d .given .1) in
+    let g = c .before .before .before .before .before .before .before .before .before .before .before .before .before .before .before .before .before .before .before .before .before .before .before .before .before .loop .inv .0 in
+    omega (arith, p .wrote .count, c .before .before .before .before .before .before .before .before .before .before .before .before .before .before .before .out .given, going-length _ _ g, going-fits _ _ _ (going-on _ _ g p) _ (c .before .before .before .before .before .before .before .before .before .before .before .before .before .before .before .before .before .before .before .before .before .before .before .before .before .before .before .before .before .before .before .before .before .before .pre .2 .room))
+
+count-lines-requires : tie.Need-count-lines-requires Inv-loop μ-loop
+count-lines-requires c κs = search needs
+
+sub-t18 : tie.Need-sub-t18 Inv-loop μ-loop
+sub-t18 c = let p = stepped-on _ _ _ _ _ (c .before .before .before .before .before .before .before .before .before .before .before .before .before .before .before .before .before .before .before .before .put-piece .ensures) (c .before .before .before .before .before .before .d .given .1) in omega (arith, p .goes .on)
+
+mul-t41 : tie.Need-mul-t41 Inv-loop μ-loop
+mul-t41 c =
+    let p = stepped-on _ _ _ _ _ (c .before .before .before .before .before .before .before .before .before .before .before .before .before .before .before .before .before .before .before .before .put-piece .ensures) (c .before .before .before .before .before .before .d .given .1) in
+    let i = c .before .before .before .before .before .before .before .before .before .before .before .before .before .before .before .before .before .before .before .before .before .before .before .before .before .before .before .before .before .loop .inv in
+    let r = c .before .before .before .before .before .before .before .before .before .before .before .before .before .before .before .before .before .before .before .before .before .before .before .before .before .before .before .before .before .before .before .before .before .before .before .before .before .before .pre .2 in
+    omega (arith, record-small _ _ _ (i .1) p (r .few) (c .before .before .before .before .before .before .before .before .before .before .before .before .before .before .before .before .before .before .before .before .before .before .before .before .before .before .before .before .before .before .before .before .before .before .before .before .before .before .pre .0 .short))
+
+slice-set-from-index : tie.Need-slice-set-from-index Inv-loop μ-loop
+slice-set-from-index c =
+    let p = stepped-on _ _ _ _ _ (c .before .before .before .before .before .before .before .before .before .before .before .before .before .before .before .before .before .before .before .before .put-piece .ensures) (c .before .before .before .before .before .before .d .given .1) in
+    let i = c .before .before .before .before .before .before .before .before .before .before .before .before .before .before .before .before .before .before .before .before .before .before .before .before .before .before .before .before .before .loop .inv in
+    let r = c .before .before .before .before .before .before .before .before .before .before .before .before .before .before .before .before .before .before .before .before .before .before .before .before .before .before .before .before .before .before .before .before .before .before .before .before .before .before .pre .2 in
+    omega (arith, record-fits _ _ _ (i .1) p (r .few), i .1 .rows .same)
+
+add-line : tie.Need-add-line Inv-loop μ-loop
+add-line c =
+    let p = stepped-on _ _ _ _ _ (c .before .before .before .before .before .before .before .before .before .before .before .before .before .before .before .before .before .before .before .before .put-piece .ensures) (c .before .before .before .before .before .before .d .given .1) in
+    let i = c .before .before .before .before .before .before .before .before .before .before .before .before .before .before .before .before .before .before .before .before .before .before .before .before .before .before .before .before .before .loop .inv in
+    let r = c .before .before .before .before .before .before .before .before .before .before .before .before .before .before .before .before .before .before .before .before .before .before .before .before .before .before .before .before .before .before .before .before .before .before .before .before .before .before .pre .2 in
+    let f = going-fits _ _ _ (going-on _ _ (i .0) p) (length (c .before .before .before .before .before .before .before .before .before .before .before .before .before .before .before .before .before .before .before .before .before .before .before .before .before .before .before .before .before .loop .out)) (omega (arith, r .room, going-length _ _ (i .0))) in
+    omega (arith, f, lines-fit _ _ _ (i .1) p (r .few) f _ (c .before .before .count-lines .ensures .0) (c .before .before .count-lines .ensures .1), going-length _ _ (i .0))
+
+add-k : tie.Need-add-k Inv-loop μ-loop
+add-k c =
+    let p = stepped-on _ _ _ _ _ (c .before .before .before .before .before .before .before .before .before .before .before .before .before .before .before .before .before .before .before .before .put-piece .ensures) (c .before .before .before .before .before .before .d .given .1) in
+    let i = c .before .before .before .before .before .before .before .before .before .before .before .before .before .before .before .before .before .before .before .before .before .before .before .before .before .before .before .before .before .loop .inv in
+    let r = c .before .before .before .before .before .before .before .before .before .before .before .before .before .before .before .before .before .before .before .before .before .before .before .before .before .before .before .before .before .before .before .before .before .before .before .before .before .before .pre .2 in
+    omega (arith, record-small _ _ _ (i .1) p (r .few) (c .before .before .before .before .before .before .before .before .before .before .before .before .before .before .before .before .before .before .before .before .before .before .before .before .before .before .before .before .before .before .before .before .before .before .before .before .before .before .pre .0 .short))
+
+loop-less : tie.Need-loop-less Inv-loop μ-loop
+loop-less c = let p = stepped-on _ _ _ _ _ (c .before .before .before .before .before .before .before .before .before .before .before .before .before .before .before .before .before .before .before .before .put-piece .ensures) (c .before .before .before .before .before .before .d .given .1) in omega (arith, p .goes .on, p .goes .within)
+
+loop-again : tie.Need-loop-again Inv-loop μ-loop
+loop-again c =
+    let p = stepped-on _ _ _ _ _ (c .before .before .before .before .before .before .before .before .before .before .before .before .before .before .before .before .before .before .before .before .put-piece .ensures) (c .before .before .before .before .before .before .d .given .1) in
+    let i = c .before .before .before .before .before .before .before .before .before .before .before .before .before .before .before .before .before .before .before .before .before .before .before .before .before .before .before .before .before .loop .inv in
+    let r = c .before .before .before .before .before .before .before .before .before .before .before .before .before .before .before .before .before .before .before .before .before .before .before .before .before .before .before .before .before .before .before .before .before .before .before .before .before .before .pre .2 in
+    let f = going-fits _ _ _ (going-on _ _ (i .0) p) (length (c .before .before .before .before .before .before .before .before .before .before .before .before .before .before .before .before .before .before .before .before .before .before .before .before .before .before .before .before .before .loop .out)) (omega (arith, r .room, going-length _ _ (i .0))) in (
+      going-on _ _ (i .0) p,
+      storing-on _ _ _ (i .1) p (r .few) f _ (c .before .before .count-lines .ensures .0) (c .before .before .count-lines .ensures .1),
+      c .before .before .before .before .before .before .before .before .before .before .before .before .before .before .before .before .before .table .given ∙ i .2,
+      c .before .before .before .before .before .before .before .before .before .before .before .before .before .before .before .breaks .given ∙ i .3,
+      c .before .before .before .before .before .before .before .before .before .before .before .before .before .ratios .given ∙ i .4,
+      c .before .before .before .before .before .before .before .before .before .before .before .active .given ∙ i .5,
+      c .before .before .before .before .before .before .before .before .before .marks .given ∙ i .6,
+    )
+
+same-length-8 : tie.Need-same-length-8 Inv-loop μ-loop
+same-length-8 c = going-length _ _ (c .before .before .loop .inv .0)
+
+same-length-9 : tie.Need-same-length-9 Inv-loop μ-loop
+same-length-9 c = c .before .before .loop .inv .1 .rows .same
+
+same-length-10 : tie.Need-same-length-10 Inv-loop μ-loop
+same-length-10 c = c .before .before .loop .inv .2
+
+same-length-11 : tie.Need-same-length-11 Inv-loop μ-loop
+same-length-11 c = c .before .before .loop .inv .3
+
+same-length-12 : tie.Need-same-length-12 Inv-loop μ-loop
+same-length-12 c = c .before .before .loop .inv .4
+
+same-length-13 : tie.Need-same-length-13 Inv-loop μ-loop
+same-length-13 c = c .before .before .loop .inv .5
+
+same-length-14 : tie.Need-same-length-14 Inv-loop μ-loop
+same-length-14 c = c .before .before .loop .inv .6
+
+returns-2 : tie.Need-returns-2 Inv-loop μ-loop
+returns-2 c = stored-all _ _ _ (c .before .before .loop .inv .0) (c .before .before .loop .inv .1) (c .before .before .before .before .before .before .before .before .before .before .before .pre .2) (c .if1 .left)
+
+pub store-pieces-spec : {M : Type 1} → statement M
+store-pieces-spec =
+    tie.close
+    (tie.spec
+    Inv-loop
+    μ-loop
+    loop-holds
+    put-piece-requires
+    enum-known-d
+    enum-told
+    same-length
+    same-length-2
+    same-length-3
+    same-length-4
+    same-length-5
+    same-length-6
+    same-length-7
+    returns
+    sub-count-lines
+    part-count-lines-start
+    part-count-lines-end
+    count-lines-requires
+    sub-t18
+    mul-t41
+    slice-set-from-index
+    add-line
+    add-k
+    loop-less
+    loop-again
+    same-length-8
+    same-length-9
+    same-length-10
+    same-length-11
+    same-length-12
+    same-length-13
+    same-length-14
+    returns-2)
