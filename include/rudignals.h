@@ -120,8 +120,7 @@ struct rudignals_record {
  * RUDIGNALS_INDEX_FULL, N is the number of pieces, and the output is all zero; RUDIGNALS_ROOM. On a refusal *filled is 0 and every record is
  * unchanged; else those behind the filled ones are. notes_len records always do; with none a host learns how many pieces there are.
  *
- * It takes more of the stack than the others: 594,688 bytes were measured (Arm), whatever the notes and the records. Give a thread that makes
- * this call 1 MiB. */
+ * Of notes of over 8,192 pieces with a record for each the digest is written twice, over itself. */
 uint64_t rudignals_write_indexed(const uint8_t *options, size_t options_len, const uint8_t *notes, size_t notes_len, uint8_t *output, size_t output_len,
                                  struct rudignals_record *index, size_t records, uint64_t *filled);
 

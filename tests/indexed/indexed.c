@@ -290,7 +290,7 @@ static double now(void) {
     return (double)t.tv_sec + (double)t.tv_nsec / 1e9;
 }
 
-/* least of many calls, with and without an index, on prose of 1 and 64 KiB */
+/* least of many calls, with and without an index, on prose of 1, 4 and 64 KiB, with few and with the most records */
 static void timing(void) {
     static uint8_t s[65536], out[1 << 18];
     static record index[65536];
@@ -300,7 +300,7 @@ static void timing(void) {
         for (q = 0; q < 2; q++) {
             uint8_t block[8];
             size_t n = 0, col = 0, lines = 0, b = rudignals_put_number(block, 0, RUDIGNALS_TAG_FLAGS, q ? RUDIGNALS_QUICK : 0);
-            double best[2] = {1, 1};
+            double best[3] = {1, 1, 1};
             uint64_t filled = 0;
             state = 5;
             while (n + 12 < sizes[i]) {
@@ -318,8 +318,13 @@ static void timing(void) {
                 rudignals_write_indexed(block, b, s, n, out, sizeof out, index, 1024, &filled);
                 t = now() - t;
                 best[1] = t < best[1] ? t : best[1];
+                t = now();
+                rudignals_write_indexed(block, b, s, n, out, sizeof out, index, 65536, &filled);
+                t = now() - t;
+                best[2] = t < best[2] ? t : best[2];
             }
-            printf("%6zu bytes, %s: %.2f ns a byte, with an index of %llu records %.2f, ratio %.3f\n", n, q ? "quick" : "best ", best[0] * 1e9 / (double)n, (unsigned long long)filled, best[1] * 1e9 / (double)n, best[1] / best[0]);
+            printf("%6zu bytes, %s: %.2f ns a byte; with an index of %llu records filled of 1,024 %.2f, ratio %.3f; of 65,536 %.2f, ratio %.3f\n", n, q ? "quick" : "best ", best[0] * 1e9 / (double)n,
+                   (unsigned long long)filled, best[1] * 1e9 / (double)n, best[1] / best[0], best[2] * 1e9 / (double)n, best[2] / best[0]);
         }
 }
 

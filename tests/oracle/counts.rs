@@ -11,6 +11,21 @@ pub fn counts(opts: &FmtOptions, notes: &[u8]) -> Vec<(usize, usize)> {
         .collect()
 }
 
+/// Each piece of the notes: its lines, and the line feeds of its output.
+pub fn pieces(opts: &FmtOptions, notes: &[u8]) -> Vec<(usize, usize)> {
+    let mut fp = ::std::io::Cursor::new(notes.to_vec());
+    ParagraphStream::new(opts, &mut fp)
+        .map(|piece| match piece {
+            Ok(para) => {
+                let mut output = Vec::new();
+                ::linebreak::break_lines(&para, opts, &mut output);
+                (para.lines.len(), output.iter().filter(|b| **b == b'\n').count())
+            }
+            Err(_) => (1, 1),
+        })
+        .collect()
+}
+
 /// A piece as it is laid out: its words (of a line that is not formatted none), its indents, and whether it is mail.
 pub struct Laid {
     pub words: usize,

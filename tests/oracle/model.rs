@@ -154,6 +154,25 @@ impl Original {
         }
     }
 
+    /// The right index of a call that is done: each piece's place and length in the notes, its first output line and its count of them.
+    pub fn index(&mut self, block: &[u8], notes: &[u8]) -> Vec<[u64; 4]> {
+        let mut fields = read(block).ok().expect("a block that is accepted");
+        let shown = Shown::new(&mut fields, notes);
+        self.set(&fields);
+        let mut lines = notes.split_inclusive(|b| *b == b'\n').map(|l| l.len() as u64);
+        let (mut place, mut first) = (0, 0);
+        fmt_cube::parasplit::pieces(&self.options, shown.text.as_bytes())
+            .into_iter()
+            .map(|(taken, count)| {
+                let length = lines.by_ref().take(taken).sum::<u64>();
+                let record = [place, length, first, count as u64];
+                place += length;
+                first += count as u64;
+                record
+            })
+            .collect()
+    }
+
     /// The first line of the first paragraph of over 1,024 words. A paragraph has no more words than the notes.
     fn long_paragraph(&self, notes: &[u8]) -> Option<usize> {
         if std::str::from_utf8(notes).unwrap().split_whitespace().nth(1024).is_none() {

@@ -3,12 +3,14 @@
 //!     scale run SEED COUNT TABLES [TAMPER]   TABLES is quick or long; TAMPER puts a fault in on purpose
 //!     scale apart FILE SEED COUNT TABLES PROGRAM ...  the calls made by another program (shipped.c), that shares memory as FILE
 //!     scale width SEED LINES                 quick's lines held to the width (width.rs), so many of them
+//!     scale index SEED COUNT [TAMPER]        writing with an index, and lookups (indexed.rs)
 //!     scale octets                           every sequence of up to four octets of a set that has every class
 //!     scale replay BLOCK NOTES ROOM PLACES   one call, in hexadecimal, as a difference was printed
 //!
 //! Exit: 0 no difference, 1 a difference or a byte read or written outside.
 
 mod glue;
+mod indexed;
 mod model;
 mod width;
 
@@ -260,6 +262,13 @@ fn main() {
             (Ok(seed), Ok(lines)) => width(seed, lines),
             _ => usage(),
         },
+        ["index", seed, count, ref more @ ..] => {
+            let tamper = indexed::TAMPERS.iter().find(|t| **t == *more.first().unwrap_or(&"none"));
+            match (seed.parse(), count.parse(), tamper) {
+                (Ok(seed), Ok(count), Some(tamper)) => indexed::run(seed, count, tamper),
+                _ => usage(),
+            }
+        }
         ["octets"] => octets(),
         ["replay", ..] => replay(&args[1..]),
         _ => usage(),

@@ -1,5 +1,5 @@
 /* Measures the stack that the calls use: each text is measured, written and formatted by threads whose stack was painted before, and the
- * lowest byte that lost its paint is looked for. Prints a line for each text and the greatest, and exits 1 if that is over MOST or if
+ * lowest byte that lost its paint is looked for. So are a panel, writing with an index and mail that is read. Prints a line for each text and the greatest, and exits 1 if that is over MOST or if
  * measuring a text took more than writing it. */
 #define _XOPEN_SOURCE 700 /* pthread_attr_setstack */
 #include "rudignals.h"
@@ -58,6 +58,22 @@ static void *make_panel(void *unused) {
     unsigned char here = 0;
     call.top = &here;
     call.answer = rudignals_panel(call.notes, call.notes_len, 8, cells);
+    return unused;
+}
+
+static void *make_indexed(void *unused) {
+    static struct rudignals_record index[RUDIGNALS_MOST_NOTES];
+    uint64_t filled;
+    unsigned char here = 0;
+    call.top = &here;
+    call.answer = rudignals_write_indexed(call.block, call.block_len, call.notes, call.notes_len, output, call.room, index, RUDIGNALS_MOST_NOTES, &filled);
+    return unused;
+}
+
+static void *make_unflow(void *unused) {
+    unsigned char here = 0;
+    call.top = &here;
+    call.answer = rudignals_unflow(call.notes, call.notes_len, output, OUTPUT);
     return unused;
 }
 
@@ -178,6 +194,29 @@ static void measure_panel(void) {
     printf("%7lu                  %s\n", (unsigned long)used_by(make_panel, RUDIGNALS_DONE), call.name);
 }
 
+static void measure_alone(const char *name, void *(*run)(void *)) {
+    printf("%7lu                  %s\n", (unsigned long)used_by(run, RUDIGNALS_DONE), name);
+}
+
+/* With as many records as there can be; and with more pieces than the call's tables have room for. */
+static void measure_indexed(void) {
+    text("an index", 0, "", 80);
+    measure_alone("with an index, Knuth-Plass, paragraphs of 960 words", make_indexed);
+    text("an index", RUDIGNALS_QUICK, "", 80);
+    measure_alone("with an index, quick", make_indexed);
+    text("an index", 0, "", 80);
+    memset(call.notes, '\n', 60000);
+    measure_alone("with an index of over 60,000 records", make_indexed);
+    text("an index", RUDIGNALS_QUICK, "", 80);
+    memset(call.notes, '\n', 60000);
+    measure_alone("with an index of over 60,000 records, quick", make_indexed);
+}
+
+static void measure_unflow(void) {
+    text("mail read", 0, "> ", 80);
+    measure_alone("mail read", make_unflow);
+}
+
 int main(void) {
     text("none", 0, "", 80);
     on_the_painted_stack(make_format); /* in a dynamically linked program the first call looks for memset, on this stack */
@@ -197,6 +236,8 @@ int main(void) {
     measure_prefix();
     measure_refusals();
     measure_panel();
+    measure_indexed();
+    measure_unflow();
     printf("stack: at most %lu bytes; %lu allowed\n", (unsigned long)greatest, (unsigned long)MOST);
     if (more)
         puts("stack: measuring took more than writing");
