@@ -1,10 +1,10 @@
 -- What the call answers, where the pieces came to an end or did not.
 use mathlib.Core.Path.{_≡_, refl, sym, ap, subst, _∙_}
-use mathlib.Core.Bool.{Bool, true, false, cond}
+use mathlib.Core.Bool.{Bool, true, false}
 use mathlib.Core.List.{List, [], _∷_, _++_, map}
 use Prim.Native.Nat.{ℕ, _+_, _≤_, _<_}
 use native.Mathlib.Omega.{arith}
-use lib.Dec.{leb, ltb}
+use lib.Dec.{ltb}
 use lib.ListN.{length, take, drop, replicate}
 use lib.Seq.{take-append-seam, drop-append-seam}
 use borrow.Author.Tests.{le-leb, lt-leb}
@@ -18,8 +18,7 @@ use Rattle.options.specs.declared.Block.the-variants.{Accepted, Fault}
 use Rattle.pieces.specs.Pieces.{Piece, pieces}
 use Rattle.output.specs.Contracts.Sink.{Wrote}
 use Rattle.output.proofs.Sink.{written-fits, wrote-length}
-use Rattle.walk.specs.Digest.{pieceOutput, digest, extentOf, longParagraph}
-use Rattle.walk.specs.Contracts.Course.{Admitted}
+use Rattle.walk.specs.Digest.{digest, extentOf, longParagraph}
 use Rattle.formatter.specs.Answers.{Answer, done as measured, options as faulty, long as tooLong, text as damaged, words as manyWords, room as noRoom, code as codeOf, outputAfter as outputLeft}
 use Rattle.formatter.specs.Format.{mostBytes, damageIn, withWords, withText, withNotes, withBlock, measuring}
 use Rattle.formatter.specs.Contracts.Call.{Admits, told as replied}
@@ -27,14 +26,13 @@ use Rattle.formatter.specs.declared.Reply.{Reply}
 use Rattle.formatter.specs.declared.Admission.{Admission}
 use Rattle.formatter.specs.declared.Admission.the-variants.{Refused, Passed}
 use Rattle.index.specs.declared.Record.{Record}
-use Rattle.indexer.specs.Index.{recordsFrom, lineCount, indexOf}
-use Rattle.indexer.specs.Answers.{Indexed, done, options, long, text, words, full, room, numbersOf, outputAfter, recordsAfter}
+use Rattle.indexer.specs.Index.{indexOf}
+use Rattle.indexer.specs.Answers.{done, full, room, numbersOf, outputAfter, recordsAfter}
 use Rattle.indexer.specs.Indexing.{withIndex, inIndex, indexUnder, indexing}
 use Rattle.indexer.specs.Contracts.Noting.{endsFrom, outsFrom, Noted, gathered, Gathers, Stores, Stored, told, Indexes, refusedAs, wordsOr, leftOf}
-use Rattle.indexer.specs.declared.Filled.{Filled}
 use Rattle.indexer.specs.declared.Filled.the-variants.{Done, Words, Full, Room}
 use Rattle.indexer.specs.declared.Pieces.{Pieces}
-use Rattle.indexer.specs.declared.Pieces.the-variants.{All, Stopped}
+use Rattle.indexer.specs.declared.Pieces.the-variants.{All}
 use Rattle.indexer.proofs.Gathering.{climbs-pieces, gathered-pieces}
 use Rattle.indexer.proofs.Storing.{length-records}
 

@@ -14,7 +14,7 @@ use Rattle.options.specs.Opts.{Opts}
 use Rattle.lines.specs.Lines.{linesOf}
 use Rattle.pieces.specs.Pieces.{Piece, Kind, pieces}
 use Rattle.output.specs.Contracts.Sink.{Wrote}
-use Rattle.output.proofs.Sink.{written-fits, wrote-length}
+use Rattle.output.proofs.Sink.{written-fits}
 use Rattle.paragraphs.specs.declared.Cursor.{Cursor}
 use Rattle.walk.specs.Digest.{outputOf, digest, extentOf, longParagraph}
 use Rattle.walk.specs.Contracts.Course.{piecesFrom, longFrom, Put, Going, start}

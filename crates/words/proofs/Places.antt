@@ -1,6 +1,6 @@
 -- The words of a paragraph stand at their places: each has its bytes there, and begins behind the one before it.
 use mathlib.Core.Path.{_≡_, refl, sym, ap, _∙_}
-use mathlib.Core.Bool.{Bool, true, false, not}
+use mathlib.Core.Bool.{Bool, true, false}
 use mathlib.Core.List.{List, [], _∷_, _++_, map, append-assoc, append-nil}
 use Prim.Native.Nat.{ℕ, zero, suc, _+_, _≤_, _<_}
 use native.Mathlib.Omega.{arith}
@@ -9,7 +9,7 @@ use lib.Seq.{slice, take-at, drop-at, take-take}
 use Rattle.lists.specs.Runs.{while, behind, joined}
 use Rattle.lists.specs.Theorems.All.{All}
 use Rattle.lists.proofs.All.{all-front, all-back}
-use Rattle.lists.proofs.Parts.{behind-nil, while-behind, joined-nil, joined-cons, joined-append}
+use Rattle.lists.proofs.Parts.{behind-nil, while-behind, joined-cons, joined-append}
 use Rattle.lists.proofs.RunParts.{behind-fails}
 use Rattle.lists.proofs.Slices.{slice-is}
 use Rattle.lists.proofs.Extents.{each-all}
