@@ -129,6 +129,28 @@ uint64_t rudignals_write_indexed(const uint8_t *options, size_t options_len, con
  * record's part runs past the notes: no later one is tried. The records may have any content, and nothing wraps. */
 uint64_t rudignals_lookup(const struct rudignals_record *index, size_t records, uint64_t filled, const uint8_t *notes, size_t notes_len, uint64_t line, uint64_t part[2]);
 
+/* ---- Why a line of the digest ends where it does.
+ *
+ * reason[0] is the kind, and its numbers follow; those that a kind does not name are 0. The numbers are the breaker's, not those of the line
+ * as it is written: t counts the space before a line's first word, which is not written, and one space where two are. */
+enum { RUDIGNALS_NO_LINE = 8 }; /* explain, behind 4: the digest has N lines */
+
+enum rudignals_reason {
+    RUDIGNALS_END_OF_PARAGRAPH = 0, /* also where a break was placed behind its last word */
+    RUDIGNALS_PLAIN_LINE = 1,
+    RUDIGNALS_BLANK_LINE = 2,
+    RUDIGNALS_NOT_FIT = 3,       /* quick, and mail: column, gap, added space and width of the next word come to more than the width */
+    RUDIGNALS_CHOSEN = 4,        /* t, the line's columns; L, W and D, for its length, its last word and its unlikeness to the line before; and
+                                  * the cost of this break alone, (1 + L + W + D) squared: of all ways to break the paragraph this was the
+                                  * cheapest */
+    RUDIGNALS_FORCED_BEFORE = 5, /* no line could take the next word: the break stands before it */
+    RUDIGNALS_FORCED_AFTER = 6   /* likewise, and the lesser evil was to put the word on this line and break behind it */
+};
+
+/* Why output line `line`, counted from 0, ends: 0, with N 0 and the reason. Refusals, the first that applies: 1 to 4 as for measuring;
+ * RUDIGNALS_NO_LINE. On a refusal reason is unchanged. It takes the time of measuring, and that of the line's paragraph once more. */
+uint64_t rudignals_explain(const uint8_t *options, size_t options_len, const uint8_t *notes, size_t notes_len, uint64_t line, uint64_t reason[6]);
+
 /* The wall panel: the last 24 lines of a digest as 24 rows of 80 cells, row by row, each a code point; fewer lines stand at the bottom.
  * A tab moves on and marks nothing; a wide character is its cell and a filler cell, 0; a byte that begins no well-formed character is
  * U+FFFD; a line that runs past the last column has `+` in its last cell. What the cells held before is gone. Code 0 or, for a tab width

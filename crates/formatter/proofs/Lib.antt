@@ -4,3 +4,4 @@ pub mod Replies
 pub mod Faults
 pub mod Values
 pub mod Unique
+pub mod Refusals

@@ -14,3 +14,5 @@ pub mod Paragraph
 pub mod Whole
 pub mod Reduction
 pub mod Unique
+pub mod Makers
+pub mod Asked

@@ -59,7 +59,7 @@ module _ (table : List ℕ) (n i : ℕ) (notes : List ℕ) (v : Word) where
 -- ---- all rounds
 
 module _ (table : List ℕ) (n i : ℕ) (notes : List ℕ) where
-  last-is : i < n → eqb (i + 1) n ≡ isLast (drop (i + 1) (wordsIn notes n table))
+  pub last-is : i < n → eqb (i + 1) n ≡ isLast (drop (i + 1) (wordsIn notes n table))
   last-is h = by (eqb (i + 1) n) refl where
     by : (x : Bool) → eqb (i + 1) n ≡ x → x ≡ isLast (drop (i + 1) (wordsIn notes n table))
     by true e = let q = eqb-true (i + 1) n e in rw (words-end notes n table (i + 1) (omega arith))

@@ -46,7 +46,7 @@ module _ (g : Setting) (n : ℕ) (table : List ℕ) (t : Tables) (a : List ℕ) 
         let s = r .filled .sized .few in
         (r .filled .down j p l, omega arith)
 
-    path-is : (notes : List ℕ) → pathTo t last ≡ least (roundsFrom g false 1 (begin g (meaning notes (wordIn table 0))) (drop 1 (wordsIn notes n table)) .breaks) .places
+    pub path-is : (notes : List ℕ) → pathTo t last ≡ least (roundsFrom g false 1 (begin g (meaning notes (wordIn table 0))) (drop 1 (wordsIn notes n table)) .breaks) .places
     unfolding breakMeant seen
     path-is notes = ap (λ (b : Break). b .places) (found .is ∙ ap (λ (b : Active). least (b .breaks)) (rounds .is notes))
 

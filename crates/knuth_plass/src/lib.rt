@@ -1,4 +1,5 @@
 // Knuth-Plass: the best breaks of a paragraph, one round for each word over the active breaks.
+use endings::Ending;
 use records::Before;
 use records::Word;
 use spacing::Setting;
@@ -14,6 +15,7 @@ ghost use Rattle.demerits.specs.Contracts.Bounds.{mostWord};
 ghost use Rattle.knuth_plass.specs.KnuthPlass.{minimumOf, startsLine, reduced, sentenceBehind};
 ghost use Rattle.knuth_plass.specs.Contracts.Table as T;
 ghost use Rattle.knuth_plass.specs.Contracts.Round as R;
+ghost use Rattle.knuth_plass.specs.Contracts.Makers as W;
 
 // A break place: the number of the previous break, the word and whether it stands before or after it; its demerits and the ratio of
 // the line that it ends; the columns of the line that it begins, and whether nothing but the indent stands on that line.
@@ -705,4 +707,257 @@ pub fn best_breaks(
     let last = least(breaks, ratios, active, st);
     clear(marks, n);
     mark_path(breaks, ratios, marks, n, last);
+}
+
+// ---- why a line ends
+
+// Whether a break that stays made the offer of a total, and with what.
+pub enum Tried {
+    Other,
+    Here(Ending),
+}
+
+// A round's end: between rounds, and what made the round's break.
+pub struct Told {
+    pub st: Standing,
+    pub ending: Ending,
+}
+
+// All rounds: between rounds, and what made the breaks of two words, one behind the other.
+pub struct AllTold {
+    pub st: Standing,
+    pub first: Ending,
+    pub second: Ending,
+}
+
+fn take_ending(first: bool, a: Ending, b: Ending) -> Ending
+    ensures { λ r. ⌜ r ≡ cond first a b ⌝ }
+{
+    if first {
+        return a;
+    }
+    b
+}
+
+// What a break that stays offers, with a word of this weight at the end of its line.
+fn try_break(g: Setting, weight: u16, b: Break, total: u64) -> Tried
+    requires { ⌜ R.Limits g × W.Stays weight b ⌝ }
+    ensures { λ r. ⌜ r ≡ W.triedOf g weight total (b .columns) (b .ratio) (b .demerits) ⌝ }
+{
+    let stretch = g.width - g.goal;
+    if b.columns < g.goal - stretch {
+        return Tried::Other;
+    }
+    if g.width < b.columns {
+        return Tried::Other;
+    }
+    let ratio = demerits::ratio(g.goal, b.columns, stretch);
+    let cost = demerits::cost(ratio, b.ratio, weight);
+    if cost + b.demerits == total {
+        return Tried::Here(Ending::Chosen {
+            columns: b.columns,
+            line: demerits::line_term(ratio),
+            word: weight,
+            ratio: demerits::ratio_term(ratio, b.ratio),
+            cost,
+        });
+    }
+    Tried::Other
+}
+
+// The first of the breaks that stay whose offer has the least total: its offer became the break.
+fn chosen(
+    g: Setting,
+    weight: u16,
+    breaks: &[u32],
+    ratios: &[f32],
+    active: &[u32],
+    kept: usize,
+    total: u64,
+) -> Ending
+    requires { ⌜ R.Limits g × W.Kept weight kept (T.tables (now breaks) (now ratios)) (now active) ⌝ }
+    ensures { λ r. ⌜ r ≡ W.chosenIn g weight total (R.breaksListed kept (T.tables (now (breaks .entry)) (now (ratios .entry))) (now (active .entry))) ⌝ }
+{
+    let mut k = 0;
+    while k < kept {
+        let n = active[k] as usize;
+        let b = get_break(breaks, ratios, n);
+        k += 1;
+        match try_break(g, weight, b, total) {
+            Tried::Here(e) => {
+                return e;
+            }
+            Tried::Other => {}
+        }
+    }
+    Ending::Paragraph
+}
+
+// The break that begins again where nothing stays is before the word or after it.
+fn forced(
+    g: Setting,
+    turn: Turn,
+    st: Standing,
+    breaks: &[u32],
+    ratios: &[f32],
+    from: usize,
+) -> Ending
+    requires { ⌜ R.Limits g × R.Turns g turn × W.From turn st from (T.tables (now breaks) (now ratios)) ⌝ }
+    ensures { λ r. ⌜ W.ForcedIs g turn (R.lessened (st .reduction) (T.breakIn (T.tables (now (breaks .entry)) (now (ratios .entry))) from)) r ⌝ }
+{
+    let least = lessened(get_break(breaks, ratios, from), st.reduction);
+    let b = restarted(g, turn, from, least);
+    if b.before {
+        return Ending::Before;
+    }
+    Ending::After
+}
+
+// What makes the break of a round, when all active breaks have the word on their lines.
+fn maker(
+    g: Setting,
+    turn: Turn,
+    st: Standing,
+    breaks: &[u32],
+    ratios: &[f32],
+    active: &[u32],
+    s: State,
+) -> Ending
+    requires { ⌜ R.Limits g × R.Turns g turn × R.Fit turn st (st .count) (T.tables (now breaks) (now ratios)) (now active) s ⌝ }
+    ensures { λ r. ⌜ W.MakerIs g turn st (T.tables (now (breaks .entry)) (now (ratios .entry))) (now (active .entry)) s r ⌝ }
+{
+    let best = s.best;
+    if best.total < NOTHING {
+        if turn.last {
+            return Ending::Paragraph;
+        }
+        return chosen(g, turn.weight, breaks, ratios, active, s.kept, best.total);
+    }
+    if 0 < s.kept {
+        return Ending::Paragraph;
+    }
+    forced(g, turn, st, breaks, ratios, s.from)
+}
+
+// The round of word i, and what makes its break.
+fn told_round(
+    g: Setting,
+    table: &[u32],
+    i: usize,
+    last: bool,
+    sentence: bool,
+    st: Standing,
+    breaks: &mut [u32],
+    ratios: &mut [f32],
+    active: &mut [u32],
+) -> Told
+    requires { ⌜ R.Limits g × (i < length (now ratios)) × Room i (now table) × R.Narrow i (now table) × R.RoundReady i st (T.tables (now breaks) (now ratios)) (now active) ⌝ }
+    ensures { λ r. ⌜ W.ToldIs g last sentence i (wordIn (now (table .entry)) i) st (T.tables (now (breaks .entry)) (now (ratios .entry))) (now (active .entry)) (T.tables (now (breaks .exit)) (now (ratios .exit))) (now (active .exit)) r ⌝ }
+{
+    let word = records::get(table, i);
+    let space = spacing::added_space(g.uniform, word.first, sentence, false);
+    let turn = Turn {
+        word,
+        number: i,
+        space,
+        weight: demerits::word_term(g.width - g.goal, word.width),
+        last,
+    };
+    let s = advance(g, turn, st, breaks, ratios, active);
+    let ending = maker(g, turn, st, breaks, ratios, active, s);
+    Told {
+        st: settle(g, turn, st, breaks, ratios, active, s),
+        ending,
+    }
+}
+
+// One round for each word behind the first, and what made the breaks of word e - 1 and of word e.
+fn all_told(
+    g: Setting,
+    table: &[u32],
+    n: usize,
+    e: usize,
+    breaks: &mut [u32],
+    ratios: &mut [f32],
+    active: &mut [u32],
+) -> AllTold
+    requires { ⌜ R.Limits g × (1 ≤ n) × (n ≤ length (now ratios)) × Holds n (now table) × R.AllNarrow n (now table) × T.Sized (T.tables (now breaks) (now ratios)) × (length (now active) ≡ length (now ratios)) × (1 ≤ e) ⌝ }
+    ensures { λ r. ⌜ W.AllToldIs g n e (now (table .entry)) (T.tables (now (breaks .exit)) (now (ratios .exit))) (now (active .exit)) r ⌝ }
+{
+    let w = records::get(table, 0);
+    let start = Break {
+        previous: 0,
+        word: 0,
+        before: false,
+        demerits: 0,
+        ratio: 0.0,
+        columns: g.first + w.width,
+        fresh: false,
+    };
+    append(breaks, ratios, active, 0, 0, start);
+    let mut st = Standing {
+        count: 1,
+        size: 1,
+        reduction: 0,
+    };
+    let mut sentence = false;
+    let mut first = Ending::Paragraph;
+    let mut second = Ending::Paragraph;
+    let mut i = 1;
+    while i < n {
+        let told = told_round(
+            g,
+            table,
+            i,
+            i + 1 == n,
+            sentence,
+            st,
+            breaks,
+            ratios,
+            active,
+        );
+        let ending = told.ending;
+        st = told.st;
+        first = take_ending(i + 1 == e, ending, first);
+        second = take_ending(i == e, ending, second);
+        sentence = sentence_behind(table, n, i);
+        i += 1;
+    }
+    AllTold { st, first, second }
+}
+
+// Whether the break of a path that starts a line with word e stands before it.
+fn stands_before(breaks: &[u32], ratios: &[f32], last: usize, e: usize) -> bool
+    requires { ⌜ (last < length (now ratios)) × T.Sized (T.tables (now breaks) (now ratios)) × T.Leads (T.tables (now breaks) (now ratios)) last ⌝ }
+    ensures { λ r. ⌜ r ≡ W.beforeAt e (T.pathTo (T.tables (now (breaks .entry)) (now (ratios .entry))) last) ⌝ }
+{
+    let mut at = last;
+    while 0 < at {
+        let b = get_break(breaks, ratios, at);
+        if starts(b) == e {
+            return b.before;
+        }
+        at = b.previous;
+    }
+    false
+}
+
+// Why the line before word e ends, where a line starts with that word. The tables are lent to work in.
+pub fn best_ending(
+    table: &[u32],
+    n: usize,
+    g: Setting,
+    e: usize,
+    breaks: &mut [u32],
+    ratios: &mut [f32],
+    active: &mut [u32],
+) -> Ending
+    requires { ⌜ R.Limits g × (1 ≤ n) × (n ≤ length (now ratios)) × Holds n (now table) × R.AllNarrow n (now table) × T.Sized (T.tables (now breaks) (now ratios)) × (length (now active) ≡ length (now ratios)) × (1 ≤ e) ⌝ }
+    ensures { λ r. ⌜ ((notes : List ℕ) → W.EndsBefore g e (wordsIn notes n (now (table .entry))) r) ⌝ }
+{
+    let told = all_told(g, table, n, e, breaks, ratios, active);
+    let last = least(breaks, ratios, active, told.st);
+    let first = told.first;
+    let second = told.second;
+    take_ending(stands_before(breaks, ratios, last, e), second, first)
 }

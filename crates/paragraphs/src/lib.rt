@@ -75,8 +75,8 @@ pub fn put_paragraph(
     })
 }
 
-// Marks where lines of n words start.
-fn mark_breaks(
+// Marks where lines of n words start. The other tables are lent to work in.
+pub fn mark_breaks(
     fast: bool,
     g: Setting,
     table: &[u32],
@@ -97,7 +97,7 @@ fn mark_breaks(
 }
 
 // What a paragraph is broken with. Mail always counts as uniform.
-fn setting_of(o: Options, p: Paragraph) -> Setting
+pub fn setting_of(o: Options, p: Paragraph) -> Setting
     ensures { λ r. ⌜ ((block : List ℕ) → r ≡ settingFor block o p) ⌝ }
 {
     let first = p.first;

@@ -1,0 +1,2 @@
+pub mod Endings
+pub mod Contracts

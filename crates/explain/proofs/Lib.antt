@@ -1,0 +1,6 @@
+pub mod Asking
+pub mod Seeking
+pub mod Answers
+pub mod Counting
+pub mod Values
+pub mod LineFeeds

@@ -1,0 +1,28 @@
+-- `explain::explain` meets its contract.
+use Rattle.explain.proofs.Answers.{passed-of, refused-told, passed-told}
+use borrow.Author.Needs.{needs}
+use Rattle.explain.proofs.explain.Statement.{statement}
+use Rattle.explain.proofs.explain.Tie as tie
+
+admit-requires : tie.Need-admit-requires
+admit-requires c κs = search needs
+
+enum-known-r : tie.Need-enum-known-r
+enum-known-r c = search needs
+
+enum-known-o : tie.Need-enum-known-o
+enum-known-o c = search needs
+
+explain-line-requires : tie.Need-explain-line-requires
+explain-line-requires c κs = passed-of _ _ _ (c .before .before .before .admit .ensures) (c .before .o .given .1) .0
+
+returns : tie.Need-returns
+returns c = refused-told _ _ _ (c .before .before .before .admit .ensures) _ (c .before .r .given .1)
+
+returns-2 : tie.Need-returns-2
+returns-2 c = passed-told _ _ _ (c .before .before .before .before .admit .ensures) _ (c .before .before .o .given .1) (c .explain-line .ensures)
+
+pub explain-spec : {M : Type 1} → statement M
+explain-spec =
+    tie.close
+    (tie.spec admit-requires enum-known-r enum-known-o explain-line-requires returns returns-2)

@@ -1,0 +1,134 @@
+-- What the functions of the search answer for: the lines of the pieces from a place of the notes on, and the line that is asked for.
+use mathlib.Core.Path.{_≡_}
+use mathlib.Core.Bool.{Bool, false, cond, _||_}
+use mathlib.Core.List.{List}
+use Prim.Native.Nat.{ℕ, _+_, _-_, _*_, _^_, _≤_, _<_}
+use lib.ListN.{length}
+use Rattle.lists.specs.Runs.{joined}
+use Rattle.text.specs.declared.Found.{Found}
+use Rattle.text.specs.declared.Found.the-variants.{At, Nowhere}
+use Rattle.options.specs.Opts.{Opts}
+use Rattle.options.specs.declared.Options.{Options}
+use Rattle.pieces.specs.Pieces.{Kind, Paragraph, paragraph, pieces}
+use Rattle.pieces.specs.declared.Paragraph.{Paragraph as ParagraphAt}
+use Rattle.words.specs.Words.{wordsOf}
+use Rattle.endings.specs.declared.Ending.{Ending}
+use Rattle.endings.specs.Endings.{numbersOf, endings}
+use Rattle.paragraphs.specs.Contracts.Steps.{settingFor, wordsFor}
+use Rattle.walk.specs.Digest.{tooMany, longParagraph}
+use Rattle.walk.specs.Contracts.Course.{piecesFrom, longFrom, FirstPiece}
+use Rattle.formatter.specs.Answers.{words}
+use Rattle.formatter.specs.declared.Reply.{Reply}
+use Rattle.formatter.specs.Contracts.Call.{told as replied, replyNumber}
+use Rattle.explain.specs.declared.Asked.{Asked}
+use Rattle.explain.specs.declared.Asked.the-variants.{Told, Behind as Ahead}
+use Rattle.explain.specs.declared.Seek.{Seek}
+use Rattle.explain.specs.declared.Passed.{Passed}
+use Rattle.explain.specs.declared.Passed.the-variants.{On, Over}
+use Rattle.explain.specs.declared.Course.{Course}
+use Rattle.explain.specs.declared.Course.the-variants.{End, Short}
+use Rattle.explain.specs.declared.Sought.{Sought}
+use Rattle.explain.specs.declared.Sought.the-variants.{All, Stopped}
+use Rattle.explain.specs.declared.Explained.{Explained}
+use Rattle.explain.specs.declared.Explained.the-variants.{Because, Refused, NoLine}
+use Rattle.explain.specs.Reasons.{linesBy, pieceEndings, endingsOf, lineEndings}
+use Rattle.explain.specs.Explain.{Explanation, because, refused, noLine, lookUp}
+use Rattle.explain.specs.Contracts.Asking.{passed}
+
+-- ---- a paragraph in places
+
+-- it is passed
+pub record TextBehind (notes : List ℕ) (at : ℕ) (o : Options) (p : ParagraphAt) (a : Asked) (s : Seek) (block : List ℕ) : Type 0 where
+  pub few : length (wordsFor block notes at o p) ≤ 1024
+  pub next : s .at ≡ p .next
+  pub mail : s .mail ≡ p .mail
+  pub asked : s .asked ≡ passed (endings (linesBy (o .quick || p .mail) (settingFor block o p) (wordsFor block notes at o p))) a
+
+-- or it has more words than there is room for: for w words, or for b where Knuth-Plass is to break them
+abbrev pub TextPassed : ℕ → ℕ → List ℕ → ℕ → Options → ParagraphAt → Asked → Passed → List ℕ → Type 0
+TextPassed w b notes at o p a (On s) block = TextBehind notes at o p a s block
+TextPassed w b notes at o p a Over block = cond (o .quick || p .mail) w b < length (wordsFor block notes at o p)
+
+-- ---- a piece
+
+-- the search goes on behind it
+pub record PieceBehind (o : Opts) (notes : List ℕ) (s t : Seek) : Type 0 where
+  pub kind : Kind
+  pub goes : FirstPiece o (s .mail) notes (s .at) kind (t .mail) (t .at)
+  pub few : tooMany o kind ≡ false
+  pub asked : t .asked ≡ passed (endingsOf o kind) (s .asked)
+
+-- or there is not enough room for it
+pub record NoRoom (w b : ℕ) (o : Opts) (notes : List ℕ) (s : Seek) : Type 0 where
+  pub text : Paragraph
+  pub state : Bool
+  pub next : ℕ
+  pub goes : FirstPiece o (s .mail) notes (s .at) (paragraph text) state next
+  pub many : cond (o .quick || text .mail) w b < length (wordsOf o text)
+
+abbrev pub PiecePassed : ℕ → ℕ → Opts → List ℕ → Seek → Passed → Type 0
+PiecePassed w b o notes s (On t) = PieceBehind o notes s t
+PiecePassed w b o notes s Over = NoRoom w b o notes s
+
+-- ---- the notes
+
+-- the lines from a place on, each with the way it ended
+unfoldable pub endingsFrom : Opts → Bool → List ℕ → ℕ → List Ending
+endingsFrom o nextMail notes at = joined (pieceEndings o) (piecesFrom o nextMail notes at)
+
+-- behind all lines from where the search stands
+abbrev pub passedAll : Opts → List ℕ → Seek → Asked
+passedAll o notes s = passed (endingsFrom o (s .mail) notes (s .at)) (s .asked)
+
+abbrev pub longBehind : Opts → List ℕ → Seek → Found
+longBehind o notes s = longFrom o (s .mail) notes (s .at)
+
+-- the search has gone on from s to t
+pub record Seeking (o : Opts) (notes : List ℕ) (s t : Seek) : Type 0 where
+  pub within : t .at ≤ length notes
+  pub asked : passedAll o notes t ≡ passedAll o notes s
+  pub long : longBehind o notes t ≡ longBehind o notes s
+
+abbrev pub SoughtIs : Opts → List ℕ → Seek → Sought → Type 0
+SoughtIs o notes s (All a) = (longBehind o notes s ≡ Nowhere) × (a ≡ passedAll o notes s)
+SoughtIs o notes s (Stopped place) = longBehind o notes s ≡ At place
+
+-- so far as the tables reach
+abbrev pub Coursed : ℕ → ℕ → Opts → List ℕ → Seek → Course → Type 0
+Coursed w b o notes s (End a) = SoughtIs o notes s (All a)
+Coursed w b o notes s (Short t) = Seeking o notes s t × NoRoom w b o notes t
+
+-- ---- the answer in code
+
+-- how many lines it is still behind
+abbrev pub linesAhead : Asked → ℕ
+linesAhead (Told e) = 0
+linesAhead (Ahead left) = left
+
+abbrev pub asking : ℕ → Asked → Explanation
+asking line (Told e) = because e
+asking line (Ahead left) = noLine (line - left)
+
+abbrev pub told : Explanation → Explained
+told (because e) = Because e
+told (refused a) = Refused (replied a)
+told (noLine lines) = NoLine lines
+
+-- its number, and the reason that it leaves
+abbrev pub toldNumber : Explained → ℕ
+toldNumber (Because e) = 0
+toldNumber (Refused r) = replyNumber r
+toldNumber (NoLine lines) = 8 * 2 ^ 32 + lines
+
+abbrev pub toldReason : Explained → List ℕ → List ℕ
+toldReason (Because e) reason = numbersOf e
+toldReason (Refused r) reason = reason
+toldReason (NoLine lines) reason = reason
+
+-- what is left to be told behind codes 1 to 3
+abbrev pub wordsOr : Found → Explanation → Explanation
+wordsOr (At place) a = refused (words place)
+wordsOr Nowhere a = a
+
+abbrev pub leftOf : Opts → List ℕ → ℕ → Explanation
+leftOf o notes line = wordsOr (longParagraph o 0 (pieces o notes)) (lookUp line (lineEndings o notes))

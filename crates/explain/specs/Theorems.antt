@@ -1,0 +1,2 @@
+-- The words of theorems.
+pub mod LineFeeds

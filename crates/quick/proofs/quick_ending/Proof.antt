@@ -1,0 +1,114 @@
+-- `quick::quick_ending` meets its contract. Invariant: the line asked for is so many lines behind the one that is being filled.
+use mathlib.Core.List.{List}
+use mathlib.Core.Path.{_≡_, refl, ap, _∙_}
+use mathlib.Core.Bool.{cond}
+use Prim.Native.Nat.{ℕ, _+_, _≤_, _<_, _-_, _^_}
+use native.Mathlib.Omega.{arith}
+use borrow.Author.Needs.{needs}
+use denote.Ref.{now}
+use lib.Dec.{ltb}
+use lib.ListN.{getD}
+use Rattle.records.specs.Contracts.Table.{wordsIn}
+use Rattle.endings.specs.declared.Ending.the-variants.{Paragraph}
+use Rattle.endings.specs.Endings.{endings}
+use Rattle.quick.specs.QuickLines.{quickLines}
+use Rattle.quick.proofs.Laws.{column-most}
+use Rattle.quick.proofs.Lines.{endingFrom, ending-first, ending-here, ending-on, ending-last}
+use Rattle.quick.proofs.quick_ending.Statement.{statement}
+use Rattle.quick.proofs.quick_ending.Tie as tie
+
+abbrev Inv-loop : tie.InvT-loop
+Inv-loop table n g line column₀ punct₀ left₀ i₀ column punct left i =
+    (i ≤ n) × (column < 2 ^ 34)
+    × ((notes : List ℕ) → endingFrom g notes table n column punct i left ≡ getD (endings (quickLines g (wordsIn notes n table))) line Paragraph)
+
+abbrev μ-loop : tie.MeasureT-loop
+μ-loop table n g line column₀ punct₀ left₀ i₀ column punct left i = n - i
+
+get-requires : tie.Need-get-requires Inv-loop μ-loop
+get-requires c κs = search needs
+
+add-column : tie.Need-add-column Inv-loop μ-loop
+add-column c = omega arith
+
+loop-holds : tie.Need-loop-holds Inv-loop μ-loop
+loop-holds c =
+    let s = c .before .before .before .before in
+    (s .pre .0, omega arith, λ notes. ending-first _ notes _ _ _ _ (c .before .before .get .ensures .is) (s .pre .0))
+
+get-requires-2 : tie.Need-get-requires-2 Inv-loop μ-loop
+get-requires-2 c κs = search needs
+
+reach-requires : tie.Need-reach-requires Inv-loop μ-loop
+reach-requires c κs = (c .before .before .before .before .before .before .before .pre .3, c .get2 .ensures .small, c .before .before .loop .inv .1)
+
+full-requires : tie.Need-full-requires Inv-loop μ-loop
+full-requires c κs = (c .before .before .before .before .before .before .before .before .before .before .pre .3, c .before .before .before .get2 .ensures .small, c .before .before .before .before .before .loop .inv .1)
+
+returns : tie.Need-returns Inv-loop μ-loop
+returns c =
+    let r = c .before .before .before .reach in
+    let w = c .before .before .before .before .get2 in
+    let l = c .before .before .before .before .before .before .loop in
+    let s = c .before .before .before .before .before .before .before .before .before .before .before in
+    λ notes. c .full .ensures ∙ ending-here (s .args .g) notes (now (s .args .table)) (s .args .n) (l .column) (l .punct) (l .i) (l .left) (w .result) (r .result) (w .ensures .is) (c .before .before .before .before .before .loop-test .taken) (r .ensures .0) (c .before .if1 .taken) ∙ l .inv .2 notes
+
+less-requires : tie.Need-less-requires Inv-loop μ-loop
+less-requires c κs = search needs
+
+pick-requires : tie.Need-pick-requires Inv-loop μ-loop
+pick-requires c κs = search needs
+
+add-pick : tie.Need-add-pick Inv-loop μ-loop
+add-pick c = omega (arith, c .before .before .before .before .before .before .before .before .before .before .before .before .before .before .pre .3 .indent, c .before .before .before .before .before .before .before .get2 .ensures .small .width)
+
+pick-requires-2 : tie.Need-pick-requires-2 Inv-loop μ-loop
+pick-requires-2 c κs = search needs
+
+add-i : tie.Need-add-i Inv-loop μ-loop
+add-i c = omega (arith, c .before .before .before .before .before .before .before .before .before .before .before .before .before .before .before .pre .1, c .before .before .before .before .before .before .before .before .before .loop-test .taken)
+
+loop-less : tie.Need-loop-less Inv-loop μ-loop
+loop-less c = omega arith
+
+loop-again : tie.Need-loop-again Inv-loop μ-loop
+loop-again c =
+    let r = c .before .before .before .before .before .before .before .reach in
+    let w = c .before .before .before .before .before .before .before .before .get2 in
+    let l = c .before .before .before .before .before .before .before .before .before .before .loop in
+    let s = c .before .before .before .before .before .before .before .before .before .before .before .before .before .before .before in
+    let g = s .args .g in
+    let t = c .before .before .before .before .before .before .before .before .before .loop-test .taken in
+    let fewer = c .before .before .before .pick .ensures ∙ ap (λ (m : ℕ). cond (ltb (g .width) (r .result)) m (l .left)) (c .before .before .before .before .less .ensures) in (
+      omega arith,
+      rw (c .pick2 .ensures) (column-most _ (g .width) _ (r .result) refl (s .pre .3 .width) (omega arith)),
+      λ notes. ending-on g notes (now (s .args .table)) (s .args .n) (l .column) (l .punct) (l .i) (l .left) (w .result) (r .result) _ _ (w .ensures .is) t (r .ensures .0) (c .before .before .before .before .before .if1 .left) (c .pick2 .ensures) fewer ∙ l .inv .2 notes,
+    )
+
+returns-2 : tie.Need-returns-2 Inv-loop μ-loop
+returns-2 c =
+    let l = c .before .loop in
+    let s = c .before .before .before .before .before .before in
+    λ notes. ending-last (s .args .g) notes (now (s .args .table)) (s .args .n) (l .column) (l .punct) (l .i) (l .left) (c .loop-test .left) ∙ l .inv .2 notes
+
+pub quick-ending-spec : {M : Type 1} → statement M
+quick-ending-spec =
+    tie.close
+    (tie.spec
+    Inv-loop
+    μ-loop
+    get-requires
+    add-column
+    loop-holds
+    get-requires-2
+    reach-requires
+    full-requires
+    returns
+    less-requires
+    pick-requires
+    add-pick
+    pick-requires-2
+    add-i
+    loop-less
+    loop-again
+    returns-2)

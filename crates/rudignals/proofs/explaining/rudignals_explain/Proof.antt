@@ -1,0 +1,23 @@
+-- `rudignals::explaining::rudignals_explain` meets its contract.
+use borrow.Author.Needs.{needs}
+use mathlib.Core.Path.{ap, _∙_}
+use mathlib.Core.List.{List}
+use Rattle.explain.specs.declared.Explained.{Explained}
+use Rattle.explain.specs.Contracts.Seeking.{toldNumber, toldReason}
+use Rattle.explain.proofs.Values.{told-number, told-reason, told-fits}
+use Rattle.rudignals.proofs.explaining.rudignals_explain.Statement.{statement}
+use Rattle.rudignals.proofs.explaining.rudignals_explain.Tie as tie
+
+explain-requires : tie.Need-explain-requires
+explain-requires c κs = search needs
+
+tell-requires : tie.Need-tell-requires
+tell-requires c κs = rw (c .before .explain .ensures) (told-fits _ _ _)
+
+returns : tie.Need-returns
+returns c =
+    let x = c .before .before .explain .ensures in
+    (c .tell .ensures .0 ∙ ap toldNumber x ∙ told-number _, c .tell .ensures .1 ∙ ap (λ (y : Explained). toldReason y (c .before .before .before .before .before .args .reason .now)) x ∙ told-reason _ _)
+
+pub rudignals-explain-spec : {M : Type 1} → statement M
+rudignals-explain-spec = tie.close (tie.spec explain-requires tell-requires returns)

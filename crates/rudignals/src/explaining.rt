@@ -1,0 +1,16 @@
+// The call of P6: why an output line ends where it does. The work is in the crate explain.
+ghost use mathlib.Core.Path.{_≡_};
+ghost use Rattle.explain.specs.Explain.{explaining, explainedNumber, reasonAfter};
+
+// The answer's number, and the kind and its numbers as the answer leaves them: on a refusal they are unchanged.
+#[no_mangle]
+pub extern "C" fn rudignals_explain(
+    options: &[u8],
+    notes: &[u8],
+    line: u64,
+    reason: &mut [u64; 6],
+) -> u64
+    ensures { λ r. ⌜ (r ≡ explainedNumber (explaining (now (options .entry)) (now (notes .entry)) line)) × (now (reason .exit) ≡ reasonAfter (explaining (now (options .entry)) (now (notes .entry)) line) (now (reason .entry))) ⌝ }
+{
+    explain::tell(explain::explain(options, notes, line), reason)
+}
