@@ -86,6 +86,9 @@ struct option;
 enum asked read_options(struct options *options, const struct option *own, int argc, char **argv);
 /* The columns between tab stops, of options that are accepted. */
 uint64_t tab_of(const struct options *options);
+/* The most columns of a line, and those aimed at, likewise. */
+uint64_t width_of(const struct options *options);
+uint64_t goal_of(const struct options *options);
 const char *name_of(int option);
 extern const char OPTIONS_HELP[];
 

@@ -94,6 +94,26 @@ static uint16_t number_in(const char *text) {
 
 uint64_t tab_of(const struct options *options) { return options->value['T'] == NULL ? 8 : number_in(options->value['T']); }
 
+/* The rule of width and goal, where one of them is given or none. */
+uint64_t width_of(const struct options *options) {
+    uint64_t goal;
+    if (options->value['w'] != NULL)
+        return number_in(options->value['w']);
+    if (options->value['g'] == NULL)
+        return 79;
+    goal = number_in(options->value['g']);
+    return goal * 100 / 94 > goal + 3 ? goal * 100 / 94 : goal + 3;
+}
+
+uint64_t goal_of(const struct options *options) {
+    uint64_t width = width_of(options);
+    if (options->value['g'] != NULL)
+        return number_in(options->value['g']);
+    if (options->value['w'] == NULL)
+        return 74;
+    return width * 94 / 100 < width - 3 ? width * 94 / 100 : width - 3;
+}
+
 static void add_number(struct options *options, enum rudignals_tag tag, int option) {
     if (options->value[option] != NULL)
         options->block_len = rudignals_put_number(options->block, options->block_len, tag, number_in(options->value[option]));

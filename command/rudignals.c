@@ -9,6 +9,7 @@
     X(format, "reformat the paragraphs of notes; also called fmt")                                                                            \
     X(panel, "show the last lines of formatted notes as a wall panel does")                                                                   \
     X(index, "show which notes each line of their digest comes from")                                                                         \
+    X(explain, "tell why the lines of their digest end where they do")                                                                        \
     X(salvage, "mend notes in ISO 8859-1, with a list of what was changed")                                                                   \
     X(restore, "bring the old notes back from a mended copy and its list")                                                                    \
     X(unflow, "read mail of format=flowed, a paragraph a line")

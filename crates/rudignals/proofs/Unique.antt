@@ -14,9 +14,13 @@
 --   words         split_words                                                               `words-unique`, by words/proofs/Unique (below)
 --   spacing       gap_width, added_space                                                    spacing/proofs/Unique: `gap-unique`, `added-unique`
 --   quick         quick_breaks                                                              `quick-unique`, by records/proofs/Unique: `marked-unique`
+--   quick         quick_ending                                                              an equation
+--   endings       find_line                                                                 an equation
+--   endings       put                                                                       an equation for the reason
 --   demerits      trunc                                                                     an equation
 --   demerits      ratio, line_term, word_term, ratio_term, cost                             an equation, with a bound: `bounded-unique`
 --   knuth_plass   best_breaks                                                               knuth_plass/proofs/Unique: `best-unique`
+--   knuth_plass   best_ending                                                               an equation, where a line starts with the word
 --   output        put_text, put_spaces, put_added, put_feed, put_margin, put_break,
 --                 put_word, put_first                                                       output/proofs/Unique: `wrote-unique`
 --   output        emit, emit_line                                                           `wrote-unique`, with a bound
@@ -33,6 +37,10 @@
 
 --   checker       match_line, match_words                                                   checker/proofs/Unique: `matches-unique`
 --   paragraphs    put_paragraph                                                             paragraphs/proofs/Unique: `step-unique`
+--   paragraphs    setting_of                                                                an equation
+--   paragraphs    mark_breaks                                                               an equation for the marks behind the first word's
+--   explain       explain                                                                   an equation
+--   explain       tell                                                                      an equation for the answer, one for the reason
 --   walk          put_all                                                                   walk/proofs/Unique: `ended-unique`
 --   walk          clear                                                                     an equation
 --   formatter     measure, number_of                                                        an equation
@@ -42,7 +50,7 @@
 --   rudignals     rudignals_write_indexed, rudignals_lookup                                 an equation for each of what they answer and leave
 --   rudignals     rudignals_write, rudignals_format                                         `call-unique`
 --   rudignals     rudignals_panel, rudignals_mend, rudignals_restore,
---                 rudignals_unflow                                                          an equation for the number, one for each slice
+--                 rudignals_unflow, rudignals_explain                                       an equation for the number, one for each slice
 --
 -- What stays open is scratch that nobody reads afterwards: docs/PROMISES.md lists it.
 use mathlib.Core.Path.{_≡_, sym, _∙_}

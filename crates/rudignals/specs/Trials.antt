@@ -2,3 +2,4 @@
 pub mod Computing
 pub mod MarkedTexts
 pub mod Indexes
+pub mod Reasons
