@@ -52,8 +52,8 @@ static void say_reason(const struct options *options, uint64_t line, const uint6
     }
 }
 
-/* The same in short, for a table. The column is as wide as six tab stops, so that a line's own tabs stand right beside it. */
-enum { BESIDE = 48 };
+/* The same in short, for a table. The column is as wide as seven tab stops, so that a line's own tabs stand right beside it. */
+enum { BESIDE = 56 };
 
 static void put_reason(const struct options *options, uint64_t line, const uint64_t reason[6]) {
     int wide = printf("%4" PRIu64 "  ", line);
@@ -61,13 +61,14 @@ static void put_reason(const struct options *options, uint64_t line, const uint6
     case RUDIGNALS_PLAIN_LINE: wide += printf("plain line"); break;
     case RUDIGNALS_BLANK_LINE: wide += printf("blank line"); break;
     case RUDIGNALS_NOT_FIT:
-        wide += printf("next word (%" PRIu64 ") would reach %" PRIu64 " of %" PRIu64, reason[4], reason[1] + reason[2] + reason[3] + reason[4], width_of(options));
+        wide += printf("next word, %" PRIu64 " columns, would reach %" PRIu64 " of %" PRIu64, reason[4], reason[1] + reason[2] + reason[3] + reason[4], width_of(options));
         break;
     case RUDIGNALS_CHOSEN:
-        wide += printf("chosen: %" PRIu64 " for %" PRIu64 ", cost (1+%" PRIu64 "+%" PRIu64 "+%" PRIu64 ")^2", reason[1], goal_of(options), reason[2], reason[3], reason[4]);
+        wide += printf("chosen: column %" PRIu64 ", goal %" PRIu64 ", cost %" PRIu64 " (%" PRIu64 ", %" PRIu64 ", %" PRIu64 ")", reason[1], goal_of(options), reason[5], reason[2],
+                       reason[3], reason[4]);
         break;
-    case RUDIGNALS_FORCED_BEFORE: wide += printf("forced: the next word fits no line"); break;
-    case RUDIGNALS_FORCED_AFTER: wide += printf("forced: its last word fits no line"); break;
+    case RUDIGNALS_FORCED_BEFORE: wide += printf("forced before the next word, which fits no line"); break;
+    case RUDIGNALS_FORCED_AFTER: wide += printf("forced behind its last word, which fits no line"); break;
     default: wide += printf("end of paragraph"); break;
     }
     printf("%*s|", wide < BESIDE - 1 ? BESIDE - 1 - wide : 1, "");

@@ -23,7 +23,7 @@ LINES = [
 
 
 def table(rows):
-    return b"".join(f"{number:4d}  {reason}".ljust(47).encode() + b"|" + line + b"\n" for number, (reason, line) in enumerate(rows))
+    return b"".join(f"{number:4d}  {reason}".ljust(55).encode() + b"|" + line + b"\n" for number, (reason, line) in enumerate(rows))
 
 
 def run_all(folder):
@@ -31,7 +31,7 @@ def run_all(folder):
         expect(f"explain: {options} {notes!r} {line}", run(["explain", *options, "-", str(line)], notes, RUDIGNALS), (0, words.encode(), ""))
     path = pathlib.Path(folder) / "notes"
     path.write_bytes(b"aaaa bbbbbb c\n\n\td\n")
-    rows = [("next word (6) would reach 11 of 10", b"aaaa"), ("end of paragraph", b"bbbbbb c"), ("blank line", b""), ("end of paragraph", b"\td")]
+    rows = [("next word, 6 columns, would reach 11 of 10", b"aaaa"), ("end of paragraph", b"bbbbbb c"), ("blank line", b""), ("end of paragraph", b"\td")]
     expect("explain: every line", run(["explain", "-w10", "-q", str(path)], b"", RUDIGNALS), (0, table(rows), ""))
     expect("explain: nothing", run(["explain", "-"], b"", RUDIGNALS), (0, b"", ""))
     absent = "rudignals: standard input: there is no line 4: the digest has 4 lines, counted from 0\n"
