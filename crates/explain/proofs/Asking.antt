@@ -21,7 +21,7 @@ use Rattle.quick.specs.QuickLines.{quickLines}
 use Rattle.quick.proofs.Lines.{breaks-are-quick's}
 use Rattle.knuth_plass.specs.KnuthPlass.{Place, startsLine, pathOf}
 use Rattle.knuth_plass.specs.BestLines.{makersOf, nextAt, nextsFrom, bestLines}
-use Rattle.knuth_plass.proofs.Asked.{next-is, breaks-are-the-best}
+use Rattle.knuth_plass.proofs.Asked.{path-tells, next-is, breaks-are-the-best}
 use Rattle.paragraphs.specs.Breaks.{breaksBy}
 use Rattle.explain.specs.Reasons.{linesBy}
 use Rattle.explain.specs.Contracts.Asking.{EndsSo, passed}
@@ -75,7 +75,7 @@ ends-best : (g : Setting) (ws : List Word) (line e : ℕ) (r : Ending) → EndsA
 ends-best g ws line e r h ends =
     let at = best-at g ws e (getD (endings (bestLines g ws)) line Paragraph) (h .from) (h .within) (h .is) in
     let starts : startsLine e (pathOf g ws) ≡ true = sym (next-is (makersOf g ws) e (pathOf g ws)) ∙ ap isEnded (at .1) in
-    ap endingOf (sym (ends (at .0) starts) ∙ at .1)
+    ap endingOf (ap ended ends ∙ sym (path-tells (makersOf g ws) e (h .from) (pathOf g ws) starts) ∙ at .1)
 
 module _ (fast : Bool) (g : Setting) (line : ℕ) (ws : List Word) (marked : List Bool) (is : marked ≡ breaksBy fast g ws) where
   as-lines : (s : Spot) → s ≡ spotOf marked 1 line → spotOf (breaks (linesBy fast g ws)) 1 line ≡ s
@@ -96,3 +96,7 @@ module _ (fast : Bool) (g : Setting) (line : ℕ) (ws : List Word) (marked : Lis
   -- no line ends before the first word
   pub before-some : (e : ℕ) → Before e ≡ spotOf marked 1 line → 1 ≤ e
   before-some e h = spot-ends (linesBy fast g ws) 1 line e (as-lines (Before e) h) .from
+
+  -- nor behind the last
+  pub before-within : (e : ℕ) → Before e ≡ spotOf marked 1 line → e < 1 + length (linesBy fast g ws)
+  before-within e h = spot-ends (linesBy fast g ws) 1 line e (as-lines (Before e) h) .within

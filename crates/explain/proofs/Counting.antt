@@ -53,6 +53,10 @@ unfolding quickLines bestLines
 lines-length true g w ws = quick-length g (g .first + w .width) false ws
 lines-length false g w ws = nexts-length _ _ 1 ws
 
+pub lines-within : (fast : Bool) (g : Setting) (ws : List Word) (e : ℕ) → 0 < length ws → e < 1 + length (linesBy fast g ws) → e < length ws
+lines-within fast g [] e h k = absurd (omega arith)
+lines-within fast g (w ∷ ws) e h k = let l = lines-length fast g w ws in omega arith
+
 endings-most : (ns : List Next) → length (endings ns) ≤ suc (length ns)
 unfolding endings
 endings-most [] = omega arith

@@ -431,7 +431,7 @@ fn ending_before(
     active: &mut [u32],
     marks: &[bool],
 ) -> Ending
-    requires { ⌜ Limits g × (1 ≤ n) × (n ≤ cond fast (length (now marks)) (length (now ratios))) × Holds n (now table) × AllNarrow n (now table) × Scratch (now table) (now breaks) (now ratios) (now active) (now marks) × (1 ≤ e) ⌝ }
+    requires { ⌜ Limits g × (1 ≤ n) × (n ≤ cond fast (length (now marks)) (length (now ratios))) × Holds n (now table) × AllNarrow n (now table) × Scratch (now table) (now breaks) (now ratios) (now active) (now marks) × (1 ≤ e) × (e < n) ⌝ }
     ensures { λ r. ⌜ ((notes : List ℕ) → EndsSo fast g line e (wordsIn notes n (now (table .entry))) r) ⌝ }
 {
     if fast {

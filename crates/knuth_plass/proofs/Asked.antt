@@ -22,7 +22,7 @@ use Rattle.knuth_plass.specs.BestLines.{maker, makersFrom, makersOf, sta
 use Rattle.knuth_plass.specs.Contracts.Table as T
 use Rattle.knuth_plass.specs.Contracts.Table.{Tables, breakIn, placeOf, pathTo, Leads}
 use Rattle.knuth_plass.specs.Contracts.Round.{begin, LeastIs}
-use Rattle.knuth_plass.specs.Contracts.Makers.{beforeAt, AllToldIs, EndsBefore}
+use Rattle.knuth_plass.specs.Contracts.Makers.{beforeAt, AllToldIs, endingBefore}
 use Rattle.knuth_plass.proofs.Path.{path-here, path-start}
 use Rattle.knuth_plass.proofs.Paragraph.{last-is}
 use Rattle.knuth_plass.proofs.Whole.{path-is}
@@ -197,8 +197,5 @@ module _ (g : Setting) (n e : ℕ) (table : List ℕ) (t : Tables) (a : List ℕ
   unfolding pathOf begin
   path-of notes = rw (words-drop notes n table 0 words) (path-is g n table t a (r .st) (told .rounds) last found notes)
 
-  pub ends-before : (b : Bool) (x : Ending) → b ≡ beforeAt e (pathTo t last) → x ≡ cond b (r .second) (r .first) → (notes : List ℕ) → EndsBefore g e (wordsIn notes n table) x
-  ends-before b x before is notes h starts =
-      let l = words-length notes n table in
-      path-tells (makersOf g (wordsIn notes n table)) e some (pathOf g (wordsIn notes n table)) starts
-      ∙ ap ended (sym (is ∙ rw (before, path-of notes, told .second notes (omega arith), told .first notes (omega arith))))
+  pub ends-before : (b : Bool) (x : Ending) → b ≡ beforeAt e (pathTo t last) → x ≡ cond b (r .second) (r .first) → e < n → (notes : List ℕ) → x ≡ endingBefore g e (wordsIn notes n table)
+  ends-before b x before is h notes = is ∙ rw (before, path-of notes, told .second notes h, told .first notes (omega arith))

@@ -839,6 +839,41 @@ fn maker(
     forced(g, turn, st, breaks, ratios, s.from)
 }
 
+// The same as `advance`, for the rounds that are told. It is a function of its own so that the compiler has one place to put each of the
+// two, and formatting's stays in its loop.
+fn advance_again(
+    g: Setting,
+    turn: Turn,
+    st: Standing,
+    breaks: &mut [u32],
+    ratios: &[f32],
+    active: &mut [u32],
+) -> State
+    requires { ⌜ R.Limits g × R.Turns g turn × (turn .number < length (now ratios)) × R.RoundReady (turn .number) st (T.tables (now breaks) (now ratios)) (now active) ⌝ }
+    ensures { λ r. ⌜ R.Fit turn st (st .count) (T.tables (now (breaks .exit)) (now (ratios .entry))) (now (active .exit)) r × ((notes : List ℕ) → R.Done g turn st (map (reduced (st .reduction)) (R.breaksListed (st .count) (T.tables (now (breaks .entry)) (now (ratios .entry))) (now (active .entry)))) (T.tables (now (breaks .exit)) (now (ratios .entry))) (now (active .exit)) r notes) ⌝ }
+{
+    let first = active[0] as usize;
+    let b = lessened(get_break(breaks, ratios, first), st.reduction);
+    let best = Best {
+        total: NOTHING,
+        previous: 0,
+        ratio: 0.0,
+    };
+    let mut s = State {
+        kept: 0,
+        from: first,
+        least: b.demerits,
+        best,
+    };
+    let count = st.count;
+    let mut k = 0;
+    while k < count {
+        s = visit(g, turn, st, breaks, ratios, active, k, s);
+        k += 1;
+    }
+    s
+}
+
 // The round of word i, and what makes its break.
 fn told_round(
     g: Setting,
@@ -863,7 +898,7 @@ fn told_round(
         weight: demerits::word_term(g.width - g.goal, word.width),
         last,
     };
-    let s = advance(g, turn, st, breaks, ratios, active);
+    let s = advance_again(g, turn, st, breaks, ratios, active);
     let ending = maker(g, turn, st, breaks, ratios, active, s);
     Told {
         st: settle(g, turn, st, breaks, ratios, active, s),
@@ -942,7 +977,7 @@ fn stands_before(breaks: &[u32], ratios: &[f32], last: usize, e: usize) -> bool
     false
 }
 
-// Why the line before word e ends, where a line starts with that word. The tables are lent to work in.
+// What made the break that starts a line with word e, where one does: why the line before it ends. The tables are lent to work in.
 pub fn best_ending(
     table: &[u32],
     n: usize,
@@ -952,8 +987,8 @@ pub fn best_ending(
     ratios: &mut [f32],
     active: &mut [u32],
 ) -> Ending
-    requires { ⌜ R.Limits g × (1 ≤ n) × (n ≤ length (now ratios)) × Holds n (now table) × R.AllNarrow n (now table) × T.Sized (T.tables (now breaks) (now ratios)) × (length (now active) ≡ length (now ratios)) × (1 ≤ e) ⌝ }
-    ensures { λ r. ⌜ ((notes : List ℕ) → W.EndsBefore g e (wordsIn notes n (now (table .entry))) r) ⌝ }
+    requires { ⌜ R.Limits g × (1 ≤ n) × (n ≤ length (now ratios)) × Holds n (now table) × R.AllNarrow n (now table) × T.Sized (T.tables (now breaks) (now ratios)) × (length (now active) ≡ length (now ratios)) × (1 ≤ e) × (e < n) ⌝ }
+    ensures { λ r. ⌜ ((notes : List ℕ) → r ≡ W.endingBefore g e (wordsIn notes n (now (table .entry)))) ⌝ }
 {
     let told = all_told(g, table, n, e, breaks, ratios, active);
     let last = least(breaks, ratios, active, told.st);

@@ -20,7 +20,7 @@
 --   demerits      trunc                                                                     an equation
 --   demerits      ratio, line_term, word_term, ratio_term, cost                             an equation, with a bound: `bounded-unique`
 --   knuth_plass   best_breaks                                                               knuth_plass/proofs/Unique: `best-unique`
---   knuth_plass   best_ending                                                               an equation, where a line starts with the word
+--   knuth_plass   best_ending                                                               an equation
 --   output        put_text, put_spaces, put_added, put_feed, put_margin, put_break,
 --                 put_word, put_first                                                       output/proofs/Unique: `wrote-unique`
 --   output        emit, emit_line                                                           `wrote-unique`, with a bound

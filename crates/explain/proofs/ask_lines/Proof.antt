@@ -4,8 +4,10 @@ use mathlib.Core.List.{[]}
 use native.Mathlib.Omega.{arith}
 use borrow.Author.Needs.{needs}
 use Rattle.records.specs.Contracts.Table.{wordsIn}
+use Rattle.records.proofs.Table.{words-length}
 use Rattle.paragraphs.proofs.Tables.{scratch-same}
-use Rattle.explain.proofs.Asking.{room-marks, asked-last, asked-behind, asked-before, before-some}
+use Rattle.explain.proofs.Asking.{room-marks, asked-last, asked-behind, asked-before, before-some, before-within}
+use Rattle.explain.proofs.Counting.{lines-within}
 use Rattle.explain.proofs.ask_lines.Statement.{statement}
 use Rattle.explain.proofs.ask_lines.Tie as tie
 
@@ -36,6 +38,7 @@ ending-before-requires c κs =
       p .4,
       scratch-same _ _ _ _ _ (p .5) _ _ _ _ _ refl (c .before .before .before .before .before .before .before .before .before .before .before .before .before .before .before .before .breaks .given) (c .before .before .before .before .before .before .before .before .before .before .before .before .before .before .ratios .given) (c .before .before .before .before .before .before .before .before .before .before .before .before .active .given) (c .before .before .before .before .before .before .before .before .before .before .marks .given),
       before-some (a .fast) (a .g) (a .line) (wordsIn [] (a .n) (a .table .now)) _ (c .before .before .before .before .before .before .before .before .before .before .before .before .before .before .before .before .before .mark-breaks .ensures []) _ (sym (c .before .before .before .before .before .e .given .1) ∙ c .before .before .before .before .before .before .before .find-line .ensures),
+      omega (arith, words-length [] (a .n) (a .table .now), lines-within (a .fast) (a .g) (wordsIn [] (a .n) (a .table .now)) _ (omega (arith, words-length [] (a .n) (a .table .now), p .1)) (before-within (a .fast) (a .g) (a .line) (wordsIn [] (a .n) (a .table .now)) _ (c .before .before .before .before .before .before .before .before .before .before .before .before .before .before .before .before .before .mark-breaks .ensures []) _ (sym (c .before .before .before .before .before .e .given .1) ∙ c .before .before .before .before .before .before .before .find-line .ensures))),
     )
 
 same-length : tie.Need-same-length

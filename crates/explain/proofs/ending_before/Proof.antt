@@ -15,7 +15,7 @@ returns : tie.Need-returns
 returns c = λ notes. rw (c .before .if1 .taken) (c .quick-ending .ensures notes)
 
 best-ending-requires : tie.Need-best-ending-requires
-best-ending-requires c κs = let p = c .before .before .before .before .before .before .before .before .before .pre in (p .0, p .1, rw (c .before .before .before .if1 .left) at (p .2), p .3, p .4, p .5 .lent .tables, p .5 .lent .active, p .6)
+best-ending-requires c κs = let p = c .before .before .before .before .before .before .before .before .before .pre in (p .0, p .1, rw (c .before .before .before .if1 .left) at (p .2), p .3, p .4, p .5 .lent .tables, p .5 .lent .active, p .6, p .7)
 
 same-length : tie.Need-same-length
 same-length c = search needs

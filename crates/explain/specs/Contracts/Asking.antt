@@ -11,14 +11,14 @@ use Rattle.endings.specs.declared.Ending.{Ending}
 use Rattle.endings.specs.declared.Ending.the-variants.{Paragraph}
 use Rattle.endings.specs.Endings.{endings}
 use Rattle.quick.specs.QuickLines.{quickLines}
-use Rattle.knuth_plass.specs.Contracts.Makers.{EndsBefore}
+use Rattle.knuth_plass.specs.Contracts.Makers.{endingBefore}
 use Rattle.explain.specs.declared.Asked.{Asked}
 use Rattle.explain.specs.declared.Asked.the-variants.{Told, Behind}
 
 -- by quick the line itself is asked for, by Knuth-Plass the word before which it ends
 abbrev pub EndsSo : Bool → Setting → ℕ → ℕ → List Word → Ending → Type 0
 EndsSo true g line e ws r = r ≡ getD (endings (quickLines g ws)) line Paragraph
-EndsSo false g line e ws r = EndsBefore g e ws r
+EndsSo false g line e ws r = r ≡ endingBefore g e ws
 
 -- behind lines that ended so: the line asked for was one of them, or it stands so many fewer lines behind
 unfoldable pub passed : List Ending → Asked → Asked

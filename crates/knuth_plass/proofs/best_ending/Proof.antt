@@ -7,7 +7,7 @@ use Rattle.knuth_plass.proofs.best_ending.Statement.{statement}
 use Rattle.knuth_plass.proofs.best_ending.Tie as tie
 
 all-told-requires : tie.Need-all-told-requires
-all-told-requires c κs = c .before .before .before .before .before .before .before .pre
+all-told-requires c κs = let p = c .before .before .before .before .before .before .before .pre in (p .0, p .1, p .2, p .3, p .4, p .5, p .6, p .7)
 
 least-requires : tie.Need-least-requires
 least-requires c κs = listed _ _ _ _ _ _ (c .before .before .before .before .before .before .before .before .before .all-told .ensures .rounds)
@@ -33,7 +33,7 @@ same-length-3 c = search needs
 returns : tie.Need-returns
 returns c =
     let s = c .before .before .before .before .before .before .before .before .before .before .before .before .before .before .before .before .before .before .before .before .before .before in
-    ends-before (s .args .g) (s .args .n) (s .args .e) (s .args .table .now) _ _ (c .before .before .before .before .before .before .before .before .before .before .before .before .before .before .all-told .result) (c .before .before .before .before .before .before .before .before .before .before .before .before .before .before .all-told .ensures) _ (c .before .before .before .before .least .ensures) (s .pre .1) (s .pre .7) _ _ (c .before .stands-before .ensures) (c .take-ending .ensures)
+    ends-before (s .args .g) (s .args .n) (s .args .e) (s .args .table .now) _ _ (c .before .before .before .before .before .before .before .before .before .before .before .before .before .before .all-told .result) (c .before .before .before .before .before .before .before .before .before .before .before .before .before .before .all-told .ensures) _ (c .before .before .before .before .least .ensures) (s .pre .1) (s .pre .7) _ _ (c .before .stands-before .ensures) (c .take-ending .ensures) (s .pre .8)
 
 pub best-ending-spec : {M : Type 1} → statement M
 best-ending-spec =

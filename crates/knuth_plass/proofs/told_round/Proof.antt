@@ -18,8 +18,8 @@ sub-word-term c = search needs
 word-term-requires : tie.Need-word-term-requires
 word-term-requires c κs = let p = c .before .before .before .before .before .before .before .pre in let w = p .0 .wide in omega arith
 
-advance-requires : tie.Need-advance-requires
-advance-requires c κs =
+advance-again-requires : tie.Need-advance-again-requires
+advance-again-requires c κs =
     let p = c .before .before .before .before .before .before .before .before .before .before .before .pre in
     let w = c .before .before .before .before .before .before .get .ensures in
     let t = c .before .before .before .word-term .ensures in
@@ -30,14 +30,14 @@ maker-requires c κs =
     let p = c .before .before .before .before .before .before .before .before .before .before .before .before .before .before .before .before .before .before .before .pre in
     let w = c .before .before .before .before .before .before .before .before .before .before .before .before .before .before .get .ensures in
     let t = c .before .before .before .before .before .before .before .before .before .before .before .word-term .ensures in
-    (p .0, record { narrow = rw (w .is) (p .3); small = w .small; space = c .before .before .before .before .before .before .before .before .before .before .before .before .before .added-space .ensures .most; few = omega (arith, p .1, p .4 .filled .sized .few); weight = t .0; light = t .1 }, c .before .before .before .before .before .before .before .advance .ensures .0)
+    (p .0, record { narrow = rw (w .is) (p .3); small = w .small; space = c .before .before .before .before .before .before .before .before .before .before .before .before .before .added-space .ensures .most; few = omega (arith, p .1, p .4 .filled .sized .few); weight = t .0; light = t .1 }, c .before .before .before .before .before .before .before .advance-again .ensures .0)
 
 settle-requires : tie.Need-settle-requires
 settle-requires c κs =
     let p = c .before .before .before .before .before .before .before .before .before .before .before .before .before .before .before .before .before .before .before .before .before .before .before .pre in
     let w = c .before .before .before .before .before .before .before .before .before .before .before .before .before .before .before .before .before .before .get .ensures in
     let t = c .before .before .before .before .before .before .before .before .before .before .before .before .before .before .before .word-term .ensures in
-    (p .0, record { narrow = rw (w .is) (p .3); small = w .small; space = c .before .before .before .before .before .before .before .before .before .before .before .before .before .before .before .before .before .added-space .ensures .most; few = omega (arith, p .1, p .4 .filled .sized .few); weight = t .0; light = t .1 }, c .before .before .before .before .before .before .before .before .before .before .before .advance .ensures .0)
+    (p .0, record { narrow = rw (w .is) (p .3); small = w .small; space = c .before .before .before .before .before .before .before .before .before .before .before .before .before .before .before .before .before .added-space .ensures .most; few = omega (arith, p .1, p .4 .filled .sized .few); weight = t .0; light = t .1 }, c .before .before .before .before .before .before .before .before .before .before .before .advance-again .ensures .0)
 
 same-length : tie.Need-same-length
 same-length c = search needs
@@ -52,7 +52,7 @@ returns : tie.Need-returns
 returns c =
     let a = c .before .before .before .before .before .before .before .before .before .before .before .before .before .before .before .before .before .before .before .before .before .before .before .before .before .before .before .before .before .before .args in
     rw (← c .before .before .before .before .before .before .before .before .before .before .before .before .before .before .before .before .before .before .before .before .before .before .before .before .before .get .ensures .is)
-    (told-is (a .g) (a .last) (a .sentence) (a .i) _ _ _ (a .st) (tables (a .breaks .now) (a .ratios .now)) (a .active .now) _ _ _ _ _ _ _ (c .before .before .before .before .before .before .before .before .before .before .before .before .before .before .before .before .before .before .before .before .before .before .before .before .added-space .ensures .is) (c .before .before .before .before .before .before .before .before .before .before .before .before .before .before .before .before .before .before .advance .ensures .1) (c .before .before .before .before .before .before .before .before .before .before .maker .ensures) (c .before .before .before .before .before .before .settle .ensures))
+    (told-is (a .g) (a .last) (a .sentence) (a .i) _ _ _ (a .st) (tables (a .breaks .now) (a .ratios .now)) (a .active .now) _ _ _ _ _ _ _ (c .before .before .before .before .before .before .before .before .before .before .before .before .before .before .before .before .before .before .before .before .before .before .before .before .added-space .ensures .is) (c .before .before .before .before .before .before .before .before .before .before .before .before .before .before .before .before .before .before .advance-again .ensures .1) (c .before .before .before .before .before .before .before .before .before .before .maker .ensures) (c .before .before .before .before .before .before .settle .ensures))
 
 pub told-round-spec : {M : Type 1} → statement M
 told-round-spec =
@@ -62,7 +62,7 @@ told-round-spec =
     added-space-requires
     sub-word-term
     word-term-requires
-    advance-requires
+    advance-again-requires
     maker-requires
     settle-requires
     same-length

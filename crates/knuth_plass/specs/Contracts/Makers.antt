@@ -93,6 +93,6 @@ unfoldable pub beforeAt : ℕ → List Place → Bool
 beforeAt e [] = false
 beforeAt e (k ∷ ks) = cond (eqb (startOf k) e) (k .before) (beforeAt e ks)
 
--- why the line before word e ends, where a line starts with it
-abbrev pub EndsBefore : Setting → ℕ → List Word → Ending → Type 0
-EndsBefore g e ws r = e < length ws → startsLine e (pathOf g ws) ≡ true → nextAt (makersOf g ws) e (pathOf g ws) ≡ ended r
+-- what made the break of a path that starts a line with word e: it is told by the round of its word
+abbrev pub endingBefore : Setting → ℕ → List Word → Ending
+endingBefore g e ws = cond (beforeAt e (pathOf g ws)) (getD (makersOf g ws) e Paragraph) (getD (makersOf g ws) (e - 1) Paragraph)
