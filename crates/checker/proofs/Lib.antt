@@ -1,12 +1,12 @@
-mod Feeds
+pub mod Feeds
 mod Decides
 mod Codes
 mod Gaps
 pub mod Lines
-mod Pieces
+pub mod Pieces
 mod Verdicts
 mod Fitting
-mod Notes
+pub mod Notes
 pub mod Theorems
 mod Spots
 mod Scans
