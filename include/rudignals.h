@@ -206,6 +206,22 @@ static inline size_t rudignals_put_prefix(uint8_t *block, size_t at, enum rudign
     return at + 3 + length;
 }
 
+/* ---- A digest that another site sent with its notes, checked.
+ *
+ * A digest is acceptable for notes and options if its plain and blank lines are those that formatting emits and each paragraph's lines carry its
+ * words once each, in order: such a line is its right indent, one or more words with at least one blank between two, and a line feed, with
+ * nothing else. Where lines break, and how many blanks part two words, does not matter. */
+enum {
+    RUDIGNALS_LONG_DIGEST = 9, /* check, behind 4: digest_len is over RUDIGNALS_MOST_NOTES; N is 0 */
+    RUDIGNALS_NOT_ACCEPTED = 10 /* check, behind 9: N is the number of a line of the digest, counted from 0 */
+};
+
+/* Answers 0 and N 0 for an acceptable digest; every digest within the limit that the library writes for these notes and options is one. Refusals,
+ * the first that applies: 1 to 4 for the notes, as measuring gives them; RUDIGNALS_LONG_DIGEST; RUDIGNALS_NOT_ACCEPTED, N the first line that no
+ * acceptable digest continues: one that has the same lines up to it is nowhere. Where the digest is cut short it is the line past the end; a
+ * last line without a line feed cannot be continued. Nothing is written. The call has one table of 28,672 bytes on the stack. */
+uint64_t rudignals_check(const uint8_t *options, size_t options_len, const uint8_t *notes, size_t notes_len, const uint8_t *digest, size_t digest_len);
+
 /* ---- Notes in ISO 8859-1 made readable, and the way back. These calls have no tables on the stack.
  *
  * The list of what was changed is two parallel slices, in order: the place in the old notes, and the old byte. It has as many entries as

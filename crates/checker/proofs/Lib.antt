@@ -8,7 +8,7 @@ mod Verdicts
 mod Fitting
 pub mod Notes
 pub mod Theorems
-mod Spots
+pub mod Spots
 mod Scans
 mod Rests
 pub mod Unique

@@ -1,18 +1,29 @@
--- What the formatter writes, the checker accepts: from the order of its words (Order).
-use mathlib.Core.Path.{_≡_, refl, sym}
+-- What the formatter writes, the checker accepts: from the order of its words (Order). So does the call, within 65,536 bytes.
+use mathlib.Core.Path.{_≡_, refl, sym, ap}
 use mathlib.Core.List.{List, [], _∷_, List·Memᴰ·head, List·Memᴰ·tail}
-use Prim.Native.Nat.{ℕ}
+use Prim.Native.Nat.{ℕ, _≤_}
+use native.Mathlib.Omega.{arith}
+use lib.ListN.{length}
 use Rattle.lists.specs.Runs.{joined}
 use Rattle.lists.specs.Theorems.All.{All, _∈_}
 use Rattle.lists.proofs.Parts.{joined-nil, joined-cons}
-use Rattle.options.specs.Opts.{Opts}
+use Rattle.options.specs.Opts.{Opts, meant}
+use Rattle.options.specs.OptionBlock.{readBlock}
+use Rattle.options.specs.declared.Block.{Block}
+use Rattle.options.specs.declared.Block.the-variants.{Accepted as BlockAccepted, Fault}
 use Rattle.pieces.specs.Pieces.{Kind, Piece, blankLine, plainLine, paragraph, pieces}
 use Rattle.words.specs.Words.{wordsOf}
 use Rattle.walk.specs.Digest.{formatted, outputOf, pieceOutput, digest}
+use Rattle.formatter.specs.Answers.{done, code}
+use Rattle.formatter.specs.Format.{mostBytes, withBlock, measuring}
+use Rattle.formatter.proofs.Answers.{measured-done}
 use Rattle.checker.specs.Acceptable.{PieceIn, PiecesIn, Acceptable}
 use Rattle.checker.specs.Matching.{accepted, verdict}
 use Rattle.checker.proofs.Lines.{order-carried}
 use Rattle.checker.proofs.Theorems.{what-is-acceptable-is-accepted}
+use Rattle.judge.specs.Checking.{checking}
+use Rattle.judge.specs.declared.Judgement.the-variants.{Accepted}
+use Rattle.judge.proofs.Theorems.{what-is-acceptable-the-call-accepts}
 use Rattle.rudignals.proofs.Order.{paragraph-order}
 
 -- what holds of each element of a list
@@ -39,3 +50,18 @@ what-is-written-is-acceptable o notes = pieces-in o (pieces o notes) (members-al
 
 pub what-is-written-is-accepted : (o : Opts) (notes : List ℕ) → verdict o notes (digest o notes) ≡ accepted
 what-is-written-is-accepted o notes = what-is-acceptable-is-accepted o notes (digest o notes) (what-is-written-is-acceptable o notes)
+
+-- All that our formatter writes within 65,536 bytes is accepted with the notes it was written for.
+pub what-is-written-the-call-accepts : (block notes bytes : List ℕ) → measuring block notes ≡ done bytes → length bytes ≤ mostBytes → checking block notes bytes ≡ Accepted
+unfolding measuring
+what-is-written-the-call-accepts block notes bytes e h = go (readBlock block) refl e
+  where
+    go : (b : Block) → readBlock block ≡ b → withBlock done block notes b ≡ done bytes → checking block notes bytes ≡ Accepted
+    go (Fault place) q k = absurd (let z = ap code k in omega (arith, z))
+    go (BlockAccepted o) q k = what-is-acceptable-the-call-accepts block notes bytes (record {
+      options = o;
+      accepted = q;
+      passed = ap code e;
+      short = h;
+      holds = rw (measured-done block notes o bytes q e .bytes-are) (what-is-written-is-acceptable (meant block o) notes);
+    })

@@ -1,0 +1,39 @@
+-- `judge::check` meets its contract.
+use mathlib.Core.Path.{sym, _∙_}
+use borrow.Author.Needs.{needs}
+use Rattle.judge.proofs.Answers.{passed, refused, checking-left, refused-answer}
+use Rattle.judge.proofs.check.Statement.{statement}
+use Rattle.judge.proofs.check.Tie as tie
+
+admit-requires : tie.Need-admit-requires
+admit-requires c κs = search needs
+
+enum-known-r : tie.Need-enum-known-r
+enum-known-r c = search needs
+
+refused-requires : tie.Need-refused-requires
+refused-requires c κs = search needs
+
+enum-known-o : tie.Need-enum-known-o
+enum-known-o c = search needs
+
+check-notes-requires : tie.Need-check-notes-requires
+check-notes-requires c κs = passed _ _ (c .before .before .before .admit .ensures) (c .before .o .given .1) .0
+
+returns : tie.Need-returns
+returns c = c .refused .ensures ∙ refused-answer _ _ _ (refused _ _ (c .before .before .before .before .admit .ensures) (c .before .before .r .given .1))
+
+returns-2 : tie.Need-returns-2
+returns-2 c = c .check-notes .ensures ∙ sym (checking-left _ _ _ _ (passed _ _ (c .before .before .before .before .admit .ensures) (c .before .before .o .given .1)))
+
+pub check-spec : {M : Type 1} → statement M
+check-spec =
+    tie.close
+    (tie.spec
+    admit-requires
+    enum-known-r
+    refused-requires
+    enum-known-o
+    check-notes-requires
+    returns
+    returns-2)

@@ -1,0 +1,42 @@
+-- Document 02, P11: what the checking call answers. Measuring tells 1 to 4 for the notes, in their order; then come 9 and 10.
+use mathlib.Core.Bool.{cond}
+use mathlib.Core.List.{List}
+use Prim.Native.Nat.{ℕ}
+use lib.Dec.{ltb}
+use lib.ListN.{length}
+use Rattle.options.specs.Opts.{meant}
+use Rattle.options.specs.OptionBlock.{readBlock}
+use Rattle.options.specs.declared.Block.{Block}
+use Rattle.options.specs.declared.Block.the-variants.{Accepted as BlockAccepted, Fault}
+use Rattle.formatter.specs.Answers.{Answer, done, options, long, text, words, room}
+use Rattle.formatter.specs.Format.{mostBytes, measuring}
+use Rattle.checker.specs.Matching.{Verdict, accepted, at, verdict}
+use Rattle.judge.specs.declared.Judgement.{Judgement}
+use Rattle.judge.specs.declared.Judgement.the-variants.{Accepted, Options, Long, Text, Words, LongDigest, Line}
+
+-- 10: the digest is not accepted
+abbrev pub withVerdict : Verdict → Judgement
+withVerdict accepted = Accepted
+withVerdict (at line) = Line line
+
+-- 9 before it: a digest of so many bytes
+abbrev pub withDigest : ℕ → Verdict → Judgement
+withDigest size v = cond (ltb mostBytes size) LongDigest (withVerdict v)
+
+-- 1 to 4 before both
+abbrev pub withNotes : Judgement → Answer → Judgement
+withNotes then (done digest) = then
+withNotes then (options place) = Options place
+withNotes then long = Long
+withNotes then (text place) = Text place
+withNotes then (words place) = Words place
+-- (measuring does not answer so)
+withNotes then (room needed) = Long
+
+-- the verdict on a digest under the options that a block means; of a faulty block none is asked
+abbrev pub verdictUnder : List ℕ → List ℕ → List ℕ → Block → Verdict
+verdictUnder block notes digest (Fault place) = accepted
+verdictUnder block notes digest (BlockAccepted o) = verdict (meant block o) notes digest
+
+unfoldable pub checking : List ℕ → List ℕ → List ℕ → Judgement
+checking block notes digest = withNotes (withDigest (length digest) (verdictUnder block notes digest (readBlock block))) (measuring block notes)

@@ -1,0 +1,4 @@
+pub mod Answers
+pub mod Checking
+pub mod Theorems
+pub mod Contracts

@@ -1,0 +1,246 @@
+// Checking the digest that another site sent with its notes. The notes are walked once, and the digest is matched against them on the way.
+use checker::Matched;
+use checker::Spot;
+use formatter::Admission;
+use formatter::Reply;
+use options::Options;
+use pieces::Margin;
+use pieces::Piece;
+use words::Count;
+ghost use mathlib.Core.Path.{_≡_};
+ghost use Prim.Native.Nat.{_^_, _<_};
+ghost use lib.ListN.{length};
+ghost use Rattle.options.specs.Opts.{meant};
+ghost use Rattle.records.specs.Contracts.Table.{Holds, wordsIn};
+ghost use Rattle.output.specs.Contracts.Writers.{marginOf};
+ghost use Rattle.walk.specs.Contracts.Course.{Admitted};
+ghost use Rattle.checker.specs.Matching.{andThen, matchLine, matchWords};
+ghost use Rattle.checker.specs.Contracts.Places.{matched, MatchedIn, Matches, MarginFits, Matchable};
+ghost use Rattle.judge.specs.Answers.{numbered};
+ghost use Rattle.judge.specs.Checking.{checking};
+ghost use Rattle.judge.specs.Contracts.Judging.{begun, judgedBy, refusedAs, leftOf, Stepped, Walked};
+
+// What the call answers: the digest is accepted, or a refusal with what is told of it.
+pub enum Judgement {
+    Accepted,
+    Options(usize),
+    Long,
+    Text(usize),
+    Words(usize),
+    LongDigest,
+    Line(usize),
+}
+
+// Where the work stands: the place in the notes and next-mail, and what the digest has come to.
+struct Stand {
+    at: usize,
+    mail: bool,
+    matched: Matched,
+}
+
+// What came of a piece: the work goes on behind it, or it is a paragraph of too many words.
+enum Step {
+    On(Stand),
+    Over,
+}
+
+// What came of the notes: what the digest has come to behind the last piece, or the place of the first paragraph that has too many words.
+enum Course {
+    Through(Matched),
+    Stopped(usize),
+}
+
+// Notes and digests are refused if they are longer.
+const MOST_BYTES: usize = 65536;
+
+// A paragraph of more words is refused.
+const MOST_WORDS: usize = 1024;
+
+// Checks a digest: 1, 2, 3, 4, 9 and 10 are the refusals, in this order.
+pub fn check(block: &[u8], notes: &[u8], digest: &[u8]) -> Judgement
+    ensures { λ r. ⌜ r ≡ checking (now (block .entry)) (now (notes .entry)) (now (digest .entry)) ⌝ }
+{
+    match formatter::admit(block, notes) {
+        Admission::Refused(r) => refused(r),
+        Admission::Passed(o) => check_notes(o, block, notes, digest),
+    }
+}
+
+// Refusals that are told before any piece is looked at. (They are neither `Done` nor `Room`.)
+fn refused(r: Reply) -> Judgement
+    ensures { λ f. ⌜ f ≡ refusedAs r ⌝ }
+{
+    match r {
+        Reply::Done(_) => Judgement::Long,
+        Reply::Options(place) => Judgement::Options(place),
+        Reply::Long => Judgement::Long,
+        Reply::Text(place) => Judgement::Text(place),
+        Reply::Words(place) => Judgement::Words(place),
+        Reply::Room(_) => Judgement::Long,
+    }
+}
+
+// Those behind them.
+fn check_notes(o: Options, block: &[u8], notes: &[u8], digest: &[u8]) -> Judgement
+    requires { ⌜ Admitted (now block) (now notes) o ⌝ }
+    ensures { λ r. ⌜ r ≡ leftOf (meant (now (block .entry)) o) (now (notes .entry)) (now (digest .entry)) ⌝ }
+{
+    let mut table = [0u32; 7168];
+    match match_pieces(o, block, notes, digest, begin(digest.len()), &mut table) {
+        Course::Stopped(place) => Judgement::Words(place),
+        Course::Through(m) => judge(digest.len(), m),
+    }
+}
+
+// A digest that is too long is not matched at all. 4 comes before 9, so the words of the notes are counted all the same.
+fn begin(size: usize) -> Matched
+    ensures { λ r. ⌜ r ≡ begun size ⌝ }
+{
+    if MOST_BYTES < size {
+        return Matched::Fault(0);
+    }
+    Matched::On(Spot { at: 0, line: 0 })
+}
+
+// What is told of a digest of so many bytes that has come to m behind the last piece: nothing may be left of it.
+fn judge(size: usize, m: Matched) -> Judgement
+    ensures { λ r. ⌜ r ≡ judgedBy size m ⌝ }
+{
+    if MOST_BYTES < size {
+        return Judgement::LongDigest;
+    }
+    match m {
+        Matched::Fault(line) => Judgement::Line(line),
+        Matched::On(p) => {
+            if p.at < size {
+                return Judgement::Line(p.line);
+            }
+            Judgement::Accepted
+        }
+    }
+}
+
+// Piece by piece. The walk goes on where the digest is no longer matched: too many words, found later, take precedence.
+fn match_pieces(
+    o: Options,
+    block: &[u8],
+    notes: &[u8],
+    digest: &[u8],
+    first: Matched,
+    table: &mut [u32],
+) -> Course
+    requires { ⌜ Admitted (now block) (now notes) o × MatchedIn (now digest) first × Holds 1024 (now table) ⌝ }
+    ensures { λ r. ⌜ Walked (meant (now (block .entry)) o) (now (notes .entry)) (now (digest .entry)) first r ⌝ }
+{
+    let mut c = Stand {
+        at: 0,
+        mail: true,
+        matched: first,
+    };
+    while c.at < notes.len() {
+        let Step::On(d) = match_piece(o, block, notes, digest, c, table) else {
+            return Course::Stopped(c.at);
+        };
+        c = d;
+    }
+    let m = c.matched;
+    Course::Through(m)
+}
+
+// The piece at a place, unless it is a paragraph of too many words.
+fn match_piece(
+    o: Options,
+    block: &[u8],
+    notes: &[u8],
+    digest: &[u8],
+    c: Stand,
+    table: &mut [u32],
+) -> Step
+    requires { ⌜ Admitted (now block) (now notes) o × MatchedIn (now digest) (c .matched) × Holds 1024 (now table) × (c .at < length (now notes)) ⌝ }
+    ensures { λ r. ⌜ Stepped (meant (now (block .entry)) o) (now (notes .entry)) (now (digest .entry)) c r ⌝ }
+{
+    let at = c.at;
+    let m = c.matched;
+    match pieces::next_piece(notes, at, o, block, c.mail) {
+        Piece::Blank { next } => Step::On(Stand {
+            at: next,
+            mail: true,
+            matched: line_behind(&notes[at..at], digest, m),
+        }),
+        Piece::Plain { end, next } => Step::On(Stand {
+            at: next,
+            mail: false,
+            matched: line_behind(&notes[at..end], digest, m),
+        }),
+        Piece::Text(p) => {
+            let Count::Words(n) = words::split_words(
+                notes,
+                at,
+                p.next,
+                p.mail,
+                p.start,
+                p.later,
+                o,
+                MOST_WORDS,
+                table,
+            ) else {
+                return Step::Over;
+            };
+            Step::On(Stand {
+                at: p.next,
+                mail: p.mail,
+                matched: words_behind(notes, table, n, p.first, p.indent, o.glue, digest, m),
+            })
+        }
+    }
+}
+
+// A line behind what is matched, if all before it is.
+fn line_behind(text: &[u8], digest: &[u8], m: Matched) -> Matched
+    requires { ⌜ MatchedIn (now digest) m ⌝ }
+    ensures { λ r. ⌜ Matches (now (digest .entry)) (andThen (matched (now (digest .entry)) m) (matchLine (now (text .entry)))) r ⌝ }
+{
+    match m {
+        Matched::Fault(line) => Matched::Fault(line),
+        Matched::On(p) => checker::match_line(text, digest, p),
+    }
+}
+
+// A paragraph's words behind what is matched, if all before them is.
+fn words_behind(
+    notes: &[u8],
+    table: &[u32],
+    n: usize,
+    first: Margin,
+    indent: Margin,
+    glue: bool,
+    digest: &[u8],
+    m: Matched,
+) -> Matched
+    requires { ⌜ Matchable (now notes) (now table) n indent × MarginFits (now notes) first × MatchedIn (now digest) m ⌝ }
+    ensures { λ r. ⌜ Matches (now (digest .entry)) (andThen (matched (now (digest .entry)) m) (matchWords glue (marginOf (now (notes .entry)) first) (marginOf (now (notes .entry)) indent) (wordsIn (now (notes .entry)) n (now (table .entry))))) r ⌝ }
+{
+    match m {
+        Matched::Fault(line) => Matched::Fault(line),
+        Matched::On(p) => checker::match_words(notes, table, n, first, indent, glue, digest, p),
+    }
+}
+
+// The answer's code stands in the upper 32 bits of its number, what it tells in the lower.
+const UPPER: u64 = 4294967296;
+
+// The answer's number.
+pub fn number_of(a: Judgement) -> u64
+    requires { ⌜ numbered a < 2 ^ 64 ⌝ }
+    ensures { λ r. ⌜ r ≡ numbered a ⌝ }
+{
+    match a {
+        Judgement::Accepted => 0,
+        Judgement::Options(place) => 1 * UPPER + place as u64,
+        Judgement::Long => 2 * UPPER,
+        Judgement::Text(place) => 3 * UPPER + place as u64,
+        Judgement::Words(place) => 4 * UPPER + place as u64,
+        Judgement::LongDigest => 9 * UPPER,
+        Judgement::Line(line) => 10 * UPPER + line as u64,
+    }
+}
