@@ -94,6 +94,20 @@ CASES = [
     (Options(glue=True, prefix=b">"), b">" + S + b"a\n>" + S + b"b\n", b">" + S + b"a " + b"b\n", 10, 0),
     (Options(glue=True, prefix=b">"), b">" + S + b"a\n>" + S + b"b\n", b">" + S + b"a" + S + b"b\n", 10, 0),
     (Options(glue=True, prefix=b">"), b">" + S + b"a\n>" + S + b"b\n", b">" + S + b"a" + S + S + b"b\n", 10, 0),
+    # P4: words of any script; every blank of the White_Space set parts words; U+200B is no blank
+    (plain, "\u6f22 \u5b57\n".encode(), "\u6f22\u3000\u5b57\n".encode(), 0, 0),
+    (plain, "\u6f22 \u5b57\n".encode(), "\u6f22\n\u5b57\n".encode(), 0, 0),
+    (plain, "\u6f22 \u5b57\n".encode(), "\u6f22\u5b57\n".encode(), 10, 0),
+    (plain, b"a b\n", "a\u1680\u2000\u200a\u2028\u2029\u202f\u205f\u3000b\n".encode(), 0, 0),
+    (plain, b"a b\n", "a\u200bb\n".encode(), 10, 0),
+    (plain, b"a b\n", b"a\xe3\x80b\n", 10, 0),
+    (plain, "e\u0301 b\n".encode(), "e\u0301\nb\n".encode(), 0, 0),
+    (plain, "e\u0301 b\n".encode(), "\u00e9\nb\n".encode(), 10, 0),
+    (plain, "\u3000a\n\u3000b\n".encode(), "\u3000a b\n".encode(), 0, 0),
+    (plain, "\u3000a\n\u3000b\n".encode(), "\u3000a\n  b\n".encode(), 10, 1),
+    # an acceptable digest may have any length: the limit alone refuses it
+    (plain, b"a b\n", b"a" + b" " * 65533 + b"b\n", 0, 0),
+    (plain, b"a b\n", b"a" + b" " * 65534 + b"b\n", 9, 0),
     # the order of refusals
     (plain, b"\xff", b"x" * 65537, 3, 0),
     (plain, b"a " * 1025 + b"\n", b"x" * 65537, 4, 0),

@@ -3,10 +3,21 @@
 The notes are read into pieces, the pieces become a small machine that spells every acceptable digest, and a digest is read by all of
 that machine's ways at once. So nothing is decided here by looking ahead or by taking the longest: a line can be continued if one way is
 left behind its line feed, since from each state the machine can reach its end.
-"""
 
-BLANKS = {9, 10, 11, 12, 13, 0x20, 0x85, 0xA0}
+Widths are of Python's own Unicode version; the texts of the tests have no character that is newer than Unicode 14.
+"""
+import unicodedata
+
+# P4: the White_Space set
+BLANKS = {9, 10, 11, 12, 13, 0x20, 0x85, 0xA0, 0x1680, *range(0x2000, 0x200B), 0x2028, 0x2029, 0x202F, 0x205F, 0x3000}
 NO_BREAK = 0xA0
+
+
+def width(code):
+    """P4: the columns of a character."""
+    if code != 0xAD and unicodedata.category(chr(code)) in ("Mn", "Me", "Cf") or 0x1160 <= code <= 0x11FF:
+        return 0
+    return 2 if unicodedata.east_asian_width(chr(code)) in ("W", "F") else 1
 
 
 class Options:
@@ -41,15 +52,12 @@ class Options:
 # ---- characters and lines
 
 def character(s, at):
-    """The accepted character at a place and its length, or None."""
+    """The character at a place and its length (RFC 3629), or None."""
     for n in (1, 2, 3, 4):
         try:
-            text = s[at:at + n].decode("utf-8")
-        except UnicodeDecodeError:
+            return ord(s[at:at + n].decode("utf-8")), n
+        except (UnicodeDecodeError, TypeError):
             continue
-        if len(text) == 1 and ord(text) <= 0x2FF and ord(text) != 0xAD:
-            return ord(text), n
-        return None
     return None
 
 
@@ -109,7 +117,7 @@ def find(text, exact, gs, prefix, size):
 def columns(o, gs):
     column = 0
     for g in gs:
-        column = (column // o.tab + 1) * o.tab if g.code == 9 else column + 1
+        column = (column // o.tab + 1) * o.tab if g.code == 9 else column + width(g.code)
     return column
 
 
@@ -221,82 +229,67 @@ def pieces(o, notes):
     return found
 
 
-# ---- the machine of all acceptable digests: bytes, forks and the end
+# ---- the machine of all acceptable digests
 
 GAP = [chr(c).encode() for c in sorted(BLANKS - {10})]
+FRONTS = {t[:n] for t in GAP for n in range(len(t))}
 
 
 class Machine:
+    """Texts, and between two words either a gap or a line feed and the indent.
+
+    A state is where the next byte stands: in a text; in a line feed and its indent; or in a gap, with whether one of its blanks parts words by
+    itself, and the bytes of a blank that is not complete."""
+
     def __init__(self, o, found):
-        self.steps = []
+        self.glue, self.parts = o.glue, []
+        self.known = {}
         for p in found:
             if p[0] == "line":
-                self.text(p[1] + b"\n")
+                self.parts.append(("text", p[1] + b"\n"))
                 continue
             _, first, indent, words, _ = p
-            self.text(first + words[0])
+            self.parts.append(("text", first + words[0]))
             for w in words[1:]:
-                fork = self.fork()
-                self.gap(o.glue)
-                over = self.fork()
-                self.steps[fork] = ("fork", fork + 1, len(self.steps))
-                self.text(b"\n" + indent)
-                self.steps[over] = ("fork", len(self.steps), len(self.steps))
-                self.text(w)
-            self.text(b"\n")
-        self.steps.append(("end",))
+                self.parts += [("between", b"\n" + indent), ("text", w)]
+            self.parts.append(("text", b"\n"))
 
-    def text(self, s):
-        self.steps += [("byte", b) for b in s]
-
-    def fork(self):
-        self.steps.append(None)
-        return len(self.steps) - 1
-
-    def one_of(self, texts):
-        """One of several texts."""
-        leave = []
-        for t in texts:
-            here = self.fork()
-            self.text(t)
-            leave.append(self.fork())
-            self.steps[here] = ("fork", here + 1, len(self.steps))
-        self.steps.append(("none",))
-        for k in leave:
-            self.steps[k] = ("fork", len(self.steps), len(self.steps))
-
-    def any_of(self, texts):
-        """Any number of them."""
-        here = self.fork()
-        self.one_of(texts)
-        self.steps.append(("fork", here, here))
-        self.steps[here] = ("fork", here + 1, len(self.steps))
-
-    def gap(self, glue):
-        """Blanks, one or more; with glue on, U+00A0 is one only beside another blank, so that a gap has one that is not U+00A0."""
-        hard = [t for t in GAP if t != chr(NO_BREAK).encode()] if glue else GAP
-        self.any_of(GAP)
-        self.one_of(hard)
-        self.any_of(GAP)
-
-    def closure(self, states):
-        seen, todo = set(), list(states)
-        while todo:
-            k = todo.pop()
-            if k not in seen:
-                seen.add(k)
-                if self.steps[k][0] == "fork":
-                    todo += self.steps[k][1:]
-        return frozenset(k for k in seen if self.steps[k][0] in ("byte", "end"))
+    def enter(self, i):
+        if i == len(self.parts):
+            return [("end",)]
+        if self.parts[i][0] == "text":
+            return [("text", i, 0)]
+        return [("feed", i, 0), ("gap", i, False, b"")]
 
     def start(self):
-        return self.closure({0})
+        return frozenset(self.enter(0))
+
+    def after(self, state, b):
+        """The states behind one byte."""
+        if state[0] == "end":
+            return []
+        kind, i, at = state[:3]
+        if kind != "gap":
+            text = self.parts[i][1]
+            if text[at] != b:
+                return []
+            return self.enter(i + 1) if at + 1 == len(text) else [(kind, i, at + 1)]
+        blank = state[3] + bytes([b])
+        if blank in FRONTS:
+            return [("gap", i, at, blank)]
+        if blank not in GAP:
+            return []
+        # with glue on, U+00A0 parts words only beside another blank: a gap has one that is not U+00A0
+        parts = at or not self.glue or blank != chr(NO_BREAK).encode()
+        return [("gap", i, parts, b"")] + (self.enter(i + 1) if parts else [])
 
     def step(self, states, b):
-        return self.closure(k + 1 for k in states if self.steps[k] == ("byte", b))
+        if (states, b) not in self.known:
+            self.known[states, b] = frozenset(t for s in states for t in self.after(s, b))
+        return self.known[states, b]
 
     def ends(self, states):
-        return any(self.steps[k] == ("end",) for k in states)
+        return ("end",) in states
 
 
 MOST = 65536
