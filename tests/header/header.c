@@ -244,6 +244,27 @@ static void most(void) {
            (unsigned long)RUDIGNALS_MOST_DIGEST(RUDIGNALS_MOST_NOTES));
 }
 
+/* ---- a digest checked against its notes */
+
+static void checked(void) {
+    static uint8_t spaced[RUDIGNALS_MOST_NOTES + 1];
+    const uint8_t *digest = (const uint8_t *)DIGEST;
+    CHECK(rudignals_check(NULL, 0, NULL, 0, NULL, 0) == told(RUDIGNALS_DONE, 0));
+    CHECK(rudignals_check(NULL, 0, NOTES, NOTES_LEN, digest, 6) == told(RUDIGNALS_DONE, 0));
+    CHECK(rudignals_check(NULL, 0, NOTES, NOTES_LEN, NULL, 0) == told(RUDIGNALS_NOT_ACCEPTED, 0));
+    CHECK(rudignals_check(NULL, 0, NULL, 0, digest, 6) == told(RUDIGNALS_NOT_ACCEPTED, 0));
+    CHECK(rudignals_check(NULL, 0, NOTES, NOTES_LEN, NOTES, 4) == told(RUDIGNALS_NOT_ACCEPTED, 1));
+    CHECK(rudignals_check(NULL, 0, NOTES, NOTES_LEN, digest, 5) == told(RUDIGNALS_NOT_ACCEPTED, 0));
+    CHECK(rudignals_check((const uint8_t *)"\1", 1, (const uint8_t *)"\xB0", 1, spaced, sizeof spaced) == told(RUDIGNALS_OPTIONS, 0));
+    CHECK(rudignals_check(NULL, 0, (const uint8_t *)"a\xB0", 2, spaced, sizeof spaced) == told(RUDIGNALS_TEXT, 1));
+    memset(spaced, ' ', sizeof spaced);
+    memcpy(spaced, "a b", 3);
+    memcpy(spaced + sizeof spaced - 2, "c\n", 2);
+    CHECK(rudignals_check(NULL, 0, NOTES, NOTES_LEN, spaced, sizeof spaced) == told(RUDIGNALS_LONG_DIGEST, 0));
+    memcpy(spaced + sizeof spaced - 3, "c\n", 2);
+    CHECK(rudignals_check(NULL, 0, NOTES, NOTES_LEN, spaced, sizeof spaced - 1) == told(RUDIGNALS_DONE, 0));
+}
+
 static void version(void) {
     char words[32];
     snprintf(words, sizeof words, "%d.%d.%d", RUDIGNALS_VERSION_MAJOR, RUDIGNALS_VERSION_MINOR, RUDIGNALS_VERSION_PATCH);
@@ -260,6 +281,7 @@ int main(void) {
     prefixes();
     whole_block();
     most();
+    checked();
     version();
     printf("header: %lu checks, version %s\n", checks, RUDIGNALS_VERSION);
     return 0;
