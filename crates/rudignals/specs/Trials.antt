@@ -3,3 +3,4 @@ pub mod Computing
 pub mod MarkedTexts
 pub mod Indexes
 pub mod Reasons
+pub mod Checked
