@@ -1,7 +1,7 @@
 -- What the call answers, by what the digest has come to behind the last piece, or by what is told before.
 use mathlib.Core.Path.{_≡_, refl, sym, ap, _∙_}
 use mathlib.Core.Bool.{Bool, true, false, cond}
-use mathlib.Core.List.{List, [], _∷_}
+use mathlib.Core.List.{List}
 use Prim.Native.Nat.{ℕ, _≤_, _<_}
 use native.Mathlib.Omega.{arith}
 use lib.Dec.{ltb}
@@ -24,7 +24,7 @@ use Rattle.formatter.specs.declared.Reply.{Reply}
 use Rattle.formatter.specs.declared.Admission.{Admission}
 use Rattle.formatter.specs.declared.Admission.the-variants.{Refused, Passed}
 use Rattle.checker.specs.Matching.{Match, on, andThen, matchPieces, verdictOf, verdict}
-use Rattle.checker.specs.Contracts.Places.{matched, MatchedIn, Matches}
+use Rattle.checker.specs.Contracts.Places.{matched, MatchedIn}
 use Rattle.checker.specs.declared.Spot.{Spot}
 use Rattle.checker.specs.declared.Matched.{Matched}
 use Rattle.checker.specs.declared.Matched.the-variants.{On, Fault}

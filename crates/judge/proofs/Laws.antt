@@ -8,7 +8,7 @@ use lib.ListN.{length, take, drop}
 use lib.Seq.{slice}
 use borrow.Author.Tests.{le-ltb, lt-ltb}
 use Rattle.lists.proofs.Walk.{walk-nil}
-use Rattle.text.specs.declared.Found.the-variants.{At, Nowhere}
+use Rattle.text.specs.declared.Found.the-variants.{At}
 use Rattle.options.specs.Opts.{Opts, meant}
 use Rattle.options.specs.declared.Options.{Options}
 use Rattle.lines.specs.Lines.{linesOf}
@@ -30,7 +30,7 @@ use Rattle.words.specs.declared.Count.the-variants.{Words, TooMany}
 use Rattle.words.proofs.Order.{paragraph-some}
 use Rattle.output.specs.Contracts.Writers.{marginOf}
 use Rattle.paragraphs.proofs.Breaking.{split-many, split-few}
-use Rattle.walk.specs.Digest.{mostWords, tooMany, longParagraph}
+use Rattle.walk.specs.Digest.{mostWords, longParagraph}
 use Rattle.walk.specs.Contracts.Course.{Admitted, piecesFrom, longFrom, FirstPiece}
 use Rattle.walk.proofs.Rows.{text-words}
 use Rattle.walk.proofs.Meaning.{TextGoes}

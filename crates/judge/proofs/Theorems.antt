@@ -11,7 +11,7 @@ use Rattle.options.specs.Opts.{Opts, meant}
 use Rattle.options.specs.OptionBlock.{readBlock}
 use Rattle.options.specs.declared.Block.{Block}
 use Rattle.options.specs.declared.Block.the-variants.{Accepted as BlockAccepted, Fault}
-use Rattle.formatter.specs.Answers.{Answer, done, options, long, text, words, room, code as codeOf, value as valueOf, numbered as numberOf}
+use Rattle.formatter.specs.Answers.{Answer, done, options, long, text, words, room, code as codeOf, numbered as numberOf}
 use Rattle.formatter.specs.Format.{mostBytes, withBlock, measuring}
 use Rattle.formatter.proofs.Together.{measuring-never-answers-five}
 use Rattle.checker.specs.Acceptable.{Acceptable}

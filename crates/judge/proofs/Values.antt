@@ -1,6 +1,6 @@
 -- What an answer tells is small: places of the notes and the block are, and a digest that is matched has at most 65,536 lines. So code and
 -- value can be read back from the number.
-use mathlib.Core.Path.{_≡_, refl, sym, ap, _∙_}
+use mathlib.Core.Path.{_≡_, refl, ap}
 use mathlib.Core.Bool.{Bool, true, false, cond}
 use mathlib.Core.List.{List, [], _∷_}
 use Prim.Native.Nat.{ℕ, zero, suc, _+_, _*_, _/_, _%_, _^_, _≤_, _<_}
@@ -8,11 +8,11 @@ use native.Mathlib.Omega.{arith}
 use lib.Dec.{eqb, ltb}
 use lib.ListN.{length}
 use borrow.Author.Tests.{ltb-false}
-use Rattle.options.specs.Opts.{Opts, meant}
+use Rattle.options.specs.Opts.{meant}
 use Rattle.options.specs.OptionBlock.{readBlock}
 use Rattle.options.specs.declared.Block.{Block}
 use Rattle.options.specs.declared.Block.the-variants.{Accepted as BlockAccepted, Fault}
-use Rattle.formatter.specs.Answers.{Answer, done, options, long, text, words, room, value as valueOf, numbered as numberOf}
+use Rattle.formatter.specs.Answers.{Answer, done, options, long, text, words, room, value as valueOf}
 use Rattle.formatter.specs.Format.{mostBytes, measuring}
 use Rattle.formatter.proofs.Values.{measuring-tells-code-and-value}
 use Rattle.checker.specs.Acceptable.{Acceptable}

@@ -80,7 +80,7 @@ fn refused(r: Reply) -> Judgement
     }
 }
 
-// Those behind them.
+// 4, 9 and 10, with the options of an accepted block. The table of a paragraph's words is lent from here on.
 fn check_notes(o: Options, block: &[u8], notes: &[u8], digest: &[u8]) -> Judgement
     requires { ⌜ Admitted (now block) (now notes) o ⌝ }
     ensures { λ r. ⌜ r ≡ leftOf (meant (now (block .entry)) o) (now (notes .entry)) (now (digest .entry)) ⌝ }

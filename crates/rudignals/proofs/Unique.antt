@@ -36,6 +36,7 @@
 --   unflow        reading_number                                                            an equation
 
 --   checker       match_line, match_words                                                   checker/proofs/Unique: `matches-unique`
+--   judge         check, number_of                                                          an equation
 --   paragraphs    put_paragraph                                                             paragraphs/proofs/Unique: `step-unique`
 --   paragraphs    setting_of                                                                an equation
 --   paragraphs    mark_breaks                                                               an equation for the marks behind the first word's
@@ -46,7 +47,7 @@
 --   formatter     measure, number_of                                                        an equation
 --   formatter     write                                                                     an equation for the reply, one for the output
 --   formatter     admit                                                                     formatter/proofs/Unique: `admission-unique`
---   rudignals     rudignals_measure                                                         an equation
+--   rudignals     rudignals_measure, rudignals_check                                        an equation
 --   rudignals     rudignals_write_indexed, rudignals_lookup                                 an equation for each of what they answer and leave
 --   rudignals     rudignals_write, rudignals_format                                         `call-unique`
 --   rudignals     rudignals_panel, rudignals_mend, rudignals_restore,
