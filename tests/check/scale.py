@@ -45,8 +45,12 @@ def by_rust(oracle, o, notes):
     return run(words, notes)
 
 
-def by_fmt(o, notes):
-    if not shutil.which("fmt") or o.skip is not None or o.mail:
+def is_gnu():
+    return shutil.which("fmt") is not None and b"GNU coreutils" in (run(["fmt", "--version"], b"") or b"")
+
+
+def by_fmt(gnu, o, notes):
+    if not gnu or o.skip is not None or o.mail:
         return None
     g, words = o.given, ["fmt", "-w", str(o.given.get("width", 79))]
     for name, word in [("crown", "-c"), ("tagged", "-t"), ("split", "-s"), ("uniform", "-u")]:
@@ -64,7 +68,7 @@ def by_par(o, notes):
 def main():
     library, oracle, seed, count = Library(sys.argv[1]), sys.argv[2], int(sys.argv[3]), int(sys.argv[4])
     fault = FAULTS[sys.argv[5]] if len(sys.argv) > 5 else lambda answer: answer
-    chance = random.Random(seed)
+    chance, gnu = random.Random(seed), is_gnu()
     tried, good, refused = collections.Counter(), collections.Counter(), 0
 
     def compare(kind, o, notes, digest, want):
@@ -94,7 +98,7 @@ def main():
         own = library.digest(o.block(), notes)
         digests = {"own": own}
         if simple or chance.randrange(5) == 0:
-            digests |= {"the Rust": by_rust(oracle, o, notes), "GNU fmt": by_fmt(o, notes), "par": by_par(o, notes)}
+            digests |= {"the Rust": by_rust(oracle, o, notes), "GNU fmt": by_fmt(gnu, o, notes), "par": by_par(o, notes)}
         accepted = []
         for kind, digest in digests.items():
             if digest is not None and len(digest) <= MOST:
