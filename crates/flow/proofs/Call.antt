@@ -25,6 +25,7 @@ use Rattle.unflow.specs.Unflow.{paragraphs, mailLines}
 use Rattle.flow.specs.Flow.{mailed, paragraphLines, flowed, dashesIn}
 use Rattle.flow.specs.Answers.{isGiven, flagsOf, unfit, sentWords, sentText, sentNotes, sentBlock, flow, countedBy, dashesOf}
 use Rattle.flow.specs.Theorems.ReadBack.{unquoted, back, cameBack, Carry}
+use Rattle.flow.proofs.Flags.{accepted-are}
 use Rattle.flow.proofs.Theorems.{what-was-written-comes-back, its-words-come-back-in-order, each-piece-once-and-each-such-line, its-lines-are-the-digest's}
 
 -- ---- what an answer that is done says
@@ -49,18 +50,6 @@ sent-notes space o notes bytes h = size (ltb mostBytes (length notes)) h
     size false k = damaged (damageIn (o .keep) notes) k
 
 -- ---- the options of an accepted block that the writer does not refuse
-
-accepted-are : (block : List ℕ) (o : Options) → readBlock block ≡ Accepted o → o ≡ optionsOf block (fields block)
-unfolding readBlock
-accepted-are block o h = go (firstFault (fields block)) h
-  where
-    fitted : (b : Bool) → cond b (Accepted (optionsOf block (fields block))) (Fault (length block)) ≡ Accepted o → o ≡ optionsOf block (fields block)
-    fitted true k = cc
-    fitted false k = cc
-
-    go : (f : Found) → judged block (fields block) f ≡ Accepted o → o ≡ optionsOf block (fields block)
-    go (At place) k = cc
-    go Nowhere k = fitted (fits (leastWidth (partOf 2 (fields block)) (partOf 3 (fields block))) (optionsOf block (fields block) .width) (optionsOf block (fields block) .goal)) k
 
 -- neither crown nor tagged is on
 fit-flat : (block : List ℕ) (o : Options) → readBlock block ≡ Accepted o → unfit block ≡ false → (mailed (meant block o) .crown || mailed (meant block o) .tagged) ≡ false

@@ -4,5 +4,12 @@ mod Carries
 mod Solid
 mod Sent
 mod Digest
+mod Words
+mod Flags
+mod Plain
+mod Openings
+mod Writing
+mod Course
+mod Answered
 pub mod Theorems
 pub mod Call

@@ -129,7 +129,7 @@ fn is_separator(line: &[u8], depth: usize, start: usize) -> bool
     is_dashes(&line[start..])
 }
 
-fn is_dashes(s: &[u8]) -> bool
+pub fn is_dashes(s: &[u8]) -> bool
     ensures { λ r. ⌜ r ≡ isDashes (now (s .entry)) ⌝ }
 {
     let dashes = b"-- ";
@@ -175,7 +175,7 @@ fn put_start(line: &[u8], l: Line, going: bool, depth: usize, rest: &mut [u8]) -
 }
 
 // How many spaces are put before a content: one if it starts with a space, `>` or `From `.
-fn stuffing_of(content: &[u8]) -> usize
+pub fn stuffing_of(content: &[u8]) -> usize
     ensures { λ r. ⌜ (replicate r 32 ≡ stuffing (now (content .entry))) × (r ≤ 1) ⌝ }
 {
     if content.len() == 0 {
@@ -195,7 +195,7 @@ fn stuffing_of(content: &[u8]) -> usize
 }
 
 // The end of a paragraph, if there is one to end: carriage return and line feed.
-fn put_end(ends: bool, rest: &mut [u8]) -> usize
+pub fn put_end(ends: bool, rest: &mut [u8]) -> usize
     ensures { λ r. ⌜ Wrote (now (rest .entry)) 0 (endOf ends) (now (rest .exit)) r ⌝ }
 {
     if !ends {

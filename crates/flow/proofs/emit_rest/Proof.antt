@@ -1,0 +1,113 @@
+-- `flow::emit_rest` meets its contract. Invariant: what is left to write and to count is what the words from i on give.
+use borrow.Author.Needs.{needs}
+use mathlib.Core.Path.{_≡_, refl, sym, ap, _∙_}
+use native.Mathlib.Omega.{arith}
+use denote.Ref.{now}
+use mathlib.Core.Bool.{false}
+use Prim.Native.Nat.{_+_, _*_, _-_, _^_, _≤_, _<_}
+use lib.ListN.{length}
+use Rattle.output.specs.Contracts.Sink.{Left}
+use Rattle.output.proofs.Sink.{wrote-length, wrote-part, left-first, left-last}
+use Rattle.output.proofs.Emission.{turn-within}
+use Rattle.flow.specs.Contracts.Sending.{sentFrom, dashesFrom}
+use Rattle.flow.proofs.Writing.{end-count, one-more, turn-left, turn-dashes, sent-end, dashes-end}
+use Rattle.flow.proofs.emit_rest.Statement.{statement}
+use Rattle.flow.proofs.emit_rest.Tie as tie
+
+abbrev Inv-loop : tie.InvT-loop
+Inv-loop notes table n marks out₀ indent punct₀ t₀ i₀ out punct t i =
+    (1 ≤ i) × (i ≤ n) × (t .at ≤ t₀ .at + i * 2 ^ 34) × (t .dashes ≤ i) × (length out ≡ length out₀)
+    × Left out₀ (t₀ .at) (sentFrom notes table n marks indent (t₀ .dashed) false 1) out (t .at) (sentFrom notes table n marks indent (t .dashed) punct i)
+    × (t .dashes + dashesFrom notes table n marks indent (t .dashed) i ≡ dashesFrom notes table n marks indent (t₀ .dashed) 1)
+
+abbrev μ-loop : tie.MeasureT-loop
+μ-loop notes table n marks out₀ indent punct₀ t₀ i₀ out punct t i = n - i
+
+loop-holds : tie.Need-loop-holds Inv-loop μ-loop
+loop-holds c = (omega arith, c .before .before .before .before .before .pre .0 .some, omega (arith, c .before .before .before .before .before .pre .1), omega (arith, c .before .before .before .before .before .pre .2), refl, left-first _ _ _, omega (arith, c .before .before .before .before .before .pre .2))
+
+get-requires : tie.Need-get-requires Inv-loop μ-loop
+get-requires c κs = search needs
+
+added-space-requires : tie.Need-added-space-requires Inv-loop μ-loop
+added-space-requires c κs = search needs
+
+shared-slice-read-fresh : tie.Need-shared-slice-read-fresh Inv-loop μ-loop
+shared-slice-read-fresh c = omega (arith, c .before .before .before .before .before .before .before .before .before .before .pre .0 .marked, c .before .before .before .loop-test .taken)
+
+add-i : tie.Need-add-i Inv-loop μ-loop
+add-i c = search needs
+
+put-next-requires : tie.Need-put-next-requires Inv-loop μ-loop
+put-next-requires c κs = let p = c .before .before .before .before .before .before .before .before .before .before .before .pre .0 in let i = c .before .before .before .before .before .loop .inv in (turn-within p (c .before .before .before .get .ensures) (c .before .before .before .before .loop-test .taken), p .indent, p .small, c .before .before .added-space .ensures .most, omega (arith, i .2, i .1, p .few, c .before .before .before .before .before .before .before .before .before .before .before .pre .1), omega (arith, i .3, i .1, p .few))
+
+loop-less : tie.Need-loop-less Inv-loop μ-loop
+loop-less c = omega (arith, c .before .before .before .before .before .before .before .loop-test .taken)
+
+loop-again : tie.Need-loop-again Inv-loop μ-loop
+loop-again c =
+    let p = c .before .before .before .before .before .before .before .before .before .before .before .before .before .before .pre .0 in
+    let i = c .before .before .before .before .before .before .before .before .loop .inv in
+    let q = c .before .before .put-next .ensures in (
+      omega arith,
+      omega (arith, c .before .before .before .before .before .before .before .loop-test .taken),
+      omega (arith, i .2, q .few),
+      omega (arith, i .3, one-more q),
+      wrote-length (q .wrote) ∙ i .4,
+      turn-left p (c .before .before .before .before .before .before .get .ensures) (c .before .before .before .before .before .before .before .loop-test .taken) _ _ _ (c .before .before .put-next .result) (c .before .before .before .before .before .added-space .ensures .is) (i .5) q,
+      turn-dashes p (c .before .before .before .before .before .before .get .ensures) (c .before .before .before .before .before .before .before .loop-test .taken) _ _ (c .before .before .put-next .result) _ (i .6) q,
+    )
+
+lesser-requires : tie.Need-lesser-requires Inv-loop μ-loop
+lesser-requires c κs = search needs
+
+sub-put-end : tie.Need-sub-put-end Inv-loop μ-loop
+sub-put-end c = search needs
+
+part-put-end-start : tie.Need-part-put-end-start Inv-loop μ-loop
+part-put-end-start c = search needs
+
+part-put-end-end : tie.Need-part-put-end-end Inv-loop μ-loop
+part-put-end-end c = search needs
+
+put-end-requires : tie.Need-put-end-requires Inv-loop μ-loop
+put-end-requires c κs = search needs
+
+add-t25 : tie.Need-add-t25 Inv-loop μ-loop
+add-t25 c = omega (arith, c .before .before .before .before .before .before .before .loop .inv .2, c .before .before .before .before .before .before .before .loop .inv .1, c .before .before .before .before .before .before .before .before .before .before .before .before .before .pre .0 .few, c .before .before .before .before .before .before .before .before .before .before .before .before .before .pre .1, end-count (c .before .before .before .put-end .ensures))
+
+same-length : tie.Need-same-length Inv-loop μ-loop
+same-length c = wrote-length (wrote-part _ (c .before .before .before .before .before .before .before .loop .t .at) _ _ _ _ (c .before .before .before .before .before .lesser .ensures) (c .before .before .before .put-end .ensures)) ∙ c .before .before .before .before .before .before .before .loop .inv .4
+
+returns : tie.Need-returns Inv-loop μ-loop
+returns c =
+    let i = c .before .before .before .before .before .before .before .loop .inv in
+    let h = c .before .before .before .before .before .before .loop-test .left in
+    record {
+      wrote = left-last (rw (sent-end _ _ _ _ _ _ _ _ h) at (i .5)) (wrote-part _ _ _ _ _ _ (c .before .before .before .before .before .lesser .ensures) (c .before .before .before .put-end .ensures));
+      dashes = omega (arith, i .6, dashes-end (now (c .before .before .before .before .before .before .before .before .before .before .before .before .before .args .notes)) (now (c .before .before .before .before .before .before .before .before .before .before .before .before .before .args .table)) (c .before .before .before .before .before .before .before .before .before .before .before .before .before .args .n) (now (c .before .before .before .before .before .before .before .before .before .before .before .before .before .args .marks)) (c .before .before .before .before .before .before .before .before .before .before .before .before .before .args .l .indent) (c .before .before .before .before .before .before .before .loop .t .dashed) (c .before .before .before .before .before .before .before .loop .i) h);
+      few = omega (arith, i .3, i .1);
+    }
+
+pub emit-rest-spec : {M : Type 1} → statement M
+emit-rest-spec =
+    tie.close
+    (tie.spec
+    Inv-loop
+    μ-loop
+    loop-holds
+    get-requires
+    added-space-requires
+    shared-slice-read-fresh
+    add-i
+    put-next-requires
+    loop-less
+    loop-again
+    lesser-requires
+    sub-put-end
+    part-put-end-start
+    part-put-end-end
+    put-end-requires
+    add-t25
+    same-length
+    returns)

@@ -1,0 +1,56 @@
+-- `flow::send_notes` meets its contract.
+use borrow.Author.Needs.{needs}
+use mathlib.Core.Path.{_≡_, refl, sym, ap, _∙_}
+use native.Mathlib.Omega.{arith}
+use Rattle.flow.proofs.Answered.{words-answer, done-answer, room-answer}
+use Rattle.flow.proofs.send_notes.Statement.{statement}
+use Rattle.flow.proofs.send_notes.Tie as tie
+
+send-pieces-requires : tie.Need-send-pieces-requires
+send-pieces-requires c κs = search needs
+
+enum-known-place : tie.Need-enum-known-place
+enum-known-place c = search needs
+
+clear-requires : tie.Need-clear-requires
+clear-requires c κs = search needs
+
+enum-known-written : tie.Need-enum-known-written
+enum-known-written c = search needs
+
+same-length : tie.Need-same-length
+same-length c = search needs
+
+returns : tie.Need-returns
+returns c = done-answer _ _ _ _ _ (c .before .before .before .before .before .before .send-pieces .ensures) (c .before .before .before .before .before .before .before .before .before .before .before .pre .admitted .short) (c .before .before .written .given .1) (c .if1 .taken)
+
+clear-requires-2 : tie.Need-clear-requires-2
+clear-requires-2 c κs = search needs
+
+same-length-2 : tie.Need-same-length-2
+same-length-2 c = search needs
+
+returns-2 : tie.Need-returns-2
+returns-2 c = words-answer _ _ _ _ _ (c .before .before .before .before .before .before .before .before .before .send-pieces .ensures) (c .before .before .before .before .before .before .before .before .before .before .before .before .before .before .pre .admitted .short) (c .before .before .before .before .before .place .given .1) (c .before .before .clear .ensures)
+
+same-length-3 : tie.Need-same-length-3
+same-length-3 c = search needs
+
+returns-3 : tie.Need-returns-3
+returns-3 c = room-answer _ _ _ _ _ (c .before .before .before .before .before .before .before .before .before .before .send-pieces .ensures) (c .before .before .before .before .before .before .before .before .before .before .before .before .before .before .before .pre .admitted .short) (c .before .before .before .before .before .before .written .given .1) (c .before .before .before .before .if1 .left) (c .before .before .clear2 .ensures)
+
+pub send-notes-spec : {M : Type 1} → statement M
+send-notes-spec =
+    tie.close
+    (tie.spec
+    send-pieces-requires
+    enum-known-place
+    clear-requires
+    enum-known-written
+    same-length
+    returns
+    clear-requires-2
+    same-length-2
+    returns-2
+    same-length-3
+    returns-3)
