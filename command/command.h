@@ -109,6 +109,8 @@ struct refusal {
 
 /* The digest of one file. The room is kept from file to file. */
 struct digest {
+    bool mail; /* it is written as mail of format=flowed */
+    uint64_t dashes; /* the lines `--' that this made */
     uint8_t *bytes;
     size_t length;
     size_t room;

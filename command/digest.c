@@ -53,15 +53,29 @@ static bool make_room(struct digest *digest, size_t more) {
     return true;
 }
 
+/* The part as mail: without room the call tells how much it needs. */
+static uint64_t measure_mail(const struct options *options, const struct part *part) {
+    uint64_t dashes, answer = rudignals_flow(options->block, options->block_len, part->bytes, part->length, NULL, 0, &dashes);
+    return rudignals_code_of(answer) == RUDIGNALS_ROOM ? rudignals_number_of(answer) : answer;
+}
+
+static uint64_t write_mail(struct digest *digest, const struct options *options, const struct part *part, size_t needed) {
+    uint64_t dashes, answer = rudignals_flow(options->block, options->block_len, part->bytes, part->length, digest->bytes + digest->length, needed, &dashes);
+    digest->dashes += dashes;
+    return answer;
+}
+
 /* Measures the part, makes room for just that much and writes it behind the digest so far. Where that room is not to be had the part is
  * refused for it. */
 static uint64_t ask(struct digest *digest, const struct options *options, const struct part *part) {
-    uint64_t answer = rudignals_measure(options->block, options->block_len, part->bytes, part->length);
+    uint64_t answer = digest->mail ? measure_mail(options, part) : rudignals_measure(options->block, options->block_len, part->bytes, part->length);
     size_t needed = rudignals_number_of(answer);
     if (rudignals_code_of(answer) != RUDIGNALS_DONE || needed == 0 || digest->refusal.code != RUDIGNALS_DONE)
         return answer;
     if (!make_room(digest, needed))
         return (uint64_t)RUDIGNALS_ROOM << 32;
+    if (digest->mail)
+        return write_mail(digest, options, part, needed);
     return rudignals_write(options->block, options->block_len, part->bytes, part->length, digest->bytes + digest->length, needed);
 }
 
@@ -80,6 +94,7 @@ static void add_part(struct digest *digest, const struct options *options, const
 bool make_digest(struct digest *digest, const struct options *options, struct window *window) {
     struct part part = {window->bytes, 0, 0};
     digest->length = 0;
+    digest->dashes = 0;
     digest->refusal.code = RUDIGNALS_DONE;
     do {
         if (!fill_window(window))

@@ -12,6 +12,7 @@
     X(explain, "tell why the lines of their digest end where they do")                                                                        \
     X(salvage, "mend notes in ISO 8859-1, with a list of what was changed")                                                                   \
     X(restore, "bring the old notes back from a mended copy and its list")                                                                    \
+    X(flow, "write the digest of notes as mail of format=flowed")                                                                             \
     X(unflow, "read mail of format=flowed, a paragraph a line")                                                                               \
     X(check, "check a digest against its notes")
 

@@ -261,6 +261,21 @@ uint64_t rudignals_unflow(const uint8_t *text, size_t text_len, uint8_t *output,
 /* No reading of so many bytes is longer: room that always does. */
 #define RUDIGNALS_MOST_UNFLOWED(text_len) ((size_t)4 * (size_t)(text_len))
 
+/* ---- The digest as such mail.
+ *
+ * Writes what rudignals_write writes with quick and uniform on, as format=flowed: lines end in CR LF, every line of a paragraph but the last in
+ * one space before it, and one space stands before a line that starts with a space, `>` or `From `. A line of a paragraph that would be `-- ` is
+ * written fixed, as `--`; *dashes tells how many of these there are. A plain line loses the spaces at its end, unless it is `-- `. What is added
+ * to a line is not counted in its width.
+ *
+ * Codes and N, the first that applies, and the output afterwards are those of rudignals_write for what is sent; and code 1, with N = options_len,
+ * for a block that is right in itself but has a prefix (an empty one too) or one of the flags crown, tagged and mail, even where split would
+ * clear it. On a refusal *dashes is 0. It takes 40 KiB of the stack, whatever the notes. */
+uint64_t rudignals_flow(const uint8_t *options, size_t options_len, const uint8_t *notes, size_t notes_len, uint8_t *output, size_t output_len, uint64_t *dashes);
+
+/* Room that always does, likewise: 3,120 bytes for each byte of the notes (`Finished` in crates/flow/specs/Contracts/Sending.antt). */
+#define RUDIGNALS_MOST_FLOWED(notes_len) ((size_t)3120 * (size_t)(notes_len))
+
 #ifdef __cplusplus
 }
 #endif

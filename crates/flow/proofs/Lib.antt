@@ -13,3 +13,4 @@ mod Course
 mod Answered
 pub mod Theorems
 pub mod Call
+pub mod Unique

@@ -7,6 +7,5 @@ pub mod Undamaged
 pub mod Gaps
 pub mod Indexed
 pub mod Mailed
-pub mod Explained
 pub mod Demand3
 pub mod Unique

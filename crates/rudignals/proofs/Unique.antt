@@ -33,7 +33,10 @@
 --   indexer       number_of, records_in                                                     an equation
 
 --   unflow        unflow                                                                    unflow/proofs/Unique: `reads-unique`
---   unflow        reading_number                                                            an equation
+--   unflow        reading_number, is_dashes                                                 an equation
+--   unflow        stuffing_of                                                               `spaces-unique`, with a bound
+--   unflow        put_end                                                                   output/proofs/Unique: `wrote-unique`
+--   flow          flow                                                                      flow/proofs/Unique: `sends-unique`
 
 --   checker       match_line, match_words                                                   checker/proofs/Unique: `matches-unique`
 --   judge         check, number_of                                                          an equation
@@ -52,12 +55,14 @@
 --   rudignals     rudignals_write, rudignals_format                                         `call-unique`
 --   rudignals     rudignals_panel, rudignals_mend, rudignals_restore,
 --                 rudignals_unflow, rudignals_explain                                       an equation for the number, one for each slice
+--   rudignals     rudignals_flow                                                            the same, and one for the count
 --
 -- What stays open is scratch that nobody reads afterwards: docs/PROMISES.md lists it.
-use mathlib.Core.Path.{_≡_, sym, _∙_}
+use mathlib.Core.Path.{_≡_, sym, ap, _∙_}
 use mathlib.Core.Bool.{Bool}
 use mathlib.Core.List.{List, []}
 use Prim.Native.Nat.{ℕ}
+use lib.ListN.{length, replicate, length-replicate}
 use Rattle.records.specs.Word.{Word}
 use Rattle.records.specs.Contracts.Table.{wordsIn}
 use Rattle.records.specs.Contracts.Marks.{Marked}
@@ -87,6 +92,10 @@ words-unique most notes ws ps t u r s a b =
 pub quick-unique : (g : Setting) (n : ℕ) (table : List ℕ) (marks a b : List Bool)
     → ((notes : List ℕ) → Marked n marks (quickBreaks g (wordsIn notes n table)) a) → ((notes : List ℕ) → Marked n marks (quickBreaks g (wordsIn notes n table)) b) → a ≡ b
 quick-unique g n table marks a b h k = marked-unique n marks (quickBreaks g (wordsIn [] n table)) a b (h []) (k [])
+
+-- how many spaces
+pub spaces-unique : (x : List ℕ) (r s : ℕ) → replicate r 32 ≡ x → replicate s 32 ≡ x → r ≡ s
+spaces-unique x r s h k = sym (length-replicate {A = ℕ} r 32) ∙ ap length (h ∙ sym k) ∙ length-replicate {A = ℕ} s 32
 
 -- the number that the host gets, and every byte of its slice: of `answer` or of `writing`
 pub call-unique : (a : Answer) (output : List ℕ) (r s : ℕ) (x y : List ℕ) → (r ≡ numbered a) × (x ≡ outputAfter a output) → (s ≡ numbered a) × (y ≡ outputAfter a output) → (r ≡ s) × (x ≡ y)

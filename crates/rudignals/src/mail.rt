@@ -1,7 +1,26 @@
-// Digests by mail, as a host calls them: format=flowed, RFC 3676, DelSp=no. The work is in the crate unflow.
+// Digests by mail, as a host calls them: format=flowed, RFC 3676, DelSp=no. The work is in the crates flow and
+// unflow.
 ghost use mathlib.Core.Path.{_≡_};
 ghost use lib.ListN.{length};
+ghost use Rattle.formatter.specs.Answers.{numbered as answerNumber, outputAfter as outputLeft};
 ghost use Rattle.unflow.specs.Unflow.{unflow as reading, numbered, outputAfter};
+ghost use Rattle.flow.specs.Answers.{flow as sending, dashesOf};
+
+// The notes written as mail: the answer's number, the output as the answer leaves it, and the count of lines `--`, which is 0 on a refusal.
+#[no_mangle]
+pub extern "C" fn rudignals_flow(
+    options: &[u8],
+    notes: &[u8],
+    output: &mut [u8],
+    dashes: &mut u64,
+) -> u64
+    ensures { λ r. ⌜ (r ≡ answerNumber (sending (now (options .entry)) (now (notes .entry)) (length (now (output .entry))))) × (now (output .exit) ≡ outputLeft (sending (now (options .entry)) (now (notes .entry)) (length (now (output .entry)))) (now (output .entry))) × (now (dashes .exit) ≡ dashesOf (now (options .entry)) (now (notes .entry)) (length (now (output .entry)))) ⌝ }
+{
+    let r = flow::flow(options, notes, output);
+    let reply = r.reply;
+    *dashes = r.dashes as u64;
+    formatter::number_of(reply)
+}
 
 // Mail read: the answer's number, and the output as the answer leaves it, each paragraph of the mail a line.
 #[no_mangle]

@@ -1,0 +1,33 @@
+"""flow: the digest as mail, files of any length, and what cannot be had."""
+import pathlib
+import sys
+
+from .calls import ROOT, RUDIGNALS, expect, expect_same, run
+
+sys.path.insert(0, str(ROOT / "tests/flow"))
+import model  # noqa: E402
+import texts  # noqa: E402
+
+
+def run_all(folder):
+    short = b"22:40  Pump 2 tripped.  Restarted.\n> by hand\n\n  - 4.1 bar before the filter\n"
+    o = model.Options(width=20)
+    sent = model.flow(o, short, 1 << 20)[2]
+    expect("flow: standard input", run(["flow", "-w", "20"], short, RUDIGNALS), (0, sent, ""))
+    path = pathlib.Path(folder) / "notes"
+    path.write_bytes(short)
+    expect("flow: a file", run(["flow", "-20", str(path)], b"", RUDIGNALS), (0, sent, ""))
+    expect("flow: nothing", run(["flow", "-"], b"", RUDIGNALS), (0, b"", ""))
+    expect("flow: what was written, read", run(["unflow"], sent, RUDIGNALS), (0, model.unflowed(sent), ""))
+    told = "rudignals: standard input: 1 lines `--' in paragraphs: a mail reader ends the paragraph there\n"
+    expect("flow: a line of dashes", run(["flow", "-w", "10"], b"aaaaaaaa -- bbbbbbbb\n", RUDIGNALS), (0, b"aaaaaaaa \r\n--\r\nbbbbbbbb\r\n", told))
+    rng = texts.seeded(2026)
+    long = b"".join(texts.notes(rng, (b"\n",)).replace(b"--", b"==").rstrip(b"\n") + b"\n\n" for _ in range(3000))
+    whole = b"".join(model.flowed_piece(piece, o)[0] for piece in model.pieces(long, o))
+    status, got, words = run(["flow", "-w", "20"], long, RUDIGNALS)
+    expect("flow: status and words of a long file", (status, words), (0, ""))
+    expect_same("flow: a long file", got, whole)
+    for option, name in ("-c", "crown-margin"), ("-t", "tagged-paragraph"), ("-m", "preserve-headers"), ("-p>", "prefix"):
+        expect(f"flow: {option}", run(["flow", option], b"a\n", RUDIGNALS), (2, b"", f"rudignals: --{name}: a digest by mail cannot have it\n"))
+    expect("flow: two files", run(["flow", "a", "b"], b"", RUDIGNALS)[:2], (2, b""))
+    expect("flow: a damaged character", run(["flow"], b"a \xb0\n", RUDIGNALS)[:2], (1, b""))
