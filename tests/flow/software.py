@@ -1,5 +1,5 @@
 #!/usr/bin/env python3
-"""Other mail software reads what is written here, and its mail is read here: software.py [SEED [COUNT]]
+"""Other mail software reads what the library's writer writes, and its mail is read here: software.py LIBRARY [SEED [COUNT]]
 
 Horde's Text_Flowed (Debian's php-horde-text-flowed) and Roundcube's rcube_mime (roundcube-core). Their readings are compared with the model's,
 paragraph by paragraph, behind what each of them does to a text besides: Horde takes white space from a paragraph's end and takes a line `0` for
@@ -12,6 +12,7 @@ import sys
 
 import model
 import texts
+import writer
 
 HERE = pathlib.Path(__file__).resolve().parent
 
@@ -74,14 +75,14 @@ def compare(which, name, sent, read, expected):
 
 
 def main():
-    seed, count = (int(a) for a in (sys.argv[1:] + ["2026", "50000"][len(sys.argv) - 1 :]))
+    write = writer.Writer(sys.argv[1])
+    seed, count = (int(a) for a in (sys.argv[2:] + ["2026", "50000"][len(sys.argv) - 2 :]))
     rng = texts.seeded(seed)
     sent = []
     while len(sent) < count:
-        o = model.Options(width=rng.choice([10, 20, 40, 72]))
-        code, _, text, _ = model.flow(o, texts.notes(rng), 1 << 22)
-        if code == 0 and text:
-            sent.append(text)
+        code, length, output, _ = write(writer.number(2, rng.choice([10, 20, 40, 72])), texts.notes(rng), 1 << 16)
+        if code == 0 and length:
+            sent.append(output[:length])
     faults = tried = 0
     for which, expected in (("horde", lambda text: horde_like(model.paragraphs(text))), ("roundcube", roundcube_like)):
         read = through(which, "read", sent)

@@ -85,6 +85,14 @@ static void *make_check(void *unused) {
     return unused;
 }
 
+static void *make_flow(void *unused) {
+    uint64_t dashes;
+    unsigned char here = 0;
+    call.top = &here;
+    call.answer = rudignals_flow(call.block, call.block_len, call.notes, call.notes_len, output, call.room, &dashes);
+    return unused;
+}
+
 static void on_the_painted_stack(void *(*run)(void *)) {
     pthread_attr_t attributes;
     pthread_t thread;
@@ -233,6 +241,11 @@ static void measure_check(const char *name, uint16_t flags, unsigned lines, size
     printf("%7lu                  %s\n", (unsigned long)used_by(make_check, code), call.name);
 }
 
+static void measure_flow(const char *name, uint16_t flags, const char *line_start, unsigned lines) {
+    text(name, flags, line_start, lines);
+    printf("%7lu                  %s\n", (unsigned long)used_by(make_flow, RUDIGNALS_DONE), call.name);
+}
+
 int main(void) {
     text("none", 0, "", 80);
     on_the_painted_stack(make_format); /* in a dynamically linked program the first call looks for memset, on this stack */
@@ -256,6 +269,8 @@ int main(void) {
     measure_unflow();
     measure_check("a digest checked, paragraphs of 960 words", RUDIGNALS_QUICK, 80, 0, RUDIGNALS_DONE);
     measure_check("a digest checked, with glue, its last bytes cut off", RUDIGNALS_GLUE, 80, 7, RUDIGNALS_NOT_ACCEPTED);
+    measure_flow("mail of format=flowed", 0, "", 80);
+    measure_flow("likewise, plain lines", RUDIGNALS_KEEP, "\xB0 ", 80);
     printf("stack: at most %lu bytes; %lu allowed\n", (unsigned long)greatest, (unsigned long)MOST);
     if (more)
         puts("stack: measuring took more than writing");
