@@ -273,7 +273,7 @@ uint64_t rudignals_unflow(const uint8_t *text, size_t text_len, uint8_t *output,
  * clear it. On a refusal *dashes is 0. It takes 32 KiB of the stack, whatever the notes (31,511 bytes measured on Arm). */
 uint64_t rudignals_flow(const uint8_t *options, size_t options_len, const uint8_t *notes, size_t notes_len, uint8_t *output, size_t output_len, uint64_t *dashes);
 
-/* Room that always does, likewise: 3,120 bytes for each byte of the notes (`Finished` in crates/flow/specs/Contracts/Sending.antt). */
+/* Room that always does, likewise: 3,120 bytes for each byte of the notes (a theorem, `flowed-most` in crates/flow/proofs/Bound.antt). */
 #define RUDIGNALS_MOST_FLOWED(notes_len) ((size_t)3120 * (size_t)(notes_len))
 
 #ifdef __cplusplus

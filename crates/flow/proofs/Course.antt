@@ -118,7 +118,7 @@ text-sent {notes} {table} {n} {marks} {c} {o} {p} {out} {out′} {block} {g} l t
 
 -- ---- blank and plain lines
 
-one-sent : (line : List ℕ) → joined sent (line ∷ []) ≡ sent line
+pub one-sent : (line : List ℕ) → joined sent (line ∷ []) ≡ sent line
 one-sent line = rw (joined-cons sent line [], joined-nil sent) (append-nil (sent line))
 
 blank-sent : (notes : List ℕ) (at : ℕ) → plainSent (slice at at notes) ≡ []
@@ -156,7 +156,7 @@ module _ (o : Opts) (notes out : List ℕ) (c : Cursor) (out′ : List ℕ) (nex
 -- ---- paragraphs
 
 -- what is sent of one, and its lines `--`, take no more than three times what its digest may
-sent-longest : (first indent : List ℕ) (ws : List Word) → mostSent first indent ws ≤ 3 * longest first indent ws
+pub sent-longest : (first indent : List ℕ) (ws : List Word) → mostSent first indent ws ≤ 3 * longest first indent ws
 sent-longest first indent ws = omega (arith, mul-add (length ws) (length indent) 4, mul-add (length ws) (length indent) 2)
 
 few-longest : (first indent : List ℕ) (ws : List Word) → length ws ≤ 3 * longest first indent ws
@@ -257,7 +257,7 @@ module _ (o : Opts) (notes : List ℕ) where
   unfolding piecesFrom
   none-left nextMail at h = rw (lines-past notes at h) (walk-nil (nextPiece o) nextMail)
 
-  sent-none : (nextMail : Bool) (at : ℕ) → length notes ≤ at → flowedFrom o nextMail notes at ≡ []
+  pub sent-none : (nextMail : Bool) (at : ℕ) → length notes ≤ at → flowedFrom o nextMail notes at ≡ []
   unfolding flowedFrom
   sent-none nextMail at h = rw (none-left nextMail at h) (joined-nil (λ (q : Piece). joined sent (sentLines o (q .kind))))
 
@@ -265,7 +265,7 @@ module _ (o : Opts) (notes : List ℕ) where
   unfolding dashesFor dashesIn
   dashes-none nextMail at h = ap (dashesIn o) (none-left nextMail at h)
 
-  all-sent : flowedFrom o true notes 0 ≡ flowed o notes
+  pub all-sent : flowedFrom o true notes 0 ≡ flowed o notes
   unfolding flowedFrom piecesFrom flowed pieces sentPiece
   all-sent = refl
 
@@ -274,7 +274,7 @@ module _ (o : Opts) (notes : List ℕ) where
   all-dashes = refl
 
   module _ {nextMail : Bool} {at : ℕ} {kind : Kind} {state : Bool} {next : ℕ} (g : FirstPiece o nextMail notes at kind state next) where
-    sent-more : flowedFrom o nextMail notes at ≡ joined sent (sentLines o kind) ++ flowedFrom o state notes next
+    pub sent-more : flowedFrom o nextMail notes at ≡ joined sent (sentLines o kind) ++ flowedFrom o state notes next
     unfolding flowedFrom
     sent-more =
         ap (joined (λ (q : Piece). joined sent (sentLines o (q .kind)))) (g .pieces)

@@ -11,6 +11,7 @@ mod Openings
 mod Writing
 mod Course
 mod Answered
+pub mod Bound
 pub mod Theorems
 pub mod Call
 pub mod Unique

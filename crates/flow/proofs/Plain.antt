@@ -4,6 +4,7 @@ use mathlib.Core.Bool.{Bool, true, false, cond}
 use mathlib.Core.List.{List, [], _∷_, _++_, append-assoc}
 use Prim.Native.Nat.{ℕ, _+_, _-_, _≤_, _<_}
 use native.Mathlib.Omega.{arith}
+use lib.Dec.{eqb}
 use lib.ListN.{length, getD, take, drop, replicate, length-append}
 use lib.Seq.{slice, slice-empty, length-slice}
 use borrow.Author.Tests.{ne-eqb}
@@ -35,6 +36,28 @@ trimmed-ink (x ∷ xs) y h = ap (before x) (trimmed-ink xs y h) ∙ go xs
 trimmed-nil : trimmed [] ≡ []
 unfolding trimmed
 trimmed-nil = refl
+
+-- nothing is added
+before-shorter : (x : ℕ) (xs : List ℕ) → length (before x xs) ≤ length xs + 1
+before-shorter x [] = go (eqb x space)
+  where
+    go : (b : Bool) → length (cond b [] (x ∷ [])) ≤ 1
+    go true = omega arith
+    go false = omega arith
+before-shorter x (y ∷ xs) = omega arith
+
+trimmed-shorter : (xs : List ℕ) → length (trimmed xs) ≤ length xs
+unfolding trimmed
+trimmed-shorter [] = omega arith
+trimmed-shorter (x ∷ xs) = omega (arith, before-shorter x (trimmed xs), trimmed-shorter xs)
+
+pub plain-shorter : (line : List ℕ) → length (plainSent line) ≤ length line
+unfolding plainSent
+plain-shorter line = go (isDashes line)
+  where
+    go : (b : Bool) → length (cond b line (trimmed line)) ≤ length line
+    go true = omega arith
+    go false = trimmed-shorter line
 
 -- ---- from the end on
 
