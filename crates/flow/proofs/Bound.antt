@@ -44,12 +44,13 @@ paragraph-most o nextMail notes at {p} g few =
     let ws = wordsOf o q in
     let breaks = breaksBy (o .quick || q .mail) (settingOf o (q .mail) (q .first .columns) (q .indent .columns)) ws in
     let e = ap length (words-sent (q .indent .bytes) (q .first .bytes) breaks ws (paragraph-some o _ q (g .text .rows))) in
-    omega
-    (arith,
-    e,
-    sent-most (q .indent .bytes) (q .first .bytes) breaks ws,
-    sent-longest (q .first .bytes) (q .indent .bytes) ws,
-    text-most o notes at p q (g .text) (g .bounds) (ltb-false mostWords (length ws) few))
+    omega (
+      arith,
+      e,
+      sent-most (q .indent .bytes) (q .first .bytes) breaks ws,
+      sent-longest (q .first .bytes) (q .indent .bytes) ws,
+      text-most o notes at p q (g .text) (g .bounds) (ltb-false mostWords (length ws) few),
+    )
 
 -- a piece, and how long it gets
 record Next (o : Opts) (nextMail : Bool) (notes : List ℕ) (at : ℕ) : Type 0 where
