@@ -5,6 +5,7 @@ pub mod Glyphs
 pub mod Letters
 pub mod Glue
 pub mod Damage
+pub mod Joining
 pub mod Rows
 pub mod Asciis
 mod Worked

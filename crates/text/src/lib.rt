@@ -1,11 +1,12 @@
 // Characters: what stands at a place of a line. RFC 3629 decides which bytes are characters.
 ghost use mathlib.Core.Path.{_≡_};
-ghost use mathlib.Core.Bool.{true, false};
+ghost use mathlib.Core.Bool.{true, false, _&&_};
 ghost use Prim.Native.Nat.{_+_, _-_, _≤_, _<_, _^_};
 ghost use lib.ListN.{length, getD, drop};
 ghost use Rattle.text.specs.Rfc3629.{decode};
 ghost use Rattle.text.specs.Characters.{glyph, characters, inkAhead, damage};
-ghost use Rattle.text.specs.Contracts.Places.{readAs, seenAs, letterAt, Pair, Triple, Ascii, noBreakAt, gluedExtent, RunOver};
+ghost use Rattle.text.specs.Contracts.Places.{readAs, seenAs, letterAt, Ascii, noBreakAt, gluedExtent, RunOver};
+ghost use Rattle.text.specs.Contracts.Joins.{joins, joinsAt, Joined, JoinedFrom};
 
 // A place, or none.
 pub enum Found {
@@ -239,57 +240,95 @@ pub fn is_letter(s: &[u8], at: usize) -> bool
     s[next] / 64 == 2
 }
 
-// Whether a character of two bytes stands at a place, U+0080 to U+07FF.
-fn is_pair(s: &[u8], at: usize) -> bool
-    requires { ⌜ at < length (now s) ⌝ }
-    ensures { λ r. ⌜ (r ≡ true → Pair (now (s .entry)) at) ⌝ }
-{
-    let next = at + 1;
-    if s.len() <= next {
-        return false;
-    }
-    let a = s[at];
-    let b = s[next];
-    (0xC2 <= a) & (a <= 0xDF) & (b / 64 == 2)
-}
-
-// Whether a character of three bytes stands at a place, of those whose first byte shows that it is one: U+1000 to U+CFFF and U+E000 to
-// U+FFFF. Behind E0 two bytes might do, and behind ED there may be a surrogate.
-fn is_triple(s: &[u8], at: usize) -> bool
-    requires { ⌜ at < length (now s) ⌝ }
-    ensures { λ r. ⌜ (r ≡ true → Triple (now (s .entry)) at) ⌝ }
-{
-    let next = at + 1;
-    let last = at + 2;
-    if s.len() <= last {
-        return false;
-    }
-    let a = s[at];
-    let b = s[next];
-    let c = s[last];
-    (0xE1 <= a) & (a <= 0xEF) & (a != 0xED) & (b / 64 == 2) & (c / 64 == 2)
-}
-
-// The first place at which no character begins. Most are seen by their first byte; what else there is, is read in full.
+// The first place at which no character begins. Most texts are seen at once to have none.
 pub fn first_damage(s: &[u8]) -> Found
+    ensures { λ r. ⌜ r ≡ damage (now (s .entry)) ⌝ }
+{
+    if ascii_end(s, 0) == s.len() {
+        return Found::Nowhere;
+    }
+    if are_joined(s) {
+        return Found::Nowhere;
+    }
+    damage_among(s)
+}
+
+// The same, read character by character.
+fn damage_among(s: &[u8]) -> Found
     ensures { λ r. ⌜ r ≡ damage (now (s .entry)) ⌝ }
 {
     let mut i = 0;
     while i < s.len() {
-        if s[i] < 0x80 {
-            i = ascii_end(s, i + 1);
-        } else if is_pair(s, i) {
-            i += 2;
-        } else if is_triple(s, i) {
-            i += 3;
-        } else {
-            let Char::Good { code: _, next } = decode_at(s, i) else {
-                return Found::At(i);
-            };
-            i = next;
-        }
+        let Char::Good { code: _, next } = decode_at(s, i) else {
+            return Found::At(i);
+        };
+        i = next;
     }
     Found::Nowhere
+}
+
+// Whether each byte joins the three before it, so that every character is whole: one test for all scripts, without a branch, which the
+// compiler makes for sixteen bytes at a time. A text of fewer than three bytes is not asked.
+fn are_joined(s: &[u8]) -> bool
+    ensures { λ r. ⌜ (r ≡ true → Joined 0 0 0 (now (s .entry))) ⌝ }
+{
+    if s.len() < 3 {
+        return false;
+    }
+    let mut all = begin_joined(s);
+    let mut i = 3;
+    while i < s.len() {
+        all = all & joins_at(s, i);
+        i += 1;
+    }
+    all & end_joined(s)
+}
+
+// The first three bytes, before which nothing asks.
+fn begin_joined(s: &[u8]) -> bool
+    requires { ⌜ 3 ≤ length (now s) ⌝ }
+    ensures { λ r. ⌜ r ≡ (joins 0 0 0 (getD (now (s .entry)) 0 0) && joins 0 0 (getD (now (s .entry)) 0 0) (getD (now (s .entry)) 1 0) && joins 0 (getD (now (s .entry)) 0 0) (getD (now (s .entry)) 1 0) (getD (now (s .entry)) 2 0)) ⌝ }
+{
+    joins(0, 0, 0, s[0]) & joins(0, 0, s[0], s[1]) & joins(0, s[0], s[1], s[2])
+}
+
+fn joins_at(s: &[u8], i: usize) -> bool
+    requires { ⌜ (3 ≤ i) × (i < length (now s)) ⌝ }
+    ensures { λ r. ⌜ r ≡ joinsAt (now (s .entry)) i ⌝ }
+{
+    let p = i - 3;
+    let q = i - 2;
+    let r = i - 1;
+    joins(s[p], s[q], s[r], s[i])
+}
+
+// Whether a byte joins those before it, p, q and r: it goes on with a character exactly where one of them asks for it, it is none that
+// RFC 3629 has not, and behind E0, ED, F0 and F4 it is one of those that may stand there.
+fn joins(p: u8, q: u8, r: u8, b: u8) -> bool
+    ensures { λ x. ⌜ x ≡ joins p q r b ⌝ }
+{
+    let asked = (0xF0 <= p) | (0xE0 <= q) | (0xC0 <= r);
+    let goes_on = b / 64 == 2;
+    (!asked | goes_on)
+        & (asked | !goes_on)
+        & (b != 0xC0)
+        & (b != 0xC1)
+        & (b <= 0xF4)
+        & ((r != 0xE0) | (0xA0 <= b))
+        & ((r != 0xED) | (b < 0xA0))
+        & ((r != 0xF0) | (0x90 <= b))
+        & ((r != 0xF4) | (b < 0x90))
+}
+
+// The last three bytes, behind which nothing is asked for.
+fn end_joined(s: &[u8]) -> bool
+    requires { ⌜ 3 ≤ length (now s) ⌝ }
+    ensures { λ r. ⌜ (r ≡ true → JoinedFrom (now (s .entry)) (length (now (s .entry)))) ⌝ }
+{
+    let p = s.len() - 3;
+    let q = s.len() - 2;
+    let r = s.len() - 1;
+    (s[p] < 0xF0) & (s[q] < 0xE0) & (s[r] < 0xC0)
 }
 
 // The end of the bytes below 0x80 at a place, of which each is a character.
