@@ -3,8 +3,8 @@ use mathlib.Core.Path.{_≡_, refl, sym, _∙_}
 use mathlib.Core.List.{List, [], _∷_, _++_}
 use Prim.Native.Nat.{ℕ, _+_, _-_, _*_, _/_, _%_, _≤_, _<_}
 use native.Mathlib.Omega.{arith}
-use lib.ListN.{length, getD, take, drop, length-drop}
-use lib.Seq.{take-all}
+use lib.ListN.{length, getD, take, drop, length-drop, List·getD-eq-default}
+use lib.Seq.{take-all, getD-drop}
 use borrow.Author.Tests.{lt-ltb, le-ltb}
 use Rattle.lists.proofs.Views.{drop-here, drop-none}
 use Rattle.text.specs.Rfc3629.{encode, Front, front, nothing, decode}
@@ -144,7 +144,7 @@ module _ (at : ℕ) (xs : List ℕ) (a : ℕ) (at0 : a ≡ getD xs 0 0) where
             pick (x ∷ y ∷ z ∷ []) e f g m = absurd (omega arith)
             pick (x ∷ y ∷ z ∷ w ∷ r) e f g m = rw (← e, ← f, ← g, ← m) (found k (a ∷ b ∷ c ∷ d ∷ []) r (record { most = t .most; noSurrogate = λ l n. omega arith }) (encode-four k a b c d lo t))
 
--- the text from a place on, as the code lends it
+-- a place of a text: the octets there, and behind it
 module _ (s : List ℕ) (at : ℕ) where
   pub rest-is : take (length s - at) (drop at s) ≡ drop at s
   rest-is = take-all (length s - at) (drop at s) (omega (arith, length-drop at s))
@@ -153,12 +153,34 @@ module _ (s : List ℕ) (at : ℕ) where
   unfolding decode
   past h = rw (drop-none 0 s at h)
 
+  -- behind the end there is none
+  pub cut : length s ≤ at → getD s at 0 ≡ 0
+  cut h = List·getD-eq-default s 0 h
+
   module _ (more : at < length s) where
     pub lead : getD s at 0 ≡ getD (drop at s) 0 0
     lead = rw (drop-here 0 s at more)
 
-    pub lead-rest : getD (take (length s - at) (drop at s)) 0 0 ≡ getD s at 0
-    lead-rest = rw (rest-is, drop-here 0 s at more)
-
     pub ascii-at : getD s at 0 < 0x80 → Good (getD s at 0) (at + 1) ≡ readAs at (decode (drop at s))
     ascii-at h = rw (drop-here 0 s at more, ascii (getD s at 0) (drop (at + 1) s) h)
+
+    module _ (a b : ℕ) (ea : a ≡ getD s at 0) (eb : b ≡ getD s (at + 1) 0) where
+      pub no-two-at : 0xC2 ≤ a → a < 0xE0 → ((k : ℕ) → Two k a b → ⊥) → Damaged ≡ readAs at (decode (drop at s))
+      no-two-at = no-two at (drop at s) a (ea ∙ lead) b (eb ∙ sym (getD-drop at s 1 0))
+
+      pub is-two-at : 0xC2 ≤ a → a < 0xE0 → (k : ℕ) → Two k a b → Good k (at + 2) ≡ readAs at (decode (drop at s))
+      is-two-at = is-two at (drop at s) a (ea ∙ lead) b (eb ∙ sym (getD-drop at s 1 0))
+
+      module _ (c : ℕ) (ec : c ≡ getD s (at + 2) 0) where
+        pub no-three-at : 0xE0 ≤ a → a < 0xF0 → ((k : ℕ) → Three k a b c → ⊥) → Damaged ≡ readAs at (decode (drop at s))
+        no-three-at = no-three at (drop at s) a (ea ∙ lead) b (eb ∙ sym (getD-drop at s 1 0)) c (ec ∙ sym (getD-drop at s 2 0))
+
+        pub is-three-at : 0xE0 ≤ a → a < 0xF0 → (k : ℕ) → Three k a b c → Good k (at + 3) ≡ readAs at (decode (drop at s))
+        is-three-at = is-three at (drop at s) a (ea ∙ lead) b (eb ∙ sym (getD-drop at s 1 0)) c (ec ∙ sym (getD-drop at s 2 0))
+
+        module _ (d : ℕ) (ed : d ≡ getD s (at + 3) 0) where
+          pub no-four-at : 0xF0 ≤ a → ((k : ℕ) → Four k a b c d → ⊥) → Damaged ≡ readAs at (decode (drop at s))
+          no-four-at = no-four at (drop at s) a (ea ∙ lead) b (eb ∙ sym (getD-drop at s 1 0)) c (ec ∙ sym (getD-drop at s 2 0)) d (ed ∙ sym (getD-drop at s 3 0))
+
+          pub is-four-at : 0xF0 ≤ a → (k : ℕ) → Four k a b c d → Good k (at + 4) ≡ readAs at (decode (drop at s))
+          is-four-at = is-four at (drop at s) a (ea ∙ lead) b (eb ∙ sym (getD-drop at s 1 0)) c (ec ∙ sym (getD-drop at s 2 0)) d (ed ∙ sym (getD-drop at s 3 0))

@@ -119,13 +119,13 @@ three-octets q r a (b ∷ c ∷ xs) lo hi j rest =
     let t = asked-by (joins-is r a b c (j .1 .0)) (by-second r a b lo) in
     one-more (a ∷ b ∷ c ∷ xs) (a % 16 * 4096 + b % 64 * 64 + c % 64) 3
     (sym (is-three 0 (a ∷ b ∷ c ∷ xs) a refl b refl c refl lo hi _
-      (record {
-        second = s .1;
-        third = t .1;
-        number = refl;
-        long = long (eqb a 0xE0) refl second (s .1);
-        isScalar = record { most = omega arith; noSurrogate = λ l h. surrogate second (s .1) l h };
-      })))
+    (record {
+      second = s .1;
+      third = t .1;
+      number = refl;
+      long = long (eqb a 0xE0) refl second (s .1);
+      isScalar = record { most = omega arith; noSurrogate = λ l h. surrogate second (s .1) l h };
+    })))
     (rest a b c xs (omega arith) hi (omega (arith, s .0)) (t .0) (j .1 .1))
   where
     long : (u : Bool) → eqb a 0xE0 ≡ u → Joins q r a b → b / 64 ≡ 2 → 0x800 ≤ a % 16 * 4096 + b % 64 * 64 + c % 64
@@ -146,15 +146,15 @@ four-octets q r a (b ∷ c ∷ d ∷ xs) lo hi j rest =
     let u = asked-by (joins-is a b c d (j .1 .1 .0)) (by-third a b c lo) in
     one-more (a ∷ b ∷ c ∷ d ∷ xs) (a % 8 * 262144 + b % 64 * 4096 + c % 64 * 64 + d % 64) 4
     (sym (is-four 0 (a ∷ b ∷ c ∷ d ∷ xs) a refl b refl c refl d refl lo _
-      (record {
-        lead = hi;
-        second = s .1;
-        third = t .1;
-        fourth = u .1;
-        number = refl;
-        long = long (eqb a 0xF0) refl second (s .1);
-        most = most (eqb a 0xF4) refl second (s .1);
-      })))
+    (record {
+      lead = hi;
+      second = s .1;
+      third = t .1;
+      fourth = u .1;
+      number = refl;
+      long = long (eqb a 0xF0) refl second (s .1);
+      most = most (eqb a 0xF4) refl second (s .1);
+    })))
     (rest b c d xs (omega arith) (omega (arith, s .0)) (omega (arith, t .0)) (u .0) (j .1 .1 .1))
   where
     long : (u : Bool) → eqb a 0xF0 ≡ u → Joins q r a b → b / 64 ≡ 2 → 0x10000 ≤ a % 8 * 262144 + b % 64 * 4096 + c % 64 * 64 + d % 64

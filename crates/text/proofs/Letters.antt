@@ -1,5 +1,4 @@
--- Characters of two bytes and of three: that one stands where the tests hold; and letters of two: what their test says, and that none
--- is blank and each takes one column.
+-- Characters of two bytes; and letters of two: what their test says, that none is blank and that each takes one column.
 use mathlib.Core.Path.{_≡_, refl, sym, ap, _∙_}
 use mathlib.Core.Bool.{Bool, true, false, not, _&&_, and-eq-true-iff}
 use mathlib.Core.List.{List}
@@ -15,9 +14,9 @@ use Rattle.widths.specs.Widths.{widthOf}
 use Rattle.widths.specs.WhiteSpace.{whiteSpace}
 use Rattle.widths.proofs.Laws.{one-before-300}
 use Rattle.text.specs.Rfc3629.{decode}
-use Rattle.text.specs.Contracts.Places.{readAs, letterAt, pairCode, Pair, tripleCode, Triple}
+use Rattle.text.specs.Contracts.Places.{readAs, letterAt, pairCode, Pair}
 use Rattle.text.specs.declared.Char.the-variants.{Good}
-use Rattle.text.proofs.Forms.{lead, is-two, Three, is-three}
+use Rattle.text.proofs.Forms.{lead, is-two}
 use Rattle.text.proofs.Glyphs.{Here, char-here}
 
 pub record Letter (s : List ℕ) (at : ℕ) : Type 0 where
@@ -76,12 +75,6 @@ module _ (s : List ℕ) (at : ℕ) where
   unfolding letterAt
   letter-by h k l n = rw (lt-ltb (at + 1) (length s) h, le-leb 0xC3 (getD s at 0) k, le-leb (getD s at 0) 0xD1 l, ne-eqb (getD s at 0 / 2) 0x66 n)
 
-  pub pair-by : at + 1 < length s → (leb 0xC2 (getD s at 0) && leb (getD s at 0) 0xDF && eqb (getD s (at + 1) 0 / 64) 2) ≡ true → Pair s at
-  pair-by h e =
-      let t = and-eq-true-iff _ (eqb (getD s (at + 1) 0 / 64) 2) .0 e in
-      let u = and-eq-true-iff (leb 0xC2 (getD s at 0)) (leb (getD s at 0) 0xDF) .0 (t .0) in
-      record { within = h; least = leb-true _ _ (u .0); most = leb-true _ _ (u .1); second = eqb-true _ _ (t .1) }
-
   module _ (p : Pair s at) where
     pair-char : readAs at (decode (drop at s)) ≡ Good (pairCode s at) (at + 2)
     pair-char =
@@ -91,34 +84,6 @@ module _ (s : List ℕ) (at : ℕ) where
 
     pub pair-here : Here (whiteSpace (pairCode s at)) s at (pairCode s at) (at + 2)
     pair-here = char-here s at (pairCode s at) (at + 2) pair-char
-
-  pub triple-by : at + 2 < length s → (leb 0xE1 (getD s at 0) && leb (getD s at 0) 0xEF && not (eqb (getD s at 0) 0xED) && eqb (getD s (at + 1) 0 / 64) 2 && eqb (getD s (at + 2) 0 / 64) 2) ≡ true → Triple s at
-  triple-by h e =
-      let t = and-eq-true-iff _ (eqb (getD s (at + 2) 0 / 64) 2) .0 e in
-      let u = and-eq-true-iff _ (eqb (getD s (at + 1) 0 / 64) 2) .0 (t .0) in
-      let v = and-eq-true-iff _ (not (eqb (getD s at 0) 0xED)) .0 (u .0) in
-      let w = and-eq-true-iff (leb 0xE1 (getD s at 0)) (leb (getD s at 0) 0xEF) .0 (v .0) in
-      record { within = h; least = leb-true _ _ (w .0); most = leb-true _ _ (w .1); noSurrogate = eqb-false _ _ (refuted _ (v .1)); second = eqb-true _ _ (u .1); third = eqb-true _ _ (t .1) }
-
-  module _ (p : Triple s at) where
-    triple-char : readAs at (decode (drop at s)) ≡ Good (tripleCode s at) (at + 3)
-    triple-char =
-        let first : getD s at 0 ≡ getD (drop at s) 0 0 = lead s at (omega (arith, p .within)) in
-        let second : getD s (at + 1) 0 ≡ getD (drop at s) 1 0 = sym (getD-drop at s 1 0) in
-        let third : getD s (at + 2) 0 ≡ getD (drop at s) 2 0 = sym (getD-drop at s 2 0) in
-        sym (is-three at (drop at s) (getD s at 0) first (getD s (at + 1) 0) second (getD s (at + 2) 0) third (omega (arith, p .least)) (omega (arith, p .most)) (tripleCode s at) form)
-      where
-        form : Three (tripleCode s at) (getD s at 0) (getD s (at + 1) 0) (getD s (at + 2) 0)
-        form = record {
-          second = p .second;
-          third = p .third;
-          number = refl;
-          long = omega (arith, p .least, p .most);
-          isScalar = record { most = omega (arith, p .most); noSurrogate = λ l m. p .noSurrogate (omega (arith, p .least, p .most)) };
-        }
-
-    pub triple-here : Here (whiteSpace (tripleCode s at)) s at (tripleCode s at) (at + 3)
-    triple-here = char-here s at (tripleCode s at) (at + 3) triple-char
 
   module _ (l : Letter s at) where
     pub letter-least : 0xC0 ≤ pairCode s at

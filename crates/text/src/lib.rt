@@ -45,26 +45,25 @@ pub fn decode_at(s: &[u8], at: usize) -> Char
     if a < 0xC2 {
         return Char::Damaged;
     }
-    let rest = &s[at..];
     if a < 0xE0 {
-        return two(rest, at);
+        return two(s, at);
     }
-    if a < 0xF0 {
-        return three(rest, at);
-    }
-    four(rest, at)
+    long_at(s, at)
 }
 
-// The longer forms, at the front of what is left of a text; `at` is the place of that front. A byte that continues a character
-// is 10xxxxxx: b / 64 is 2, and b % 64 has its free bits.
+// The longer forms. A byte that continues a character is 10xxxxxx: b / 64 is 2, and b % 64 has its free bits.
 
 // 110xxxxx 10xxxxxx
-fn two(t: &[u8], at: usize) -> Char
-    requires { ⌜ (at < 2 ^ 63) × (0xC2 ≤ getD (now t) 0 0) × (getD (now t) 0 0 < 0xE0) ⌝ }
-    ensures { λ r. ⌜ r ≡ readAs at (decode (now (t .entry))) ⌝ }
+fn two(s: &[u8], at: usize) -> Char
+    requires { ⌜ (at < length (now s)) × (0xC2 ≤ getD (now s) at 0) × (getD (now s) at 0 < 0xE0) ⌝ }
+    ensures { λ r. ⌜ r ≡ readAs at (decode (drop at (now (s .entry)))) ⌝ }
 {
-    let a = octet(t, 0);
-    let b = octet(t, 1);
+    let last = at + 1;
+    if s.len() <= last {
+        return Char::Damaged;
+    }
+    let a = wide(s[at]);
+    let b = wide(s[last]);
     if b / 64 != 2 {
         return Char::Damaged;
     }
@@ -74,18 +73,39 @@ fn two(t: &[u8], at: usize) -> Char
     }
 }
 
-// 1110xxxx 10xxxxxx 10xxxxxx
-fn three(t: &[u8], at: usize) -> Char
-    requires { ⌜ (at < 2 ^ 63) × (0xE0 ≤ getD (now t) 0 0) × (getD (now t) 0 0 < 0xF0) ⌝ }
-    ensures { λ r. ⌜ r ≡ readAs at (decode (now (t .entry))) ⌝ }
+// The character at a place where a byte from 0xE0 on stands: of three bytes, or of four.
+pub fn long_at(s: &[u8], at: usize) -> Char
+    requires { ⌜ (at < length (now s)) × (0xE0 ≤ getD (now s) at 0) ⌝ }
+    ensures { λ r. ⌜ r ≡ readAs at (decode (drop at (now (s .entry)))) ⌝ }
 {
-    let a = octet(t, 0);
-    let b = octet(t, 1);
-    let c = octet(t, 2);
+    if s[at] < 0xF0 {
+        three(s, at)
+    } else {
+        four(s, at)
+    }
+}
+
+// 1110xxxx 10xxxxxx 10xxxxxx
+fn three(s: &[u8], at: usize) -> Char
+    requires { ⌜ (at < length (now s)) × (0xE0 ≤ getD (now s) at 0) × (getD (now s) at 0 < 0xF0) ⌝ }
+    ensures { λ r. ⌜ r ≡ readAs at (decode (drop at (now (s .entry)))) ⌝ }
+{
+    let next = at + 1;
+    let last = at + 2;
+    if s.len() <= last {
+        return Char::Damaged;
+    }
+    let a = wide(s[at]);
+    let b = wide(s[next]);
+    let c = wide(s[last]);
     if b / 64 != 2 {
         return Char::Damaged;
     }
     if c / 64 != 2 {
+        return Char::Damaged;
+    }
+    // A surrogate, U+D800 to U+DFFF, is no character.
+    if a == 0xED && 0xA0 <= b {
         return Char::Damaged;
     }
     let code = a % 16 * 4096 + b % 64 * 64 + c % 64;
@@ -93,22 +113,24 @@ fn three(t: &[u8], at: usize) -> Char
     if code < 0x800 {
         return Char::Damaged;
     }
-    // A surrogate is no character.
-    if 0xD800 <= code && code <= 0xDFFF {
-        return Char::Damaged;
-    }
     Char::Good { code, next: at + 3 }
 }
 
 // 11110xxx 10xxxxxx 10xxxxxx 10xxxxxx
-fn four(t: &[u8], at: usize) -> Char
-    requires { ⌜ (at < 2 ^ 63) × (0xF0 ≤ getD (now t) 0 0) ⌝ }
-    ensures { λ r. ⌜ r ≡ readAs at (decode (now (t .entry))) ⌝ }
+fn four(s: &[u8], at: usize) -> Char
+    requires { ⌜ (at < length (now s)) × (0xF0 ≤ getD (now s) at 0) ⌝ }
+    ensures { λ r. ⌜ r ≡ readAs at (decode (drop at (now (s .entry)))) ⌝ }
 {
-    let a = octet(t, 0);
-    let b = octet(t, 1);
-    let c = octet(t, 2);
-    let d = octet(t, 3);
+    let next = at + 1;
+    let third = at + 2;
+    let last = at + 3;
+    if s.len() <= last {
+        return Char::Damaged;
+    }
+    let a = wide(s[at]);
+    let b = wide(s[next]);
+    let c = wide(s[third]);
+    let d = wide(s[last]);
     // No character begins with more.
     if 0xF4 < a {
         return Char::Damaged;
@@ -131,13 +153,6 @@ fn four(t: &[u8], at: usize) -> Char
         return Char::Damaged;
     }
     Char::Good { code, next: at + 4 }
-}
-
-// The byte at a place; past the end 0, which continues no character.
-fn octet(t: &[u8], at: usize) -> u32
-    ensures { λ r. ⌜ r ≡ getD (now (t .entry)) at 0 ⌝ }
-{
-    if at < t.len() { wide(t[at]) } else { 0 }
 }
 
 // A cast that needs no proof where it is used.

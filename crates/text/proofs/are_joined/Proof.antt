@@ -37,10 +37,13 @@ loop-less c = omega (arith, c .before .loop-test .taken)
 
 loop-again : tie.Need-loop-again Inv-loop μ-loop
 loop-again c =
-    let l = c .before .before .loop in
-    (omega (arith, l .inv .0), omega (arith, c .before .loop-test .taken), λ e j.
-      let t = and-eq-true-iff (l .all) (c .joins-at .result) .0 e in
-      l .inv .2 (t .0) (joined-more _ (l .i) (l .inv .0) (c .before .loop-test .taken) (sym (c .joins-at .ensures) ∙ t .1) j))
+    let l = c .before .before .loop in (
+      omega (arith, l .inv .0),
+      omega (arith, c .before .loop-test .taken),
+      λ e j.
+          let t = and-eq-true-iff (l .all) (c .joins-at .result) .0 e in
+          l .inv .2 (t .0) (joined-more _ (l .i) (l .inv .0) (c .before .loop-test .taken) (sym (c .joins-at .ensures) ∙ t .1) j),
+    )
 
 end-joined-requires : tie.Need-end-joined-requires Inv-loop μ-loop
 end-joined-requires c κs = let i = c .before .loop .inv in omega (arith, i .0, i .1)

@@ -1,8 +1,8 @@
 -- `text::decode_at` meets its contract: the lead octet says which form is to be tried.
+use borrow.Author.Needs.{needs}
 use denote.Ref.{now}
 use native.Mathlib.Omega.{arith}
-use Rattle.text.proofs.Forms.{stray, rest-is, past, lead, lead-rest, ascii-at}
-use borrow.Author.Needs.{needs}
+use Rattle.text.proofs.Forms.{stray, past, lead, ascii-at}
 use Rattle.text.proofs.decode_at.Statement.{statement}
 use Rattle.text.proofs.decode_at.Tie as tie
 
@@ -15,8 +15,8 @@ shared-slice-read-a c = search needs
 wide-requires : tie.Need-wide-requires
 wide-requires c κs = search needs
 
-add-t10 : tie.Need-add-t10
-add-t10 c = search needs
+add-t9 : tie.Need-add-t9
+add-t9 c = search needs
 
 returns-2 : tie.Need-returns-2
 returns-2 c = rw (c .wide .ensures) (ascii-at (now (c .before .before .before .before .before .args .s)) _ (c .before .before .before .if1 .left) (omega arith))
@@ -24,32 +24,17 @@ returns-2 c = rw (c .wide .ensures) (ascii-at (now (c .before .before .before .b
 returns-3 : tie.Need-returns-3
 returns-3 c = stray _ _ _ (lead (now (c .before .before .before .before .before .args .s)) (c .before .before .before .before .before .args .at) (c .before .before .before .if1 .left)) (omega arith) (omega arith)
 
-sub-rest : tie.Need-sub-rest
-sub-rest c = search needs
-
-part-rest-start : tie.Need-part-rest-start
-part-rest-start c = search needs
-
-part-rest-end : tie.Need-part-rest-end
-part-rest-end c = search needs
-
 two-requires : tie.Need-two-requires
-two-requires c κs = let i = c .before .before .before .before .before .before .before .args in omega (arith, lead-rest (now (i .s)) (i .at) (c .before .before .before .before .before .if1 .left))
+two-requires c κs = search needs
 
 returns-4 : tie.Need-returns-4
-returns-4 c = rw (rest-is (now (c .before .before .before .before .before .before .before .before .args .s)) (c .before .before .before .before .before .before .before .before .args .at)) at (c .two .ensures)
+returns-4 c = search needs
 
-three-requires : tie.Need-three-requires
-three-requires c κs = let i = c .before .before .before .before .before .before .before .before .args in omega (arith, lead-rest (now (i .s)) (i .at) (c .before .before .before .before .before .before .if1 .left))
+long-at-requires : tie.Need-long-at-requires
+long-at-requires c κs = search needs
 
 returns-5 : tie.Need-returns-5
-returns-5 c = rw (rest-is (now (c .before .before .before .before .before .before .before .before .before .args .s)) (c .before .before .before .before .before .before .before .before .before .args .at)) at (c .three .ensures)
-
-four-requires : tie.Need-four-requires
-four-requires c κs = let i = c .before .before .before .before .before .before .before .before .args in omega (arith, lead-rest (now (i .s)) (i .at) (c .before .before .before .before .before .before .if1 .left))
-
-returns-6 : tie.Need-returns-6
-returns-6 c = rw (rest-is (now (c .before .before .before .before .before .before .before .before .before .args .s)) (c .before .before .before .before .before .before .before .before .before .args .at)) at (c .four .ensures)
+returns-5 c = search needs
 
 pub decode-at-spec : {M : Type 1} → statement M
 decode-at-spec =
@@ -58,15 +43,10 @@ decode-at-spec =
     returns
     shared-slice-read-a
     wide-requires
-    add-t10
+    add-t9
     returns-2
     returns-3
-    sub-rest
-    part-rest-start
-    part-rest-end
     two-requires
     returns-4
-    three-requires
-    returns-5
-    four-requires
-    returns-6)
+    long-at-requires
+    returns-5)

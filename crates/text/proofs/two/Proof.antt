@@ -1,32 +1,66 @@
--- `text::two` meets its contract: its test is one that a character of two octets passes.
+-- `text::two` meets its contract: each of its tests is one that a character of two octets passes.
 use borrow.Author.Needs.{needs}
 use denote.Ref.{now}
+use mathlib.Core.Path.{_≡_, refl, sym}
+use Prim.Native.Nat.{ℕ, _+_}
 use native.Mathlib.Omega.{arith}
-use Rattle.text.proofs.Forms.{no-two, is-two}
+use lib.ListN.{drop, getD}
+use Rattle.text.specs.Rfc3629.{decode}
+use Rattle.text.specs.Contracts.Places.{readAs}
+use Rattle.text.specs.declared.Char.the-variants.{Damaged}
+use Rattle.text.proofs.Forms.{Two, cut, no-two-at, is-two-at}
 use Rattle.text.proofs.two.Statement.{statement}
 use Rattle.text.proofs.two.Tie as tie
 
-octet-requires : tie.Need-octet-requires
-octet-requires c κs = search needs
-
-octet-requires-2 : tie.Need-octet-requires-2
-octet-requires-2 c κs = search needs
+add-last : tie.Need-add-last
+add-last c = search needs
 
 returns : tie.Need-returns
-returns c = no-two _ (now (c .before .before .before .before .args .t)) _ (c .before .before .octet .ensures) _ (c .before .octet2 .ensures) (omega arith) (omega arith) (λ k t. omega arith)
+returns c =
+    let o = c .before .before in
+    let s = now (o .args .s) in
+    let z : getD s (o .args .at + 1) 0 ≡ 0 = cut s (o .args .at + 1) (c .if1 .taken) in
+    no-two-at s (o .args .at) (o .pre .0) _ _ refl refl (o .pre .1) (o .pre .2) (λ k t. omega (arith, t .second))
 
-mul-t7 : tie.Need-mul-t7
-mul-t7 c = search needs
+shared-slice-read-wide : tie.Need-shared-slice-read-wide
+shared-slice-read-wide c = search needs
 
-add-t9 : tie.Need-add-t9
-add-t9 c = search needs
+wide-requires : tie.Need-wide-requires
+wide-requires c κs = search needs
 
-add-t10 : tie.Need-add-t10
-add-t10 c = search needs
+shared-slice-read-wide-2 : tie.Need-shared-slice-read-wide-2
+shared-slice-read-wide-2 c = search needs
+
+wide-requires-2 : tie.Need-wide-requires-2
+wide-requires-2 c κs = search needs
 
 returns-2 : tie.Need-returns-2
-returns-2 c = is-two _ (now (c .before .before .before .before .args .t)) _ (c .before .before .octet .ensures) _ (c .before .octet2 .ensures) (omega arith) (omega arith) _ (omega arith)
+returns-2 c = no-two-at (now (c .before .before .before .before .before .before .before .args .s)) _ (c .before .before .before .before .before .before .before .pre .0) _ _ (c .before .before .before .wide .ensures) (c .before .wide2 .ensures) (omega (arith, c .before .before .before .wide .ensures, c .before .before .before .before .before .before .before .pre)) (omega (arith, c .before .before .before .wide .ensures, c .before .before .before .before .before .before .before .pre)) (λ k t. omega (arith, t .second))
+
+mul-t12 : tie.Need-mul-t12
+mul-t12 c = search needs
+
+add-t14 : tie.Need-add-t14
+add-t14 c = search needs
+
+add-t6 : tie.Need-add-t6
+add-t6 c = search needs
+
+returns-3 : tie.Need-returns-3
+returns-3 c = is-two-at (now (c .before .before .before .before .before .before .before .args .s)) _ (c .before .before .before .before .before .before .before .pre .0) _ _ (c .before .before .before .wide .ensures) (c .before .wide2 .ensures) (omega (arith, c .before .before .before .wide .ensures, c .before .before .before .before .before .before .before .pre)) (omega (arith, c .before .before .before .wide .ensures, c .before .before .before .before .before .before .before .pre)) _ (record { second = omega arith; number = refl })
 
 pub two-spec : {M : Type 1} → statement M
 two-spec =
-    tie.close (tie.spec octet-requires octet-requires-2 returns mul-t7 add-t9 add-t10 returns-2)
+    tie.close
+    (tie.spec
+    add-last
+    returns
+    shared-slice-read-wide
+    wide-requires
+    shared-slice-read-wide-2
+    wide-requires-2
+    returns-2
+    mul-t12
+    add-t14
+    add-t6
+    returns-3)

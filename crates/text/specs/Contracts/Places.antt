@@ -36,18 +36,6 @@ pub record Pair (s : List ℕ) (at : ℕ) : Type 0 where
   pub most : getD s at 0 ≤ 0xDF
   pub second : getD s (at + 1) 0 / 64 ≡ 2
 
--- a character of three bytes stands at a place, U+1000 to U+CFFF or U+E000 to U+FFFF
-abbrev pub tripleCode : List ℕ → ℕ → ℕ
-tripleCode s at = getD s at 0 % 16 * 4096 + getD s (at + 1) 0 % 64 * 64 + getD s (at + 2) 0 % 64
-
-pub record Triple (s : List ℕ) (at : ℕ) : Type 0 where
-  pub within : at + 2 < length s
-  pub least : 0xE1 ≤ getD s at 0
-  pub most : getD s at 0 ≤ 0xEF
-  pub noSurrogate : getD s at 0 ≡ 0xED → ⊥
-  pub second : getD s (at + 1) 0 / 64 ≡ 2
-  pub third : getD s (at + 2) 0 / 64 ≡ 2
-
 -- a letter of two bytes stands at a place, U+00C0 to U+02FF or U+0380 to U+047F: each takes one column, and none is blank; those between
 -- begin with CC or CD
 unfoldable pub letterAt : List ℕ → ℕ → Bool
