@@ -3,5 +3,7 @@ pub mod Laws
 mod Plain
 mod Arms
 mod Agree
+mod Nearby
+pub mod Inks
 mod Halves
 mod Planes

@@ -1,3 +1,4 @@
 -- What the contracts of the code cite: no part of what must be believed of the call.
 pub mod Forms
 pub mod Packed
+pub mod Near

@@ -4,9 +4,10 @@ ghost use Prim.Native.Nat.{_≤_, _<_};
 ghost use Rattle.widths.specs.Table.{table};
 ghost use Rattle.widths.specs.Widths.{widthOf};
 ghost use Rattle.widths.specs.WhiteSpace.{whiteSpace};
-ghost use Rattle.widths.specs.Contracts.Forms.{flat};
+ghost use Rattle.widths.specs.Contracts.Forms.{flat, inkWidth, nearRow};
 use table::TABLE;
 
+mod near;
 mod table;
 mod words;
 
@@ -114,6 +115,60 @@ fn wide(x: u32) -> usize
     ensures { λ r. ⌜ r ≡ x ⌝ }
 {
     x as usize
+}
+
+// How many columns a character takes that is no white space, and 3 for one that is: a single look for both. The scripts of most notes are
+// at hand.
+pub fn ink_width(c: u32) -> usize
+    ensures { λ r. ⌜ r ≡ inkWidth c ⌝ }
+{
+    let row = row_of(c);
+    if row == 96 {
+        return far_width(c);
+    }
+    near_width(row, c)
+}
+
+// The row of `near` that a character stands in, of 256 to a row; 96 if it stands in none.
+fn row_of(c: u32) -> u32
+    ensures { λ r. ⌜ r ≡ nearRow c ⌝ }
+{
+    // All before the ideographs.
+    if c < 0x4000 {
+        return c / 256;
+    }
+    // Variation selectors and fullwidth forms.
+    if c / 4096 == 0xF {
+        return 64 + c / 256 % 16;
+    }
+    // Emoji.
+    if c / 4096 == 0x1F {
+        return 80 + c / 256 % 16;
+    }
+    96
+}
+
+// By two levels of words.
+fn near_width(row: u32, c: u32) -> usize
+    requires { ⌜ (row ≡ nearRow c) × (row ≡ 96 → ⊥) ⌝ }
+    ensures { λ r. ⌜ r ≡ inkWidth c ⌝ }
+{
+    let l = near::row(row, c / 32 % 8);
+    near::leaf(l, c % 32)
+}
+
+// Behind U+3000 nothing is white space. Ideographs and Hangul need no table.
+fn far_width(c: u32) -> usize
+    requires { ⌜ 0x4000 ≤ c ⌝ }
+    ensures { λ r. ⌜ r ≡ inkWidth c ⌝ }
+{
+    if (0x4E00 <= c) & (c < 0xA000) {
+        return 2;
+    }
+    if (0xAC00 <= c) & (c <= 0xD7A3) {
+        return 2;
+    }
+    width(c)
 }
 
 // Whether a character is white space.
