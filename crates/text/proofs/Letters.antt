@@ -27,7 +27,7 @@ pub record Letter (s : List ℕ) (at : ℕ) : Type 0 where
   pub second : getD s (at + 1) 0 / 64 ≡ 2
 
 -- from U+00C0 up to U+167F there is no white space
-ink-letter : (c : ℕ) → 0xC0 ≤ c → c < 0x1680 → whiteSpace c ≡ false
+pub ink-letter : (c : ℕ) → 0xC0 ≤ c → c < 0x1680 → whiteSpace c ≡ false
 unfolding whiteSpace
 ink-letter c h k =
     rw (

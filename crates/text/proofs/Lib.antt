@@ -3,6 +3,7 @@ pub mod Forms
 pub mod Places
 pub mod Glyphs
 pub mod Letters
+pub mod Leads
 pub mod Glue
 pub mod Damage
 pub mod Joining

@@ -29,7 +29,7 @@ ink-not-blank c n e h = pick (whiteSpace c) refl e
     pick false x q = (x, q)
 
 -- behind U+3000 nothing is white space
-ink-behind : (c : ℕ) → 0x3000 < c → whiteSpace c ≡ false
+pub ink-behind : (c : ℕ) → 0x3000 < c → whiteSpace c ≡ false
 unfolding whiteSpace
 ink-behind c h =
     rw (

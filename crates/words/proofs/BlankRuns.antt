@@ -27,9 +27,8 @@ use Rattle.records.specs.Contracts.Table.{beforeNumber}
 use Rattle.records.specs.declared.Before.{Before}
 use Rattle.records.specs.declared.Before.the-variants.{Absent, Count}
 use Rattle.words.specs.Words.{Gap, gapTab, gapFrom, gapOf}
-use Rattle.words.specs.Contracts.Scan.{gapIn, gapBehind, noBlanks, OverBlanks, OneSpace}
+use Rattle.words.specs.Contracts.Scan.{gapIn, gapBehind, noBlanks, OverBlanks, InkBegins, OneSpace}
 use Rattle.words.specs.declared.Blanks.{Blanks}
-use Rattle.words.proofs.PlainRuns.{plain-here}
 
 -- ---- the counts
 
@@ -108,6 +107,9 @@ module _ (glue : Bool) (s : List ℕ) (at : ℕ) where
       let f = glyphs-first glue s at h in
       record { none = rw f (while-end isBlank _ _ b); rest = ap (behind isBlank) f ∙ behind-end isBlank _ _ b ∙ sym f ∙ sym (ink-begins glue s at (ink-other s at h b)) }
 
+  pub no-blank-begins : InkBegins s at → NoBlank glue s at
+  no-blank-begins b = no-blank-first (b .within) (b .ink)
+
   -- from an answer of glyph_at that is no blank
   pub no-blank : (r : Seen) → r ≡ seenAs at (glyph (drop at s)) → OneOf (0 ∷ 2 ∷ []) (tagOf the-type r) → NoBlank glue s at
   no-blank r e h = pick (ltb at (length s)) refl
@@ -148,17 +150,16 @@ module _ {glue : Bool} {tab : ℕ} {s : List ℕ} {at : ℕ} where
     after = omega (arith, i .after, i .within);
   }
 
--- one space, and a plain character behind it
+-- one space, and no blank behind it
 space-here : (s : List ℕ) (at : ℕ) → OneSpace s at → Here true s at 32 (at + 1)
 unfolding whiteSpace
-space-here s at o = rw (o .space) at (ascii-here s at (omega (arith, o .within)) (omega (arith, o .space)))
+space-here s at o = rw (o .space) at (ascii-here s at (omega (arith, o .behind .within)) (omega (arith, o .space)))
 
 pub blanks-one : {glue : Bool} {tab : ℕ} {s : List ℕ} {at : ℕ} → OneSpace s at → tab ≤ 100 → OverBlanks glue tab false s at (record { end = at + 1; before = Absent; after = 1 })
 blanks-one {glue} {tab} {s} {at} o few =
-    let p = plain-here s (at + 1) (at + 1) refl (o .within) (o .least) (o .most) in
     let left : BlanksLeft glue tab s at (record { end = at + 1; before = Absent; after = 1 }) =
-    blanks-more (record { end = at; before = Absent; after = 0 }) (record { end = at + 1; before = Absent; after = 1 }) (blanks-first (omega (arith, o .within))) few (space-here s at o) refl refl in
-    blanks-done (record { end = at + 1; before = Absent; after = 1 }) left (no-blank-first glue s (at + 1) (o .within) (p .isBlank))
+    blanks-more (record { end = at; before = Absent; after = 0 }) (record { end = at + 1; before = Absent; after = 1 }) (blanks-first (omega (arith, o .behind .within))) few (space-here s at o) refl refl in
+    blanks-done (record { end = at + 1; before = Absent; after = 1 }) left (no-blank-begins glue s (at + 1) (o .behind))
 
 -- no blank stands before the first word of a line
 pub blanks-none : {glue : Bool} {tab : ℕ} {s : List ℕ} {at : ℕ} → at ≤ length s → while isBlank (inkGlyphs glue (drop at s)) ≡ [] → OverBlanks glue tab true s at (noBlanks at)

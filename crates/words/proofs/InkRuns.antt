@@ -12,14 +12,17 @@ use Rattle.lists.specs.Theorems.All.{All}
 use Rattle.lists.proofs.Runs.{while-more, while-end, behind-more, behind-end}
 use Rattle.lists.proofs.Parts.{while-nil}
 use Rattle.widths.specs.Widths.{widthOf}
+use Rattle.widths.specs.WhiteSpace.{whiteSpace}
+use Rattle.widths.specs.Contracts.Forms.{inkWidth}
 use Rattle.widths.proofs.Laws.{at-most-two, one-before-300}
+use Rattle.widths.proofs.Inks.{ink-blank, ink-not-blank}
 use Rattle.text.specs.Characters.{Glyph, glyph, characters, noBreak, ordinary, inkAhead, glyphs, extent}
 use Rattle.text.specs.Contracts.Places.{inkGlyphs, gluedExtent}
 use Rattle.text.proofs.Glyphs.{Here, DamagedHere}
 use Rattle.text.proofs.Letters.{Letter, letter-least, letter-width, letter-here}
 use Rattle.text.proofs.Extents.{Read, characters-read}
 use Rattle.text.proofs.NoBreaks.{no-break-width, run-bytes}
-use Rattle.text.proofs.Edges.{glyphs-past, blank-on, damaged-on, ink-off, ink-edge, ink-begins, run-on, ink-past as ink-nil, ink-on as ink-first-on}
+use Rattle.text.proofs.Edges.{glyphs-past, blank-on, damaged-on, ink-off, ink-edge, ink-begins, run-on, ink-past as ink-nil, ink-on as ink-first-on, ink-stop as other-stop}
 use Rattle.words.specs.Words.{isInk, isPunct, widthSum, punctAtEnd}
 use Rattle.words.specs.Contracts.Scan.{punctCode, gluedBytes, OverInk}
 use Rattle.words.specs.declared.Ink.{Ink}
@@ -126,6 +129,12 @@ module _ {glue : Bool} {s : List ℕ} {at : ℕ} where
   pub ink-letter : (w : Ink) → InkLeft glue s at w → Letter s (w .end) → InkLeft glue s at (record { end = w .end + 2; width = w .width + 1; punct = false })
   ink-letter w i l = ink-more w (record { end = w .end + 2; width = w .width + 1; punct = false }) i (letter-here s (w .end) l) {n = 1} (letter-width s (w .end) l) refl (no-punct _ (letter-least s (w .end) l))
 
+  -- a character from U+0800 on, from the answers of long_at and ink_width
+  pub ink-long : (w r : Ink) {code n : ℕ} → InkLeft glue s at w → Here (whiteSpace code) s (w .end) code (r .end) → 0x800 ≤ code → n ≡ inkWidth code → (n ≡ 3 → ⊥) → r .width ≡ w .width + n → r .punct ≡ false → InkLeft glue s at r
+  ink-long w r {code} {n} i h least e ink width punct =
+      let k = ink-not-blank code n e ink in
+      ink-more w r i (rw (k .0) at h) {n = n} (k .1) width (punct ∙ no-punct code (omega arith))
+
   pub ink-damaged : (w : Ink) → InkLeft glue s at w → w .end < length s → DamagedHere s (w .end) → InkLeft glue s at (record { end = w .end + 1; width = w .width + 1; punct = false })
   ink-damaged w i k h =
       ink-on w (record { end = w .end + 1; width = w .width + 1; punct = false }) i (damaged-on glue s (w .end) h) (h .isBlank) (rw (h .hasBytes) (omega arith)) (omega arith) (omega arith) (rw (h .hasWidth)) (rw (h .hasWidth) (omega arith)) (rw (h .hasCode))
@@ -152,6 +161,12 @@ module _ {glue : Bool} {s : List ℕ} {at : ℕ} where
       let t : isInk (glyph (drop (w .end) s)) ≡ false = rw (h .isBlank) in
       let f = e ∙ blank-on glue s (w .end) h in
       ink-end w i (rw f (while-end isInk _ _ t)) (ap (behind isInk) f ∙ behind-end isInk _ _ t ∙ sym (blank-on glue s (w .end) h))
+
+  -- a blank from U+0800 on, which is no U+00A0
+  pub ink-long-stop : (w : Ink) {code next n : ℕ} → InkLeft glue s at w → Here (whiteSpace code) s (w .end) code next → 0x800 ≤ code → n ≡ inkWidth code → n ≡ 3 → OverInk glue s at w
+  ink-long-stop w {code} {next} {n} i h least e blank =
+      let k : Here true s (w .end) code next = rw (ink-blank code n e blank) at h in
+      ink-stop w i k (other-stop glue s (w .end) k (λ z. omega arith))
 
 -- U+00A0 by which a word goes on, one column each
 module _ (s : List ℕ) (w : Ink) (end : ℕ) where

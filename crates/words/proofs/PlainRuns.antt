@@ -7,33 +7,15 @@ use Prim.Native.Nat.{ℕ, zero, suc, _+_, _-_, _≤_, _<_}
 use native.Mathlib.Nat.{eq-or-lt-of-le}
 use native.Mathlib.Omega.{arith}
 use lib.ListN.{length, getD}
-use borrow.Author.Tests.{lt-leb, le-leb, leb-true, ne-eqb, ltb-true, ltb-false}
+use borrow.Author.Tests.{leb-true, ltb-true, ltb-false}
 use lib.Dec.{ltb, leb}
 use Rattle.widths.specs.Widths.{widthOf}
 use Rattle.widths.proofs.Laws.{one-before-300}
-use Rattle.widths.specs.WhiteSpace.{whiteSpace}
 use Rattle.text.proofs.Glyphs.{Here, ascii-here}
+use Rattle.text.proofs.Leads.{plain-ink}
 use Rattle.words.specs.Contracts.Scan.{punctCode, Plain, OverPlain}
 use Rattle.words.specs.declared.Ink.{Ink}
 use Rattle.words.proofs.InkRuns.{InkLeft, ink-more}
-
--- a plain character is no blank
-plain-ink : (c : ℕ) → 33 ≤ c → c < 128 → whiteSpace c ≡ false
-unfolding whiteSpace
-plain-ink c h k =
-    rw (
-      le-leb 9 c (omega arith),
-      lt-leb c 13 (omega arith),
-      ne-eqb c 0x20 (omega arith),
-      ne-eqb c 0x85 (omega arith),
-      ne-eqb c 0xA0 (omega arith),
-      ne-eqb c 0x1680 (omega arith),
-      lt-leb 0x2000 c (omega arith),
-      lt-leb 0x2028 c (omega arith),
-      ne-eqb c 0x202F (omega arith),
-      ne-eqb c 0x205F (omega arith),
-      ne-eqb c 0x3000 (omega arith),
-    )
 
 pub plain-here : (s : List ℕ) (at i : ℕ) → at ≡ i → i < length s → 33 ≤ getD s i 0 → getD s i 0 < 128 → Here false s at (getD s i 0) (i + 1)
 plain-here s at i e h k l = rw (e, ← plain-ink (getD s i 0) k l) (ascii-here s i h (omega arith))
@@ -110,8 +92,6 @@ module _ {glue : Bool} {s : List ℕ} {at : ℕ} where
 
     pub ink-plain : (r : Ink) → OverPlain s w r → InkLeft glue s at r
     ink-plain r o =
-        ⊎-elim
-        (λ (e : w .end ≡ r .end). ink-same left (sym e) (omega (arith, o .width)) (o .none (sym e)))
-        (λ (l : w .end < r .end). let i = ink-run (r .end - 1 - w .end) (r .end - 1) (omega arith) (plain-front (o .run) (omega arith) (omega arith)) in
-        ink-same i (omega arith) (omega (arith, o .width)) (o .last l))
-        (eq-or-lt-of-le (o .run .on))
+        let l = o .on in
+        let i = ink-run (r .end - 1 - w .end) (r .end - 1) (omega arith) (plain-front (o .run) (omega arith) (omega arith)) in
+        ink-same i (omega arith) (omega (arith, o .width)) (o .punct)

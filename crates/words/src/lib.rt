@@ -16,11 +16,12 @@ ghost use Rattle.records.specs.Contracts.Table.{Holds, wordsIn};
 ghost use Rattle.words.specs.Words.{hasTab, runs};
 ghost use Rattle.words.specs.Places.{placesFrom};
 ghost use Rattle.words.specs.Contracts.Places.{wordsAt, placesAt};
-ghost use Rattle.words.specs.Contracts.Scan.{glyphsBehind, gapIn, gapBehind, noBlanks, OverBlanks, punctCode, gluedBytes, OverInk, asNumber, eightAt, Plain, OverPlain, OneSpace, wordAt, mailAt, wordsFrom, NextIs};
+ghost use Rattle.words.specs.Contracts.Scan.{glyphsBehind, gapIn, gapBehind, noBlanks, OverBlanks, punctCode, gluedBytes, OverInk, asNumber, eightAt, Plain, OverPlain, InkBegins, OneSpace, wordAt, mailAt, wordsFrom, NextIs};
 ghost use Rattle.words.specs.Contracts.Split.{Kept, placesIn, WordsFilled, Split};
 use options::Options;
 use records::Before;
 use records::Word;
+use text::Char;
 use text::Glyph;
 
 // How many words a paragraph has, or that there are more than so many.
@@ -263,6 +264,8 @@ fn over_blanks(s: &[u8], at: usize, tab: usize) -> Blanks
         let end = b.end;
         if is_tab(s, end) {
             b = behind_blank(b, 9, end + 1, tab);
+        } else if starts_ink(s, end) {
+            return b;
         } else {
             let Glyph::Blank { code, next } = text::glyph_at(s, end) else {
                 return b;
@@ -282,7 +285,7 @@ fn is_tab(s: &[u8], at: usize) -> bool
     s[at] == 9
 }
 
-// Whether a space stands at a place, and a plain character behind it.
+// Whether a space stands at a place, and no blank behind it.
 fn is_one_space(s: &[u8], at: usize) -> bool
     requires { ⌜ (at ≤ length (now s)) × (length (now s) ≤ 65536) ⌝ }
     ensures { λ r. ⌜ (r ≡ true → OneSpace (now (s .entry)) at) ⌝ }
@@ -294,14 +297,33 @@ fn is_one_space(s: &[u8], at: usize) -> bool
     if s[at] != 32 {
         return false;
     }
-    let b = s[next];
-    if b < 33 {
+    starts_ink(s, next)
+}
+
+// Whether the bytes at a place show that no blank stands there. A blank is below 33, or begins with C2, E1, E2 or E3; behind E3 there is
+// only U+3000, with 80 in the middle.
+fn starts_ink(s: &[u8], at: usize) -> bool
+    requires { ⌜ (at ≤ length (now s)) × (length (now s) ≤ 65536) ⌝ }
+    ensures { λ r. ⌜ (r ≡ true → InkBegins (now (s .entry)) at) ⌝ }
+{
+    if s.len() <= at {
         return false;
     }
-    if 127 < b {
+    let a = s[at];
+    if a < 33 {
         return false;
     }
-    true
+    if a < 0xC2 {
+        return true;
+    }
+    if a == 0xE3 {
+        let next = at + 1;
+        if s.len() <= next {
+            return false;
+        }
+        return s[next] != 0x80;
+    }
+    (a != 0xC2) & (a != 0xE1) & (a != 0xE2)
 }
 
 // Blanks with one more, which ends at next. The first tab parts the counts; a later one goes to the next stop.
@@ -343,30 +365,53 @@ fn over_ink(s: &[u8], at: usize, glue: bool) -> Ink
     };
     loop {
         let from = w.end;
-        if text::is_letter(s, from) {
+        if s.len() <= from {
+            return w;
+        }
+        let a = s[from];
+        if 0xE0 <= a {
+            match text::long_at(s, from) {
+                Char::Good { code, next } => {
+                    let columns = widths::ink_width(code);
+                    // White space, and none of it is U+00A0, which has two bytes.
+                    if columns == 3 {
+                        return w;
+                    }
+                    w = Ink {
+                        end: next,
+                        width: w.width + columns,
+                        punct: false,
+                    };
+                }
+                // A damaged byte is one by itself, and as wide as a character.
+                Char::Damaged => {
+                    w = Ink {
+                        end: from + 1,
+                        width: w.width + 1,
+                        punct: false,
+                    };
+                }
+            }
+        } else if is_plain(s, from) {
+            w = over_plain(s, w);
+        } else if ends_word(a) {
+            return w;
+        } else if text::is_letter(s, from) {
             w = Ink {
                 end: from + 2,
                 width: w.width + 1,
                 punct: false,
             };
         } else {
-            w = over_plain(s, w);
-            let end = w.end;
-            if s.len() <= end {
-                return w;
-            }
-            if ends_word(s[end]) {
-                return w;
-            }
-            match text::glyph_at(s, end) {
+            match text::glyph_at(s, from) {
                 Glyph::Blank { code: _, next: _ } => {
-                    let on = glued_end(s, end, glue);
-                    if on == end {
+                    let on = glued_end(s, from, glue);
+                    if on == from {
                         return w;
                     }
                     w = Ink {
                         end: on,
-                        width: w.width + (on - end) / 2,
+                        width: w.width + (on - from) / 2,
                         punct: false,
                     };
                 }
@@ -377,10 +422,9 @@ fn over_ink(s: &[u8], at: usize, glue: bool) -> Ink
                         punct: is_punct(code),
                     };
                 }
-                // A damaged byte is one by itself, and as wide as a character.
                 Glyph::Damaged => {
                     w = Ink {
-                        end: end + 1,
+                        end: from + 1,
                         width: w.width + 1,
                         punct: false,
                     };
@@ -405,15 +449,12 @@ fn ends_word(b: u8) -> bool
     (b == 32) | (b == 9)
 }
 
-// Ink with the plain characters behind it, which most are: ASCII from `!` on, each a character of one column.
+// Ink with the plain characters behind it, of which there is one: ASCII from `!` on, each a character of one column.
 fn over_plain(s: &[u8], w: Ink) -> Ink
-    requires { ⌜ (w .end ≤ length (now s)) × (w .width ≤ w .end) × (length (now s) ≤ 65536) ⌝ }
+    requires { ⌜ Plain (now s) (w .end) (w .end + 1) × (w .width ≤ w .end) × (length (now s) ≤ 65536) ⌝ }
     ensures { λ r. ⌜ OverPlain (now (s .entry)) w r ⌝ }
 {
     let from = w.end;
-    if !is_plain(s, from) {
-        return w;
-    }
     let end = plain_end(s, from + 1);
     let last = end - 1;
     Ink {

@@ -7,7 +7,7 @@ use lib.ListN.{length}
 use denote.Ref.{now}
 use borrow.Author.Needs.{needs}
 use Rattle.text.proofs.Glyphs.{Here, blank-here}
-use Rattle.words.proofs.BlankRuns.{BlanksLeft, blanks-first, blanks-more, blanks-done, blanks-one, no-blank}
+use Rattle.words.proofs.BlankRuns.{BlanksLeft, blanks-first, blanks-more, blanks-done, blanks-one, no-blank, no-blank-begins}
 use Rattle.words.proofs.UsualBlanks.{tab-here}
 use Rattle.words.proofs.over_blanks.Statement.{statement}
 use Rattle.words.proofs.over_blanks.Tie as tie
@@ -49,27 +49,33 @@ loop-less c = let t = tab (c .before) in omega (arith, t .within, c .behind-blan
 loop-again : tie.Need-loop-again Inv-loop μ-loop
 loop-again c = λ glue. blanks-more _ _ (c .before .before .before .loop .inv glue) (search needs) (tab (c .before)) (c .behind-blank .ensures .0) (c .behind-blank .ensures .1)
 
+starts-ink-requires : tie.Need-starts-ink-requires Inv-loop μ-loop
+starts-ink-requires c κs = let i = c .before .before .loop .inv false in (i .within, search needs)
+
+returns-2 : tie.Need-returns-2 Inv-loop μ-loop
+returns-2 c = λ glue. blanks-done _ (c .before .before .before .before .loop .inv glue) (no-blank-begins _ _ _ (c .before .starts-ink .ensures (c .if3 .taken)))
+
 glyph-at-requires : tie.Need-glyph-at-requires Inv-loop μ-loop
 glyph-at-requires c κs = search needs
 
 enum-known-code : tie.Need-enum-known-code Inv-loop μ-loop
 enum-known-code c = search needs
 
-returns-2 : tie.Need-returns-2 Inv-loop μ-loop
-returns-2 c = λ glue. blanks-done _ (c .before .before .before .before .loop .inv glue) (no-blank _ _ _ _ (c .before .glyph-at .ensures) (c .match .keys2))
+returns-3 : tie.Need-returns-3 Inv-loop μ-loop
+returns-3 c = λ glue. blanks-done _ (c .before .before .before .before .before .before .loop .inv glue) (no-blank _ _ _ _ (c .before .glyph-at .ensures) (c .match .keys2))
 
 behind-blank-requires-2 : tie.Need-behind-blank-requires-2 Inv-loop μ-loop
-behind-blank-requires-2 c κs = let i = c .before .before .before .before .before .before .loop .inv false in omega arith
+behind-blank-requires-2 c κs = let i = c .before .before .before .before .before .before .before .before .loop .inv false in omega arith
 
 -- the blank that the loop's turn reads
-read : (c : tie.After-code Inv-loop μ-loop) → Here true (now (c .before .before .before .before .before .before .before .before .before .args .s)) (c .before .before .before .before .before .loop .b .end) (c .code .given .0 .0) (c .code .given .0 .1 .0)
+read : (c : tie.After-code Inv-loop μ-loop) → Here true (now (c .before .before .before .before .before .before .before .before .before .before .before .args .s)) (c .before .before .before .before .before .before .before .loop .b .end) (c .code .given .0 .0) (c .code .given .0 .1 .0)
 read c = blank-here _ _ _ _ (sym (c .before .before .glyph-at .ensures) ∙ c .code .given .1)
 
 loop-less-2 : tie.Need-loop-less-2 Inv-loop μ-loop
 loop-less-2 c = let h = read (c .before .before) in omega (arith, c .behind-blank2 .ensures .0)
 
 loop-again-2 : tie.Need-loop-again-2 Inv-loop μ-loop
-loop-again-2 c = let h = read (c .before .before) in λ glue. blanks-more _ _ (c .before .before .before .before .before .before .before .loop .inv glue) (search needs) h (c .behind-blank2 .ensures .0) (c .behind-blank2 .ensures .1)
+loop-again-2 c = let h = read (c .before .before) in λ glue. blanks-more _ _ (c .before .before .before .before .before .before .before .before .before .loop .inv glue) (search needs) h (c .behind-blank2 .ensures .0) (c .behind-blank2 .ensures .1)
 
 pub over-blanks-spec : {M : Type 1} → statement M
 over-blanks-spec =
@@ -86,9 +92,11 @@ over-blanks-spec =
     behind-blank-requires
     loop-less
     loop-again
+    starts-ink-requires
+    returns-2
     glyph-at-requires
     enum-known-code
-    returns-2
+    returns-3
     behind-blank-requires-2
     loop-less-2
     loop-again-2)

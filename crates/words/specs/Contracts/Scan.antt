@@ -6,7 +6,7 @@ use Prim.Native.Nat.{ℕ, _+_, _-_, _*_, _≤_, _<_}
 use lib.Dec.{ltb, eqb}
 use lib.ListN.{length, getD, drop}
 use Rattle.lists.specs.Runs.{while, behind}
-use Rattle.text.specs.Characters.{Glyph, glyphs, isBlank, extent}
+use Rattle.text.specs.Characters.{Glyph, glyph, glyphs, isBlank, extent}
 use Rattle.text.specs.Contracts.Places.{inkGlyphs, gluedExtent}
 use Rattle.options.specs.Opts.{Opts}
 use Rattle.records.specs.Word.{Word, meaning}
@@ -79,19 +79,22 @@ pub record Plain (s : List ℕ) (from to : ℕ) : Type 0 where
   pub least : (i : ℕ) → from ≤ i → i < to → 33 ≤ getD s i 0
   pub most : (i : ℕ) → from ≤ i → i < to → getD s i 0 < 128
 
--- a space stands at a place, and a plain character behind it
+-- a character that is no blank, or a damaged byte, stands at a place
+pub record InkBegins (s : List ℕ) (at : ℕ) : Type 0 where
+  pub within : at < length s
+  pub ink : glyph (drop at s) .blank ≡ false
+
+-- a space stands at a place, and no blank behind it
 pub record OneSpace (s : List ℕ) (at : ℕ) : Type 0 where
-  pub within : at + 1 < length s
   pub space : getD s at 0 ≡ 32
-  pub least : 33 ≤ getD s (at + 1) 0
-  pub most : getD s (at + 1) 0 < 128
+  pub behind : InkBegins s (at + 1)
 
 -- r is the ink w with plain characters behind it
 pub record OverPlain (s : List ℕ) (w r : Ink) : Type 0 where
   pub run : Plain s (w .end) (r .end)
+  pub on : w .end < r .end
   pub width : r .width ≡ w .width + (r .end - w .end)
-  pub none : r .end ≡ w .end → r .punct ≡ w .punct
-  pub last : w .end < r .end → r .punct ≡ punctCode (getD s (r .end - 1) 0)
+  pub punct : r .punct ≡ punctCode (getD s (r .end - 1) 0)
 
 -- the record of a word behind blanks that begin at a place; uniform drops them and their counts. Without a tab the after count has every blank
 abbrev pub wordAt : Bool → Bool → Bool → Bool → ℕ → Blanks → Ink → Record
