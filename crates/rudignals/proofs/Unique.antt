@@ -1,8 +1,8 @@
 -- A promise determines its answer: whatever two results keep it are equal, and so is every byte and every mark that was written.
 -- The public functions of all crates, and the law that each stands on:
 --
---   widths        width, is_white_space, leaf, mid, top                                     an equation
---   text          decode_at, char_at, is_blank, width, glyph_at, is_no_break, is_letter,
+--   widths        width, ink_width, is_white_space, leaf, mid, top, row                     an equation
+--   text          decode_at, long_at, glyph_at, glued_end, is_no_break, is_letter,
 --                 first_damage                                                              an equation: `equal-unique`
 --   text          glued_end                                                                 an equation, with a bound: `bounded-unique`
 --   options       read_block                                                                an equation
