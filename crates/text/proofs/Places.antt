@@ -8,7 +8,7 @@ use lib.Seq.{length-take-le}
 use Rattle.text.specs.Rfc3629.{Front, front, nothing, decode}
 use Rattle.widths.specs.WhiteSpace.{whiteSpace}
 use Rattle.text.specs.Characters.{glyphAs, glyph}
-use Rattle.text.specs.Contracts.Places.{readAs, seenAs}
+use Rattle.text.specs.Contracts.Places.{readAs, glyphOf, seenAs}
 use Rattle.text.specs.declared.Char.{Char}
 use Rattle.text.specs.declared.Char.the-variants.{Good, Damaged}
 use Rattle.text.specs.declared.Glyph.{Glyph as Seen}
@@ -16,7 +16,7 @@ use Rattle.text.specs.declared.Glyph.the-variants.{Ink, Blank, Damaged a
 use Rattle.text.proofs.Decoder.{sound}
 
 abbrev pub seenChar : Char → Seen
-seenChar (Good c next) = cond (whiteSpace c) (Blank c next) (Ink c next)
+seenChar (Good c next) = glyphOf c next
 seenChar Damaged = Broken
 
 pub seen-char : (at : ℕ) (xs : List ℕ) → seenChar (readAs at (decode xs)) ≡ seenAs at (glyph xs)

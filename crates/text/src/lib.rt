@@ -5,7 +5,7 @@ ghost use Prim.Native.Nat.{_+_, _-_, _≤_, _<_, _^_};
 ghost use lib.ListN.{length, getD, drop};
 ghost use Rattle.text.specs.Rfc3629.{decode};
 ghost use Rattle.text.specs.Characters.{glyph, characters, inkAhead, damage};
-ghost use Rattle.text.specs.Contracts.Places.{readAs, seenAs, letterAt, Ascii, noBreakAt, gluedExtent, RunOver};
+ghost use Rattle.text.specs.Contracts.Places.{readAs, glyphOf, seenAs, letterAt, Ascii, noBreakAt, gluedExtent, RunOver};
 ghost use Rattle.text.specs.Contracts.Joins.{joins, joinsAt, Joined, JoinedFrom};
 
 // A place, or none.
@@ -166,9 +166,24 @@ fn wide(b: u8) -> u32
 pub fn glyph_at(s: &[u8], at: usize) -> Glyph
     ensures { λ r. ⌜ r ≡ seenAs at (glyph (drop at (now (s .entry)))) ⌝ }
 {
+    if s.len() <= at {
+        return Glyph::Damaged;
+    }
+    // Most blanks are below 0x80, and need not be decoded.
+    let a = s[at];
+    if a < 0x80 {
+        return glyph_of(wide(a), at + 1);
+    }
     let Char::Good { code, next } = decode_at(s, at) else {
         return Glyph::Damaged;
     };
+    glyph_of(code, next)
+}
+
+// A character, by its number and the place behind it.
+fn glyph_of(code: u32, next: usize) -> Glyph
+    ensures { λ r. ⌜ r ≡ glyphOf code next ⌝ }
+{
     if widths::is_white_space(code) {
         Glyph::Blank { code, next }
     } else {

@@ -6,6 +6,7 @@ use Prim.Native.Nat.{ℕ, _+_, _*_, _/_, _%_, _≤_, _<_}
 use lib.Dec.{ltb, leb, eqb}
 use lib.ListN.{length, getD, drop}
 use Rattle.lists.specs.Runs.{while}
+use Rattle.widths.specs.WhiteSpace.{whiteSpace}
 use Rattle.text.specs.Rfc3629.{Front, front, nothing}
 use Rattle.text.specs.Characters.{Glyph, characters, noBreak, inkAhead, glued, extent}
 use Rattle.text.specs.declared.Char.{Char}
@@ -16,6 +17,10 @@ use Rattle.text.specs.declared.Glyph.the-variants.{Ink, Blank, Damaged a
 abbrev pub readAs : ℕ → Front → Char
 readAs at (front c n) = Good c (at + n)
 readAs at nothing = Damaged
+
+-- a character, by its number and the place behind it
+abbrev pub glyphOf : ℕ → ℕ → Seen
+glyphOf code next = cond (whiteSpace code) (Blank code next) (Ink code next)
 
 unfoldable pub seenAs : ℕ → Glyph → Seen
 seenAs at g = let next = at + length (g .bytes) in cond (g .damaged) Broken (cond (g .blank) (Blank (g .code) next) (Ink (g .code) next))
