@@ -147,3 +147,14 @@ void put_character(FILE *out, uint32_t character) {
     }
     putc((int)(0x80 | (character & 0x3F)), out);
 }
+
+void put_escaped(FILE *out, uint32_t character) {
+    switch (character) {
+    case '<': fputs("&lt;", out); break;
+    case '>': fputs("&gt;", out); break;
+    case '&': fputs("&amp;", out); break;
+    case '"': fputs("&quot;", out); break;
+    case '\'': fputs("&#39;", out); break;
+    default: put_character(out, character);
+    }
+}

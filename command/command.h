@@ -42,13 +42,16 @@ int shown(void);
 #define MOST_PART RUDIGNALS_MOST_NOTES
 #endif
 
+struct text;
+
 /* A file's bytes from some place on: a blank line that begins within the first part is seen whole, unless it is longer than any part. */
 struct window {
     int file;
     bool opened; /* by us: standard input is not, and stays open */
     uint8_t bytes[2 * MOST_PART];
     size_t length;
-    bool ended; /* no byte follows */
+    bool ended;        /* no byte follows */
+    struct text *kept; /* what was read so far is kept there, if it is not null */
 };
 
 /* Opens a file, `-' being standard input. These answer false, with errno, if that fails. */
@@ -96,12 +99,15 @@ extern const char OPTIONS_HELP[];
 
 /* How long the first part of the bytes is: as long as may be. 0 if the bytes have no place for a cut within MOST_PART. */
 size_t first_part(const uint8_t *bytes, size_t length, bool ended);
+/* Is the line, with its line feed, one before and behind which notes may be cut? */
+bool parts_notes(const uint8_t *line, size_t length);
 
 /* ---- digest.c: a file of any length, formatted in memory */
 
-/* Why a file is refused: the library's code, and the place in the whole file, counted from 1. */
+/* Why a file is refused: the library's code, and the place in the whole file, in bytes from 0, in lines and columns from 1. */
 struct refusal {
     uint32_t code; /* RUDIGNALS_DONE: it is not */
+    size_t place;
     unsigned long line;
     unsigned long column;
     uint8_t byte; /* the byte there */
@@ -158,8 +164,9 @@ struct cell cell_at(const struct panel *panel, int row, int column);
 uint32_t caption_at(const struct panel *panel, int column);
 /* How many columns of the caption are not blank behind it. */
 int caption_length(const struct panel *panel);
-/* Writes a character in UTF-8. */
+/* Writes a character in UTF-8; and as text of a picture or a page, escaped. */
 void put_character(FILE *out, uint32_t character);
+void put_escaped(FILE *out, uint32_t character);
 
 /* ---- frame.c: the panel as text */
 
@@ -194,5 +201,13 @@ int draw_once(const struct show *show, bool whole_screen, bool *written);
 bool draw_end(const struct show *show);
 /* Draws again whenever the file has changed, until a signal ends it. */
 int follow(const struct show *show);
+
+/* ---- reasons.c: why a line ends where it does, in words */
+
+/* The library's reason for a line's end. It is the caller's to free; null if there is no memory. */
+char *reason_in_words(const uint64_t reason[6], const struct options *options);
+/* A number with a comma before each three digits: the end of the room, from where it begins. */
+enum { GROUPED = 27 };
+char *in_thousands(uint64_t number, char room[GROUPED]);
 
 #endif

@@ -26,6 +26,8 @@ static size_t line_end(const uint8_t *bytes, size_t length, size_t at) {
     return feed == NULL ? 0 : (size_t)(feed - bytes) + 1;
 }
 
+bool parts_notes(const uint8_t *line, size_t length) { return length > 0 && line[length - 1] == '\n' && all_blank(line, line + length); }
+
 static size_t last_cut(const uint8_t *bytes, size_t length) {
     size_t cut = 0, at = 0, end;
     while (at <= MOST_PART && (end = line_end(bytes, length, at)) != 0) {

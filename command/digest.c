@@ -7,6 +7,7 @@
 struct part {
     const uint8_t *bytes;
     size_t length;
+    size_t bytes_before;
     unsigned long lines_before;
 };
 
@@ -32,6 +33,7 @@ static void refuse(struct refusal *refusal, const struct part *part, uint32_t co
     if (refusal->code != RUDIGNALS_DONE && refusal->code <= code)
         return;
     refusal->code = code;
+    refusal->place = part->bytes_before + place;
     refusal->line = part->lines_before + feeds(part->bytes, place) + 1;
     refusal->column = column_of(part->bytes, place);
     refusal->byte = place < part->length ? part->bytes[place] : 0;
@@ -92,7 +94,7 @@ static void add_part(struct digest *digest, const struct options *options, const
 }
 
 bool make_digest(struct digest *digest, const struct options *options, struct window *window) {
-    struct part part = {window->bytes, 0, 0};
+    struct part part = {window->bytes, 0, 0, 0};
     digest->length = 0;
     digest->dashes = 0;
     digest->refusal.code = RUDIGNALS_DONE;
@@ -105,6 +107,7 @@ bool make_digest(struct digest *digest, const struct options *options, struct wi
             return true; /* no lower code can follow */
         }
         add_part(digest, options, &part);
+        part.bytes_before += part.length;
         part.lines_before += feeds(part.bytes, part.length);
         drop_bytes(window, part.length);
     } while (!window->ended || window->length > 0);

@@ -33,23 +33,9 @@ enum told { TOLD, NOT_TOLD, NOT_WRITTEN };
 
 /* One line's reason, in words. */
 static void say_reason(const struct options *options, uint64_t line, const uint64_t reason[6]) {
-    printf("line %" PRIu64, line);
-    switch (reason[0]) {
-    case RUDIGNALS_PLAIN_LINE: fputs(" is a plain line: it ends as it does in the notes\n", stdout); return;
-    case RUDIGNALS_BLANK_LINE: fputs(" is a blank line of the notes\n", stdout); return;
-    case RUDIGNALS_NOT_FIT:
-        printf(" ends here because the next word, %" PRIu64 " columns, would reach column %" PRIu64 " of %" PRIu64 "\n", reason[4],
-               reason[1] + reason[2] + reason[3] + reason[4], width_of(options));
-        return;
-    case RUDIGNALS_CHOSEN:
-        printf(" ends here because this makes the paragraph most even: it reaches column %" PRIu64 ", where %" PRIu64 " is aimed at, and the break costs %" PRIu64
-               ", that is (1 + %" PRIu64 " for the length + %" PRIu64 " for the last word + %" PRIu64 " for its unlikeness to the line before) squared\n",
-               reason[1], goal_of(options), reason[5], reason[2], reason[3], reason[4]);
-        return;
-    case RUDIGNALS_FORCED_BEFORE: fputs(" ends here because the next word fits on no line that leads to it: the break is forced before it\n", stdout); return;
-    case RUDIGNALS_FORCED_AFTER: fputs(" ends here because its last word fits on no line that leads to it: the break is forced behind it, which is the lesser evil\n", stdout); return;
-    default: fputs(" ends here because its paragraph ends\n", stdout); return;
-    }
+    char *told = reason_in_words(reason, options);
+    printf("line %" PRIu64 ": %s\n", line, told == NULL ? "no memory for the words" : told);
+    free(told);
 }
 
 /* The same in short, for a table. The column is as wide as seven tab stops, so that a line's own tabs stand right beside it. */

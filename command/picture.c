@@ -30,17 +30,6 @@ static const char STYLE[] =
 static const char *const CLASS[KINDS] = {[PLAIN] = "", [OVER] = " class=\"over\"", [DAMAGED] = " class=\"damaged\"", [BAR] = " class=\"bar\""};
 static const char *const GROUND[KINDS] = {[PLAIN] = NULL, [OVER] = "#ffb000", [DAMAGED] = "#d01818", [BAR] = "#b00000"};
 
-static void put_escaped(FILE *out, uint32_t character) {
-    switch (character) {
-    case '<': fputs("&lt;", out); break;
-    case '>': fputs("&gt;", out); break;
-    case '&': fputs("&amp;", out); break;
-    case '"': fputs("&quot;", out); break;
-    case '\'': fputs("&#39;", out); break;
-    default: put_character(out, character);
-    }
-}
-
 static void draw_rectangle(FILE *out, int x, int y, int width, int height, const char *colour) {
     fprintf(out, "<rect x=\"%d\" y=\"%d\" width=\"%d\" height=\"%d\" fill=\"%s\"/>\n", x, y, width, height, colour);
 }

@@ -10,6 +10,7 @@
     X(panel, "show the last lines of formatted notes as a wall panel does")                                                                   \
     X(index, "show which notes each line of their digest comes from")                                                                         \
     X(explain, "tell why the lines of their digest end where they do")                                                                        \
+    X(page, "write a page on which lines of a digest can be pointed at")                                                                      \
     X(salvage, "mend notes in ISO 8859-1, with a list of what was changed")                                                                   \
     X(restore, "bring the old notes back from a mended copy and its list")                                                                    \
     X(flow, "write the digest of notes as mail of format=flowed")                                                                             \

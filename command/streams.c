@@ -1,6 +1,6 @@
 /* What comes in and what goes out. */
 #define _POSIX_C_SOURCE 200809L
-#include "command.h"
+#include "salvage.h"
 
 #include <errno.h>
 #include <fcntl.h>
@@ -15,6 +15,18 @@ bool open_window(struct window *window, const char *name) {
     return window->file >= 0;
 }
 
+static bool keep(struct text *kept, const uint8_t *bytes, size_t length) {
+    if (kept == NULL)
+        return true;
+    if (!widen(kept, length)) {
+        errno = ENOMEM;
+        return false;
+    }
+    memcpy(kept->bytes + kept->length, bytes, length);
+    kept->length += length;
+    return true;
+}
+
 /* A read may give less than asked for, from a pipe say. */
 bool fill_window(struct window *window) {
     ssize_t got;
@@ -23,8 +35,11 @@ bool fill_window(struct window *window) {
         if (got < 0 && errno != EINTR)
             return false;
         window->ended = got == 0;
-        if (got > 0)
+        if (got > 0) {
+            if (!keep(window->kept, window->bytes + window->length, (size_t)got))
+                return false;
             window->length += (size_t)got;
+        }
     }
     return true;
 }

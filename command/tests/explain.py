@@ -3,22 +3,21 @@ import pathlib
 
 from .calls import RUDIGNALS, expect, expect_same, run
 
-EVEN = ("line 0 ends here because this makes the paragraph most even: it reaches column 70, where 74 is aimed at, and the break costs 16129, "
-        "that is (1 + 51 for the length + 37 for the last word + 38 for its unlikeness to the line before) squared\n")
+EVEN = "line 0: chosen: 70 of 74 columns, cost 16,129 (line 51, word 37, change 38)\n"
 REFUSED = "rudignals: standard input: refused; `rudignals format' tells where and why\n"
 
 # options, notes, line, what is said of it
 LINES = [
-    (["-w10", "-q"], b"aaaa bbbbbb c\n", 0, "line 0 ends here because the next word, 6 columns, would reach column 11 of 10\n"),
-    (["-w10", "-q"], b"aaaa bbbbbb c\n", 1, "line 1 ends here because its paragraph ends\n"),
-    (["-g7", "-q"], b"aaaa bbbbbb c\n", 0, "line 0 ends here because the next word, 6 columns, would reach column 11 of 10\n"),
+    (["-w10", "-q"], b"aaaa bbbbbb c\n", 0, "line 0: ends here because the next word, 6 columns, would reach column 11 of 10\n"),
+    (["-w10", "-q"], b"aaaa bbbbbb c\n", 1, "line 1: ends here because its paragraph ends\n"),
+    (["-g7", "-q"], b"aaaa bbbbbb c\n", 0, "line 0: ends here because the next word, 6 columns, would reach column 11 of 10\n"),
     ([], b"a" * 66 + b" bbb " + b"c" * 20, 0, EVEN),
-    (["--keep"], b"a\n\xb0\n\nc", 1, "line 1 is a plain line: it ends as it does in the notes\n"),
-    (["--keep"], b"a\n\xb0\n\nc", 2, "line 2 is a blank line of the notes\n"),
+    (["--keep"], b"a\n\xb0\n\nc", 1, "line 1: a plain line, which ends as it does in the notes\n"),
+    (["--keep"], b"a\n\xb0\n\nc", 2, "line 2: a blank line of the notes\n"),
     # nothing stays: 3 + 1 + 7 is 11, over 10, and 11 - 10 is less than 4 - 3: behind the word
-    (["-w10"], b"aa bbbbbbbb c\n", 0, "line 0 ends here because its last word fits on no line that leads to it: the break is forced behind it, which is the lesser evil\n"),
+    (["-w10"], b"aa bbbbbbbb c\n", 0, "line 0: ends here because its last word fits on no line that leads to it: the break is forced behind it, which is the lesser evil\n"),
     # 4 + 1 + 7 is 12; 12 - 10 is more than 4 - 4
-    (["-w10"], b"aaaa bbbbbbb c\n", 0, "line 0 ends here because the next word fits on no line that leads to it: the break is forced before it\n"),
+    (["-w10"], b"aaaa bbbbbbb c\n", 0, "line 0: ends here because the next word fits on no line that leads to it: the break is forced before it\n"),
 ]
 
 
@@ -47,4 +46,4 @@ def run_all(folder):
     expect("explain: status and words of a long file", (status, words), (0, ""))
     expect_same("explain: the digest beside", b"".join(line.split(b"|", 1)[1] + b"\n" for line in got.splitlines()), digest)
     last = digest.count(b"\n") - 2
-    expect("explain: a line of the last part", run(["explain", "-", str(last)], long, RUDIGNALS), (0, f"line {last} ends here because its paragraph ends\n".encode(), ""))
+    expect("explain: a line of the last part", run(["explain", "-", str(last)], long, RUDIGNALS), (0, f"line {last}: ends here because its paragraph ends\n".encode(), ""))

@@ -1,0 +1,242 @@
+/* rudignals page: formats a file and writes, in place of the digest, a page on which a person can point at its lines.
+ *
+ * All that the page says is asked of the library: the pieces and their lines are records of the index, the reasons those of
+ * rudignals_explain. */
+#define _POSIX_C_SOURCE 200809L
+#include "page.h"
+#include "salvage.h"
+
+#include <stdlib.h>
+#include <string.h>
+
+static const char USAGE[] = " [-WIDTH] [OPTION]... [FILE] >PAGE\n"
+                            "Formats FILE, or standard input (also -), as `format' does, and writes a page for\n"
+                            "a browser: the digest line by line; for the line that is pointed at, with the\n"
+                            "mouse, a finger or the arrow keys, the notes that it comes from, byte for byte,\n"
+                            "and why it ends where it does; and its last 24 lines as the wall panel shows\n"
+                            "them. The page is one file, loads nothing and works without script too. What\n"
+                            "stands in the notes is shown and takes no effect.\n"
+                            "\n";
+
+static const char SIGNS[] =
+    "\n"
+    "Damaged lines and lines over the width are listed first. Where there is no\n"
+    "digest, because FILE is refused or cannot be read, the page says so, and shows\n"
+    "the notes and the place in them.\n"
+    "\n"
+    "Exit status: 0 the page shows a digest; 1 something was refused, not read or\n"
+    "not written; 2 a wrong call.\n";
+
+static int show_help(void) {
+    printf("Usage: %s%s%s%s", subject, USAGE, OPTIONS_HELP, SIGNS);
+    return shown();
+}
+
+/* ---- the pieces and lines of the digest */
+
+static unsigned long feeds(const uint8_t *bytes, size_t length) {
+    unsigned long count = 0;
+    size_t i;
+    for (i = 0; i < length; i++)
+        count += bytes[i] == '\n';
+    return count;
+}
+
+/* Behind the pieces so far: that of a record, whose part begins at `at` in the notes. */
+static bool add_piece(struct page *page, const struct rudignals_record *record, size_t at, size_t length) {
+    const struct piece *last = page->pieces_len == 0 ? NULL : &page->pieces[page->pieces_len - 1];
+    struct piece *piece = &page->pieces[page->pieces_len++];
+    uint64_t part[2];
+    if (rudignals_lookup(record, 1, 1, page->notes + at, length, record->first, part) == 0)
+        return false;
+    piece->place = at + (size_t)part[0];
+    piece->length = (size_t)part[1];
+    piece->note = last == NULL ? 1 : last->note + feeds(page->notes + last->place, last->length);
+    piece->first = last == NULL ? 0 : last->first + last->count;
+    piece->count = (size_t)record->count;
+    return true;
+}
+
+/* A part of the notes: its digest is written where it stands already, for the index beside it. */
+static bool index_part(struct page *page, size_t at, size_t length, size_t *digest_at) {
+    struct rudignals_record *index = malloc((length + 1) * sizeof *index);
+    uint64_t filled, i, answer;
+    bool well = index != NULL;
+    if (!well)
+        return false;
+    answer = rudignals_write_indexed(page->options->block, page->options->block_len, page->notes + at, length, page->digest->bytes + *digest_at,
+                                     page->digest->length - *digest_at, index, length, &filled);
+    well = rudignals_code_of(answer) == RUDIGNALS_DONE;
+    for (i = 0; well && i < filled; i++)
+        well = add_piece(page, &index[i], at, length);
+    *digest_at += rudignals_number_of(answer);
+    free(index);
+    return well;
+}
+
+/* The parts are those that were formatted: the index of one joins on to the next (the theorem `the-indexes-join`). */
+static bool find_pieces(struct page *page) {
+    size_t at = 0, digest_at = 0, length;
+    for (; at < page->notes_len; at += length) {
+        length = first_part(page->notes + at, page->notes_len - at, true);
+        if (length == 0 || !index_part(page, at, length, &digest_at))
+            return false;
+    }
+    return true;
+}
+
+static void find_lines(struct page *page) {
+    const uint8_t *bytes = page->digest->bytes, *feed;
+    uint64_t tab = tab_of(page->options);
+    size_t at = 0, i;
+    for (i = 0; i < page->lines_len; i++) {
+        struct line *line = &page->lines[i];
+        feed = memchr(bytes + at, '\n', page->digest->length - at);
+        line->at = at;
+        line->length = (size_t)(feed - (bytes + at));
+        line->look = look_at(bytes + at, line->length, tab);
+        at += line->length + 1;
+    }
+}
+
+/* ---- why the lines end */
+
+/* A call looks at all the notes that it is given. They are cut at blank lines, and each stretch between two is asked about by itself: so
+ * the calls come to the notes' length times the lines of a stretch. A stretch for which that is over some seconds is not asked about, and
+ * the page says so. */
+enum { MOST_ASKED = 1 << 28 };
+
+static void explain_stretch(struct page *page, const struct piece *from, const struct piece *to) {
+    size_t length = to->place + to->length - from->place, count = to->first + to->count - from->first, i;
+    for (i = 0; i < count && length <= MOST_ASKED / count; i++) {
+        struct line *line = &page->lines[from->first + i];
+        uint64_t answer = rudignals_explain(page->options->block, page->options->block_len, page->notes + from->place, length, i, line->reason);
+        line->asked = rudignals_code_of(answer) == RUDIGNALS_DONE;
+    }
+}
+
+static void explain_lines(struct page *page) {
+    const struct piece *end = page->pieces + page->pieces_len, *from, *to;
+    for (from = page->pieces; from < end; from = to + 1) {
+        to = from;
+        if (!parts_notes(page->notes + from->place, from->length))
+            while (to + 1 < end && !parts_notes(page->notes + to[1].place, to[1].length))
+                to++;
+        explain_stretch(page, from, to);
+    }
+}
+
+/* ---- the page */
+
+/* There are as many pieces as lines, or fewer. */
+static bool read_page(struct page *page) {
+    page->lines = calloc(page->lines_len + 1, sizeof *page->lines);
+    page->pieces = calloc(page->lines_len + 1, sizeof *page->pieces);
+    if (page->lines == NULL || page->pieces == NULL || !find_pieces(page))
+        return false;
+    find_lines(page);
+    explain_lines(page);
+    return true;
+}
+
+/* What a browser can show at once. Notes of 65,536 bytes have no more lines, but an indent of thousands of columns may have their digest be
+ * longer. */
+enum { MOST_LINES = 65536, MOST_BYTES = 4 << 20 };
+
+static bool fits_page(const struct page *page) {
+    if (page->lines_len <= MOST_LINES && page->digest->length <= MOST_BYTES)
+        return true;
+    say("%s: the digest has %lu lines and %lu bytes, and a page shows at most %d and %d; `rudignals format' writes it", page->label,
+        (unsigned long)page->lines_len, (unsigned long)page->digest->length, MOST_LINES, MOST_BYTES);
+    return false;
+}
+
+/* All of it is in memory before a byte is written. */
+static bool write_page(const struct page *page, enum outcome outcome, const char *reason) {
+    char *bytes = NULL;
+    size_t length = 0;
+    FILE *out = open_memstream(&bytes, &length);
+    bool well = out != NULL;
+    if (well) {
+        if (outcome == MADE)
+            put_page(out, page);
+        else
+            put_failed_page(out, page, outcome, reason);
+        well = !ferror(out);
+        well = fclose(out) == 0 && well;
+    }
+    if (!well)
+        say("%s: no memory for the page", page->label);
+    well = well && write_out(bytes, length);
+    free(bytes);
+    return well;
+}
+
+/* A page that says why there is no digest: an empty one would look like a quiet night. */
+static int write_failure(struct page *page, enum outcome outcome, const char *reason, int status) {
+    put_failure(&page->panel, outcome, reason, page->label);
+    return write_page(page, outcome, reason) ? status : FAILED;
+}
+
+static int page_of(struct page *page, const char *name) {
+    static struct window window;
+    static struct text notes;
+    static struct digest digest;
+    enum outcome outcome;
+    window.kept = &notes;
+    outcome = digest_file(page->options, name, &window, &digest);
+    page->digest = &digest;
+    page->notes = notes.bytes;
+    page->notes_len = notes.length;
+    page->lines_len = outcome == MADE ? feeds(digest.bytes, digest.length) : 0;
+    page->read_whole = window.ended;
+    if (outcome == MADE && !fits_page(page))
+        outcome = REFUSED;
+    if (outcome == MADE && !read_page(page)) {
+        say("%s: no memory for the page", page->label);
+        outcome = NOT_READ;
+    }
+    if (outcome != MADE)
+        return write_failure(page, outcome, last_said(), FAILED);
+    put_digest(&page->panel, &digest, tab_of(page->options), page->label);
+    return write_page(page, MADE, NULL) ? WELL : FAILED;
+}
+
+static int page_asked(const struct options *options) {
+    static struct page page;
+    const char *name = options->count == 0 ? "-" : options->files[0];
+    int status;
+    page.options = options;
+    page.label = label_of(name);
+    if (!options_accepted(options))
+        return write_failure(&page, REFUSED, last_said(), WRONG_CALL);
+    if (options->count > 1) {
+        say("the page shows one file, and %d are named", options->count);
+        wrong_call();
+        return write_failure(&page, NOT_READ, last_said(), WRONG_CALL);
+    }
+    status = page_of(&page, name);
+    free(page.lines);
+    free(page.pieces);
+    return status;
+}
+
+/* What is wrong with the call was said by getopt_long. */
+static int page_asked_wrongly(const struct options *options) {
+    static struct page page;
+    page.options = options;
+    page.label = "the notes";
+    wrong_call();
+    return write_failure(&page, NOT_READ, "rudignals page was called wrongly, and said why on standard error", WRONG_CALL);
+}
+
+int run_page(int argc, char **argv) {
+    struct options options;
+    argv[0] = (char *)called; /* getopt_long's messages begin with it */
+    switch (read_options(&options, NULL, argc, argv)) {
+    case ASKED_WORK: return page_asked(&options);
+    case ASKED_HELP: return show_help();
+    case ASKED_VERSION: return show_version();
+    default: return page_asked_wrongly(&options);
+    }
+}

@@ -1,0 +1,333 @@
+/* The page: one file of HTML with its style and its script, which loads nothing.
+ *
+ * Notes and names stand in it as text alone, by markup.c, and in no attribute, style or script; the content policy lets no script run but
+ * the page's own, by its hash. Every line is a link to its piece of the notes, so the page works without script; the script marks, and
+ * shows of the pieces the one that is pointed at. */
+#include "page.h"
+
+#include <inttypes.h>
+#include <stdlib.h>
+#include <string.h>
+
+/* No byte of the notes. */
+static const size_t NOWHERE = (size_t)-1;
+
+/* ---- words */
+
+static void put_count(FILE *out, uint64_t number) {
+    char room[GROUPED];
+    fputs(in_thousands(number, room), out);
+}
+
+static void put_counted(FILE *out, uint64_t number, const char *one, const char *many) {
+    put_count(out, number);
+    fprintf(out, " %s", number == 1 ? one : many);
+}
+
+/* ---- the frame of every page */
+
+static void put_all(FILE *out, const char *const *lines) {
+    for (; *lines != NULL; lines++)
+        fputs(*lines, out);
+}
+
+/* The mark of byte order makes it UTF-8 whatever a server says of it. */
+static void put_head(FILE *out, const char *what, const char *label) {
+    fputs("\xEF\xBB\xBF<!doctype html>\n<html lang=en>\n<meta charset=utf-8>\n", out);
+    fprintf(out, "<meta http-equiv=Content-Security-Policy content=\"default-src 'none'; style-src 'sha256-%s'; script-src 'sha256-%s'; base-uri 'none'; form-action 'none'\">\n",
+            PAGE_STYLE_HASH, PAGE_SCRIPT_HASH);
+    fputs("<meta name=viewport content='width=device-width, initial-scale=1'>\n<meta name=color-scheme content='light dark'>\n"
+          "<meta name=referrer content=no-referrer>\n<meta name=generator content='rudignals " RUDIGNALS_VERSION "'>\n<title>",
+          out);
+    fputs(what, out);
+    put_name(out, label);
+    fputs("</title>\n<style>", out);
+    put_all(out, PAGE_STYLE);
+    fputs("</style>\n<script>", out);
+    put_all(out, PAGE_SCRIPT);
+    fputs("</script>\n<body>\n<p id=cut role=alert>This page is not whole: it is still being read, or it was cut short.</p>\n", out);
+}
+
+static void put_caption(FILE *out, const struct panel *panel) {
+    int length = caption_length(panel), column;
+    for (column = 0; column < length; column++)
+        if (caption_at(panel, column) != FILLER)
+            put_escaped(out, caption_at(panel, column));
+}
+
+static void put_wall(FILE *out, const struct panel *panel) {
+    int row;
+    fputs("<section id=wall aria-label='The wall panel'>\n<pre tabindex=0>", out);
+    for (row = 0; row < ROWS; row++) {
+        fputs(row >= ROWS - panel->bar ? "<span class=bar>" : "<span>", out);
+        put_row(out, panel, row);
+        fputs("\n</span>", out);
+    }
+    fprintf(out, "</pre>\n<p%s>", panel->bar > 0 ? " class=bar" : "");
+    put_caption(out, panel);
+    fputs("</p>\n<p><a href=#top>Back to the page</a></p>\n</section>\n", out);
+}
+
+static void put_end(FILE *out) { fputs("<i id=end></i>\n", out); }
+
+/* ---- notes, every byte seen */
+
+static size_t line_behind(const uint8_t *bytes, size_t length, size_t at) {
+    const uint8_t *feed = memchr(bytes + at, '\n', length - at);
+    return feed == NULL ? length : (size_t)(feed - bytes) + 1;
+}
+
+/* A list item for each line; that with the marked byte is marked. */
+static void put_note_lines(FILE *out, const uint8_t *bytes, size_t length, size_t marked) {
+    size_t at = 0, end;
+    for (; at < length; at = end) {
+        end = line_behind(bytes, length, at);
+        fputs(at <= marked && marked < end ? "<li class=at>" : "<li>", out);
+        put_raw(out, bytes + at, end - at, marked == NOWHERE ? NOWHERE : marked - at);
+        fputs("\n", out);
+    }
+}
+
+/* ---- the digest */
+
+static bool is_over(const struct page *page, const struct line *line) { return line->look.columns > width_of(page->options); }
+
+/* Boxes of so many blanks end where goal and width do. */
+static void put_rule(FILE *out, const char *class, uint64_t columns) { fprintf(out, "<span class=%s>%*s</span>", class, (int)columns, ""); }
+
+static void put_ruler(FILE *out, uint64_t goal, uint64_t width) {
+    uint64_t column;
+    put_rule(out, "goal", goal);
+    put_rule(out, "width", width);
+    fputs("<span class=ruler>", out);
+    for (column = 10; column <= width; column += 10)
+        fprintf(out, "    +%5" PRIu64, column);
+    fprintf(out, "%*s", (int)(width + 10 - column), "");
+    fprintf(out, "<small>goal %" PRIu64 ", width %" PRIu64 "</small>\n</span>", goal, width);
+}
+
+static void put_digest_line(FILE *out, const struct page *page, size_t number, const struct piece *piece) {
+    const struct line *line = &page->lines[number];
+    const char *class = line->look.damaged > 0 ? " class=d" : is_over(page, line) ? " class=o" : "";
+    fprintf(out, "<a id=%zu%s href=#n%lu>", number + 1, class, piece->note);
+    put_line(out, page->digest->bytes + line->at, line->length, tab_of(page->options));
+    fputs("\n</a>", out);
+}
+
+/* A browser lays out what it shows: so many lines at a time. */
+enum { CHUNK = 50 };
+
+static void put_digest_lines(FILE *out, const struct page *page) {
+    const struct piece *piece;
+    size_t i, put = 0;
+    fputs("<div id=digest role=region aria-label='The digest, line by line' tabindex=-1><pre>", out);
+    put_ruler(out, goal_of(page->options), width_of(page->options));
+    for (piece = page->pieces; piece < page->pieces + page->pieces_len; piece++)
+        for (i = 0; i < piece->count; i++) {
+            fputs(put == 0 ? "<span class=k>" : put % CHUNK == 0 ? "</span><span class=k>" : "", out);
+            put_digest_line(out, page, put++, piece);
+        }
+    fputs(put == 0 ? "</pre></div>\n" : "</span></pre></div>\n", out);
+}
+
+/* ---- what each line comes from, and why it ends */
+
+static void put_reason(FILE *out, const struct page *page, size_t number) {
+    const struct line *line = &page->lines[number];
+    char *reason = line->asked ? reason_in_words(line->reason, page->options) : words("not asked: too many lines stand here without a blank line");
+    fprintf(out, "<p id=r%zu><a href=#%zu>Line ", number + 1, number + 1);
+    put_count(out, number + 1);
+    fputs("</a> <small>", out);
+    put_counted(out, line->look.columns, "column", "columns");
+    fprintf(out, "</small> <em%s>%s</em>\n", line->asked && line->reason[0] == RUDIGNALS_CHOSEN ? " class=x" : "", reason == NULL ? "no memory for the words" : reason);
+    free(reason);
+}
+
+static void put_place(FILE *out, const struct page *page, const struct piece *piece, unsigned long lines) {
+    fputs(lines == 1 ? "<h3>Line " : "<h3>Lines ", out);
+    put_count(out, piece->note);
+    if (lines > 1) {
+        fputs(" to ", out);
+        put_count(out, piece->note + lines - 1);
+    }
+    fputs(piece->length == 1 ? " of the notes <small>byte " : " of the notes <small>bytes ", out);
+    put_count(out, piece->place);
+    if (piece->length > 1) {
+        fputs(" to ", out);
+        put_count(out, piece->place + piece->length - 1);
+    }
+    fputs(" of ", out);
+    put_count(out, page->notes_len);
+    fputs("</small></h3>\n", out);
+}
+
+static unsigned long lines_in(const uint8_t *bytes, size_t length) {
+    unsigned long lines = 0;
+    size_t at = 0;
+    for (; at < length; at = line_behind(bytes, length, at))
+        lines++;
+    return lines;
+}
+
+static void put_piece(FILE *out, const struct page *page, const struct piece *piece) {
+    const uint8_t *bytes = page->notes + piece->place;
+    size_t i;
+    fprintf(out, "<section id=n%lu>", piece->note);
+    for (i = 0; i < piece->count; i++)
+        put_reason(out, page, piece->first + i);
+    put_place(out, page, piece, lines_in(bytes, piece->length));
+    fprintf(out, "<ol start=%lu>", piece->note);
+    put_note_lines(out, bytes, piece->length, NOWHERE);
+    fputs("</ol></section>\n", out);
+}
+
+static void put_pieces(FILE *out, const struct page *page) {
+    const struct piece *piece;
+    fputs("<aside id=notes aria-label='The notes under the line, and why it ends there' tabindex=-1>\n"
+          "<p class=hint>Point at a line of the digest: the notes that it comes from stand here, byte for byte, and why it ends where it does.</p>\n",
+          out);
+    for (piece = page->pieces; piece < page->pieces + page->pieces_len; piece++)
+        put_piece(out, page, piece);
+    fputs("</aside>\n", out);
+}
+
+/* ---- what must not be missed */
+
+typedef bool chosen_line(const struct page *page, const struct line *line);
+
+static bool is_damaged(const struct page *page, const struct line *line) {
+    (void)page;
+    return line->look.damaged > 0;
+}
+
+static bool was_not_asked(const struct page *page, const struct line *line) {
+    (void)page;
+    return !line->asked;
+}
+
+static size_t count_lines(const struct page *page, chosen_line *chosen) {
+    size_t count = 0, i;
+    for (i = 0; i < page->lines_len; i++)
+        count += chosen(page, &page->lines[i]);
+    return count;
+}
+
+/* The first so many are linked to. */
+enum { MOST_LINKS = 60 };
+
+static void put_links(FILE *out, const struct page *page, chosen_line *chosen) {
+    size_t put = 0, count = count_lines(page, chosen), i;
+    for (i = 0; i < page->lines_len && put < MOST_LINKS; i++) {
+        if (!chosen(page, &page->lines[i]))
+            continue;
+        fprintf(out, "%s<a href=#%zu>", put++ == 0 ? ": line " : ", ", i + 1);
+        put_count(out, i + 1);
+        fputs("</a>", out);
+        if (chosen == is_over)
+            fprintf(out, " (%" PRIu64 " columns)", page->lines[i].look.columns);
+    }
+    if (count > put) {
+        fputs(" and ", out);
+        put_counted(out, count - put, "other", "others");
+    }
+}
+
+static void put_warning(FILE *out, const struct page *page, chosen_line *chosen, const char *class, const char *one, const char *many) {
+    size_t count = count_lines(page, chosen);
+    if (count == 0)
+        return;
+    fprintf(out, "<li class=%s><strong>", class);
+    put_counted(out, count, one, many);
+    fputs("</strong>", out);
+    put_links(out, page, chosen);
+    fputs("\n", out);
+}
+
+static void put_warnings(FILE *out, const struct page *page) {
+    if (count_lines(page, is_damaged) + count_lines(page, is_over) + count_lines(page, was_not_asked) == 0) {
+        fputs(page->lines_len == 0 ? "<p id=calm>No notes: the file is empty.</p>\n" : "<p id=calm>Nothing is damaged, and no line is over the width.</p>\n", out);
+        return;
+    }
+    fputs("<section id=seen aria-label='Not to be missed'><ul>", out);
+    put_warning(out, page, is_damaged, "d", "damaged line, kept as it is", "damaged lines, kept as they are");
+    put_warning(out, page, is_over, "o", "line over the width", "lines over the width");
+    put_warning(out, page, was_not_asked, "n", "line whose end was not asked about", "lines whose ends were not asked about");
+    fputs("</ul></section>\n", out);
+}
+
+/* ---- the pages */
+
+static void put_title(FILE *out, const struct page *page) {
+    fputs("<header id=top>\n<h1>Digest of <span class=name>", out);
+    put_raw(out, (const uint8_t *)page->label, strlen(page->label), NOWHERE);
+    fputs("</span></h1>\n<p>", out);
+    put_counted(out, page->lines_len, "line", "lines");
+    fputs(" from ", out);
+    put_counted(out, page->notes_len, "byte", "bytes");
+    fputs(" of notes</p>\n<nav aria-label='This page'><a href=#digest>Digest</a> <a href=#notes>Notes</a> <a href=#wall>Wall panel</a></nav>\n</header>\n", out);
+}
+
+static const char KEYS[] = "<footer><kbd>&uarr;</kbd> <kbd>&darr;</kbd> line, <kbd>Enter</kbd> its notes, <kbd>n</kbd> next not to be missed, <kbd>w</kbd> wall panel, "
+                           "<kbd>Esc</kbd> back</footer>\n";
+
+void put_page(FILE *out, const struct page *page) {
+    put_head(out, "Digest of ", page->label);
+    put_title(out, page);
+    put_warnings(out, page);
+    fputs("<main>\n", out);
+    put_digest_lines(out, page);
+    put_pieces(out, page);
+    fputs("</main>\n", out);
+    fputs(KEYS, out);
+    put_wall(out, &page->panel);
+    put_end(out);
+}
+
+/* The place with some lines before and behind it. */
+static void put_excerpt(FILE *out, const struct page *page, const struct refusal *refusal) {
+    size_t from = refusal->place, to, before = 0, i;
+    for (; from > 0 && (page->notes[from - 1] != '\n' || before < 3); from--)
+        before += page->notes[from - 1] == '\n';
+    for (to = refusal->place, i = 0; i < 4; i++)
+        to = line_behind(page->notes, page->notes_len, to);
+    fprintf(out, "<section><h2>The place in the notes</h2>\n<ol start=%zu>", refusal->line - before);
+    put_note_lines(out, page->notes + from, to - from, refusal->place - from);
+    fputs("</ol></section>\n", out);
+}
+
+/* Of notes that no page could show, the beginning. */
+enum { MOST_NOTES_SHOWN = 1 << 20 };
+
+static void put_all_notes(FILE *out, const struct page *page) {
+    size_t length = page->notes_len < MOST_NOTES_SHOWN ? page->notes_len : MOST_NOTES_SHOWN;
+    fputs("<section><h2>All the notes, as they are</h2>\n<ol>", out);
+    put_note_lines(out, page->notes, length, NOWHERE);
+    fputs("</ol>\n", out);
+    if (length < page->notes_len || !page->read_whole) {
+        fputs("<p>The file goes on: its first ", out);
+        put_counted(out, length, "byte", "bytes");
+        fputs(" are shown.</p>\n", out);
+    }
+    fputs("</section>\n", out);
+}
+
+static const char *headline(const struct page *page, enum outcome outcome) {
+    if (outcome == NOT_READ)
+        return "NOT READ: there may be notes, and none is shown";
+    return page->notes_len > 0 ? "REFUSED: there are notes, and no digest of them" : "REFUSED: there may be notes, and none is shown";
+}
+
+void put_failed_page(FILE *out, const struct page *page, enum outcome outcome, const char *reason) {
+    bool placed = page->digest != NULL && page->digest->refusal.code != RUDIGNALS_DONE && page->digest->refusal.place < page->notes_len;
+    put_head(out, outcome == REFUSED ? "REFUSED: " : "NOT READ: ", page->label);
+    fprintf(out, "<header id=top class=bar role=alert>\n<h1>%s</h1>\n<p>", headline(page, outcome));
+    put_raw(out, (const uint8_t *)reason, strlen(reason), NOWHERE);
+    fputs("</p>\n<nav aria-label='This page'><a href=#wall>Wall panel</a></nav></header>\n<main id=failed>\n", out);
+    if (placed)
+        put_excerpt(out, page, &page->digest->refusal);
+    if (outcome == REFUSED && page->notes_len > 0)
+        put_all_notes(out, page);
+    fputs("</main>\n", out);
+    put_wall(out, &page->panel);
+    put_end(out);
+}
