@@ -1,7 +1,7 @@
 /* Made by tools/page from page/page.css and page/page.js: change those, and make it anew. */
 #include "page.h"
 
-const char PAGE_STYLE_HASH[] = "ecQ3pcbyoprH3AWOW5wODKLcbaiTBJCkcgQAHZBytF8=";
+const char PAGE_STYLE_HASH[] = "+vdQKffWbkuR/gwmoUZmezORVQNpxMRvokvVMzuQAYg=";
 
 const char *const PAGE_STYLE[] = {
     ":root {\n",
@@ -21,12 +21,12 @@ const char *const PAGE_STYLE[] = {
     "}\n",
     "*, ::before { box-sizing: border-box; }\n",
     "html { scroll-behavior: auto; }\n",
-    "body { margin: 0; background: var(--paper); color: var(--ink); font: 15px/1.5 system-ui, \"Noto Sans\", \"Segoe UI\", sans-serif; }\n",
+    "body { margin: 0; background: var(--paper); color: var(--ink); font: clamp(14px, calc(9.2px + .45vw), 20px)/1.5 system-ui, \"Noto Sans\", \"Segoe UI\", sans-serif; }\n",
     "a { color: var(--blue); }\n",
     ":focus-visible { outline: 2px solid var(--blue); outline-offset: 1px; }\n",
     "h1, h2, h3, p, ul, ol, pre { margin: 0; padding: 0; }\n",
     "header { display: flex; flex-wrap: wrap; align-items: baseline; gap: .2rem 1.2rem; padding: .7rem 1.2rem .6rem; }\n",
-    "h1 { font-size: 1.15rem; font-weight: 600; overflow-wrap: anywhere; }\n",
+    "h1 { font-size: 1.2em; font-weight: 600; overflow-wrap: anywhere; }\n",
     "h1 .name { font-family: var(--mono); font-size: .95em; }\n",
     "header p { color: var(--dim); }\n",
     "nav { margin-left: auto; display: flex; gap: 1rem; }\n",
@@ -75,12 +75,12 @@ const char *const PAGE_STYLE[] = {
     "#notes section + section, #failed section + section { margin-top: 1.4rem; }\n",
     ".hint { color: var(--dim); max-width: 34rem; }\n",
     "#notes section:target { background: var(--piece); }\n",
-    "#notes p a, #notes h3 { font-weight: 600; font-size: 1rem; }\n",
-    "small { color: var(--dim); font-size: .87rem; font-weight: normal; margin-left: .4em; }\n",
-    "em { display: block; font-style: normal; font-size: 1.08rem; margin-bottom: .8rem; }\n",
+    "#notes p a, #notes h3 { font-weight: 600; font-size: 1em; }\n",
+    "small { color: var(--dim); font-size: .9em; font-weight: normal; margin-left: .4em; }\n",
+    "em { display: block; font-style: normal; font-size: 1.12em; margin-bottom: .8rem; }\n",
     "em::first-letter { text-transform: uppercase; }\n",
-    "em.x::after { display: block; content: \"The cheapest of all ways to break the paragraph. A line costs (1 + line + word + change) squared: for being short or long, for a short last word, and for being unlike the line before.\"; color: var(--dim); font-size: .87rem; }\n",
-    "h2 { font-size: 1rem; }\n",
+    "em.x::after { display: block; content: \"The cheapest of all ways to break the paragraph. A line costs (1 + line + word + change) squared: for being short or long, for a short last word, and for being unlike the line before.\"; color: var(--dim); font-size: .82em; }\n",
+    "h2 { font-size: 1em; }\n",
     "#notes ol, #failed ol { list-style-position: outside; margin-top: .4rem; padding: .5rem .6rem .5rem 5.5ch; background: var(--card); border: 1px solid var(--hair); font: calc(var(--size) * .94)/1.6 var(--mono); font-variant-ligatures: none; direction: ltr; }\n",
     "li::marker { color: var(--dim); }\n",
     "ol li { padding-left: .8ch; white-space: pre-wrap; overflow-wrap: anywhere; overflow-y: clip; }\n",
@@ -90,7 +90,7 @@ const char *const PAGE_STYLE[] = {
     "ol u.d::before { color: var(--on-red); background: var(--red); font-weight: bold; }\n",
     "ol li.at { background: var(--pale-red); }\n",
     "mark { margin: 0 .5ch; background: none; color: inherit; outline: 3px solid var(--red); outline-offset: 1px; border-radius: 2px; }\n",
-    "footer { padding: .5rem 1.2rem; color: var(--dim); font-size: .87rem; }\n",
+    "footer { padding: .5rem 1.2rem; color: var(--dim); font-size: .9em; }\n",
     "kbd { font: inherit; border: 1px solid var(--rule); border-radius: 3px; padding: 0 .35em; }\n",
     "html:not(.js) footer, html:not(.js) .hint { display: none; }\n",
     ".js #notes section, .js #notes section p { display: none; }\n",
@@ -112,8 +112,8 @@ const char *const PAGE_STYLE[] = {
     "#notes ol, #failed ol { padding-left: 4.5ch; }\n",
     "}\n",
     "header.bar { display: block; background: var(--red); color: var(--on-red); padding: 1.2rem; }\n",
-    "header.bar h1 { font-size: 1.5rem; }\n",
-    "header.bar p { margin: .4rem 0; color: inherit; font-size: 1.08rem; }\n",
+    "header.bar h1 { font-size: 1.6em; }\n",
+    "header.bar p { margin: .4rem 0; color: inherit; font-size: 1.12em; }\n",
     "header.bar a { color: inherit; }\n",
     "#wall { display: none; }\n",
     "#wall:target { position: fixed; z-index: 9; inset: 0; display: grid; align-content: center; justify-content: center; gap: .5rem; overflow: auto; background: #303840; color: #b8c4d0; }\n",

@@ -298,7 +298,7 @@ struct look look_at(const uint8_t *bytes, size_t length, uint64_t tab) {
             column = stop_behind(column, tab);
         } else {
             column += reader.sign.columns;
-            look.columns = column;
+            look.columns = reader.sign.columns > 0 ? column : look.columns;
         }
     }
     return look;

@@ -13,7 +13,10 @@ import tempfile
 import time
 
 ARROWS = {"ArrowUp": "\ue013", "ArrowDown": "\ue015", "Home": "\ue011", "End": "\ue010", "Enter": "\ue007", "Escape": "\ue00c", "Tab": "\ue004"}
-ELEMENT = "element-6066-11e4-a52e-4f735466cecf"
+
+
+class NotStarted(Exception):
+    """There is a browser, and it does not start here."""
 
 
 def missing():
@@ -23,7 +26,7 @@ def missing():
 
 class Browser:
     def __init__(self):
-        self.home = tempfile.TemporaryDirectory()
+        self.home = tempfile.TemporaryDirectory(ignore_cleanup_errors=True)
         log = open(os.path.join(self.home.name, "log"), "wb")
         self.driver = subprocess.Popen(["chromedriver", "--port=0"], stdout=subprocess.PIPE, stderr=log, env={**os.environ, "HOME": self.home.name})
         self.port = self.find_port()
@@ -31,16 +34,20 @@ class Browser:
                  f"--user-data-dir={self.home.name}/profile", "--disable-dev-shm-usage", "--touch-events=enabled"]
         if os.geteuid() == 0:
             flags.append("--no-sandbox")  # as root there is none to be had
-        options = {"args": flags}
-        wanted = {"browserName": "chrome", "goog:chromeOptions": options, "goog:loggingPrefs": {"browser": "ALL"}, "unhandledPromptBehavior": "ignore"}
-        self.session = self.call("POST", "/session", {"capabilities": {"alwaysMatch": wanted}})["sessionId"]
+        wanted = {"browserName": "chrome", "goog:chromeOptions": {"args": flags}, "goog:loggingPrefs": {"browser": "ALL"}, "unhandledPromptBehavior": "ignore"}
+        try:
+            self.session = self.call("POST", "/session", {"capabilities": {"alwaysMatch": wanted}})["sessionId"]
+        except RuntimeError as fault:
+            self.stop()
+            raise NotStarted(str(fault)) from None
 
     def find_port(self):
         for line in self.driver.stdout:
             found = re.search(rb"successfully on port (\d+)", line)
             if found:
                 return int(found[1])
-        raise RuntimeError("chromedriver did not start")
+        self.stop()
+        raise NotStarted("chromedriver did not start")
 
     def call(self, method, path, words=None):
         link = http.client.HTTPConnection("127.0.0.1", self.port, timeout=120)
@@ -62,9 +69,12 @@ class Browser:
         try:
             self.ask("DELETE", "")
         finally:
-            self.driver.terminate()
-            self.driver.wait()
-            self.home.cleanup()
+            self.stop()
+
+    def stop(self):
+        self.driver.terminate()
+        self.driver.wait()
+        self.home.cleanup()
 
     # ---- what a person does
 

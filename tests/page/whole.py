@@ -144,7 +144,7 @@ def is_damaged(line):
 
 
 # A line, and the columns that it takes, by hand: document 02, P4 and P7. Tabs are at 8.
-COLUMNS = [(b"pump 2", 6), ("a\u4e09\u53f7b".encode(), 6), ("e\u0301x".encode(), 2), (b"a\tb", 9), (b"a\t", 1), (b"41\xb0C", 4), ("a\u202eb".encode(), 2), (b"\x1b[0m", 4), ("\u0928\u092e\u0938\u094d\u0924\u0947".encode(), 4),
+COLUMNS = [(b"pump 2", 6), ("a\u4e09\u53f7b".encode(), 6), ("e\u0301x".encode(), 2), (b"a\tb", 9), (b"a\t", 1), ("a\t\u0301".encode(), 1), (b"41\xb0C", 4), ("a\u202eb".encode(), 2), (b"\x1b[0m", 4), ("\u0928\u092e\u0938\u094d\u0924\u0947".encode(), 4),
            ("\U0001f469\u200d\U0001f527".encode(), 4), ("\u00ad".encode(), 1), ("\u1112\u119e\u11ab".encode(), 2), (b"x" * 80, 80), ("\u05d0\u05d1".encode(), 2)]
 
 
