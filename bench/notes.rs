@@ -1,7 +1,7 @@
 //! The texts of whole calls: notes of 1 to 64 KiB, generated, real and hostile.
 
 use crate::options::*;
-use crate::texts::{letters, prose, Draw};
+use crate::texts::*;
 
 pub const KIB: usize = 1024;
 pub const SIZES: [usize; 4] = [KIB, 4 * KIB, 16 * KIB, 64 * KIB];
@@ -65,16 +65,10 @@ fn joined(lines: Vec<u8>) -> Vec<u8> {
     lines.into_iter().map(|b| if b == b'\n' { b' ' } else { b }).chain([b'\n']).collect()
 }
 
-/// Prose in another script: a letter for each of ours, a sign of its own between two words.
-fn script(draw: &mut Draw, letters: &str, gap: &str) -> Vec<u8> {
+/// A paragraph in another script.
+fn script(draw: &mut Draw, script: Script) -> Vec<u8> {
     let words = 10 + draw.below(141);
-    let letters: Vec<char> = letters.chars().collect();
-    let spell = |b: u8| match b {
-        b'a'..=b'z' => letters[(b - b'a') as usize % letters.len()].to_string(),
-        b' ' => gap.to_string(),
-        b => (b as char).to_string(),
-    };
-    paragraph(prose(draw, words).into_iter().map(spell).collect::<String>().into_bytes(), b"")
+    paragraph(spelled(prose(draw, words), script), b"")
 }
 
 pub fn sorts() -> Vec<Sort> {
@@ -125,14 +119,14 @@ pub fn sorts() -> Vec<Sort> {
         let notes = prose(d, 100).into_iter().flat_map(|b| if b.is_ascii_lowercase() { vec![0xc3, b + 0x40] } else { vec![b] });
         notes.chain([b'\n']).collect()
     });
-    add("Cyrillic", Opts::default(), |d| script(d, "абвгдежзийклмнопрстуфхцчшщ", " "));
-    add("Greek", Opts::default(), |d| script(d, "αβγδεζηθικλμνξοπρστυφχψως", " "));
-    add("Chinese", Opts::default(), |d| script(d, "天地玄黄宇宙洪荒日月盈昃辰宿列张", " "));
-    add("Japanese", Opts::default(), |d| script(d, "いろはにほへとちりぬるをワカヨタレソ", "\u{3000}"));
-    add("Hindi", Opts::default(), |d| script(d, "कखगि\u{940}घ\u{94d}चछज\u{947}टठ\u{902}डढ", " "));
-    add("Thai", Opts::default(), |d| script(d, "กข\u{e31}คง\u{e34}จฉ\u{e48}ชซ\u{e39}ญฐ", " "));
-    add("emoji", Opts::default(), |d| script(d, "\u{1f600}\u{1f680}\u{2764}\u{fe0f}\u{1f44d}\u{1f3fd}\u{200d}\u{1f525}", " "));
-    add("another script at every character", Opts::default(), |d| script(d, "aЖ中क\u{301}ω\u{1f600}ก한\u{200d}ñ\u{20000}\u{ff21}", "\u{2003}"));
+    add("Cyrillic", Opts::default(), |d| script(d, CYRILLIC));
+    add("Greek", Opts::default(), |d| script(d, GREEK));
+    add("Chinese", Opts::default(), |d| script(d, CHINESE));
+    add("Japanese", Opts::default(), |d| script(d, JAPANESE));
+    add("Hindi", Opts::default(), |d| script(d, HINDI));
+    add("Thai", Opts::default(), |d| script(d, THAI));
+    add("emoji", Opts::default(), |d| script(d, ("\u{1f600}\u{1f680}\u{2764}\u{fe0f}\u{1f44d}\u{1f3fd}\u{200d}\u{1f525}", " ")));
+    add("another script at every character", Opts::default(), |d| script(d, ("aЖ中क\u{301}ω\u{1f600}ก한\u{200d}ñ\u{20000}\u{ff21}", "\u{2003}")));
     add("prefix of 255 bytes", prefixed(&"x".repeat(255)), |d| paragraph(prose(d, 300), &[b'x'; 255]));
     add("the same, -w 6, letters", Opts { width: Some(6), ..prefixed(&"x".repeat(255)) }, |d| paragraph(joined(letters(d, 1000)), &[b'x'; 255]));
     add("prefix of 254 blanks, not found", prefixed(&(" ".repeat(254) + "x")), |_| [b" ".repeat(1000), b"a\n".to_vec()].concat());

@@ -49,6 +49,26 @@ pub fn letters(draw: &mut Draw, words: usize) -> Vec<u8> {
     text
 }
 
+/// Another script: a letter for each of ours, and what stands between two words.
+pub type Script = (&'static str, &'static str);
+pub const CYRILLIC: Script = ("абвгдежзийклмнопрстуфхцчшщ", " ");
+pub const GREEK: Script = ("αβγδεζηθικλμνξοπρστυφχψως", " ");
+pub const CHINESE: Script = ("天地玄黄宇宙洪荒日月盈昃辰宿列张", " ");
+pub const JAPANESE: Script = ("いろはにほへとちりぬるをワカヨタレソ", "\u{3000}");
+pub const HINDI: Script = ("कखगि\u{940}घ\u{94d}चछज\u{947}टठ\u{902}डढ", " ");
+pub const THAI: Script = ("กข\u{e31}คง\u{e34}จฉ\u{e48}ชซ\u{e39}ญฐ", " ");
+
+/// Prose in another script.
+pub fn spelled(prose: Vec<u8>, (letters, gap): Script) -> Vec<u8> {
+    let letters: Vec<char> = letters.chars().collect();
+    let spell = |b: u8| match b {
+        b'a'..=b'z' => letters[(b - b'a') as usize % letters.len()].to_string(),
+        b' ' => gap.to_string(),
+        b => (b as char).to_string(),
+    };
+    prose.into_iter().map(spell).collect::<String>().into_bytes()
+}
+
 pub type Kind = fn(&mut Draw, usize) -> Vec<u8>;
 
 /// The texts: name, generator, words a paragraph, width, uniform spacing. The goal is what the original takes for the width.
