@@ -165,17 +165,29 @@ pub fn outside(call: &Call) -> ! {
     std::process::exit(1)
 }
 
-/// What is in the output before the call: never 0, and not the same at neighbouring places.
-fn pattern(at: usize) -> u8 {
-    (at as u8).wrapping_mul(37) | 1
-}
+/// What is in the output before the call, again and again: never 0, and not the same at neighbouring places. Twice, so that a part of that
+/// length begins anywhere in the first half.
+const PERIOD: usize = 256;
+static PATTERN: [u8; 2 * PERIOD] = {
+    let (mut all, mut at) = ([0; 2 * PERIOD], 0);
+    while at < all.len() {
+        all[at] = (at as u8).wrapping_mul(37) | 1;
+        at += 1;
+    }
+    all
+};
+static ZEROS: [u8; PERIOD] = [0; PERIOD];
 
 fn fill(slice: &mut [u8]) {
-    slice.iter_mut().enumerate().for_each(|(i, b)| *b = pattern(i));
+    slice.chunks_mut(PERIOD).for_each(|part| part.copy_from_slice(&PATTERN[..part.len()]));
 }
 
 fn is_filled(slice: &[u8], from: usize) -> bool {
-    slice.iter().enumerate().all(|(i, b)| *b == pattern(from + i))
+    slice.chunks(PERIOD).all(|part| *part == PATTERN[from % PERIOD..][..part.len()])
+}
+
+fn is_zero(slice: &[u8]) -> bool {
+    slice.chunks(PERIOD).all(|part| *part == ZEROS[..part.len()])
 }
 
 /// A fault put in on purpose, to see that it is found.
@@ -280,7 +292,7 @@ impl Harness {
             _ if measured => is_filled(output, 0),
             (0, Answer::Done(digest)) => output[..number] == digest[..] && is_filled(&output[number..], number),
             (1..=3, _) => is_filled(output, 0),
-            _ => output.iter().all(|b| *b == 0),
+            _ => is_zero(output),
         };
         let beside = is_filled(margin, 0) && block[..] == call.block && notes[..] == call.notes;
         (!right || !beside).then(|| format!("code {code}: {}", if right { "a byte outside the output" } else { "the output's bytes" }))

@@ -1,6 +1,7 @@
 //! The library against the original at scale, in one process: every answer and every byte of the output.
 //!
-//!     scale run SEED COUNT TABLES [TAMPER]   TABLES is quick or long; TAMPER puts a fault in on purpose
+//!     scale run SEED COUNT TABLES [TAMPER]   TABLES is quick, long or none (random cases alone); TAMPER puts a fault in on purpose
+//!     scale tables K N                       of the whole tables each N-th case from the K-th on, counted from 0
 //!     scale apart FILE SEED COUNT TABLES PROGRAM ...  the calls made by another program (shipped.c), that shares memory as FILE
 //!     scale width SEED LINES                 quick's lines held to the width (width.rs), so many of them
 //!     scale index SEED COUNT [TAMPER]        writing with an index, and lookups (indexed.rs)
@@ -55,6 +56,8 @@ struct Run {
     original: Original,
     r: Rng,
     calls: u64,
+    /// Digests of notes with a character beyond U+02FF, all of whose first bytes are from CC on.
+    beyond: u64,
     codes: [u64; 6],
     differ: u64,
     trials: u64,
@@ -67,7 +70,7 @@ impl Run {
             unsafe { signal(number, stopped) };
         }
         let original = Original::new();
-        Run { harness, original, r: Rng(seed ^ 0x5ca1e), calls: 0, codes: [0; 6], differ: 0, trials: 0, least: None }
+        Run { harness, original, r: Rng(seed ^ 0x5ca1e), calls: 0, beyond: 0, codes: [0; 6], differ: 0, trials: 0, least: None }
     }
 
     fn fault(&mut self, call: &Call, expected: &Answer) -> Option<String> {
@@ -102,6 +105,7 @@ impl Run {
 
     fn ask(&mut self, (block, notes): asked::Asked) {
         let expected = self.original.answer(&block, &notes);
+        self.beyond += (matches!(expected, Answer::Done(_)) && notes.iter().any(|b| *b >= 0xcc)) as u64;
         let mut call = Call { block, notes, room: 0, places: 0 };
         for room in self.rooms(&expected) {
             call.room = room;
@@ -163,26 +167,41 @@ impl Run {
     }
 }
 
-fn run(seed: u64, count: u64, long: bool, harness: Harness) -> i32 {
+/// A question and the name of its kind.
+type Named = (&'static str, asked::Asked);
+
+fn tables(seed: u64, step: usize, symbols: u32) -> impl Iterator<Item = Named> {
+    asked::tables(seed, step, symbols).into_iter().flat_map(|(name, kind)| kind.map(move |asked| (name, asked)))
+}
+
+/// So many cases: tables, whole or in part, and then random ones.
+fn cases(seed: u64, count: usize, which: &str) -> Box<dyn Iterator<Item = Named>> {
+    let random = asked::random(seed);
+    match which {
+        "none" => Box::new(random.take(count)),
+        "long" => Box::new(tables(seed, 1, 5).chain(random).take(count)),
+        _ => Box::new(tables(seed, 61, 3).chain(random).take(count)),
+    }
+}
+
+fn run(seed: u64, cases: &mut dyn Iterator<Item = Named>, harness: Harness) -> i32 {
     let mut run = Run::new(seed, harness);
-    let (step, symbols) = if long { (1, 5) } else { (61, 3) };
     let mut kinds: BTreeMap<&str, u64> = BTreeMap::new();
-    let mut cases = 0;
-    let tables = asked::tables(seed, step, symbols).into_iter().flat_map(|(name, kind)| kind.map(move |asked| (name, asked)));
-    for (name, asked) in tables.chain(asked::random(seed)) {
-        if cases == count || run.differ >= ENOUGH {
+    for (name, asked) in cases {
+        *kinds.entry(name).or_default() += 1;
+        run.ask(asked);
+        if run.differ >= ENOUGH {
             break;
         }
-        *kinds.entry(name).or_default() += 1;
-        cases += 1;
-        run.ask(asked);
     }
+    let cases: u64 = kinds.values().sum();
     for (name, cases) in &kinds {
         println!("{name}: {cases} cases");
     }
     let codes: Vec<String> = run.codes.iter().enumerate().map(|(code, n)| format!("code {code} {n}")).collect();
     println!("answers: {}", codes.join(", "));
     println!("{}", run.original.width.told());
+    println!("notes with a character beyond U+02FF, formatted: {}", run.beyond);
     println!("scale: seed {seed}, {cases} cases, {} times measured, written and formatted, {} differ", run.calls, run.differ);
     if run.original.width.over > 0 {
         return 1;
@@ -250,12 +269,16 @@ fn main() {
         ["run", seed, count, tables, ref more @ ..] => {
             let tamper = TAMPERS.iter().find(|t| **t == *more.first().unwrap_or(&"none"));
             match (seed.parse(), count.parse(), tamper) {
-                (Ok(seed), Ok(count), Some(tamper)) => run(seed, count, tables == "long", Harness::new(tamper)),
+                (Ok(seed), Ok(count), Some(tamper)) => run(seed, &mut cases(seed, count, tables), Harness::new(tamper)),
                 _ => usage(),
             }
         }
         ["apart", file, seed, count, tables, ref program @ ..] if !program.is_empty() => match (seed.parse(), count.parse()) {
-            (Ok(seed), Ok(count)) => run(seed, count, tables == "long", Harness::apart(file, program)),
+            (Ok(seed), Ok(count)) => run(seed, &mut cases(seed, count, tables), Harness::apart(file, program)),
+            _ => usage(),
+        },
+        ["tables", k, n] => match (k.parse(), n.parse()) {
+            (Ok(k), Ok(n)) if n > 0 => run(k as u64, &mut tables(2026, 1, 5).skip(k).step_by(n), Harness::new("none")),
             _ => usage(),
         },
         ["width", seed, lines] => match (seed.parse(), lines.parse()) {
