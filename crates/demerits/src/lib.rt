@@ -78,6 +78,7 @@ fn apart(goal: usize, t: usize) -> f32
 }
 
 // How far a line of t columns is from the goal, as a part of the stretch: above 0 where it is short, below 0 where it is long.
+// In the original: `compute_demerits`.
 pub fn ratio(goal: usize, t: usize, stretch: usize) -> f32
     requires { ⌜ (goal ≤ t + stretch) × (t ≤ goal + stretch) × (stretch ≤ 1000) ⌝ }
     ensures { λ r. ⌜ (r ≡ S.ratio goal t stretch) × T (B.within 1 r) ⌝ }
@@ -89,6 +90,7 @@ pub fn ratio(goal: usize, t: usize, stretch: usize) -> f32
 }
 
 // L, for the line's ratio r.
+// In the original: `compute_demerits`.
 pub fn line_term(r: f32) -> u16
     requires { ⌜ T (B.within 1 r) ⌝ }
     ensures { λ l. ⌜ (l ≡ S.lineTerm r) × (l ≤ 100) ⌝ }
@@ -106,6 +108,7 @@ fn less(a: usize, b: usize) -> usize
 }
 
 // W, for the width of the line's last word. A word of the stretch or more leaves 0 to divide. At a stretch of 1 nothing is divided by 0, and W is 0, whatever the word.
+// In the original: `compute_demerits`.
 pub fn word_term(stretch: usize, word: usize) -> u16
     requires { ⌜ stretch ≤ 1000 ⌝ }
     ensures { λ w. ⌜ (w ≡ S.wordTerm stretch word) × (w ≤ B.mostWord) ⌝ }
@@ -117,6 +120,7 @@ pub fn word_term(stretch: usize, word: usize) -> u16
 }
 
 // D, for the line's ratio r and that of the line before.
+// In the original: `compute_demerits`.
 pub fn ratio_term(r: f32, old: f32) -> u16
     requires { ⌜ T (B.within 1 r) × T (B.within 1 old) ⌝ }
     ensures { λ d. ⌜ (d ≡ S.ratioTerm r old) × (d ≤ 600) ⌝ }
@@ -125,6 +129,7 @@ pub fn ratio_term(r: f32, old: f32) -> u16
 }
 
 // The cost of a break after a word of weight W, of a line with the ratio r, where the line before has the ratio old.
+// In the original: `compute_demerits`.
 pub fn cost(r: f32, old: f32, weight: u16) -> u64
     requires { ⌜ T (B.within 1 r) × T (B.within 1 old) × (weight ≤ B.mostWord) ⌝ }
     ensures { λ c. ⌜ (c ≡ S.costWith r old weight) × (c ≤ B.mostCost) ⌝ }

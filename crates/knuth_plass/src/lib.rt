@@ -298,6 +298,7 @@ fn floor(stretch: usize, weight: u16) -> u64
 }
 
 // What break n, with the word on its line of t columns, no less than the least that may end, makes of the best offer so far.
+// In the original: `find_kp_breakpoints`.
 fn offered(g: Setting, turn: Turn, n: usize, b: Break, t: usize, best: Best) -> Best
     requires { ⌜ R.Offers g turn b t × (minimumOf g ≤ t) ⌝ }
     ensures { λ r. ⌜ R.OfferedIs g turn n b best r ⌝ }
@@ -345,6 +346,7 @@ fn keep(
 
 // One turn of a round: the k-th active break loses the reduction and gets the word on its line. It stays active, and may offer, where
 // the line is no longer than the width.
+// In the original: `find_kp_breakpoints`.
 fn visit(
     g: Setting,
     turn: Turn,
@@ -375,6 +377,7 @@ fn visit(
 }
 
 // A round over all active breaks.
+// In the original: `find_kp_breakpoints`.
 fn advance(
     g: Setting,
     turn: Turn,
@@ -425,6 +428,7 @@ fn append(
 }
 
 // The break that begins again where nothing stays, from break n: before the word where that is the lesser evil, and never on a fresh line.
+// In the original: `restart_active_breaks`.
 fn restarted(g: Setting, turn: Turn, n: usize, least: Break) -> Break
     requires { ⌜ R.Limits g × R.Turns g turn × (least .columns < 2 ^ 32) ⌝ }
     ensures { λ r. ⌜ R.Restarted g turn n least r ⌝ }
@@ -459,6 +463,7 @@ fn restarted(g: Setting, turn: Turn, n: usize, least: Break) -> Break
 }
 
 // The end of a round: the best offer becomes one break more; where nothing stays, one break begins again.
+// In the original: `find_kp_breakpoints`.
 fn settle(
     g: Setting,
     turn: Turn,
@@ -516,6 +521,7 @@ fn settle(
 }
 
 // The round of word i.
+// In the original: `find_kp_breakpoints`.
 fn round(
     g: Setting,
     table: &[u32],
@@ -545,6 +551,7 @@ fn round(
 }
 
 // The sentence mark of the word behind word i, of n.
+// In the original: `find_kp_breakpoints`.
 fn sentence_behind(table: &[u32], n: usize, i: usize) -> bool
     requires { ⌜ (i < n) × (n ≤ 1024) × Holds n (now table) ⌝ }
     ensures { λ r. ⌜ ((notes : List ℕ) → r ≡ sentenceBehind (meaning notes (wordIn (now (table .entry)) i)) (drop (i + 1) (wordsIn notes n (now (table .entry))))) ⌝ }
@@ -565,6 +572,7 @@ fn sentence_behind(table: &[u32], n: usize, i: usize) -> bool
 }
 
 // One round for each word behind the first.
+// In the original: `find_kp_breakpoints`.
 fn rounds(
     g: Setting,
     table: &[u32],
@@ -628,6 +636,7 @@ fn lesser(breaks: &[u32], ratios: &[f32], m: usize, n: usize) -> usize
 }
 
 // The first active break of least demerits.
+// In the original: `build_best_path`.
 fn least(breaks: &[u32], ratios: &[f32], active: &[u32], st: Standing) -> usize
     requires { ⌜ R.Listed st (T.tables (now breaks) (now ratios)) (now active) ⌝ }
     ensures { λ r. ⌜ R.LeastIs st (T.tables (now (breaks .entry)) (now (ratios .entry))) (now (active .entry)) r ⌝ }
@@ -677,6 +686,7 @@ fn mark(marks: &mut [bool], n: usize, at: usize)
 }
 
 // The marks of the path that ends at a record, from break to previous break.
+// In the original: `build_best_path`.
 fn mark_path(breaks: &[u32], ratios: &[f32], marks: &mut [bool], n: usize, last: usize)
     requires { ⌜ (n ≤ length (now marks)) × (last < length (now ratios)) × T.Sized (T.tables (now breaks) (now ratios)) × T.Leads (T.tables (now breaks) (now ratios)) last ⌝ }
     ensures { λ _. ⌜ T.MarkedUpTo n (now (marks .entry)) (now (marks .exit)) (λ (j : ℕ). getD (now (marks .entry)) j false || startsLine j (T.pathTo (T.tables (now (breaks .entry)) (now (ratios .entry))) last)) ⌝ }
@@ -691,6 +701,7 @@ fn mark_path(breaks: &[u32], ratios: &[f32], marks: &mut [bool], n: usize, last:
 
 // The best breaks of a paragraph of n words, as marks by word: mark i says whether a new line starts with word i. The other tables are
 // lent to work in, and what they hold afterwards is left open.
+// In the original: `break_knuth_plass`.
 pub fn best_breaks(
     table: &[u32],
     n: usize,

@@ -45,6 +45,7 @@ struct Spot {
 }
 
 // The first line of what is left of the notes.
+// In the original: `FileLines::next`.
 pub fn first_line(s: &[u8]) -> Extent
     ensures { λ r. ⌜ r ≡ lengthsOf (firstLine (now (s .entry))) ⌝ }
 {
@@ -127,6 +128,7 @@ fn without_return(body: &[u8]) -> usize
 }
 
 // Whether p stands at the front of s. Its last byte is tried first: among blanks that alone tells most places.
+// In the original: `FileLines::match_prefix_generic`.
 pub fn begins(p: &[u8], s: &[u8]) -> bool
     ensures { λ r. ⌜ r ≡ begins (now (p .entry)) (now (s .entry)) ⌝ }
 {
@@ -189,6 +191,7 @@ fn are_same(p: &[u8], s: &[u8], i: usize) -> bool
 }
 
 // The class of a line's text. Plain are a damaged line, a skipped one, and one without its prefix or with only blanks behind it.
+// In the original: `FileLines::next`.
 pub fn classify(line: &[u8], o: Options, block: &[u8]) -> Class
     requires { ⌜ Usable (now block) o × (length (now line) ≤ 65536) ⌝ }
     ensures { λ r. ⌜ r ≡ classify (meant (now (block .entry)) o) (now (line .entry)) ⌝ }
@@ -251,6 +254,7 @@ fn wide(b: u8) -> u32
 }
 
 // The class of a line by its prefix, which must be there with more than blanks behind it.
+// In the original: `FileLines::match_prefix`.
 fn behind_prefix(line: &[u8], p: &[u8], exact: bool, tab: usize, glue: bool) -> Class
     requires { ⌜ (length (now line) ≤ 65536) × (1 ≤ tab) × (tab ≤ 100) ⌝ }
     ensures { λ r. ⌜ r ≡ classAt tab (length (now (p .entry))) (glyphs glue (now (line .entry))) (search exact (now (p .entry)) (now (line .entry)) 0 (glyphs glue (now (line .entry)))) ⌝ }
@@ -274,6 +278,7 @@ fn behind_prefix(line: &[u8], p: &[u8], exact: bool, tab: usize, glue: bool) -> 
 }
 
 // Whether a line begins with the skip prefix. One that is not given begins no line.
+// In the original: `FileLines::match_anti_prefix`.
 fn is_skipped(line: &[u8], skip: Part, exact: bool, block: &[u8]) -> bool
     requires { ⌜ Lies (now block) skip ⌝ }
     ensures { λ r. ⌜ ((glue : Bool) → r ≡ somewhere (skipFound exact (textOf (now (block .entry)) skip) (now (line .entry)) (glyphs glue (now (line .entry))))) ⌝ }
@@ -288,6 +293,7 @@ fn is_skipped(line: &[u8], skip: Part, exact: bool, block: &[u8]) -> bool
 }
 
 // Where a prefix stands: at the line's start or, unless exact, at the first place with only blanks before it.
+// In the original: `FileLines::match_prefix_generic`.
 fn find(line: &[u8], p: &[u8], exact: bool) -> Found
     ensures { λ r. ⌜ ((glue : Bool) → r ≡ search exact (now (p .entry)) (now (line .entry)) 0 (glyphs glue (now (line .entry)))) ⌝ }
 {
@@ -306,6 +312,7 @@ fn find(line: &[u8], p: &[u8], exact: bool) -> Found
 }
 
 // On from the margin, which ends where the prefix does, over the blanks that stand there.
+// In the original: `FileLines::compute_indent`.
 fn behind_margin(line: &[u8], end: usize, margin: Spot, tab: usize, glue: bool) -> Spot
     requires { ⌜ (end ≤ length (now line)) × Inside (now line) margin × (length (now line) ≤ 65536) × (1 ≤ tab) × (tab ≤ 100) ⌝ }
     ensures { λ r. ⌜ BehindBlanks tab (now (line .entry)) (glyphsBehind glue (now (line .entry)) end (margin .at)) margin r ⌝ }
@@ -364,6 +371,7 @@ fn has_ink_before(line: &[u8], place: usize) -> bool
 }
 
 // On from a spot over the blanks that stand there; before ink U+00A0 is one whatever glue says. None stands at the line's end.
+// In the original: `FileLines::compute_indent`.
 fn over_blanks(line: &[u8], from: Spot, tab: usize) -> Spot
     requires { ⌜ Inside (now line) from × (length (now line) ≤ 65536) × (1 ≤ tab) × (tab ≤ 100) ⌝ }
     ensures { λ r. ⌜ ((glue : Bool) → BehindBlanks tab (now (line .entry)) (glyphs glue (drop (from .at) (now (line .entry)))) from r) ⌝ }
@@ -382,6 +390,7 @@ fn over_blanks(line: &[u8], from: Spot, tab: usize) -> Spot
 }
 
 // The spot behind the characters that begin before a place.
+// In the original: `FileLines::compute_indent`.
 fn measure_to(line: &[u8], place: usize, tab: usize) -> Spot
     requires { ⌜ (place ≤ length (now line)) × (length (now line) ≤ 65536) × (1 ≤ tab) × (tab ≤ 100) ⌝ }
     ensures { λ r. ⌜ Inside (now (line .entry)) r × BehindPlace tab (now (line .entry)) place r ⌝ }
@@ -394,6 +403,7 @@ fn measure_to(line: &[u8], place: usize, tab: usize) -> Spot
 }
 
 // The spot behind the character at a spot. A damaged byte is one by itself.
+// In the original: `FileLines::compute_indent`.
 fn behind(line: &[u8], spot: Spot, tab: usize) -> Spot
     requires { ⌜ Inside (now line) spot × (spot .at < length (now line)) × (length (now line) ≤ 65536) × (1 ≤ tab) × (tab ≤ 100) ⌝ }
     ensures { λ r. ⌜ Behind tab (now (line .entry)) spot r ⌝ }
@@ -420,6 +430,7 @@ fn behind(line: &[u8], spot: Spot, tab: usize) -> Spot
 }
 
 // The column behind a character: a tab goes to the next stop.
+// In the original: `FileLines::compute_indent`.
 fn column_behind(column: usize, code: u32, tab: usize) -> usize
     requires { ⌜ (column ≤ 6553600) × (1 ≤ tab) × (tab ≤ 100) ⌝ }
     ensures { λ r. ⌜ (r ≡ cond (eqb code 9) (nextStop tab column) (column + widthOf code)) × (r ≤ column + 100) ⌝ }

@@ -79,6 +79,7 @@ pub enum Block {
 }
 
 // The accepted options, or the place of the first faulty field, or the block's length where the width and goal rule fails.
+// In the original: `uumain`.
 pub fn read_block(block: &[u8]) -> Block
     ensures { λ r. ⌜ r ≡ readBlock (now (block .entry)) ⌝ }
 {
@@ -175,6 +176,7 @@ fn settle(block: &[u8]) -> Block
 }
 
 // The options by the block's fields; a field that is missing is not given.
+// In the original: `uumain`.
 fn options_of(block: &[u8]) -> Options
     ensures { λ r. ⌜ r ≡ optionsOf (now (block .entry)) (fields (now (block .entry))) ⌝ }
 {
@@ -227,6 +229,7 @@ fn is_set(flags: usize, weight: usize) -> bool
 }
 
 // A goal without a width asks for some columns beyond it.
+// In the original: `uumain`.
 fn width_of(block: &[u8], width: Part, goal: Part) -> usize
     ensures { λ r. ⌜ r ≡ widthFrom (now (block .entry)) width goal ⌝ }
 {
@@ -241,6 +244,7 @@ fn width_of(block: &[u8], width: Part, goal: Part) -> usize
 }
 
 // A width without a goal leaves some columns below it.
+// In the original: `uumain`.
 fn goal_of(block: &[u8], width: Part, goal: Part) -> usize
     ensures { λ r. ⌜ r ≡ goalFrom (now (block .entry)) width goal ⌝ }
 {
@@ -265,6 +269,7 @@ fn least_width(width: Part, goal: Part) -> usize
 }
 
 // The width and goal rule. What the width has beyond the goal is at most the goal again: twice the goal could overflow.
+// In the original: `uumain`.
 fn fits(least: usize, width: usize, goal: usize) -> bool
     ensures { λ r. ⌜ r ≡ fits least width goal ⌝ }
 {

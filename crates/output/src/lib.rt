@@ -154,6 +154,7 @@ fn copy(text: &[u8], rest: &mut [u8])
 }
 
 // Bytes of the notes: words, with the blanks before them or bare, or the bytes of an indent.
+// In the original: `write_with_spaces`.
 pub fn put_text(notes: &[u8], from: usize, to: usize, rest: &mut [u8]) -> usize
     requires { ⌜ (from ≤ to) × (to ≤ length (now notes)) ⌝ }
     ensures { λ r. ⌜ Wrote (now (rest .entry)) 0 (slice from to (now (notes .entry))) (now (rest .exit)) r ⌝ }
@@ -177,6 +178,7 @@ pub fn put_spaces(count: usize, rest: &mut [u8]) -> usize
 }
 
 // The spaces that are added before a word, two at most: without a loop, which would become a call.
+// In the original: `write_with_spaces`.
 pub fn put_added(count: usize, rest: &mut [u8]) -> usize
     requires { ⌜ count ≤ 2 ⌝ }
     ensures { λ r. ⌜ Wrote (now (rest .entry)) 0 (replicate count 32) (now (rest .exit)) r ⌝ }
@@ -214,6 +216,7 @@ pub fn put_margin(notes: &[u8], m: Margin, rest: &mut [u8]) -> usize
 }
 
 // A new line: a line feed, and the indent behind it.
+// In the original: `write_newline`.
 pub fn put_break(notes: &[u8], indent: Margin, rest: &mut [u8]) -> usize
     requires { ⌜ MarginIn (length (now notes)) indent ⌝ }
     ensures { λ r. ⌜ Wrote (now (rest .entry)) 0 (lineFeed ++ marginOf (now (notes .entry)) indent) (now (rest .exit)) r ⌝ }
@@ -225,6 +228,7 @@ pub fn put_break(notes: &[u8], indent: Margin, rest: &mut [u8]) -> usize
 
 // A word with what stands before it, and the notes behind it up to end: on a fresh line the line feed and the indent, else added spaces
 // and its blanks.
+// In the original: `slice_if_fresh`.
 pub fn put_word(
     notes: &[u8],
     w: Word,
@@ -248,6 +252,7 @@ pub fn put_word(
 }
 
 // The first word and the notes behind it, bare behind the first indent.
+// In the original: `break_lines`.
 pub fn put_first(notes: &[u8], from: usize, to: usize, first: Margin, rest: &mut [u8]) -> usize
     requires { ⌜ (from ≤ to) × (to ≤ length (now notes)) × MarginIn (length (now notes)) first × (length (now notes) < 2 ^ 32) ⌝ }
     ensures { λ r. ⌜ Wrote (now (rest .entry)) 0 (marginOf (now (notes .entry)) first ++ slice from to (now (notes .entry))) (now (rest .exit)) r ⌝ }
@@ -332,6 +337,7 @@ fn run_from(
 }
 
 // The words behind the first run, and the line feed at the end.
+// In the original: `break_knuth_plass`.
 fn emit_rest(
     notes: &[u8],
     table: &[u32],
@@ -403,6 +409,7 @@ fn emitted_size(notes: &[u8], table: &[u32], n: usize, marks: &[bool], l: Layout
 }
 
 // A paragraph of n words, broken where the marks say, written behind at bytes. Answers the written end, whether or not all of it fitted.
+// In the original: `break_knuth_plass`.
 pub fn emit(
     notes: &[u8],
     table: &[u32],
@@ -428,6 +435,7 @@ pub fn emit(
 }
 
 // A line of the notes as it is, and a line feed, written behind at bytes; a blank line has no bytes of its own.
+// In the original: `uumain`.
 pub fn emit_line(notes: &[u8], from: usize, to: usize, out: &mut [u8], at: usize) -> usize
     requires { ⌜ (from ≤ to) × (to ≤ length (now notes)) × (length (now notes) < 2 ^ 32) × (at < 2 ^ 62) ⌝ }
     ensures { λ r. ⌜ Wrote (now (out .entry)) at (slice from to (now (notes .entry)) ++ lineFeed) (now (out .exit)) r × (r ≤ at + (to - from) + 1) ⌝ }

@@ -27,6 +27,7 @@ pub enum Step {
 }
 
 // Writes a paragraph, unless it has more words than the tables have room for.
+// In the original: `break_lines`.
 pub fn put_paragraph(
     notes: &[u8],
     at: usize,
@@ -76,6 +77,7 @@ pub fn put_paragraph(
 }
 
 // Marks where lines of n words start. The other tables are lent to work in.
+// In the original: `break_lines`.
 pub fn mark_breaks(
     fast: bool,
     g: Setting,
@@ -97,6 +99,7 @@ pub fn mark_breaks(
 }
 
 // What a paragraph is broken with. Mail always counts as uniform.
+// In the original: `break_lines`.
 pub fn setting_of(o: Options, p: Paragraph) -> Setting
     ensures { λ r. ⌜ ((block : List ℕ) → r ≡ settingFor block o p) ⌝ }
 {

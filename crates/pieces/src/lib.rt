@@ -61,6 +61,7 @@ pub struct Classed {
 }
 
 // The piece that begins at a line's start.
+// In the original: `ParagraphStream::next`.
 pub fn next_piece(notes: &[u8], at: usize, o: Options, block: &[u8], next_mail: bool) -> Piece
     requires { ⌜ (at < length (now notes)) × (length (now notes) ≤ 65536) × Usable (now block) o × Cleared o ⌝ }
     ensures { λ r. ⌜ (r ≡ pieceAt (meant (now (block .entry)) o) «next_mail» (now (notes .entry)) at) × Bounded (o .glue) (now (notes .entry)) at r ⌝ }
@@ -95,6 +96,7 @@ fn is_hanging(crown: bool, tagged: bool) -> bool
 }
 
 // A mail paragraph: no first indent, then two spaces; it goes on with indented lines.
+// In the original: `ParagraphStream::next`.
 fn mail_paragraph(
     notes: &[u8],
     at: usize,
@@ -129,6 +131,7 @@ fn mail_paragraph(
 }
 
 // A plain paragraph: all its lines agree.
+// In the original: `ParagraphStream::next`.
 fn plain_paragraph(
     notes: &[u8],
     at: usize,
@@ -151,6 +154,7 @@ fn plain_paragraph(
 }
 
 // A crown or tagged paragraph: the second line sets the indent.
+// In the original: `ParagraphStream::next`.
 fn hanging_paragraph(
     notes: &[u8],
     at: usize,
@@ -212,6 +216,7 @@ fn further_spaces(tagged: bool) -> usize
 }
 
 // The second line, if it is there and joins.
+// In the original: `ParagraphStream::next`.
 fn second_line(notes: &[u8], at: usize, s: Shape, o: Options, block: &[u8]) -> Second
     requires { ⌜ PieceReady (now notes) (now block) o at ⌝ }
     ensures { λ r. ⌜ (r ≡ secondAt (meant (now (block .entry)) o) s (now (notes .entry)) at) × SecondSound (now (notes .entry)) at r ⌝ }
@@ -234,6 +239,7 @@ fn second_line(notes: &[u8], at: usize, s: Shape, o: Options, block: &[u8]) -> S
 }
 
 // The place behind the lines that join by a rule. Split: one line each.
+// In the original: `ParagraphStream::next`.
 fn further(notes: &[u8], at: usize, rule: Rule, o: Options, block: &[u8]) -> usize
     requires { ⌜ PieceReady (now notes) (now block) o at ⌝ }
     ensures { λ r. ⌜ (r ≡ cond (o .split) at (reach (meant (now (block .entry)) o) (passesRule rule (o .prefix)) (now (notes .entry)) at)) × (r ≤ length (now (notes .entry))) ⌝ }
@@ -244,6 +250,7 @@ fn further(notes: &[u8], at: usize, rule: Rule, o: Options, block: &[u8]) -> usi
     follow(notes, at, rule, o, block)
 }
 
+// In the original: `ParagraphStream::next`.
 fn follow(notes: &[u8], at: usize, rule: Rule, o: Options, block: &[u8]) -> usize
     requires { ⌜ PieceReady (now notes) (now block) o at ⌝ }
     ensures { λ r. ⌜ (r ≡ reach (meant (now (block .entry)) o) (passesRule rule (o .prefix)) (now (notes .entry)) at) × (r ≤ length (now (notes .entry))) ⌝ }
@@ -278,6 +285,7 @@ fn margin_at(at: usize, more: usize, s: Shape) -> Margin
 }
 
 // A line starts mail: flag set, next-mail true, indent end 0, and a header's text.
+// In the original: `ParagraphStream::is_mail_header`.
 fn starts_mail(line: &[u8], mail: bool, next_mail: bool, s: Shape) -> bool
     ensures { λ r. ⌜ r ≡ startsMail mail «next_mail» s (now (line .entry)) ⌝ }
 {
@@ -294,6 +302,7 @@ fn starts_mail(line: &[u8], mail: bool, next_mail: bool, s: Shape) -> bool
 }
 
 // The mail rule: `From `, or a name of printable bytes with its colon behind it.
+// In the original: `ParagraphStream::is_mail_header`.
 pub fn is_header(line: &[u8]) -> bool
     ensures { λ r. ⌜ r ≡ headerText (now (line .entry)) ⌝ }
 {
@@ -312,6 +321,7 @@ pub fn is_header(line: &[u8]) -> bool
 }
 
 // The first place whose byte is a colon or is not printable, or the end.
+// In the original: `ParagraphStream::is_mail_header`.
 fn name_end(line: &[u8]) -> usize
     ensures { λ r. ⌜ (r ≡ length (while headerName (now (line .entry)))) × (r ≤ length (now (line .entry))) ⌝ }
 {

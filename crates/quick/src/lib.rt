@@ -17,6 +17,7 @@ ghost use Rattle.quick.specs.Quick.{quickBreaks};
 ghost use Rattle.quick.specs.QuickLines.{quickLines};
 
 // The column that a word reaches if it goes on the line; punct is the mark of the word before it.
+// In the original: `accum_words_simple`.
 fn reach(g: Setting, column: usize, punct: bool, w: Word) -> usize
     requires { ⌜ Fair g × Small w × (column < 2 ^ 34) ⌝ }
     ensures { λ r. ⌜ (r ≡ column + gapWidth (g .tab) column (w .before) (w .after) + addedSpace (g .uniform) (w .first) (w .sentence) punct + w .width) × (r < 2 ^ 36) ⌝ }
@@ -36,6 +37,7 @@ fn pick(first: bool, a: usize, b: usize) -> usize
 }
 
 // Marks each word behind the first that no longer fits its line: a new line starts with it.
+// In the original: `break_simple`.
 pub fn quick_breaks(table: &[u32], n: usize, g: Setting, marks: &mut [bool])
     requires { ⌜ (1 ≤ n) × (n ≤ 1024) × Holds n (now table) × (n ≤ length (now marks)) × Fair g ⌝ }
     ensures { λ _. ⌜ ((notes : List ℕ) → Marked n (now (marks .entry)) (quickBreaks g (wordsIn notes n (now (table .entry)))) (now (marks .exit))) ⌝ }

@@ -71,6 +71,7 @@ fn bit(mark: bool, value: u32) -> u32
 }
 
 // The record at i, put together.
+// In the original: `ParaWords::words`.
 pub fn get(t: &[u32], i: usize) -> Word
     requires { ⌜ Room i (now t) ⌝ }
     ensures { λ r. ⌜ Got (now (t .entry)) i r ⌝ }

@@ -26,6 +26,7 @@ fn next_stop(tab: usize, column: usize) -> usize
 }
 
 // The width of a gap that begins at a column. A tab goes to the next stop behind the blanks before it.
+// In the original: `BreakArgs::compute_width`.
 pub fn gap_width(tab: usize, column: usize, before: Before, after: usize) -> usize
     requires { ⌜ (1 ≤ tab) × (tab ≤ 100) × (column < 2 ^ 40) × (beforeNumber before < 2 ^ 32) × (after < 2 ^ 32) ⌝ }
     ensures { λ r. ⌜ GapIs tab column before after r ⌝ }
@@ -38,6 +39,7 @@ pub fn gap_width(tab: usize, column: usize, before: Before, after: usize) -> usi
 
 // The spaces that are added before a word: where it was the first of its line, or everywhere if uniform. punct is the mark of the word
 // before it.
+// In the original: `compute_slen`.
 pub fn added_space(uniform: bool, first: bool, sentence: bool, punct: bool) -> usize
     ensures { λ r. ⌜ AddedIs uniform first sentence punct r ⌝ }
 {

@@ -44,6 +44,7 @@ pub fn put_all(o: Options, block: &[u8], notes: &[u8], out: &mut [u8]) -> Ended
 }
 
 // The pieces themselves. The work goes on when no room is left: too many words, found later, take precedence.
+// In the original: `ParagraphStream::new` and `uumain`.
 fn put_pieces(o: Options, block: &[u8], notes: &[u8], out: &mut [u8]) -> Ended
     requires { ⌜ Admitted (now block) (now notes) o ⌝ }
     ensures { λ r. ⌜ FinishedFrom (meant (now (block .entry)) o) (now (notes .entry)) start (now (out .entry)) (now (out .exit)) r ⌝ }
@@ -321,6 +322,7 @@ fn put_best_long(
 }
 
 // Paragraph by paragraph, each with the lines behind it, as far as the tables reach.
+// In the original: `uumain`.
 fn put_texts(
     o: Options,
     block: &[u8],

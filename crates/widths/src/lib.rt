@@ -12,6 +12,7 @@ mod table;
 mod words;
 
 // How many columns a character takes: 0, 1 or 2.
+// In the original: `char_width`.
 pub fn width(c: u32) -> usize
     ensures { λ r. ⌜ r ≡ widthOf c ⌝ }
 {

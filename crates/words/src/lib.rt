@@ -53,6 +53,7 @@ enum Next {
 // The words of a paragraph's lines, which stand in the notes from at up to next, with their places: the words of the first line begin at
 // start, those of the others at later. At most so many words are wanted, for which the table has room. What it holds behind the words is
 // scratch, and all of it if there are too many.
+// In the original: `ParaWords::create_words`.
 pub fn split_words(
     notes: &[u8],
     at: usize,
@@ -85,6 +86,7 @@ pub fn split_words(
 }
 
 // Where the words of a line begin, of which mail's is taken whole.
+// In the original: `WordSplit::new`.
 fn begin(mail: bool, line: usize, start: usize) -> usize
     requires { ⌜ (mail ≡ false → line + start ≤ 65536) ⌝ }
     ensures { λ r. ⌜ r ≡ line + cond mail 0 start ⌝ }
@@ -94,6 +96,7 @@ fn begin(mail: bool, line: usize, start: usize) -> usize
 
 // The words of a line from start up to end, behind the first n of the table; or that there are too many. Unless it is mail, its first word
 // begins at start.
+// In the original: `ParaWords::create_words`.
 fn split_line(
     notes: &[u8],
     start: usize,
@@ -128,6 +131,7 @@ fn split_line(
 }
 
 // The next word from a place on; the first of a line begins at the place. Blanks at the end belong to no word.
+// In the original: `WordSplit::next`.
 fn next_word(s: &[u8], at: usize, mail: bool, first: bool, previous: bool, o: Options) -> Next
     requires { ⌜ (at ≤ length (now s)) × (length (now s) ≤ 65536) × (1 ≤ o .tab) × (o .tab ≤ 100) × (first ≡ true → while isBlank (inkGlyphs (o .glue) (drop at (now s))) ≡ []) ⌝ }
     ensures { λ r. ⌜ NextIs (meant [] o) mail first previous (now (s .entry)) at r ⌝ }
@@ -145,6 +149,7 @@ fn next_word(s: &[u8], at: usize, mail: bool, first: bool, previous: bool, o: Op
 }
 
 // The record of a word behind blanks that begin at a place.
+// In the original: `WordSplit::next`.
 fn word_of(
     uniform: bool,
     characters: bool,
@@ -187,6 +192,7 @@ fn word_of(
 
 // Whether a word starts a sentence: the one before it on its line ends in punctuation, and the blanks between have a tab or are more
 // than one by the counting rule.
+// In the original: `WordSplit::next`.
 fn starts_sentence(characters: bool, previous: bool, at: usize, b: Blanks) -> bool
     requires { ⌜ at ≤ b .end ⌝ }
     ensures { λ r. ⌜ r ≡ (previous && (hasTab (b .before) || ltb 1 (cond characters (b .after) (b .end - at)))) ⌝ }
@@ -210,6 +216,7 @@ fn blank_count(characters: bool, at: usize, b: Blanks) -> usize
 }
 
 // The record of a word in mail.
+// In the original: `WordSplit::next`.
 fn mail_word(start: usize, end: usize) -> Word
     requires { ⌜ start ≤ end ⌝ }
     ensures { λ r. ⌜ r ≡ mailAt start end ⌝ }
@@ -228,6 +235,7 @@ fn mail_word(start: usize, end: usize) -> Word
 }
 
 // The blanks before a word: none before the first of a line, which may begin with U+00A0 where glue is on and a prefix stands before it.
+// In the original: `WordSplit::new`.
 fn blanks_at(s: &[u8], at: usize, tab: usize, first: bool) -> Blanks
     requires { ⌜ (at ≤ length (now s)) × (length (now s) ≤ 65536) × (1 ≤ tab) × (tab ≤ 100) ⌝ }
     ensures { λ r. ⌜ (first ≡ true → r ≡ noBlanks at) × (first ≡ false → (glue : Bool) → OverBlanks glue tab false (now (s .entry)) at r) ⌝ }
@@ -243,6 +251,7 @@ fn blanks_at(s: &[u8], at: usize, tab: usize, first: bool) -> Blanks
 }
 
 // The blanks at a place behind which a word has ended. They are the same with glue and without: a U+00A0 among them is blank.
+// In the original: `WordSplit::analyze_tabs`.
 fn over_blanks(s: &[u8], at: usize, tab: usize) -> Blanks
     requires { ⌜ (at ≤ length (now s)) × (length (now s) ≤ 65536) × (1 ≤ tab) × (tab ≤ 100) ⌝ }
     ensures { λ r. ⌜ ((glue : Bool) → OverBlanks glue tab false (now (s .entry)) at r) ⌝ }
@@ -327,6 +336,7 @@ fn starts_ink(s: &[u8], at: usize) -> bool
 }
 
 // Blanks with one more, which ends at next. The first tab parts the counts; a later one goes to the next stop.
+// In the original: `WordSplit::analyze_tabs`.
 fn behind_blank(b: Blanks, code: u32, next: usize, tab: usize) -> Blanks
     requires { ⌜ (1 ≤ tab) × (tab ≤ 100) × (b .after ≤ 6553600) ⌝ }
     ensures { λ r. ⌜ (r .end ≡ next) × (gapIn r ≡ gapBehind tab code (gapIn b)) ⌝ }
@@ -354,6 +364,7 @@ fn behind_blank(b: Blanks, code: u32, next: usize, tab: usize) -> Blanks
 }
 
 // The ink at a place: all up to the next blank. With glue on, U+00A0 that have ink behind them too are part of it.
+// In the original: `WordSplit::next`.
 fn over_ink(s: &[u8], at: usize, glue: bool) -> Ink
     requires { ⌜ (at ≤ length (now s)) × (length (now s) ≤ 65536) ⌝ }
     ensures { λ r. ⌜ OverInk glue (now (s .entry)) at r ⌝ }
@@ -563,6 +574,7 @@ fn wide(b: u8) -> u32
     b as u32
 }
 
+// In the original: `WordSplit::is_punctuation`.
 fn is_punct(code: u32) -> bool
     ensures { λ r. ⌜ r ≡ punctCode code ⌝ }
 {
