@@ -125,10 +125,6 @@ module _ {M : Type 1} {𝓤 : URA M} {H : Heap 𝓤} {A : Atoms 𝓤} {K : Type 
       → Step K W (‵ (row R q ys b o) ∷ Γ) G (‵ (cellAt q (R .mir) (low (recordAt ys i) ∷ []) b (place 32 o i)) ∷ ‵ (R .own (recordAt ys i) (low (recordAt ys i) ∷ [])) ∷ ‵ (others (shares R) q ys i b o) ∷ Γ) G
   puts-back t q ys i b o l = elem-back t R q ys i noRecord (low (recordAt ys i) ∷ []) b o l
 
-  pub puts-in : K → (ys : List Record) (i : ℕ) (v : Record) (b o : ℕ) → i < length ys → Ok v
-      → Step K W (‵ (row R fullShare (set ys i v) b o) ∷ Γ) G (‵ (cellAt fullShare (R .mir) (low v ∷ []) b (place 32 o i)) ∷ ‵ (R .own (recordAt ys i) (low (recordAt ys i) ∷ [])) ∷ ‵ (others (shares R) fullShare ys i b o) ∷ Γ) G
-  puts-in t ys i v b o l g = step (λ s. move t (1 ∷ []) $ drop t $ owned t R (Is R) (R-makes 𝓤 H A) v _ g $ move t (1 ∷ 0 ∷ []) $ elem-put t R fullShare ys i v (low v ∷ []) b o l $ s)
-
   pub looks-in : K → Soaks G → {κ : Lft} {q : Share} (ys : List Record) (b o : ℕ)
       → ((q′ : Share) → Seq K W (‵ (row R q′ ys b o) ∷ ‵ (fobor κ q (arr-parts (shares R) (length ys) .part q′ ys b o)) ∷ ‵ (fshr-bor κ (λ s. arr-parts (shares R) (length ys) .part s ys b o)) ∷ Γ) G)
       → Seq K W (‵ (fshr-bor κ (λ s. arr-parts (shares R) (length ys) .part s ys b o)) ∷ ‵ (flft κ q) ∷ Γ) G

@@ -17,7 +17,7 @@ use Rattle.options.specs.declared.Options.{Options}
 use Rattle.options.specs.declared.Block.the-variants.{Accepted, Fault}
 use Rattle.options.specs.OptionBlock.{number, fields, firstFault, partOf, numberAt, leastWidth, fits, bit, optionsOf, judged, readBlock}
 use Rattle.options.proofs.Values.{number-two, text-true, prefix-true, allowed-tab, allowed-prefix}
-use Rattle.options.proofs.Given.{Value, fault-place, part-value}
+use Rattle.options.proofs.Given.{Value, part-value}
 use Rattle.options.proofs.Settled.{least-width, fits-true}
 
 -- a given prefix: a part of the block, of at most 255 bytes, none of them damaged
@@ -102,18 +102,3 @@ module _ (block : List ℕ) where
       settle : (f : Found) → firstFault (fields block) ≡ f → judged block (fields block) f ≡ Accepted o → Kept block o
       settle (At place) q a = absurd (accepted-fault o place (sym a))
       settle Nowhere q a = rule (keeps block) refl q a
-
-  pub fault-within : (place : ℕ) → readBlock block ≡ Fault place → place ≤ length block
-  unfolding readBlock
-  fault-within place e = settle (firstFault (fields block)) refl e
-    where
-      rule : (t : Bool) (o : Options) → cond t (Accepted o) (Fault (length block)) ≡ Fault place → place ≤ length block
-      rule true o a = absurd (accepted-fault o place a)
-      rule false o a = let q : length block ≡ place = cc in omega arith
-
-      settle : (f : Found) → firstFault (fields block) ≡ f → judged block (fields block) f ≡ Fault place → place ≤ length block
-      settle (At p) q a =
-          let s : p ≡ place = cc in
-          let h = fault-place block p q in
-          omega arith
-      settle Nowhere q a = rule (keeps block) (optionsOf block (fields block)) a

@@ -13,7 +13,7 @@ use Rattle.text.specs.declared.Found.the-variants.{At, Nowhere}
 use Rattle.options.specs.declared.Part.the-variants.{Absent, Given}
 use Rattle.options.specs.OptionBlock.{number, fields, allowed, wellFormed, firstFault, partOf}
 use Rattle.options.specs.Contracts.Places.{fieldAt}
-use Rattle.options.proofs.Fields.{rest, rest-all, well-order, well-cut, well-value, fault-none, fault-here, fault-later, part-none, part-here, part-later}
+use Rattle.options.proofs.Fields.{rest, rest-all, well-order, well-cut, well-value, fault-here, fault-later, part-none, part-here, part-later}
 
 -- the value of a tag's field, as a part of the block
 pub record Value (block : List ℕ) (tag start end : ℕ) : Type 0 where
@@ -73,15 +73,6 @@ module _ (block : List ℕ) where
   all : From block 0 0
   all = from (length block) 0 0 (omega arith)
 
-  -- the first fault is a field's place
-  fault-from : {at previous : ℕ} (place : ℕ) → From block at previous → firstFault (rest block at previous) ≡ At place → place < length block
-  fault-from {at} {previous} place (none h) e = absurd (at-nowhere place (sym e ∙ fault-none block at previous h))
-  fault-from {at} {previous} place (faulty h w) e =
-      let n = fault-here block at previous h _ _ refl refl w in
-      let q : at ≡ place = cc in
-      omega arith
-  fault-from {at} {previous} place (more h w r) e = fault-from place r (sym (fault-later block at previous h _ _ refl refl w) ∙ e)
-
   -- where none is faulty, a tag's part is its field's value
   part-from : {at previous : ℕ} (tag start end : ℕ) → From block at previous → firstFault (rest block at previous) ≡ Nowhere → partOf tag (rest block at previous) ≡ Given start end
       → Value block tag start end
@@ -102,9 +93,6 @@ module _ (block : List ℕ) where
           let x : at + 3 ≡ start = cc in
           let y : behind ≡ end = cc in
           rw (← eqb-true own tag q, ← x, ← y) (value-of block at previous h own behind refl refl w)
-
-  pub fault-place : (place : ℕ) → firstFault (fields block) ≡ At place → place < length block
-  fault-place place e = fault-from place all (rw rest-all e)
 
   pub part-value : (tag start end : ℕ) → firstFault (fields block) ≡ Nowhere → partOf tag (fields block) ≡ Given start end → Value block tag start end
   part-value tag start end f e = part-from tag start end all (rw rest-all f) (rw rest-all e)
