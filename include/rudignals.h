@@ -37,6 +37,9 @@ extern "C" {
  *             RUDIGNALS_MOST_WORDS words                first line begins
  *   5 room    the digest has over output_len bytes      how many bytes it has                           all zero
  *
+ * Codes 6 to 11 stand with the calls that give them: 6 with the index, 7 and 11 with mending and restoring, 8 with explaining, 9 and 10 with
+ * checking.
+ *
  * Places are counted in bytes from 0: in the block for code 1, in the notes for codes 3 and 4. Every character of UTF-8 (RFC 3629) is
  * accepted; where none begins stands a damaged one. Columns count by Unicode 15.0.0. */
 enum rudignals_code {
@@ -56,8 +59,8 @@ enum rudignals_tag {
     RUDIGNALS_TAG_FLAGS = 1,
     /* Numbers, 1 to 1,000: the columns of a line, and those aimed at. Neither given: 79 and 74. Both: goal <= width <= 2 * goal. Width alone:
      * 6 to 1,000, and goal = min(width * 94 / 100, width - 3). Goal alone: 3 to 940, and width = max(goal * 100 / 94, goal + 3). Quotients
-     * are rounded down. With quick a line that is wider holds a single word (mail
-     * apart, and but for U+3000 between words); of the others that is not promised. */
+     * are rounded down. With quick a line that is wider holds a single word (mail apart, and but for U+3000 between words); of the others
+     * that is not promised. */
     RUDIGNALS_TAG_WIDTH = 2,
     RUDIGNALS_TAG_GOAL = 3,
     /* a number, 0 to 100: the columns between tab stops; 8 by default, and 0 acts as 1 */
