@@ -93,6 +93,14 @@ static void *make_flow(void *unused) {
     return unused;
 }
 
+static void *make_explain(void *unused) {
+    uint64_t reason[6];
+    unsigned char here = 0;
+    call.top = &here;
+    call.answer = rudignals_explain(call.block, call.block_len, call.notes, call.notes_len, 100, reason);
+    return unused;
+}
+
 static void on_the_painted_stack(void *(*run)(void *)) {
     pthread_attr_t attributes;
     pthread_t thread;
@@ -246,6 +254,11 @@ static void measure_flow(const char *name, uint16_t flags, const char *line_star
     printf("%7lu                  %s\n", (unsigned long)used_by(make_flow, RUDIGNALS_DONE), call.name);
 }
 
+static void measure_explaining(const char *name, uint16_t flags) {
+    text(name, flags, "", 80);
+    printf("%7lu                  %s\n", (unsigned long)used_by(make_explain, RUDIGNALS_DONE), call.name);
+}
+
 int main(void) {
     text("none", 0, "", 80);
     on_the_painted_stack(make_format); /* in a dynamically linked program the first call looks for memset, on this stack */
@@ -271,6 +284,8 @@ int main(void) {
     measure_check("a digest checked, with glue, its last bytes cut off", RUDIGNALS_GLUE, 80, 7, RUDIGNALS_NOT_ACCEPTED);
     measure_flow("mail of format=flowed", 0, "", 80);
     measure_flow("likewise, plain lines", RUDIGNALS_KEEP, "\xB0 ", 80);
+    measure_explaining("a line explained, Knuth-Plass", 0);
+    measure_explaining("a line explained, quick", RUDIGNALS_QUICK);
     printf("stack: at most %lu bytes; %lu allowed\n", (unsigned long)greatest, (unsigned long)MOST);
     if (more)
         puts("stack: measuring took more than writing");

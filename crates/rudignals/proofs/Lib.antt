@@ -7,5 +7,6 @@ pub mod Undamaged
 pub mod Gaps
 pub mod Indexed
 pub mod Mailed
+pub mod Explained
 pub mod Demand3
 pub mod Unique
