@@ -93,9 +93,10 @@ enum rudignals_flag {
  * The output overlaps neither of the other two. A call keeps no state, takes no memory from a heap and calls nothing back; it may run on
  * several threads at once.
  *
- * Its working storage is on the stack, at most 86,940 bytes of tables, and no more than its paragraphs ask for. The most that was measured
- * for a whole call on x86-64 (tests/stack/run): 89,767 bytes. In a dynamically linked program the first call also resolves `memset`, which
- * took 2,128 bytes more at an earlier state. Give a thread 256 KiB: the tests fail above that. */
+ * Its working storage is on the stack: of the next three at most 86,940 bytes of tables, and no more than the paragraphs ask for. The most
+ * that was measured for one of them as a whole on x86-64 (tests/stack/run): 89,767 bytes; writing with an index takes more (docs/FIGURES.md).
+ * In a dynamically linked program the first call also resolves `memset`, which took 2,128 bytes more at an earlier state. Give a thread
+ * 256 KiB: the tests fail above that. */
 
 /* Measures: the code and N of a call with these options and notes and all the room that it needs. N of code 0 is the digest's length: the
  * least room with which writing is done. Codes 0 to 4; never 5, and nothing is written. */
@@ -121,9 +122,7 @@ struct rudignals_record {
 /* Writes as rudignals_write does, and fills the first records of the index, in order: they follow each other without a gap from place 0 to
  * notes_len and from line 0 to the digest's last. *filled is their number. Refusals, the first that applies: 1 to 4 as for writing;
  * RUDIGNALS_INDEX_FULL, N is the number of pieces, and the output is all zero; RUDIGNALS_ROOM. On a refusal *filled is 0 and every record is
- * unchanged; else those behind the filled ones are. notes_len records always do; with none a host learns how many pieces there are.
- *
- * Of notes of over 8,192 pieces with a record for each the digest is written twice, over itself. */
+ * unchanged; else those behind the filled ones are. notes_len records always do; with none a host learns how many pieces there are. */
 uint64_t rudignals_write_indexed(const uint8_t *options, size_t options_len, const uint8_t *notes, size_t notes_len, uint8_t *output, size_t output_len,
                                  struct rudignals_record *index, size_t records, uint64_t *filled);
 
@@ -144,8 +143,8 @@ enum rudignals_reason {
     RUDIGNALS_BLANK_LINE = 2,
     RUDIGNALS_NOT_FIT = 3,       /* quick, and mail: column, gap, added space and width of the next word come to more than the width */
     RUDIGNALS_CHOSEN = 4,        /* t, the line's columns; L, W and D, for its length, its last word and its unlikeness to the line before; and
-                                  * the cost of this break alone, (1 + L + W + D) squared: of all ways to break the paragraph this was the
-                                  * cheapest */
+                                  * the cost of this break alone, (1 + L + W + D) squared: of all breaks behind that word that were offered,
+                                  * each with the costs before it, this was the cheapest */
     RUDIGNALS_FORCED_BEFORE = 5, /* no line could take the next word: the break stands before it */
     RUDIGNALS_FORCED_AFTER = 6   /* likewise, and the lesser evil was to put the word on this line and break behind it */
 };

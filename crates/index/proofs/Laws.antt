@@ -1,18 +1,17 @@
 -- The search for the record that holds a line: what it has come to behind so many records.
-use mathlib.Core.Path.{_≡_, refl, sym, ap, _∙_}
-use mathlib.Core.Bool.{Bool, true, false, cond, _&&_}
-use mathlib.Core.List.{List, [], _∷_, map}
+use mathlib.Core.Path.{_≡_, refl}
+use mathlib.Core.Bool.{Bool, true, false, cond}
+use mathlib.Core.List.{List, [], _∷_}
 use Prim.Native.Nat.{ℕ, zero, suc, _+_, _-_, _≤_, _<_}
 use native.Mathlib.Nat.{not-suc-le-zero, le-of-suc-le-suc}
-use native.Mathlib.Numerals.{add-one}
 use native.Mathlib.Omega.{arith}
 use lib.Dec.{leb, ltb}
-use lib.ListN.{length, take, drop, length-map}
+use lib.ListN.{length, take, drop}
 use borrow.Author.Tests.{ltb-true, ltb-false, leb-true, lt-ltb, le-ltb, le-leb, lt-leb}
 use Rattle.index.specs.declared.Record.{Record}
 use Rattle.index.specs.declared.Part.{Part}
 use Rattle.index.specs.declared.Part.the-variants.{Nowhere, At}
-use Rattle.index.specs.Lookup.{recordOf, holds, partIn, partUnder, lookup}
+use Rattle.index.specs.Lookup.{holds, partIn, partUnder, lookup}
 use Rattle.index.specs.Contracts.Lists.{noRecord, recordAt, partIf}
 
 -- ---- one record
@@ -107,19 +106,3 @@ module _ (size line : ℕ) (index : List Record) (n : ℕ) where
     pub rest-on : holds line (recordAt index i) ≡ false → restFrom size line index n i ≡ restFrom size line index n (suc i)
     unfolding partUnder
     rest-on e = rw (rest-at index n i less few, partUnder, e)
-
--- ---- over rows of four numbers
-
-module _ (rows : List (List ℕ)) (filled size line n : ℕ) (reach : n ≡ cond (leb filled (length rows)) filled 0) where
-  pub rows-first : restFrom size line (map recordOf rows) n 0 ≡ lookup (map recordOf rows) filled size line
-  rows-first = sym (lookup-within (map recordOf rows) filled size line n (reach ∙ ap (λ (k : ℕ). cond (leb filled k) filled 0) (sym (length-map rows recordOf))))
-
-  module _ (i : ℕ) (less : i < n) (r : Record) (is : r ≡ recordAt (map recordOf rows) i) where
-    few-rows : n ≤ length (map recordOf rows)
-    few-rows = let k = within-most filled (length rows) n reach .0 in let l = length-map rows recordOf in omega (arith, k, l)
-
-    pub rows-here : holds line r ≡ true → partIn size r ≡ restFrom size line (map recordOf rows) n i
-    rows-here e = ap (partIn size) is ∙ sym (rest-here size line (map recordOf rows) n i less few-rows (ap (holds line) (sym is) ∙ e))
-
-    pub rows-on : holds line r ≡ false → restFrom size line (map recordOf rows) n (i + 1) ≡ restFrom size line (map recordOf rows) n i
-    rows-on e = ap (restFrom size line (map recordOf rows) n) (add-one i) ∙ sym (rest-on size line (map recordOf rows) n i less few-rows (ap (holds line) (sym is) ∙ e))

@@ -1,4 +1,5 @@
 pub mod Laws
+pub mod Reading
 pub mod Test
 pub mod Walk
 pub mod Worked

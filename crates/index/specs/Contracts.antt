@@ -1,2 +1,3 @@
 -- What the contracts of the code cite: no part of what must be believed of the call.
 pub mod Lists
+pub mod Reading

@@ -4,14 +4,10 @@ use mathlib.Core.Bool.{Bool, true, false, cond, _&&_}
 use mathlib.Core.List.{List, [], _∷_}
 use Prim.Native.Nat.{ℕ, _+_}
 use lib.Dec.{leb, ltb}
-use lib.ListN.{length, getD, take}
+use lib.ListN.{length, take}
 use Rattle.index.specs.declared.Record.{Record}
 use Rattle.index.specs.declared.Part.{Part}
 use Rattle.index.specs.declared.Part.the-variants.{Nowhere, At}
-
--- a record from the four numbers that the host has
-abbrev pub recordOf : List ℕ → Record
-recordOf row = record { place = getD row 0 0; length = getD row 1 0; first = getD row 2 0; count = getD row 3 0 }
 
 -- a record holds the lines from its first on, as many as it counts
 unfoldable pub holds : ℕ → Record → Bool

@@ -1,13 +1,16 @@
 // The index of a digest: for each piece of the notes a record, and the part of the notes that an output line stands for. The borrow checker
-// covers no function over a slice of structs: `lookup`, the one that is lent the list, is proved by a walk of its MIR, by hand, and all
-// that can work on a record by value is a covered function of its own.
+// covers no function over a slice of structs: `lookup` and `store_records`, which are lent the list, are proved by walks of their MIR, by
+// hand, and all that can work on a record by value is a covered function of its own.
 ghost use mathlib.Core.Path.{_≡_};
 ghost use mathlib.Core.Bool.{cond};
-ghost use mathlib.Core.List.{map};
+ghost use mathlib.Core.List.{_++_};
+ghost use Prim.Native.Nat.{_*_, _^_, _≤_};
 ghost use lib.Dec.{leb};
-ghost use lib.ListN.{length};
-ghost use Rattle.index.specs.Lookup.{recordOf, holds, partIn, lookup, answered, partAfter};
+ghost use lib.ListN.{length, drop};
+ghost use Rattle.marks.specs.Contracts.Marks.{marksIn};
+ghost use Rattle.index.specs.Lookup.{holds, partIn, lookup, answered, partAfter};
 ghost use Rattle.index.specs.Contracts.Lists.{noRecord, partIf};
+ghost use Rattle.index.specs.Contracts.Reading.{behind, recordAfter, readFrom};
 
 // A piece: its place and length in the notes, its first output line and its count of output lines.
 #[repr(C)]
@@ -39,28 +42,6 @@ pub fn lookup(index: &[Record], filled: u64, size: usize, line: u64) -> Part
         i += 1;
     }
     part_if(r, line, size)
-}
-
-// The same over rows of four numbers, which have a record's bytes, and which the borrow checker covers: so the call is lent them.
-pub fn find(index: &[[u64; 4]], filled: u64, size: usize, line: u64) -> Part
-    ensures { λ p. ⌜ p ≡ lookup (map recordOf (now (index .entry))) filled size line ⌝ }
-{
-    let n = within(filled, index.len());
-    let mut i = 0;
-    while i < n {
-        let row = index[i];
-        let r = Record {
-            place: row[0],
-            length: row[1],
-            first: row[2],
-            count: row[3],
-        };
-        if is_holding(r, line) {
-            return part_in(r, size);
-        }
-        i += 1;
-    }
-    Part::Nowhere
 }
 
 // The count of records to look at: none if it runs past the list.
@@ -132,5 +113,37 @@ pub fn tell(p: Part, part: &mut [u64; 2]) -> u64
             *part = [place, length];
             1
         }
+    }
+}
+
+// Stores the n records that the marks tell.
+pub fn store_records(index: &mut [Record], n: usize, marks: &[u32])
+    requires { ⌜ (n ≤ length (now index)) × (length (now marks) ≤ 2 ^ 15) ⌝ }
+    ensures { λ _. ⌜ now (index .exit) ≡ readFrom (marksIn (now (marks .entry))) n noRecord ++ drop n (now (index .entry)) ⌝ }
+{
+    let mut r = no_record();
+    let mut i = 0;
+    while i < n {
+        r = next_record(marks, r);
+        index[i] = r;
+        i += 1;
+    }
+}
+
+// The record behind a record: its length and its count of output lines are the next two gaps.
+fn next_record(marks: &[u32], r: Record) -> Record
+    requires { ⌜ (behind r ≤ 32 * length (now marks)) × (length (now marks) ≤ 2 ^ 15) ⌝ }
+    ensures { λ s. ⌜ s ≡ recordAfter (marksIn (now (marks .entry))) r ⌝ }
+{
+    let place = r.place + r.length;
+    let first = r.first + r.count;
+    let at = (place + first) as usize;
+    let length = marks::gap(marks, at);
+    let count = marks::gap(marks, at + length);
+    Record {
+        place,
+        length: length as u64,
+        first,
+        count: count as u64,
     }
 }

@@ -1,6 +1,6 @@
 -- The records follow each other without a gap from the notes' first byte to their end and from the digest's first line to its last; and
 -- the index of notes that have a piece of their own between two parts.
-use mathlib.Core.Path.{_≡_, refl, sym, ap, subst, _∙_}
+use mathlib.Core.Path.{_≡_, refl, ap, subst, _∙_}
 use mathlib.Core.Bool.{Bool, true, false}
 use mathlib.Core.List.{List, [], _∷_, _++_, map}
 use Prim.Native.Nat.{ℕ, _+_, _<_}

@@ -1,31 +1,31 @@
--- Piece by piece: written, and its ends noted.
-use mathlib.Core.Path.{_≡_, refl, sym, ap, _∙_}
+-- Piece by piece: written; and no more of them than bytes.
+use mathlib.Core.Path.{_≡_, refl, ap, _∙_}
 use mathlib.Core.Bool.{Bool, true, false, cond, _||_}
-use mathlib.Core.List.{List, [], _∷_, _++_}
+use mathlib.Core.List.{List, [], _∷_}
 use Prim.Native.Nat.{ℕ, _+_, _≤_, _<_}
 use native.Mathlib.Omega.{arith}
 use lib.Ieee.{Float}
-use lib.ListN.{length}
-use Rattle.lists.proofs.Walk.{walk-nil}
-use Rattle.text.specs.declared.Found.the-variants.{At, Nowhere}
+use lib.ListN.{length, length-append}
+use Rattle.lists.specs.Runs.{joined}
+use Rattle.lists.specs.Theorems.All.{All}
+use Rattle.lists.proofs.Parts.{joined-cons}
+use Rattle.text.specs.declared.Found.the-variants.{At}
 use Rattle.options.specs.Opts.{Opts, meant}
 use Rattle.options.specs.declared.Options.{Options}
-use Rattle.lines.proofs.Lines.{lines-past}
-use Rattle.pieces.specs.Pieces.{Kind, nextPiece, pieces}
+use Rattle.pieces.specs.Pieces.{Piece, pieces}
 use Rattle.pieces.specs.declared.Paragraph.{Paragraph}
-use Rattle.output.specs.Contracts.Sink.{written, Wrote, Left}
-use Rattle.output.proofs.Sink.{length-written, wrote-nil, left-first, left-then, left-last}
-use Rattle.paragraphs.specs.Contracts.Steps.{TextStepped, wordsFor}
+use Rattle.paragraphs.specs.Contracts.Steps.{TextStepped}
 use Rattle.paragraphs.specs.declared.Cursor.{Cursor}
 use Rattle.paragraphs.specs.declared.Step.{Step}
 use Rattle.paragraphs.specs.declared.Step.the-variants.{On, Over}
 use Rattle.paragraphs.proofs.Tables.{scratch-same}
-use Rattle.walk.specs.Digest.{outputOf, longParagraph}
-use Rattle.walk.specs.Contracts.Course.{Admitted, piecesFrom, longFrom, FirstPiece, Put, CursorIn, TextAhead, Going, start}
-use Rattle.walk.proofs.Loop.{all-output, all-long, going-first, going-length, going-last}
+use Rattle.walk.specs.Digest.{extentOf}
+use Rattle.walk.specs.Contracts.Course.{Admitted, longFrom, Put, CursorIn, TextAhead}
+use Rattle.walk.proofs.Extents.{extents-are-notes, extents-some}
+use Rattle.walk.proofs.Loop.{going-first}
 use Rattle.walk.proofs.Steps.{begins-stepped, begins-over, begins-long}
-use Rattle.indexer.specs.Contracts.Noting.{Ample, PieceStepped, endsFrom, outsFrom, Noted}
-use Rattle.indexer.specs.declared.Pieces.the-variants.{All, Stopped}
+use Rattle.indexer.specs.Index.{lineCount, recordsFrom, indexOf}
+use Rattle.indexer.specs.Contracts.Noting.{Ample, PieceStepped}
 
 -- ---- a piece
 
@@ -57,63 +57,26 @@ stepped-on o notes out c out′ s e = rw e at s
 pub stepped-over : (o : Opts) (notes out : List ℕ) (c : Cursor) (out′ : List ℕ) {r : Step} → PieceStepped o notes out c out′ r → r ≡ Over → (longFrom o (c .mail) notes (c .at) ≡ At (c .at)) × (out′ ≡ out)
 stepped-over o notes out c out′ s e = rw e at s
 
--- ---- a table that is written
+-- ---- the number of records
 
-pub left-length : {t₀ t : List ℕ} {n₀ n : ℕ} {d₀ d : List ℕ} → Left t₀ n₀ d₀ t n d → length t ≡ length t₀
-left-length {t₀} {t} {n₀} {n} {d₀} {d} l = sym (length-written n t d) ∙ ap length (l .bytes) ∙ length-written n₀ t₀ d₀
+pub length-records : (o : Opts) (place line : ℕ) (qs : List Piece) → length (recordsFrom o place line qs) ≡ length qs
+unfolding recordsFrom
+length-records o place line [] = refl
+length-records o place line (q ∷ qs) = let e = length-records o (place + length (extentOf q)) (line + lineCount o q) qs in omega (arith, e)
 
--- ---- the ends from a place on
+few-pieces : (qs : List Piece) → All (λ (q : Piece). 0 < length (extentOf q)) qs → length qs ≤ length (joined extentOf qs)
+few-pieces [] a = omega arith
+few-pieces (q ∷ qs) a =
+    let r = few-pieces qs (a .1) in
+    let h = a .0 in
+    let e = ap length (joined-cons extentOf q qs) ∙ length-append (extentOf q) (joined extentOf qs) in
+    omega (arith, r, h, e)
 
-module _ (o : Opts) where
-  pub none-left : (nextMail : Bool) (notes : List ℕ) (at : ℕ) → length notes ≤ at → piecesFrom o nextMail notes at ≡ []
-  unfolding piecesFrom
-  none-left nextMail notes at h = rw (lines-past notes at h) (walk-nil (nextPiece o) nextMail)
-
-  pub all-pieces : (notes : List ℕ) → piecesFrom o true notes 0 ≡ pieces o notes
-  unfolding piecesFrom pieces
-  all-pieces notes = refl
-
-  ends-more : {nextMail : Bool} {notes : List ℕ} {at : ℕ} {kind : Kind} {state : Bool} {next : ℕ} (g : FirstPiece o nextMail notes at kind state next)
-      → endsFrom at (piecesFrom o nextMail notes at) ≡ (next ∷ []) ++ endsFrom next (piecesFrom o state notes next)
-  unfolding endsFrom
-  ends-more {nextMail} {notes} {at} {kind} {state} {next} g = ap (endsFrom at) (g .pieces) ∙ ap (λ (n : ℕ). n ∷ endsFrom n (piecesFrom o state notes next)) (g .extent)
-
-  outs-more : {notes out : List ℕ} {c d : Cursor} {out′ : List ℕ} (p : Put o notes out c d out′)
-      → outsFrom o (c .written) (piecesFrom o (c .mail) notes (c .at)) ≡ (d .written ∷ []) ++ outsFrom o (d .written) (piecesFrom o (d .mail) notes (d .at))
-  unfolding outsFrom
-  outs-more {notes} {out} {c} {d} {out′} p =
-      ap (outsFrom o (c .written)) (p .goes .pieces)
-      ∙ ap (λ (n : ℕ). n ∷ outsFrom o n (piecesFrom o (d .mail) notes (d .at))) (ap (λ (k : Kind). c .written + length (outputOf o k)) (p .goes .is) ∙ sym (p .wrote .count))
-
--- what the tables have come to: k ends are noted, and those from the cursor on are left
-pub record Noting (o : Opts) (notes ends₀ outs₀ : List ℕ) (c : Cursor) (k : ℕ) (ends outs : List ℕ) : Type 0 where
-  pub places : Left ends₀ 0 (endsFrom 0 (pieces o notes)) ends k (endsFrom (c .at) (piecesFrom o (c .mail) notes (c .at)))
-  pub writes : Left outs₀ 0 (outsFrom o 0 (pieces o notes)) outs k (outsFrom o (c .written) (piecesFrom o (c .mail) notes (c .at)))
-
-module _ (o : Opts) (notes ends₀ outs₀ : List ℕ) where
-  pub noting-first : Noting o notes ends₀ outs₀ start 0 ends₀ outs₀
-  noting-first = record {
-    places = rw (all-pieces o notes) (left-first ends₀ 0 (endsFrom 0 (pieces o notes)));
-    writes = rw (all-pieces o notes) (left-first outs₀ 0 (outsFrom o 0 (pieces o notes)));
-  }
-
-  module _ {c : Cursor} {k : ℕ} {ends outs : List ℕ} (g : Noting o notes ends₀ outs₀ c k ends outs) where
-    pub noting-on : {out : List ℕ} {d : Cursor} {out′ : List ℕ} (ends′ outs′ : List ℕ) → Put o notes out c d out′ → ends′ ≡ written k ends (d .at ∷ []) → outs′ ≡ written k outs (d .written ∷ [])
-        → Noting o notes ends₀ outs₀ d (k + 1) ends′ outs′
-    noting-on {out} {d} {out′} ends′ outs′ p e f = record {
-      places = left-then {d = d .at ∷ []} {e = endsFrom (d .at) (piecesFrom o (d .mail) notes (d .at))} (rw (ends-more o (p .goes)) at (g .places)) (record { count = refl; bytes = e });
-      writes = left-then {d = d .written ∷ []} {e = outsFrom o (d .written) (piecesFrom o (d .mail) notes (d .at))} (rw (outs-more o p) at (g .writes)) (record { count = refl; bytes = f });
-    }
-
-    noting-last : length notes ≤ c .at → Wrote ends₀ 0 (endsFrom 0 (pieces o notes)) ends k × Wrote outs₀ 0 (outsFrom o 0 (pieces o notes)) outs k
-    unfolding endsFrom outsFrom
-    noting-last h = (left-last (rw (none-left o (c .mail) notes (c .at) h) at (g .places)) (wrote-nil ends k), left-last (rw (none-left o (c .mail) notes (c .at) h) at (g .writes)) (wrote-nil outs k))
-
-    module _ {out₀ out : List ℕ} (w : Going o notes start out₀ c out) where
-      pub noted-all : length notes ≤ c .at → Noted o notes out₀ ends₀ outs₀ out ends outs (All (c .written) k)
-      noted-all h =
-          let f = going-last o notes w h in
-          (sym (all-long o notes) ∙ f .0, rw (all-output o notes) at (f .1), noting-last h .0, noting-last h .1)
-
-      pub noted-stopped : {out′ : List ℕ} → (longFrom o (c .mail) notes (c .at) ≡ At (c .at)) × (out′ ≡ out) → Noted o notes out₀ ends₀ outs₀ out′ ends outs (Stopped (c .at))
-      noted-stopped t = (sym (all-long o notes) ∙ sym (w .long) ∙ t .0, ap length (t .1) ∙ going-length o notes w)
+-- no more than bytes
+pub few-records : (o : Opts) (notes : List ℕ) → length (indexOf o notes) ≤ length notes
+unfolding indexOf
+few-records o notes =
+    let l = length-records o 0 0 (pieces o notes) in
+    let f = few-pieces (pieces o notes) (extents-some o notes) in
+    let e = ap length (extents-are-notes o notes) in
+    omega (arith, l, f, e)

@@ -1,7 +1,7 @@
 pub mod Laws
-pub mod Rows
-pub mod Gathering
-pub mod Storing
+pub mod Counts
+pub mod Reading
+pub mod Marking
 pub mod Answers
 pub mod Follows
 pub mod Values

@@ -1,11 +1,21 @@
--- Two results that keep the promise of the indexed call are equal, and so are the outputs and the records that they leave.
-use mathlib.Core.Path.{_≡_, sym, _∙_}
+-- Two results that keep the promise of the indexed call are equal, and so are the outputs and the counts that they leave, and the records
+-- that their marks tell.
+use mathlib.Core.Path.{_≡_, sym, ap, _∙_}
 use mathlib.Core.List.{List}
 use Prim.Native.Nat.{ℕ}
+use Rattle.marks.specs.Contracts.Marks.{marksIn}
+use Rattle.index.specs.Contracts.Lists.{noRecord}
+use Rattle.index.specs.Contracts.Reading.{readFrom}
 use Rattle.indexer.specs.Answers.{Indexed}
-use Rattle.indexer.specs.Contracts.Noting.{Indexes}
-use Rattle.indexer.specs.declared.Filled.{Filled}
+use Rattle.indexer.specs.Contracts.Noting.{Marked}
+use Rattle.indexer.specs.declared.Told.{Told}
 
-pub indexes-unique : (a : Indexed) (out : List ℕ) (index : List (List ℕ)) (r s : Filled) (out₁ out₂ : List ℕ) (index₁ index₂ : List (List ℕ))
-    → Indexes a out index r out₁ index₁ → Indexes a out index s out₂ index₂ → (r ≡ s) × (out₁ ≡ out₂) × (index₁ ≡ index₂)
-indexes-unique a out index r s out₁ out₂ index₁ index₂ h k = (h .is ∙ sym (k .is), h .output ∙ sym (k .output), h .records ∙ sym (k .records))
+module _ (a : Indexed) (records : ℕ) (out : List ℕ) {out₁ out₂ : List ℕ} {filled₁ filled₂ : ℕ} {marks₁ marks₂ : List ℕ} {t s : Told} where
+  pub indexes-unique : Marked a records out out₁ filled₁ marks₁ t → Marked a records out out₂ filled₂ marks₂ s
+      → (t ≡ s) × (out₁ ≡ out₂) × (filled₁ ≡ filled₂) × (readFrom (marksIn marks₁) (t .records) noRecord ≡ readFrom (marksIn marks₂) (s .records) noRecord)
+  indexes-unique h k = (
+    ap (λ (n : ℕ). record { answer = n; records = t .records }) (h .answer ∙ sym (k .answer)) ∙ ap (λ (n : ℕ). record { answer = s .answer; records = n }) (h .count ∙ sym (k .count)),
+    h .output ∙ sym (k .output),
+    h .filled ∙ sym (k .filled),
+    h .read ∙ sym (k .read),
+  )

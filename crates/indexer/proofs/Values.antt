@@ -19,7 +19,7 @@ use Rattle.index.specs.declared.Record.{Record}
 use Rattle.indexer.specs.Answers.{Indexed, done, options, long, text, words, full, room, numbered, filledAfter}
 use Rattle.indexer.specs.Indexing.{withIndex, inIndex, indexUnder, indexing}
 use Rattle.indexer.specs.Contracts.Noting.{told, toldNumber, toldFilled}
-use Rattle.indexer.proofs.Storing.{few-records}
+use Rattle.indexer.proofs.Laws.{few-records}
 
 pub told-number : (a : Indexed) → toldNumber (told a) ≡ numbered a
 unfolding numbered
@@ -39,6 +39,23 @@ told-filled (text place) = refl
 told-filled (words place) = refl
 told-filled (full pieces) = refl
 told-filled (room needed) = refl
+
+-- no more records than there are
+index-few : (space records : ℕ) (rs : List Record) (d : List ℕ) → filledAfter (withIndex space records rs d) ≤ records
+index-few space records rs d = go (leb (length rs) records) (leb (length d) space) refl
+  where
+    go : (a b : Bool) → leb (length rs) records ≡ a → filledAfter (cond a (cond b (done d rs) (room (length d))) (full (length rs))) ≤ records
+    go true true e = leb-true (length rs) records e
+    go true false e = omega arith
+    go false b e = omega arith
+
+filled-few : (space records : ℕ) (rs : List Record) (a : Answer) → filledAfter (inIndex space records rs a) ≤ records
+filled-few space records rs (measured d) = index-few space records rs d
+filled-few space records rs (faulty place) = omega arith
+filled-few space records rs tooLong = omega arith
+filled-few space records rs (damaged place) = omega arith
+filled-few space records rs (manyWords place) = omega arith
+filled-few space records rs (noRoom needed) = omega arith
 
 -- what measuring has found fits behind the greatest codes
 record Small (rs : List Record) (d : List ℕ) : Type 0 where
@@ -91,3 +108,7 @@ module _ (block notes d : List ℕ) where
 pub told-fits : (block notes : List ℕ) (space records : ℕ) → toldNumber (told (indexing block notes space records)) < 2 ^ 64
 unfolding indexing
 told-fits block notes space records = number-fits space records (indexUnder block notes (readBlock block)) (measuring block notes) (measured-fits block notes) (small block notes)
+
+pub told-few : (block notes : List ℕ) (space records : ℕ) → filledAfter (indexing block notes space records) ≤ records
+unfolding indexing
+told-few block notes space records = filled-few space records (indexUnder block notes (readBlock block)) (measuring block notes)

@@ -1,6 +1,6 @@
 -- Document 02, P3: the answers of the writing call with an index, their numbers, and what each leaves in the output, in the records and in
 -- the count of those filled.
-use mathlib.Core.List.{List, [], _∷_, _++_, map}
+use mathlib.Core.List.{List, _++_}
 use Prim.Native.Nat.{ℕ, _+_, _*_, _^_}
 use lib.ListN.{length, drop, replicate}
 use Rattle.index.specs.declared.Record.{Record}
@@ -53,13 +53,9 @@ outputAfter (words place) output = replicate (length output) 0
 outputAfter (full pieces) output = replicate (length output) 0
 outputAfter (room needed) output = replicate (length output) 0
 
--- a record as the host has it
-abbrev pub numbersOf : Record → List ℕ
-numbersOf r = r .place ∷ r .length ∷ r .first ∷ r .count ∷ []
-
 -- the records afterwards: the index and those behind it unchanged; on a refusal all unchanged
-unfoldable pub recordsAfter : Indexed → List (List ℕ) → List (List ℕ)
-recordsAfter (done digest index) records = map numbersOf index ++ drop (length index) records
+unfoldable pub recordsAfter : Indexed → List Record → List Record
+recordsAfter (done digest index) records = index ++ drop (length index) records
 recordsAfter (options place) records = records
 recordsAfter long records = records
 recordsAfter (text place) records = records

@@ -1,6 +1,6 @@
-// The digest written with an index beside it: a record for each piece of the notes. Nothing is stored in the index before it is known that
-// all of it and all of the digest fit; until then the places where pieces end, in the notes and in the digest, stand in tables of numbers.
-// The tables have room for 8,192 pieces; of notes that have more, which are rare, the records are stored in a second walk.
+// The digest written with an index beside it: a record for each piece of the notes. What the records tell is noted as the digest is
+// written: each piece's length in the notes and its count of output lines, spelled as two gaps between marks. Of the records nothing is
+// stored here: whoever is lent their list reads them from the marks, once it is known that all of them and all of the digest fit.
 use formatter::Admission;
 use formatter::Reply;
 use options::Options;
@@ -9,18 +9,22 @@ use paragraphs::Step;
 use pieces::Piece;
 ghost use mathlib.Core.Path.{_≡_};
 ghost use mathlib.Core.Bool.{true};
-ghost use mathlib.Core.List.{[], _∷_, _++_};
-ghost use Prim.Native.Nat.{min, _^_, _≤_, _<_};
-ghost use lib.ListN.{length, take, drop};
+ghost use Prim.Native.Nat.{_^_, _≤_, _<_};
+ghost use lib.ListN.{length, replicate};
 ghost use Rattle.options.specs.Opts.{meant};
 ghost use Rattle.lines.specs.Lines.{linesOf};
-ghost use Rattle.output.specs.Contracts.Sink.{written};
 ghost use Rattle.walk.specs.Contracts.Course.{Admitted, CursorIn};
 ghost use Rattle.indexer.specs.Indexing.{indexing};
-ghost use Rattle.indexer.specs.Contracts.Noting.{Ample, PieceStepped, Noted, Gathers, gathered, Stores, Stored, Indexes, refusedAs, leftOf, toldNumber, toldFilled};
+ghost use Rattle.indexer.specs.Contracts.Noting.{Ample, PieceStepped, Spells, Spelt, Noted, Indexes, Marked, refusedAs, leftOf, toldNumber, toldFilled};
 
-// What the call replies: the digest's length and the number of records, or a refusal with what is told of it.
-pub enum Filled {
+// What the call tells: its answer's number, and how many records the marks tell (none where it is refused).
+pub struct Told {
+    pub answer: u64,
+    pub records: usize,
+}
+
+// What the work comes to: the digest's length and the number of records, or a refusal with what is told of it.
+enum Filled {
     Done { written: usize, records: usize },
     Options(usize),
     Long,
@@ -36,13 +40,41 @@ enum Pieces {
     Stopped(usize),
 }
 
-// Writes the digest and the index: 1, 2, 3, 4, 6 and 5 are the refusals, in this order.
-pub fn write_indexed(block: &[u8], notes: &[u8], out: &mut [u8], index: &mut [[u64; 4]]) -> Filled
-    ensures { λ r. ⌜ Indexes (indexing (now (block .entry)) (now (notes .entry)) (length (now (out .entry))) (length (now (index .entry)))) (now (out .entry)) (now (index .entry)) r (now (out .exit)) (now (index .exit)) ⌝ }
+// Writes the digest, for which there are so many records, and marks what they tell.
+pub fn write_marked(
+    block: &[u8],
+    notes: &[u8],
+    out: &mut [u8],
+    records: usize,
+    filled: &mut u64,
+    marks: &mut [u32],
+) -> Told
+    requires { ⌜ now marks ≡ replicate 4096 0 ⌝ }
+    ensures { λ t. ⌜ Marked (indexing (now (block .entry)) (now (notes .entry)) (length (now (out .entry))) records) records (now (out .entry)) (now (out .exit)) (now (filled .exit)) (now (marks .exit)) t ⌝ }
+{
+    let r = write_pieces(block, notes, out, records, marks);
+    let n = records_in(r);
+    *filled = n;
+    Told {
+        answer: number_of(r),
+        records: n as usize,
+    }
+}
+
+// 1, 2, 3, 4, 6 and 5 are the refusals, in this order.
+fn write_pieces(
+    block: &[u8],
+    notes: &[u8],
+    out: &mut [u8],
+    records: usize,
+    gaps: &mut [u32],
+) -> Filled
+    requires { ⌜ now gaps ≡ replicate 4096 0 ⌝ }
+    ensures { λ r. ⌜ Indexes (indexing (now (block .entry)) (now (notes .entry)) (length (now (out .entry))) records) (now (out .entry)) r (now (out .exit)) (now (gaps .exit)) ⌝ }
 {
     match formatter::admit(block, notes) {
         Admission::Refused(r) => refused(r),
-        Admission::Passed(o) => index_notes(o, block, notes, out, index),
+        Admission::Passed(o) => index_notes(o, block, notes, out, records, gaps),
     }
 }
 
@@ -66,15 +98,16 @@ fn index_notes(
     block: &[u8],
     notes: &[u8],
     out: &mut [u8],
-    index: &mut [[u64; 4]],
+    records: usize,
+    gaps: &mut [u32],
 ) -> Filled
-    requires { ⌜ Admitted (now block) (now notes) o ⌝ }
-    ensures { λ r. ⌜ Indexes (leftOf (meant (now (block .entry)) o) (now (notes .entry)) (length (now (out .entry))) (length (now (index .entry)))) (now (out .entry)) (now (index .entry)) r (now (out .exit)) (now (index .exit)) ⌝ }
+    requires { ⌜ Admitted (now block) (now notes) o × (now gaps ≡ replicate 4096 0) ⌝ }
+    ensures { λ r. ⌜ Indexes (leftOf (meant (now (block .entry)) o) (now (notes .entry)) (length (now (out .entry))) records) (now (out .entry)) r (now (out .exit)) (now (gaps .exit)) ⌝ }
 {
     if o.quick {
-        return index_quick(o, block, notes, out, index);
+        return index_quick(o, block, notes, out, records, gaps);
     }
-    index_best(o, block, notes, out, index)
+    index_best(o, block, notes, out, records, gaps)
 }
 
 fn index_quick(
@@ -82,22 +115,24 @@ fn index_quick(
     block: &[u8],
     notes: &[u8],
     out: &mut [u8],
-    index: &mut [[u64; 4]],
+    records: usize,
+    gaps: &mut [u32],
 ) -> Filled
-    requires { ⌜ Admitted (now block) (now notes) o × (o .quick ≡ true) ⌝ }
-    ensures { λ r. ⌜ Indexes (leftOf (meant (now (block .entry)) o) (now (notes .entry)) (length (now (out .entry))) (length (now (index .entry)))) (now (out .entry)) (now (index .entry)) r (now (out .exit)) (now (index .exit)) ⌝ }
+    requires { ⌜ Admitted (now block) (now notes) o × (now gaps ≡ replicate 4096 0) × (o .quick ≡ true) ⌝ }
+    ensures { λ r. ⌜ Indexes (leftOf (meant (now (block .entry)) o) (now (notes .entry)) (length (now (out .entry))) records) (now (out .entry)) r (now (out .exit)) (now (gaps .exit)) ⌝ }
 {
     let mut table = [0u32; 7168];
     let mut marks = [false; 1024];
     let mut breaks = [0u32; 8];
     let mut ratios = [0f32; 1];
     let mut active = [0u32; 1];
-    index_within(
+    index_with(
         o,
         block,
         notes,
         out,
-        index,
+        records,
+        gaps,
         &mut table,
         &mut breaks,
         &mut ratios,
@@ -111,22 +146,24 @@ fn index_best(
     block: &[u8],
     notes: &[u8],
     out: &mut [u8],
-    index: &mut [[u64; 4]],
+    records: usize,
+    gaps: &mut [u32],
 ) -> Filled
-    requires { ⌜ Admitted (now block) (now notes) o ⌝ }
-    ensures { λ r. ⌜ Indexes (leftOf (meant (now (block .entry)) o) (now (notes .entry)) (length (now (out .entry))) (length (now (index .entry)))) (now (out .entry)) (now (index .entry)) r (now (out .exit)) (now (index .exit)) ⌝ }
+    requires { ⌜ Admitted (now block) (now notes) o × (now gaps ≡ replicate 4096 0) ⌝ }
+    ensures { λ r. ⌜ Indexes (leftOf (meant (now (block .entry)) o) (now (notes .entry)) (length (now (out .entry))) records) (now (out .entry)) r (now (out .exit)) (now (gaps .exit)) ⌝ }
 {
     let mut table = [0u32; 7168];
     let mut marks = [false; 1024];
     let mut breaks = [0u32; 8192];
     let mut ratios = [0f32; 1024];
     let mut active = [0u32; 1024];
-    index_within(
+    index_with(
         o,
         block,
         notes,
         out,
-        index,
+        records,
+        gaps,
         &mut table,
         &mut breaks,
         &mut ratios,
@@ -135,150 +172,29 @@ fn index_best(
     )
 }
 
-// Tables for the ends of pieces. Where few records can be filled, by the notes' bytes or by the list, small ones will do.
-fn index_within(
-    o: Options,
-    block: &[u8],
-    notes: &[u8],
-    out: &mut [u8],
-    index: &mut [[u64; 4]],
-    table: &mut [u32],
-    breaks: &mut [u32],
-    ratios: &mut [f32],
-    active: &mut [u32],
-    marks: &mut [bool],
-) -> Filled
-    requires { ⌜ Admitted (now block) (now notes) o × Ample o (now table) (now breaks) (now ratios) (now active) (now marks) ⌝ }
-    ensures { λ r. ⌜ Indexes (leftOf (meant (now (block .entry)) o) (now (notes .entry)) (length (now (out .entry))) (length (now (index .entry)))) (now (out .entry)) (now (index .entry)) r (now (out .exit)) (now (index .exit)) ⌝ }
-{
-    if lesser(notes.len(), index.len()) <= 1024 {
-        return index_few(
-            o,
-            block,
-            notes,
-            out,
-            index,
-            table,
-            breaks,
-            ratios,
-            active,
-            marks,
-        );
-    }
-    index_many(
-        o,
-        block,
-        notes,
-        out,
-        index,
-        table,
-        breaks,
-        ratios,
-        active,
-        marks,
-    )
-}
-
-fn lesser(a: usize, b: usize) -> usize
-    ensures { λ r. ⌜ r ≡ min a b ⌝ }
-{
-    if a < b {
-        return a;
-    }
-    b
-}
-
-fn index_few(
-    o: Options,
-    block: &[u8],
-    notes: &[u8],
-    out: &mut [u8],
-    index: &mut [[u64; 4]],
-    table: &mut [u32],
-    breaks: &mut [u32],
-    ratios: &mut [f32],
-    active: &mut [u32],
-    marks: &mut [bool],
-) -> Filled
-    requires { ⌜ Admitted (now block) (now notes) o × Ample o (now table) (now breaks) (now ratios) (now active) (now marks) ⌝ }
-    ensures { λ r. ⌜ Indexes (leftOf (meant (now (block .entry)) o) (now (notes .entry)) (length (now (out .entry))) (length (now (index .entry)))) (now (out .entry)) (now (index .entry)) r (now (out .exit)) (now (index .exit)) ⌝ }
-{
-    let mut ends = [0u32; 1024];
-    let mut outs = [0u32; 1024];
-    index_with(
-        o,
-        block,
-        notes,
-        out,
-        index,
-        &mut ends,
-        &mut outs,
-        table,
-        breaks,
-        ratios,
-        active,
-        marks,
-    )
-}
-
-fn index_many(
-    o: Options,
-    block: &[u8],
-    notes: &[u8],
-    out: &mut [u8],
-    index: &mut [[u64; 4]],
-    table: &mut [u32],
-    breaks: &mut [u32],
-    ratios: &mut [f32],
-    active: &mut [u32],
-    marks: &mut [bool],
-) -> Filled
-    requires { ⌜ Admitted (now block) (now notes) o × Ample o (now table) (now breaks) (now ratios) (now active) (now marks) ⌝ }
-    ensures { λ r. ⌜ Indexes (leftOf (meant (now (block .entry)) o) (now (notes .entry)) (length (now (out .entry))) (length (now (index .entry)))) (now (out .entry)) (now (index .entry)) r (now (out .exit)) (now (index .exit)) ⌝ }
-{
-    let mut ends = [0u32; 8192];
-    let mut outs = [0u32; 8192];
-    index_with(
-        o,
-        block,
-        notes,
-        out,
-        index,
-        &mut ends,
-        &mut outs,
-        table,
-        breaks,
-        ratios,
-        active,
-        marks,
-    )
-}
-
-// Writes the digest; and where there is room for all, the records, from the tables if these have all pieces.
+// Writes the digest, and tells whether there is room for its records and for itself.
 fn index_with(
     o: Options,
     block: &[u8],
     notes: &[u8],
     out: &mut [u8],
-    index: &mut [[u64; 4]],
-    ends: &mut [u32],
-    outs: &mut [u32],
+    records: usize,
+    gaps: &mut [u32],
     table: &mut [u32],
     breaks: &mut [u32],
     ratios: &mut [f32],
     active: &mut [u32],
     marks: &mut [bool],
 ) -> Filled
-    requires { ⌜ Admitted (now block) (now notes) o × (length (now outs) ≡ length (now ends)) × Ample o (now table) (now breaks) (now ratios) (now active) (now marks) ⌝ }
-    ensures { λ r. ⌜ Indexes (leftOf (meant (now (block .entry)) o) (now (notes .entry)) (length (now (out .entry))) (length (now (index .entry)))) (now (out .entry)) (now (index .entry)) r (now (out .exit)) (now (index .exit)) ⌝ }
+    requires { ⌜ Admitted (now block) (now notes) o × (now gaps ≡ replicate 4096 0) × Ample o (now table) (now breaks) (now ratios) (now active) (now marks) ⌝ }
+    ensures { λ r. ⌜ Indexes (leftOf (meant (now (block .entry)) o) (now (notes .entry)) (length (now (out .entry))) records) (now (out .entry)) r (now (out .exit)) (now (gaps .exit)) ⌝ }
 {
     match note_pieces(
         o,
         block,
         notes,
         out,
-        ends,
-        outs,
+        gaps,
         table,
         breaks,
         ratios,
@@ -290,7 +206,7 @@ fn index_with(
             Filled::Words(place)
         }
         Pieces::All { written, pieces } => {
-            if index.len() < pieces {
+            if records < pieces {
                 walk::clear(out);
                 return Filled::Full(pieces);
             }
@@ -298,25 +214,6 @@ fn index_with(
                 walk::clear(out);
                 return Filled::Room(written);
             }
-            if ends.len() < pieces {
-                store_pieces(
-                    o,
-                    block,
-                    notes,
-                    out,
-                    index,
-                    table,
-                    breaks,
-                    ratios,
-                    active,
-                    marks,
-                );
-                return Filled::Done {
-                    written,
-                    records: pieces,
-                };
-            }
-            gather(index, out, ends, outs, pieces);
             Filled::Done {
                 written,
                 records: pieces,
@@ -325,22 +222,21 @@ fn index_with(
     }
 }
 
-// Piece by piece: written, and where it ends in the notes and in the digest noted, as far as the tables reach.
+// Piece by piece: written, and its gaps spelled.
 fn note_pieces(
     o: Options,
     block: &[u8],
     notes: &[u8],
     out: &mut [u8],
-    ends: &mut [u32],
-    outs: &mut [u32],
+    gaps: &mut [u32],
     table: &mut [u32],
     breaks: &mut [u32],
     ratios: &mut [f32],
     active: &mut [u32],
     marks: &mut [bool],
 ) -> Pieces
-    requires { ⌜ Admitted (now block) (now notes) o × Ample o (now table) (now breaks) (now ratios) (now active) (now marks) ⌝ }
-    ensures { λ r. ⌜ Noted (meant (now (block .entry)) o) (now (notes .entry)) (now (out .entry)) (now (ends .entry)) (now (outs .entry)) (now (out .exit)) (now (ends .exit)) (now (outs .exit)) r ⌝ }
+    requires { ⌜ Admitted (now block) (now notes) o × (now gaps ≡ replicate 4096 0) × Ample o (now table) (now breaks) (now ratios) (now active) (now marks) ⌝ }
+    ensures { λ r. ⌜ Noted (meant (now (block .entry)) o) (now (notes .entry)) (now (out .entry)) (now (out .exit)) (now (gaps .exit)) r ⌝ }
 {
     let mut c = Cursor {
         at: 0,
@@ -348,6 +244,7 @@ fn note_pieces(
         mail: true,
     };
     let mut k = 0;
+    let mut line = 0;
     while c.at < notes.len() {
         let Step::On(d) = put_piece(
             o,
@@ -363,8 +260,7 @@ fn note_pieces(
         ) else {
             return Pieces::Stopped(c.at);
         };
-        note(ends, k, d.at);
-        note(outs, k, d.written);
+        line = spell(gaps, out, c, d, line);
         k += 1;
         c = d;
     }
@@ -374,14 +270,22 @@ fn note_pieces(
     }
 }
 
-// Number k of a table, if it has so many.
-fn note(table: &mut [u32], k: usize, x: usize)
-    requires { ⌜ x < 2 ^ 32 ⌝ }
-    ensures { λ _. ⌜ now (table .exit) ≡ written k (now (table .entry)) (x ∷ []) ⌝ }
+// The gaps of the piece between two cursors, whose first output line is given: its length and its count of output lines. It tells the line
+// behind it. Of a digest that does not fit nothing need be spelled, since the call is refused.
+fn spell(gaps: &mut [u32], out: &[u8], c: Cursor, d: Cursor, line: usize) -> usize
+    requires { ⌜ Spells (now gaps) (now out) c d line ⌝ }
+    ensures { λ r. ⌜ Spelt (now (gaps .entry)) (now (out .entry)) c d line (now (gaps .exit)) r ⌝ }
 {
-    if k < table.len() {
-        table[k] = x as u32;
+    if out.len() < d.written {
+        return line;
     }
+    let from = c.written;
+    let to = d.written;
+    let count = count_lines(&out[from..to]);
+    let behind = d.at + line;
+    marks::mark(gaps, behind - 1);
+    marks::mark(gaps, behind + count - 1);
+    line + count
 }
 
 // Writes the piece at a place, unless it is a paragraph of too many words.
@@ -428,87 +332,6 @@ fn put_piece(
     }
 }
 
-// The records of more pieces than the tables have room for: in a second walk, which writes the same digest again, each is stored as its
-// piece is written. None of them has too many words, and there is room for all.
-fn store_pieces(
-    o: Options,
-    block: &[u8],
-    notes: &[u8],
-    out: &mut [u8],
-    index: &mut [[u64; 4]],
-    table: &mut [u32],
-    breaks: &mut [u32],
-    ratios: &mut [f32],
-    active: &mut [u32],
-    marks: &mut [bool],
-)
-    requires { ⌜ Admitted (now block) (now notes) o × Ample o (now table) (now breaks) (now ratios) (now active) (now marks) × Stores (meant (now block) o) (now notes) (length (now out)) (length (now index)) ⌝ }
-    ensures { λ _. ⌜ Stored (meant (now (block .entry)) o) (now (notes .entry)) (now (out .entry)) (now (index .entry)) (now (out .exit)) (now (index .exit)) ⌝ }
-{
-    let mut c = Cursor {
-        at: 0,
-        written: 0,
-        mail: true,
-    };
-    let mut k = 0;
-    let mut line = 0;
-    while c.at < notes.len() {
-        let Step::On(d) = put_piece(
-            o,
-            block,
-            notes,
-            c,
-            out,
-            table,
-            breaks,
-            ratios,
-            active,
-            marks,
-        ) else {
-            return;
-        };
-        let from = c.written;
-        let to = d.written;
-        let count = count_lines(&out[from..to]);
-        index[k] = [c.at as u64, (d.at - c.at) as u64, line as u64, count as u64];
-        line += count;
-        k += 1;
-        c = d;
-    }
-}
-
-// The records, from the places where n pieces end. Output lines are counted in the digest.
-fn gather(index: &mut [[u64; 4]], out: &[u8], ends: &[u32], outs: &[u32], n: usize)
-    requires { ⌜ Gathers (now out) (now ends) (now outs) n (length (now index)) ⌝ }
-    ensures { λ _. ⌜ now (index .exit) ≡ gathered (now (out .entry)) 0 0 0 (take n (now (ends .entry))) (take n (now (outs .entry))) ++ drop n (now (index .entry)) ⌝ }
-{
-    let mut i = 0;
-    let mut place = 0;
-    let mut from = 0;
-    let mut line = 0;
-    while i < n {
-        let end = wide(ends[i]);
-        let to = wide(outs[i]);
-        let count = count_lines(&out[from..to]);
-        index[i] = [
-            place as u64,
-            (end - place) as u64,
-            line as u64,
-            count as u64,
-        ];
-        place = end;
-        from = to;
-        line += count;
-        i += 1;
-    }
-}
-
-fn wide(x: u32) -> usize
-    ensures { λ r. ⌜ (r ≡ x) × (r < 2 ^ 32) ⌝ }
-{
-    x as usize
-}
-
 // How many lines a text has.
 fn count_lines(s: &[u8]) -> usize
     ensures { λ r. ⌜ (r ≡ length (linesOf (now (s .entry)))) × (r ≤ length (now (s .entry))) ⌝ }
@@ -527,7 +350,7 @@ fn count_lines(s: &[u8]) -> usize
 const UPPER: u64 = 4294967296;
 
 // The reply's number.
-pub fn number_of(r: Filled) -> u64
+fn number_of(r: Filled) -> u64
     requires { ⌜ toldNumber r < 2 ^ 64 ⌝ }
     ensures { λ n. ⌜ n ≡ toldNumber r ⌝ }
 {
@@ -546,7 +369,7 @@ pub fn number_of(r: Filled) -> u64
 }
 
 // The count of records that were filled: none where the call is refused.
-pub fn records_in(r: Filled) -> u64
+fn records_in(r: Filled) -> u64
     ensures { λ n. ⌜ n ≡ toldFilled r ⌝ }
 {
     match r {

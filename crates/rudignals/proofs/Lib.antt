@@ -6,6 +6,7 @@ pub mod LineEnds
 pub mod Undamaged
 pub mod Gaps
 pub mod Indexed
+pub mod Lent
 pub mod Mailed
 pub mod Explained
 pub mod Demand3

@@ -2,8 +2,7 @@
 -- The public functions of all crates, and the law that each stands on:
 --
 --   widths        width, ink_width, is_white_space, leaf, mid, top, row                     an equation
---   text          decode_at, long_at, glyph_at, glued_end, is_no_break, is_letter,
---                 first_damage                                                              an equation: `equal-unique`
+--   text          decode_at, long_at, glyph_at, is_no_break, is_letter, first_damage        an equation: `equal-unique`
 --   text          glued_end                                                                 an equation, with a bound: `bounded-unique`
 --   options       read_block                                                                an equation
 --   lines         first_line, begins, classify                                              an equation
@@ -27,17 +26,17 @@
 --   panel         draw, number_of                                                           an equation for the answer, one for the cells
 --   salvage       mend, restore                                                             salvage/proofs/Unique: `mends-unique`, `restores-unique`
 --   salvage       mended_number, restored_number                                            an equation
---   index         lookup, find                                                              an equation
+--   marks         mark                                                                      an equation for the marks
+--   marks         gap                                                                       an equation
+--   index         lookup                                                                    an equation
+--   index         store_records                                                             an equation for the records
 --   index         tell                                                                      an equation for the answer, one for the part
---   indexer       write_indexed                                                             indexer/proofs/Unique: `indexes-unique`
---   indexer       number_of, records_in                                                     an equation
-
+--   indexer       write_marked                                                              indexer/proofs/Unique: `indexes-unique`
 --   unflow        unflow                                                                    unflow/proofs/Unique: `reads-unique`
 --   unflow        reading_number, is_dashes                                                 an equation
 --   unflow        stuffing_of                                                               `spaces-unique`, with a bound
 --   unflow        put_end                                                                   output/proofs/Unique: `wrote-unique`
 --   flow          flow                                                                      flow/proofs/Unique: `sends-unique`
-
 --   checker       match_line, match_words                                                   checker/proofs/Unique: `matches-unique`
 --   judge         check, number_of                                                          an equation
 --   paragraphs    put_paragraph                                                             paragraphs/proofs/Unique: `step-unique`

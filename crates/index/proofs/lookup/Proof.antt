@@ -10,9 +10,9 @@ use prog.Wp.{afterTurn}
 use contract.Running.{tablesOf}
 use types.Share.{arr-parts}
 use denote.Plain.{bool-lawful, uint-lawful}
-use Rattle.index.proofs.Walk.{meets-by, _≡_, refl, sym, ap, subst, _∙_, ℕ, zero, suc, _+_, _-_, _*_, _^_, _≤_, _<_, zero-le, List, [], _∷_, length, URA, fullShare, Ty, named, imm, w64, tyPtr, tyInt, tyBool, tyRef, Val, vint, vptr, SProp, ent, emp, via, fst∗, id⊢, exE, snd∗, Lft, GName, Share, ftrue, fat, froom, fdies, flft, fres, fobor, fshr-bor, Memory, Routine, Heap, Env, Out, afterSeq, afterBlock, Calls, Loops, Wp, atReturn, WpFn, Tables, Atoms, sem, Fun, fact, givenOf, tables, Given, Item, Sq, runs, anyQ, atRet, ‵, raw, later, some, _⊛_, ⋆, _$_, _∵_, !, qed, by, move, keep, drop, use1, split, join, pick, await, rewrite, fsplit, fjoin, suffices, frame, done, whole, sub, look-in, look, look-raw, init, store, forget, stop, hop, fld, from, load, lit, of-opd, and-then, no-more, bin, assigns, assigns-last, land, first, blocks, exec, Below, again, loops, returns, enter, alloc1, alloc0, params1, pass1, pass0, free1, free0, fmOf, owns, pureI, Is, shows, pointee, shares, uint-vals, uint-tells, uint-makes, usize, u64, bool, RefT, sliceTy, sliceVal, ShrSlice, Room, heres, codedHoleys, at-slice, slice-vals, shr-slice-tells, row, plain, only, owned, facts, heard, nothing, Vals, onEntry, Meets, tripleOf, Contract, Triple, calls-at, ensured, lasts, entered, cited, says, needs, Stays, stay-none-slice, stay-none, walkOf, ends-at, goes-none-slice, goes-none, yes, Record, R, rec-ty, low, rec-tells, Ok, place-at, R-makes, typed, takes-out, puts-back, looks-in, shuts-in, Part, P, part-ty, P-makes, part-typed}
+use Rattle.index.proofs.Walk.{meets-by, _≡_, refl, sym, ap, subst, _∙_, ℕ, zero, suc, _+_, _-_, _*_, _^_, _≤_, _<_, zero-le, List, [], _∷_, length, URA, fullShare, Ty, named, imm, w64, tyPtr, tyInt, tyBool, tyRef, Val, vint, vptr, SProp, ent, emp, via, fst∗, id⊢, exE, snd∗, Lft, GName, Share, ftrue, fat, froom, fdies, flft, fres, fobor, fshr-bor, Memory, Routine, Heap, Env, Out, afterSeq, afterBlock, Calls, Loops, Wp, atReturn, WpFn, Tables, Atoms, sem, Fun, fact, givenOf, tables, Given, Item, Sq, runs, anyQ, atRet, ‵, raw, later, some, _⊛_, ⋆, _$_, _∵_, !, qed, by, move, keep, drop, use1, split, join, pick, await, rewrite, fsplit, fjoin, suffices, frame, done, whole, sub, look-in, look, look-raw, init, store, forget, stop, hop, fld, from, load, lit, of-opd, and-then, no-more, bin, assigns, assigns-last, land, first, blocks, exec, Below, again, loops, returns, enter, alloc1, alloc0, params1, pass1, pass0, free1, free0, fmOf, owns, pureI, Is, shows, pointee, shares, uint-vals, uint-tells, uint-makes, usize, u64, bool, RefT, sliceTy, sliceVal, ShrSlice, Room, heres, codedHoleys, at-slice, slice-vals, shr-slice-tells, row, plain, only, owned, facts, heard, nothing, Vals, onEntry, Meets, tripleOf, Contract, Triple, calls-at, ensured, lasts, entered, cited, says, Stays, stay-none-slice, stay-none, walkOf, ends-at, goes-none-slice, goes-none, yes, Record, R, rec-ty, low, rec-tells, Ok, place-at, R-makes, typed, takes-out, puts-back, looks-in, shuts-in, Part, P, part-ty, P-makes, part-typed}
 use Rattle.index.specs.Lookup as Lookup
-use Rattle.index.specs.Lookup.{holds, partUnder}
+use Rattle.index.specs.Lookup.{holds}
 use Rattle.index.specs.Contracts.Lists.{noRecord, recordAt, partIf}
 use Rattle.index.proofs.Laws.{none-holds, part-held, part-not, lookup-within, within-most, restFrom, rest-last, rest-here, rest-on}
 use Rattle.index.proofs.Test.{tests, breaks}

@@ -1,13 +1,13 @@
 -- `indexer::count_lines` meets its contract. Invariant: the lines counted and those that are left are all lines.
 use mathlib.Core.Path.{_≡_}
 use mathlib.Core.List.{List}
-use Prim.Native.Nat.{ℕ, _+_, _-_, _≤_, _<_}
+use Prim.Native.Nat.{ℕ, _+_, _-_, _≤_}
 use native.Mathlib.Omega.{arith}
-use lib.ListN.{length, take, drop}
+use lib.ListN.{length, drop}
 use borrow.Author.Needs.{needs}
 use mathlib.Core.Path.{ap}
 use Rattle.lines.specs.Lines.{linesOf}
-use Rattle.lines.proofs.Lines.{LineHere, lines-past}
+use Rattle.lines.proofs.Lines.{lines-past}
 use Rattle.pieces.proofs.Places.{part-line}
 use Rattle.indexer.proofs.count_lines.Statement.{statement}
 use Rattle.indexer.proofs.count_lines.Tie as tie

@@ -1,28 +1,30 @@
 -- `indexer::index_best` meets its contract.
 use mathlib.Core.Path.{refl}
 use native.Mathlib.Omega.{arith}
-use Rattle.paragraphs.proofs.Tables.{scratch-of}
 use borrow.Author.Needs.{needs}
+use Rattle.paragraphs.proofs.Tables.{scratch-of}
 use Rattle.indexer.proofs.index_best.Statement.{statement}
 use Rattle.indexer.proofs.index_best.Tie as tie
 
-slice-aggregate-index-within : tie.Need-slice-aggregate-index-within
-slice-aggregate-index-within c = search needs
+slice-aggregate-index-with : tie.Need-slice-aggregate-index-with
+slice-aggregate-index-with c = search needs
 
-slice-aggregate-index-within-2 : tie.Need-slice-aggregate-index-within-2
-slice-aggregate-index-within-2 c = search needs
+slice-aggregate-index-with-2 : tie.Need-slice-aggregate-index-with-2
+slice-aggregate-index-with-2 c = search needs
 
-slice-aggregate-index-within-3 : tie.Need-slice-aggregate-index-within-3
-slice-aggregate-index-within-3 c = search needs
+slice-aggregate-index-with-3 : tie.Need-slice-aggregate-index-with-3
+slice-aggregate-index-with-3 c = search needs
 
-slice-aggregate-index-within-4 : tie.Need-slice-aggregate-index-within-4
-slice-aggregate-index-within-4 c = search needs
+slice-aggregate-index-with-4 : tie.Need-slice-aggregate-index-with-4
+slice-aggregate-index-with-4 c = search needs
 
-slice-aggregate-index-within-5 : tie.Need-slice-aggregate-index-within-5
-slice-aggregate-index-within-5 c = search needs
+slice-aggregate-index-with-5 : tie.Need-slice-aggregate-index-with-5
+slice-aggregate-index-with-5 c = search needs
 
-index-within-requires : tie.Need-index-within-requires
-index-within-requires c κs = (c .before .before .before .before .before .before .before .before .before .before .pre, record { tables = scratch-of 1024 1024 refl refl refl refl refl (omega arith) (omega arith); words = refl; offers = λ q. refl })
+index-with-requires : tie.Need-index-with-requires
+index-with-requires c κs =
+    let p = c .before .before .before .before .before .before .before .before .before .before .before .pre in
+    (p .0, p .1, record { tables = scratch-of 1024 1024 refl refl refl refl refl (omega arith) (omega arith); words = refl; offers = λ q. refl })
 
 same-length : tie.Need-same-length
 same-length c = search needs
@@ -37,12 +39,12 @@ pub index-best-spec : {M : Type 1} → statement M
 index-best-spec =
     tie.close
     (tie.spec
-    slice-aggregate-index-within
-    slice-aggregate-index-within-2
-    slice-aggregate-index-within-3
-    slice-aggregate-index-within-4
-    slice-aggregate-index-within-5
-    index-within-requires
+    slice-aggregate-index-with
+    slice-aggregate-index-with-2
+    slice-aggregate-index-with-3
+    slice-aggregate-index-with-4
+    slice-aggregate-index-with-5
+    index-with-requires
     same-length
     same-length-2
     returns)

@@ -1,11 +1,11 @@
--- What the functions of the indexed call answer for: where the pieces end in the notes and in the digest, the records that come of it, and
--- the code's answer.
+-- What the functions of the indexed call answer for: what is spelled of the pieces, the records that are read from it, and the code's
+-- answer.
 use mathlib.Core.Path.{_≡_}
-use mathlib.Core.Bool.{Bool, false}
-use mathlib.Core.List.{List, [], _∷_, _++_, map}
-use Prim.Native.Nat.{ℕ, _+_, _-_, _*_, _^_, _≤_}
+use mathlib.Core.Bool.{Bool, true, false}
+use mathlib.Core.List.{List, [], _∷_}
+use Prim.Native.Nat.{ℕ, _+_, _-_, _*_, _^_, _≤_, _<_}
 use lib.Ieee.{Float}
-use lib.ListN.{length, take, drop}
+use lib.ListN.{length, take, drop, getD, set}
 use Rattle.text.specs.declared.Found.{Found}
 use Rattle.text.specs.declared.Found.the-variants.{At, Nowhere}
 use Rattle.options.specs.Opts.{Opts}
@@ -17,13 +17,18 @@ use Rattle.paragraphs.specs.Contracts.Steps.{Scratch}
 use Rattle.paragraphs.specs.declared.Cursor.{Cursor}
 use Rattle.paragraphs.specs.declared.Step.{Step}
 use Rattle.paragraphs.specs.declared.Step.the-variants.{On, Over}
-use Rattle.walk.specs.Digest.{pieceOutput, digest, extentOf, longParagraph}
+use Rattle.walk.specs.Digest.{digest, extentOf, longParagraph}
 use Rattle.walk.specs.Contracts.Course.{longFrom, Put}
 use Rattle.formatter.specs.declared.Reply.{Reply}
 use Rattle.formatter.specs.declared.Reply.the-variants.{Done as ReplyDone, Options as ReplyOptions, Long as ReplyLong, Text as ReplyText, Words as ReplyWords, Room as ReplyRoom}
-use Rattle.indexer.specs.Index.{indexOf}
-use Rattle.indexer.specs.Answers.{Indexed, done, options, long, text, words, full, room, numbersOf, outputAfter, recordsAfter}
+use Rattle.marks.specs.Contracts.Marks.{marksIn}
+use Rattle.index.specs.declared.Record.{Record}
+use Rattle.index.specs.Contracts.Lists.{noRecord}
+use Rattle.index.specs.Contracts.Reading.{readFrom}
+use Rattle.indexer.specs.Index.{lineCount, indexOf}
+use Rattle.indexer.specs.Answers.{Indexed, done, options, long, text, words, full, room, numbered, outputAfter, filledAfter}
 use Rattle.indexer.specs.Indexing.{withIndex}
+use Rattle.indexer.specs.declared.Told.{Told}
 use Rattle.indexer.specs.declared.Filled.{Filled}
 use Rattle.indexer.specs.declared.Filled.the-variants.{Done, Options as Faulty, Long, Text, Words, Full, Room}
 use Rattle.indexer.specs.declared.Pieces.{Pieces}
@@ -41,58 +46,40 @@ abbrev pub PieceStepped : Opts → List ℕ → List ℕ → Cursor → List ℕ
 PieceStepped o notes out c out′ (On d) = Put o notes out c d out′
 PieceStepped o notes out c out′ Over = (longFrom o (c .mail) notes (c .at) ≡ At (c .at)) × (out′ ≡ out)
 
--- ---- where the pieces end
+-- ---- the gaps that are spelled: of each piece its length in the notes and its count of output lines
 
-unfoldable pub endsFrom : ℕ → List Piece → List ℕ
-endsFrom at [] = []
-endsFrom at (q ∷ qs) = (at + length (extentOf q)) ∷ endsFrom (at + length (extentOf q)) qs
+unfoldable pub gapsOf : Opts → List Piece → List ℕ
+gapsOf o [] = []
+gapsOf o (q ∷ qs) = length (extentOf q) ∷ lineCount o q ∷ gapsOf o qs
 
-unfoldable pub outsFrom : Opts → ℕ → List Piece → List ℕ
-outsFrom o n [] = []
-outsFrom o n (q ∷ qs) = (n + length (pieceOutput o q)) ∷ outsFrom o (n + length (pieceOutput o q)) qs
+-- the count of lines that was written between two cursors
+abbrev pub linesPut : List ℕ → Cursor → Cursor → ℕ
+linesPut out c d = length (linesOf (take (d .written - c .written) (drop (c .written) out)))
 
--- all pieces were written and their ends noted, so far as the tables reach; or the work stopped at a paragraph of too many words
-abbrev pub Noted : Opts → List ℕ → List ℕ → List ℕ → List ℕ → List ℕ → List ℕ → List ℕ → Pieces → Type 0
-Noted o notes out ends outs out′ ends′ outs′ (All n k) =
-    (longParagraph o 0 (pieces o notes) ≡ Nowhere) × Wrote out 0 (digest o notes) out′ n
-    × Wrote ends 0 (endsFrom 0 (pieces o notes)) ends′ k × Wrote outs 0 (outsFrom o 0 (pieces o notes)) outs′ k
-Noted o notes out ends outs out′ ends′ outs′ (Stopped place) = (longParagraph o 0 (pieces o notes) ≡ At place) × (length out′ ≡ length out)
+-- before a piece is spelled: where its output fits, neither of its two places is marked
+pub record Spells (gaps out : List ℕ) (c d : Cursor) (line : ℕ) : Type 0 where
+  pub on : c .at < d .at
+  pub within : d .at ≤ 65536
+  pub few : line ≤ c .at
+  pub behind : c .written ≤ d .written
+  pub lines : d .written ≤ length out → linesPut out c d ≤ d .at
+  pub first : d .written ≤ length out → getD (marksIn gaps) (d .at + line - 1) true ≡ false
+  pub second : d .written ≤ length out → getD (set (marksIn gaps) (d .at + line - 1) true) (d .at + line + linesPut out c d - 1) true ≡ false
 
--- ---- the records that come of it
+-- and then: both are, and the line stands behind the piece; where its output does not fit, the line stays
+pub record Spelt (gaps out : List ℕ) (c d : Cursor) (line : ℕ) (gaps′ : List ℕ) (r : ℕ) : Type 0 where
+  pub stays : length out < d .written → r ≡ line
+  pub moves : d .written ≤ length out → r ≡ line + linesPut out c d
+  pub marked : d .written ≤ length out → marksIn gaps′ ≡ set (set (marksIn gaps) (d .at + line - 1) true) (d .at + line + linesPut out c d - 1) true
 
--- each piece ends behind the one before it, and inside a digest of so many bytes
-unfoldable pub Climbs : ℕ → ℕ → ℕ → List ℕ → List ℕ → Type 0
-Climbs size place from [] ws = Unit {0}
-Climbs size place from (e ∷ es) [] = Unit {0}
-Climbs size place from (e ∷ es) (w ∷ ws) = (place ≤ e) × (from ≤ w) × (w ≤ size) × Climbs size e w es ws
+-- all pieces were written, and if they fit, the gaps tell their records; or the work stopped at a paragraph of too many words
+abbrev pub Noted : Opts → List ℕ → List ℕ → List ℕ → List ℕ → Pieces → Type 0
+Noted o notes out out′ gaps′ (All n k) =
+    (longParagraph o 0 (pieces o notes) ≡ Nowhere) × Wrote out 0 (digest o notes) out′ n × (k ≡ length (indexOf o notes))
+    × (n ≤ length out → readFrom (marksIn gaps′) k noRecord ≡ indexOf o notes)
+Noted o notes out out′ gaps′ (Stopped place) = (longParagraph o 0 (pieces o notes) ≡ At place) × (length out′ ≡ length out)
 
--- the records of pieces with such ends, which begin at a place of the notes, at a byte of the digest and at a line of it
-unfoldable pub gathered : List ℕ → ℕ → ℕ → ℕ → List ℕ → List ℕ → List (List ℕ)
-gathered out place from line [] ws = []
-gathered out place from line (e ∷ es) [] = []
-gathered out place from line (e ∷ es) (w ∷ ws) =
-    (place ∷ (e - place) ∷ line ∷ length (linesOf (take (w - from) (drop from out))) ∷ [])
-    ∷ gathered out e w (line + length (linesOf (take (w - from) (drop from out)))) es ws
-
--- n pieces, with a record for each
-pub record Gathers (out ends outs : List ℕ) (n records : ℕ) : Type 0 where
-  pub ended : n ≤ length ends
-  pub put : n ≤ length outs
-  pub few : n ≤ records
-  pub climbs : Climbs (length out) 0 0 (take n ends) (take n outs)
-
--- ---- the records of a second walk: no paragraph has too many words, and there is room for the digest and for the records
-
-pub record Stores (o : Opts) (notes : List ℕ) (space records : ℕ) : Type 0 where
-  pub short : longParagraph o 0 (pieces o notes) ≡ Nowhere
-  pub room : length (digest o notes) ≤ space
-  pub few : length (indexOf o notes) ≤ records
-
-pub record Stored (o : Opts) (notes out : List ℕ) (index : List (List ℕ)) (out′ : List ℕ) (index′ : List (List ℕ)) : Type 0 where
-  pub output : out′ ≡ digest o notes ++ drop (length (digest o notes)) out
-  pub records : index′ ≡ map numbersOf (indexOf o notes) ++ drop (length (indexOf o notes)) index
-
--- ---- the answer in code: without the digest's bytes and the records, which stand where they were put
+-- ---- the answer in code: without the digest's bytes, which stand in the output, and the records, which the gaps tell
 
 abbrev pub told : Indexed → Filled
 told (done digest index) = Done (length digest) (length index)
@@ -122,11 +109,30 @@ toldFilled (Words place) = 0
 toldFilled (Full pieces) = 0
 toldFilled (Room needed) = 0
 
+-- the records of an answer: none on a refusal
+abbrev pub recordsOf : Indexed → List Record
+recordsOf (done digest index) = index
+recordsOf (options place) = []
+recordsOf long = []
+recordsOf (text place) = []
+recordsOf (words place) = []
+recordsOf (full pieces) = []
+recordsOf (room needed) = []
+
 -- what a function that gives the answer leaves behind
-pub record Indexes (a : Indexed) (out : List ℕ) (index : List (List ℕ)) (r : Filled) (out′ : List ℕ) (index′ : List (List ℕ)) : Type 0 where
+pub record Indexes (a : Indexed) (out : List ℕ) (r : Filled) (out′ gaps′ : List ℕ) : Type 0 where
   pub is : r ≡ told a
   pub output : out′ ≡ outputAfter a out
-  pub records : index′ ≡ recordsAfter a index
+  pub read : readFrom (marksIn gaps′) (filledAfter a) noRecord ≡ recordsOf a
+
+-- what the call leaves behind, and tells
+pub record Marked (a : Indexed) (records : ℕ) (out out′ : List ℕ) (filled′ : ℕ) (marks′ : List ℕ) (t : Told) : Type 0 where
+  pub answer : t .answer ≡ numbered a
+  pub output : out′ ≡ outputAfter a out
+  pub filled : filled′ ≡ filledAfter a
+  pub count : t .records ≡ filledAfter a
+  pub few : t .records ≤ records
+  pub read : readFrom (marksIn marks′) (t .records) noRecord ≡ recordsOf a
 
 -- a refusal that is told before any piece is looked at (it is not `Done`)
 abbrev pub refusedAs : Reply → Filled

@@ -1,9 +1,9 @@
--- `indexer::write_indexed` meets its contract.
-use Rattle.indexer.specs.Contracts.Noting.{Indexes}
-use Rattle.indexer.proofs.Answers.{passed, refused, indexing-left, refused-answer}
+-- `indexer::write_pieces` meets its contract.
+use Rattle.formatter.proofs.Refusals.{passed, refused}
+use Rattle.indexer.proofs.Answers.{indexing-left, refused-answer}
 use borrow.Author.Needs.{needs}
-use Rattle.indexer.proofs.write_indexed.Statement.{statement}
-use Rattle.indexer.proofs.write_indexed.Tie as tie
+use Rattle.indexer.proofs.write_pieces.Statement.{statement}
+use Rattle.indexer.proofs.write_pieces.Tie as tie
 
 admit-requires : tie.Need-admit-requires
 admit-requires c κs = search needs
@@ -18,7 +18,7 @@ enum-known-o : tie.Need-enum-known-o
 enum-known-o c = search needs
 
 index-notes-requires : tie.Need-index-notes-requires
-index-notes-requires c κs = passed _ _ (c .before .before .before .before .before .admit .ensures) (c .before .before .before .o .given .1) .0
+index-notes-requires c κs = (passed _ _ (c .before .before .before .before .before .admit .ensures) (c .before .before .before .o .given .1) .0, c .before .before .before .before .before .before .before .before .before .before .pre)
 
 returns : tie.Need-returns
 returns c = rw (c .refused .ensures) (refused-answer _ _ _ _ _ _ _ (refused _ _ (c .before .before .before .before .admit .ensures) (c .before .before .r .given .1)))
@@ -30,10 +30,10 @@ same-length-2 : tie.Need-same-length-2
 same-length-2 c = search needs
 
 returns-2 : tie.Need-returns-2
-returns-2 c = rw (indexing-left _ _ _ _ _ (passed _ _ (c .before .before .before .before .before .before .before .before .before .admit .ensures) (c .before .before .before .before .before .before .before .o .given .1))) (c .before .before .before .index-notes .ensures)
+returns-2 c = rw (indexing-left _ _ _ _ _ (passed _ _ (c .before .before .before .before .before .before .before .before .before .before .admit .ensures) (c .before .before .before .before .before .before .before .before .o .given .1))) (c .before .before .before .before .index-notes .ensures)
 
-pub write-indexed-spec : {M : Type 1} → statement M
-write-indexed-spec =
+pub write-pieces-spec : {M : Type 1} → statement M
+write-pieces-spec =
     tie.close
     (tie.spec
     admit-requires
