@@ -1,7 +1,7 @@
 /* Made by tools/page from page/page.css and page/page.js: change those, and make it anew. */
 #include "page.h"
 
-const char PAGE_STYLE_HASH[] = "+vdQKffWbkuR/gwmoUZmezORVQNpxMRvokvVMzuQAYg=";
+const char PAGE_STYLE_HASH[] = "yfOWf77DZUYTc1aWtbez/g97hYD5s40wti2tMQegrWY=";
 
 const char *const PAGE_STYLE[] = {
     ":root {\n",
@@ -79,7 +79,7 @@ const char *const PAGE_STYLE[] = {
     "small { color: var(--dim); font-size: .9em; font-weight: normal; margin-left: .4em; }\n",
     "em { display: block; font-style: normal; font-size: 1.12em; margin-bottom: .8rem; }\n",
     "em::first-letter { text-transform: uppercase; }\n",
-    "em.x::after { display: block; content: \"The cheapest of all ways to break the paragraph. A line costs (1 + line + word + change) squared: for being short or long, for a short last word, and for being unlike the line before.\"; color: var(--dim); font-size: .82em; }\n",
+    "em.x::after { display: block; content: \"Of the ways to come to this break the cheapest. A line costs (1 + line + word + change) squared: for being short or long, for a short last word, and for being unlike the line before.\"; color: var(--dim); font-size: .82em; }\n",
     "h2 { font-size: 1em; }\n",
     "#notes ol, #failed ol { list-style-position: outside; margin-top: .4rem; padding: .5rem .6rem .5rem 5.5ch; background: var(--card); border: 1px solid var(--hair); font: calc(var(--size) * .94)/1.6 var(--mono); font-variant-ligatures: none; direction: ltr; }\n",
     "li::marker { color: var(--dim); }\n",

@@ -3,12 +3,12 @@
 use mathlib.Core.Path.{_≡_, refl, sym, ap, _∙_}
 use mathlib.Core.Bool.{Bool, true, false, cond, not, false≢true, true≢false, and-eq-true-iff}
 use mathlib.Core.List.{List, [], _∷_, _++_, append-assoc, map}
-use Prim.Native.Nat.{ℕ, _+_, _/_, _%_, _≤_, _<_}
+use Prim.Native.Nat.{ℕ, _+_, _/_, _%_, _<_}
 use native.Mathlib.Omega.{arith}
-use lib.Dec.{T, eqb, ltb, leb}
+use lib.Dec.{T, eqb, ltb}
 use lib.ListN.{length, take, drop, length-append}
 use lib.Seq.{take-append-seam, drop-append-seam}
-use borrow.Author.Tests.{eqb-true, ne-eqb, leb-true, leb-false, le-leb, lt-leb}
+use borrow.Author.Tests.{eqb-true, ne-eqb}
 use Rattle.lists.specs.Runs.{while, every, joined}
 use Rattle.lists.specs.Theorems.All.{All}
 use Rattle.lists.proofs.Runs.{while-more, while-end}
@@ -16,6 +16,7 @@ use Rattle.lists.proofs.Parts.{every-nil, every-cons, every-append, joined-nil,
 use Rattle.lines.specs.Lines.{noFeed}
 use Rattle.widths.specs.Widths.{widthOf}
 use Rattle.widths.specs.WhiteSpace.{whiteSpace}
+use Rattle.widths.proofs.Inks.{blank-most}
 use Rattle.text.specs.Rfc3629.{Front, front, nothing, scalar, encode, decode}
 use Rattle.text.specs.Characters.{Glyph, glyphAs, glyph, characters, extent}
 use Rattle.text.specs.Theorems.Blanks.{spaceCode}
@@ -205,41 +206,10 @@ module _ (kind : ℕ → Bool) (no-damage : kind 0xFFFD ≡ false) (no-feed : ki
 
 -- ---- blanks
 
--- behind U+3000 there is no blank
-no-blank : (c : ℕ) → 0x3000 < c → whiteSpace c ≡ false
-unfolding whiteSpace
-no-blank c h =
-    rw (
-      le-leb 9 c (omega arith),
-      lt-leb c 13 (omega arith),
-      ne-eqb c 0x20 (omega arith),
-      ne-eqb c 0x85 (omega arith),
-      ne-eqb c 0xA0 (omega arith),
-      ne-eqb c 0x1680 (omega arith),
-      le-leb 0x2000 c (omega arith),
-      lt-leb c 0x200A (omega arith),
-      le-leb 0x2028 c (omega arith),
-      lt-leb c 0x2029 (omega arith),
-      ne-eqb c 0x202F (omega arith),
-      ne-eqb c 0x205F (omega arith),
-      ne-eqb c 0x3000 (omega arith),
-    )
-
-space-small : (c : ℕ) → spaceCode c ≡ true → c ≤ 0x3000
-space-small c h = go (leb c 0x3000) refl
-  where
-    blank : whiteSpace c ≡ true
-    blank = and-eq-true-iff (whiteSpace c) (not (eqb c 10)) .0 h .0
-
-    go : (t : Bool) → leb c 0x3000 ≡ t → c ≤ 0x3000
-    go true e = leb-true c 0x3000 e
-    go false e = absurd (false≢true (sym (no-blank c (let l = leb-false c 0x3000 e in omega arith)) ∙ blank))
-
-small-character : (c : ℕ) → c ≤ 0x3000 → Character c
-small-character c h = record { isScalar = rw (scalar-true c (record { most = omega arith; noSurrogate = λ a b. omega arith })) tt }
-
 pub space-character : (c : ℕ) → spaceCode c ≡ true → Character c
-space-character c h = small-character c (space-small c h)
+space-character c h =
+    let l = blank-most c (and-eq-true-iff (whiteSpace c) (not (eqb c 10)) .0 h .0) in
+    record { isScalar = rw (scalar-true c (record { most = omega arith; noSurrogate = λ a b. omega arith })) tt }
 
 pub space-characters : (codes : List ℕ) → every spaceCode codes ≡ true → All Character codes
 space-characters [] e = tt

@@ -1,6 +1,6 @@
 pub mod Feeds
 mod Decides
-mod Codes
+pub mod Codes
 mod Gaps
 pub mod Lines
 pub mod Pieces

@@ -1,7 +1,7 @@
 -- Document 01, "Knuth-Plass": ratio, the three terms and the cost of a break, in f32 with each operation rounded.
 -- A float of the kit is `nan`, `inf s` or `fin s m e`: the number m × 2^e, below zero if s. `up e` is 2^e where e is at least 0 and else 1;
 -- `down e` is 2^-e where e is below 0 and else 1. `mul binary32`, `sub`, `div` and `ofInt` round once, to the nearest f32.
-use mathlib.Core.Bool.{Bool, true, false, cond, _||_}
+use mathlib.Core.Bool.{false, cond, _||_}
 use Prim.Native.Nat.{ℕ, _+_, _-_, _*_, _/_}
 use lib.IntN.{pos}
 use lib.Dec.{leb, eqb}

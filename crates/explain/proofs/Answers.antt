@@ -1,10 +1,10 @@
 -- The answer: what is told of the line at the end of the notes, and before any piece is looked at; and that its number fits.
 use mathlib.Core.Path.{_≡_, refl, sym, ap, _∙_}
 use mathlib.Core.Bool.{Bool, true, false, cond}
-use mathlib.Core.List.{List, [], _∷_}
-use Prim.Native.Nat.{ℕ, _+_, _-_, _*_, _^_, _≤_, _<_}
+use mathlib.Core.List.{List}
+use Prim.Native.Nat.{ℕ, _-_, _≤_}
 use native.Mathlib.Omega.{arith}
-use borrow.Author.Tests.{ltb-true, ltb-false}
+use borrow.Author.Tests.{ltb-false}
 use lib.Dec.{ltb}
 use lib.ListN.{length, getD}
 use Rattle.text.specs.declared.Found.{Found}
@@ -28,7 +28,6 @@ use Rattle.formatter.specs.declared.Admission.the-variants.{Refused as NotAdmit
 use Rattle.formatter.proofs.Refusals.{a-refusal-is-no-digest}
 use Rattle.explain.specs.declared.Asked.{Asked}
 use Rattle.explain.specs.declared.Asked.the-variants.{Told, Behind}
-use Rattle.explain.specs.declared.Seek.{Seek}
 use Rattle.explain.specs.declared.Sought.{Sought}
 use Rattle.explain.specs.declared.Sought.the-variants.{All, Stopped}
 use Rattle.explain.specs.declared.Explained.{Explained}

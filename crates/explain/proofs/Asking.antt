@@ -3,11 +3,9 @@ use mathlib.Core.Path.{_≡_, refl, sym, ap, _∙_}
 use mathlib.Core.Bool.{Bool, true, false, cond}
 use mathlib.Core.List.{List, [], _∷_}
 use Prim.Native.Nat.{ℕ, zero, suc, _+_, _-_, _≤_, _<_}
-use native.Mathlib.Numerals.{add-one}
 use native.Mathlib.Omega.{arith}
 use lib.ListN.{length, getD}
 use borrow.Author.Tests.{lt-ltb, le-ltb}
-use lib.Seq.{slice}
 use Rattle.records.specs.Word.{Word}
 use Rattle.spacing.specs.declared.Setting.{Setting}
 use Rattle.endings.specs.declared.Ending.{Ending}
@@ -17,7 +15,6 @@ use Rattle.endings.specs.declared.Spot.the-variants.{Before, Last, Behind as Be
 use Rattle.endings.specs.Endings.{Next, goesOn, ended, isEnded, breaks, endings}
 use Rattle.endings.specs.Contracts.Spots.{spotOf}
 use Rattle.endings.proofs.Spots.{EndsAt, spot-ends, spot-is-last, spot-is-behind}
-use Rattle.quick.specs.QuickLines.{quickLines}
 use Rattle.quick.proofs.Lines.{breaks-are-quick's}
 use Rattle.knuth_plass.specs.KnuthPlass.{Place, startsLine, pathOf}
 use Rattle.knuth_plass.specs.BestLines.{makersOf, nextAt, nextsFrom, bestLines}

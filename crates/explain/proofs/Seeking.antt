@@ -4,14 +4,13 @@ use mathlib.Core.Bool.{Bool, true, false, cond, _||_}
 use mathlib.Core.List.{List, [], _∷_, _++_}
 use Prim.Native.Nat.{ℕ, _+_, _-_, _≤_, _<_}
 use native.Mathlib.Omega.{arith}
-use borrow.Author.Tests.{eq-eqb, ne-eqb, lt-ltb, le-ltb, ltb-true, ltb-false}
+use borrow.Author.Tests.{lt-ltb, le-ltb, ltb-true, ltb-false}
 use lib.Dec.{ltb}
 use lib.ListN.{length, getD, length-append, List·getD-append}
 use lib.Seq.{getD-append-add}
 use Rattle.lists.specs.Runs.{joined}
 use Rattle.lists.proofs.Walk.{walk-nil}
 use Rattle.lists.proofs.Parts.{joined-nil, joined-cons}
-use Rattle.text.specs.declared.Found.the-variants.{At, Nowhere}
 use Rattle.options.specs.Opts.{Opts, meant}
 use Rattle.options.specs.declared.Options.{Options}
 use Rattle.lines.proofs.Lines.{lines-past}
@@ -24,8 +23,8 @@ use Rattle.endings.specs.declared.Ending.{Ending}
 use Rattle.endings.specs.declared.Ending.the-variants.{Paragraph, Plain, Blank}
 use Rattle.endings.specs.Endings.{endings}
 use Rattle.paragraphs.specs.Contracts.Steps.{settingFor, wordsFor}
-use Rattle.walk.specs.Digest.{mostWords, tooMany}
-use Rattle.walk.specs.Contracts.Course.{Admitted, piecesFrom, FirstPiece}
+use Rattle.walk.specs.Digest.{mostWords}
+use Rattle.walk.specs.Contracts.Course.{piecesFrom, FirstPiece}
 use Rattle.walk.proofs.Loop.{long-none, long-more, long-here}
 use Rattle.walk.proofs.Meaning.{TextGoes}
 use Rattle.walk.proofs.Rows.{text-words}
@@ -40,7 +39,7 @@ use Rattle.explain.specs.declared.Sought.{Sought}
 use Rattle.explain.specs.declared.Sought.the-variants.{All, Stopped}
 use Rattle.explain.specs.Reasons.{linesBy, paragraphEndings, endingsOf, pieceEndings, lineEndings}
 use Rattle.explain.specs.Contracts.Asking.{passed}
-use Rattle.explain.specs.Contracts.Seeking.{TextBehind, TextPassed, PieceBehind, NoRoom, PiecePassed, endingsFrom, passedAll, longBehind, Seeking, SoughtIs, Coursed}
+use Rattle.explain.specs.Contracts.Seeking.{TextPassed, PieceBehind, NoRoom, PiecePassed, endingsFrom, Seeking, SoughtIs, Coursed}
 
 -- ---- lines that are passed
 

@@ -2,7 +2,7 @@
 use mathlib.Core.Path.{_≡_, refl, sym, ap, _∙_, subst}
 use mathlib.Core.Bool.{Bool, true, false, cond, false≢true}
 use mathlib.Core.List.{List, [], _∷_}
-use Prim.Native.Nat.{ℕ, _+_, _*_, _^_, _≤_, _<_}
+use Prim.Native.Nat.{ℕ, _^_, _≤_, _<_}
 use native.Mathlib.Omega.{arith}
 use lib.Dec.{leb, ltb}
 use lib.ListN.{length, getD, replicate}
@@ -15,11 +15,10 @@ use Rattle.options.specs.declared.Options.{Options}
 use Rattle.options.specs.declared.Block.{Block}
 use Rattle.options.specs.declared.Block.the-variants.{Accepted, Fault}
 use Rattle.pieces.specs.Pieces.{pieces}
-use Rattle.output.specs.Contracts.Sink.{Wrote}
 use Rattle.output.proofs.Sink.{written-fits, wrote-length}
 use Rattle.walk.specs.Digest.{longParagraph}
 use Rattle.formatter.specs.Answers.{Answer, done, options, long, text, words, room, code, outputAfter}
-use Rattle.formatter.specs.Format.{mostBytes, damageIn, withWords, withText, withNotes, withBlock, withDigest, measuring}
+use Rattle.formatter.specs.Format.{mostBytes, damageIn, withWords, withText, withNotes, withBlock, measuring}
 use Rattle.formatter.specs.Contracts.Call.{told, replyNumber, Refuses, Admits}
 use Rattle.formatter.specs.declared.Reply.{Reply}
 use Rattle.formatter.specs.declared.Reply.the-variants.{Done, Options as Faulty, Words, Room}

@@ -1,7 +1,7 @@
 -- How long what is sent gets: at most 3,120 bytes for each byte of the notes, if no paragraph has more than 1,024 words.
 use mathlib.Core.Path.{_≡_, refl, sym, ap, _∙_}
 use mathlib.Core.Bool.{Bool, true, false, _||_}
-use mathlib.Core.List.{List, [], _∷_, _++_}
+use mathlib.Core.List.{List, [], _++_}
 use Prim.Native.Nat.{ℕ, zero, suc, _+_, _*_, _≤_, _<_}
 use native.Mathlib.Omega.{arith}
 use lib.Dec.{ltb}
@@ -9,7 +9,7 @@ use lib.ListN.{length, length-append}
 use lib.Seq.{slice, length-slice}
 use borrow.Author.Tests.{ltb-true, ltb-false}
 use Rattle.lists.specs.Runs.{joined}
-use Rattle.text.specs.declared.Found.the-variants.{At, Nowhere}
+use Rattle.text.specs.declared.Found.the-variants.{Nowhere}
 use Rattle.options.specs.Opts.{Opts}
 use Rattle.pieces.specs.Pieces.{Kind, blankLine, plainLine, paragraph, pieces}
 use Rattle.pieces.specs.Contracts.Places.{pieceAt}
@@ -26,9 +26,10 @@ use Rattle.walk.proofs.Meaning.{TextGoes, PieceGoes, piece-goes}
 use Rattle.walk.proofs.Bound.{text-most}
 use Rattle.walk.proofs.Loop.{all-long, long-more, long-here}
 use Rattle.unflow.specs.Flowed.{crLf, stuffing}
-use Rattle.flow.specs.Flow.{brokenInto, paragraphLines, sentLines, plainSent, trimmed, sent, flowed}
+use Rattle.flow.specs.Flow.{paragraphLines, sentLines, plainSent, sent, flowed}
 use Rattle.flow.specs.Contracts.Sending.{flowedFrom}
-use Rattle.flow.proofs.Words.{words-sent, sent-most, stuffing-most}
+use Rattle.unflow.proofs.Texts.{stuffing-most}
+use Rattle.flow.proofs.Words.{words-sent, sent-most}
 use Rattle.flow.proofs.Plain.{plain-shorter}
 use Rattle.flow.proofs.Course.{one-sent, sent-longest, sent-none, sent-more, all-sent}
 

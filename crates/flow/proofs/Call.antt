@@ -11,7 +11,7 @@ use Rattle.lists.specs.Theorems.All.{_∈_}
 use Rattle.text.specs.declared.Found.{Found}
 use Rattle.text.specs.declared.Found.the-variants.{At, Nowhere}
 use Rattle.options.specs.Opts.{Opts, meant}
-use Rattle.options.specs.OptionBlock.{fields, firstFault, partOf, leastWidth, fits, bit, optionsOf, judged, readBlock}
+use Rattle.options.specs.OptionBlock.{fields, partOf, bit, optionsOf, readBlock}
 use Rattle.options.specs.declared.Options.{Options}
 use Rattle.options.specs.declared.Block.{Block}
 use Rattle.options.specs.declared.Block.the-variants.{Accepted, Fault}

@@ -1,6 +1,6 @@
 -- Piece by piece: what was sent of each, and what is left of the work.
 use mathlib.Core.Path.{_≡_, refl, sym, ap, _∙_}
-use mathlib.Core.Bool.{Bool, true, false, _||_}
+use mathlib.Core.Bool.{Bool, true, false}
 use mathlib.Core.List.{List, [], _∷_, _++_, append-nil}
 use Prim.Native.Nat.{ℕ, _+_, _-_, _*_, _≤_, _<_}
 use native.Mathlib.Nat.{mul-add}
@@ -11,7 +11,7 @@ use borrow.Author.Tests.{le-ltb, lt-ltb}
 use Rattle.lists.specs.Runs.{joined, begins}
 use Rattle.lists.proofs.Parts.{joined-nil, joined-cons}
 use Rattle.lists.proofs.Walk.{walk-nil}
-use Rattle.text.specs.declared.Found.the-variants.{At, Nowhere}
+use Rattle.text.specs.declared.Found.the-variants.{At}
 use Rattle.options.specs.Opts.{Opts, meant}
 use Rattle.options.specs.declared.Options.{Options}
 use Rattle.options.proofs.Accepted.{Kept, accepted}
@@ -33,12 +33,11 @@ use Rattle.words.proofs.Order.{paragraph-some}
 use Rattle.spacing.specs.declared.Setting.{Setting}
 use Rattle.spacing.specs.Contracts.Bounds.{Fair}
 use Rattle.output.specs.declared.Layout.{Layout}
-use Rattle.output.specs.Contracts.Bound.{bulk, longest}
+use Rattle.output.specs.Contracts.Bound.{longest}
 use Rattle.output.specs.Contracts.Sink.{Wrote, Left}
 use Rattle.output.specs.Contracts.Writers.{marginOf, MarginIn}
 use Rattle.output.proofs.Sink.{length-written, wrote-nil, left-first, left-then, left-last}
 use Rattle.quick.specs.Quick.{quickBreaks}
-use Rattle.paragraphs.specs.Breaks.{settingOf, breaksBy}
 use Rattle.paragraphs.specs.Contracts.Steps.{settingFor, wordsFor, Placed}
 use Rattle.paragraphs.proofs.Breaking.{limits-of}
 use Rattle.walk.specs.Digest.{mostWords, tooMany, longParagraph}
@@ -49,8 +48,8 @@ use Rattle.walk.proofs.Bound.{text-most}
 use Rattle.walk.proofs.Loop.{all-long, long-none, long-more, long-here}
 use Rattle.unflow.specs.Flowed.{isDashes}
 use Rattle.flow.specs.Flow.{brokenInto, paragraphLines, sentLines, plainSent, trimmed, sent, sentPiece, flowed, pieceDashes, dashesIn}
-use Rattle.flow.specs.Contracts.Words.{wordsSent, wordsDashes, mostSent}
-use Rattle.flow.specs.Contracts.Sending.{switched, Ready, ParagraphSent, TextSent, TextStepped, flowedFrom, dashesFor, CursorIn, Put, PieceStepped, Finished}
+use Rattle.flow.specs.Contracts.Words.{mostSent}
+use Rattle.flow.specs.Contracts.Sending.{Ready, ParagraphSent, TextSent, TextStepped, flowedFrom, dashesFor, CursorIn, Put, PieceStepped, Finished}
 use Rattle.flow.specs.declared.Cursor.{Cursor}
 use Rattle.flow.specs.declared.Step.{Step}
 use Rattle.flow.specs.declared.Step.the-variants.{On, Over}

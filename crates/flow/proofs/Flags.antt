@@ -1,13 +1,13 @@
 -- The flags of a well-formed block: tags ascend, so that theirs is the first field, or there are none.
 use mathlib.Core.Path.{_≡_, refl, sym, ap, _∙_}
-use mathlib.Core.Bool.{Bool, true, false, cond, not, _||_, or-true, or-false, true≢false}
+use mathlib.Core.Bool.{Bool, true, false, cond, _||_, or-true, or-false, true≢false}
 use mathlib.Core.List.{List, [], _∷_}
-use Prim.Native.Nat.{ℕ, zero, suc, _+_, _*_, _/_, _%_, _^_, _≤_, _<_}
+use Prim.Native.Nat.{ℕ, zero, suc, _+_, _*_, _/_, _%_, _≤_, _<_}
 use native.Mathlib.Omega.{arith}
 use lib.Dec.{eqb, leb, ltb}
 use lib.ListN.{length, getD, drop}
 use lib.Seq.{getD-drop}
-use borrow.Author.Tests.{ltb-true, ltb-false, leb-true, leb-false, eqb-true, eqb-false, eq-eqb, ne-eqb}
+use borrow.Author.Tests.{ltb-true, ltb-false, leb-true, leb-false}
 use Rattle.text.specs.declared.Found.{Found}
 use Rattle.text.specs.declared.Found.the-variants.{At, Nowhere}
 use Rattle.options.specs.OptionBlock.{number, fields, wellFormed, firstFault, partOf, numberAt, optionsOf, fits, leastWidth, judged, readBlock, bit}
@@ -17,11 +17,10 @@ use Rattle.options.specs.declared.Part.the-variants.{Absent, Given}
 use Rattle.options.specs.declared.Options.{Options}
 use Rattle.options.specs.declared.Block.the-variants.{Accepted, Fault}
 use Rattle.options.proofs.Fields.{rest, rest-all, well-order, fault-here, fault-later, part-none, part-here, part-later}
-use Rattle.flow.specs.Answers.{isGiven, flagsOf, unfit}
+use Rattle.options.proofs.Given.{at-nowhere}
+use Rattle.options.proofs.Accepted.{accepted-fault}
+use Rattle.flow.specs.Answers.{flagsOf, unfit}
 use Rattle.flow.specs.Contracts.Sending.{refusedFor, shaped}
-
-at-nowhere : (place : ℕ) → At place ≡ Nowhere → ⊥
-at-nowhere place e = let z : _≡_ {A = ℕ} 0 1 = cc in omega arith
 
 module _ (block : List ℕ) where
   -- where none is faulty, a field that is there is well formed, and its tag above the one before it
@@ -90,9 +89,6 @@ module _ (block : List ℕ) where
             ∙ none-behind (length block) (0 + 3 + number (drop 1 block)) (getD block 0 0) (omega arith) (omega (arith, above 0 0 i w)) (sym (fault-later block 0 0 i (getD block 0 0) (0 + 3 + number (drop 1 block)) refl refl w) ∙ fault-none)
 
 -- ---- what an accepted block has
-
-accepted-fault : (o : Options) (place : ℕ) → Accepted o ≡ Fault place → ⊥
-accepted-fault o place e = let z : _≡_ {A = ℕ} 0 1 = cc in omega arith
 
 module _ (block : List ℕ) (o : Options) where
   pub accepted-sound : readBlock block ≡ Accepted o → firstFault (fields block) ≡ Nowhere

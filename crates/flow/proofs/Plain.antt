@@ -2,7 +2,7 @@
 use mathlib.Core.Path.{_≡_, refl, sym, ap, _∙_}
 use mathlib.Core.Bool.{Bool, true, false, cond}
 use mathlib.Core.List.{List, [], _∷_, _++_, append-assoc}
-use Prim.Native.Nat.{ℕ, _+_, _-_, _≤_, _<_}
+use Prim.Native.Nat.{ℕ, _+_, _-_, _≤_}
 use native.Mathlib.Omega.{arith}
 use lib.Dec.{eqb}
 use lib.ListN.{length, getD, take, drop, replicate, length-append}
@@ -10,14 +10,13 @@ use lib.Seq.{slice, slice-empty, length-slice}
 use borrow.Author.Tests.{ne-eqb}
 use Rattle.lists.proofs.Slices.{slice-is, slice-one}
 use Rattle.lists.proofs.Joins.{slice-join}
-use Rattle.pieces.specs.declared.Margin.{Margin}
 use Rattle.output.specs.Contracts.Sink.{Wrote}
 use Rattle.output.specs.Contracts.Writers.{marginOf}
 use Rattle.output.proofs.Sink.{wrote-then}
 use Rattle.unflow.specs.Flowed.{space, crLf, stuffing, isDashes}
 use Rattle.unflow.specs.Contracts.Steps.{endOf}
 use Rattle.flow.specs.Flow.{before, trimmed, plainSent, sent}
-use Rattle.flow.proofs.Words.{stuffing-most}
+use Rattle.unflow.proofs.Texts.{stuffing-most}
 
 trimmed-space : (xs : List ℕ) → trimmed (xs ++ space ∷ []) ≡ trimmed xs
 unfolding trimmed

@@ -1,6 +1,6 @@
 -- What is sent is read: the lines of a text that was sent, and what the reader makes of each.
 use mathlib.Core.Path.{_≡_, refl, sym, ap, _∙_}
-use mathlib.Core.Bool.{Bool, true, false, cond, not, _&&_, _||_, and-eq-true-iff, false≢true, true≢false}
+use mathlib.Core.Bool.{Bool, true, false, cond, not, _&&_, _||_, false≢true, true≢false}
 use mathlib.Core.List.{List, [], _∷_, _++_, append-assoc, map}
 use Prim.Native.Nat.{ℕ, suc}
 use native.Mathlib.Omega.{arith}
@@ -9,10 +9,11 @@ use lib.ListN.{length, drop, length-append}
 use borrow.Author.Tests.{eqb-true, lt-ltb}
 use Rattle.lists.specs.Runs.{every, begins, joined}
 use Rattle.lists.specs.Theorems.All.{All}
-use Rattle.lists.proofs.Runs.{while-more, while-end, behind-end}
+use Rattle.lists.proofs.Runs.{while-end, behind-end}
 use Rattle.lists.proofs.Parts.{every-nil, every-cons, every-append, joined-nil, joined-cons, while-nil, behind-nil}
 use Rattle.lists.proofs.Walk.{each-nil, each-step}
-use Rattle.lines.specs.Lines.{Line, noFeed, body, withoutReturn, firstLine, linesOf}
+use Rattle.lines.specs.Lines.{Line, noFeed, body, firstLine, linesOf}
+use Rattle.lines.proofs.Lines.{feedless-body, return-behind}
 use Rattle.pieces.specs.Pieces.{fromWord}
 use Rattle.unflow.specs.Flowed.{space, quoteMark, crLf, isMark, quoteDepth, needsSpace, stuffing, unstuffed, contentOf, isDashes, isSeparator, endsInSpace, isSoft}
 use Rattle.unflow.specs.Unflow.{goesOn, Paragraph, paragraphsFrom, paragraphs, mailLines}
@@ -24,19 +25,6 @@ abbrev pub asSent : List ℕ → List ℕ
 asSent t = stuffing t ++ t
 
 -- ---- the lines of what was sent
-
-feedless-body : (t rest : List ℕ) → every noFeed t ≡ true → body (t ++ 10 ∷ rest) ≡ t
-unfolding body
-feedless-body [] rest f = while-end noFeed 10 rest refl
-feedless-body (x ∷ t) rest f =
-    let h = and-eq-true-iff (noFeed x) (every noFeed t) .0 (rw (every-cons noFeed x t) at f) in
-    while-more noFeed x (t ++ 10 ∷ rest) (h .0) ∙ ap (λ (l : List ℕ). x ∷ l) (feedless-body t rest (h .1))
-
-return-goes : (t : List ℕ) → withoutReturn (t ++ 13 ∷ []) ≡ t
-unfolding withoutReturn
-return-goes [] = refl
-return-goes (x ∷ []) = refl
-return-goes (x ∷ y ∷ t) = ap (λ (l : List ℕ). x ∷ l) (return-goes (y ∷ t))
 
 drop-behind : (a : List ℕ) (x : ℕ) (rest : List ℕ) → drop (suc (length a)) (a ++ x ∷ rest) ≡ rest
 drop-behind [] x rest = refl
@@ -50,7 +38,7 @@ mail-line t rest f =
     let b = feedless-body (t ++ 13 ∷ []) rest c in
     let l = length-append (t ++ 13 ∷ []) (10 ∷ rest) in
     ap (map (λ (l : Line). l .text)) (each-step (λ xs. length (body xs)) firstLine ((t ++ 13 ∷ []) ++ 10 ∷ rest) (omega arith))
-    ∙ rw (b, lt-ltb (length (t ++ 13 ∷ [])) (length ((t ++ 13 ∷ []) ++ 10 ∷ rest)) (omega arith), return-goes t, drop-behind (t ++ 13 ∷ []) 10 rest)
+    ∙ rw (b, lt-ltb (length (t ++ 13 ∷ [])) (length ((t ++ 13 ∷ []) ++ 10 ∷ rest)) (omega arith), return-behind t, drop-behind (t ++ 13 ∷ []) 10 rest)
 
 mail-none : mailLines [] ≡ []
 unfolding mailLines linesOf

@@ -2,13 +2,13 @@
 use mathlib.Core.Path.{_≡_, refl, sym, ap, _∙_, subst⁻¹}
 use mathlib.Core.Bool.{Bool, true, false, cond, _||_, and-eq-true-iff}
 use mathlib.Core.List.{List, [], _∷_, _++_}
-use Prim.Native.Nat.{ℕ, zero, suc, _<_}
+use Prim.Native.Nat.{ℕ, _<_}
 use native.Mathlib.Omega.{arith}
 use lib.Dec.{eqb}
-use lib.ListN.{length, take, replicate, length-append}
+use lib.ListN.{length, replicate, length-append}
 use Rattle.lists.specs.Runs.{every}
 use Rattle.lists.specs.Theorems.All.{All}
-use Rattle.lists.proofs.Parts.{every-nil, every-cons, every-append}
+use Rattle.lists.proofs.Parts.{every-nil, every-cons}
 use Rattle.lists.proofs.All.{all-drop}
 use Rattle.lists.proofs.Extents.{walk-all}
 use Rattle.options.specs.Opts.{Opts}
@@ -18,8 +18,9 @@ use Rattle.lines.specs.declared.Shape.{Shape}
 use Rattle.lines.specs.declared.Class.{Class}
 use Rattle.lines.specs.declared.Class.the-variants.{Blank, Plain, Formatted}
 use Rattle.lines.proofs.Extents.{lines-feedless}
-use Rattle.pieces.specs.Pieces.{Indent, Paragraph, Kind, Piece, blankLine, plainLine, paragraph, startsMail, secondOf, indentOf, laterIndent, firstIndent, indentFor, paragraphAt, pieceAs, nextPiece, pieces}
+use Rattle.pieces.specs.Pieces.{Indent, Paragraph, Kind, Piece, blankLine, plainLine, paragraph, startsMail, secondOf, indentOf, laterIndent, indentFor, paragraphAt, pieceAs, nextPiece, pieces}
 use Rattle.pieces.proofs.Extents.{Feedless}
+use Rattle.pieces.proofs.Columns.{spaces-feedless, feedless-append, feedless-take, first-feedless}
 use Rattle.records.specs.Word.{Word}
 use Rattle.spacing.specs.Spacing.{addedSpace}
 use Rattle.words.specs.Words.{wordsOf}
@@ -34,20 +35,6 @@ use Rattle.flow.proofs.Solid.{Solid}
 
 abbrev pub Feed : List ℕ → Type 0
 Feed t = every noFeed t ≡ true
-
-feed-append : (a b : List ℕ) → Feed a → Feed b → Feed (a ++ b)
-feed-append a b h k = rw (every-append noFeed a b, h, k)
-
-feed-spaces : (n : ℕ) → Feed (replicate n 32)
-feed-spaces zero = every-nil noFeed
-feed-spaces (suc n) = rw (every-cons noFeed 32 (replicate n 32), feed-spaces n)
-
-feed-take : (n : ℕ) (t : List ℕ) → Feed t → Feed (take n t)
-feed-take zero t h = every-nil noFeed
-feed-take (suc n) [] h = h
-feed-take (suc n) (x ∷ t) h =
-    let k = and-eq-true-iff (noFeed x) (every noFeed t) .0 (rw (every-cons noFeed x t) at h) in
-    rw (every-cons noFeed x (take n t), k .0, feed-take n t (k .1))
 
 -- ---- a paragraph's lines
 
@@ -65,7 +52,7 @@ module _ (indent : List ℕ) (i : Feed indent) where
   unfolding spaceBefore
   on-feed line punct w h s =
       let n = addedSpace true (w .newLine) (w .sentenceStart) punct in
-      feed-append line _ h (feed-append _ (w .text) (feed-append (replicate n 32) (w .blanks) (feed-spaces n) (s .before)) (s .feedless))
+      feedless-append line _ h (feedless-append _ (w .text) (feedless-append (replicate n 32) (w .blanks) (spaces-feedless n) (s .before)) (s .feedless))
 
   on-bare : (front middle : List ℕ) (w : Word) → Solid w → endsInSpace (front ++ (middle ++ w .text)) ≡ false
   on-bare front middle w s =
@@ -75,7 +62,7 @@ module _ (indent : List ℕ) (i : Feed indent) where
   unfolding linesFrom
   from-feed line punct breaks [] h a = (h, tt)
   from-feed line punct [] (w ∷ ws) h a = from-feed (line ++ (spaceBefore true punct w ++ w .text)) (w .endsPunct) [] ws (on-feed line punct w h (a .0)) (a .1)
-  from-feed line punct (true ∷ bs) (w ∷ ws) h a = (h, from-feed (indent ++ w .text) (w .endsPunct) bs ws (feed-append indent (w .text) i (a .0 .feedless)) (a .1))
+  from-feed line punct (true ∷ bs) (w ∷ ws) h a = (h, from-feed (indent ++ w .text) (w .endsPunct) bs ws (feedless-append indent (w .text) i (a .0 .feedless)) (a .1))
   from-feed line punct (false ∷ bs) (w ∷ ws) h a = from-feed (line ++ (spaceBefore true punct w ++ w .text)) (w .endsPunct) bs ws (on-feed line punct w h (a .0)) (a .1)
 
   from-bare : (line : List ℕ) (punct : Bool) (breaks : List Bool) (ws : List Word) → endsInSpace line ≡ false → All Solid ws → Bare (linesFrom indent line punct breaks ws)
@@ -92,7 +79,7 @@ broken-sound : (first indent : List ℕ) (breaks : List Bool) (ws : List Word) �
 unfolding brokenInto
 broken-sound first indent breaks [] f i n a = absurd (omega arith)
 broken-sound first indent breaks (w ∷ ws) f i n a = (
-  from-feed indent i (first ++ w .text) false breaks ws (feed-append first (w .text) f (a .0 .feedless)) (a .1),
+  from-feed indent i (first ++ w .text) false breaks ws (feedless-append first (w .text) f (a .0 .feedless)) (a .1),
   from-bare indent i (first ++ w .text) false breaks ws (ends-append first (w .text) (a .0 .some) ∙ a .0 .bare) (a .1),
 )
 
@@ -102,7 +89,7 @@ soft-feed line h = go (isDashed line)
   where
     go : (b : Bool) → Feed (cond b line (line ++ space ∷ []))
     go true = h
-    go false = feed-append line (space ∷ []) h (feed-spaces 1)
+    go false = feedless-append line (space ∷ []) h (spaces-feedless 1)
 
 sent-feed : (lines : List (List ℕ)) → All Feed lines → All Feed (allButLast lines)
 unfolding allButLast
@@ -171,17 +158,12 @@ Level (plainLine t) = Feed t
 Level (paragraph p) = Feed (p .first .bytes) × Feed (p .indent .bytes)
 
 module _ (o : Opts) (flat : (o .crown || o .tagged) ≡ false) where
-  first-feed : (mail : Bool) (text : List ℕ) (s : Shape) → Feed text → Feed (firstIndent mail text s .bytes)
-  unfolding firstIndent indentOf
-  first-feed true text s h = every-nil noFeed
-  first-feed false text s h = feed-take (s .«indent_end») text h
-
   indent-feed : (mail : Bool) (text : List ℕ) (s : Shape) (ls : List Line) → Feed text → Feed (indentFor o mail text s ls .bytes)
   unfolding indentFor indentOf
-  indent-feed true text s ls h = feed-spaces 2
+  indent-feed true text s ls h = spaces-feedless 2
   indent-feed false text s ls h =
       ap (λ (b : Bool). every noFeed (elim b as (λ z. Indent) [ true ↦ laterIndent o (indentOf text s) (secondOf o s ls) | false ↦ indentOf text s ] .bytes)) flat
-      ∙ feed-take (s .«indent_end») text h
+      ∙ feedless-take (s .«indent_end») text h
 
   next-level : (nextMail : Bool) (ls : List Line) → 0 < length ls → All Feedless ls → Level (nextPiece o nextMail ls .item .kind)
   unfolding nextPiece paragraphAt
@@ -191,7 +173,7 @@ module _ (o : Opts) (flat : (o .crown || o .tagged) ≡ false) where
       go : (c : Class) → Level (pieceAs o nextMail l ls c .item .kind)
       go Blank = tt
       go Plain = f .0
-      go (Formatted s) = let mail = startsMail (o .mail) nextMail s (l .text) in (first-feed mail (l .text) s (f .0), indent-feed mail (l .text) s ls (f .0))
+      go (Formatted s) = let mail = startsMail (o .mail) nextMail s (l .text) in (first-feedless mail (l .text) s (f .0), indent-feed mail (l .text) s ls (f .0))
 
   pub pieces-level : (notes : List ℕ) → All (λ (q : Piece). Level (q .kind)) (pieces o notes)
   unfolding pieces

@@ -20,6 +20,7 @@ use Rattle.output.specs.Contracts.Writers.{placed}
 use Rattle.pieces.specs.Pieces.{fromWord}
 use Rattle.unflow.specs.Flowed.{space, crLf, dashes, needsSpace, stuffing, isDashes, endsInSpace}
 use Rattle.unflow.proofs.Lines.{stuffing-soft, ends-append}
+use Rattle.unflow.proofs.Texts.{stuffing-most}
 use Rattle.flow.specs.Flow.{linesFrom, brokenInto, isDashed, softened, allButLast, dashesAmong, sent}
 use Rattle.flow.specs.Contracts.Words.{lineEnd, spaceIf, some, opened, nextSent, nextDashed, restSent, restDashes, wordsSent, wordsDashes, mostSent}
 use Rattle.flow.proofs.Carries.{lines-some}
@@ -170,14 +171,6 @@ module _ (indent : List ℕ) where
   words-dashes first breaks (w ∷ ws) h = from-dashes (first ++ w .text) false breaks ws
 
 -- ---- how long it gets
-
-pub stuffing-most : (line : List ℕ) → length (stuffing line) ≤ 1
-unfolding stuffing
-stuffing-most line = go (needsSpace line)
-  where
-    go : (b : Bool) → length (cond b (space ∷ []) []) ≤ 1
-    go true = omega arith
-    go false = omega arith
 
 end-most : (dashed : Bool) → length (lineEnd dashed) ≤ 3
 unfolding lineEnd

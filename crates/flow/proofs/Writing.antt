@@ -1,18 +1,17 @@
 -- What the writers of a paragraph have written, put together.
 use mathlib.Core.Path.{_≡_, refl, sym, ap, _∙_}
 use mathlib.Core.Bool.{Bool, true, false, cond, not, _&&_}
-use mathlib.Core.List.{List, [], _∷_, _++_, append-assoc, append-nil}
+use mathlib.Core.List.{List, _∷_, _++_, append-nil}
 use Prim.Native.Nat.{ℕ, _+_, _-_, _^_, _≤_, _<_}
 use native.Mathlib.Omega.{arith}
 use lib.Dec.{ltb}
-use lib.ListN.{length, getD, drop, replicate, length-append, length-replicate}
+use lib.ListN.{length, getD, drop, replicate, length-append}
 use lib.Seq.{slice, slice-empty}
 use borrow.Author.Tests.{ltb-true, ltb-false, not-true, not-false}
 use Rattle.pieces.specs.declared.Margin.{Margin}
 use Rattle.records.specs.declared.Word.{Word as Record}
-use Rattle.records.specs.Word.{Word, meaning}
-use Rattle.records.specs.Contracts.Table.{wordIn, wordsIn, Within, Got}
-use Rattle.records.specs.Contracts.Marks.{breaksIn}
+use Rattle.records.specs.Word.{meaning}
+use Rattle.records.specs.Contracts.Table.{wordsIn, Within, Got}
 use Rattle.records.proofs.Table.{words-drop, words-end}
 use Rattle.records.proofs.Marks.{marks-here}
 use Rattle.spacing.specs.Spacing.{addedSpace}
@@ -22,10 +21,9 @@ use Rattle.output.specs.Contracts.Writers.{marginOf, MarginIn, placed, Laid}
 use Rattle.output.proofs.Writers.{margin-most}
 use Rattle.output.proofs.Emission.{placed-most}
 use Rattle.output.proofs.Sink.{wrote-then, left-then}
-use Rattle.unflow.specs.Flowed.{space, crLf, stuffing}
 use Rattle.unflow.specs.Contracts.Steps.{endOf}
 use Rattle.flow.specs.Flow.{isDashed}
-use Rattle.flow.specs.Contracts.Words.{lineEnd, spaceIf, some, opened, nextSent, nextDashed, restSent, restDashes, wordsSent, wordsDashes}
+use Rattle.flow.specs.Contracts.Words.{lineEnd, some, opened, nextSent, nextDashed, restSent, restDashes, wordsSent, wordsDashes}
 use Rattle.flow.specs.Contracts.Sending.{Opens, Turned, sentFrom, dashesFrom, RestSent, ParagraphSent}
 use Rattle.flow.specs.declared.Opening.{Opening}
 use Rattle.flow.specs.declared.Turn.{Turn}
@@ -40,9 +38,6 @@ line-ended false e w = rw e at w
 pub end-count : {o o′ : List ℕ} {r : ℕ} → Wrote o 0 (endOf true) o′ r → r ≡ 2
 unfolding endOf
 end-count w = omega (arith, w .count)
-
-pub spaces-count : (s : ℕ) {o o′ : List ℕ} {r : ℕ} → Wrote o 0 (replicate s 32) o′ r → r ≡ s
-spaces-count s w = omega (arith, w .count, length-replicate {A = ℕ} s 32)
 
 -- ---- a word
 

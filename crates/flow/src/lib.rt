@@ -13,22 +13,21 @@ use spacing::Setting;
 use words::Count;
 ghost use mathlib.Core.Path.{_≡_};
 ghost use mathlib.Core.Bool.{true, cond};
-ghost use mathlib.Core.List.{List, [], _∷_, _++_};
+ghost use mathlib.Core.List.{List, _++_};
 ghost use Prim.Native.Nat.{ℕ, _+_, _-_, _^_, _≤_, _<_, min};
 ghost use lib.ListN.{length, getD, take, replicate};
 ghost use lib.Seq.{slice};
 ghost use Rattle.text.specs.declared.Found.the-variants.{Nowhere};
 ghost use Rattle.options.specs.Opts.{meant};
 ghost use Rattle.options.specs.OptionBlock.{fields, firstFault};
-ghost use Rattle.records.specs.Word.{meaning};
 ghost use Rattle.records.specs.Contracts.Table.{Within};
 ghost use Rattle.output.specs.Contracts.Sink.{Wrote};
 ghost use Rattle.output.specs.Contracts.Writers.{marginOf, MarginIn, Laid};
 ghost use Rattle.paragraphs.specs.Contracts.Steps.{settingFor, Placed};
-ghost use Rattle.unflow.specs.Flowed.{crLf, stuffing, isDashes};
-ghost use Rattle.flow.specs.Flow.{isDashed, plainSent, trimmed, sent};
+ghost use Rattle.unflow.specs.Flowed.{stuffing, isDashes};
+ghost use Rattle.flow.specs.Flow.{plainSent, trimmed, sent};
 ghost use Rattle.flow.specs.Answers.{flagsOf, flow as flowOf, dashesOf};
-ghost use Rattle.flow.specs.Contracts.Words.{lineEnd, spaceIf};
+ghost use Rattle.flow.specs.Contracts.Words.{lineEnd};
 ghost use Rattle.flow.specs.Contracts.Sending.{switched, Ready, refusedFor, shaped, Opens, Turned, RestSent, ParagraphSent, Tables, TextStepped, CursorIn, PieceStepped, Finished, Sends, leftOf, leftDashes};
 
 // What the writer answers: the reply of a writing call, and the count of lines `--`.

@@ -1,5 +1,5 @@
 -- A refusal that is told before any piece is looked at is no digest.
-use mathlib.Core.Path.{_≡_, refl, ap}
+use mathlib.Core.Path.{_≡_, ap}
 use mathlib.Core.Bool.{Bool, true, false}
 use mathlib.Core.List.{List}
 use Prim.Native.Nat.{ℕ, _≤_}
@@ -10,6 +10,7 @@ use Rattle.text.specs.declared.Found.{Found}
 use Rattle.text.specs.declared.Found.the-variants.{At, Nowhere}
 use Rattle.options.specs.Opts.{Opts, meant}
 use Rattle.options.specs.OptionBlock.{readBlock}
+use Rattle.options.specs.declared.Options.{Options}
 use Rattle.options.specs.declared.Block.{Block}
 use Rattle.options.specs.declared.Block.the-variants.{Accepted, Fault}
 use Rattle.pieces.specs.Pieces.{pieces}
@@ -18,7 +19,8 @@ use Rattle.formatter.specs.Answers.{Answer, long, code}
 use Rattle.formatter.specs.Format.{mostBytes, damageIn, withWords, withText, withNotes, withBlock}
 use Rattle.formatter.specs.Contracts.Call.{Admits}
 use Rattle.formatter.specs.declared.Reply.{Reply}
-use Rattle.formatter.specs.declared.Admission.the-variants.{Refused}
+use Rattle.formatter.specs.declared.Admission.{Admission}
+use Rattle.formatter.specs.declared.Admission.the-variants.{Refused, Passed}
 
 module _ (block notes : List ℕ) where
   -- where a digest is answered with a refusal, every answer is one
@@ -46,3 +48,10 @@ module _ (block notes : List ℕ) where
 
   pub a-refusal-is-no-digest : {r : Reply} (s : Admits block notes (Refused r)) → 1 ≤ code (s .refusal)
   a-refusal-is-no-digest s = let some = block-some (readBlock block) in let k = ap code (s .whole-is none) in omega (arith, some, k)
+
+  -- what is told before, by the case
+  pub passed : {r : Admission} {o : Options} → Admits block notes r → r ≡ Passed o → Admits block notes (Passed o)
+  passed s e = rw e at s
+
+  pub refused : {r : Admission} {q : Reply} → Admits block notes r → r ≡ Refused q → Admits block notes (Refused q)
+  refused s e = rw e at s

@@ -6,13 +6,11 @@ use native.Mathlib.Omega.{arith}
 use Rattle.text.specs.declared.Found.{Found}
 use Rattle.text.specs.declared.Found.the-variants.{At, Nowhere}
 use Rattle.options.specs.Opts.{Opts, meant}
-use Rattle.options.specs.declared.Options.{Options}
 use Rattle.options.specs.declared.Block.the-variants.{Accepted}
-use Rattle.options.specs.OptionBlock.{readBlock}
 use Rattle.pieces.specs.Pieces.{pieces}
 use Rattle.walk.specs.Digest.{longParagraph}
 use Rattle.formatter.specs.Answers.{Answer, done, long, words, outputAfter}
-use Rattle.formatter.specs.Format.{withWords, withBlock}
+use Rattle.formatter.specs.Format.{withWords}
 use Rattle.formatter.specs.Contracts.Call.{told, Admits}
 use Rattle.formatter.specs.declared.Admission.{Admission}
 use Rattle.formatter.specs.declared.Admission.the-variants.{Refused, Passed}

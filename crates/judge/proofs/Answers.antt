@@ -14,15 +14,14 @@ use Rattle.options.specs.Opts.{Opts, meant}
 use Rattle.options.specs.OptionBlock.{readBlock}
 use Rattle.options.specs.declared.Options.{Options}
 use Rattle.options.specs.declared.Block.{Block}
-use Rattle.options.specs.declared.Block.the-variants.{Accepted as BlockAccepted, Fault as BlockFault}
 use Rattle.pieces.specs.Pieces.{pieces}
 use Rattle.walk.specs.Digest.{longParagraph}
 use Rattle.formatter.specs.Answers.{Answer, done, options, long, text, words, room, code as codeOf}
-use Rattle.formatter.specs.Format.{mostBytes, damageIn, withWords, withText, withNotes as answerNotes, withBlock, measuring}
+use Rattle.formatter.specs.Format.{mostBytes, withWords, withBlock, measuring}
 use Rattle.formatter.specs.Contracts.Call.{Admits, told}
 use Rattle.formatter.specs.declared.Reply.{Reply}
-use Rattle.formatter.specs.declared.Admission.{Admission}
 use Rattle.formatter.specs.declared.Admission.the-variants.{Refused, Passed}
+use Rattle.formatter.proofs.Refusals.{a-refusal-is-no-digest}
 use Rattle.checker.specs.Matching.{Match, on, andThen, matchPieces, verdictOf, verdict}
 use Rattle.checker.specs.Contracts.Places.{matched, MatchedIn}
 use Rattle.checker.specs.declared.Spot.{Spot}
@@ -96,12 +95,6 @@ module _ (o : Opts) (notes digest : List ℕ) (first : Matched) (r : Course) (w 
 -- ---- what is told before
 
 module _ (block notes : List ℕ) where
-  pub passed : {r : Admission} {o : Options} → Admits block notes r → r ≡ Passed o → Admits block notes (Passed o)
-  passed s e = rw e at s
-
-  pub refused : {r : Admission} {q : Reply} → Admits block notes r → r ≡ Refused q → Admits block notes (Refused q)
-  refused s e = rw e at s
-
   pub checking-left : (digest : List ℕ) (o : Options) → Admits block notes (Passed o) → checking block notes digest ≡ leftOf (meant block o) notes digest
   unfolding checking measuring
   checking-left digest o s =
@@ -112,29 +105,6 @@ module _ (block notes : List ℕ) where
       go : (f : Found) → withNotes (withDigest (length digest) (verdict (meant block o) notes digest)) (withWords done (meant block o) notes f) ≡ wordsOr f (withDigest (length digest) (verdict (meant block o) notes digest))
       go (At place) = refl
       go Nowhere = refl
-
-  -- a refusal is no digest
-  abbrev none : List ℕ → Answer
-  none _ = long
-
-  words-some : (o : Opts) (f : Found) → 1 ≤ codeOf (withWords none o notes f)
-  words-some o (At place) = omega arith
-  words-some o Nowhere = omega arith
-
-  text-some : (o : Opts) (f : Found) → 1 ≤ codeOf (withText none o notes f)
-  text-some o (At place) = omega arith
-  text-some o Nowhere = words-some o (longParagraph o 0 (pieces o notes))
-
-  notes-some : (o : Opts) → 1 ≤ codeOf (answerNotes none o notes)
-  notes-some o = go (ltb mostBytes (length notes))
-    where
-      go : (b : Bool) → 1 ≤ codeOf (elim b as (λ t. Answer) [ true ↦ long | false ↦ withText none o notes (damageIn (o .keep) notes) ])
-      go true = omega arith
-      go false = text-some o (damageIn (o .keep) notes)
-
-  block-some : (b : Block) → 1 ≤ codeOf (withBlock none block notes b)
-  block-some (BlockFault place) = omega arith
-  block-some (BlockAccepted o) = notes-some (meant block o)
 
   refusal-is : (then : Judgement) (a : Answer) → 1 ≤ codeOf a → refusedAs (told a) ≡ withNotes then a
   refusal-is then (done d) h = absurd (omega (arith, h))
@@ -149,5 +119,5 @@ module _ (block notes : List ℕ) where
   refused-answer digest {q} s =
       let then = withDigest (length digest) (verdictUnder block notes digest (readBlock block)) in
       ap refusedAs (s .is)
-      ∙ refusal-is then (s .refusal) (omega (arith, block-some (readBlock block), ap codeOf (s .whole-is none)))
+      ∙ refusal-is then (s .refusal) (a-refusal-is-no-digest block notes s)
       ∙ ap (withNotes then) (sym (s .whole-is done))

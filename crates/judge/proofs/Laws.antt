@@ -1,19 +1,17 @@
 -- Piece by piece: what is left to be matched, and of the search for a paragraph of too many words.
 use mathlib.Core.Path.{_≡_, refl, sym, ap, _∙_}
-use mathlib.Core.Bool.{Bool, true, false}
+use mathlib.Core.Bool.{true, false}
 use mathlib.Core.List.{List, [], _∷_}
 use Prim.Native.Nat.{ℕ, _-_, _*_, _≤_, _<_}
 use native.Mathlib.Omega.{arith}
 use lib.ListN.{length, take, drop}
 use lib.Seq.{slice}
 use borrow.Author.Tests.{le-ltb, lt-ltb}
-use Rattle.lists.proofs.Walk.{walk-nil}
 use Rattle.text.specs.declared.Found.the-variants.{At}
 use Rattle.options.specs.Opts.{Opts, meant}
 use Rattle.options.specs.declared.Options.{Options}
 use Rattle.lines.specs.Lines.{linesOf}
-use Rattle.lines.proofs.Lines.{lines-past}
-use Rattle.pieces.specs.Pieces.{Kind, Piece, blankLine, plainLine, paragraph, nextPiece, pieces}
+use Rattle.pieces.specs.Pieces.{Kind, Piece, blankLine, plainLine, paragraph, pieces}
 use Rattle.pieces.specs.Contracts.Places.{pieceAt}
 use Rattle.pieces.specs.Contracts.Bounds.{AllBegin, MarginWithin, Bounded}
 use Rattle.pieces.specs.declared.Margin.{Margin}
@@ -35,7 +33,7 @@ use Rattle.walk.specs.Contracts.Course.{Admitted, piecesFrom, longFrom, FirstPi
 use Rattle.walk.proofs.Rows.{text-words}
 use Rattle.walk.proofs.Meaning.{TextGoes}
 use Rattle.walk.proofs.Steps.{ready-kept, found-goes}
-use Rattle.walk.proofs.Loop.{all-long, long-none, long-more, long-here}
+use Rattle.walk.proofs.Loop.{all-long, long-none, long-more, long-here, none-left, all-pieces}
 use Rattle.checker.specs.Matching.{Match, on, fault, andThen, matchLine, matchWords, matchPiece, matchPieces}
 use Rattle.checker.specs.Contracts.Places.{matched, MatchedIn, Matches, SpotIn, MarginFits, Matchable}
 use Rattle.checker.specs.declared.Spot.{Spot}
@@ -146,14 +144,6 @@ module _ (o : Opts) (notes digest : List ℕ) (c : Stand) {r : Step} (s : Steppe
 -- ---- the pieces from a place on
 
 module _ (o : Opts) where
-  none-left : (nextMail : Bool) (notes : List ℕ) (at : ℕ) → length notes ≤ at → piecesFrom o nextMail notes at ≡ []
-  unfolding piecesFrom
-  none-left nextMail notes at h = rw (lines-past notes at h) (walk-nil (nextPiece o) nextMail)
-
-  all-pieces : (notes : List ℕ) → piecesFrom o true notes 0 ≡ pieces o notes
-  unfolding piecesFrom pieces
-  all-pieces notes = refl
-
   match-more : (m : Match) (q : Piece) (qs : List Piece) → andThen (andThen m (matchPiece o (q .kind))) (matchPieces o qs) ≡ andThen m (matchPieces o (q ∷ qs))
   unfolding matchPieces
   match-more (on xs n) q qs = refl

@@ -10,7 +10,7 @@ use lib.Dec.{T, eqb}
 use lib.ListN.{length, getD, drop}
 use Rattle.records.specs.Word.{Word, meaning}
 use Rattle.records.specs.Contracts.Table.{wordIn, wordsIn}
-use Rattle.records.proofs.Table.{words-drop, words-length}
+use Rattle.records.proofs.Table.{words-drop}
 use Rattle.spacing.specs.declared.Setting.{Setting}
 use Rattle.endings.specs.declared.Ending.{Ending}
 use Rattle.endings.specs.declared.Ending.the-variants.{Paragraph}

@@ -2,7 +2,7 @@
 use mathlib.Core.Path.{_≡_, refl, sym, ap, _∙_}
 use mathlib.Core.Bool.{Bool, true, false, cond}
 use mathlib.Core.List.{List, [], _∷_, map}
-use Prim.Native.Nat.{ℕ, _+_, _*_, _≤_, _<_}
+use Prim.Native.Nat.{ℕ, _+_, _≤_, _<_}
 use native.Mathlib.Omega.{arith}
 use borrow.Author.Tests.{le-leb, lt-leb, eq-eqb, ne-eqb}
 use lib.Dec.{leb, eqb}
@@ -23,11 +23,11 @@ use Rattle.knuth_plass.specs.declared.State.{State}
 use Rattle.knuth_plass.specs.declared.Standing.{Standing}
 use Rattle.knuth_plass.specs.declared.Tried.{Tried}
 use Rattle.knuth_plass.specs.declared.Tried.the-variants.{Other, Here}
-use Rattle.knuth_plass.specs.KnuthPlass.{Place, Break, Offer, none, offer, stretchOf, minimumOf, reduced, reached, staying, offerOf, bestOffer, least, restart}
+use Rattle.knuth_plass.specs.KnuthPlass.{Break, none, stretchOf, minimumOf, reduced, reached, staying, offerOf, bestOffer, restart}
 use Rattle.knuth_plass.specs.BestLines.{offering, chosenOf, forced, makerOf, maker}
-use Rattle.knuth_plass.specs.Contracts.Table.{Tables, breakIn, placeOf, pathTo, seen, breakMeant}
-use Rattle.knuth_plass.specs.Contracts.Round.{Limits, Turns, lessened, nothing, breaksListed, Fit, Restarted, Done, Settled}
-use Rattle.knuth_plass.specs.Contracts.Makers.{Stays, triedOf, found, chosenIn, Kept, From, ForcedIs, MakerIs, ToldIs}
+use Rattle.knuth_plass.specs.Contracts.Table.{Tables, breakIn, pathTo, seen, breakMeant}
+use Rattle.knuth_plass.specs.Contracts.Round.{Turns, lessened, nothing, breaksListed, Fit, Restarted, Done, Settled}
+use Rattle.knuth_plass.specs.Contracts.Makers.{triedOf, found, chosenIn, Kept, From, ForcedIs, MakerIs, ToldIs}
 use Rattle.knuth_plass.proofs.Ascends.{ascends-each}
 use Rattle.knuth_plass.proofs.Offers.{offer-some, offer-none}
 use Rattle.knuth_plass.proofs.Over.{fit-all}

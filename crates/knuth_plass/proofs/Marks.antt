@@ -1,6 +1,6 @@
 -- The path as marks by word: a break sets the mark of the word that it starts a line with, and the rest of its path sets the others.
 use mathlib.Core.Path.{_≡_, refl, sym, ap, _∙_}
-use mathlib.Core.Bool.{Bool, true, false, cond, _||_}
+use mathlib.Core.Bool.{Bool, true, false, cond, _||_, or-false, or-true, or-assoc}
 use mathlib.Core.List.{List}
 use Prim.Native.Nat.{ℕ, suc, _+_, _≤_, _<_}
 use native.Mathlib.Numerals.{add-one}
@@ -13,18 +13,6 @@ use Rattle.knuth_plass.specs.declared.Break.{Break as Record}
 use Rattle.knuth_plass.specs.KnuthPlass.{startsLine}
 use Rattle.knuth_plass.specs.Contracts.Table.{Tables, breakIn, pathTo, startOf, Leads}
 use Rattle.knuth_plass.proofs.Path.{path-here, path-start}
-
-or-false : (a : Bool) → (a || false) ≡ a
-or-false true = refl
-or-false false = refl
-
-or-true : (a : Bool) → (a || true) ≡ true
-or-true true = refl
-or-true false = refl
-
-or-assoc : (a b c : Bool) → ((a || b) || c) ≡ (a || (b || c))
-or-assoc true b c = refl
-or-assoc false b c = refl
 
 module _ (marks : List Bool) (at j : ℕ) where
   marked-by : (x : Bool) → eqb at j ≡ x → at < length marks → getD (set marks at true) j false ≡ (getD marks j false || x)

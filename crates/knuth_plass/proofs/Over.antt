@@ -2,7 +2,7 @@
 use mathlib.Core.Path.{_≡_, refl, sym, ap, _∙_}
 use mathlib.Core.Bool.{Bool, true, false, cond}
 use mathlib.Core.List.{List, _∷_, map, append-nil}
-use Prim.Native.Nat.{ℕ, _-_, _≤_, _<_}
+use Prim.Native.Nat.{ℕ, _≤_, _<_}
 use native.Mathlib.Omega.{arith}
 use lib.Dec.{ltb}
 use lib.Ieee.{Float}
@@ -17,7 +17,7 @@ use Rattle.knuth_plass.specs.declared.State.{State}
 use Rattle.knuth_plass.specs.declared.Standing.{Standing}
 use Rattle.knuth_plass.specs.KnuthPlass.{Break, reduced, staying, lesser, bestOffer, leastFrom, least}
 use Rattle.knuth_plass.specs.Contracts.Table.{Tables, breakIn, pathTo, seen, breakMeant, Ascends}
-use Rattle.knuth_plass.specs.Contracts.Round.{Turns, lessened, nothing, offerIn, RoundReady, breaksListed, Fit, RoundGoes, Outcome, Done}
+use Rattle.knuth_plass.specs.Contracts.Round.{lessened, nothing, offerIn, RoundReady, breaksListed, Fit, RoundGoes, Outcome, Done}
 use Rattle.knuth_plass.proofs.Ascends.{ascends-first}
 use Rattle.knuth_plass.proofs.Offers.{lesser-none}
 

@@ -7,9 +7,9 @@ use native.Mathlib.Numerals.{add-one, add-two, add-three}
 use native.Mathlib.Nat.{div-add-mod'}
 use native.Mathlib.Omega.{arith}
 use lib.Dec.{eqb}
-use lib.Ieee.{Float, nan}
+use lib.Ieee.{nan}
 use lib.ListN.{length, getD, set, length-set}
-use lib.Seq.{sets, length-sets, getD-set-same, getD-set-other}
+use lib.Seq.{length-sets, getD-set-same, getD-set-other}
 use Rattle.lists.proofs.Stores.{sets-other, sets-within}
 use Rattle.knuth_plass.specs.declared.Break.{Break as Record}
 use Rattle.knuth_plass.specs.Contracts.Table.{Tables, tables, Sized, Room, breakNumber, breakIn, placeNumbers, withPlace, lineNumbers, withLine, withBreak, Stored}

@@ -8,7 +8,7 @@ ghost use mathlib.Core.List.{List, map};
 ghost use mathlib.Core.Bool.{cond, false, _||_};
 ghost use lib.Dec.{eqb};
 ghost use Prim.Native.Nat.{ℕ, _+_, _-_, _*_, _<_, _≤_, _^_};
-ghost use lib.ListN.{length, take, drop, getD, set};
+ghost use lib.ListN.{length, drop, getD, set};
 ghost use Rattle.records.specs.Word.{meaning};
 ghost use Rattle.records.specs.Contracts.Table.{Holds, Room, wordIn, wordsIn};
 ghost use Rattle.demerits.specs.Contracts.Bounds.{mostWord};

@@ -5,17 +5,16 @@ use mathlib.Core.Bool.{Bool, true, false, cond, not, _||_, and-eq-true-iff}
 use mathlib.Core.List.{List, [], _∷_, _++_, append-assoc}
 use Prim.Native.Nat.{ℕ, _+_}
 use native.Mathlib.Omega.{arith}
-use lib.Dec.{eqb}
 use lib.ListN.{length, take, length-append}
 use lib.Seq.{take-append-seam}
 use borrow.Author.Tests.{not-true}
 use Rattle.lists.specs.Runs.{while, behind, every, joined}
 use Rattle.lists.specs.Theorems.All.{All}
-use Rattle.lists.proofs.Parts.{while-nil, while-behind, every-cons, every-append, joined-nil, joined-cons, joined-append}
+use Rattle.lists.proofs.Parts.{while-nil, while-behind, every-cons, joined-nil, joined-cons, joined-append}
 use Rattle.lists.proofs.All.{all-front}
 use Rattle.lists.proofs.Runs.{while-end}
 use Rattle.lists.proofs.RunParts.{behind-fails}
-use Rattle.text.specs.Characters.{Glyph, characters, glyphs, isBlank, isGood, isTab, extent}
+use Rattle.text.specs.Characters.{Glyph, characters, glyphs, isBlank, isGood, extent}
 use Rattle.text.specs.declared.Found.{Found}
 use Rattle.text.specs.declared.Found.the-variants.{At, Nowhere}
 use Rattle.text.proofs.Extents.{glyphs-sound}
@@ -23,7 +22,7 @@ use Rattle.text.proofs.Glyphs.{characters-past}
 use Rattle.text.proofs.Edges.{glyphs-joined}
 use Rattle.text.proofs.Spelling.{Spells, Undamaged, glyphs-spell, read-again}
 use Rattle.options.specs.Opts.{Opts}
-use Rattle.lines.specs.Classes.{glyphsBefore, glyphsFrom, nextStop, columnBehind, columnsOf, prefixFound, prefixSize, skipFound, somewhere, shapeAt, classBehind, classify}
+use Rattle.lines.specs.Classes.{glyphsBefore, glyphsFrom, columnBehind, columnsOf, prefixFound, prefixSize, skipFound, somewhere, shapeAt, classBehind, classify}
 use Rattle.lines.specs.declared.Shape.{Shape}
 use Rattle.lines.specs.declared.Class.the-variants.{Blank, Plain, Formatted}
 use Rattle.lines.proofs.Ink.{upTo-from, from-extent}

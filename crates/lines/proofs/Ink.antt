@@ -21,6 +21,7 @@ use Rattle.options.specs.Opts.{Opts}
 use Rattle.lines.specs.Classes.{glyphsBefore, glyphsFrom, prefixFound, prefixSize, skipFound, somewhere, shapeAt, classBehind, classify}
 use Rattle.lines.specs.declared.Shape.{Shape}
 use Rattle.lines.specs.declared.Class.the-variants.{Blank, Plain, Formatted}
+use Rattle.lines.proofs.Measures.{from-zero}
 
 pub empty-blank : (o : Opts) → classify o [] ≡ Blank
 unfolding classify
@@ -44,15 +45,10 @@ upTo-from place (g ∷ gs) = go (eqb place 0) (upTo-from (place - length (g .byt
     go true h = refl
     go false h = ap (λ (l : List Glyph). g ∷ l) h
 
-from-start : (gs : List Glyph) → glyphsFrom 0 gs ≡ gs
-unfolding glyphsFrom
-from-start [] = refl
-from-start (g ∷ gs) = refl
-
 -- from where some glyphs end: the glyphs behind them
 pub from-extent : (front rest : List Glyph) → All Sound front → glyphsFrom (extent front) (front ++ rest) ≡ rest
 unfolding extent glyphsFrom
-from-extent [] rest s = from-start rest
+from-extent [] rest s = from-zero rest
 from-extent (g ∷ front) rest s =
     let h = s .0 .some in
     let k : length (g .bytes) + extent front - length (g .bytes) ≡ extent front = omega arith in

@@ -1,8 +1,8 @@
 -- Lines: the end of a line's body from a place inside it, the carriage return rule by the body's last byte, and for callers a line by
 -- its lengths and the lines from a place of the notes on.
 use mathlib.Core.Path.{_≡_, refl, sym, ap, _∙_}
-use mathlib.Core.Bool.{Bool, true, false, cond}
-use mathlib.Core.List.{List, [], _∷_}
+use mathlib.Core.Bool.{Bool, true, false, cond, and-eq-true-iff}
+use mathlib.Core.List.{List, [], _∷_, _++_}
 use Prim.Native.Nat.{ℕ, zero, suc, _+_, _-_, _≤_, _<_, min}
 use native.Mathlib.Omega.{arith}
 use native.Mathlib.Numerals.{add-one}
@@ -10,6 +10,9 @@ use lib.Dec.{ltb, eqb}
 use lib.ListN.{length, getD, take, drop, length-take, length-drop}
 use lib.Seq.{slice, take-all, take-take, drop-drop, length-take-le}
 use borrow.Author.Tests.{eq-eqb, ne-eqb, lt-ltb, le-ltb}
+use Rattle.lists.specs.Runs.{every}
+use Rattle.lists.proofs.Runs.{while-more, while-end}
+use Rattle.lists.proofs.Parts.{every-cons}
 use Rattle.lists.proofs.Walk.{each-nil, each-step}
 use Rattle.lists.proofs.Fronts.{take-counted, drop-counted}
 use Rattle.lists.proofs.Slices.{slice-is}
@@ -55,7 +58,21 @@ body-front : (s : List ℕ) → body s ≡ take (length (body s)) s
 unfolding body
 body-front s = while-front noFeed s
 
+-- up to the first line feed
+pub feedless-body : (text rest : List ℕ) → every noFeed text ≡ true → body (text ++ 10 ∷ rest) ≡ text
+unfolding body
+feedless-body [] rest f = while-end noFeed 10 rest refl
+feedless-body (x ∷ text) rest f =
+    let h = and-eq-true-iff (noFeed x) (every noFeed text) .0 (rw (every-cons noFeed x text) at f) in
+    while-more noFeed x (text ++ 10 ∷ rest) (h .0) ∙ ap (λ (l : List ℕ). x ∷ l) (feedless-body text rest (h .1))
+
 -- ---- the carriage return
+
+pub return-behind : (text : List ℕ) → withoutReturn (text ++ 13 ∷ []) ≡ text
+unfolding withoutReturn
+return-behind [] = refl
+return-behind (x ∷ []) = refl
+return-behind (x ∷ y ∷ text) = ap (λ (l : List ℕ). x ∷ l) (return-behind (y ∷ text))
 
 pub return-none : (xs : List ℕ) → length xs ≡ 0 → length (withoutReturn xs) ≡ 0
 unfolding withoutReturn
@@ -192,3 +209,7 @@ module _ (notes : List ℕ) (at : ℕ) where
         on = l .some (omega arith);
         within = omega (arith, l .within);
       }
+
+  -- likewise where all from the place on is lent
+  pub line-lent : (e : Extent) → at < length notes → e ≡ lengthsOf (firstLine (take (length notes - at) (drop at notes))) → LineHere notes at e
+  line-lent e h q = line-here e h (q ∙ ap (λ (l : List ℕ). lengthsOf (firstLine l)) (take-all (length notes - at) (drop at notes) (omega (arith, length-drop at notes))))

@@ -1,6 +1,6 @@
 -- Document 01, "Characters and lines": lines end at a line feed; a carriage return just before it goes too. A last line without a
 -- line feed counts and keeps its carriage return.
-use mathlib.Core.Bool.{Bool, true, false, cond, not}
+use mathlib.Core.Bool.{Bool, cond, not}
 use mathlib.Core.List.{List, [], _∷_}
 use Prim.Native.Nat.{ℕ, suc}
 use lib.Dec.{ltb, eqb}

@@ -1,5 +1,5 @@
 -- Leading runs: the elements at the front that satisfy a test, and what is behind them. And: all of a list satisfies a test, a list begins another.
-use mathlib.Core.Bool.{Bool, true, false, _&&_}
+use mathlib.Core.Bool.{Bool, true, false}
 use mathlib.Core.List.{List, [], _∷_, _++_}
 use Prim.Native.Nat.{ℕ}
 use lib.Dec.{eqb}

@@ -54,7 +54,7 @@ module _ (block : List ℕ) (start end : ℕ) where
       let s : slice start end block ≡ take 2 (drop start block) = sym (ap (λ (k : ℕ). slice start k block) e) ∙ slice-is start 2 block in
       rw (s, number-two) at (n .2)
 
-accepted-fault : (o : Options) (place : ℕ) → Accepted o ≡ Fault place → ⊥
+pub accepted-fault : (o : Options) (place : ℕ) → Accepted o ≡ Fault place → ⊥
 accepted-fault o place e = let z : _≡_ {A = ℕ} 0 1 = cc in omega arith
 
 tab-most : (block : List ℕ) (p : Part) → ((start end : ℕ) → p ≡ Given start end → Value block 4 start end) → max 1 (numberAt block 8 p) ≤ 100

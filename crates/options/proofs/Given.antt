@@ -53,7 +53,7 @@ data From (block : List ℕ) : ℕ → ℕ → Type 0 where
   more : {at previous : ℕ} → at < length block → wellFormed (fieldAt block at previous) ≡ true
       → From block (at + 3 + number (drop (at + 1) block)) (getD block at 0) → From block at previous
 
-at-nowhere : (place : ℕ) → At place ≡ Nowhere → ⊥
+pub at-nowhere : (place : ℕ) → At place ≡ Nowhere → ⊥
 at-nowhere place e = let z : _≡_ {A = ℕ} 0 1 = cc in omega arith
 
 given-absent : (start end : ℕ) → Given start end ≡ Absent → ⊥

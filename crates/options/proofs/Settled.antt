@@ -1,6 +1,6 @@
 -- Width and goal: a given goal is the goal; the rule, test by test.
 use mathlib.Core.Path.{_≡_, refl}
-use mathlib.Core.Bool.{true, false}
+use mathlib.Core.Bool.{true, false, and-eq-true-iff}
 use mathlib.Core.List.{List}
 use Prim.Native.Nat.{ℕ, _*_, _-_, _≤_, _<_}
 use native.Mathlib.Omega.{arith}
@@ -10,7 +10,6 @@ use borrow.Author.Tests.{le-leb, lt-leb, leb-true}
 use Rattle.options.specs.declared.Part.{Part}
 use Rattle.options.specs.declared.Part.the-variants.{Absent, Given}
 use Rattle.options.specs.OptionBlock.{number, goalFrom, leastWidth, fits}
-use Rattle.options.proofs.Values.{both}
 
 pub goal-given : (block : List ℕ) (width : Part) (start end : ℕ) → goalFrom block width (Given start end) ≡ number (drop start block)
 goal-given block Absent start end = refl
@@ -44,9 +43,9 @@ pub record Fits (least width goal : ℕ) : Type 0 where
 pub fits-true : (least width goal : ℕ) → fits least width goal ≡ true → Fits least width goal
 unfolding fits
 fits-true least width goal e =
-    let a = both _ _ e in
-    let b = both _ _ (a .0) in
-    let c = both _ _ (b .0) in
+    let a = and-eq-true-iff _ _ .0 e in
+    let b = and-eq-true-iff _ _ .0 (a .0) in
+    let c = and-eq-true-iff _ _ .0 (b .0) in
     record { widthLeast = leb-true _ _ (c .0); goalMost = leb-true _ _ (c .1); widthTwice = leb-true _ _ (b .1); widthMost = leb-true _ _ (a .1) }
 
 pub least-width : (width goal : Part) → 1 ≤ leastWidth width goal

@@ -1,6 +1,6 @@
 -- Values of fields, test by test: a number at a place, a number within bounds, a prefix, and what each tag allows.
 use mathlib.Core.Path.{_≡_, refl}
-use mathlib.Core.Bool.{Bool, true, false, cond, _&&_, _||_, and-true}
+use mathlib.Core.Bool.{Bool, true, false, cond, _||_, and-true, and-eq-true-iff}
 use mathlib.Core.List.{List}
 use Prim.Native.Nat.{ℕ, _+_, _*_, _≤_, _<_}
 use native.Mathlib.Omega.{arith}
@@ -29,11 +29,6 @@ pub number-two : (xs : List ℕ) → number (take 2 xs) ≡ number xs
 unfolding number
 number-two xs = rw (getD-take 2 xs 0 0 (omega arith), getD-take 2 xs 1 0 (omega arith))
 
--- two tests at once
-pub both : (a b : Bool) → (a && b) ≡ true → (a ≡ true) × (b ≡ true)
-both true b e = (refl, e)
-both false b e = (e, cc)
-
 -- a number within bounds
 module _ (least most : ℕ) (v : List ℕ) where
   pub text-other : (length v ≡ 2 → ⊥) → numberText least most v ≡ false
@@ -52,8 +47,8 @@ module _ (least most : ℕ) (v : List ℕ) where
   pub text-true : numberText least most v ≡ true → (length v ≡ 2) × (least ≤ number v) × (number v ≤ most)
   unfolding numberText
   text-true e =
-      let a = both _ _ e in
-      let b = both _ _ (a .0) in
+      let a = and-eq-true-iff _ _ .0 e in
+      let b = and-eq-true-iff _ _ .0 (a .0) in
       (eqb-true _ _ (b .0), leb-true _ _ (b .1), leb-true _ _ (a .1))
 
 -- a prefix: short, and nowhere damaged
@@ -81,7 +76,7 @@ module _ (v : List ℕ) where
 
   pub prefix-true : prefixText v ≡ true → (length v ≤ 255) × (every isGood (characters v) ≡ true)
   unfolding prefixText
-  prefix-true e = let b = both _ _ e in (leb-true _ _ (b .0), b .1)
+  prefix-true e = let b = and-eq-true-iff _ _ .0 e in (leb-true _ _ (b .0), b .1)
 
 -- what each tag allows
 module _ (v : List ℕ) where

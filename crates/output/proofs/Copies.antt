@@ -63,6 +63,24 @@ block-behind text at k m h p q =
     let e : at + (k + m) ≡ at + k + m = omega arith in
     rw e (rw (slice-join at (at + k) (at + k + m) text (omega arith) (omega arith) (omega arith)) at (wrote-then p q))
 
+-- four blocks of four, read and put
+pub sixteen-here : {a b c d : List ℕ} (text : List ℕ) (at : ℕ) → at + 16 ≤ length text → a ≡ slice at (at + 4) text → b ≡ slice (at + 4) (at + 4 + 4) text
+    → c ≡ slice (at + 8) (at + 8 + 4) text → d ≡ slice (at + 12) (at + 12 + 4) text → a ++ (b ++ (c ++ d)) ≡ slice at (at + 16) text
+sixteen-here text at h p q r s =
+    let third : at + 4 + 4 ≡ at + 8 = omega arith in
+    let fourth : at + 8 + 4 ≡ at + 12 = omega arith in
+    let end : at + 12 + 4 ≡ at + 16 = omega arith in
+    rw (p, q, r, s, third, fourth, end, slice-join (at + 8) (at + 12) (at + 16) text (omega arith) (omega arith) (omega arith), slice-join (at + 4) (at + 8) (at + 16) text (omega arith) (omega arith) (omega arith))
+    (slice-join at (at + 4) (at + 16) text (omega arith) (omega arith) (omega arith))
+
+pub sixteen-put : {o o₁ o₂ o₃ o₄ a b c d : List ℕ} (at : ℕ) → Wrote o at a o₁ (at + 4) → Wrote o₁ (at + 4) b o₂ (at + 4 + 4) → Wrote o₂ (at + 8) c o₃ (at + 8 + 4) → Wrote o₃ (at + 12) d o₄ (at + 12 + 4)
+    → Wrote o at (a ++ (b ++ (c ++ d))) o₄ (at + 16)
+sixteen-put at p q r s =
+    let third : at + 4 + 4 ≡ at + 8 = omega arith in
+    let fourth : at + 8 + 4 ≡ at + 12 = omega arith in
+    let end : at + 12 + 4 ≡ at + 16 = omega arith in
+    wrote-then p (wrote-then (rw third at q) (wrote-then (rw fourth at r) (rw end at s)))
+
 -- so the whole text is written
 pub copied-all : {o o′ : List ℕ} (text : List ℕ) (n : ℕ) → n ≤ length text → length text ≤ n → Wrote o 0 (take n text) o′ n → Wrote o 0 text o′ (length text)
 copied-all text n h k w =

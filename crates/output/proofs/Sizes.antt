@@ -4,7 +4,7 @@ use mathlib.Core.Bool.{Bool, true, false, cond}
 use mathlib.Core.List.{List, _++_}
 use Prim.Native.Nat.{ℕ, _+_, _-_, _≤_, _<_, _^_}
 use native.Mathlib.Omega.{arith}
-use lib.ListN.{length, getD, replicate, length-append, length-replicate}
+use lib.ListN.{length, getD, length-append, length-replicate}
 use lib.Seq.{slice, length-slice}
 use Rattle.pieces.specs.declared.Margin.{Margin}
 use Rattle.records.specs.declared.Word.{Word as Record}

@@ -6,14 +6,14 @@ ghost use mathlib.Core.Path.{_≡_};
 ghost use mathlib.Core.Bool.{true, false, cond};
 ghost use mathlib.Core.List.{_++_};
 ghost use Prim.Native.Nat.{_+_, _-_, _≤_, _<_, _^_, min};
-ghost use lib.ListN.{length, take, replicate};
+ghost use lib.ListN.{length, replicate};
 ghost use lib.Seq.{slice};
 ghost use Rattle.records.specs.Word.{meaning};
 ghost use Rattle.records.specs.Contracts.Table.{Within};
 ghost use Rattle.output.specs.Contracts.Bound.{mostEmitted};
 ghost use Rattle.output.specs.Emission.{lineFeed};
 ghost use Rattle.output.specs.Contracts.Sink.{Wrote};
-ghost use Rattle.output.specs.Contracts.Writers.{fourOf, marginOf, MarginIn, placed, Laid, emitted, emittedFrom};
+ghost use Rattle.output.specs.Contracts.Writers.{fourOf, sixteenOf, marginOf, MarginIn, placed, Laid, emitted, emittedFrom};
 ghost use Rattle.output.specs.Contracts.Runs.{Joins, Runs};
 
 // How a paragraph is laid out: uniform spacing, and its two indents.
@@ -102,38 +102,78 @@ fn copy_short(text: &[u8], rest: &mut [u8])
     copy_four(text, last, rest);
 }
 
-// Sixteen bytes, likewise: read before the first is stored, they too move as one.
-fn copy_sixteen(text: &[u8], at: usize, rest: &mut [u8])
-    requires { ⌜ (at + 16 ≤ length (now text)) × (at + 16 ≤ length (now rest)) ⌝ }
-    ensures { λ _. ⌜ Wrote (now (rest .entry)) at (slice at (at + 16) (now (text .entry))) (now (rest .exit)) (at + 16) ⌝ }
+// Sixteen bytes, likewise.
+struct Sixteen {
+    a: Four,
+    b: Four,
+    c: Four,
+    d: Four,
+}
+
+fn sixteen_at(text: &[u8], at: usize) -> Sixteen
+    requires { ⌜ at + 16 ≤ length (now text) ⌝ }
+    ensures { λ r. ⌜ sixteenOf r ≡ slice at (at + 16) (now (text .entry)) ⌝ }
 {
     let second = at + 4;
     let third = at + 8;
     let fourth = at + 12;
-    let a = four_at(text, at);
-    let b = four_at(text, second);
-    let c = four_at(text, third);
-    let d = four_at(text, fourth);
-    put_four(a, at, rest);
-    put_four(b, second, rest);
-    put_four(c, third, rest);
-    put_four(d, fourth, rest);
+    Sixteen {
+        a: four_at(text, at),
+        b: four_at(text, second),
+        c: four_at(text, third),
+        d: four_at(text, fourth),
+    }
 }
 
-// A text of sixteen bytes or more: two blocks a turn as long as more is left than two, then one, and one that ends with the text.
+fn put_sixteen(s: Sixteen, at: usize, rest: &mut [u8])
+    requires { ⌜ at + 16 ≤ length (now rest) ⌝ }
+    ensures { λ _. ⌜ Wrote (now (rest .entry)) at (sixteenOf s) (now (rest .exit)) (at + 16) ⌝ }
+{
+    let second = at + 4;
+    let third = at + 8;
+    let fourth = at + 12;
+    put_four(s.a, at, rest);
+    put_four(s.b, second, rest);
+    put_four(s.c, third, rest);
+    put_four(s.d, fourth, rest);
+}
+
+fn copy_sixteen(text: &[u8], at: usize, rest: &mut [u8])
+    requires { ⌜ (at + 16 ≤ length (now text)) × (at + 16 ≤ length (now rest)) ⌝ }
+    ensures { λ _. ⌜ Wrote (now (rest .entry)) at (slice at (at + 16) (now (text .entry))) (now (rest .exit)) (at + 16) ⌝ }
+{
+    put_sixteen(sixteen_at(text, at), at, rest);
+}
+
+// Two such blocks, both read before the first is stored.
+fn copy_two(text: &[u8], at: usize, rest: &mut [u8])
+    requires { ⌜ (at + 32 ≤ length (now text)) × (at + 32 ≤ length (now rest)) ⌝ }
+    ensures { λ _. ⌜ Wrote (now (rest .entry)) at (slice at (at + 32) (now (text .entry))) (now (rest .exit)) (at + 32) ⌝ }
+{
+    let second = at + 16;
+    let a = sixteen_at(text, at);
+    let b = sixteen_at(text, second);
+    put_sixteen(a, at, rest);
+    put_sixteen(b, second, rest);
+}
+
+// A text of sixteen bytes or more: four blocks a turn as long as more is left than four; then three, and one that ends with the text,
+// which of a shorter rest are partly the same.
 fn copy_long(text: &[u8], rest: &mut [u8])
     requires { ⌜ (16 ≤ length (now text)) × (length (now text) ≤ length (now rest)) ⌝ }
     ensures { λ _. ⌜ Wrote (now (rest .entry)) 0 (now (text .entry)) (now (rest .exit)) (length (now (text .entry))) ⌝ }
 {
     let last = text.len() - 16;
     let mut k = 0;
-    while k + 16 < last {
-        let second = k + 16;
-        copy_sixteen(text, k, rest);
-        copy_sixteen(text, second, rest);
-        k = second + 16;
+    while k + 48 < last {
+        let second = k + 32;
+        copy_two(text, k, rest);
+        copy_two(text, second, rest);
+        k = second + 32;
     }
     copy_sixteen(text, lesser(k, last), rest);
+    copy_sixteen(text, lesser(k + 16, last), rest);
+    copy_sixteen(text, lesser(k + 32, last), rest);
     copy_sixteen(text, last, rest);
 }
 

@@ -12,8 +12,7 @@ use Rattle.lists.specs.Runs.{joined}
 use Rattle.lists.proofs.Parts.{joined-nil, joined-cons, joined-append}
 use Rattle.lists.proofs.Slices.{slice-is}
 use Rattle.lines.specs.Lines.{firstLine, linesOf}
-use Rattle.lines.specs.Contracts.Places.{lengthsOf}
-use Rattle.lines.proofs.Lines.{LineHere, line-here, lines-past}
+use Rattle.lines.proofs.Lines.{LineHere, lines-past}
 use Rattle.lines.specs.declared.Extent.{Extent}
 use Rattle.panel.specs.Panel.{blank, begun, draw, finished, rowOf, stopWidth, newest, textsOf, shown, panelOf, answer, cellsAfter}
 use Rattle.panel.specs.Contracts.Places.{Newest}
@@ -74,11 +73,6 @@ showing-last digest tab cells at from s h =
     let p = lines-past digest at h in
     let z : from ≡ 1920 = omega (arith, s .room, ap length p) in
     sym (take-all from cells (omega (arith, s .size))) ∙ sym (append-nil (take from cells)) ∙ rw (p, joined-nil (rowOf tab)) at (s .left)
-
--- the line at a place, from the answer of `first_line`
-pub line-at : (digest : List ℕ) (at : ℕ) (e : Extent) → at < length digest → e ≡ lengthsOf (firstLine (take (length digest - at) (drop at digest))) → LineHere digest at e
-line-at digest at e h q =
-    line-here digest at e h (q ∙ ap (λ (l : List ℕ). lengthsOf (firstLine l)) (take-all (length digest - at) (drop at digest) (omega (arith, length-drop at digest))))
 
 module _ (digest : List ℕ) (tab : ℕ) (cells : List ℕ) (at from : ℕ) (e : Extent) (s : Showing digest tab cells at from) (here : LineHere digest at e) where
   pub row-fits : from + 80 ≤ 1920

@@ -1,6 +1,6 @@
 -- A row while it is drawn: behind the row's end nothing is marked any more, so that only whether a cell is asked for counts.
 use mathlib.Core.Path.{_≡_, refl, sym, ap, _∙_}
-use mathlib.Core.Bool.{Bool, true, false, cond, not, _||_}
+use mathlib.Core.Bool.{Bool, true, false, cond, not, _||_, or-false, or-assoc}
 use mathlib.Core.List.{List, [], _∷_}
 use Prim.Native.Nat.{ℕ, _+_, _≤_, _<_, min}
 use native.Mathlib.Omega.{arith}
@@ -24,14 +24,6 @@ takes (Two c) = true
 unfoldable any : List Sign → Bool
 any [] = false
 any (s ∷ ss) = takes s || any ss
-
-or-false : (a : Bool) → (a || false) ≡ a
-or-false true = refl
-or-false false = refl
-
-or-assoc : (a b c : Bool) → ((a || b) || c) ≡ (a || (b || c))
-or-assoc true b c = refl
-or-assoc false b c = refl
 
 -- cells that do not fit
 taken-over : (cs : List ℕ) (r : Row) → 80 < r .column + length cs → taken cs r ≡ record { cells = r .cells; column = r .column + length cs; over = r .over || true }

@@ -1,13 +1,11 @@
 -- A paragraph that is not mail: its lines are formatted, and its indents' bytes take the columns that are counted for them, whatever stands
 -- behind them.
 use mathlib.Core.Path.{_≡_, refl, sym, ap, _∙_}
-use mathlib.Core.Bool.{Bool, true, false, cond, _&&_, _||_, and-eq-true-iff, true≢false}
+use mathlib.Core.Bool.{Bool, true, false, cond, _||_, and-eq-true-iff, true≢false}
 use mathlib.Core.List.{List, [], _∷_, _++_, map, append-assoc}
 use Prim.Native.Nat.{ℕ, zero, suc, _+_, _<_}
 use native.Mathlib.Omega.{arith}
-use lib.Dec.{eqb}
 use lib.ListN.{length, take, drop, replicate, take-append-drop}
-use Rattle.lists.specs.Walk.{walk}
 use Rattle.lists.specs.Runs.{every, joined}
 use Rattle.lists.specs.Theorems.All.{All}
 use Rattle.lists.proofs.Parts.{every-nil, every-cons, every-append}
@@ -25,7 +23,7 @@ use Rattle.lines.specs.declared.Class.{Class}
 use Rattle.lines.specs.declared.Class.the-variants.{Blank, Plain, Formatted}
 use Rattle.lines.proofs.Extents.{lines-feedless}
 use Rattle.lines.proofs.Columns.{columns-again, formatted-indented, indent-columns}
-use Rattle.pieces.specs.Pieces.{Indent, Paragraph, Kind, Piece, blankLine, plainLine, paragraph, rowOf, startsMail, secondRule, Second, alone, joins, secondAs, secondOf, further, indentOf, widened, laterIndent, firstIndent, indentFor, paragraphAt, pieceAs, nextPiece, pieces}
+use Rattle.pieces.specs.Pieces.{Indent, Paragraph, Kind, Piece, blankLine, plainLine, paragraph, rowOf, startsMail, secondRule, alone, joins, secondAs, secondOf, further, indentOf, widened, laterIndent, firstIndent, indentFor, paragraphAt, pieceAs, nextPiece, pieces}
 use Rattle.pieces.proofs.Extents.{Feedless}
 use Rattle.pieces.proofs.Starting.{Starts, further-starts}
 
@@ -51,7 +49,19 @@ pub spaces-feedless : (n : ℕ) → every noFeed (replicate n 32) ≡ true
 spaces-feedless zero = every-nil noFeed
 spaces-feedless (suc n) = rw (every-cons noFeed 32 (replicate n 32), spaces-feedless n)
 
+pub feedless-append : (a b : List ℕ) → every noFeed a ≡ true → every noFeed b ≡ true → every noFeed (a ++ b) ≡ true
+feedless-append a b h k = rw (every-append noFeed a b, h, k)
+
+pub feedless-take : (n : ℕ) (text : List ℕ) → every noFeed text ≡ true → every noFeed (take n text) ≡ true
+feedless-take n text h =
+    and-eq-true-iff (every noFeed (take n text)) (every noFeed (drop n text)) .0 (sym (every-append noFeed (take n text) (drop n text)) ∙ ap (every noFeed) (take-append-drop n text) ∙ h) .0
+
 -- ---- an indent
+
+pub first-feedless : (mail : Bool) (text : List ℕ) (s : Shape) → every noFeed text ≡ true → every noFeed (firstIndent mail text s .bytes) ≡ true
+unfolding firstIndent indentOf
+first-feedless true text s h = every-nil noFeed
+first-feedless false text s h = feedless-take (s .«indent_end») text h
 
 pub record Margined (tab : ℕ) (i : Indent) : Type 0 where
   pub columns : (ys : List ℕ) → columnsOf tab 0 (characters (i .bytes ++ ys)) ≡ columnsOf tab (i .columns) (characters ys)

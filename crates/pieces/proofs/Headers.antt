@@ -1,14 +1,14 @@
 -- A header's name, byte by byte as the code tests it.
 use mathlib.Core.Path.{_≡_, refl, sym, ap, _∙_}
-use mathlib.Core.Bool.{Bool, true, false, not, _&&_, _||_}
+use mathlib.Core.Bool.{Bool, true, false, not, _&&_}
 use Prim.Native.Nat.{ℕ, suc, _≤_, _<_}
-use lib.Dec.{leb, ltb, eqb, leb·suc-suc}
+use lib.Dec.{ltb, eqb, leb·suc-suc}
 use mathlib.Core.List.{List, [], _∷_}
 use lib.ListN.{length, getD}
 use Rattle.lists.specs.Runs.{while, every, begins}
 use Rattle.lists.proofs.Runs.{while-more, while-end, every-more, every-end}
 use Rattle.pieces.specs.Pieces.{printable, noColon, headerText, fromWord}
-use borrow.Author.Tests.{le-leb, lt-leb, lt-ltb, le-ltb, eq-eqb, ne-eqb}
+use borrow.Author.Tests.{le-leb, lt-leb, lt-ltb, le-ltb, ne-eqb}
 use native.Mathlib.Omega.{arith}
 use mathlib.Core.Bool.{and-false}
 use Rattle.pieces.specs.Contracts.Places.{headerName}

@@ -1,13 +1,12 @@
 -- A paragraph of each kind, from the place that its lines reach.
 use mathlib.Core.Path.{_≡_, refl, sym, ap, _∙_, fun-ext}
 use mathlib.Core.Bool.{Bool, true, false, cond, not, _&&_, _||_, true≢false, false≢true}
-use mathlib.Core.List.{List, [], _∷_}
-use Prim.Native.Nat.{ℕ, suc, _+_, _*_, _≤_}
+use mathlib.Core.List.{List, []}
+use Prim.Native.Nat.{ℕ, _+_, _≤_}
 use native.Mathlib.Omega.{arith}
 use lib.Dec.{ltb}
 use lib.ListN.{length, take, drop}
-use lib.Seq.{slice, length-slice}
-use Rattle.options.specs.Opts.{Opts, Text, absent, given, textOf, meant}
+use Rattle.options.specs.Opts.{Opts, textOf, meant}
 use Rattle.options.specs.declared.Part.{Part}
 use Rattle.options.specs.declared.Part.the-variants.{Absent, Given}
 use Rattle.options.specs.declared.Options.{Options}

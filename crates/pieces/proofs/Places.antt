@@ -1,10 +1,10 @@
 -- The line that begins at a place, from the answers of `first_line` and `classify` on parts of the notes.
-use mathlib.Core.Path.{_≡_, refl, sym, ap, _∙_}
-use mathlib.Core.List.{List, _∷_}
-use Prim.Native.Nat.{ℕ, _+_, _-_, _≤_, _<_}
+use mathlib.Core.Path.{_≡_, sym, ap, _∙_}
+use mathlib.Core.List.{List}
+use Prim.Native.Nat.{ℕ, _+_, _-_, _<_}
 use native.Mathlib.Omega.{arith}
-use lib.ListN.{length, take, drop, length-take, length-drop}
-use lib.Seq.{slice, take-all, length-slice}
+use lib.ListN.{length, take, drop, length-drop}
+use lib.Seq.{take-all}
 use Rattle.lists.proofs.Slices.{slice-is}
 use Rattle.options.specs.Opts.{Opts}
 use Rattle.lines.specs.Lines.{firstLine}

@@ -1,17 +1,16 @@
 -- The second line of a crown or tagged paragraph, as the code finds it.
 use mathlib.Core.Path.{_≡_, refl, sym, ap, subst, _∙_}
 use mathlib.Core.Bool.{Bool, true, false, cond, true≢false}
-use mathlib.Core.List.{List, [], _∷_}
+use mathlib.Core.List.{List}
 use Prim.Native.Nat.{ℕ, _+_, _≤_}
 use lib.ListN.{length, drop}
 use Rattle.options.specs.Opts.{Opts}
-use Rattle.lines.specs.Lines.{Line, firstLine, linesOf}
-use Rattle.lines.specs.Classes.{classify}
+use Rattle.lines.specs.Lines.{firstLine}
 use Rattle.lines.specs.declared.Shape.{Shape}
 use Rattle.lines.specs.declared.Class.{Class}
 use Rattle.lines.specs.declared.Class.the-variants.{Blank, Plain, Formatted}
 use Rattle.lines.proofs.Lines.{lines-past}
-use Rattle.pieces.specs.Pieces.{Second, alone, joins, secondRule, secondAs, secondOf}
+use Rattle.pieces.specs.Pieces.{alone, joins, secondRule, secondAs, secondOf}
 use Rattle.pieces.specs.Contracts.Places.{secondPlace, secondAt, LineIs, Joined, SecondSound}
 use Rattle.pieces.specs.declared.Second.{Second as SecondAt}
 use Rattle.pieces.specs.declared.Classed.{Classed}

@@ -5,7 +5,7 @@ use mathlib.Core.List.{List, [], _∷_, _++_}
 use Prim.Native.Nat.{ℕ}
 use native.Mathlib.Omega.{arith}
 use lib.ListN.{length, replicate}
-use Rattle.lists.specs.Runs.{every, joined}
+use Rattle.lists.specs.Runs.{joined}
 use Rattle.lists.specs.Theorems.All.{All}
 use Rattle.lists.proofs.All.{all-append}
 use Rattle.lists.proofs.Parts.{every-nil, every-append, joined-nil, joined-cons}

@@ -1,26 +1,22 @@
 -- Where it stands on an output line, what parts two words is blank by the rule of document 02, P2.
 use mathlib.Core.Path.{_≡_, refl, sym, ap, ap₂, _∙_}
-use mathlib.Core.Bool.{Bool, true, false, cond, not, _&&_, _||_, and-eq-true-iff, false≢true, true≢false}
+use mathlib.Core.Bool.{Bool, true, false, cond, not, _&&_, and-eq-true-iff, true≢false}
 use mathlib.Core.List.{List, [], _∷_, _++_, map}
-use Prim.Native.Nat.{ℕ, _+_, _≤_, _<_}
+use Prim.Native.Nat.{ℕ}
 use native.Mathlib.Omega.{arith}
-use lib.Dec.{T, eqb, leb}
-use lib.ListN.{length, length-append}
-use lib.Seq.{take-append-seam, drop-at}
-use borrow.Author.Tests.{le-leb, lt-leb, ne-eqb, leb-true, leb-false}
+use lib.Dec.{eqb}
 use Rattle.lists.specs.Runs.{every, joined}
 use Rattle.lists.proofs.Runs.{every-map}
 use Rattle.lists.proofs.Parts.{every-nil, every-cons, joined-nil, joined-cons}
-use Rattle.text.specs.Rfc3629.{front, scalar, encode, decode}
-use Rattle.widths.specs.Widths.{widthOf}
+use Rattle.text.specs.Rfc3629.{encode}
 use Rattle.widths.specs.WhiteSpace.{whiteSpace}
-use Rattle.text.specs.Characters.{Glyph, glyph, characters, noBreak, ordinary, inkAhead, glyphs, isBlank, isGood, damage}
+use Rattle.text.specs.Characters.{Glyph, characters, noBreak, ordinary, inkAhead, glyphs, isBlank, isGood, damage}
 use Rattle.text.specs.Contracts.Places.{settle, inkBehind, inkAfter}
-use Rattle.text.specs.Theorems.Blanks.{spaceCode, Blanks, Gap}
+use Rattle.text.specs.Theorems.Blanks.{spaceCode, Gap}
 use Rattle.text.specs.declared.Found.the-variants.{Nowhere}
-use Rattle.text.proofs.Decoder.{some-octets, complete}
-use Rattle.text.proofs.Glyphs.{bytes-of, characters-past, characters-step, characters-joined}
+use Rattle.text.proofs.Glyphs.{characters-past, characters-joined}
 use Rattle.text.proofs.Glue.{glyphs-settle, ahead-run, ahead-other, settle-first, settle-blank, settle-end}
+use Rattle.checker.proofs.Codes.{glyphOf, glyphs-here, space-character}
 use Rattle.rudignals.proofs.Undamaged.{Good, damage-good, characters-append}
 
 -- ---- blanks of which one is no U+00A0 stay blank
@@ -76,47 +72,6 @@ parted glue ink (x ∷ xs) ys =
 
 -- ---- blank characters, read again from their bytes
 
--- behind U+3000 there is no blank
-no-blank : (c : ℕ) → 0x3000 < c → whiteSpace c ≡ false
-unfolding whiteSpace
-no-blank c h =
-    rw (
-      le-leb 9 c (omega arith),
-      lt-leb c 13 (omega arith),
-      ne-eqb c 0x20 (omega arith),
-      ne-eqb c 0x85 (omega arith),
-      ne-eqb c 0xA0 (omega arith),
-      ne-eqb c 0x1680 (omega arith),
-      le-leb 0x2000 c (omega arith),
-      lt-leb c 0x200A (omega arith),
-      le-leb 0x2028 c (omega arith),
-      lt-leb c 0x2029 (omega arith),
-      ne-eqb c 0x202F (omega arith),
-      ne-eqb c 0x205F (omega arith),
-      ne-eqb c 0x3000 (omega arith),
-    )
-
-blank-small : (c : ℕ) → whiteSpace c ≡ true → c ≤ 0x3000
-blank-small c h = pick (leb c 0x3000) refl
-  where
-    pick : (t : Bool) → leb c 0x3000 ≡ t → c ≤ 0x3000
-    pick true e = leb-true c 0x3000 e
-    pick false e = absurd (false≢true (sym (no-blank c (let l = leb-false c 0x3000 e in omega arith)) ∙ h))
-
-blank-front : (c : ℕ) (rest : List ℕ) → whiteSpace c ≡ true → decode (encode c ++ rest) ≡ front c (length (encode c))
-unfolding scalar
-blank-front c rest h =
-    let l = blank-small c h in
-    let s : T (scalar c) = rw (le-leb c 0x10FFFF (omega arith), lt-leb 0xD800 c (omega arith)) tt in
-    complete c (encode c ++ rest) rest (record { isScalar = s; octets = refl })
-
-abbrev blankAs : ℕ → Glyph
-blankAs c = record { bytes = encode c; code = c; damaged = false; blank = true; width = widthOf c }
-
-blank-glyph : (c : ℕ) (rest : List ℕ) → whiteSpace c ≡ true → glyph (encode c ++ rest) ≡ blankAs c
-unfolding glyph
-blank-glyph c rest h = rw (blank-front c rest h, h, take-append-seam (encode c) rest)
-
 record Again (codes bytes : List ℕ) : Type 0 where
   code : map (λ (g : Glyph). g .code) (characters bytes) ≡ codes
   blank : every isBlank (characters bytes) ≡ true
@@ -132,17 +87,12 @@ again (c ∷ codes) h =
     let b = and-eq-true-iff (whiteSpace c) (not (eqb c 10)) .0 (k .0) .0 in
     let rest = joined encode codes in
     let r = again codes (k .1) in
-    let g = blank-glyph c rest b in
-    let n : 0 < length (encode c ++ rest) = rw length-append (omega (arith, some-octets c)) in
-    let y = bytes-of (encode c ++ rest) n in
-    let m : length (encode c) ≡ y .n = sym (ap (λ (q : Glyph). length (q .bytes)) g) ∙ y .count in
-    let e : characters (encode c ++ rest) ≡ glyph (encode c ++ rest) ∷ characters rest = characters-step (encode c ++ rest) y ∙ ap (λ (l : List ℕ). glyph (encode c ++ rest) ∷ characters l) (drop-at (encode c) rest (y .n) m) in
-    let f : characters (encode c ++ rest) ≡ blankAs c ∷ characters rest = e ∙ ap (λ (q : Glyph). q ∷ characters rest) g in
+    let f : characters (encode c ++ rest) ≡ glyphOf c ∷ characters rest = glyphs-here c (space-character c (k .0)) rest in
     rw joined-cons
     (record {
       code = ap (map (λ (q : Glyph). q .code)) f ∙ ap (λ (l : List ℕ). c ∷ l) (r .code);
-      blank = ap (every isBlank) f ∙ every-cons isBlank (blankAs c) (characters rest) ∙ r .blank;
-      good = ap (every isGood) f ∙ every-cons isGood (blankAs c) (characters rest) ∙ r .good;
+      blank = ap (every isBlank) f ∙ every-cons isBlank (glyphOf c) (characters rest) ∙ rw b (r .blank);
+      good = ap (every isGood) f ∙ every-cons isGood (glyphOf c) (characters rest) ∙ r .good;
     })
 
 -- ---- a gap where it stands

@@ -9,23 +9,17 @@ use lib.ListN.{length, take, drop, length-append, drop-of-length-le}
 use lib.Seq.{take-all, take-append-le}
 use borrow.Author.Tests.{ne-eqb, eqb-true, eqb-false, lt-ltb, le-ltb}
 use Rattle.lists.specs.Runs.{while, behind, every, joined}
-use Rattle.lists.proofs.Runs.{while-more, while-end, behind-more, behind-end}
+use Rattle.lists.proofs.Runs.{while-more, behind-more, behind-end}
 use Rattle.lists.proofs.Parts.{while-nil, while-behind, every-cons, every-nil, every-append, behind-nil, every-while, joined-nil, joined-cons}
 use Rattle.lists.proofs.Walk.{each-nil, each-step}
 use Rattle.lines.specs.Lines.{Line, noFeed, body, withoutReturn, firstLine, linesOf}
 use Rattle.lines.specs.Theorems.Closed.{Closed}
 use Rattle.lines.proofs.Boundary.{lines-append}
+use Rattle.lines.proofs.Lines.{feedless-body, return-behind}
 use Rattle.lines.proofs.Extents.{lines-extents}
 use Rattle.rudignals.specs.Theorems.LineEnds.{EndsIn, LineEnd, feed, returnAndFeed, Ended, byFeed, byNothing, LineIs}
 
 -- ---- from the bytes to the line
-
-feedless-body : (text rest : List ℕ) → every noFeed text ≡ true → body (text ++ 10 ∷ rest) ≡ text
-unfolding body
-feedless-body [] rest f = while-end noFeed 10 rest refl
-feedless-body (x ∷ text) rest f =
-    let h = and-eq-true-iff (noFeed x) (every noFeed text) .0 (rw (every-cons noFeed x text) at f) in
-    while-more noFeed x (text ++ 10 ∷ rest) (h .0) ∙ ap (λ (l : List ℕ). x ∷ l) (feedless-body text rest (h .1))
 
 feedless-all : (text : List ℕ) → every noFeed text ≡ true → body text ≡ text
 unfolding body
@@ -39,12 +33,6 @@ unfolding withoutReturn
 return-stays [] n = refl
 return-stays (x ∷ []) n = rw (ne-eqb x 13 n)
 return-stays (x ∷ y ∷ text) n = ap (λ (l : List ℕ). x ∷ l) (return-stays (y ∷ text) n)
-
-return-goes : (text : List ℕ) → withoutReturn (text ++ 13 ∷ []) ≡ text
-unfolding withoutReturn
-return-goes [] = refl
-return-goes (x ∷ []) = refl
-return-goes (x ∷ y ∷ text) = ap (λ (l : List ℕ). x ∷ l) (return-goes (y ∷ text))
 
 lines-none : linesOf [] ≡ []
 unfolding linesOf
@@ -96,7 +84,7 @@ line-first text end below i = go (i .ended)
     fed (returnAndFeed e) =
         let a : text ++ 13 ∷ 10 ∷ below ≡ (text ++ 13 ∷ []) ++ 10 ∷ below = sym (append-assoc text (13 ∷ []) (10 ∷ below)) in
         let r : (text ++ 13 ∷ []) ++ 10 ∷ [] ≡ text ++ 13 ∷ 10 ∷ [] = append-assoc text (13 ∷ []) (10 ∷ []) in
-        rw (e, a) (fed-line (text ++ 13 ∷ []) below (feedless-body (text ++ 13 ∷ []) below (returned text (i .feedless))) ∙ rw (return-goes text, r))
+        rw (e, a) (fed-line (text ++ 13 ∷ []) below (feedless-body (text ++ 13 ∷ []) below (returned text (i .feedless))) ∙ rw (return-behind text, r))
       where
         returned : (t : List ℕ) → every noFeed t ≡ true → every noFeed (t ++ 13 ∷ []) ≡ true
         returned t f = rw (every-append noFeed t (13 ∷ []), f, every-cons noFeed 13 [], every-nil noFeed)

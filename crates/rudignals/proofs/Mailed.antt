@@ -1,7 +1,7 @@
 -- P10 of the two calls: what `rudignals_flow` has written is read by `rudignals_unflow` as the notes' pieces, each paragraph's words in order.
 use mathlib.Core.Path.{_≡_, sym, ap, _∙_}
 use mathlib.Core.List.{List, _++_, map}
-use Prim.Native.Nat.{ℕ, _+_, _*_, _^_, _≤_, _<_}
+use Prim.Native.Nat.{ℕ, _^_, _≤_, _<_}
 use native.Mathlib.Omega.{arith}
 use lib.ListN.{length, take, drop, length-take}
 use lib.Seq.{take-append-seam}

@@ -2,7 +2,7 @@
 -- the indents, gaps with tabs, and added spaces.
 use mathlib.Core.Path.{_≡_, refl, sym, ap, _∙_}
 use mathlib.Core.Bool.{Bool, true, false, cond, _&&_, _||_, or-false, and-eq-true-iff}
-use mathlib.Core.List.{List, [], _∷_, _++_, map, append-assoc, append-nil}
+use mathlib.Core.List.{List, [], _∷_, _++_, map, append-assoc}
 use mathlib.Core.Logic.{_⊎_, inl, inr, ⊎-elim}
 use Prim.Native.Nat.{ℕ, suc, _+_, _≤_, _<_}
 use native.Mathlib.Omega.{arith}
@@ -33,12 +33,12 @@ use Rattle.spacing.specs.Spacing.{gapWidth, gapAt, addedSpace}
 use Rattle.spacing.specs.declared.Setting.{Setting}
 use Rattle.spacing.proofs.Laws.{stop-behind}
 use Rattle.output.specs.Emission.{lineFeed, spaceBefore, emitRest, emit}
-use Rattle.output.specs.Theorems.Order.{laidOut, InOrder}
+use Rattle.output.specs.Theorems.Order.{laidOut}
 use Rattle.quick.specs.Quick.{quickFrom, quickBreaks}
 use Rattle.quick.proofs.Width.{reachedBy, goes}
-use Rattle.paragraphs.specs.Breaks.{settingOf, breaksBy}
+use Rattle.paragraphs.specs.Breaks.{settingOf}
 use Rattle.walk.specs.Digest.{formatted, outputOf, pieceOutput}
-use Rattle.rudignals.specs.Theorems.Width.{columnsIn, OutputLine, ended, wordsOn, KeepsToWidth, WithinWidth}
+use Rattle.rudignals.specs.Theorems.Width.{OutputLine, ended, wordsOn, KeepsToWidth, WithinWidth}
 use Rattle.rudignals.proofs.Order.{rows-of, space-separates}
 
 -- ---- what stands before a word on its line

@@ -1,5 +1,5 @@
 -- Laws of gap width, the next stop and added space: bounds, and the order of tests that the code has.
-use mathlib.Core.Bool.{Bool, true, false, cond, _&&_, _||_}
+use mathlib.Core.Bool.{Bool, true, false, cond, _&&_, _||_, or-false}
 use mathlib.Core.Path.{_≡_, refl}
 use Prim.Native.Nat.{ℕ, _+_, _≤_, _<_}
 use native.Mathlib.Nat.{div-add-mod', mod-lt, add-mul, one-mul}
@@ -44,10 +44,6 @@ added-most uniform first sentence punct = twice (uniform || first) (sentence || 
     twice true true = omega arith
     twice true false = omega arith
     twice false b = omega arith
-
-or-false : (b : Bool) → (b || false) ≡ b
-or-false true = refl
-or-false false = refl
 
 module _ (sentence punct : Bool) where
   pub added-first : (uniform : Bool) → addedSpace uniform true sentence punct ≡ cond (sentence || punct) 2 1

@@ -1,6 +1,6 @@
 -- Document 01, "Words": gap width and added space.
 use mathlib.Core.Bool.{Bool, cond, _&&_, _||_}
-use Prim.Native.Nat.{ℕ, _+_, _-_, _*_, _/_}
+use Prim.Native.Nat.{ℕ, _+_, _-_}
 use Rattle.lines.specs.Classes.{nextStop}
 use Rattle.records.specs.Word.{Word}
 use Rattle.records.specs.declared.Before.{Before}

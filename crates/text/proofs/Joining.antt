@@ -1,12 +1,12 @@
 -- Where each octet joins the three before it, no place is damaged: by the characters of a text, one after the other.
 use mathlib.Core.Path.{_≡_, refl, sym, ap, _∙_}
-use mathlib.Core.Bool.{Bool, true, false, not, _&&_, _||_, and-eq-true-iff}
+use mathlib.Core.Bool.{Bool, true, false, not, _&&_, _||_, and-eq-true-iff, or-true}
 use mathlib.Core.List.{List, [], _∷_}
 use Prim.Native.Nat.{ℕ, zero, suc, _+_, _-_, _*_, _/_, _%_, _≤_, _<_}
 use native.Mathlib.Omega.{arith}
 use lib.Dec.{ltb, leb, eqb}
 use lib.ListN.{length, getD, drop}
-use borrow.Author.Tests.{ltb-true, ltb-false, leb-true, le-leb, lt-leb, eqb-true, eqb-false, eq-eqb, ne-eqb}
+use borrow.Author.Tests.{ltb-true, ltb-false, leb-true, le-leb, lt-leb, eqb-true, eqb-false, eq-eqb}
 use Rattle.lists.proofs.Views.{drop-here, drop-none}
 use Rattle.text.specs.Rfc3629.{decode}
 use Rattle.text.specs.Characters.{damage}
@@ -16,6 +16,7 @@ use Rattle.text.specs.declared.Found.the-variants.{Nowhere}
 use Rattle.text.specs.declared.Char.the-variants.{Good}
 use Rattle.text.proofs.Forms.{ascii, is-two, is-three, is-four}
 use Rattle.text.proofs.Glyphs.{char-here}
+use Rattle.text.proofs.Letters.{refuted}
 use Rattle.text.proofs.Damage.{later, later-zero, damage-past, damage-on}
 
 -- what the tests say of an octet
@@ -29,10 +30,6 @@ pub record Joins (p q r b : ℕ) : Type 0 where
   pub behindED : r ≡ 0xED → b < 0xA0
   pub behindF0 : r ≡ 0xF0 → 0x90 ≤ b
   pub behindF4 : r ≡ 0xF4 → b < 0x90
-
-refuted : (t : Bool) → not t ≡ true → t ≡ false
-refuted true e = sym e
-refuted false e = refl
 
 -- of two tests the second holds where the first does not
 second : (t u : Bool) → (not t || u) ≡ true → t ≡ true → u ≡ true
@@ -74,16 +71,12 @@ module _ {p q r b : ℕ} (j : Joins p q r b) where
   fresh : p < 0xF0 → q < 0xE0 → r < 0xC0 → b / 64 ≡ 2 → ⊥
   fresh hp hq hr = j .begins (rw (lt-leb 0xF0 p hp, lt-leb 0xE0 q hq, lt-leb 0xC0 r hr))
 
-or-last : (t : Bool) → (t || true) ≡ true
-or-last true = refl
-or-last false = refl
-
 or-mid : (t u : Bool) → (t || true || u) ≡ true
 or-mid true u = refl
 or-mid false u = refl
 
 by-last : (p q r : ℕ) → 0xC0 ≤ r → asked p q r ≡ true
-by-last p q r h = rw (le-leb 0xC0 r h) (or-last (leb 0xF0 p || leb 0xE0 q))
+by-last p q r h = rw (le-leb 0xC0 r h) (or-true (leb 0xF0 p || leb 0xE0 q))
 
 by-second : (p q r : ℕ) → 0xE0 ≤ q → asked p q r ≡ true
 by-second p q r h = rw (le-leb 0xE0 q h) (or-mid (leb 0xF0 p) (leb 0xC0 r))

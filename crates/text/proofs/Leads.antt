@@ -7,9 +7,9 @@ use native.Mathlib.Omega.{arith}
 use lib.Dec.{ltb}
 use lib.ListN.{length, getD, drop}
 use lib.Seq.{getD-drop}
-use borrow.Author.Tests.{ltb-true, ltb-false, le-leb, lt-leb, ne-eqb}
+use borrow.Author.Tests.{ltb-true, ltb-false}
 use Rattle.widths.specs.WhiteSpace.{whiteSpace}
-use Rattle.widths.proofs.Inks.{ink-behind}
+use Rattle.widths.proofs.Inks.{ink-at, ink-behind}
 use Rattle.text.specs.Rfc3629.{Front, front, nothing, decode}
 use Rattle.text.specs.Characters.{glyph}
 use Rattle.text.specs.Contracts.Places.{readAs}
@@ -21,21 +21,7 @@ use Rattle.text.proofs.Places.{good-front}
 
 -- ASCII from `!` on is no blank
 pub plain-ink : (c : ℕ) → 33 ≤ c → c < 128 → whiteSpace c ≡ false
-unfolding whiteSpace
-plain-ink c h k =
-    rw (
-      le-leb 9 c (omega arith),
-      lt-leb c 13 (omega arith),
-      ne-eqb c 0x20 (omega arith),
-      ne-eqb c 0x85 (omega arith),
-      ne-eqb c 0xA0 (omega arith),
-      ne-eqb c 0x1680 (omega arith),
-      lt-leb 0x2000 c (omega arith),
-      lt-leb 0x2028 c (omega arith),
-      ne-eqb c 0x202F (omega arith),
-      ne-eqb c 0x205F (omega arith),
-      ne-eqb c 0x3000 (omega arith),
-    )
+plain-ink c h k = ink-at c h (λ a b. omega arith) (λ a b. omega arith)
 
 module _ (s : List ℕ) (at : ℕ) (more : at < length s) where
   -- a character whose first byte is from E0 on has a number from U+0800 on

@@ -1,10 +1,10 @@
 -- Characters of two bytes; and letters of two: what their test says, that none is blank and that each takes one column.
-use mathlib.Core.Path.{_≡_, refl, sym, ap, _∙_}
-use mathlib.Core.Bool.{Bool, true, false, not, _&&_, and-eq-true-iff}
+use mathlib.Core.Path.{_≡_, refl, sym}
+use mathlib.Core.Bool.{Bool, true, false, not, and-eq-true-iff}
 use mathlib.Core.List.{List}
-use Prim.Native.Nat.{ℕ, _+_, _*_, _/_, _%_, _≤_, _<_}
+use Prim.Native.Nat.{ℕ, _+_, _/_, _≤_, _<_}
 use native.Mathlib.Omega.{arith}
-use lib.Dec.{ltb, leb, eqb}
+use lib.Dec.{ltb, eqb}
 use lib.ListN.{length, getD, drop}
 use lib.Seq.{getD-drop}
 use borrow.Author.Tests.{ltb-true, ltb-false, lt-ltb, le-ltb, leb-true, le-leb, lt-leb, eqb-true, eqb-false, ne-eqb}
@@ -13,6 +13,7 @@ use Rattle.widths.specs.Table.{table}
 use Rattle.widths.specs.Widths.{widthOf}
 use Rattle.widths.specs.WhiteSpace.{whiteSpace}
 use Rattle.widths.proofs.Laws.{one-before-300}
+use Rattle.widths.proofs.Inks.{ink-at}
 use Rattle.text.specs.Rfc3629.{decode}
 use Rattle.text.specs.Contracts.Places.{readAs, letterAt, pairCode, Pair}
 use Rattle.text.specs.declared.Char.the-variants.{Good}
@@ -28,28 +29,14 @@ pub record Letter (s : List ℕ) (at : ℕ) : Type 0 where
 
 -- from U+00C0 up to U+167F there is no white space
 pub ink-letter : (c : ℕ) → 0xC0 ≤ c → c < 0x1680 → whiteSpace c ≡ false
-unfolding whiteSpace
-ink-letter c h k =
-    rw (
-      le-leb 9 c (omega arith),
-      lt-leb c 13 (omega arith),
-      ne-eqb c 0x20 (omega arith),
-      ne-eqb c 0x85 (omega arith),
-      ne-eqb c 0xA0 (omega arith),
-      ne-eqb c 0x1680 (omega arith),
-      lt-leb 0x2000 c (omega arith),
-      lt-leb 0x2028 c (omega arith),
-      ne-eqb c 0x202F (omega arith),
-      ne-eqb c 0x205F (omega arith),
-      ne-eqb c 0x3000 (omega arith),
-    )
+ink-letter c h k = ink-at c (omega arith) (λ a b. omega arith) (λ a b. omega arith)
 
 -- behind the accents, up to Cyrillic's own, each character takes one column
 one-behind-accents : (c : ℕ) → 0x370 ≤ c → c < 0x483 → widthOf c ≡ 1
 unfolding widthOf widthIn table
 one-behind-accents c h k = rw (le-ltb c 0x300 (omega arith), lt-leb c 0x36F (omega arith), lt-ltb c 0x483 k, widthIn)
 
-refuted : (t : Bool) → not t ≡ true → t ≡ false
+pub refuted : (t : Bool) → not t ≡ true → t ≡ false
 refuted true e = sym e
 refuted false e = refl
 

@@ -1,6 +1,6 @@
 -- Bytes that stand in a row: a test of each, as the code writes it for eight, and what it says of each.
-use mathlib.Core.Path.{_≡_, refl}
-use mathlib.Core.Bool.{Bool, true, false, _&&_}
+use mathlib.Core.Path.{_≡_}
+use mathlib.Core.Bool.{Bool, true, _&&_, and-eq-true-iff}
 use mathlib.Core.Logic.{⊎-elim}
 use mathlib.Core.List.{List}
 use Prim.Native.Nat.{ℕ, zero, suc, _+_, _≤_, _<_}
@@ -13,14 +13,9 @@ unfoldable pub allAt : (ℕ → Bool) → List ℕ → ℕ → ℕ → Bool
 allAt test s i zero = test (getD s i 0)
 allAt test s i (suc n) = allAt test s i n && test (getD s (i + suc n) 0)
 
-both : (a b : Bool) → (a && b) ≡ true → (a ≡ true) × (b ≡ true)
-both true true e = (refl, refl)
-both true false e = (refl, e)
-both false b e = (e, cc)
-
 pub all-each : (test : ℕ → Bool) (s : List ℕ) (i n : ℕ) → allAt test s i n ≡ true → (k : ℕ) → i ≤ k → k ≤ i + n → test (getD s k 0) ≡ true
 unfolding allAt
 all-each test s i zero e k h l = let q : k ≡ i = omega arith in rw q e
 all-each test s i (suc n) e k h l =
-    let p = both _ _ e in
+    let p = and-eq-true-iff _ _ .0 e in
     ⊎-elim (λ (q : k ≡ i + suc n). rw q (p .1)) (λ (q : k < i + suc n). all-each test s i n (p .0) k h (omega arith)) (eq-or-lt-of-le l)

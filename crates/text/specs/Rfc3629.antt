@@ -1,6 +1,6 @@
 -- RFC 3629: UTF-8. Section 3's table is `encode`; a decoder is given, and proofs/Decoder.antt shows that it accepts exactly the encodings.
 use mathlib.Core.Path.{_≡_}
-use mathlib.Core.Bool.{Bool, true, false, cond, not, _&&_}
+use mathlib.Core.Bool.{Bool, cond, not, _&&_}
 use mathlib.Core.List.{List, [], _∷_, _++_}
 use Prim.Native.Nat.{ℕ, _+_, _*_, _/_, _%_}
 use lib.Dec.{T, ltb, leb}

@@ -1,6 +1,6 @@
 pub mod Lines
 pub mod Paragraphs
-mod Texts
-mod Puts
+pub mod Texts
+pub mod Puts
 pub mod Answers
 pub mod Unique

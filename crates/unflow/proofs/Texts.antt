@@ -1,27 +1,25 @@
 -- A text read line by line: what is left to be written at a place, and how much was written up to there.
-use mathlib.Core.Path.{_≡_, sym, ap, _∙_}
+use mathlib.Core.Path.{_≡_, ap, _∙_}
 use mathlib.Core.Bool.{Bool, true, false, cond, not}
 use mathlib.Core.List.{List, [], _∷_, _++_, map}
-use Prim.Native.Nat.{ℕ, _+_, _-_, _*_, _≤_, _<_}
+use Prim.Native.Nat.{ℕ, _+_, _-_, _*_, _≤_}
 use native.Mathlib.Omega.{arith}
 use lib.ListN.{length, take, drop, replicate, length-append, length-replicate, length-drop, length-take}
 use Rattle.lists.proofs.Slices.{slice-is}
 use Rattle.lines.specs.Lines.{Line as LineOf, linesOf, firstLine}
 use Rattle.lines.specs.declared.Extent.{Extent}
-use Rattle.lines.specs.Contracts.Places.{lengthsOf}
-use Rattle.lines.proofs.Lines.{LineHere, line-here, lines-past}
+use Rattle.lines.proofs.Lines.{LineHere, lines-past}
 use Rattle.output.specs.Contracts.Sink.{Wrote, Left}
-use Rattle.output.proofs.Sink.{length-written, left-first, left-then, left-last}
+use Rattle.output.proofs.Sink.{left-length, left-first, left-then, left-last}
 use Rattle.unflow.specs.Flowed.{space, quoteMark, quoteDepth, needsSpace, stuffing, contentOf, isSoft}
 use Rattle.unflow.specs.Unflow.{mailLines, unflowed}
 use Rattle.unflow.specs.Contracts.Steps.{Parted, joins, endOf, startOf, placed, placedFrom}
 use Rattle.unflow.specs.declared.Line.{Line}
-use Rattle.unflow.proofs.Lines.{part-all}
 use Rattle.unflow.proofs.Paragraphs.{written-lines}
 
 -- ---- how long the parts get
 
-stuffing-most : (c : List ℕ) → length (stuffing c) ≤ 1
+pub stuffing-most : (c : List ℕ) → length (stuffing c) ≤ 1
 unfolding stuffing
 stuffing-most c = go (needsSpace c)
   where
@@ -57,9 +55,6 @@ module _ (line : List ℕ) (l : Line) (p : Parted line l) where
 
 -- ---- the lines from a place on
 
-pub line-at : (text : List ℕ) (at : ℕ) (e : Extent) → at < length text → e ≡ lengthsOf (firstLine (take (length text - at) (drop at text))) → LineHere text at e
-line-at text at e h q = line-here text at e h (q ∙ ap (λ (l : List ℕ). lengthsOf (firstLine l)) (part-all text at))
-
 -- the text of the line at a place, as it is lent
 abbrev lent : List ℕ → ℕ → Extent → List ℕ
 lent text at e = take (at + e .text - at) (drop at text)
@@ -83,9 +78,6 @@ unfolding mailLines
 mail-past text at h = rw (lines-past text at h)
 
 -- ---- the turns
-
-left-length : {o₀ o : List ℕ} {n₀ n : ℕ} {d₀ d : List ℕ} → Left o₀ n₀ d₀ o n d → length o ≡ length o₀
-left-length {o₀} {o} {n₀} {n} {d₀} {d} p = sym (length-written n o d) ∙ ap length (p .bytes) ∙ length-written n₀ o₀ d₀
 
 pub record Turning (text out₀ : List ℕ) (at k : ℕ) (going : Bool) (depth : ℕ) (out : List ℕ) : Type 0 where
   pub within : at ≤ length text

@@ -79,10 +79,10 @@ row-bulk o mail row = omega (arith, spelled-bulk (o .glue) (o .uniform || mail) 
 
 -- ---- nor the words of lines
 
-abbrev Shorter : Line → Type 0
+abbrev pub Shorter : Line → Type 0
 Shorter l = length (l .text) ≤ length (l .raw)
 
-lines-shorter : (xs : List ℕ) → All Shorter (linesOf xs)
+pub lines-shorter : (xs : List ℕ) → All Shorter (linesOf xs)
 unfolding linesOf lengthsOf
 lines-shorter xs = each-all (λ ys. length (body ys)) firstLine Shorter (λ ys h. lengths ys (lengthsOf (firstLine ys)) refl .shorter) xs
 

@@ -17,7 +17,7 @@ use Rattle.pieces.specs.Pieces.{Kind, nextPiece, pieces}
 use Rattle.pieces.specs.declared.Paragraph.{Paragraph}
 use Rattle.output.proofs.Sink.{length-written, wrote-nil, left-first, left-then, left-last}
 use Rattle.walk.specs.Digest.{outputOf, pieceOutput, digest, tooMany, longParagraph}
-use Rattle.walk.specs.Contracts.Course.{piecesFrom, outputFrom, longFrom, FirstPiece, Put, TooLong, CursorIn, Going, start, FinishedFrom, Finished, Reached, Coursed}
+use Rattle.walk.specs.Contracts.Course.{piecesFrom, outputFrom, longFrom, FirstPiece, Put, TooLong, CursorIn, Going, start, FinishedFrom, Finished, Reached, Coursed, Begun}
 use Rattle.paragraphs.specs.declared.Cursor.{Cursor}
 use Rattle.walk.specs.declared.Ahead.{Ahead}
 use Rattle.walk.specs.declared.Ahead.the-variants.{Text, End}
@@ -37,7 +37,11 @@ module _ (o : Opts) where
   unfolding longFrom piecesFrom pieces
   all-long notes = refl
 
-  none-left : (nextMail : Bool) (notes : List ℕ) (at : ℕ) → length notes ≤ at → piecesFrom o nextMail notes at ≡ []
+  pub all-pieces : (notes : List ℕ) → piecesFrom o true notes 0 ≡ pieces o notes
+  unfolding piecesFrom pieces
+  all-pieces notes = refl
+
+  pub none-left : (nextMail : Bool) (notes : List ℕ) (at : ℕ) → length notes ≤ at → piecesFrom o nextMail notes at ≡ []
   unfolding piecesFrom
   none-left nextMail notes at h = rw (lines-past notes at h) (walk-nil (nextPiece o) nextMail)
 
@@ -129,3 +133,15 @@ module _ (w b : ℕ) (block : List ℕ) (o : Options) (notes out₀ out : List �
 
   pub course-short : {c : Cursor} {p : Paragraph} → r ≡ Short c p → Coursed w b block o notes c₀ out₀ out (Short c p)
   course-short e = rw e at s
+
+module _ (w b : ℕ) (block : List ℕ) (o : Options) (notes out₀ out : List ℕ) (c₀ : Cursor) where
+  pub course-begun : (r : Course) → Coursed w b block o notes c₀ out₀ out r → Begun block o notes c₀ out₀ out r
+  course-begun (CourseEnd n) s = s
+  course-begun (Short c p) s = (s .0, s .1)
+
+module _ (block : List ℕ) (o : Options) (notes out₀ out : List ℕ) (c₀ : Cursor) (r : Course) (s : Begun block o notes c₀ out₀ out r) where
+  pub begun-end : {n : ℕ} → r ≡ CourseEnd n → FinishedFrom (meant block o) notes c₀ out₀ out (All n)
+  begun-end e = rw e at s
+
+  pub begun-short : {c : Cursor} {p : Paragraph} → r ≡ Short c p → Begun block o notes c₀ out₀ out (Short c p)
+  begun-short e = rw e at s

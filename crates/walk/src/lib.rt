@@ -9,7 +9,7 @@ ghost use mathlib.Core.Bool.{true};
 ghost use lib.ListN.{length, replicate};
 ghost use Rattle.options.specs.Opts.{meant};
 ghost use Rattle.paragraphs.specs.Contracts.Steps.{Scratch};
-ghost use Rattle.walk.specs.Contracts.Course.{CursorIn, TextAhead, Reached, Admitted, Coursed, start, Finished, FinishedFrom};
+ghost use Rattle.walk.specs.Contracts.Course.{CursorIn, TextAhead, Reached, Admitted, Coursed, Begun, start, Finished, FinishedFrom};
 
 // What follows the lines behind a place: a paragraph, where the cursor stands, or the end of the notes.
 enum Ahead {
@@ -142,12 +142,12 @@ fn put_quick(
         &mut marks,
     ) {
         Course::End(needed) => Ended::All(needed),
-        Course::Short { c: d, p: q } => put_quick_more(o, block, notes, d, q, out),
+        Course::Short { c: d, p: q } => put_quick_longer(o, block, notes, d, q, out),
     }
 }
 
-// The same for 512 words, which is as many as notes of 1 KiB can have.
-fn put_quick_more(
+// The same for longer paragraphs.
+fn put_quick_longer(
     o: Options,
     block: &[u8],
     notes: &[u8],
@@ -158,12 +158,33 @@ fn put_quick_more(
     requires { ⌜ Admitted (now block) (now notes) o × CursorIn (now notes) c × TextAhead (now block) o (now notes) c p × (o .quick ≡ true) ⌝ }
     ensures { λ r. ⌜ FinishedFrom (meant (now (block .entry)) o) (now (notes .entry)) c (now (out .entry)) (now (out .exit)) r ⌝ }
 {
+    match put_quick_more(o, block, notes, c, p, out) {
+        Course::End(needed) => Ended::All(needed),
+        Course::Short { c: d, p: q } => put_quick_long(o, block, notes, d, q, out),
+    }
+}
+
+// For 512 words, which is as many as a paragraph of 1 KiB can have: one of more bytes is not split for tables that it may outgrow.
+fn put_quick_more(
+    o: Options,
+    block: &[u8],
+    notes: &[u8],
+    c: Cursor,
+    p: Paragraph,
+    out: &mut [u8],
+) -> Course
+    requires { ⌜ Admitted (now block) (now notes) o × CursorIn (now notes) c × TextAhead (now block) o (now notes) c p × (o .quick ≡ true) ⌝ }
+    ensures { λ r. ⌜ Begun (now (block .entry)) o (now (notes .entry)) c (now (out .entry)) (now (out .exit)) r ⌝ }
+{
+    if c.at + 1024 < p.next {
+        return Course::Short { c, p };
+    }
     let mut table = [0u32; 3584];
     let mut marks = [false; 512];
     let mut breaks = [0u32; 8];
     let mut ratios = [0f32; 1];
     let mut active = [0u32; 1];
-    match put_texts(
+    put_texts(
         o,
         block,
         notes,
@@ -175,13 +196,10 @@ fn put_quick_more(
         &mut ratios,
         &mut active,
         &mut marks,
-    ) {
-        Course::End(needed) => Ended::All(needed),
-        Course::Short { c: d, p: q } => put_quick_long(o, block, notes, d, q, out),
-    }
+    )
 }
 
-// The same for the most words that a paragraph may have.
+// For the most words that a paragraph may have.
 fn put_quick_long(
     o: Options,
     block: &[u8],

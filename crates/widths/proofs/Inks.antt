@@ -1,9 +1,10 @@
 -- Width and white space in one number: what it says of a character.
 use mathlib.Core.Path.{_≡_, refl, sym, _∙_}
-use mathlib.Core.Bool.{Bool, true, false, cond}
+use mathlib.Core.Bool.{Bool, true, false, cond, _&&_, false≢true}
 use Prim.Native.Nat.{ℕ, _≤_, _<_}
 use native.Mathlib.Omega.{arith}
-use borrow.Author.Tests.{le-leb, lt-leb, ne-eqb}
+use lib.Dec.{leb}
+use borrow.Author.Tests.{leb-true, leb-false, ne-eqb}
 use Rattle.widths.specs.Table.{table}
 use Rattle.widths.specs.Widths.{widthOf}
 use Rattle.widths.specs.WhiteSpace.{whiteSpace}
@@ -28,25 +29,40 @@ ink-not-blank c n e h = pick (whiteSpace c) refl e
     pick true x q = absurd (h q)
     pick false x q = (x, q)
 
--- behind U+3000 nothing is white space
-pub ink-behind : (c : ℕ) → 0x3000 < c → whiteSpace c ≡ false
+no-range : (a b c : ℕ) → (a ≤ c → c ≤ b → ⊥) → (leb a c && leb c b) ≡ false
+no-range a b c h = pick (leb a c) (leb c b) refl refl
+  where
+    pick : (t u : Bool) → leb a c ≡ t → leb c b ≡ u → (t && u) ≡ false
+    pick false u e f = refl
+    pick true false e f = refl
+    pick true true e f = absurd (h (leb-true a c e) (leb-true c b f))
+
+-- no white space: from `!` on, but for U+0080 to U+00BF and U+1680 to U+3000
+pub ink-at : (c : ℕ) → 33 ≤ c → (0x80 ≤ c → c < 0xC0 → ⊥) → (0x1680 ≤ c → c ≤ 0x3000 → ⊥) → whiteSpace c ≡ false
 unfolding whiteSpace
-ink-behind c h =
+ink-at c h low high =
     rw (
-      le-leb 9 c (omega arith),
-      lt-leb c 13 (omega arith),
+      no-range 9 13 c (λ a b. omega arith),
       ne-eqb c 0x20 (omega arith),
-      ne-eqb c 0x85 (omega arith),
-      ne-eqb c 0xA0 (omega arith),
-      ne-eqb c 0x1680 (omega arith),
-      le-leb 0x2000 c (omega arith),
-      lt-leb c 0x200A (omega arith),
-      le-leb 0x2028 c (omega arith),
-      lt-leb c 0x2029 (omega arith),
-      ne-eqb c 0x202F (omega arith),
-      ne-eqb c 0x205F (omega arith),
-      ne-eqb c 0x3000 (omega arith),
+      ne-eqb c 0x85 (λ e. low (omega arith) (omega arith)),
+      ne-eqb c 0xA0 (λ e. low (omega arith) (omega arith)),
+      ne-eqb c 0x1680 (λ e. high (omega arith) (omega arith)),
+      no-range 0x2000 0x200A c (λ a b. high (omega arith) (omega arith)),
+      no-range 0x2028 0x2029 c (λ a b. high (omega arith) (omega arith)),
+      ne-eqb c 0x202F (λ e. high (omega arith) (omega arith)),
+      ne-eqb c 0x205F (λ e. high (omega arith) (omega arith)),
+      ne-eqb c 0x3000 (λ e. high (omega arith) (omega arith)),
     )
+
+pub ink-behind : (c : ℕ) → 0x3000 < c → whiteSpace c ≡ false
+ink-behind c h = ink-at c (omega arith) (λ a b. omega arith) (λ a b. omega arith)
+
+pub blank-most : (c : ℕ) → whiteSpace c ≡ true → c ≤ 0x3000
+blank-most c h = pick (leb c 0x3000) refl
+  where
+    pick : (t : Bool) → leb c 0x3000 ≡ t → c ≤ 0x3000
+    pick true e = leb-true c 0x3000 e
+    pick false e = absurd (false≢true (sym (ink-behind c (let l = leb-false c 0x3000 e in omega arith)) ∙ h))
 
 pub far : (c n : ℕ) → 0x3000 < c → n ≡ widthOf c → n ≡ inkWidth c
 unfolding inkWidth

@@ -3,12 +3,11 @@
 use mathlib.Core.Path.{_≡_, refl, sym, ap, _∙_}
 use mathlib.Core.Bool.{Bool, true, false, cond, not, _||_, and-eq-true-iff, true≢false, false≢true}
 use mathlib.Core.List.{List, [], _∷_, _++_}
-use Prim.Native.Nat.{ℕ, _+_, _*_, _/_, _%_, _≤_, _<_}
+use Prim.Native.Nat.{ℕ, _+_, _*_, _/_, _%_, _≤_}
 use native.Mathlib.Nat.{div-add-mod', mod-lt, add-mul}
 use native.Mathlib.Omega.{arith}
 use lib.Arith.{digits-div}
 use lib.Dec.{eqb}
-use lib.ListN.{length}
 use borrow.Author.Tests.{eqb-true}
 use Rattle.lists.specs.Runs.{while, every, joined}
 use Rattle.lists.specs.Theorems.All.{All}
@@ -17,10 +16,10 @@ use Rattle.lists.proofs.All.{all-front, all-back}
 use Rattle.text.specs.Characters.{Glyph, characters, isBlank, isTab}
 use Rattle.text.proofs.Spelling.{Spells}
 use Rattle.options.specs.Opts.{Opts}
-use Rattle.lines.specs.Classes.{nextStop, columnBehind, columnsOf, glyphsFrom, classify}
+use Rattle.lines.specs.Classes.{nextStop, columnBehind, columnsOf, classify}
 use Rattle.lines.specs.declared.Shape.{Shape}
 use Rattle.lines.specs.declared.Class.the-variants.{Formatted}
-use Rattle.lines.proofs.Columns.{columns-again, every-again, Indented, formatted-indented, from-indented}
+use Rattle.lines.proofs.Columns.{columns-again, every-again, formatted-indented, from-indented}
 use Rattle.pieces.specs.Pieces.{Row}
 use Rattle.records.specs.Word.{Word}
 use Rattle.records.specs.declared.Before.{Before}

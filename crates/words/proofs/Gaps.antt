@@ -9,7 +9,7 @@ use lib.ListN.{length}
 use Rattle.lists.specs.Runs.{while, behind, every}
 use Rattle.lists.specs.Theorems.All.{All}
 use Rattle.lists.proofs.Runs.{while-more, while-end, behind-more, behind-end}
-use Rattle.lists.proofs.Parts.{while-nil, behind-nil, every-nil, every-cons}
+use Rattle.lists.proofs.Parts.{behind-nil, every-cons}
 use Rattle.text.specs.Characters.{Glyph, characters, noBreak, ordinary, inkAhead, glyphs, isBlank}
 use Rattle.text.specs.Contracts.Places.{settle, inkBehind}
 use Rattle.text.proofs.Extents.{Read, characters-read}

@@ -1,8 +1,8 @@
 -- Ink at a place, worked off one glyph after the other, and with glue on a run of U+00A0 at once; a damaged byte is ink.
 use mathlib.Core.Path.{_≡_, refl, sym, ap, _∙_}
-use mathlib.Core.Bool.{Bool, true, false, cond, not, _||_}
+use mathlib.Core.Bool.{Bool, true, false, cond, _||_}
 use mathlib.Core.List.{List, [], _∷_, _++_, map}
-use Prim.Native.Nat.{ℕ, suc, _+_, _-_, _*_, _/_, _≤_, _<_}
+use Prim.Native.Nat.{ℕ, suc, _+_, _-_, _/_, _≤_, _<_}
 use native.Mathlib.Omega.{arith}
 use lib.Dec.{eqb}
 use lib.ListN.{length, drop}
@@ -14,7 +14,7 @@ use Rattle.lists.proofs.Parts.{while-nil}
 use Rattle.widths.specs.Widths.{widthOf}
 use Rattle.widths.specs.WhiteSpace.{whiteSpace}
 use Rattle.widths.specs.Contracts.Forms.{inkWidth}
-use Rattle.widths.proofs.Laws.{at-most-two, one-before-300}
+use Rattle.widths.proofs.Laws.{one-before-300}
 use Rattle.widths.proofs.Inks.{ink-blank, ink-not-blank}
 use Rattle.text.specs.Characters.{Glyph, glyph, characters, noBreak, ordinary, inkAhead, glyphs, extent}
 use Rattle.text.specs.Contracts.Places.{inkGlyphs, gluedExtent}
@@ -45,10 +45,6 @@ punct-more : (p : Bool) (g : Glyph) (gs : List Glyph) → punctBehind p (g ∷ g
 unfolding punctBehind punctAtEnd
 punct-more p g [] = refl
 punct-more p g (h ∷ gs) = refl
-
--- a character is at most two columns wide
-pub narrow : (code w : ℕ) → w ≡ widthOf code → w ≤ 2
-narrow code w e = rw e (at-most-two code)
 
 no-punct : (code : ℕ) → 0xC0 ≤ code → false ≡ punctCode code
 no-punct code h = rw (ne-eqb code 33 (omega arith), ne-eqb code 46 (omega arith), ne-eqb code 63 (omega arith))

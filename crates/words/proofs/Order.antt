@@ -11,7 +11,7 @@ use Rattle.lists.specs.Theorems.All.{All}
 use Rattle.lists.proofs.Runs.{every-map}
 use Rattle.lists.proofs.Parts.{every-nil, every-cons, every-append, joined-nil, joined-cons, joined-append}
 use Rattle.lists.proofs.All.{all-front, all-back, all-map, all-weaken, all-joined}
-use Rattle.text.specs.Characters.{Glyph, noBreak, glyphs, isBlank}
+use Rattle.text.specs.Characters.{Glyph, glyphs, isBlank}
 use Rattle.text.specs.Theorems.Blanks.{Blanks}
 use Rattle.text.proofs.Extents.{Sound, glyphs-sound}
 use Rattle.text.proofs.Edges.{glyphs-joined}

@@ -1,7 +1,7 @@
 -- The bounds that the contracts of `demerits` promise.
 use mathlib.Core.Bool.{Bool, true, false, cond}
-use Prim.Native.Nat.{ℕ, _+_, _-_, _*_, _≤_}
-use lib.Dec.{T, leb, ltb}
+use Prim.Native.Nat.{ℕ, _-_, _*_}
+use lib.Dec.{leb, ltb}
 use lib.Ieee.{Float, nan, inf, fin, up, down, neg}
 use Rattle.demerits.specs.Demerits.{float}
 

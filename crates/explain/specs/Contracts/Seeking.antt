@@ -18,7 +18,6 @@ use Rattle.paragraphs.specs.Contracts.Steps.{settingFor, wordsFor}
 use Rattle.walk.specs.Digest.{tooMany, longParagraph}
 use Rattle.walk.specs.Contracts.Course.{piecesFrom, longFrom, FirstPiece}
 use Rattle.formatter.specs.Answers.{words}
-use Rattle.formatter.specs.declared.Reply.{Reply}
 use Rattle.formatter.specs.Contracts.Call.{told as replied, replyNumber}
 use Rattle.explain.specs.declared.Asked.{Asked}
 use Rattle.explain.specs.declared.Asked.the-variants.{Told, Behind as Ahead}

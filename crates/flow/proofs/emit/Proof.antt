@@ -1,6 +1,6 @@
 -- `flow::emit` meets its contract.
 use borrow.Author.Needs.{needs}
-use mathlib.Core.Path.{_≡_, refl, sym, ap, _∙_}
+use mathlib.Core.Path.{refl}
 use native.Mathlib.Omega.{arith}
 use Rattle.output.proofs.Sink.{wrote-part}
 use Rattle.output.proofs.Emission.{turn-within}

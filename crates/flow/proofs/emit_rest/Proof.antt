@@ -1,10 +1,10 @@
 -- `flow::emit_rest` meets its contract. Invariant: what is left to write and to count is what the words from i on give.
 use borrow.Author.Needs.{needs}
-use mathlib.Core.Path.{_≡_, refl, sym, ap, _∙_}
+use mathlib.Core.Path.{_≡_, refl, _∙_}
 use native.Mathlib.Omega.{arith}
 use denote.Ref.{now}
 use mathlib.Core.Bool.{false}
-use Prim.Native.Nat.{_+_, _*_, _-_, _^_, _≤_, _<_}
+use Prim.Native.Nat.{_+_, _*_, _-_, _^_, _≤_}
 use lib.ListN.{length}
 use Rattle.output.specs.Contracts.Sink.{Left}
 use Rattle.output.proofs.Sink.{wrote-length, wrote-part, left-first, left-last}

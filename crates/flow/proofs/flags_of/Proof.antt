@@ -1,6 +1,6 @@
 -- `flow::flags_of` meets its contract.
 use borrow.Author.Needs.{needs}
-use mathlib.Core.Path.{_≡_, refl, sym, ap, _∙_}
+use mathlib.Core.Path.{sym, _∙_}
 use native.Mathlib.Omega.{arith}
 use Rattle.flow.proofs.Flags.{flags-first, flags-none}
 use Rattle.flow.proofs.flags_of.Statement.{statement}

@@ -1,6 +1,6 @@
 -- `flow::flow` meets its contract.
 use borrow.Author.Needs.{needs}
-use mathlib.Core.Path.{_≡_, refl, sym, ap, _∙_}
+use mathlib.Core.Path.{sym, _∙_}
 use native.Mathlib.Omega.{arith}
 use Rattle.flow.proofs.Answered.{unfit-answer, refused-answer, passed-ready, passed-answer}
 use Rattle.flow.proofs.flow.Statement.{statement}

@@ -1,6 +1,5 @@
 -- `flow::has_shape` meets its contract.
 use borrow.Author.Needs.{needs}
-use mathlib.Core.Path.{_≡_, refl, sym, ap, _∙_}
 use Rattle.flow.proofs.Flags.{given-shaped, absent-shaped}
 use Rattle.flow.proofs.has_shape.Statement.{statement}
 use Rattle.flow.proofs.has_shape.Tie as tie

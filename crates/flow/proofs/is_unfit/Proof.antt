@@ -1,6 +1,6 @@
 -- `flow::is_unfit` meets its contract.
 use borrow.Author.Needs.{needs}
-use mathlib.Core.Path.{_≡_, refl, sym, ap, _∙_}
+use mathlib.Core.Path.{sym, _∙_}
 use Rattle.flow.proofs.Flags.{accepted-sound, fault-fits, accepted-unfit}
 use Rattle.flow.proofs.is_unfit.Statement.{statement}
 use Rattle.flow.proofs.is_unfit.Tie as tie

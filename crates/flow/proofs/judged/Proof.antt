@@ -1,8 +1,7 @@
 -- `flow::judged` meets its contract.
 use borrow.Author.Needs.{needs}
-use mathlib.Core.Path.{_≡_, refl, sym, ap, _∙_}
+use mathlib.Core.Path.{_∙_}
 use native.Mathlib.Omega.{arith}
-use mathlib.Core.Bool.{Bool}
 use lib.ListN.{length-take}
 use Rattle.flow.proofs.judged.Statement.{statement}
 use Rattle.flow.proofs.judged.Tie as tie

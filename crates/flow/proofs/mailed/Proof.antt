@@ -1,6 +1,5 @@
 -- `flow::mailed` meets its contract.
-use borrow.Author.Needs.{needs}
-use mathlib.Core.Path.{_≡_, refl, sym, ap, _∙_}
+use mathlib.Core.Path.{refl}
 use Rattle.flow.proofs.mailed.Statement.{statement}
 use Rattle.flow.proofs.mailed.Tie as tie
 

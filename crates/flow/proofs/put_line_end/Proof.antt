@@ -1,12 +1,10 @@
 -- `flow::put_line_end` meets its contract.
 use borrow.Author.Needs.{needs}
-use mathlib.Core.Path.{_≡_, refl, sym, ap, _∙_}
 use native.Mathlib.Omega.{arith}
-use Prim.Native.Nat.{ℕ, _-_}
-use mathlib.Core.Bool.{cond}
-use lib.ListN.{length-replicate}
+use Prim.Native.Nat.{_-_}
 use Rattle.output.proofs.Sink.{wrote-then, wrote-part}
-use Rattle.flow.proofs.Writing.{line-ended, end-count, spaces-count}
+use Rattle.unflow.proofs.Puts.{wrote-spaces}
+use Rattle.flow.proofs.Writing.{line-ended, end-count}
 use Rattle.flow.proofs.put_line_end.Statement.{statement}
 use Rattle.flow.proofs.put_line_end.Tie as tie
 
@@ -35,13 +33,13 @@ put-end-requires : tie.Need-put-end-requires
 put-end-requires c κs = search needs
 
 add-result : tie.Need-add-result
-add-result c = omega (arith, spaces-count (1 - c .before .before .before .before .before .before .before .before .before .one-if .result) (c .before .before .before .before .before .before .before .put-added .ensures), end-count (c .before .before .put-end .ensures))
+add-result c = omega (arith, wrote-spaces (1 - c .before .before .before .before .before .before .before .before .before .one-if .result) (c .before .before .before .before .before .before .before .put-added .ensures), end-count (c .before .before .put-end .ensures))
 
 same-length : tie.Need-same-length
 same-length c = search needs
 
 returns : tie.Need-returns
-returns c = (line-ended _ (c .before .before .before .before .before .before .before .before .before .one-if .ensures .0) (wrote-then (c .before .before .before .before .before .before .before .put-added .ensures) (wrote-part _ _ _ _ _ _ (c .before .before .before .before .lesser .ensures) (c .before .before .put-end .ensures))), omega (arith, spaces-count (1 - c .before .before .before .before .before .before .before .before .before .one-if .result) (c .before .before .before .before .before .before .before .put-added .ensures), end-count (c .before .before .put-end .ensures)))
+returns c = (line-ended _ (c .before .before .before .before .before .before .before .before .before .one-if .ensures .0) (wrote-then (c .before .before .before .before .before .before .before .put-added .ensures) (wrote-part _ _ _ _ _ _ (c .before .before .before .before .lesser .ensures) (c .before .before .put-end .ensures))), omega (arith, wrote-spaces (1 - c .before .before .before .before .before .before .before .before .before .one-if .result) (c .before .before .before .before .before .before .before .put-added .ensures), end-count (c .before .before .put-end .ensures)))
 
 pub put-line-end-spec : {M : Type 1} → statement M
 put-line-end-spec =

@@ -3,11 +3,7 @@ use borrow.Author.Needs.{needs}
 use native.Mathlib.Omega.{arith}
 use denote.Ref.{now}
 use Prim.Native.Nat.{_≤_, _^_}
-use Rattle.output.specs.Contracts.Writers.{marginOf}
 use Rattle.output.proofs.Sink.{wrote-part}
-use lib.ListN.{length-append}
-use lib.Seq.{slice, length-slice}
-use Rattle.output.proofs.Writers.{margin-most}
 use Rattle.flow.proofs.Writing.{turned-on, turned-off, word-most}
 use Rattle.flow.proofs.put_next.Statement.{statement}
 use Rattle.flow.proofs.put_next.Tie as tie

@@ -1,11 +1,7 @@
 -- `flow::send_line` meets its contract.
 use borrow.Author.Needs.{needs}
-use mathlib.Core.Path.{_≡_, refl, sym, ap, _∙_}
 use native.Mathlib.Omega.{arith}
 use denote.Ref.{now}
-use lib.ListN.{length}
-use Prim.Native.Nat.{_+_, _-_, _≤_}
-use Rattle.output.specs.Contracts.Writers.{MarginIn}
 use Rattle.output.proofs.Sink.{wrote-part}
 use Rattle.flow.proofs.Writing.{end-count}
 use Rattle.flow.proofs.Plain.{line-sent, line-most}

@@ -1,7 +1,5 @@
 -- `flow::send_notes` meets its contract.
 use borrow.Author.Needs.{needs}
-use mathlib.Core.Path.{_≡_, refl, sym, ap, _∙_}
-use native.Mathlib.Omega.{arith}
 use Rattle.flow.proofs.Answered.{words-answer, done-answer, room-answer}
 use Rattle.flow.proofs.send_notes.Statement.{statement}
 use Rattle.flow.proofs.send_notes.Tie as tie

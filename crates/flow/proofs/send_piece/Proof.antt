@@ -1,8 +1,6 @@
 -- `flow::send_piece` meets its contract.
 use borrow.Author.Needs.{needs}
-use mathlib.Core.Path.{_≡_, refl, sym, ap, _∙_}
 use native.Mathlib.Omega.{arith}
-use denote.Ref.{now}
 use Rattle.flow.proofs.Course.{ready-usable, ready-cleared, ready-uniform, found-goes, text-placed, blank-put, plain-put, text-stepped}
 use Rattle.flow.proofs.send_piece.Statement.{statement}
 use Rattle.flow.proofs.send_piece.Tie as tie

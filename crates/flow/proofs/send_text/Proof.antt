@@ -1,6 +1,6 @@
 -- `flow::send_text` meets its contract.
 use borrow.Author.Needs.{needs}
-use mathlib.Core.Path.{_≡_, refl, sym, ap, _∙_}
+use mathlib.Core.Path.{refl}
 use native.Mathlib.Omega.{arith}
 use Rattle.paragraphs.proofs.Breaking.{split-many, split-few}
 use Rattle.flow.proofs.Course.{fair-of, text-sent}

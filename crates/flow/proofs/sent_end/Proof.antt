@@ -1,6 +1,6 @@
 -- `flow::sent_end` meets its contract.
 use borrow.Author.Needs.{needs}
-use mathlib.Core.Path.{_≡_, refl, sym, ap, _∙_}
+use mathlib.Core.Path.{sym, ap, _∙_}
 use native.Mathlib.Omega.{arith}
 use Rattle.unflow.specs.Flowed.{isDashes}
 use Rattle.flow.proofs.Plain.{part-is, dashes-stay, others-trimmed}

@@ -1,5 +1,4 @@
 -- `flow::setting_of` meets its contract.
-use borrow.Author.Needs.{needs}
 use Rattle.options.specs.Opts.{meant}
 use Rattle.paragraphs.specs.Breaks.{settingOf}
 use Rattle.flow.proofs.setting_of.Statement.{statement}

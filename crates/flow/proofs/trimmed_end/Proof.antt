@@ -1,6 +1,6 @@
 -- `flow::trimmed_end` meets its contract. Invariant: what is trimmed up to the end so far is what is trimmed of all.
 use borrow.Author.Needs.{needs}
-use mathlib.Core.Path.{_≡_, refl, sym, ap, _∙_}
+use mathlib.Core.Path.{_≡_, refl, sym, _∙_}
 use Prim.Native.Nat.{_≤_, _-_}
 use native.Mathlib.Omega.{arith}
 use denote.Ref.{now}

@@ -1,7 +1,7 @@
 -- What the functions of the writer answer for: how a line begins, a paragraph, the pieces from a place of the notes on, and the answer in code.
 use mathlib.Core.Path.{_≡_}
 use mathlib.Core.Bool.{Bool, true, false, cond, _&&_, _||_}
-use mathlib.Core.List.{List, _∷_, _++_}
+use mathlib.Core.List.{List, _++_}
 use Prim.Native.Nat.{ℕ, _+_, _*_, _^_, _≤_, _<_}
 use lib.Dec.{leb}
 use lib.ListN.{length, drop, replicate}
@@ -30,12 +30,11 @@ use Rattle.paragraphs.specs.Contracts.Steps.{settingFor, wordsFor}
 use Rattle.walk.specs.Digest.{tooMany, longParagraph}
 use Rattle.walk.specs.Contracts.Course.{Admitted, piecesFrom, longFrom, FirstPiece}
 use Rattle.formatter.specs.Answers.{Answer, outputAfter}
-use Rattle.formatter.specs.declared.Reply.{Reply}
 use Rattle.formatter.specs.Contracts.Call.{told, replyNumber}
 use Rattle.unflow.specs.Flowed.{stuffing}
 use Rattle.flow.specs.Flow.{isDashed, sent, sentLines, flowed, pieceDashes, dashesIn}
 use Rattle.flow.specs.Answers.{isGiven, unfit, sentWords}
-use Rattle.flow.specs.Contracts.Words.{spaceIf, nextSent, nextDashed, restSent, restDashes, wordsSent, wordsDashes, mostSent}
+use Rattle.flow.specs.Contracts.Words.{spaceIf, nextSent, nextDashed, restSent, restDashes, wordsSent, wordsDashes}
 use Rattle.flow.specs.declared.Outcome.{Outcome}
 use Rattle.flow.specs.declared.Cursor.{Cursor}
 use Rattle.flow.specs.declared.Step.{Step}

@@ -1,7 +1,8 @@
 -- `judge::check` meets its contract.
 use mathlib.Core.Path.{sym, _∙_}
 use borrow.Author.Needs.{needs}
-use Rattle.judge.proofs.Answers.{passed, refused, checking-left, refused-answer}
+use Rattle.formatter.proofs.Refusals.{passed, refused}
+use Rattle.judge.proofs.Answers.{checking-left, refused-answer}
 use Rattle.judge.proofs.check.Statement.{statement}
 use Rattle.judge.proofs.check.Tie as tie
 

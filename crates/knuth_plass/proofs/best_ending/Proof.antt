@@ -1,5 +1,4 @@
 -- `knuth_plass::best_ending` meets its contract. The least break's path says which of the two words has the break.
-use Rattle.knuth_plass.specs.Contracts.Table.{tables}
 use Rattle.knuth_plass.proofs.Whole.{listed, last-room, leads}
 use Rattle.knuth_plass.proofs.Asked.{ends-before}
 use borrow.Author.Needs.{needs}

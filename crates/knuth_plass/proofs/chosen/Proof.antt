@@ -1,10 +1,9 @@
 -- `knuth_plass::chosen` meets its contract. Invariant: what is found from here on is what is found in all.
-use mathlib.Core.Path.{_≡_, refl, sym, ap, _∙_}
+use mathlib.Core.Path.{_≡_, refl, sym, _∙_}
 use Prim.Native.Nat.{_≤_, _-_}
 use native.Mathlib.Omega.{arith}
 use borrow.Author.Needs.{needs}
 use Rattle.knuth_plass.specs.Contracts.Table.{tables}
-use Rattle.knuth_plass.specs.Contracts.Makers.{found}
 use Rattle.knuth_plass.proofs.Table.{has-room}
 use Rattle.knuth_plass.proofs.Makers.{chosenFrom, chosen-step, chosen-end}
 use Rattle.knuth_plass.proofs.chosen.Statement.{statement}

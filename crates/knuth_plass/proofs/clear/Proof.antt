@@ -5,7 +5,6 @@ use Prim.Native.Nat.{ℕ, _≤_, _<_, _-_}
 use native.Mathlib.Omega.{arith}
 use lib.ListN.{length, getD, length-set}
 use Rattle.knuth_plass.proofs.Marks.{cleared, beyond-set}
-use borrow.Author.Needs.{needs}
 use Rattle.knuth_plass.proofs.clear.Statement.{statement}
 use Rattle.knuth_plass.proofs.clear.Tie as tie
 

@@ -1,6 +1,5 @@
 -- `knuth_plass::forced` meets its contract.
-use mathlib.Core.Path.{refl, sym, ap, _∙_}
-use native.Mathlib.Omega.{arith}
+use mathlib.Core.Path.{sym, ap, _∙_}
 use Rattle.knuth_plass.specs.Contracts.Round.{lessened}
 use Rattle.knuth_plass.specs.Contracts.Table.{tables}
 use Rattle.knuth_plass.proofs.Table.{has-room}

@@ -9,7 +9,6 @@ use Rattle.knuth_plass.specs.Contracts.Table.{tables, breakMeant}
 use Rattle.knuth_plass.specs.Contracts.Round.{breaksListed}
 use Rattle.knuth_plass.proofs.Table.{has-room}
 use Rattle.knuth_plass.proofs.Lowest.{active-below, least-begins, least-goes, least-found}
-use borrow.Author.Needs.{needs}
 use Rattle.knuth_plass.proofs.least.Statement.{statement}
 use Rattle.knuth_plass.proofs.least.Tie as tie
 

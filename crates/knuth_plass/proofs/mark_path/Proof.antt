@@ -8,7 +8,6 @@ use Rattle.knuth_plass.specs.KnuthPlass.{startsLine}
 use Rattle.knuth_plass.specs.Contracts.Table.{tables, pathTo}
 use Rattle.knuth_plass.proofs.Table.{has-room}
 use Rattle.knuth_plass.proofs.Marks.{step-back, at-start}
-use borrow.Author.Needs.{needs}
 use Rattle.knuth_plass.proofs.mark_path.Statement.{statement}
 use Rattle.knuth_plass.proofs.mark_path.Tie as tie
 

@@ -14,7 +14,6 @@ use Rattle.knuth_plass.specs.Contracts.Table.{tables}
 use Rattle.knuth_plass.specs.Contracts.Round.{RoundReady, standing, begin}
 use Rattle.knuth_plass.proofs.Table.{has-room}
 use Rattle.knuth_plass.proofs.Paragraph.{ready-first, begins, rounds-next, rounds-are}
-use borrow.Author.Needs.{needs}
 use Rattle.knuth_plass.proofs.rounds.Statement.{statement}
 use Rattle.knuth_plass.proofs.rounds.Tie as tie
 

@@ -1,5 +1,5 @@
 -- `knuth_plass::stands_before` meets its contract. Invariant: the path from here says what the whole path says.
-use mathlib.Core.Path.{_≡_, refl, sym, _∙_}
+use mathlib.Core.Path.{_≡_, refl, _∙_}
 use Prim.Native.Nat.{_≤_, _<_}
 use native.Mathlib.Omega.{arith}
 use Rattle.knuth_plass.specs.Contracts.Table.{tables, pathTo}

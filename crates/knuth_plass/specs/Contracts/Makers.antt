@@ -1,20 +1,19 @@
 -- What is kept of a round to tell what made its break.
-use mathlib.Core.Bool.{Bool, true, false, cond, _&&_}
-use mathlib.Core.List.{List, [], _∷_, map}
+use mathlib.Core.Bool.{Bool, false, cond, _&&_}
+use mathlib.Core.List.{List, [], _∷_}
 use mathlib.Core.Path.{_≡_}
-use Prim.Native.Nat.{ℕ, suc, _+_, _-_, _*_, _≤_, _<_}
+use Prim.Native.Nat.{ℕ, _+_, _-_, _*_, _≤_, _<_}
 use lib.Dec.{T, leb, eqb}
 use lib.Ieee.{Float}
-use lib.ListN.{length, getD, drop}
+use lib.ListN.{length, getD}
 use Rattle.records.specs.Word.{Word, meaning}
-use Rattle.records.specs.Contracts.Table.{wordIn, wordsIn}
+use Rattle.records.specs.Contracts.Table.{wordsIn}
 use Rattle.records.specs.declared.Word.{Word as WordRecord}
 use Rattle.spacing.specs.declared.Setting.{Setting}
 use Rattle.demerits.specs.Demerits.{ratio, lineTerm, ratioTerm, costWith}
 use Rattle.demerits.specs.Contracts.Bounds.{within, mostWord, mostCost}
 use Rattle.endings.specs.declared.Ending.{Ending}
 use Rattle.endings.specs.declared.Ending.the-variants.{Paragraph, Chosen}
-use Rattle.endings.specs.Endings.{ended}
 use Rattle.knuth_plass.specs.declared.Break.{Break as Record}
 use Rattle.knuth_plass.specs.declared.State.{State}
 use Rattle.knuth_plass.specs.declared.Standing.{Standing}
@@ -23,10 +22,10 @@ use Rattle.knuth_plass.specs.declared.Tried.{Tried}
 use Rattle.knuth_plass.specs.declared.Tried.the-variants.{Other, Here}
 use Rattle.knuth_plass.specs.declared.Told.{Told}
 use Rattle.knuth_plass.specs.declared.AllTold.{AllTold}
-use Rattle.knuth_plass.specs.KnuthPlass.{Place, Break, Active, stretchOf, minimumOf, staying, bestOffer, least, restart, startsLine, pathOf}
-use Rattle.knuth_plass.specs.BestLines.{makerOf, maker, forced, makersOf, nextAt, startOf}
+use Rattle.knuth_plass.specs.KnuthPlass.{Place, Break, stretchOf, minimumOf, staying, bestOffer, restart, pathOf}
+use Rattle.knuth_plass.specs.BestLines.{makerOf, maker, forced, makersOf, startOf}
 use Rattle.knuth_plass.specs.Contracts.Table.{Tables, Sized, breakIn, seen, Sound}
-use Rattle.knuth_plass.specs.Contracts.Round.{RoundIs, RoundsAre, Done, standing, Listed}
+use Rattle.knuth_plass.specs.Contracts.Round.{RoundIs, RoundsAre, Done, standing}
 
 -- ---- an offer with the word on the line
 

@@ -1,5 +1,5 @@
 -- `lines::begins` meets its contract. Invariant: what is left of p begins what is left of s if and only if p begins s.
-use mathlib.Core.Path.{_≡_, refl, sym, _∙_}
+use mathlib.Core.Path.{_≡_, sym, _∙_}
 use Prim.Native.Nat.{_-_, _≤_}
 use native.Mathlib.Omega.{arith}
 use lib.ListN.{length, drop}

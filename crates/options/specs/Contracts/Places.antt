@@ -1,6 +1,6 @@
 -- What the code's small functions answer: a field is a place of the block, with the tag of the field before it; a number within
 -- bounds, and a prefix, as values of a field.
-use mathlib.Core.Bool.{Bool, false, _&&_}
+use mathlib.Core.Bool.{Bool, _&&_}
 use mathlib.Core.List.{List}
 use Prim.Native.Nat.{ℕ}
 use lib.Dec.{leb, eqb}

@@ -28,11 +28,11 @@ add-loop c = omega arith
 add-second : tie.Need-add-second Inv-loop μ-loop
 add-second c = omega arith
 
-copy-sixteen-requires : tie.Need-copy-sixteen-requires Inv-loop μ-loop
-copy-sixteen-requires c κs = (omega arith, omega (arith, c .before .before .before .before .before .pre .1, wrote-length (c .before .before .loop .inv .1)))
+copy-two-requires : tie.Need-copy-two-requires Inv-loop μ-loop
+copy-two-requires c κs = (omega arith, omega (arith, c .before .before .before .before .before .pre .1, wrote-length (c .before .before .loop .inv .1)))
 
-copy-sixteen-requires-2 : tie.Need-copy-sixteen-requires-2 Inv-loop μ-loop
-copy-sixteen-requires-2 c κs = (omega arith, omega (arith, c .before .before .before .before .before .before .before .before .before .pre .1, wrote-length (c .before .before .before .before .before .before .loop .inv .1), wrote-length (c .before .before .before .copy-sixteen .ensures)))
+copy-two-requires-2 : tie.Need-copy-two-requires-2 Inv-loop μ-loop
+copy-two-requires-2 c κs = (omega arith, omega (arith, c .before .before .before .before .before .before .before .before .before .pre .1, wrote-length (c .before .before .before .before .before .before .loop .inv .1), wrote-length (c .before .before .before .copy-two .ensures)))
 
 add-k : tie.Need-add-k Inv-loop μ-loop
 add-k c = omega arith
@@ -44,33 +44,62 @@ loop-again : tie.Need-loop-again Inv-loop μ-loop
 loop-again c =
     let t = now (c .before .before .before .before .before .before .before .before .before .before .before .before .args .text) in
     let l = c .before .before .before .before .before .before .before .before .before .loop in
-    let first = covered t (l .k) (l .k) 16 (omega arith) (omega arith) (omega arith) (l .inv .1) (c .before .before .before .before .before .before .copy-sixteen .ensures) in
-    (omega arith, covered t (l .k + 16) (l .k + 16) 16 (omega arith) (omega arith) (omega arith) first (c .before .before .copy-sixteen2 .ensures))
+    let first = covered t (l .k) (l .k) 32 (omega arith) (omega arith) (omega arith) (l .inv .1) (c .before .before .before .before .before .before .copy-two .ensures) in
+    (omega arith, covered t (l .k + 32) (l .k + 32) 32 (omega arith) (omega arith) (omega arith) first (c .before .before .copy-two2 .ensures))
 
 lesser-requires : tie.Need-lesser-requires Inv-loop μ-loop
 lesser-requires c κs = search needs
 
+copy-sixteen-requires : tie.Need-copy-sixteen-requires Inv-loop μ-loop
+copy-sixteen-requires c κs = let h = c .before .before .before .before .before .before .pre in (omega (arith, h .0), omega (arith, h .0, h .1, wrote-length (c .before .before .before .loop .inv .1)))
+
+add-lesser : tie.Need-add-lesser Inv-loop μ-loop
+add-lesser c = omega (arith, c .before .before .before .before .before .before .loop .inv .0)
+
+lesser-requires-2 : tie.Need-lesser-requires-2 Inv-loop μ-loop
+lesser-requires-2 c κs = search needs
+
+copy-sixteen-requires-2 : tie.Need-copy-sixteen-requires-2 Inv-loop μ-loop
+copy-sixteen-requires-2 c κs =
+    let h = c .before .before .before .before .before .before .before .before .before .before .before .pre in
+    (omega (arith, h .0), omega (arith, h .0, h .1, wrote-length (c .before .before .before .before .before .before .before .before .loop .inv .1), wrote-length (c .before .before .before .before .copy-sixteen .ensures)))
+
+add-lesser-2 : tie.Need-add-lesser-2 Inv-loop μ-loop
+add-lesser-2 c = omega (arith, c .before .before .before .before .before .before .before .before .before .before .before .loop .inv .0)
+
+lesser-requires-3 : tie.Need-lesser-requires-3 Inv-loop μ-loop
+lesser-requires-3 c κs = search needs
+
 copy-sixteen-requires-3 : tie.Need-copy-sixteen-requires-3 Inv-loop μ-loop
-copy-sixteen-requires-3 c κs = (omega (arith, c .before .before .before .before .before .before .pre .0), omega (arith, c .before .before .before .before .before .before .pre .0, c .before .before .before .before .before .before .pre .1, wrote-length (c .before .before .before .loop .inv .1)))
+copy-sixteen-requires-3 c κs =
+    let h = c .before .before .before .before .before .before .before .before .before .before .before .before .before .before .before .before .pre in
+    (omega (arith, h .0), omega (arith, h .0, h .1, wrote-length (c .before .before .before .before .before .before .before .before .before .before .before .before .before .loop .inv .1), wrote-length (c .before .before .before .before .before .before .before .before .before .copy-sixteen .ensures), wrote-length (c .before .before .before .before .copy-sixteen2 .ensures)))
 
 copy-sixteen-requires-4 : tie.Need-copy-sixteen-requires-4 Inv-loop μ-loop
 copy-sixteen-requires-4 c κs =
-    (omega (arith, c .before .before .before .before .before .before .before .before .before .before .pre .0), omega (arith, c .before .before .before .before .before .before .before .before .before .before .pre .0, c .before .before .before .before .before .before .before .before .before .before .pre .1, wrote-length (c .before .before .before .before .before .before .before .loop .inv .1), wrote-length (c .before .before .before .copy-sixteen3 .ensures)))
+    let h = c .before .before .before .before .before .before .before .before .before .before .before .before .before .before .before .before .before .before .before .before .pre in
+    (omega (arith, h .0), omega (arith, h .0, h .1, wrote-length (c .before .before .before .before .before .before .before .before .before .before .before .before .before .before .before .before .before .loop .inv .1), wrote-length (c .before .before .before .before .before .before .before .before .before .before .before .before .before .copy-sixteen .ensures), wrote-length (c .before .before .before .before .before .before .before .before .copy-sixteen2 .ensures), wrote-length (c .before .before .before .copy-sixteen3 .ensures)))
 
 same-length : tie.Need-same-length Inv-loop μ-loop
-same-length c = omega (arith, wrote-length (c .before .before .before .before .before .before .before .before .before .before .loop .inv .1), wrote-length (c .before .before .before .before .before .before .copy-sixteen3 .ensures), wrote-length (c .before .before .copy-sixteen4 .ensures))
+same-length c =
+    omega (arith, wrote-length (c .before .before .before .before .before .before .before .before .before .before .before .before .before .before .before .before .before .before .before .before .loop .inv .1), wrote-length (c .before .before .before .before .before .before .before .before .before .before .before .before .before .before .before .before .copy-sixteen .ensures), wrote-length (c .before .before .before .before .before .before .before .before .before .before .before .copy-sixteen2 .ensures), wrote-length (c .before .before .before .before .before .before .copy-sixteen3 .ensures), wrote-length (c .before .before .copy-sixteen4 .ensures))
 
+-- four blocks, each from where the text is written already, or before
 returns : tie.Need-returns Inv-loop μ-loop
 returns c =
-    let s = c .before .before .before .before .before .before .before .before .before .before .before .before .before in
+    let s = c .before .before .before .before .before .before .before .before .before .before .before .before .before .before .before .before .before .before .before .before .before .before .before in
     let t = now (s .args .text) in
-    let l = c .before .before .before .before .before .before .before .before .before .before .loop in
-    let r = c .before .before .before .before .before .before .before .before .lesser in
+    let l = c .before .before .before .before .before .before .before .before .before .before .before .before .before .before .before .before .before .before .before .before .loop in
+    let left = c .before .before .before .before .before .before .before .before .before .before .before .before .before .before .before .before .before .before .before .loop-test .left in
     let h = s .pre .0 in
+    let a = c .before .before .before .before .before .before .before .before .before .before .before .before .before .before .before .before .before .before .lesser in
+    let b = c .before .before .before .before .before .before .before .before .before .before .before .before .before .lesser2 in
+    let d = c .before .before .before .before .before .before .before .before .lesser3 in
+    let one = covered t (a .result) (l .k) 16 (omega (arith, a .ensures)) (omega (arith, a .ensures)) (omega (arith, a .ensures)) (l .inv .1) (c .before .before .before .before .before .before .before .before .before .before .before .before .before .before .before .before .copy-sixteen .ensures) in
+    let two = covered t (b .result) (a .result + 16) 16 (omega (arith, a .ensures, b .ensures)) (omega (arith, a .ensures, b .ensures)) (omega (arith, b .ensures)) one (c .before .before .before .before .before .before .before .before .before .before .before .copy-sixteen2 .ensures) in
+    let three = covered t (d .result) (b .result + 16) 16 (omega (arith, b .ensures, d .ensures)) (omega (arith, b .ensures, d .ensures)) (omega (arith, d .ensures)) two (c .before .before .before .before .before .before .copy-sixteen3 .ensures) in
     copied-all t (length t - 16 + 16) (omega arith) (omega arith)
-    (covered t (length t - 16) (r .result + 16) 16 (omega arith) (omega arith) (omega arith)
-    (covered t (r .result) (l .k) 16 (omega arith) (omega arith) (omega arith) (l .inv .1) (c .before .before .before .before .before .before .copy-sixteen3 .ensures))
-    (c .before .before .copy-sixteen4 .ensures))
+    (covered t (length t - 16) (d .result + 16) 16 (omega (arith, d .ensures, left)) (omega (arith, d .ensures)) (omega arith) three (c .before .before .copy-sixteen4 .ensures))
 
 pub copy-long-spec : {M : Type 1} → statement M
 copy-long-spec =
@@ -82,12 +111,18 @@ copy-long-spec =
     loop-holds
     add-loop
     add-second
-    copy-sixteen-requires
-    copy-sixteen-requires-2
+    copy-two-requires
+    copy-two-requires-2
     add-k
     loop-less
     loop-again
     lesser-requires
+    copy-sixteen-requires
+    add-lesser
+    lesser-requires-2
+    copy-sixteen-requires-2
+    add-lesser-2
+    lesser-requires-3
     copy-sixteen-requires-3
     copy-sixteen-requires-4
     same-length

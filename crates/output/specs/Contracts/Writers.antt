@@ -2,7 +2,6 @@
 use mathlib.Core.Bool.{Bool, true, false}
 use mathlib.Core.List.{List, [], _∷_, _++_}
 use Prim.Native.Nat.{ℕ, _≤_, _<_, _^_}
-use mathlib.Core.Path.{_≡_}
 use lib.ListN.{length, drop, replicate}
 use lib.Seq.{slice}
 use Rattle.pieces.specs.declared.Margin.{Margin}
@@ -10,12 +9,16 @@ use Rattle.records.specs.Word.{Word}
 use Rattle.records.specs.Contracts.Table.{Holds, wordsIn, AllWithin}
 use Rattle.records.specs.Contracts.Marks.{breaksIn}
 use Rattle.output.specs.declared.Four.{Four}
+use Rattle.output.specs.declared.Sixteen.{Sixteen}
 use Rattle.output.specs.declared.Layout.{Layout}
 use Rattle.output.specs.Emission.{lineFeed, emitRest, emit}
 
 -- four bytes, in order
 abbrev pub fourOf : Four → List ℕ
 fourOf f = f .b0 ∷ f .b1 ∷ f .b2 ∷ f .b3 ∷ []
+
+abbrev pub sixteenOf : Sixteen → List ℕ
+sixteenOf s = fourOf (s .a) ++ (fourOf (s .b) ++ (fourOf (s .c) ++ fourOf (s .d)))
 
 -- an indent: bytes of the notes, then spaces
 abbrev pub marginOf : List ℕ → Margin → List ℕ

@@ -4,9 +4,9 @@ use mathlib.Core.Path.{sym, ap, _∙_}
 use Prim.Native.Nat.{_-_}
 use native.Mathlib.Omega.{arith}
 use lib.ListN.{length, length-replicate}
-use Rattle.lines.proofs.Lines.{LineHere}
+use Rattle.lines.proofs.Lines.{LineHere, line-lent}
 use Rattle.panel.specs.Panel.{blank}
-use Rattle.panel.proofs.Panels.{Showing, showing-first, showing-last, line-at, row-fits, row-blank, showing-next}
+use Rattle.panel.proofs.Panels.{Showing, showing-first, showing-last, row-fits, row-blank, showing-next}
 use Rattle.panel.proofs.draw_newest.Statement.{statement}
 use Rattle.panel.proofs.draw_newest.Tie as tie
 
@@ -19,7 +19,7 @@ abbrev μ-loop : tie.MeasureT-loop
 -- the line that a turn draws
 here : (c : tie.After-first-line Inv-loop μ-loop)
     → LineHere (c .before .before .before .before .before .before .before .before .args .digest .now) (c .before .before .before .loop .at) (c .first-line .result)
-here c = line-at _ _ _ (c .before .before .loop-test .taken) (c .first-line .ensures)
+here c = line-lent _ _ _ (c .before .before .loop-test .taken) (c .first-line .ensures)
 
 newest-lines-requires : tie.Need-newest-lines-requires Inv-loop μ-loop
 newest-lines-requires c κs = search needs

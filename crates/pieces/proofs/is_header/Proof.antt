@@ -1,5 +1,5 @@
 -- `pieces::is_header` meets its contract: each return by the law of the tests that led there.
-use mathlib.Core.Path.{_≡_, sym, _∙_}
+use mathlib.Core.Path.{sym, _∙_}
 use Rattle.pieces.specs.Pieces.{fromWord}
 use Rattle.pieces.proofs.Headers.{header-from, header-first, header-all, header-colon}
 use borrow.Author.Needs.{needs}

@@ -1,6 +1,6 @@
 -- `pieces::passes` meets its contract, rule by rule.
 use Rattle.pieces.proofs.Shapes.{mail-not, mail-bare, mail-prefix, like-is}
-use mathlib.Core.Path.{_≡_, ap, _∙_}
+use mathlib.Core.Path.{_∙_}
 use borrow.Author.Needs.{needs}
 use Rattle.pieces.proofs.passes.Statement.{statement}
 use Rattle.pieces.proofs.passes.Tie as tie

@@ -1,5 +1,5 @@
 -- `pieces::second_line` meets its contract, line by line.
-use mathlib.Core.Path.{_≡_, sym, ap, _∙_}
+use mathlib.Core.Path.{sym, _∙_}
 use Rattle.options.specs.Opts.{meant}
 use Rattle.pieces.proofs.Headers.{not-not}
 use Rattle.pieces.proofs.Following.{other-keys}

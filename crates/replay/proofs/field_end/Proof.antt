@@ -1,5 +1,5 @@
 -- `replay::field_end` meets its contract.
-use Prim.Native.Nat.{_-_, _≤_, _*_}
+use Prim.Native.Nat.{_-_, _≤_}
 use lib.ListN.{length}
 use borrow.Author.Needs.{needs}
 use Rattle.replay.proofs.field_end.Statement.{statement}

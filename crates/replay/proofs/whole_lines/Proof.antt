@@ -1,7 +1,5 @@
 -- `replay::whole_lines` reads inside the text.
-use mathlib.Core.Path.{_≡_}
-use Prim.Native.Nat.{_-_, _≤_}
-use lib.ListN.{length}
+use Prim.Native.Nat.{_≤_}
 use borrow.Author.Needs.{needs}
 use Rattle.replay.proofs.whole_lines.Statement.{statement}
 use Rattle.replay.proofs.whole_lines.Tie as tie

@@ -1,7 +1,7 @@
 -- `salvage::restore` meets its contract.
 use borrow.Author.Needs.{needs}
 use denote.Ref.{now}
-use Prim.Native.Nat.{_≤_, _-_}
+use Prim.Native.Nat.{_≤_}
 use native.Mathlib.Omega.{arith}
 use lib.ListN.{length}
 use Rattle.salvage.specs.Restoring.{listed, belonging}

@@ -1,7 +1,7 @@
 -- `text::first_damage` meets its contract: none of a text of bytes below 0x80, none of one that is joined, and else the one that is found.
 use borrow.Author.Needs.{needs}
 use denote.Ref.{now}
-use mathlib.Core.Path.{_≡_, sym, _∙_}
+use mathlib.Core.Path.{sym, _∙_}
 use Prim.Native.Nat.{_≤_}
 use native.Mathlib.Omega.{arith}
 use lib.ListN.{length}

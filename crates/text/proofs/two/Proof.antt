@@ -1,14 +1,11 @@
 -- `text::two` meets its contract: each of its tests is one that a character of two octets passes.
 use borrow.Author.Needs.{needs}
 use denote.Ref.{now}
-use mathlib.Core.Path.{_≡_, refl, sym}
-use Prim.Native.Nat.{ℕ, _+_}
+use mathlib.Core.Path.{_≡_, refl}
+use Prim.Native.Nat.{_+_}
 use native.Mathlib.Omega.{arith}
-use lib.ListN.{drop, getD}
-use Rattle.text.specs.Rfc3629.{decode}
-use Rattle.text.specs.Contracts.Places.{readAs}
-use Rattle.text.specs.declared.Char.the-variants.{Damaged}
-use Rattle.text.proofs.Forms.{Two, cut, no-two-at, is-two-at}
+use lib.ListN.{getD}
+use Rattle.text.proofs.Forms.{cut, no-two-at, is-two-at}
 use Rattle.text.proofs.two.Statement.{statement}
 use Rattle.text.proofs.two.Tie as tie
 

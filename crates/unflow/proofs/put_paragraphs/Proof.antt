@@ -3,10 +3,10 @@ use borrow.Author.Needs.{needs}
 use Prim.Native.Nat.{_-_}
 use native.Mathlib.Omega.{arith}
 use lib.ListN.{length}
-use Rattle.lines.proofs.Lines.{LineHere}
+use Rattle.lines.proofs.Lines.{LineHere, line-lent}
 use Rattle.output.proofs.Sink.{wrote-part, wrote-length}
 use mathlib.Core.Path.{_∙_}
-use Rattle.unflow.proofs.Texts.{line-at, lent-short, placed-most, Turning, turning-first, turning-length, turning-line, turning-last}
+use Rattle.unflow.proofs.Texts.{lent-short, placed-most, Turning, turning-first, turning-length, turning-line, turning-last}
 use Rattle.unflow.proofs.Puts.{wrote-end}
 use Rattle.unflow.proofs.put_paragraphs.Statement.{statement}
 use Rattle.unflow.proofs.put_paragraphs.Tie as tie
@@ -19,7 +19,7 @@ abbrev μ-loop : tie.MeasureT-loop
 
 -- the line that a turn takes
 here : (c : tie.After-first-line Inv-loop μ-loop) → LineHere (c .before .before .before .before .before .before .args .text .now) (c .before .before .before .loop .at) (c .first-line .result)
-here c = line-at _ _ _ (c .before .before .loop-test .taken) (c .first-line .ensures)
+here c = line-lent _ _ _ (c .before .before .loop-test .taken) (c .first-line .ensures)
 
 loop-holds : tie.Need-loop-holds Inv-loop μ-loop
 loop-holds c = turning-first _ _

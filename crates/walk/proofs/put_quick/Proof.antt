@@ -32,8 +32,8 @@ enum-known-needed c = search needs
 enum-known-d : tie.Need-enum-known-d
 enum-known-d c = search needs
 
-put-quick-more-requires : tie.Need-put-quick-more-requires
-put-quick-more-requires c κs = let t = course-short _ _ _ _ _ _ _ _ (c .before .before .before .before .before .before .before .before .before .before .before .put-texts .result) (c .before .before .before .before .before .before .before .before .before .before .before .put-texts .ensures) (c .before .before .d .given .1) in (c .before .before .before .before .before .before .before .before .before .before .before .before .before .before .before .before .before .before .before .before .before .pre .0, t .0 .stands, t .1, c .before .before .before .before .before .before .before .before .before .before .before .before .before .before .before .before .before .before .before .before .before .pre .3)
+put-quick-longer-requires : tie.Need-put-quick-longer-requires
+put-quick-longer-requires c κs = let t = course-short _ _ _ _ _ _ _ _ (c .before .before .before .before .before .before .before .before .before .before .before .put-texts .result) (c .before .before .before .before .before .before .before .before .before .before .before .put-texts .ensures) (c .before .before .d .given .1) in (c .before .before .before .before .before .before .before .before .before .before .before .before .before .before .before .before .before .before .before .before .before .pre .0, t .0 .stands, t .1, c .before .before .before .before .before .before .before .before .before .before .before .before .before .before .before .before .before .before .before .before .before .pre .3)
 
 same-length : tie.Need-same-length
 same-length c = wrote-length (course-end _ _ _ _ _ _ _ _ (c .before .before .before .before .before .before .before .before .before .before .put-texts .result) (c .before .before .before .before .before .before .before .before .before .before .put-texts .ensures) (c .before .needed .given .1) .1)
@@ -45,7 +45,7 @@ same-length-2 : tie.Need-same-length-2
 same-length-2 c = search needs
 
 returns-2 : tie.Need-returns-2
-returns-2 c = let t = course-short _ _ _ _ _ _ _ _ (c .before .before .before .before .before .before .before .before .before .before .before .before .before .before .put-texts .result) (c .before .before .before .before .before .before .before .before .before .before .before .before .before .before .put-texts .ensures) (c .before .before .before .before .before .d .given .1) in going-finished _ _ (t .0) _ (c .before .before .put-quick-more .result) (c .before .before .put-quick-more .ensures)
+returns-2 c = let t = course-short _ _ _ _ _ _ _ _ (c .before .before .before .before .before .before .before .before .before .before .before .before .before .before .put-texts .result) (c .before .before .before .before .before .before .before .before .before .before .before .before .before .before .put-texts .ensures) (c .before .before .before .before .before .d .given .1) in going-finished _ _ (t .0) _ (c .before .before .put-quick-longer .result) (c .before .before .put-quick-longer .ensures)
 
 pub put-quick-spec : {M : Type 1} → statement M
 put-quick-spec =
@@ -59,7 +59,7 @@ put-quick-spec =
     put-texts-requires
     enum-known-needed
     enum-known-d
-    put-quick-more-requires
+    put-quick-longer-requires
     same-length
     returns
     same-length-2

@@ -1,12 +1,17 @@
--- `walk::put_quick_more` meets its contract: what the tables reach, and what is left goes on from there.
+-- `walk::put_quick_more` meets its contract: what the tables reach, or nothing of a paragraph that they may not.
 use mathlib.Core.Path.{refl}
 use native.Mathlib.Omega.{arith}
 use borrow.Author.Needs.{needs}
-use Rattle.output.proofs.Sink.{wrote-length}
-use Rattle.walk.proofs.Loop.{course-end, course-short, going-finished}
+use Rattle.walk.proofs.Loop.{course-begun, going-first}
 use Rattle.paragraphs.proofs.Tables.{scratch-of}
 use Rattle.walk.proofs.put_quick_more.Statement.{statement}
 use Rattle.walk.proofs.put_quick_more.Tie as tie
+
+add-if1 : tie.Need-add-if1
+add-if1 c = let p = c .before .before .before .before .pre in omega (arith, p .0 .short, p .1 .within)
+
+returns : tie.Need-returns
+returns c = let p = c .before .before .before .before .before .before .pre in (going-first _ _ _ _ (p .1), p .2)
 
 slice-aggregate-put-texts : tie.Need-slice-aggregate-put-texts
 slice-aggregate-put-texts c = search needs
@@ -24,43 +29,25 @@ slice-aggregate-put-texts-5 : tie.Need-slice-aggregate-put-texts-5
 slice-aggregate-put-texts-5 c = search needs
 
 put-texts-requires : tie.Need-put-texts-requires
-put-texts-requires c κs = let p = c .before .before .before .before .before .before .before .before .before .pre in (p .0, p .1, p .2, scratch-of 512 1 refl refl refl refl refl (omega arith) (omega arith))
-
-enum-known-needed : tie.Need-enum-known-needed
-enum-known-needed c = search needs
-
-enum-known-d : tie.Need-enum-known-d
-enum-known-d c = search needs
-
-put-quick-long-requires : tie.Need-put-quick-long-requires
-put-quick-long-requires c κs = let t = course-short _ _ _ _ _ _ _ _ (c .before .before .before .before .before .before .before .before .before .before .before .put-texts .result) (c .before .before .before .before .before .before .before .before .before .before .before .put-texts .ensures) (c .before .before .d .given .1) in (c .before .before .before .before .before .before .before .before .before .before .before .before .before .before .before .before .before .before .before .before .before .pre .0, t .0 .stands, t .1, c .before .before .before .before .before .before .before .before .before .before .before .before .before .before .before .before .before .before .before .before .before .pre .3)
+put-texts-requires c κs = let p = c .before .before .before .before .before .before .before .before .before .before .before .before .pre in (p .0, p .1, p .2, scratch-of 512 1 refl refl refl refl refl (omega arith) (omega arith))
 
 same-length : tie.Need-same-length
-same-length c = wrote-length (course-end _ _ _ _ _ _ _ _ (c .before .before .before .before .before .before .before .before .before .before .put-texts .result) (c .before .before .before .before .before .before .before .before .before .before .put-texts .ensures) (c .before .needed .given .1) .1)
-
-returns : tie.Need-returns
-returns c = course-end _ _ _ _ _ _ _ _ (c .before .before .before .before .before .before .before .before .before .before .put-texts .result) (c .before .before .before .before .before .before .before .before .before .before .put-texts .ensures) (c .before .needed .given .1)
-
-same-length-2 : tie.Need-same-length-2
-same-length-2 c = search needs
+same-length c = search needs
 
 returns-2 : tie.Need-returns-2
-returns-2 c = let t = course-short _ _ _ _ _ _ _ _ (c .before .before .before .before .before .before .before .before .before .before .before .before .before .before .put-texts .result) (c .before .before .before .before .before .before .before .before .before .before .before .before .before .before .put-texts .ensures) (c .before .before .before .before .before .d .given .1) in going-finished _ _ (t .0) _ (c .before .before .put-quick-long .result) (c .before .before .put-quick-long .ensures)
+returns-2 c = course-begun _ _ _ _ _ _ _ _ (c .before .before .before .before .before .before .before .put-texts .result) (c .before .before .before .before .before .before .before .put-texts .ensures)
 
 pub put-quick-more-spec : {M : Type 1} → statement M
 put-quick-more-spec =
     tie.close
     (tie.spec
+    add-if1
+    returns
     slice-aggregate-put-texts
     slice-aggregate-put-texts-2
     slice-aggregate-put-texts-3
     slice-aggregate-put-texts-4
     slice-aggregate-put-texts-5
     put-texts-requires
-    enum-known-needed
-    enum-known-d
-    put-quick-long-requires
     same-length
-    returns
-    same-length-2
     returns-2)

@@ -103,6 +103,11 @@ Coursed w b block o notes c₀ out₀ out (CourseEnd n) = FinishedFrom (meant bl
 Coursed w b block o notes c₀ out₀ out (Short c p) =
     Going (meant block o) notes c₀ out₀ c out × TextAhead block o notes c p × (cond (o .quick || p .mail) w b < length (wordsFor block notes (c .at) o p))
 
+-- the same, whatever the paragraph before which the work stopped
+abbrev pub Begun : List ℕ → Options → List ℕ → Cursor → List ℕ → List ℕ → Course → Type 0
+Begun block o notes c₀ out₀ out (CourseEnd n) = FinishedFrom (meant block o) notes c₀ out₀ out (All n)
+Begun block o notes c₀ out₀ out (Short c p) = Going (meant block o) notes c₀ out₀ c out × TextAhead block o notes c p
+
 -- the lines from a place on were written, up to a paragraph or to the end
 abbrev pub Reached : List ℕ → Options → List ℕ → Cursor → List ℕ → List ℕ → Ahead → Type 0
 Reached block o notes c₀ out₀ out (AheadText c p) = Going (meant block o) notes c₀ out₀ c out × TextAhead block o notes c p × (c₀ .at ≤ c .at)

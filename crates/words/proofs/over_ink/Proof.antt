@@ -10,7 +10,8 @@ use Rattle.widths.specs.WhiteSpace.{whiteSpace}
 use Rattle.text.proofs.Glyphs.{Here, char-here, char-damaged-here, ink-here, blank-here, damaged-here}
 use Rattle.text.proofs.Letters.{Letter, letter-is}
 use Rattle.text.proofs.Leads.{long-code}
-use Rattle.words.proofs.InkRuns.{narrow, InkLeft, ink-first, ink-more, ink-letter, ink-long, ink-long-stop, ink-damaged, ink-past, ink-stop, ink-glued, ends-there}
+use Rattle.lines.proofs.Measures.{narrow}
+use Rattle.words.proofs.InkRuns.{InkLeft, ink-first, ink-more, ink-letter, ink-long, ink-long-stop, ink-damaged, ink-past, ink-stop, ink-glued, ends-there}
 use Rattle.words.proofs.PlainRuns.{ink-plain}
 use Rattle.words.proofs.UsualBlanks.{ends-here, ends-word-here}
 use Rattle.widths.proofs.Inks.{ink-not-blank}

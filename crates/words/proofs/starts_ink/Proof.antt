@@ -1,9 +1,7 @@
 -- `words::starts_ink` meets its contract: it says so only where the bytes show it.
 use borrow.Author.Needs.{needs}
 use denote.Ref.{now}
-use mathlib.Core.Path.{_≡_}
-use mathlib.Core.Bool.{Bool, true, not, _&&_, false≢true, and-eq-true-iff}
-use Prim.Native.Nat.{ℕ, _<_}
+use mathlib.Core.Bool.{not, _&&_, false≢true, and-eq-true-iff}
 use native.Mathlib.Omega.{arith}
 use lib.Dec.{eqb}
 use lib.ListN.{getD}

@@ -1,7 +1,6 @@
 -- `rudignals::explaining::rudignals_explain` meets its contract.
 use borrow.Author.Needs.{needs}
 use mathlib.Core.Path.{ap, _∙_}
-use mathlib.Core.List.{List}
 use Rattle.explain.specs.declared.Explained.{Explained}
 use Rattle.explain.specs.Contracts.Seeking.{toldNumber, toldReason}
 use Rattle.explain.proofs.Values.{told-number, told-reason, told-fits}
