@@ -6,7 +6,9 @@ pub mod BlankRuns
 pub mod WordRuns
 pub mod Tabless
 pub mod NextWord
+pub mod LineEnds
 pub mod Filling
+pub mod SpacedWords
 pub mod Rows
 pub mod Gaps
 pub mod Spelled

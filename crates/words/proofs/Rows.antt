@@ -2,11 +2,10 @@
 use mathlib.Core.Path.{_≡_, refl, sym, ap, ap₂, _∙_}
 use mathlib.Core.Bool.{Bool, true, false, cond, not}
 use mathlib.Core.List.{List, [], _∷_, _++_}
-use Prim.Native.Nat.{ℕ, _+_, _-_, _≤_, _<_}
+use Prim.Native.Nat.{ℕ, _+_, _≤_, _<_}
 use native.Mathlib.Omega.{arith}
 use lib.ListN.{length, take, drop, length-append, length-take, length-drop}
 use lib.Seq.{slice, drop-drop, take-take, length-slice, length-take-le}
-use Rattle.lists.proofs.Fronts.{part-to-end}
 use Rattle.lists.proofs.Parts.{joined-append}
 use Rattle.lists.specs.Runs.{while, joined}
 use Rattle.text.specs.Characters.{Glyph, glyphs, isBlank, extent}
@@ -119,9 +118,7 @@ pub record LineAt (o : Opts) (mail : Bool) (skip later : ℕ) (notes : List ℕ)
   pub rest : mail ≡ false → AllBegin (o .glue) later later (linesOf (slice (i + e .whole) next notes))
 
 module _ (o : Opts) (mail : Bool) (skip later : ℕ) (notes : List ℕ) (next i : ℕ) (e : Extent) where
-  -- from the answer of first_line
-  pub line-at : i < next → next ≤ length notes → e ≡ lengthsOf (firstLine (take (length (take next notes) - i) (slice i next notes))) → (mail ≡ false → AllBegin (o .glue) skip later (linesOf (slice i next notes)))
-      → LineAt o mail skip later notes next i e
+  pub line-at : i < next → next ≤ length notes → e ≡ lengthsOf (firstLine (slice i next notes)) → (mail ≡ false → AllBegin (o .glue) skip later (linesOf (slice i next notes))) → LineAt o mail skip later notes next i e
   line-at more fits q begins = record {
     on = here .on;
     shorter = here .shorter;
@@ -142,7 +139,7 @@ module _ (o : Opts) (mail : Bool) (skip later : ℕ) (notes : List ℕ) (next i 
       sized = length-take-le next notes fits
 
       here : LineHere (take next notes) i e
-      here = line-here (take next notes) i e (omega (arith, sized)) (q ∙ ap (λ (l : List ℕ). lengthsOf (firstLine l)) (part-to-end i (take next notes)))
+      here = line-here (take next notes) i e (omega (arith, sized)) q
 
       line : Line
       line = firstLine (slice i next notes)

@@ -2,3 +2,4 @@
 pub mod Places
 pub mod Scan
 pub mod Split
+pub mod Spaced

@@ -1,10 +1,10 @@
 // Words: a paragraph's word records.
 ghost use mathlib.Core.Path.{_≡_};
-ghost use mathlib.Core.Bool.{Bool, true, false, cond, not, _&&_, _||_};
+ghost use mathlib.Core.Bool.{Bool, true, false, cond, _&&_, _||_};
 ghost use mathlib.Core.List.{List, [], _++_};
 ghost use Prim.Native.Nat.{ℕ, _+_, _-_, _*_, _^_, _≤_, _<_};
 ghost use lib.Dec.{ltb, eqb};
-ghost use lib.ListN.{length, getD, drop};
+ghost use lib.ListN.{length, getD, take, drop};
 ghost use lib.Seq.{slice};
 ghost use Rattle.lists.specs.Runs.{while};
 ghost use Rattle.text.specs.Characters.{characters, isBlank};
@@ -18,6 +18,7 @@ ghost use Rattle.words.specs.Places.{placesFrom};
 ghost use Rattle.words.specs.Contracts.Places.{wordsAt, placesAt};
 ghost use Rattle.words.specs.Contracts.Scan.{glyphsBehind, gapIn, gapBehind, noBlanks, OverBlanks, punctCode, gluedBytes, OverInk, asNumber, eightAt, Plain, OverPlain, InkBegins, OneSpace, wordAt, mailAt, wordsFrom, NextIs};
 ghost use Rattle.words.specs.Contracts.Split.{Kept, placesIn, WordsFilled, Split};
+ghost use Rattle.words.specs.Contracts.Spaced.{spaceBefore, plainInk, PlainWord, PlainBehind, EndsAt, SpacedTo};
 use options::Options;
 use records::Before;
 use records::Word;
@@ -41,6 +42,15 @@ struct Blanks {
 struct Ink {
     end: usize,
     width: usize,
+    punct: bool,
+}
+
+// Words one space apart: how many the table has with them, where they end, whether the first word of the line is still to come, and if not,
+// the mark of the last.
+struct Spaced {
+    count: usize,
+    at: usize,
+    first: bool,
     punct: bool,
 }
 
@@ -73,13 +83,27 @@ pub fn split_words(
     let mut n = 0;
     let mut skip = start;
     while i < next {
-        let line = lines::first_line(&part[i..]);
         let from = begin(mail, i, skip);
-        let Count::Words(m) = split_line(notes, from, i + line.text, mail, o, n, most, table) else {
+        // Behind these words little is left of most lines in which to look for the line's end.
+        let run = spaced_words(notes, from, next, mail, o, n, most, table);
+        let on = run.at;
+        let line = lines::first_line(&part[on..]);
+        let Count::Words(m) = split_line(
+            notes,
+            on,
+            on + line.text,
+            mail,
+            run.first,
+            run.punct,
+            o,
+            run.count,
+            most,
+            table,
+        ) else {
             return Count::TooMany;
         };
         n = m;
-        i += line.whole;
+        i = on + line.whole;
         skip = later;
     }
     Count::Words(n)
@@ -94,27 +118,157 @@ fn begin(mail: bool, line: usize, start: usize) -> usize
     if mail { line } else { line + start }
 }
 
-// The words of a line from start up to end, behind the first n of the table; or that there are too many. Unless it is mail, its first word
-// begins at start.
+// The words of plain characters at the start of a line's words, one space apart, behind the first n of the table: as many as there are, or
+// as it has room for. So the line's end need not be known: none of their bytes is a line feed, and each of them ends at a blank or there.
+// In mail there are none.
+// In the original: `WordSplit::next`.
+fn spaced_words(
+    notes: &[u8],
+    start: usize,
+    next: usize,
+    mail: bool,
+    o: Options,
+    n: usize,
+    most: usize,
+    table: &mut [u32],
+) -> Spaced
+    requires { ⌜ (start ≤ next) × (next ≤ length (now notes)) × (length (now notes) ≤ 65536) × (o .tab ≤ 100) × Kept most (length (now notes)) n (now table) ⌝ }
+    ensures { λ r. ⌜ Kept most (length (now (notes .entry))) (r .count) (now (table .exit)) × (start ≤ r .at) × (r .at ≤ next) × ((end : ℕ) → EndsAt (take next (now (notes .entry))) start end → SpacedTo (meant [] o) mail (now (notes .entry)) start end n (now (table .entry)) r (now (table .exit))) ⌝ }
+{
+    let s = &notes[..next];
+    let mut r = Spaced {
+        count: n,
+        at: start,
+        first: !mail,
+        punct: false,
+    };
+    if mail {
+        return r;
+    }
+    loop {
+        let at = r.at;
+        let end = plain_word(s, at, r.first);
+        if end == 0 {
+            return r;
+        }
+        if most <= r.count {
+            return r;
+        }
+        let b = space_before(at, r.first);
+        let w = word_of(
+            o.uniform,
+            o.characters,
+            r.first,
+            r.punct,
+            at,
+            b,
+            plain_ink(s, b.end, end),
+        );
+        records::store(table, r.count, w);
+        r = Spaced {
+            count: r.count + 1,
+            at: w.end,
+            first: false,
+            punct: w.punct,
+        };
+    }
+}
+
+// No blank stands before the first word of a line, and one space before another.
+fn space_before(at: usize, first: bool) -> Blanks
+    requires { ⌜ at ≤ 65536 ⌝ }
+    ensures { λ r. ⌜ r ≡ spaceBefore at first ⌝ }
+{
+    if first {
+        return Blanks {
+            end: at,
+            before: Before::Absent,
+            after: 0,
+        };
+    }
+    Blanks {
+        end: at + 1,
+        before: Before::Absent,
+        after: 1,
+    }
+}
+
+// The end of the plain word at a place, which is the first of its line or stands behind one space; 0 if there is none.
+fn plain_word(s: &[u8], at: usize, first: bool) -> usize
+    requires { ⌜ (at ≤ length (now s)) × (length (now s) ≤ 65536) ⌝ }
+    ensures { λ r. ⌜ (0 < r → PlainBehind (now (s .entry)) at first r) ⌝ }
+{
+    if first {
+        return plain_word_end(s, at);
+    }
+    if s.len() <= at {
+        return 0;
+    }
+    if s[at] != 32 {
+        return 0;
+    }
+    plain_word_end(s, at + 1)
+}
+
+// The end of the plain word that begins at a place: a space, a tab or a line feed stands there, or nothing. 0 if there is none, or if it goes
+// on with other characters.
+fn plain_word_end(s: &[u8], start: usize) -> usize
+    requires { ⌜ start ≤ length (now s) ⌝ }
+    ensures { λ r. ⌜ (0 < r → PlainWord (now (s .entry)) start r) ⌝ }
+{
+    let end = plain_end(s, start);
+    if end == start {
+        return 0;
+    }
+    if end == s.len() {
+        return end;
+    }
+    let b = s[end];
+    if ends_word(b) {
+        return end;
+    }
+    if b == 10 {
+        return end;
+    }
+    0
+}
+
+// The ink of a plain word: each of its characters takes one column.
+fn plain_ink(s: &[u8], start: usize, end: usize) -> Ink
+    requires { ⌜ PlainWord (now s) start end ⌝ }
+    ensures { λ r. ⌜ r ≡ plainInk (now (s .entry)) start end ⌝ }
+{
+    let last = end - 1;
+    Ink {
+        end,
+        width: end - start,
+        punct: is_punct(wide(s[last])),
+    }
+}
+
+// The words of a line from start up to end, behind the first n of the table; or that there are too many. If the first of its line is still to
+// come, it begins at start; if not, punct is the mark of the word before.
 // In the original: `ParaWords::create_words`.
 fn split_line(
     notes: &[u8],
     start: usize,
     end: usize,
     mail: bool,
+    head: bool,
+    punct: bool,
     o: Options,
     n: usize,
     most: usize,
     table: &mut [u32],
 ) -> Count
-    requires { ⌜ (start ≤ end) × (end ≤ length (now notes)) × (length (now notes) ≤ 65536) × (1 ≤ o .tab) × (o .tab ≤ 100) × Kept most (length (now notes)) n (now table) × (mail ≡ false → while isBlank (inkGlyphs (o .glue) (slice start end (now notes))) ≡ []) ⌝ }
-    ensures { λ r. ⌜ WordsFilled most (now (notes .entry)) (wordsIn (now (notes .entry)) n (now (table .entry)) ++ wordsFrom (meant [] o) mail (not mail) false (glyphsBehind (o .glue) (not mail) (slice start end (now (notes .entry))))) (placesIn n (now (table .entry)) ++ placesFrom start (runs (glyphsBehind (o .glue) (not mail) (slice start end (now (notes .entry)))))) (now (table .exit)) r ⌝ }
+    requires { ⌜ (start ≤ end) × (end ≤ length (now notes)) × (length (now notes) ≤ 65536) × (1 ≤ o .tab) × (o .tab ≤ 100) × Kept most (length (now notes)) n (now table) × (head ≡ true → while isBlank (inkGlyphs (o .glue) (slice start end (now notes))) ≡ []) ⌝ }
+    ensures { λ r. ⌜ WordsFilled most (now (notes .entry)) (wordsIn (now (notes .entry)) n (now (table .entry)) ++ wordsFrom (meant [] o) mail head punct (glyphsBehind (o .glue) head (slice start end (now (notes .entry))))) (placesIn n (now (table .entry)) ++ placesFrom start (runs (glyphsBehind (o .glue) head (slice start end (now (notes .entry)))))) (now (table .exit)) r ⌝ }
 {
     let s = &notes[..end];
     let mut count = n;
     let mut at = start;
-    let mut first = !mail;
-    let mut previous = false;
+    let mut first = head;
+    let mut previous = punct;
     loop {
         let Next::One(w) = next_word(s, at, mail, first, previous, o) else {
             return Count::Words(count);

@@ -1,6 +1,6 @@
 -- `words::split_line` meets its contract. Invariant: the words in the table, with those of what is left of the line, are all the words.
 use mathlib.Core.Path.{_≡_, refl, sym, ap, _∙_}
-use mathlib.Core.Bool.{Bool, true, false, not, false≢true}
+use mathlib.Core.Bool.{true, false≢true}
 use mathlib.Core.List.{[], _++_}
 use Prim.Native.Nat.{_-_, _≤_}
 use native.Mathlib.Omega.{arith}
@@ -24,28 +24,23 @@ use Rattle.words.proofs.split_line.Statement.{statement}
 use Rattle.words.proofs.split_line.Tie as tie
 
 abbrev Inv-loop : tie.InvT-loop
-Inv-loop notes start end mail o n most table₀ s count₀ at₀ first₀ previous₀ table count at first previous =
+Inv-loop notes start end mail head punct o n most table₀ s count₀ at₀ first₀ previous₀ table count at first previous =
     (at ≤ length s)
-    × Filling most notes (wordsIn notes n table₀ ++ wordsFrom (meant [] o) mail (not mail) false (glyphsBehind (meant [] o .glue) (not mail) (drop start s)))
+    × Filling most notes (wordsIn notes n table₀ ++ wordsFrom (meant [] o) mail head punct (glyphsBehind (meant [] o .glue) head (drop start s)))
     (wordsFrom (meant [] o) mail first previous (glyphsBehind (meant [] o .glue) first (drop at s)))
-    (placesIn n table₀ ++ placesFrom start (runs (glyphsBehind (meant [] o .glue) (not mail) (drop start s)))) (placesFrom at (runs (glyphsBehind (meant [] o .glue) first (drop at s)))) count table
+    (placesIn n table₀ ++ placesFrom start (runs (glyphsBehind (meant [] o .glue) head (drop start s)))) (placesFrom at (runs (glyphsBehind (meant [] o .glue) first (drop at s)))) count table
     × (length table ≡ length table₀)
     × (first ≡ true → while isBlank (inkGlyphs (o .glue) (drop at s)) ≡ [])
 
 abbrev μ-loop : tie.MeasureT-loop
-μ-loop notes start end mail o n most table₀ s count₀ at₀ first₀ previous₀ table count at first previous =
+μ-loop notes start end mail head punct o n most table₀ s count₀ at₀ first₀ previous₀ table count at first previous =
     length s - at
-
--- the first word of a line that is not mail
-not-mail : (mail : Bool) → not mail ≡ true → mail ≡ false
-not-mail true e = absurd (false≢true e)
-not-mail false e = refl
 
 slice-aggregate-s : tie.Need-slice-aggregate-s Inv-loop μ-loop
 slice-aggregate-s c = sym (length-take-le _ _ (c .before .before .before .pre .1))
 
 loop-holds : tie.Need-loop-holds Inv-loop μ-loop
-loop-holds c = (rw (length-take-le _ _ (c .before .before .before .pre .1)) (search needs), filling-first (c .before .before .before .pre .5), refl, λ e. c .before .before .before .pre .6 (not-mail _ e))
+loop-holds c = (rw (length-take-le _ _ (c .before .before .before .pre .1)) (search needs), filling-first (c .before .before .before .pre .5), refl, c .before .before .before .pre .6)
 
 next-word-requires : tie.Need-next-word-requires Inv-loop μ-loop
 next-word-requires c κs = let l = length-take (c .before .before .before .before .args .end) (now (c .before .before .before .before .args .notes)) in (c .loop .inv .0, omega arith, search needs, search needs, c .loop .inv .3)

@@ -1,23 +1,28 @@
 -- `words::split_words` meets its contract. Invariant: the words in the table, with those of the lines that are left, are all the words.
-use mathlib.Core.Path.{_≡_, refl, sym, _∙_}
+use mathlib.Core.Path.{_≡_, refl, sym, ap, _∙_}
 use mathlib.Core.Bool.{false, cond, not}
 use mathlib.Core.List.{List, [], _++_}
 use Prim.Native.Nat.{ℕ, _+_, _-_, _≤_}
 use native.Mathlib.Omega.{arith}
-use lib.ListN.{length}
+use lib.ListN.{length, take}
 use lib.Seq.{slice, length-take-le}
 use denote.Ref.{now}
 use borrow.Author.Needs.{needs}
 use Rattle.options.specs.Opts.{meant}
-use Rattle.lines.specs.Lines.{linesOf}
+use Rattle.lists.proofs.Fronts.{part-to-end}
+use Rattle.lines.specs.Lines.{firstLine, linesOf}
+use Rattle.lines.specs.Contracts.Places.{lengthsOf}
 use Rattle.pieces.specs.Contracts.Bounds.{AllBegin}
 use Rattle.words.specs.Words.{runs}
 use Rattle.words.specs.Places.{placesFrom}
 use Rattle.words.specs.Contracts.Places.{wordsAt, placesAt}
 use Rattle.words.specs.Contracts.Split.{placesIn, WordsFilled}
 use Rattle.words.specs.Contracts.Scan.{glyphsBehind, wordsFrom}
+use Rattle.words.specs.Contracts.Spaced.{SpacedTo}
 use Rattle.records.specs.Word.{Word}
 use Rattle.records.specs.Contracts.Table.{wordsIn}
+use Rattle.words.proofs.LineEnds.{LineEnds, ends-later, line-ends, same-ends}
+use Rattle.words.proofs.SpacedWords.{spaced-filled}
 use Rattle.words.proofs.Filling.{Filling, filling-none, filling-line, filling-over, filling-done}
 use Rattle.words.proofs.Rows.{LineAt, line-at, lines-end, places-end, filled-words}
 use Rattle.words.proofs.split_words.Statement.{statement}
@@ -41,32 +46,64 @@ loop-holds : tie.Need-loop-holds Inv-loop μ-loop
 unfolding meant
 loop-holds c = (c .before .before .before .pre .0, c .before .before .before .pre .6, filling-none (c .before .before .before .pre .5), refl)
 
+-- the line that the loop's turn reads
+line : (c : tie.In-loop Inv-loop μ-loop) → LineAt (meant [] (c .before .before .before .before .before .args .o)) (c .before .before .before .before .before .args .mail) (c .before .loop .skip) (c .before .before .before .before .before .args .later) (now (c .before .before .before .before .before .args .notes)) (c .before .before .before .before .before .args .next) (c .before .loop .i) (lengthsOf (firstLine (slice (c .before .loop .i) (c .before .before .before .before .before .args .next) (now (c .before .before .before .before .before .args .notes)))))
+line c = line-at _ _ _ _ _ _ _ _ (c .loop-test .taken) (c .before .before .before .before .before .pre .1) refl (c .before .loop .inv .1)
+
+-- and where its text ends
+ends : (c : tie.In-loop Inv-loop μ-loop) → LineEnds (take (c .before .before .before .before .before .args .next) (now (c .before .before .before .before .before .args .notes))) (c .before .loop .i) (lengthsOf (firstLine (slice (c .before .loop .i) (c .before .before .before .before .before .args .next) (now (c .before .before .before .before .before .args .notes)))))
+ends c = line-ends (take (c .before .before .before .before .before .args .next) (now (c .before .before .before .before .before .args .notes))) (c .before .loop .i) (rw (length-take-le _ _ (c .before .before .before .before .before .pre .1)) (omega (arith, c .loop-test .taken))) _ refl
+
+begin-requires : tie.Need-begin-requires Inv-loop μ-loop
+begin-requires c κs = let h = c .before .before .before .before .before .pre in λ m. omega (arith, line c .starts m, line c .shorter, line c .within, h .1, h .2)
+
+spaced-words-requires : tie.Need-spaced-words-requires Inv-loop μ-loop
+spaced-words-requires c κs = let h = c .before .before .before .before .before .before .before .pre in let l = line (c .before .before) in (omega (arith, l .begins, l .shorter, l .within, c .before .begin .ensures), h .1, h .2, search needs, c .before .before .before .loop .inv .2 .kept)
+
+-- the words one space apart that the turn finds in it
+spaced : (c : tie.After-spaced-words Inv-loop μ-loop)
+    → SpacedTo (meant [] (c .before .before .before .before .before .before .before .before .args .o)) (c .before .before .before .before .before .before .before .before .args .mail) (now (c .before .before .before .before .before .before .before .before .args .notes)) (c .before .before .begin .result) (c .before .before .before .before .loop .i + (lengthsOf (firstLine (slice (c .before .before .before .before .loop .i) (c .before .before .before .before .before .before .before .before .args .next) (now (c .before .before .before .before .before .before .before .before .args .notes))))) .text) (c .before .before .before .before .loop .n) (c .before .before .before .before .loop .table) (c .spaced-words .result) (c .spaced-words .last .1 .1 .1 .1 .1 .1 .1 .0)
+spaced c = c .spaced-words .ensures .3 _ (ends-later (ends (c .before .before .before) .ends) (omega (arith, c .before .before .begin .ensures)) (omega (arith, c .before .before .begin .ensures, line (c .before .before .before) .begins)))
+
 sub-first-line : tie.Need-sub-first-line Inv-loop μ-loop
-sub-first-line c = rw (length-take-le _ _ (c .before .before .before .before .before .pre .1)) (search needs)
+sub-first-line c = rw (length-take-le _ _ (c .before .before .before .before .before .before .before .before .before .before .pre .1)) (omega (arith, c .before .before .spaced-words .ensures .2))
 
 part-first-line-start : tie.Need-part-first-line-start Inv-loop μ-loop
-part-first-line-start c = let l = length-take-le (c .before .before .before .before .before .args .next) (now (c .before .before .before .before .before .args .notes)) (c .before .before .before .before .before .pre .1) in search needs
+part-first-line-start c = let l = length-take-le (c .before .before .before .before .before .before .before .before .before .before .args .next) (now (c .before .before .before .before .before .before .before .before .before .before .args .notes)) (c .before .before .before .before .before .before .before .before .before .before .pre .1) in omega (arith, c .before .before .spaced-words .ensures .2)
 
 part-first-line-end : tie.Need-part-first-line-end Inv-loop μ-loop
-part-first-line-end c = let l = length-take-le (c .before .before .before .before .before .args .next) (now (c .before .before .before .before .before .args .notes)) (c .before .before .before .before .before .pre .1) in search needs
+part-first-line-end c = let l = length-take-le (c .before .before .before .before .before .before .before .before .before .before .args .next) (now (c .before .before .before .before .before .before .before .before .before .before .args .notes)) (c .before .before .before .before .before .before .before .before .before .before .pre .1) in omega (arith, c .before .before .spaced-words .ensures .2)
 
 first-line-requires : tie.Need-first-line-requires Inv-loop μ-loop
 first-line-requires c κs = search needs
 
--- the line that the loop's turn reads
-line : (c : tie.After-first-line Inv-loop μ-loop)
-    → LineAt (meant [] (c .before .before .before .before .before .before .before .args .o)) (c .before .before .before .before .before .before .before .args .mail) (c .before .before .before .loop .skip) (c .before .before .before .before .before .before .before .args .later) (now (c .before .before .before .before .before .before .before .args .notes)) (c .before .before .before .before .before .before .before .args .next) (c .before .before .before .loop .i) (c .first-line .result)
-line c = line-at _ _ _ _ _ _ _ _ (c .before .before .loop-test .taken) (c .before .before .before .before .before .before .before .pre .1) (c .first-line .ensures) (c .before .before .before .loop .inv .1)
-
-begin-requires : tie.Need-begin-requires Inv-loop μ-loop
-begin-requires c κs = λ m. omega (arith, line c .starts m, line c .shorter, line c .within, c .before .before .before .before .before .before .before .pre .1, c .before .before .before .before .before .before .before .pre .2)
+-- behind them the line's end is found where it is
+found : (c : tie.After-first-line Inv-loop μ-loop)
+    → (c .before .before .before .before .spaced-words .result .at + c .first-line .result .text ≡ c .before .before .before .before .before .before .before .before .loop .i + (lengthsOf (firstLine (slice (c .before .before .before .before .before .before .before .before .loop .i) (c .before .before .before .before .before .before .before .before .before .before .before .before .args .next) (now (c .before .before .before .before .before .before .before .before .before .before .before .before .args .notes))))) .text)
+    × (c .before .before .before .before .spaced-words .result .at + c .first-line .result .whole ≡ c .before .before .before .before .before .before .before .before .loop .i + (lengthsOf (firstLine (slice (c .before .before .before .before .before .before .before .before .loop .i) (c .before .before .before .before .before .before .before .before .before .before .before .before .args .next) (now (c .before .before .before .before .before .before .before .before .before .before .before .before .args .notes))))) .whole)
+found c =
+    let h = c .before .before .before .before .spaced-words .ensures in
+    same-ends (ends (c .before .before .before .before .before .before .before))
+    (line-ends (take (c .before .before .before .before .before .before .before .before .before .before .before .before .args .next) (now (c .before .before .before .before .before .before .before .before .before .before .before .before .args .notes))) (c .before .before .before .before .spaced-words .result .at) (rw (length-take-le _ _ (c .before .before .before .before .before .before .before .before .before .before .before .before .pre .1)) (h .2)) (c .first-line .result) (c .first-line .ensures ∙ ap (λ (l : List ℕ). lengthsOf (firstLine l)) (part-to-end (c .before .before .before .before .spaced-words .result .at) (take (c .before .before .before .before .before .before .before .before .before .before .before .before .args .next) (now (c .before .before .before .before .before .before .before .before .before .before .before .before .args .notes))))))
+    (omega (arith, h .1, c .before .before .before .before .before .before .begin .ensures)) (spaced (c .before .before .before .before) .to)
 
 add-split-line : tie.Need-add-split-line Inv-loop μ-loop
-add-split-line c = let l = line (c .before .before) in omega (arith, l .shorter, l .within, c .before .before .before .before .before .before .before .before .before .pre .1, c .before .before .before .before .before .before .before .before .before .pre .2)
+add-split-line c = let l = line (c .before .before .before .before .before .before .before .before) in omega (arith, found (c .before) .0, l .shorter, l .within, c .before .before .before .before .before .before .before .before .before .before .before .before .before .pre .1, c .before .before .before .before .before .before .before .before .before .before .before .before .before .pre .2)
 
 split-line-requires : tie.Need-split-line-requires Inv-loop μ-loop
 unfolding meant
-split-line-requires c κs = let l = line (c .before .before .before) in (omega (arith, l .begins, c .before .before .begin .ensures), omega (arith, l .shorter, l .within, c .before .before .before .before .before .before .before .before .before .before .pre .1), search needs, search needs, search needs, c .before .before .before .before .before .before .loop .inv .2 .kept, λ m. rw (c .before .before .begin .ensures) (l .ink m))
+split-line-requires c κs =
+    let l = line (c .before .before .before .before .before .before .before .before .before) in
+    let f = found (c .before .before) in
+    let h = c .before .before .before .before .before .before .before .before .before .before .before .before .before .before .pre in (
+      omega arith,
+      omega (arith, f .0, l .shorter, l .within, h .1),
+      h .2,
+      search needs,
+      search needs,
+      c .before .before .before .before .before .before .spaced-words .ensures .0,
+      λ m. rw (f .0) (spaced (c .before .before .before .before .before .before) .ink (λ e. rw (c .before .before .before .before .before .before .before .before .begin .ensures) (l .ink e)) m),
+    )
 
 enum-known-m : tie.Need-enum-known-m Inv-loop μ-loop
 enum-known-m c = search needs
@@ -77,38 +114,44 @@ enum-told c = search needs
 -- the words of the turn's line, behind those of the table
 added : (c : tie.After-split-line Inv-loop μ-loop) → List Word
 added c =
-    let a = c .before .before .before .before .before .before .before .before .before .before .before .args in
-    let l = c .before .before .before .before .before .before .before .loop in
+    let a = c .before .before .before .before .before .before .before .before .before .before .before .before .before .before .before .args in
+    let l = c .before .before .before .before .before .before .before .before .before .before .before .loop in
     wordsIn (now (a .notes)) (l .n) (l .table)
-    ++ wordsFrom (meant [] (a .o)) (a .mail) (not (a .mail)) false (glyphsBehind (meant [] (a .o) .glue) (not (a .mail)) (slice (l .i + cond (a .mail) 0 (l .skip)) (l .i + c .before .before .before .before .first-line .result .text) (now (a .notes))))
+    ++ wordsFrom (meant [] (a .o)) (a .mail) (not (a .mail)) false (glyphsBehind (meant [] (a .o) .glue) (not (a .mail)) (slice (l .i + cond (a .mail) 0 (l .skip)) (l .i + lengthsOf (firstLine (slice (l .i) (a .next) (now (a .notes)))) .text) (now (a .notes))))
 
 addedPlaces : (c : tie.After-split-line Inv-loop μ-loop) → List ℕ
 addedPlaces c =
-    let a = c .before .before .before .before .before .before .before .before .before .before .before .args in
-    let l = c .before .before .before .before .before .before .before .loop in
-    placesIn (l .n) (l .table) ++ placesFrom (l .i + cond (a .mail) 0 (l .skip)) (runs (glyphsBehind (meant [] (a .o) .glue) (not (a .mail)) (slice (l .i + cond (a .mail) 0 (l .skip)) (l .i + c .before .before .before .before .first-line .result .text) (now (a .notes)))))
+    let a = c .before .before .before .before .before .before .before .before .before .before .before .before .before .before .before .args in
+    let l = c .before .before .before .before .before .before .before .before .before .before .before .loop in
+    placesIn (l .n) (l .table) ++ placesFrom (l .i + cond (a .mail) 0 (l .skip)) (runs (glyphsBehind (meant [] (a .o) .glue) (not (a .mail)) (slice (l .i + cond (a .mail) 0 (l .skip)) (l .i + lengthsOf (firstLine (slice (l .i) (a .next) (now (a .notes)))) .text) (now (a .notes)))))
 
-filled : (c : tie.After-split-line Inv-loop μ-loop)
-    → WordsFilled (c .before .before .before .before .before .before .before .before .before .before .before .args .most) (now (c .before .before .before .before .before .before .before .before .before .before .before .args .notes)) (added c) (addedPlaces c) (c .split-line .last .1 .1 .1 .1 .1 .1 .1 .0) (c .split-line .result)
+filled : (c : tie.After-split-line Inv-loop μ-loop) → WordsFilled (c .before .before .before .before .before .before .before .before .before .before .before .before .before .before .before .args .most) (now (c .before .before .before .before .before .before .before .before .before .before .before .before .before .before .before .args .notes)) (added c) (addedPlaces c) (c .split-line .last .1 .1 .1 .1 .1 .1 .1 .1 .1 .0) (c .split-line .result)
 unfolding meant added addedPlaces
-filled c = rw (c .before .before .before .begin .ensures) at (c .split-line .ensures)
+filled c = rw (c .before .before .before .before .before .before .before .before .before .begin .ensures) at (spaced-filled (c .before .before .before .before .before .before .before .before .before .before .before .before .before .before .before .args .most) (spaced (c .before .before .before .before .before .before .before)) (c .before .before .before .before .before .before .before .spaced-words .result .at + c .before .before .before .first-line .result .text) (found (c .before .before .before) .0) (c .split-line .last .1 .1 .1 .1 .1 .1 .1 .1 .1 .0) (c .split-line .result) (c .split-line .ensures))
 
 same-length : tie.Need-same-length Inv-loop μ-loop
-same-length c = c .before .before .before .table .given ∙ c .before .before .before .before .before .before .before .before .before .before .before .loop .inv .3
+same-length c = c .before .before .before .table2 .given ∙ c .before .before .before .before .before .before .before .before .before .before .table .given ∙ c .before .before .before .before .before .before .before .before .before .before .before .before .before .before .before .loop .inv .3
 
 returns : tie.Need-returns Inv-loop μ-loop
 unfolding added addedPlaces
-returns c = filled-words _ _ _ _ _ _ _ _ _ _ (filling-over (c .before .before .before .before .before .before .before .before .before .before .before .loop .inv .2) _ _ (line (c .before .before .before .before .before .before .before .before) .words) (rw (c .enum-told .given .1) at (filled (c .before .before .before .before))))
+returns c = filled-words _ _ _ _ _ _ _ _ _ _ (filling-over (c .before .before .before .before .before .before .before .before .before .before .before .before .before .before .before .loop .inv .2) _ _ (line (c .before .before .before .before .before .before .before .before .before .before .before .before .before .before) .words) (rw (c .enum-told .given .1) at (filled (c .before .before .before .before))))
 
 add-i : tie.Need-add-i Inv-loop μ-loop
-add-i c = let l = line (c .before .before .before .before .before .before .before .before .before .before) in omega (arith, l .within, c .before .before .before .before .before .before .before .before .before .before .before .before .before .before .before .before .before .pre .1, c .before .before .before .before .before .before .before .before .before .before .before .before .before .before .before .before .before .pre .2)
+add-i c = let l = line (c .before .before .before .before .before .before .before .before .before .before .before .before .before .before .before .before) in omega (arith, found (c .before .before .before .before .before .before .before .before .before) .1, l .within, c .before .before .before .before .before .before .before .before .before .before .before .before .before .before .before .before .before .before .before .before .before .pre .1, c .before .before .before .before .before .before .before .before .before .before .before .before .before .before .before .before .before .before .before .before .before .pre .2)
 
 loop-less : tie.Need-loop-less Inv-loop μ-loop
-loop-less c = let l = line (c .before .before .before .before .before .before .before .before .before .before) in omega (arith, l .within, l .on)
+loop-less c = let l = line (c .before .before .before .before .before .before .before .before .before .before .before .before .before .before .before .before) in omega (arith, found (c .before .before .before .before .before .before .before .before .before) .1, l .within, l .on)
 
 loop-again : tie.Need-loop-again Inv-loop μ-loop
 unfolding added addedPlaces
-loop-again c = let l = line (c .before .before .before .before .before .before .before .before .before .before) in (l .within, l .rest, filling-line (c .before .before .before .before .before .before .before .before .before .before .before .before .before .loop .inv .2) _ _ (l .words) _ _ (l .places) _ _ (rw (c .before .before .m .given .1) at (filled (c .before .before .before .before .before .before))), c .before .before .before .before .before .table .given ∙ c .before .before .before .before .before .before .before .before .before .before .before .before .before .loop .inv .3)
+loop-again c =
+    let l = line (c .before .before .before .before .before .before .before .before .before .before .before .before .before .before .before .before) in
+    rw (found (c .before .before .before .before .before .before .before .before .before) .1) (
+      l .within,
+      l .rest,
+      filling-line (c .before .before .before .before .before .before .before .before .before .before .before .before .before .before .before .before .before .loop .inv .2) _ _ (l .words) _ _ (l .places) _ _ (rw (c .before .before .m .given .1) at (filled (c .before .before .before .before .before .before))),
+      c .before .before .before .before .before .table2 .given ∙ c .before .before .before .before .before .before .before .before .before .before .before .before .table .given ∙ c .before .before .before .before .before .before .before .before .before .before .before .before .before .before .before .before .before .loop .inv .3,
+    )
 
 same-length-2 : tie.Need-same-length-2 Inv-loop μ-loop
 same-length-2 c = c .before .loop .inv .3
@@ -131,11 +174,12 @@ split-words-spec =
     μ-loop
     slice-aggregate-part
     loop-holds
+    begin-requires
+    spaced-words-requires
     sub-first-line
     part-first-line-start
     part-first-line-end
     first-line-requires
-    begin-requires
     add-split-line
     split-line-requires
     enum-known-m

@@ -1,0 +1,122 @@
+-- `words::spaced_words` meets its contract. Invariant: wherever the line's text ends, the words in the table, with those of what is left of
+-- it, are all the words.
+use mathlib.Core.Path.{_≡_, refl, sym, _∙_}
+use mathlib.Core.List.{[]}
+use Prim.Native.Nat.{ℕ, _+_, _-_, _≤_, _<_}
+use native.Mathlib.Omega.{arith}
+use lib.ListN.{length, take}
+use lib.Seq.{length-take-le}
+use denote.Ref.{now}
+use Rattle.options.specs.Opts.{meant}
+use Rattle.records.specs.Contracts.Table.{Small, withWord}
+use Rattle.records.proofs.Table.{length-with}
+use Rattle.words.specs.Contracts.Scan.{wordAt}
+use Rattle.words.specs.Contracts.Split.{Kept}
+use Rattle.words.specs.Contracts.Spaced.{spaceBefore, plainInk, PlainBehind, EndsAt, SpacedTo}
+use Rattle.words.proofs.SpacedWords.{space-on, spaced-none, spaced-step, spaced-more}
+use Rattle.words.proofs.spaced_words.Statement.{statement}
+use Rattle.words.proofs.spaced_words.Tie as tie
+
+abbrev Inv-loop : tie.InvT-loop
+Inv-loop notes start next mail o n most table₀ s r₀ table r =
+    Kept most (length notes) (r .count) table
+    × (start ≤ r .at)
+    × (r .at ≤ next)
+    × ((end : ℕ) → EndsAt (take next notes) start end → SpacedTo (meant [] o) mail notes start end n table₀ r table)
+    × (length table ≡ length table₀)
+
+abbrev μ-loop : tie.MeasureT-loop
+μ-loop notes start next mail o n most table₀ s r₀ table r = next - r .at
+
+slice-aggregate-s : tie.Need-slice-aggregate-s Inv-loop μ-loop
+slice-aggregate-s c = sym (length-take-le _ _ (c .before .before .before .pre .1))
+
+returns : tie.Need-returns Inv-loop μ-loop
+returns c = (c .before .before .before .before .pre .4, omega arith, c .before .before .before .before .pre .0, λ end line. spaced-none _ (line .on))
+
+loop-holds : tie.Need-loop-holds Inv-loop μ-loop
+loop-holds c = (c .before .before .before .before .pre .4, omega arith, c .before .before .before .before .pre .0, (λ end line. spaced-none _ (line .on)), refl)
+
+plain-word-requires : tie.Need-plain-word-requires Inv-loop μ-loop
+plain-word-requires c κs = let h = c .before .before .before .before .before .pre in rw (length-take-le _ _ (h .1)) (c .loop .inv .2, omega (arith, h .1, h .2))
+
+same-length : tie.Need-same-length Inv-loop μ-loop
+same-length c = c .before .before .loop .inv .4
+
+returns-2 : tie.Need-returns-2 Inv-loop μ-loop
+returns-2 c = let i = c .before .before .loop .inv in (i .0, i .1, i .2, i .3)
+
+same-length-2 : tie.Need-same-length-2 Inv-loop μ-loop
+same-length-2 c = c .before .before .before .before .loop .inv .4
+
+returns-3 : tie.Need-returns-3 Inv-loop μ-loop
+returns-3 c = let i = c .before .before .before .before .loop .inv in (i .0, i .1, i .2, i .3)
+
+space-before-requires : tie.Need-space-before-requires Inv-loop μ-loop
+space-before-requires c κs = omega (arith, c .before .before .before .before .loop .inv .2, c .before .before .before .before .before .before .before .before .before .pre .1, c .before .before .before .before .before .before .before .before .before .pre .2)
+
+-- the word that the loop's turn finds
+plain : (c : tie.After-space-before Inv-loop μ-loop) → PlainBehind (take (c .before .before .before .before .before .before .before .before .before .before .args .next) (now (c .before .before .before .before .before .before .before .before .before .before .args .notes))) (c .before .before .before .before .before .loop .r .at) (c .before .before .before .before .before .loop .r .first) (c .before .before .before .before .plain-word .result)
+plain c = c .before .before .before .before .plain-word .ensures (omega (arith, c .before .before .before .if2 .left))
+
+plain-ink-requires : tie.Need-plain-ink-requires Inv-loop μ-loop
+plain-ink-requires c κs = rw (c .space-before .ensures) (plain c .word)
+
+word-of-requires : tie.Need-word-of-requires Inv-loop μ-loop
+word-of-requires c κs = rw (c .before .space-before .ensures) (space-on _ (c .before .before .before .before .before .before .loop .r .first) .0)
+
+-- and its record
+record-is : (c : tie.After-word-of Inv-loop μ-loop)
+    → c .word-of .result ≡ wordAt (meant [] (c .before .before .before .before .before .before .before .before .before .before .before .before .args .o) .uniform) (meant [] (c .before .before .before .before .before .before .before .before .before .before .before .before .args .o) .characters) (c .before .before .before .before .before .before .before .loop .r .first) (c .before .before .before .before .before .before .before .loop .r .punct) (c .before .before .before .before .before .before .before .loop .r .at) (spaceBefore (c .before .before .before .before .before .before .before .loop .r .at) (c .before .before .before .before .before .before .before .loop .r .first)) (plainInk (take (c .before .before .before .before .before .before .before .before .before .before .before .before .args .next) (now (c .before .before .before .before .before .before .before .before .before .before .before .before .args .notes))) (spaceBefore (c .before .before .before .before .before .before .before .loop .r .at) (c .before .before .before .before .before .before .before .loop .r .first) .end) (c .before .before .before .before .before .before .plain-word .result))
+unfolding meant
+record-is c = rw (c .before .plain-ink .ensures, c .before .before .space-before .ensures) at (c .word-of .ensures)
+
+step : (c : tie.After-word-of Inv-loop μ-loop) → Small (c .word-of .result) × Kept (c .before .before .before .before .before .before .before .before .before .before .before .before .args .most) (length (now (c .before .before .before .before .before .before .before .before .before .before .before .before .args .notes))) (c .before .before .before .before .before .before .before .loop .r .count + 1) (withWord (c .before .before .before .before .before .before .before .loop .table) (c .before .before .before .before .before .before .before .loop .r .count) (c .word-of .result)) × (c .before .before .before .before .before .before .before .loop .r .at < c .word-of .result .end) × (c .word-of .result .end ≤ c .before .before .before .before .before .before .before .before .before .before .before .before .args .next)
+unfolding meant
+step c = let h = c .before .before .before .before .before .before .before .before .before .before .before .before .pre in let i = c .before .before .before .before .before .before .before .loop .inv in spaced-step (meant [] (c .before .before .before .before .before .before .before .before .before .before .before .before .args .o)) (now (c .before .before .before .before .before .before .before .before .before .before .before .before .args .notes)) (c .before .before .before .before .before .before .before .before .before .before .before .before .args .next) (c .before .before .before .before .before .before .before .loop .r .at) (c .before .before .before .before .before .before .before .loop .r .first) (c .before .before .before .before .before .before .before .loop .r .punct) (c .before .before .before .before .before .before .plain-word .result) (c .word-of .result) (h .1) (h .3) (plain (c .before .before)) (record-is c) (omega (arith, c .before .before .before .if3 .left)) (i .0) (i .2) (h .2)
+
+store-requires : tie.Need-store-requires Inv-loop μ-loop
+store-requires c κs = let k = c .before .before .before .before .before .before .before .before .loop .inv .0 in (omega (arith, c .before .before .before .before .if3 .left, k .held), step (c .before) .0)
+
+add-t22 : tie.Need-add-t22 Inv-loop μ-loop
+add-t22 c = omega (arith, c .before .before .before .before .before .before .before .before .if3 .left, c .before .before .before .before .before .before .before .before .before .before .before .before .before .before .before .before .before .fits .most)
+
+loop-less : tie.Need-loop-less Inv-loop μ-loop
+loop-less c = let t = step (c .before .before .before .before .before) in omega (arith, t .2, t .3)
+
+loop-again : tie.Need-loop-again Inv-loop μ-loop
+unfolding meant
+loop-again c =
+    let t = step (c .before .before .before .before .before) in
+    let i = c .before .before .before .before .before .before .before .before .before .before .before .before .loop .inv in
+    let h = c .before .before .before .before .before .before .before .before .before .before .before .before .before .before .before .before .before .pre in
+    rw (c .before .before .before .store .ensures) (
+      t .1,
+      omega (arith, t .2, i .1),
+      t .3,
+      (λ end line.
+          spaced-more (meant [] (c .before .before .before .before .before .before .before .before .before .before .before .before .before .before .before .before .before .args .o)) (now (c .before .before .before .before .before .before .before .before .before .before .before .before .before .before .before .before .before .args .notes)) (c .before .before .before .before .before .before .before .before .before .before .before .before .before .before .before .before .before .args .next) (c .before .before .before .before .before .before .before .before .before .before .before .before .loop .r .at) (c .before .before .before .before .before .before .before .before .before .before .before .before .loop .r .first) (c .before .before .before .before .before .before .before .before .before .before .before .before .loop .r .punct) (c .before .before .before .before .before .before .before .before .before .before .before .plain-word .result) (c .before .before .before .before .before .word-of .result) (h .1) (h .3) (plain (c .before .before .before .before .before .before .before)) (record-is (c .before .before .before .before .before)) (omega (arith, c .before .before .before .before .before .before .before .before .if3 .left)) (i .0) (c .before .before .before .before .before .before .before .before .before .before .before .before .before .if1 .left) line (i .1) (i .3 end line)),
+      length-with _ _ _ ∙ i .4,
+    )
+
+pub spaced-words-spec : {M : Type 1} → statement M
+spaced-words-spec =
+    tie.close
+    (tie.spec
+    Inv-loop
+    μ-loop
+    slice-aggregate-s
+    returns
+    loop-holds
+    plain-word-requires
+    same-length
+    returns-2
+    same-length-2
+    returns-3
+    space-before-requires
+    plain-ink-requires
+    word-of-requires
+    store-requires
+    add-t22
+    loop-less
+    loop-again)
