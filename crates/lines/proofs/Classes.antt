@@ -5,7 +5,7 @@ use mathlib.Core.List.{List, _++_}
 use Prim.Native.Nat.{ℕ, _+_}
 use native.Mathlib.Omega.{arith}
 use lib.Dec.{eqb}
-use lib.ListN.{length}
+use lib.ListN.{length, take}
 use lib.Seq.{slice}
 use borrow.Author.Tests.{eq-eqb, ne-eqb}
 use Rattle.lists.specs.Runs.{while, every}
@@ -17,12 +17,16 @@ use Rattle.text.proofs.Glue.{glyphs-settle}
 use Rattle.options.specs.Opts.{Opts, Text, absent, given, textOf}
 use Rattle.options.specs.declared.Part.{Part}
 use Rattle.options.specs.declared.Part.the-variants.{Given}
+use Rattle.lines.specs.Lines.{firstLine}
 use Rattle.lines.specs.Classes.{glyphsBefore, glyphsFrom, columnsOf, search, prefixFound, prefixSize, skipFound, somewhere, shapeAt, classBehind, classify}
-use Rattle.lines.specs.Contracts.Places.{lineStart, behindAll, classAt, BehindBlanks, BehindPlace, inkBefore, glyphsBehind}
+use Rattle.lines.specs.Contracts.Places.{lengthsOf, classedOf, lineStart, behindAll, classAt, BehindBlanks, BehindPlace, inkBefore, glyphsBehind}
+use Rattle.lines.specs.declared.Extent.{Extent}
+use Rattle.lines.specs.declared.ClassedExtent.{ClassedExtent}
 use Rattle.lines.specs.declared.Spot.{Spot}
 use Rattle.lines.specs.declared.Shape.{Shape}
 use Rattle.lines.specs.declared.Class.{Class}
 use Rattle.lines.specs.declared.Class.the-variants.{Blank, Plain, Formatted}
+use Rattle.lines.proofs.Lines.{lengths}
 use Rattle.lines.proofs.Glued.{before-settle, from-settle}
 use Rattle.lines.proofs.Measures.{behind-none, behind-append, upTo-zero, from-zero}
 
@@ -118,3 +122,9 @@ module _ (o : Opts) (line : List ℕ) where
 pub skip-given : (exact : Bool) (block line : List ℕ) (skip : Part) (gs : List Glyph) (start end : ℕ) (f : Found) → skip ≡ Given start end
     → f ≡ search exact (slice start end block) line 0 gs → somewhere f ≡ somewhere (skipFound exact (textOf block skip) line gs)
 skip-given exact block line skip gs start end f h e = rw (h, e)
+
+-- the first line with its class, from the two answers
+pub classed-is : (o : Opts) (s : List ℕ) (e : Extent) (k : Class) → e ≡ lengthsOf (firstLine s) → k ≡ classify o (take (e .text) s)
+    → _≡_ {A = ClassedExtent} (record { extent = e; class = k }) (classedOf o (firstLine s))
+unfolding classedOf
+classed-is o s e k h q = rw (q ∙ ap (classify o) (sym (lengths s e h .text)), h)

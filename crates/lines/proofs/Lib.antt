@@ -3,6 +3,7 @@ pub mod Extents
 pub mod Ink
 pub mod Columns
 pub mod Lines
+pub mod Asciis
 pub mod Measures
 pub mod Glued
 pub mod InkBefore

@@ -155,6 +155,10 @@ text-within s = pick (ltb (length (body s)) (length s))
     pick true = return-within (body s)
     pick false = omega arith
 
+pub text-in-body : (s : List ℕ) (e : Extent) → e ≡ lengthsOf (firstLine s) → e .text ≤ length (body s)
+unfolding lengthsOf
+text-in-body s e h = rw h (text-within s)
+
 raw-front : (s : List ℕ) → firstLine s .raw ≡ take (length (firstLine s .raw)) s
 unfolding firstLine
 raw-front s = take-counted (suc (length (body s))) s

@@ -1,16 +1,17 @@
 // Lines: where one ends, where its text ends, and its class.
 ghost use mathlib.Core.Path.{_≡_};
-ghost use mathlib.Core.Bool.{Bool, true, cond};
+ghost use mathlib.Core.Bool.{Bool, true, false, cond, not};
 ghost use Prim.Native.Nat.{_+_, _-_, _≤_, _<_};
 ghost use lib.Dec.{eqb};
 ghost use lib.ListN.{length, drop};
 ghost use Rattle.lists.specs.Runs.{every, begins};
 ghost use Rattle.widths.specs.Widths.{widthOf};
-ghost use Rattle.text.specs.Characters.{glyphs, isBlank};
+ghost use Rattle.text.specs.Characters.{glyphs, isBlank, isGood};
+ghost use Rattle.text.specs.Contracts.Places.{Ascii};
 ghost use Rattle.options.specs.Opts.{textOf, meant};
 ghost use Rattle.lines.specs.Lines.{body, withoutReturn, firstLine};
 ghost use Rattle.lines.specs.Classes.{nextStop, search, skipFound, somewhere, classify};
-ghost use Rattle.lines.specs.Contracts.Places.{lengthsOf, Lies, Usable, Inside, classAt, Behind, BehindBlanks, BehindPlace, inkBefore, glyphsBehind, gluedAt};
+ghost use Rattle.lines.specs.Contracts.Places.{lengthsOf, classedOf, bodyEnd, AsciiBody, Lies, Usable, Inside, classAt, Behind, BehindBlanks, BehindPlace, inkBefore, glyphsBehind, gluedAt};
 use options::Options;
 use options::Part;
 use text::Char;
@@ -38,6 +39,12 @@ pub enum Class {
     Formatted(Shape),
 }
 
+// A line by its lengths, with its class.
+pub struct ClassedExtent {
+    pub extent: Extent,
+    pub class: Class,
+}
+
 // A place of a line, and the column that it stands at.
 struct Spot {
     at: usize,
@@ -49,7 +56,30 @@ struct Spot {
 pub fn first_line(s: &[u8]) -> Extent
     ensures { λ r. ⌜ r ≡ lengthsOf (firstLine (now (s .entry))) ⌝ }
 {
-    let end = body_end(s);
+    ended_at(s, body_end(s, 0))
+}
+
+// The same, with the class of its text. The pass for the line feed sees as well whether the line is ASCII, as most are.
+// In the original: `FileLines::next`.
+pub fn first_classed(s: &[u8], o: Options, block: &[u8]) -> ClassedExtent
+    requires { ⌜ Usable (now block) o × (length (now s) ≤ 65536) ⌝ }
+    ensures { λ r. ⌜ r ≡ classedOf (meant (now (block .entry)) o) (firstLine (now (s .entry))) ⌝ }
+{
+    let reached = ascii_body(s);
+    let end = body_end(s, reached);
+    let extent = ended_at(s, end);
+    let text = extent.text;
+    ClassedExtent {
+        extent,
+        class: classify(&s[..text], reached == end, o, block),
+    }
+}
+
+// The first line, from the end of its body.
+fn ended_at(s: &[u8], end: usize) -> Extent
+    requires { ⌜ (end ≡ length (body (now s))) × (end ≤ length (now s)) ⌝ }
+    ensures { λ r. ⌜ r ≡ lengthsOf (firstLine (now (s .entry))) ⌝ }
+{
     let text = without_return(&s[..end]);
     // Without a line feed it is the last, and keeps its carriage return.
     if end == s.len() {
@@ -64,26 +94,40 @@ pub fn first_line(s: &[u8]) -> Extent
     }
 }
 
-// The place of the first line feed, or the length.
-fn body_end(s: &[u8]) -> usize
-    ensures { λ r. ⌜ (r ≡ length (body (now (s .entry)))) × (r ≤ length (now (s .entry))) ⌝ }
+// The place of the first line feed from a place on, or the length.
+fn body_end(s: &[u8], from: usize) -> usize
+    requires { ⌜ from ≤ length (now s) ⌝ }
+    ensures { λ r. ⌜ (r ≡ bodyEnd (now (s .entry)) from) × (r ≤ length (now (s .entry))) ⌝ }
 {
-    let mut i = feedless_eights(s);
-    while i < s.len() {
-        if s[i] == 10 {
-            return i;
-        }
+    // Behind a line's ASCII it is most often here.
+    if ends_body(s, from) {
+        return from;
+    }
+    let mut i = feedless_eights(s, from);
+    while !ends_body(s, i) {
         i += 1;
     }
     i
 }
 
+// Whether a line's body ends at a place: a line feed stands there, or nothing does.
+fn ends_body(s: &[u8], at: usize) -> bool
+    requires { ⌜ at ≤ length (now s) ⌝ }
+    ensures { λ r. ⌜ (r ≡ true → bodyEnd (now (s .entry)) at ≡ at) × (r ≡ false → (at < length (now (s .entry))) × (bodyEnd (now (s .entry)) at ≡ bodyEnd (now (s .entry)) (at + 1))) ⌝ }
+{
+    if at == s.len() {
+        return true;
+    }
+    s[at] == 10
+}
+
 // On over bytes that are no line feed, as long as the next eight are none: eight tests without a branch between them are as quick as
 // one.
-fn feedless_eights(s: &[u8]) -> usize
-    ensures { λ r. ⌜ (r ≤ length (now (s .entry))) × (r + length (body (drop r (now (s .entry)))) ≡ length (body (now (s .entry)))) ⌝ }
+fn feedless_eights(s: &[u8], from: usize) -> usize
+    requires { ⌜ from ≤ length (now s) ⌝ }
+    ensures { λ r. ⌜ (r ≤ length (now (s .entry))) × (bodyEnd (now (s .entry)) r ≡ bodyEnd (now (s .entry)) from) ⌝ }
 {
-    let mut i = 0;
+    let mut i = from;
     while 8 <= s.len() - i {
         if are_feedless(s, i) {
             i += 8;
@@ -97,7 +141,7 @@ fn feedless_eights(s: &[u8]) -> usize
 // Whether no line feed is among the eight bytes at a place.
 fn are_feedless(s: &[u8], i: usize) -> bool
     requires { ⌜ (i ≤ length (now s)) × (8 ≤ length (now s) - i) ⌝ }
-    ensures { λ r. ⌜ (r ≡ true → i + length (body (drop i (now (s .entry)))) ≡ i + 8 + length (body (drop (i + 8) (now (s .entry))))) ⌝ }
+    ensures { λ r. ⌜ (r ≡ true → bodyEnd (now (s .entry)) i ≡ bodyEnd (now (s .entry)) (i + 8)) ⌝ }
 {
     let b = i + 1;
     let c = i + 2;
@@ -114,6 +158,58 @@ fn are_feedless(s: &[u8], i: usize) -> bool
         & (s[f] != 10)
         & (s[g] != 10)
         & (s[h] != 10)
+}
+
+// The end of the bytes at the front that are below 0x80 and no line feed.
+fn ascii_body(s: &[u8]) -> usize
+    ensures { λ r. ⌜ AsciiBody (now (s .entry)) 0 r ⌝ }
+{
+    let mut i = ascii_eights(s);
+    while !ends_body(s, i) {
+        if 0x80 <= s[i] {
+            return i;
+        }
+        i += 1;
+    }
+    i
+}
+
+// On over such bytes, as long as the next eight are.
+fn ascii_eights(s: &[u8]) -> usize
+    ensures { λ r. ⌜ AsciiBody (now (s .entry)) 0 r ⌝ }
+{
+    let mut i = 0;
+    while 8 <= s.len() - i {
+        if are_ascii(s, i) {
+            i += 8;
+        } else {
+            return i;
+        }
+    }
+    i
+}
+
+// Whether the eight bytes at a place are below 0x80 and no line feed.
+fn are_ascii(s: &[u8], i: usize) -> bool
+    requires { ⌜ (i ≤ length (now s)) × (8 ≤ length (now s) - i) ⌝ }
+    ensures { λ r. ⌜ (r ≡ true → AsciiBody (now (s .entry)) i (i + 8)) ⌝ }
+{
+    let b = i + 1;
+    let c = i + 2;
+    let d = i + 3;
+    let e = i + 4;
+    let f = i + 5;
+    let g = i + 6;
+    let h = i + 7;
+    (s[i] < 0x80)
+        & (s[b] < 0x80)
+        & (s[c] < 0x80)
+        & (s[d] < 0x80)
+        & (s[e] < 0x80)
+        & (s[f] < 0x80)
+        & (s[g] < 0x80)
+        & (s[h] < 0x80)
+        & are_feedless(s, i)
 }
 
 // How long a line's body is without a carriage return at its end.
@@ -190,10 +286,11 @@ fn are_same(p: &[u8], s: &[u8], i: usize) -> bool
         & (s[h] == p[h])
 }
 
-// The class of a line's text. Plain are a damaged line, a skipped one, and one without its prefix or with only blanks behind it.
+// The class of a line's text, which may be known to be ASCII. Plain are a damaged line, a skipped one, and one without its prefix or
+// with only blanks behind it.
 // In the original: `FileLines::next`.
-pub fn classify(line: &[u8], o: Options, block: &[u8]) -> Class
-    requires { ⌜ Usable (now block) o × (length (now line) ≤ 65536) ⌝ }
+fn classify(line: &[u8], ascii: bool, o: Options, block: &[u8]) -> Class
+    requires { ⌜ Usable (now block) o × (length (now line) ≤ 65536) × (ascii ≡ true → Ascii (now line) 0 (length (now line))) ⌝ }
     ensures { λ r. ⌜ r ≡ classify (meant (now (block .entry)) o) (now (line .entry)) ⌝ }
 {
     let tab = o.tab;
@@ -202,9 +299,9 @@ pub fn classify(line: &[u8], o: Options, block: &[u8]) -> Class
     if is_all_blank(line) {
         return Class::Blank;
     }
-    let Found::Nowhere = text::first_damage(line) else {
+    if is_damaged(line, ascii) {
         return Class::Plain;
-    };
+    }
     let skip = o.skip;
     if is_skipped(line, skip, o.exact_skip, block) {
         return Class::Plain;
@@ -244,6 +341,20 @@ fn is_all_blank(line: &[u8]) -> bool
         }
     }
     true
+}
+
+// Whether a character of a line is damaged. A line that is known to be ASCII has none, and is not read again.
+fn is_damaged(line: &[u8], ascii: bool) -> bool
+    requires { ⌜ (ascii ≡ true → Ascii (now line) 0 (length (now line))) ⌝ }
+    ensures { λ r. ⌜ ((glue : Bool) → r ≡ not (every isGood (glyphs glue (now (line .entry))))) ⌝ }
+{
+    if ascii {
+        return false;
+    }
+    match text::first_damage(line) {
+        Found::At(_) => true,
+        Found::Nowhere => false,
+    }
 }
 
 // A cast that needs no proof where it is used.

@@ -196,12 +196,12 @@ fn line_at(notes: &[u8], at: usize, o: Options, block: &[u8]) -> Classed
     requires { ⌜ PieceReady (now notes) (now block) o at × (at < length (now notes)) ⌝ }
     ensures { λ r. ⌜ LineIs (meant (now (block .entry)) o) (now (notes .entry)) at r ⌝ }
 {
-    let e = lines::first_line(&notes[at..]);
-    let end = at + e.text;
+    let line = lines::first_classed(&notes[at..], o, block);
+    let class = line.class;
     Classed {
-        end,
-        next: at + e.whole,
-        class: lines::classify(&notes[at..end], o, block),
+        end: at + line.extent.text,
+        next: at + line.extent.whole,
+        class,
     }
 }
 

@@ -5,7 +5,7 @@
 --   text          decode_at, long_at, glyph_at, is_no_break, is_letter, first_damage        an equation: `equal-unique`
 --   text          glued_end                                                                 an equation, with a bound: `bounded-unique`
 --   options       read_block                                                                an equation
---   lines         first_line, begins, classify                                              an equation
+--   lines         first_line, first_classed, begins                                         an equation
 --   pieces        is_header                                                                 an equation
 --   pieces        next_piece                                                                an equation, with bounds: `bounded-unique`
 --   records       get                                                                       records/proofs/Unique: `got-unique`

@@ -7,8 +7,7 @@ use lib.ListN.{length, drop}
 use borrow.Author.Needs.{needs}
 use mathlib.Core.Path.{ap}
 use Rattle.lines.specs.Lines.{linesOf}
-use Rattle.lines.proofs.Lines.{lines-past}
-use Rattle.pieces.proofs.Places.{part-line}
+use Rattle.lines.proofs.Lines.{lines-past, line-lent}
 use Rattle.indexer.proofs.count_lines.Statement.{statement}
 use Rattle.indexer.proofs.count_lines.Tie as tie
 
@@ -40,17 +39,17 @@ first-line-requires : tie.Need-first-line-requires Inv-loop μ-loop
 first-line-requires c κs = search needs
 
 add-at : tie.Need-add-at Inv-loop μ-loop
-add-at c = let h = part-line (c .before .before .before .before .before .before .args .s .now) (c .before .before .before .before .loop .at) _ (c .before .before .before .loop-test .taken) (c .before .first-line .ensures) in omega (arith, h .within)
+add-at c = let h = line-lent (c .before .before .before .before .before .before .args .s .now) (c .before .before .before .before .loop .at) _ (c .before .before .before .loop-test .taken) (c .before .first-line .ensures) in omega (arith, h .within)
 
 add-n : tie.Need-add-n Inv-loop μ-loop
 add-n c = let i = c .before .before .before .before .loop .inv in omega (arith, i .0, i .2)
 
 loop-less : tie.Need-loop-less Inv-loop μ-loop
-loop-less c = let h = part-line (c .before .before .before .before .before .before .args .s .now) (c .before .before .before .before .loop .at) _ (c .before .before .before .loop-test .taken) (c .before .first-line .ensures) in omega (arith, h .within, h .on)
+loop-less c = let h = line-lent (c .before .before .before .before .before .before .args .s .now) (c .before .before .before .before .loop .at) _ (c .before .before .before .loop-test .taken) (c .before .first-line .ensures) in omega (arith, h .within, h .on)
 
 loop-again : tie.Need-loop-again Inv-loop μ-loop
 loop-again c =
-    let h = part-line (c .before .before .before .before .before .before .args .s .now) (c .before .before .before .before .loop .at) _ (c .before .before .before .loop-test .taken) (c .before .first-line .ensures) in
+    let h = line-lent (c .before .before .before .before .before .before .args .s .now) (c .before .before .before .before .loop .at) _ (c .before .before .before .loop-test .taken) (c .before .first-line .ensures) in
     let i = c .before .before .before .before .loop .inv in
     let l = ap length (h .first) in
     (omega (arith, h .within), omega (arith, l, i .1), omega (arith, h .on, i .2))

@@ -5,10 +5,10 @@ use mathlib.Core.Bool.{true, false}
 use Prim.Native.Nat.{_≤_}
 use lib.ListN.{length}
 use borrow.Author.Needs.{needs}
+use borrow.Author.Tests.{not-true, not-false}
 use Rattle.lists.specs.Runs.{every}
 use Rattle.lists.proofs.Fronts.{part-between}
 use Rattle.text.specs.Characters.{glyphs, isBlank, isGood}
-use Rattle.text.proofs.Damage.{damage-none, damage-some}
 use Rattle.options.specs.Opts.{meant}
 use Rattle.lines.proofs.Classes.{class-blank, class-damaged, class-skipped, class-bare, class-given}
 use Rattle.lines.proofs.classify.Statement.{statement}
@@ -21,14 +21,8 @@ returns : tie.Need-returns
 unfolding meant
 returns c = class-blank _ _ (sym (c .before .is-all-blank .ensures _) ∙ c .if1 .taken)
 
-first-damage-requires : tie.Need-first-damage-requires
-first-damage-requires c κs = search needs
-
-enum-told : tie.Need-enum-told
-enum-told c = search needs
-
-enum-told-2 : tie.Need-enum-told-2
-enum-told-2 c = search needs
+is-damaged-requires : tie.Need-is-damaged-requires
+is-damaged-requires c κs = c .before .before .before .before .pre .2
 
 -- the line is not blank
 ink : (c : tie.Else1) → every isBlank (glyphs (c .before .before .before .before .args .o .glue) (now (c .before .before .before .before .args .line))) ≡ false
@@ -36,29 +30,27 @@ ink c = sym (c .before .is-all-blank .ensures _) ∙ c .if1 .left
 
 returns-2 : tie.Need-returns-2
 unfolding meant
-returns-2 c =
-    let k = c .before .before in
-    class-damaged _ _ (ink (k .before)) (damage-some _ _ _ (sym (k .first-damage .ensures) ∙ c .enum-told2 .given .1) .0)
+returns-2 c = class-damaged _ _ (ink (c .before .before)) (not-true _ (sym (c .before .is-damaged .ensures _) ∙ c .if2 .taken))
 
 is-skipped-requires : tie.Need-is-skipped-requires
 is-skipped-requires c κs = search needs
 
 -- nor is it damaged
-good : (c : tie.After-enum-told)
-    → every isGood (glyphs (c .before .before .before .before .before .before .before .args .o .glue) (now (c .before .before .before .before .before .before .before .args .line))) ≡ true
-good c = damage-none _ _ (sym (c .before .before .first-damage .ensures) ∙ c .enum-told .given .1)
+good : (c : tie.Else2)
+    → every isGood (glyphs (c .before .before .before .before .before .before .args .o .glue) (now (c .before .before .before .before .before .before .args .line))) ≡ true
+good c = not-false _ (sym (c .before .is-damaged .ensures _) ∙ c .if2 .left)
 
 returns-3 : tie.Need-returns-3
 unfolding meant
 returns-3 c =
     let k = c .before .before in
-    class-skipped _ _ (ink (k .before .before .before)) (good k) (sym (c .before .is-skipped .ensures _) ∙ c .if2 .taken)
+    class-skipped _ _ (ink (k .before .before)) (good k) (sym (c .before .is-skipped .ensures _) ∙ c .if3 .taken)
 
 enum-known-prefix : tie.Need-enum-known-prefix
 enum-known-prefix c = search needs
 
-enum-told-3 : tie.Need-enum-told-3
-enum-told-3 c = search needs
+enum-told : tie.Need-enum-told
+enum-told c = search needs
 
 over-blanks-requires : tie.Need-over-blanks-requires
 over-blanks-requires c κs = search needs
@@ -68,13 +60,12 @@ unfolding meant
 returns-4 c =
     let i = c .before .before .before in
     let k = i .before .before in
-    let e = k .before .before .before in
-    class-bare _ _ (ink e) (good k) (sym (i .before .is-skipped .ensures _) ∙ i .if2 .left) _ (rw (c .before .enum-told3 .given .1)) (c .over-blanks .ensures _ .spot)
+    class-bare _ _ (ink (k .before .before)) (good k) (sym (i .before .is-skipped .ensures _) ∙ i .if3 .left) _ (rw (c .before .enum-told .given .1)) (c .over-blanks .ensures _ .spot)
 
 -- the prefix lies in the block
 lies : (c : tie.After-prefix)
-    → (c .prefix .given .0 .0 ≤ c .prefix .given .0 .1 .0) × (c .prefix .given .0 .1 .0 ≤ length (now (c .before .before .before .before .before .before .before .before .before .before .before .args .block)))
-lies c = rw (c .prefix .given .1) at (c .before .before .before .before .before .before .before .before .before .before .before .pre .0 .prefix)
+    → (c .prefix .given .0 .0 ≤ c .prefix .given .0 .1 .0) × (c .prefix .given .0 .1 .0 ≤ length (now (c .before .before .before .before .before .before .before .before .before .before .args .block)))
+lies c = rw (c .prefix .given .1) at (c .before .before .before .before .before .before .before .before .before .before .pre .0 .prefix)
 
 sub-behind-prefix : tie.Need-sub-behind-prefix
 sub-behind-prefix c = lies (c .before) .0
@@ -94,7 +85,7 @@ returns-5 c =
     let g = c .before .before .before in
     let i = g .before .before in
     let k = i .before .before in
-    class-given _ _ (ink (k .before .before .before)) (good k) (sym (i .before .is-skipped .ensures _) ∙ i .if2 .left) _ _ (rw (g .prefix .given .1)) (rw (part-between _ _ _ (lies g .0)) at (c .behind-prefix .ensures))
+    class-given _ _ (ink (k .before .before)) (good k) (sym (i .before .is-skipped .ensures _) ∙ i .if3 .left) _ _ (rw (g .prefix .given .1)) (rw (part-between _ _ _ (lies g .0)) at (c .behind-prefix .ensures))
 
 pub classify-spec : {M : Type 1} → statement M
 classify-spec =
@@ -102,14 +93,12 @@ classify-spec =
     (tie.spec
     is-all-blank-requires
     returns
-    first-damage-requires
-    enum-told
-    enum-told-2
+    is-damaged-requires
     returns-2
     is-skipped-requires
     returns-3
     enum-known-prefix
-    enum-told-3
+    enum-told
     over-blanks-requires
     returns-4
     sub-behind-prefix

@@ -1,21 +1,20 @@
--- `lines::feedless_eights` meets its contract. Invariant: the body's end, counted from the place reached, is that counted from the start.
+-- `lines::feedless_eights` meets its contract. Invariant: the body's end, counted from the place reached, is that counted from where it began.
 use mathlib.Core.Path.{_≡_, sym, _∙_}
-use Prim.Native.Nat.{_+_, _-_, _≤_}
-use native.Mathlib.Omega.{arith}
-use lib.ListN.{length, drop}
+use Prim.Native.Nat.{_-_, _≤_}
+use lib.ListN.{length}
 use borrow.Author.Needs.{needs}
-use Rattle.lines.specs.Lines.{body}
+use Rattle.lines.specs.Contracts.Places.{bodyEnd}
 use Rattle.lines.proofs.feedless_eights.Statement.{statement}
 use Rattle.lines.proofs.feedless_eights.Tie as tie
 
 abbrev Inv-loop : tie.InvT-loop
-Inv-loop s i₀ i = (i ≤ length s) × (i + length (body (drop i s)) ≡ length (body s))
+Inv-loop s from i₀ i = (i ≤ length s) × (bodyEnd s i ≡ bodyEnd s from)
 
 abbrev μ-loop : tie.MeasureT-loop
-μ-loop s i₀ i = length s - i
+μ-loop s from i₀ i = length s - i
 
 loop-holds : tie.Need-loop-holds Inv-loop μ-loop
-loop-holds c = (search needs, omega arith)
+loop-holds c = search needs
 
 sub-loop : tie.Need-sub-loop Inv-loop μ-loop
 sub-loop c = search needs

@@ -1,39 +1,17 @@
--- `lines::first_line` meets its contract: the body's end is the notes' end, or a line feed stands there.
-use mathlib.Core.Path.{sym}
+-- `lines::first_line` meets its contract: its body's end is that from the start.
 use native.Mathlib.Omega.{arith}
-use lib.Seq.{length-take-le}
 use borrow.Author.Needs.{needs}
-use Rattle.lines.proofs.Lines.{line-last, line-fed}
 use Rattle.lines.proofs.first_line.Statement.{statement}
 use Rattle.lines.proofs.first_line.Tie as tie
 
 body-end-requires : tie.Need-body-end-requires
 body-end-requires c κs = search needs
 
-slice-aggregate-without-return : tie.Need-slice-aggregate-without-return
-slice-aggregate-without-return c = sym (length-take-le _ _ (c .before .body-end .ensures .1))
-
-without-return-requires : tie.Need-without-return-requires
-without-return-requires c κs = search needs
+ended-at-requires : tie.Need-ended-at-requires
+ended-at-requires c κs = let b = c .body-end .ensures in (omega arith, b .1)
 
 returns : tie.Need-returns
-returns c = line-last _ _ (c .before .before .before .body-end .ensures .0) (c .if1 .taken)
-
-add-t6 : tie.Need-add-t6
-add-t6 c = search needs
-
-returns-2 : tie.Need-returns-2
-returns-2 c =
-    let b = c .before .before .before .body-end .ensures in
-    line-fed _ _ (b .0) _ (omega (arith, b .1)) (c .before .without-return .ensures)
+returns c = search needs
 
 pub first-line-spec : {M : Type 1} → statement M
-first-line-spec =
-    tie.close
-    (tie.spec
-    body-end-requires
-    slice-aggregate-without-return
-    without-return-requires
-    returns
-    add-t6
-    returns-2)
+first-line-spec = tie.close (tie.spec body-end-requires ended-at-requires returns)

@@ -7,15 +7,17 @@ use lib.Dec.{eqb}
 use lib.ListN.{length, drop}
 use Rattle.lists.specs.Runs.{while, every}
 use Rattle.text.specs.Characters.{Glyph, glyph, characters, inkAhead, isBlank, extent}
-use Rattle.text.specs.Contracts.Places.{settle, inkAfter, noBreakAt}
+use Rattle.text.specs.Contracts.Places.{Ascii, settle, inkAfter, noBreakAt}
 use Rattle.text.specs.declared.Found.{Found}
 use Rattle.text.specs.declared.Found.the-variants.{At, Nowhere}
+use Rattle.options.specs.Opts.{Opts}
 use Rattle.options.specs.declared.Part.{Part}
 use Rattle.options.specs.declared.Part.the-variants.{Absent, Given}
 use Rattle.options.specs.declared.Options.{Options}
-use Rattle.lines.specs.Lines.{Line}
-use Rattle.lines.specs.Classes.{glyphsBefore, glyphsFrom, columnBehind, columnsOf, shapeAt}
+use Rattle.lines.specs.Lines.{Line, body}
+use Rattle.lines.specs.Classes.{glyphsBefore, glyphsFrom, columnBehind, columnsOf, shapeAt, classify}
 use Rattle.lines.specs.declared.Extent.{Extent}
+use Rattle.lines.specs.declared.ClassedExtent.{ClassedExtent}
 use Rattle.lines.specs.declared.Spot.{Spot}
 use Rattle.lines.specs.declared.Class.{Class}
 use Rattle.lines.specs.declared.Class.the-variants.{Plain, Formatted}
@@ -23,6 +25,19 @@ use Rattle.lines.specs.declared.Class.the-variants.{Plain, Formatted}
 -- a line by its lengths: of its text, and with its line end
 unfoldable pub lengthsOf : Line → Extent
 lengthsOf l = record { text = length (l .text); whole = length (l .raw) }
+
+-- the same, with the class of its text
+unfoldable pub classedOf : Opts → Line → ClassedExtent
+classedOf o l = record { extent = lengthsOf l; class = classify o (l .text) }
+
+-- where the line ends that goes on at a place: it is the same from each place of a body
+abbrev pub bodyEnd : List ℕ → ℕ → ℕ
+bodyEnd s at = at + length (body (drop at s))
+
+-- the bytes from a place up to another are below 0x80, and no line feed is among them
+pub record AsciiBody (s : List ℕ) (from to : ℕ) : Type 0 where
+  pub ascii : Ascii s from to
+  pub same : bodyEnd s from ≡ bodyEnd s to
 
 -- a part given lies in the block
 abbrev pub Lies : List ℕ → Part → Type 0
