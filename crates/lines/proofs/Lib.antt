@@ -7,6 +7,7 @@ pub mod Asciis
 pub mod Measures
 pub mod Glued
 pub mod InkBefore
+pub mod UsualBlanks
 pub mod Turns
 pub mod Same
 pub mod Prefixes

@@ -11,7 +11,7 @@ ghost use Rattle.text.specs.Contracts.Places.{Ascii};
 ghost use Rattle.options.specs.Opts.{textOf, meant};
 ghost use Rattle.lines.specs.Lines.{body, withoutReturn, firstLine};
 ghost use Rattle.lines.specs.Classes.{nextStop, search, skipFound, somewhere, classify};
-ghost use Rattle.lines.specs.Contracts.Places.{lengthsOf, classedOf, bodyEnd, AsciiBody, Lies, Usable, Inside, classAt, Behind, BehindBlanks, BehindPlace, inkBefore, glyphsBehind, gluedAt};
+ghost use Rattle.lines.specs.Contracts.Places.{lengthsOf, classedOf, bodyEnd, AsciiBody, Tabs, BehindTabs, Lies, Usable, Inside, classAt, Behind, BehindBlanks, BehindPlace, inkBefore, glyphsBehind, gluedAt};
 use options::Options;
 use options::Part;
 use text::Char;
@@ -329,7 +329,7 @@ fn is_all_blank(line: &[u8]) -> bool
         let b = line[i];
         if b < 0x80 {
             if widths::is_white_space(wide(b)) {
-                i += 1;
+                i = blank_eights(line, i + 1);
             } else {
                 return false;
             }
@@ -341,6 +341,44 @@ fn is_all_blank(line: &[u8]) -> bool
         }
     }
     true
+}
+
+// On over blanks of a line, as long as the next eight bytes are spaces or tabs.
+fn blank_eights(line: &[u8], from: usize) -> usize
+    requires { ⌜ from ≤ length (now line) ⌝ }
+    ensures { λ r. ⌜ (from ≤ r) × (r ≤ length (now (line .entry))) × ((glue : Bool) → every isBlank (glyphs glue (drop r (now (line .entry)))) ≡ every isBlank (glyphs glue (drop from (now (line .entry))))) ⌝ }
+{
+    let mut i = from;
+    while 8 <= line.len() - i {
+        if are_blank(line, i) {
+            i += 8;
+        } else {
+            return i;
+        }
+    }
+    i
+}
+
+// Whether the eight bytes at a place are spaces or tabs.
+fn are_blank(s: &[u8], i: usize) -> bool
+    requires { ⌜ (i ≤ length (now s)) × (8 ≤ length (now s) - i) ⌝ }
+    ensures { λ r. ⌜ (r ≡ true → (glue : Bool) → every isBlank (glyphs glue (drop i (now (s .entry)))) ≡ every isBlank (glyphs glue (drop (i + 8) (now (s .entry))))) ⌝ }
+{
+    let b = i + 1;
+    let c = i + 2;
+    let d = i + 3;
+    let e = i + 4;
+    let f = i + 5;
+    let g = i + 6;
+    let h = i + 7;
+    ((s[i] == 32) | (s[i] == 9))
+        & ((s[b] == 32) | (s[b] == 9))
+        & ((s[c] == 32) | (s[c] == 9))
+        & ((s[d] == 32) | (s[d] == 9))
+        & ((s[e] == 32) | (s[e] == 9))
+        & ((s[f] == 32) | (s[f] == 9))
+        & ((s[g] == 32) | (s[g] == 9))
+        & ((s[h] == 32) | (s[h] == 9))
 }
 
 // Whether a character of a line is damaged. A line that is known to be ASCII has none, and is not read again.
@@ -493,11 +531,39 @@ fn over_blanks(line: &[u8], from: Spot, tab: usize) -> Spot
         let Glyph::Blank { code, next } = text::glyph_at(line, at) else {
             return spot;
         };
+        // Behind a tab each further one goes on by a whole stop.
+        let end = behind_tabs(line, code, next);
         spot = Spot {
-            at: next,
-            column: column_behind(spot.column, code, tab),
+            at: end,
+            column: column_behind(spot.column, code, tab) + (end - next) * tab,
         };
     }
+}
+
+// The place behind a blank, and if it is a tab behind those that follow it.
+fn behind_tabs(line: &[u8], code: u32, next: usize) -> usize
+    requires { ⌜ next ≤ length (now line) ⌝ }
+    ensures { λ r. ⌜ BehindTabs (now (line .entry)) code next r ⌝ }
+{
+    if code == 9 {
+        return tabs_end(line, next);
+    }
+    next
+}
+
+// The end of the tabs at a place.
+fn tabs_end(line: &[u8], from: usize) -> usize
+    requires { ⌜ from ≤ length (now line) ⌝ }
+    ensures { λ r. ⌜ Tabs (now (line .entry)) from r ⌝ }
+{
+    let mut i = from;
+    while i < line.len() {
+        if line[i] != 9 {
+            return i;
+        }
+        i += 1;
+    }
+    i
 }
 
 // The spot behind the characters that begin before a place.

@@ -1,7 +1,6 @@
 pub mod InkRuns
 pub mod PlainRuns
 pub mod Eights
-pub mod UsualBlanks
 pub mod BlankRuns
 pub mod WordRuns
 pub mod Tabless

@@ -28,7 +28,7 @@ use Rattle.words.specs.declared.Count.{Count}
 use Rattle.words.specs.declared.Spaced.{Spaced}
 use Rattle.words.proofs.InkRuns.{InkLeft, ink-first, ink-past, ink-stop}
 use Rattle.words.proofs.PlainRuns.{plain-here, ink-plain}
-use Rattle.words.proofs.UsualBlanks.{ends-here, ends-word-here}
+use Rattle.lines.proofs.UsualBlanks.{ends-here, ends-word-here}
 use Rattle.words.proofs.BlankRuns.{blanks-none, blanks-one}
 use Rattle.words.proofs.NextWord.{next-line, next-small}
 use Rattle.words.proofs.LineEnds.{ends-later, line-ends}

@@ -31,11 +31,14 @@ wide-requires c κs = search needs
 is-white-space-requires : tie.Need-is-white-space-requires Inv-loop μ-loop
 is-white-space-requires c κs = search needs
 
-add-i : tie.Need-add-i Inv-loop μ-loop
-add-i c = search needs
+add-blank-eights : tie.Need-add-blank-eights Inv-loop μ-loop
+add-blank-eights c = search needs
+
+blank-eights-requires : tie.Need-blank-eights-requires Inv-loop μ-loop
+blank-eights-requires c κs = search needs
 
 loop-less : tie.Need-loop-less Inv-loop μ-loop
-loop-less c = search needs
+loop-less c = let e = c .blank-eights .ensures in omega (arith, e .0, e .1)
 
 -- the byte that the loop's turn reads, a character by itself
 octet : (c : tie.After-is-white-space Inv-loop μ-loop)
@@ -43,7 +46,7 @@ octet : (c : tie.After-is-white-space Inv-loop μ-loop)
 octet c = rw (c .is-white-space .ensures, c .before .wide .ensures) (ascii-here _ _ (c .before .before .before .before .loop-test .taken) (c .before .before .if1 .taken))
 
 loop-again : tie.Need-loop-again Inv-loop μ-loop
-loop-again c = (search needs, λ glue. sym (all-on glue _ _ _ _ (rw (c .if2 .taken) at (octet (c .before)))) ∙ c .before .before .before .before .before .before .loop .inv .1 glue)
+loop-again c = let e = c .blank-eights .ensures in (e .1, λ glue. e .2 glue ∙ sym (all-on glue _ _ _ _ (rw (c .before .if2 .taken) at (octet (c .before .before)))) ∙ c .before .before .before .before .before .before .before .loop .inv .1 glue)
 
 returns : tie.Need-returns Inv-loop μ-loop
 returns c = λ glue. sym (all-stop glue _ _ (c .before .before .before .before .before .loop-test .taken) (octet (c .before) .isBlank ∙ c .if2 .left)) ∙ c .before .before .before .before .before .before .loop .inv .1 glue
@@ -80,7 +83,8 @@ is-all-blank-spec =
     shared-slice-read-b
     wide-requires
     is-white-space-requires
-    add-i
+    add-blank-eights
+    blank-eights-requires
     loop-less
     loop-again
     returns

@@ -4,7 +4,7 @@ use mathlib.Core.Bool.{Bool, false, cond, _&&_}
 use mathlib.Core.List.{List, _∷_}
 use Prim.Native.Nat.{ℕ, _+_, _-_, _*_, _≤_, _<_}
 use lib.Dec.{eqb}
-use lib.ListN.{length, drop}
+use lib.ListN.{length, getD, drop}
 use Rattle.lists.specs.Runs.{while, every}
 use Rattle.text.specs.Characters.{Glyph, glyph, characters, inkAhead, isBlank, extent}
 use Rattle.text.specs.Contracts.Places.{Ascii, settle, inkAfter, noBreakAt}
@@ -38,6 +38,17 @@ bodyEnd s at = at + length (body (drop at s))
 pub record AsciiBody (s : List ℕ) (from to : ℕ) : Type 0 where
   pub ascii : Ascii s from to
   pub same : bodyEnd s from ≡ bodyEnd s to
+
+-- tabs stand from a place up to another
+pub record Tabs (s : List ℕ) (from to : ℕ) : Type 0 where
+  pub on : from ≤ to
+  pub within : to ≤ length s
+  pub tab : (i : ℕ) → from ≤ i → i < to → getD s i 0 ≡ 9
+
+-- r is the place behind the tabs that stand behind a blank, if it is one
+pub record BehindTabs (s : List ℕ) (code next r : ℕ) : Type 0 where
+  pub run : Tabs s next r
+  pub only : (code ≡ 9 → ⊥) → r ≡ next
 
 -- a part given lies in the block
 abbrev pub Lies : List ℕ → Part → Type 0

@@ -8,7 +8,7 @@ use denote.Ref.{now}
 use borrow.Author.Needs.{needs}
 use Rattle.text.proofs.Glyphs.{Here, blank-here}
 use Rattle.words.proofs.BlankRuns.{BlanksLeft, blanks-first, blanks-more, blanks-done, blanks-one, no-blank, no-blank-begins}
-use Rattle.words.proofs.UsualBlanks.{tab-here}
+use Rattle.lines.proofs.UsualBlanks.{tab-here}
 use Rattle.words.proofs.over_blanks.Statement.{statement}
 use Rattle.words.proofs.over_blanks.Tie as tie
 

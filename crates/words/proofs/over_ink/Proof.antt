@@ -13,7 +13,7 @@ use Rattle.text.proofs.Leads.{long-code}
 use Rattle.lines.proofs.Measures.{narrow}
 use Rattle.words.proofs.InkRuns.{InkLeft, ink-first, ink-more, ink-letter, ink-long, ink-long-stop, ink-damaged, ink-past, ink-stop, ink-glued, ends-there}
 use Rattle.words.proofs.PlainRuns.{ink-plain}
-use Rattle.words.proofs.UsualBlanks.{ends-here, ends-word-here}
+use Rattle.lines.proofs.UsualBlanks.{ends-here, ends-word-here}
 use Rattle.widths.proofs.Inks.{ink-not-blank}
 use Rattle.words.proofs.over_ink.Statement.{statement}
 use Rattle.words.proofs.over_ink.Tie as tie

@@ -1,0 +1,49 @@
+-- `lines::tabs_end` meets its contract. Invariant: what was passed is tabs.
+use Prim.Native.Nat.{_-_}
+use lib.ListN.{length}
+use borrow.Author.Needs.{needs}
+use Rattle.lines.specs.Contracts.Places.{Tabs}
+use Rattle.lines.proofs.Turns.{tabs-none, tabs-more}
+use Rattle.lines.proofs.tabs_end.Statement.{statement}
+use Rattle.lines.proofs.tabs_end.Tie as tie
+
+abbrev Inv-loop : tie.InvT-loop
+Inv-loop line from i₀ i = Tabs line from i
+
+abbrev μ-loop : tie.MeasureT-loop
+μ-loop line from i₀ i = length line - i
+
+loop-holds : tie.Need-loop-holds Inv-loop μ-loop
+loop-holds c = tabs-none (search needs)
+
+shared-slice-read-if1 : tie.Need-shared-slice-read-if1 Inv-loop μ-loop
+shared-slice-read-if1 c = search needs
+
+returns : tie.Need-returns Inv-loop μ-loop
+returns c = search needs
+
+add-i : tie.Need-add-i Inv-loop μ-loop
+add-i c = search needs
+
+loop-less : tie.Need-loop-less Inv-loop μ-loop
+loop-less c = search needs
+
+loop-again : tie.Need-loop-again Inv-loop μ-loop
+loop-again c = tabs-more (c .before .before .before .loop .inv) (c .before .before .loop-test .taken) (c .if1 .left)
+
+returns-2 : tie.Need-returns-2 Inv-loop μ-loop
+returns-2 c = search needs
+
+pub tabs-end-spec : {M : Type 1} → statement M
+tabs-end-spec =
+    tie.close
+    (tie.spec
+    Inv-loop
+    μ-loop
+    loop-holds
+    shared-slice-read-if1
+    returns
+    add-i
+    loop-less
+    loop-again
+    returns-2)
