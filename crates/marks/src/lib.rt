@@ -18,7 +18,7 @@ pub fn mark(table: &mut [u32], at: usize)
 
 // How far it is from a place to the next mark: 1 if the place itself has one, 0 if there is none.
 pub fn gap(table: &[u32], from: usize) -> usize
-    requires { ⌜ (from ≤ 32 * length (now table)) × (length (now table) ≤ 2 ^ 15) ⌝ }
+    requires { ⌜ length (now table) ≤ 2 ^ 15 ⌝ }
     ensures { λ r. ⌜ r ≡ toMark (drop from (marksIn (now (table .entry)))) ⌝ }
 {
     let k = from / 32;

@@ -23,7 +23,7 @@ add-gap : tie.Need-add-gap
 add-gap c = let h = gap-within (c .before .before .before .before .args .marks .now) (behind (c .before .before .before .before .args .r)) _ (c .before .before .before .before .pre .0) (c .gap .ensures) in let k = c .before .before .before .before .pre .1 in omega (arith, h, k)
 
 gap-requires-2 : tie.Need-gap-requires-2
-gap-requires-2 c κs = (gap-within (c .before .before .before .before .args .marks .now) (behind (c .before .before .before .before .args .r)) _ (c .before .before .before .before .pre .0) (c .gap .ensures), c .before .before .before .before .pre .1)
+gap-requires-2 c κs = search needs
 
 returns : tie.Need-returns
 returns c = after-is (marksIn (c .before .before .before .before .before .args .marks .now)) (c .before .before .before .before .before .args .r) _ _ (c .before .gap .ensures) (c .gap2 .ensures)

@@ -47,7 +47,7 @@ sub-result c = search needs
 add-result : tie.Need-add-result
 add-result c =
     let start = c .before .before .before .before .before .before in
-    record { fits = omega (arith, start .pre .1, c .before .gap-from-word .ensures, gap-few (start .args .table .now) (start .args .from / 32 + 1)) }
+    record { fits = omega (arith, start .pre, c .before .gap-from-word .ensures, gap-few (start .args .table .now) (start .args .from / 32 + 1)) }
 
 returns-4 : tie.Need-returns-4
 returns-4 c =
