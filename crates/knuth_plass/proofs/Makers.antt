@@ -7,7 +7,7 @@ use native.Mathlib.Omega.{arith}
 use borrow.Author.Tests.{le-leb, lt-leb, eq-eqb, ne-eqb}
 use lib.Dec.{leb, eqb}
 use lib.Ieee.{Float}
-use lib.ListN.{length, getD, take, length-map}
+use lib.ListN.{length, getD, take}
 use lib.Seq.{slice, length-take-le, getD-take}
 use Rattle.lists.proofs.Remaining.{slice-here, slice-none}
 use Rattle.records.specs.Word.{Word, meaning}
@@ -31,8 +31,8 @@ use Rattle.knuth_plass.specs.Contracts.Makers.{triedOf, found, chosenIn,
 use Rattle.knuth_plass.proofs.Ascends.{ascends-each}
 use Rattle.knuth_plass.proofs.Offers.{offer-some, offer-none}
 use Rattle.knuth_plass.proofs.Over.{fit-all}
-use Rattle.knuth_plass.proofs.Paragraph.{round-is}
-use Rattle.knuth_plass.proofs.Settling.{kept-room}
+use Rattle.knuth_plass.proofs.Paragraph.{turnOf, round-is}
+use Rattle.knuth_plass.proofs.Settling.{kept-room, breaks-length}
 
 -- ---- an offer of a total
 
@@ -121,9 +121,6 @@ module _ (g : Setting) (turn : Turn) (st : Standing) (t : Tables) (a : List ℕ)
   pub from-is : From turn st (s .from) t
   from-is = let f = fit .from in let m = fit .few in let h = fit .holds in record { sized = fit .filled .sized; within = omega arith; sound = fit .filled .sound (s .from) (fit .from) }
 
-  stayed-length : length (breaksListed (s .kept) t a) ≡ s .kept
-  stayed-length = let k = kept-room g turn st t a s turns fit in let l = fit .active in length-map (take (s .kept) a) (breakMeant t) ∙ length-take-le (s .kept) a (omega arith)
-
   module _ (notes : List ℕ) (active : List Break) (done : Done g turn st active t a s notes) where
     abbrev word : Word
     word = meaning notes (turn .word)
@@ -147,7 +144,7 @@ module _ (g : Setting) (turn : Turn) (st : Standing) (t : Tables) (a : List ℕ)
 
     pub makes-nothing : nothing ≤ s .best .total → 0 < s .kept → Paragraph ≡ makes
     makes-nothing h k =
-        rw (← done .best, offer-none g (turn .number) t (s .best) h, ← done .stayed) (some-stays (breaksListed (s .kept) t a) (rw stayed-length k))
+        rw (← done .best, offer-none g (turn .number) t (s .best) h, ← done .stayed) (some-stays (breaksListed (s .kept) t a) (rw (breaks-length g turn st t a s turns fit) k))
 
     pub makes-forced : (e : Ending) → nothing ≤ s .best .total → s .kept ≡ 0 → ForcedIs g turn (lessened (st .reduction) (breakIn t (s .from))) e → e ≡ makes
     makes-forced e h z is =
@@ -158,11 +155,8 @@ module _ (g : Setting) (turn : Turn) (st : Standing) (t : Tables) (a : List ℕ)
 -- ---- a round
 
 module _ (g : Setting) (last sentence : Bool) (i : ℕ) (w : WordRecord) (space weight : ℕ) (st : Standing) (t : Tables) (a : List ℕ) where
-  abbrev turn : Turn
-  turn = record { word = w; number = i; space = space; weight = weight; last = last }
-
   pub told-is : (t₁ : Tables) (a₁ : List ℕ) (s : State) (t₂ : Tables) (a₂ : List ℕ) (r : Standing) (e : Ending) → space ≡ addedSpace (g .uniform) (w .first) sentence false
-      → ((notes : List ℕ) → Done g turn st (map (reduced (st .reduction)) (breaksListed (st .count) t a)) t₁ a₁ s notes) → MakerIs g turn st t₁ a₁ s e → Settled g turn st t₁ a₁ s t₂ a₂ r
+      → ((notes : List ℕ) → Done g (turnOf last i w space weight) st (map (reduced (st .reduction)) (breaksListed (st .count) t a)) t₁ a₁ s notes) → MakerIs g (turnOf last i w space weight) st t₁ a₁ s e → Settled g (turnOf last i w space weight) st t₁ a₁ s t₂ a₂ r
       → ToldIs g last sentence i w st t a t₂ a₂ (record { st = r; ending = e })
   unfolding maker meaning
   told-is t₁ a₁ s t₂ a₂ r e h done makes settles = record {

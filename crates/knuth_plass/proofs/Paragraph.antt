@@ -29,12 +29,12 @@ use Rattle.knuth_plass.proofs.Path.{path-start}
 
 -- ---- one round
 
-module _ (g : Setting) (last sentence : Bool) (i : ℕ) (w : WordRecord) (space weight : ℕ) (st : Standing) (t : Tables) (a : List ℕ) where
-  abbrev turn : Turn
-  turn = record { word = w; number = i; space = space; weight = weight; last = last }
+abbrev pub turnOf : Bool → ℕ → WordRecord → ℕ → ℕ → Turn
+turnOf last i w space weight = record { word = w; number = i; space = space; weight = weight; last = last }
 
+module _ (g : Setting) (last sentence : Bool) (i : ℕ) (w : WordRecord) (space weight : ℕ) (st : Standing) (t : Tables) (a : List ℕ) where
   pub round-is : (t₁ : Tables) (a₁ : List ℕ) (s : State) (t₂ : Tables) (a₂ : List ℕ) (r : Standing) → space ≡ addedSpace (g .uniform) (w .first) sentence false
-      → ((notes : List ℕ) → Done g turn st (map (reduced (st .reduction)) (breaksListed (st .count) t a)) t₁ a₁ s notes) → Settled g turn st t₁ a₁ s t₂ a₂ r
+      → ((notes : List ℕ) → Done g (turnOf last i w space weight) st (map (reduced (st .reduction)) (breaksListed (st .count) t a)) t₁ a₁ s notes) → Settled g (turnOf last i w space weight) st t₁ a₁ s t₂ a₂ r
       → RoundIs g last sentence i w st t a t₂ a₂ r
   unfolding round meaning
   round-is t₁ a₁ s t₂ a₂ r e done settles = record {

@@ -97,7 +97,7 @@ module _ (g : Setting) (turn : Turn) (st : Standing) (t : Tables) (a : List ℕ)
         )
 
   -- what stays is as many as are kept
-  breaks-length : length (breaksListed (s .kept) t a) ≡ s .kept
+  pub breaks-length : length (breaksListed (s .kept) t a) ≡ s .kept
   breaks-length = let k = kept-room in let l = fit .active in length-map (take (s .kept) a) (breakMeant t) ∙ length-take-le (s .kept) a (omega arith)
 
   -- the reduction is the least break's demerits
