@@ -140,7 +140,7 @@ module _ (line : List ℕ) where
 
 -- ---- of notes from a place on
 
-mended-nil : mended [] ≡ []
+pub mended-nil : mended [] ≡ []
 unfolding mended
 mended-nil = rw (no-lines, joined-nil)
 

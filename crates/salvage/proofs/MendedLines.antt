@@ -20,7 +20,7 @@ use Rattle.salvage.specs.Lines.{noFeed, firstLine, linesOf, wellFormed}
 use Rattle.salvage.specs.Mending.{mendedLine, mended}
 use Rattle.salvage.proofs.Lines.{no-lines, first-and-rest, first-line-is}
 use Rattle.salvage.proofs.WellFormed.{formed-nil, formed-behind, ill-formed}
-use Rattle.salvage.proofs.Counts.{encode-low, encode-high, low-or-high, left-as-found, changed, formed-or-not}
+use Rattle.salvage.proofs.Counts.{encode-low, encode-high, low-or-high, left-as-found, changed, mended-nil, formed-or-not}
 
 -- ---- bytes
 
@@ -89,10 +89,6 @@ module _ (P : List ℕ → Type 0) (none : P []) (last : (bs : List ℕ) → 0 <
   lines-induct xs = behind-run [] tt xs
 
 -- ---- mended texts
-
-pub mended-none : mended [] ≡ []
-unfolding mended
-mended-none = rw (no-lines, joined-nil)
 
 pub mended-last : (bs : List ℕ) → 0 < length bs → Feedless bs → mended bs ≡ mendedLine bs
 unfolding mended
@@ -188,7 +184,7 @@ line-formed line b = ap wellFormed (sym (append-nil (mendedLine line))) ∙ form
 pub lines-formed : (notes : List ℕ) → Bytes notes → All (λ line. wellFormed line ≡ true) (linesOf (mended notes))
 lines-formed =
     lines-induct (λ xs. Bytes xs → All (λ line. wellFormed line ≡ true) (linesOf (mended xs)))
-    (λ b. rw (mended-none, no-lines) tt)
+    (λ b. rw (mended-nil, no-lines) tt)
     (λ bs h f b. let m = last-feedless bs h b f in rw (mended-last bs h f, one-line (mendedLine bs) (m .0) (m .1)) (line-formed bs b, tt))
     step
   where
@@ -204,7 +200,7 @@ lines-formed =
 pub text-formed : (notes : List ℕ) → Bytes notes → wellFormed (mended notes) ≡ true
 text-formed =
     lines-induct (λ xs. Bytes xs → wellFormed (mended xs) ≡ true)
-    (λ b. rw mended-none formed-nil)
+    (λ b. rw mended-nil formed-nil)
     (λ bs h f b. rw (mended-last bs h f) (line-formed bs b))
     (λ bs xs f ih b.
     let c : Bytes (bs ++ 10 ∷ []) = bytes-front (bs ++ 10 ∷ []) xs (rw (append-assoc bs (10 ∷ []) xs) b) in
