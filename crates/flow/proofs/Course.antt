@@ -20,11 +20,10 @@ use Rattle.lines.proofs.Lines.{lines-past}
 use Rattle.lines.proofs.Usable.{usable}
 use Rattle.pieces.specs.Pieces.{Piece, Kind, blankLine, plainLine, paragraph, Paragraph, nextPiece, pieces}
 use Rattle.pieces.specs.Contracts.Places.{Cleared, pieceAt}
-use Rattle.pieces.specs.Contracts.Bounds.{MarginWithin, ParagraphWithin, Bounded}
-use Rattle.pieces.specs.declared.Margin.{Margin}
+use Rattle.pieces.specs.Contracts.Bounds.{ParagraphWithin, Bounded}
 use Rattle.pieces.specs.declared.Paragraph.{Paragraph as ParagraphAt}
 use Rattle.pieces.specs.declared.Piece.{Piece as PieceAt}
-use Rattle.pieces.proofs.Meaning.{TextIs, means}
+use Rattle.pieces.proofs.Meaning.{TextIs}
 use Rattle.records.specs.Word.{Word}
 use Rattle.records.specs.Contracts.Table.{wordsIn}
 use Rattle.records.specs.Contracts.Marks.{breaksIn}
@@ -35,7 +34,7 @@ use Rattle.spacing.specs.Contracts.Bounds.{Fair}
 use Rattle.output.specs.declared.Layout.{Layout}
 use Rattle.output.specs.Contracts.Bound.{longest}
 use Rattle.output.specs.Contracts.Sink.{Wrote, Left}
-use Rattle.output.specs.Contracts.Writers.{marginOf, MarginIn}
+use Rattle.output.specs.Contracts.Writers.{marginOf}
 use Rattle.output.proofs.Sink.{length-written, wrote-nil, left-first, left-then, left-last}
 use Rattle.quick.specs.Quick.{quickBreaks}
 use Rattle.paragraphs.specs.Contracts.Steps.{settingFor, wordsFor, Placed}
@@ -43,8 +42,9 @@ use Rattle.paragraphs.proofs.Breaking.{limits-of}
 use Rattle.walk.specs.Digest.{mostWords, tooMany, longParagraph}
 use Rattle.walk.specs.Contracts.Course.{piecesFrom, longFrom, FirstPiece}
 use Rattle.walk.proofs.Rows.{text-words}
-use Rattle.walk.proofs.Meaning.{TextGoes, PieceGoes, piece-goes}
+use Rattle.walk.proofs.Meaning.{TextGoes, PieceGoes}
 use Rattle.walk.proofs.Bound.{text-most}
+use Rattle.walk.proofs.Steps.{piece-found, text-found}
 use Rattle.walk.proofs.Loop.{all-long, long-none, long-more, long-here}
 use Rattle.unflow.specs.Flowed.{isDashes}
 use Rattle.flow.specs.Flow.{brokenInto, paragraphLines, sentLines, plainSent, trimmed, sent, sentPiece, flowed, pieceDashes, dashesIn}
@@ -88,13 +88,8 @@ module _ (block notes : List ℕ) (o : Options) (ready : Ready block notes o) wh
   ready-quick : o .quick ≡ true
   ready-quick = rw (ready .is)
 
-  -- the piece that the code found at a place, with the bounds promised of it
   pub found-goes : (nextMail : Bool) (at : ℕ) (r s : PieceAt) → at < length notes → (r ≡ pieceAt (meant block o) nextMail notes at) × Bounded (o .glue) notes at r → r ≡ s → PieceGoes (meant block o) nextMail notes at s
-  unfolding meant
-  found-goes nextMail at r s h p q =
-      let k = ready-kept in
-      let m = means (meant block o) nextMail notes at h (k .tabLeast) (k .tabMost) (ready .admitted .short) (k .splitClears) in
-      piece-goes (meant block o) nextMail notes at s (rw (sym q ∙ p .0) m) (rw q at (p .1))
+  found-goes nextMail at r s h p q = piece-found block notes o ready-kept (ready .admitted .short) nextMail at r s h p q
 
 pub fair-of : {notes : List ℕ} {at : ℕ} {o : Options} {p : ParagraphAt} → Placed notes at o p → (block : List ℕ) → Fair (settingFor block o p)
 fair-of {notes} {at} {o} {p} h block =
@@ -175,9 +170,6 @@ module _ (block notes : List ℕ) (o : Options) (ready : Ready block notes o) (n
   abbrev breaks : List Bool
   breaks = quickBreaks (settingFor block o p) ws
 
-  margin-in : (m : Margin) → MarginWithin at (p .next) m → MarginIn (length notes) m
-  margin-in m h = record { order = h .order; end = omega (arith, h .high, bounds .within); more = omega (arith, h .more) }
-
   words-are : wordsOf (meant block o) q ≡ ws
   words-are = text-words (meant block o) notes at p q text
 
@@ -187,30 +179,8 @@ module _ (block notes : List ℕ) (o : Options) (ready : Ready block notes o) (n
   some : 0 < length ws
   some = let s = paragraph-some (meant block o) _ q (text .rows) in rw words-are at s
 
-  -- it lies in the notes, with limits that keep all sums small
   placed : Placed notes at o p
-  unfolding meant
-  placed =
-      let k = ready-kept block notes o ready in
-      let f = bounds .first in
-      let i = bounds .indent in
-      record {
-        order = omega (arith, bounds .on);
-        within = bounds .within;
-        short = ready .admitted .short;
-        begins = bounds .begins;
-        block = block;
-        some = some;
-        first = margin-in (p .first) f;
-        indent = margin-in (p .indent) i;
-        firstSmall = omega (arith, f .columns);
-        indentSmall = omega (arith, i .columns);
-        goal = k .goalMost;
-        twice = k .widthTwice;
-        width = k .widthMost;
-        tabLeast = k .tabLeast;
-        tabMost = k .tabMost;
-      }
+  placed = text-found block notes o (ready-kept block notes o ready) (ready .admitted .short) nextMail at p q text bounds
 
   lines-are : paragraphLines (meant block o) q ≡ brokenInto first indent breaks ws
   unfolding paragraphLines meant

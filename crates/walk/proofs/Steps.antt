@@ -42,6 +42,44 @@ use Rattle.walk.proofs.Loop.{going-over}
 
 -- ---- what the block's options allow
 
+-- in notes that are not too long, under options that a block can give
+module _ (block notes : List ℕ) (o : Options) (kept : Kept block o) (short : length notes ≤ 65536) (nextMail : Bool) (at : ℕ) where
+  -- the piece that the code found at a place, with the bounds promised of it
+  pub piece-found : (r s : PieceAt) → at < length notes → (r ≡ pieceAt (meant block o) nextMail notes at) × Bounded (o .glue) notes at r → r ≡ s → PieceGoes (meant block o) nextMail notes at s
+  unfolding meant
+  piece-found r s h p q =
+      let m = means (meant block o) nextMail notes at h (kept .tabLeast) (kept .tabMost) short (kept .splitClears) in
+      piece-goes (meant block o) nextMail notes at s (rw (sym q ∙ p .0) m) (rw q at (p .1))
+
+  -- a paragraph lies in the notes, with limits that keep all sums small
+  module _ (p : ParagraphAt) (q : Paragraph) (text : TextIs (meant block o) notes at p q) (bounds : ParagraphWithin (meant block o .glue) notes at p) where
+    margin-in : (m : Margin) → MarginWithin at (p .next) m → MarginIn (length notes) m
+    margin-in m h = record { order = h .order; end = omega (arith, h .high, bounds .within); more = omega (arith, h .more) }
+
+    pub text-found : Placed notes at o p
+    unfolding meant
+    text-found =
+        let f = bounds .first in
+        let i = bounds .indent in
+        let s = paragraph-some (meant block o) _ q (text .rows) in
+        record {
+          order = omega (arith, bounds .on);
+          within = bounds .within;
+          short = short;
+          begins = bounds .begins;
+          block = block;
+          some = rw (text-words (meant block o) notes at p q text) at s;
+          first = margin-in (p .first) f;
+          indent = margin-in (p .indent) i;
+          firstSmall = omega (arith, f .columns);
+          indentSmall = omega (arith, i .columns);
+          goal = kept .goalMost;
+          twice = kept .widthTwice;
+          width = kept .widthMost;
+          tabLeast = kept .tabLeast;
+          tabMost = kept .tabMost;
+        }
+
 module _ (block notes : List ℕ) (o : Options) (ready : Admitted block notes o) where
   pub ready-kept : Kept block o
   ready-kept = accepted block o (ready .accepted)
@@ -52,13 +90,8 @@ module _ (block notes : List ℕ) (o : Options) (ready : Admitted block notes o)
   pub ready-cleared : Cleared o
   ready-cleared = ready-kept .splitClears
 
-  -- the piece that the code found at a place, with the bounds promised of it
   pub found-goes : (nextMail : Bool) (at : ℕ) (r s : PieceAt) → at < length notes → (r ≡ pieceAt (meant block o) nextMail notes at) × Bounded (o .glue) notes at r → r ≡ s → PieceGoes (meant block o) nextMail notes at s
-  unfolding meant
-  found-goes nextMail at r s h p q =
-      let k = ready-kept in
-      let m = means (meant block o) nextMail notes at h (k .tabLeast) (k .tabMost) (ready .short) (k .splitClears) in
-      piece-goes (meant block o) nextMail notes at s (rw (sym q ∙ p .0) m) (rw q at (p .1))
+  found-goes nextMail at r s h p q = piece-found block notes o ready-kept (ready .short) nextMail at r s h p q
 
 pub found-begins : (block notes : List ℕ) (o : Options) (c : Cursor) (p : ParagraphAt) {r : PieceAt} → c .at < length notes → (r ≡ pieceAt (meant block o) (c .mail) notes (c .at)) × Bounded (o .glue) notes (c .at) r → r ≡ Text p
     → TextAhead block o notes c p
@@ -84,36 +117,8 @@ module _ (o : Opts) (notes out : List ℕ) (c : Cursor) (out′ : List ℕ) (nex
 
 module _ (block notes : List ℕ) (o : Options) (ready : Admitted block notes o) (nextMail : Bool) (at : ℕ) (p : ParagraphAt) (q : Paragraph)
     (goes : FirstPiece (meant block o) nextMail notes at (paragraph q) (p .mail) (p .next)) (text : TextIs (meant block o) notes at p q) (bounds : ParagraphWithin (meant block o .glue) notes at p) where
-  margin-in : (m : Margin) → MarginWithin at (p .next) m → MarginIn (length notes) m
-  margin-in m h = record { order = h .order; end = omega (arith, h .high, bounds .within); more = omega (arith, h .more) }
-
   words-are : wordsOf (meant block o) q ≡ wordsFor block notes at o p
   words-are = text-words (meant block o) notes at p q text
-
-  text-placed : Placed notes at o p
-  unfolding meant
-  text-placed =
-      let k = ready-kept block notes o ready in
-      let f = bounds .first in
-      let i = bounds .indent in
-      let s = paragraph-some (meant block o) _ q (text .rows) in
-      record {
-        order = omega (arith, bounds .on);
-        within = bounds .within;
-        short = ready .short;
-        begins = bounds .begins;
-        block = block;
-        some = rw words-are at s;
-        first = margin-in (p .first) f;
-        indent = margin-in (p .indent) i;
-        firstSmall = omega (arith, f .columns);
-        indentSmall = omega (arith, i .columns);
-        goal = k .goalMost;
-        twice = k .widthTwice;
-        width = k .widthMost;
-        tabLeast = k .tabLeast;
-        tabMost = k .tabMost;
-      }
 
   formatted-is : formatted (meant block o) q
       ≡ emit (o .uniform || p .mail) (marginOf notes (p .first)) (marginOf notes (p .indent)) (breaksBy (o .quick || p .mail) (settingFor block o p) (wordsFor block notes at o p)) (wordsFor block notes at o p)
@@ -151,7 +156,7 @@ module _ (block notes : List ℕ) (o : Options) (c : Cursor) (p : ParagraphAt) (
   begins-goes = found-goes block notes o ready (c .mail) (c .at) (Text p) (Text p) (b .within) (b .is, b .bounds) refl
 
   pub begins-placed : Placed notes (c .at) o p
-  begins-placed = let g = begins-goes in text-placed block notes o ready (c .mail) (c .at) p (g .paragraph-is) (g .goes) (g .text) (g .bounds)
+  begins-placed = let g = begins-goes in text-found block notes o (ready-kept block notes o ready) (ready .short) (c .mail) (c .at) p (g .paragraph-is) (g .text) (g .bounds)
 
   pub begins-stepped : (longest : ℕ) (out out′ : List ℕ) (r : Step) (d : Cursor) → TextStepped longest notes (c .at) o p out (c .written) out′ r block → r ≡ On d → Put (meant block o) notes out c d out′
   begins-stepped longest out out′ r d w e =
