@@ -26,6 +26,7 @@ use Rattle.formatter.specs.declared.Reply.the-variants.{Words}
 use Rattle.formatter.specs.declared.Admission.{Admission}
 use Rattle.formatter.specs.declared.Admission.the-variants.{Refused as NotAdmitted, Passed as Admitted}
 use Rattle.formatter.proofs.Refusals.{a-refusal-is-no-digest}
+use Rattle.formatter.proofs.Replies.{refused-of, passed-of}
 use Rattle.explain.specs.declared.Asked.{Asked}
 use Rattle.explain.specs.declared.Asked.the-variants.{Told, Behind}
 use Rattle.explain.specs.declared.Sought.{Sought}
@@ -74,12 +75,6 @@ module _ (o : Opts) (notes : List ℕ) (line : ℕ) (r : Sought) (s : SoughtIs o
 -- ---- before any piece is looked at
 
 module _ (block notes : List ℕ) (a : Admission) (admits : Admits block notes a) where
-  pub passed-of : {o : Options} → a ≡ Admitted o → Admits block notes (Admitted o)
-  passed-of e = rw e at admits
-
-  refused-of : {r : Reply} → a ≡ NotAdmitted r → Admits block notes (NotAdmitted r)
-  refused-of e = rw e at admits
-
   refusal-stays : (x : Explanation) (b : Answer) → 1 ≤ code b → afterMeasuring x b ≡ refused b
   refusal-stays x (done digest) h = absurd (omega (arith, h))
   refusal-stays x (options place) h = refl
@@ -91,7 +86,7 @@ module _ (block notes : List ℕ) (a : Admission) (admits : Admits block notes a
   pub refused-told : (line : ℕ) {r : Reply} → a ≡ NotAdmitted r → Refused r ≡ told (explaining block notes line)
   unfolding explaining measuring
   refused-told line e =
-      let f = refused-of e in
+      let f = refused-of block notes a admits e in
       ap Refused (f .is)
       ∙ ap told (sym (refusal-stays (lookUpIn line block notes (readBlock block)) (f .refusal) (a-refusal-is-no-digest block notes f)))
       ∙ ap (λ (b : Answer). told (afterMeasuring (lookUpIn line block notes (readBlock block)) b)) (sym (f .whole-is done))
@@ -99,7 +94,7 @@ module _ (block notes : List ℕ) (a : Admission) (admits : Admits block notes a
   pub passed-told : (line : ℕ) {o : Options} {x : Explained} → a ≡ Admitted o → x ≡ told (leftOf (meant block o) notes line) → x ≡ told (explaining block notes line)
   unfolding explaining measuring
   passed-told line {o} e h =
-      let f = passed-of e in
+      let f = passed-of block notes a admits e in
       h
       ∙ ap told (sym (go (longParagraph (meant block o) 0 (pieces (meant block o) notes))))
       ∙ ap (λ (b : Answer). told (afterMeasuring (lookUp line (lineEndings (meant block o) notes)) b)) (sym (f .1 done))

@@ -24,6 +24,8 @@ use Rattle.formatter.specs.declared.Reply.{Reply}
 use Rattle.formatter.specs.declared.Reply.the-variants.{Done, Options as Faulty, Words, Room}
 use Rattle.formatter.specs.declared.Admission.{Admission}
 use Rattle.formatter.specs.declared.Admission.the-variants.{Refused, Passed}
+use Rattle.formatter.proofs.Refusals.{none}
+use Rattle.formatter.proofs.Replies.{passed-of}
 use Rattle.formatter.proofs.Values.{measured-fits}
 use Rattle.flow.specs.Flow.{mailed, flowed, dashesIn}
 use Rattle.flow.specs.Answers.{unfit, sentWords, sentText, sentNotes, sentBlock, flow, countedBy, dashesOf}
@@ -151,13 +153,10 @@ module _ (block notes : List ℕ) where
     -- and where none is due, what becomes of the pieces
     module _ {r : Admission} {o : Options} (s : Admits block notes r) (e : r ≡ Passed o) where
       passed : Admits block notes (Passed o)
-      passed = rw e at s
+      passed = passed-of block notes r s e
 
       pub passed-ready : Ready block notes (switched o)
       passed-ready = record { read = o; admitted = passed .0; is = refl }
-
-      abbrev none : List ℕ → Answer
-      none _ = long
 
       undamaged : damageIn (o .keep) notes ≡ Nowhere
       unfolding meant

@@ -22,11 +22,11 @@ use Rattle.formatter.specs.declared.Reply.{Reply}
 use Rattle.formatter.specs.declared.Admission.{Admission}
 use Rattle.formatter.specs.declared.Admission.the-variants.{Refused, Passed}
 
-module _ (block notes : List ℕ) where
-  -- where a digest is answered with a refusal, every answer is one
-  abbrev none : List ℕ → Answer
-  none _ = long
+-- where a digest is answered with a refusal, every answer is one
+abbrev pub none : List ℕ → Answer
+none _ = long
 
+module _ (block notes : List ℕ) where
   words-some : (o : Opts) (f : Found) → 1 ≤ code (withWords none o notes f)
   words-some o (At place) = omega arith
   words-some o Nowhere = omega arith

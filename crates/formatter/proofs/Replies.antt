@@ -105,7 +105,7 @@ module _ (block notes : List ℕ) (b : Block) (read : b ≡ readBlock block) whe
 -- ---- what is replied to it
 
 module _ (block notes : List ℕ) (a : Admission) (admits : Admits block notes a) where
-  refused-of : {r : Reply} → a ≡ Refused r → Admits block notes (Refused r)
+  pub refused-of : {r : Reply} → a ≡ Refused r → Admits block notes (Refused r)
   refused-of e = rw e at admits
 
   pub passed-of : {o : Options} → a ≡ Passed o → Admits block notes (Passed o)

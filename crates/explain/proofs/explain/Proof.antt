@@ -1,5 +1,6 @@
 -- `explain::explain` meets its contract.
-use Rattle.explain.proofs.Answers.{passed-of, refused-told, passed-told}
+use Rattle.formatter.proofs.Replies.{passed-of}
+use Rattle.explain.proofs.Answers.{refused-told, passed-told}
 use borrow.Author.Needs.{needs}
 use Rattle.explain.proofs.explain.Statement.{statement}
 use Rattle.explain.proofs.explain.Tie as tie
