@@ -125,6 +125,8 @@ struct digest {
 
 /* Formats what the window shows from now on. Answers false, with errno, if the file cannot be read to its end. */
 bool make_digest(struct digest *digest, const struct options *options, struct window *window);
+/* How many line feeds bytes have. */
+unsigned long feeds(const uint8_t *bytes, size_t length);
 
 /* ---- format.c: the digest of a file by its name */
 

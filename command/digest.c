@@ -11,7 +11,7 @@ struct part {
     unsigned long lines_before;
 };
 
-static unsigned long feeds(const uint8_t *bytes, size_t length) {
+unsigned long feeds(const uint8_t *bytes, size_t length) {
     unsigned long count = 0;
     size_t i;
     for (i = 0; i < length; i++)

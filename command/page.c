@@ -34,14 +34,6 @@ static int show_help(void) {
 
 /* ---- the pieces and lines of the digest */
 
-static unsigned long feeds(const uint8_t *bytes, size_t length) {
-    unsigned long count = 0;
-    size_t i;
-    for (i = 0; i < length; i++)
-        count += bytes[i] == '\n';
-    return count;
-}
-
 /* Behind the pieces so far: that of a record, whose part begins at `at` in the notes. */
 static bool add_piece(struct page *page, const struct rudignals_record *record, size_t at, size_t length) {
     const struct piece *last = page->pieces_len == 0 ? NULL : &page->pieces[page->pieces_len - 1];
