@@ -1,25 +1,10 @@
-//! The library's calls.
+//! The library's calls, made.
 
-#[link(name = "rudignals", kind = "static")]
-extern "C" {
-    fn rudignals_measure(options: *const u8, options_len: usize, notes: *const u8, notes_len: usize) -> u64;
-    fn rudignals_write(
-        options: *const u8,
-        options_len: usize,
-        notes: *const u8,
-        notes_len: usize,
-        output: *mut u8,
-        output_len: usize,
-    ) -> u64;
-    fn rudignals_format(
-        options: *const u8,
-        options_len: usize,
-        notes: *const u8,
-        notes_len: usize,
-        output: *mut u8,
-        output_len: usize,
-    ) -> u64;
-}
+#[path = "../tests/oracle/calls.rs"]
+#[allow(dead_code)]
+mod calls;
+
+use calls::{rudignals_format, rudignals_measure, rudignals_write};
 
 /// An answer's code and number.
 fn read(answer: u64) -> (u32, usize) {

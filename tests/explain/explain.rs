@@ -19,16 +19,12 @@ mod width;
 
 use model::Original;
 use parts::asked;
+use parts::calls::rudignals_explain;
 use parts::guard::Answer;
 use parts::texts::Rng;
 use std::process::exit;
 
 type Reason = [u64; 6];
-
-#[link(name = "rudignals", kind = "static", modifiers = "-bundle")]
-extern "C" {
-    fn rudignals_explain(options: *const u8, options_len: usize, notes: *const u8, notes_len: usize, line: u64, reason: *mut u64) -> u64;
-}
 
 const KINDS: [&str; 7] = ["end of paragraph", "plain", "blank", "would not fit", "chosen", "forced before", "forced after"];
 

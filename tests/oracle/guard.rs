@@ -1,6 +1,7 @@
 //! Measuring, writing and the call, with their slices between guard pages: a byte read or written outside ends the run, and every byte of the
 //! output is accounted for.
 
+use crate::calls::{rudignals_format, rudignals_measure, rudignals_write};
 use std::fs::File;
 use std::io::{Read, Write};
 use std::os::unix::io::AsRawFd;
@@ -35,27 +36,6 @@ impl Answer {
             Answer::Words(place) => (4, *place),
         }
     }
-}
-
-#[link(name = "rudignals", kind = "static", modifiers = "-bundle")]
-extern "C" {
-    fn rudignals_measure(options: *const u8, options_len: usize, notes: *const u8, notes_len: usize) -> u64;
-    fn rudignals_write(
-        options: *const u8,
-        options_len: usize,
-        notes: *const u8,
-        notes_len: usize,
-        output: *mut u8,
-        output_len: usize,
-    ) -> u64;
-    fn rudignals_format(
-        options: *const u8,
-        options_len: usize,
-        notes: *const u8,
-        notes_len: usize,
-        output: *mut u8,
-        output_len: usize,
-    ) -> u64;
 }
 
 /// The calls, in the order in which they are made, and their numbers for a program that makes them (shipped.c).

@@ -3,26 +3,9 @@
 
 use crate::model::Original;
 use parts::asked::{self, Asked};
+use parts::calls::{rudignals_lookup, rudignals_write_indexed, Record};
 use parts::guard::Answer;
 use parts::texts::Rng;
-
-type Record = [u64; 4];
-
-#[link(name = "rudignals", kind = "static", modifiers = "-bundle")]
-extern "C" {
-    fn rudignals_write_indexed(
-        options: *const u8,
-        options_len: usize,
-        notes: *const u8,
-        notes_len: usize,
-        output: *mut u8,
-        output_len: usize,
-        index: *mut Record,
-        records: usize,
-        filled: *mut u64,
-    ) -> u64;
-    fn rudignals_lookup(index: *const Record, records: usize, filled: u64, notes: *const u8, notes_len: usize, line: u64, part: *mut u64) -> u64;
-}
 
 /// Faults put in on purpose, each of which must be seen.
 pub const TAMPERS: [&str; 8] = ["none", "first", "length", "count", "order", "filled", "record", "line"];

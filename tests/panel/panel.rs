@@ -4,17 +4,15 @@
 //! panel WIDTHS time               what a panel of a 64 KiB digest costs beside formatting it
 //! WIDTHS lists the widths that are not 1, as tests/widths/listed.py prints them.
 
+#[path = "../oracle/calls.rs"]
+#[allow(dead_code)]
+mod calls;
 mod cases;
 mod model;
 
+use calls::{rudignals_format, rudignals_panel};
 use model::{panel, Fault, CELLS, COLUMNS, FAULTS};
 use std::time::Instant;
-
-#[link(name = "rudignals", kind = "static", modifiers = "-bundle")]
-extern "C" {
-    fn rudignals_format(options: *const u8, options_len: usize, notes: *const u8, notes_len: usize, output: *mut u8, output_len: usize) -> u64;
-    fn rudignals_panel(digest: *const u8, digest_len: usize, tab: u64, cells: *mut u32) -> u64;
-}
 
 const MARGIN: usize = 16;
 const OUTSIDE: u32 = 0xD0D0D0D0;
