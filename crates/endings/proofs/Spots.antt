@@ -2,13 +2,14 @@
 use mathlib.Core.Path.{_≡_, refl, sym, ap, _∙_}
 use mathlib.Core.Bool.{Bool, true, false, cond, _&&_}
 use mathlib.Core.List.{List, [], _∷_}
-use Prim.Native.Nat.{ℕ, zero, suc, _+_, _-_, _≤_, _<_}
+use Prim.Native.Nat.{ℕ, suc, _+_, _-_, _≤_, _<_}
 use native.Mathlib.Omega.{arith}
 use borrow.Author.Tests.{eqb-true, eqb-false, eq-eqb, ne-eqb}
 use lib.Dec.{eqb}
 use lib.ListN.{length, getD}
 use lib.Seq.{slice}
 use Rattle.lists.proofs.Remaining.{slice-here, slice-none}
+use Rattle.lists.proofs.Views.{behind-first}
 use Rattle.endings.specs.declared.Ending.{Ending}
 use Rattle.endings.specs.declared.Ending.the-variants.{Paragraph}
 use Rattle.endings.specs.declared.Spot.{Spot}
@@ -54,10 +55,6 @@ kindIn (Before e) = 0
 kindIn Last = 1
 kindIn (Behind left) = 2
 
-behind-first : (x : Ending) (xs : List Ending) (k : ℕ) → (k ≡ 0 → ⊥) → getD (x ∷ xs) k Paragraph ≡ getD xs (k - 1) Paragraph
-behind-first x xs zero h = absurd (h refl)
-behind-first x xs (suc k) h = ap (λ (m : ℕ). getD xs m Paragraph) (omega arith)
-
 next-behind : (x : Next) (xs : List Next) (e i : ℕ) → i + 1 ≤ e → getD (x ∷ xs) (e - i) goesOn ≡ getD xs (e - (i + 1)) goesOn
 next-behind x xs e i h = let q : e - i ≡ suc (e - (i + 1)) = omega arith in rw q
 
@@ -80,7 +77,7 @@ ends-later x ns i left e z h =
     let f = h .from in
     let w = h .within in
     let s = h .some in
-    record { from = omega arith; within = omega arith; some = omega arith; is = next-behind (ended x) ns e i f ∙ h .is ∙ ap ended (sym (behind-first x (endings ns) left z)) }
+    record { from = omega arith; within = omega arith; some = omega arith; is = next-behind (ended x) ns e i f ∙ h .is ∙ ap ended (sym (behind-first Paragraph x (endings ns) left z)) }
 
 ends-here : (x : Ending) (ns : List Next) (i left e : ℕ) → left ≡ 0 → i ≡ e → EndsAt (ended x ∷ ns) i left e
 unfolding endings
@@ -118,7 +115,7 @@ spot-is-last (ended x ∷ ns) i left h = by (eqb left 0) refl h (spot-is-last ns
       let n = eqb-false left 0 z in
       let r = rest q in
       let l = r .0 in
-      (omega arith, behind-first x (endings ns) left n ∙ r .1)
+      (omega arith, behind-first Paragraph x (endings ns) left n ∙ r .1)
 
 -- so many lines behind the paragraph's
 pub spot-is-behind : (ns : List Next) (i left r : ℕ) → spotOf (breaks ns) i left ≡ Behind r → left ≡ r + length (endings ns)

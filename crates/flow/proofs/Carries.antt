@@ -11,6 +11,7 @@ use Rattle.lists.specs.Runs.{every}
 use Rattle.lists.specs.Theorems.All.{All}
 use Rattle.lists.proofs.Parts.{every-cons}
 use Rattle.lists.proofs.All.{all-append}
+use Rattle.lists.proofs.Joins.{append-inner}
 use Rattle.text.proofs.Blanks.{blanks-spaces}
 use Rattle.records.specs.Word.{Word}
 use Rattle.spacing.specs.Spacing.{addedSpace}
@@ -29,10 +30,7 @@ unfolding spelt
 spelt-more [] [] s w h = ap (λ (l : List ℕ). s ++ l) (append-nil (w .text))
 spelt-more [] (v ∷ ws) s w h = absurd (omega arith)
 spelt-more (r ∷ ss) [] s w h = absurd (omega arith)
-spelt-more (r ∷ ss) (v ∷ ws) s w h = ap (λ (l : List ℕ). r ++ (v .text ++ l)) (spelt-more ss ws s w (omega arith)) ∙ four r (v .text) (spelt ss ws) (s ++ w .text)
-  where
-    four : (a b c d : List ℕ) → a ++ (b ++ (c ++ d)) ≡ (a ++ (b ++ c)) ++ d
-    four a b c d = simp append-assoc
+spelt-more (r ∷ ss) (v ∷ ws) s w h = ap (λ (l : List ℕ). r ++ (v .text ++ l)) (spelt-more ss ws s w (omega arith)) ∙ sym (append-inner r (v .text) (spelt ss ws) (s ++ w .text))
 
 module _ (glue : Bool) (first indent : List ℕ) where
   spells-one : (front : List ℕ) (w : Word) → (front ≡ first) ⊎ (front ≡ indent) → Spells glue first indent (w ∷ []) (front ++ w .text)

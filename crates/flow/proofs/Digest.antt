@@ -7,15 +7,13 @@ use native.Mathlib.Omega.{arith}
 use lib.ListN.{length}
 use Rattle.lists.specs.Runs.{joined}
 use Rattle.lists.proofs.Parts.{joined-nil, joined-cons}
+use Rattle.lists.proofs.Joins.{append-inner}
 use Rattle.records.specs.Word.{Word}
 use Rattle.output.specs.Emission.{lineFeed, spaceBefore, emitRest, emit}
 use Rattle.flow.specs.Flow.{linesFrom, brokenInto}
 
 fed : List ℕ → List ℕ
 fed line = line ++ lineFeed
-
-on : (line s t rest : List ℕ) → (line ++ (s ++ t)) ++ rest ≡ line ++ (s ++ (t ++ rest))
-on line s t rest = simp append-assoc
 
 off : (line indent t rest : List ℕ) → (line ++ lineFeed) ++ ((indent ++ t) ++ rest) ≡ line ++ ((lineFeed ++ indent) ++ (t ++ rest))
 off line indent t rest = simp append-assoc
@@ -24,12 +22,12 @@ from-emitted : (indent line : List ℕ) (punct : Bool) (breaks : List Bool) (ws 
 unfolding linesFrom emitRest fed
 from-emitted indent line punct breaks [] = rw (joined-cons fed line [], joined-nil fed) (append-nil (line ++ lineFeed))
 from-emitted indent line punct [] (w ∷ ws) =
-    from-emitted indent (line ++ (spaceBefore true punct w ++ w .text)) (w .endsPunct) [] ws ∙ on line (spaceBefore true punct w) (w .text) (emitRest true indent (w .endsPunct) [] ws)
+    from-emitted indent (line ++ (spaceBefore true punct w ++ w .text)) (w .endsPunct) [] ws ∙ append-inner line (spaceBefore true punct w) (w .text) (emitRest true indent (w .endsPunct) [] ws)
 from-emitted indent line punct (true ∷ bs) (w ∷ ws) =
     rw (joined-cons fed line (linesFrom indent (indent ++ w .text) (w .endsPunct) bs ws), from-emitted indent (indent ++ w .text) (w .endsPunct) bs ws)
     (off line indent (w .text) (emitRest true indent (w .endsPunct) bs ws))
 from-emitted indent line punct (false ∷ bs) (w ∷ ws) =
-    from-emitted indent (line ++ (spaceBefore true punct w ++ w .text)) (w .endsPunct) bs ws ∙ on line (spaceBefore true punct w) (w .text) (emitRest true indent (w .endsPunct) bs ws)
+    from-emitted indent (line ++ (spaceBefore true punct w ++ w .text)) (w .endsPunct) bs ws ∙ append-inner line (spaceBefore true punct w) (w .text) (emitRest true indent (w .endsPunct) bs ws)
 
 pub lines-are-emitted : (first indent : List ℕ) (breaks : List Bool) (ws : List Word) → 0 < length ws → joined (λ (line : List ℕ). line ++ lineFeed) (brokenInto first indent breaks ws) ≡ emit true first indent breaks ws
 unfolding brokenInto emit fed

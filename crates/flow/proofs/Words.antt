@@ -10,6 +10,7 @@ use lib.ListN.{length, replicate, length-append, length-replicate}
 use borrow.Author.Tests.{eqb-true, ne-eqb}
 use Rattle.lists.specs.Runs.{joined, begins}
 use Rattle.lists.proofs.Parts.{joined-nil, joined-cons}
+use Rattle.lists.proofs.Joins.{append-inner}
 use Rattle.records.specs.Word.{Word}
 use Rattle.spacing.specs.Spacing.{addedSpace}
 use Rattle.spacing.proofs.Added.{added-some}
@@ -71,19 +72,20 @@ dashed-stuffing (a ∷ b ∷ []) h = go (eqb 0x2D a) refl h
     go false e k = absurd (false≢true k)
 dashed-stuffing (a ∷ b ∷ c ∷ line) h = absurd (false≢true (sym (not-three ((a ∷ b ∷ c ∷ line) ++ space ∷ []) (λ e. omega (arith, e, length-append line (space ∷ [])))) ∙ h))
 
+pub one-most : (t : Bool) → cond {A = ℕ} t 1 0 ≤ 1
+one-most true = omega arith
+one-most false = omega arith
+
 -- ---- a line but the last, as it is sent
 
 soft-sent : (line rest : List ℕ) → sent (softened line) ++ rest ≡ stuffing (line ++ space ∷ []) ++ (line ++ (lineEnd (isDashed line) ++ rest))
 unfolding sent softened lineEnd
 soft-sent line rest = go (isDashed line) refl
   where
-    three : (a b c d : List ℕ) → (a ++ (b ++ c)) ++ d ≡ a ++ (b ++ (c ++ d))
-    three a b c d = simp append-assoc
-
     go : (t : Bool) → isDashed line ≡ t
         → (stuffing (cond t line (line ++ space ∷ [])) ++ (cond t line (line ++ space ∷ []) ++ crLf)) ++ rest ≡ stuffing (line ++ space ∷ []) ++ (line ++ (cond t crLf (space ∷ crLf) ++ rest))
-    go true e = ap (λ (s : List ℕ). (s ++ (line ++ crLf)) ++ rest) (dashed-stuffing line e) ∙ three (stuffing (line ++ space ∷ [])) line crLf rest
-    go false e = ap (λ (x : List ℕ). (stuffing (line ++ space ∷ []) ++ x) ++ rest) (append-assoc line (space ∷ []) crLf) ∙ three (stuffing (line ++ space ∷ [])) line (space ∷ crLf) rest
+    go true e = ap (λ (s : List ℕ). (s ++ (line ++ crLf)) ++ rest) (dashed-stuffing line e) ∙ append-inner (stuffing (line ++ space ∷ [])) line crLf rest
+    go false e = ap (λ (x : List ℕ). (stuffing (line ++ space ∷ []) ++ x) ++ rest) (append-assoc line (space ∷ []) crLf) ∙ append-inner (stuffing (line ++ space ∷ [])) line (space ∷ crLf) rest
 
 one-more : (line : List ℕ) (lines : List (List ℕ)) → 0 < length lines → allButLast (line ∷ lines) ≡ softened line ∷ allButLast lines
 unfolding allButLast
@@ -128,10 +130,7 @@ module _ (indent : List ℕ) where
       ≡ stuffing (line ++ space ∷ []) ++ (line ++ (nextSent true added (isDashed line) indent more w ++ rest))
   unfolding nextSent opened
   off line added more w rest =
-      soft-sent line _ ∙ ap (λ (x : List ℕ). stuffing (line ++ space ∷ []) ++ (line ++ x)) (four (lineEnd (isDashed line)) (stuffing ((indent ++ w .text) ++ spaceIf more)) (indent ++ w .text) rest)
-    where
-      four : (a b c d : List ℕ) → a ++ (b ++ (c ++ d)) ≡ (a ++ (b ++ c)) ++ d
-      four a b c d = simp append-assoc
+      soft-sent line _ ∙ ap (λ (x : List ℕ). stuffing (line ++ space ∷ []) ++ (line ++ x)) (sym (append-inner (lineEnd (isDashed line)) (stuffing ((indent ++ w .text) ++ spaceIf more)) (indent ++ w .text) rest))
 
   from-sent : (line : List ℕ) (punct : Bool) (breaks : List Bool) (ws : List Word)
       → joined sent (allButLast (linesFrom indent line punct breaks ws)) ≡ stuffing (line ++ spaceIf (some ws)) ++ (line ++ restSent indent (isDashed line) punct breaks ws)
@@ -215,11 +214,7 @@ module _ (indent : List ℕ) where
   unfolding restDashes
   dashes-few dashed breaks [] = omega arith
   dashes-few dashed [] (w ∷ ws) = let r = dashes-few false [] ws in omega arith
-  dashes-few dashed (b ∷ bs) (w ∷ ws) = let r = dashes-few (nextDashed b indent w) bs ws in let o = one (b && dashed) in omega arith
-    where
-      one : (t : Bool) → cond {A = ℕ} t 1 0 ≤ 1
-      one true = omega arith
-      one false = omega arith
+  dashes-few dashed (b ∷ bs) (w ∷ ws) = let r = dashes-few (nextDashed b indent w) bs ws in let o = one-most (b && dashed) in omega arith
 
   pub words-dashes-few : (first : List ℕ) (breaks : List Bool) (ws : List Word) → wordsDashes first indent breaks ws ≤ length ws
   unfolding wordsDashes

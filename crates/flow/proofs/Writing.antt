@@ -27,6 +27,7 @@ use Rattle.flow.specs.Contracts.Words.{lineEnd, some, opened, nextSent, 
 use Rattle.flow.specs.Contracts.Sending.{Opens, Turned, sentFrom, dashesFrom, RestSent, ParagraphSent}
 use Rattle.flow.specs.declared.Opening.{Opening}
 use Rattle.flow.specs.declared.Turn.{Turn}
+use Rattle.flow.proofs.Words.{one-most}
 
 -- ---- the end of a line
 
@@ -70,11 +71,7 @@ module _ (notes : List ℕ) (w : Record) (added : ℕ) (indent : Margin) (more :
       rw (not-false fresh f) (record { wrote = rw (j .spaces) at a; dashed = j .dashed; dashes = rw e; few = b })
 
 pub one-more : {notes : List ℕ} {w : Record} {fresh : Bool} {added : ℕ} {indent : Margin} {more : Bool} {t : Turn} {out out′ : List ℕ} {r : Turn} → Turned notes w fresh added indent more t out out′ r → r .dashes ≤ t .dashes + 1
-one-more {fresh} {t} q = omega (arith, q .dashes, go (fresh && t .dashed))
-  where
-    go : (b : Bool) → cond {A = ℕ} b 1 0 ≤ 1
-    go true = omega arith
-    go false = omega arith
+one-more {fresh} {t} q = omega (arith, q .dashes, one-most (fresh && t .dashed))
 
 -- ---- the words of a table, with their marks
 

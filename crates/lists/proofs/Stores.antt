@@ -1,11 +1,11 @@
--- A run of stores, `sets l k vs`: what is read of it within and elsewhere, and the run cut out again.
+-- A run of stores, `sets l k vs`: what is read of it within and elsewhere, and the run cut out again. A list that is filled up to its end.
 use mathlib.Core.Path.{_≡_, refl, _∙_}
-use mathlib.Core.List.{List, [], _∷_, _++_}
+use mathlib.Core.List.{List, [], _∷_, _++_, append-nil}
 use Prim.Native.Nat.{ℕ, zero, suc, _+_, _≤_, _<_}
 use native.Mathlib.Omega.{arith}
 use native.Mathlib.Nat.{add-zero, add-suc, suc-add}
 use native.Mathlib.Numerals.{add-one, add-two, add-three, add-four, add-five, add-six}
-use lib.ListN.{length, getD, set, take, drop, length-set, length-append}
+use lib.ListN.{length, getD, set, take, drop, replicate, length-set, length-append, drop-of-length-le}
 use lib.Seq.{sets, sets-eq, slice, getD-set-same, getD-set-other, length-take-le, take-at, drop-at}
 
 module _ {A : Type 0} (d : A) where
@@ -33,3 +33,6 @@ sets-slice l k n vs e h =
     let t : length (take k l) ≡ k = length-take-le k l (omega arith) in
     let a : length (take k l ++ vs) ≡ n = length-append (take k l) vs ∙ omega arith in
     rw (sets-eq vs l k (omega arith), take-at (take k l ++ vs) (drop (k + length vs) l) n a) (drop-at (take k l) vs k t)
+
+pub fill-all : {A : Type 0} (v : A) (i : ℕ) (o : List A) → i ≡ length o → replicate i v ++ drop i o ≡ replicate (length o) v
+fill-all v i o e = rw (drop-of-length-le o {i = i} (omega arith), e) (append-nil (replicate (length o) v))

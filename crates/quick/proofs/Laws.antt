@@ -26,7 +26,7 @@ module _ (g : Setting) where
   both true indent reached punct ws = refl
   both false indent reached punct ws = refl
 
-  abbrev reached : ℕ → Bool → Word → ℕ
+  abbrev pub reached : ℕ → Bool → Word → ℕ
   reached column punct w = column + gapAt (g .tab) column w + addedSpace (g .uniform) (w .newLine) (w .sentenceStart) punct + w .width
 
   quick-cons : (column : ℕ) (punct : Bool) (w : Word) (ws : List Word) → quickFrom g column punct (w ∷ ws)

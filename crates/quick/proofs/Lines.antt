@@ -3,10 +3,10 @@ use mathlib.Core.Path.{_≡_, refl, sym, ap}
 use mathlib.Core.Bool.{Bool, true, false, cond, _&&_}
 use mathlib.Core.List.{List, [], _∷_}
 use Prim.Native.Nat.{ℕ, zero, suc, _+_, _-_, _<_, _≤_}
-use native.Mathlib.Omega.{arith}
 use borrow.Author.Tests.{eqb-true, eqb-false}
 use lib.Dec.{ltb, eqb}
 use lib.ListN.{getD, drop}
+use Rattle.lists.proofs.Views.{behind-first}
 use Rattle.records.specs.declared.Word.{Word as Record}
 use Rattle.records.specs.Word.{Word, meaning}
 use Rattle.records.specs.Contracts.Table.{wordIn, wordsIn}
@@ -18,11 +18,9 @@ use Rattle.endings.specs.declared.Ending.the-variants.{Paragraph, Full}
 use Rattle.endings.specs.Endings.{Next, goesOn, ended, breaks, endings}
 use Rattle.quick.specs.Quick.{quickFrom, quickBreaks}
 use Rattle.quick.specs.QuickLines.{linesFrom, quickLines}
+use Rattle.quick.proofs.Laws.{reached}
 
 module _ (g : Setting) where
-  abbrev reached : ℕ → Bool → Word → ℕ
-  reached column punct w = column + gapAt (g .tab) column w + addedSpace (g .uniform) (w .newLine) (w .sentenceStart) punct + w .width
-
   abbrev fullBy : ℕ → Bool → Word → Ending
   fullBy column punct w = Full column (gapAt (g .tab) column w) (addedSpace (g .uniform) (w .newLine) (w .sentenceStart) punct) (w .width)
 
@@ -38,7 +36,7 @@ module _ (g : Setting) where
   unfolding breaks linesFrom quickFrom
   breaks-from column punct [] = refl
   breaks-from column punct (w ∷ ws) =
-      breaks-by (ltb (g .width) (reached column punct w)) (fullBy column punct w) _ _ _ _ (breaks-from (g .indent + w .width) (w .endsPunct) ws) (breaks-from (reached column punct w) (w .endsPunct) ws)
+      breaks-by (ltb (g .width) (reached g column punct w)) (fullBy column punct w) _ _ _ _ (breaks-from (g .indent + w .width) (w .endsPunct) ws) (breaks-from (reached g column punct w) (w .endsPunct) ws)
 
   pub breaks-are-quick's : (ws : List Word) → breaks (quickLines g ws) ≡ quickBreaks g ws
   unfolding breaks quickLines quickBreaks
@@ -47,25 +45,21 @@ module _ (g : Setting) where
 
   -- ---- why a line ends, one word at a time
 
-  behind-first : (x : Ending) (xs : List Ending) (k : ℕ) → (k ≡ 0 → ⊥) → getD (x ∷ xs) k Paragraph ≡ getD xs (k - 1) Paragraph
-  behind-first x xs zero h = absurd (h refl)
-  behind-first x xs (suc k) h = ap (λ (m : ℕ). getD xs m Paragraph) (omega arith)
-
   told-by : (b z : Bool) (left indent on : ℕ) (e : Ending) (punct : Bool) (ws : List Word) → eqb left 0 ≡ z
       → getD (endings (elim b as (λ x. List Next) [ true ↦ ended e ∷ linesFrom g indent punct ws | false ↦ goesOn ∷ linesFrom g on punct ws ])) left Paragraph
       ≡ cond (b && z) e (getD (endings (linesFrom g (cond b indent on) punct ws)) (cond b (left - 1) left) Paragraph)
   unfolding endings
   told-by true true left indent on e punct ws h = rw (eqb-true left 0 h)
-  told-by true false left indent on e punct ws h = behind-first e (endings (linesFrom g indent punct ws)) left (eqb-false left 0 h)
+  told-by true false left indent on e punct ws h = behind-first Paragraph e (endings (linesFrom g indent punct ws)) left (eqb-false left 0 h)
   told-by false true left indent on e punct ws h = refl
   told-by false false left indent on e punct ws h = refl
 
   told-cons : (left column : ℕ) (punct : Bool) (w : Word) (ws : List Word) → getD (endings (linesFrom g column punct (w ∷ ws))) left Paragraph
-      ≡ cond (ltb (g .width) (reached column punct w) && eqb left 0) (fullBy column punct w)
-      (getD (endings (linesFrom g (cond (ltb (g .width) (reached column punct w)) (g .indent + w .width) (reached column punct w)) (w .endsPunct) ws))
-      (cond (ltb (g .width) (reached column punct w)) (left - 1) left) Paragraph)
+      ≡ cond (ltb (g .width) (reached g column punct w) && eqb left 0) (fullBy column punct w)
+      (getD (endings (linesFrom g (cond (ltb (g .width) (reached g column punct w)) (g .indent + w .width) (reached g column punct w)) (w .endsPunct) ws))
+      (cond (ltb (g .width) (reached g column punct w)) (left - 1) left) Paragraph)
   unfolding linesFrom
-  told-cons left column punct w ws = told-by (ltb (g .width) (reached column punct w)) (eqb left 0) left (g .indent + w .width) (reached column punct w) (fullBy column punct w) (w .endsPunct) ws refl
+  told-cons left column punct w ws = told-by (ltb (g .width) (reached g column punct w)) (eqb left 0) left (g .indent + w .width) (reached g column punct w) (fullBy column punct w) (w .endsPunct) ws refl
 
   told-none : (left : ℕ) → getD (Paragraph ∷ []) left Paragraph ≡ Paragraph
   told-none zero = refl

@@ -15,7 +15,7 @@ use Rattle.lists.proofs.Walk.{each-nil, each-step}
 use Rattle.lines.specs.Lines.{Line, noFeed, body, withoutReturn, firstLine, linesOf}
 use Rattle.lines.specs.Theorems.Closed.{Closed}
 use Rattle.lines.proofs.Boundary.{lines-append}
-use Rattle.lines.proofs.Lines.{feedless-body, return-behind}
+use Rattle.lines.proofs.Lines.{feedless-body, lines-past, return-behind}
 use Rattle.lines.proofs.Extents.{lines-extents}
 use Rattle.rudignals.specs.Theorems.LineEnds.{EndsIn, LineEnd, feed, returnAndFeed, Ended, byFeed, byNothing, LineIs}
 
@@ -33,10 +33,6 @@ unfolding withoutReturn
 return-stays [] n = refl
 return-stays (x ∷ []) n = rw (ne-eqb x 13 n)
 return-stays (x ∷ y ∷ text) n = ap (λ (l : List ℕ). x ∷ l) (return-stays (y ∷ text) n)
-
-lines-none : linesOf [] ≡ []
-unfolding linesOf
-lines-none = each-nil (λ xs. length (body xs)) firstLine
 
 take-front : (a b : List ℕ) → take (length a) (a ++ b) ≡ a
 take-front a b = take-append-le (length a) a b (omega arith) ∙ take-all (length a) a (omega arith)
@@ -91,7 +87,7 @@ line-first text end below i = go (i .ended)
 
     go : Ended text end below → linesOf (text ++ (end ++ below)) ≡ record { raw = text ++ end; text = text } ∷ linesOf below
     go (byFeed e) = fed e
-    go (byNothing h e b) = rw (e, b, append-nil text) (last-line text h (i .feedless) ∙ rw lines-none)
+    go (byNothing h e b) = rw (e, b, append-nil text) (last-line text h (i .feedless) ∙ rw (lines-past [] 0 (omega arith)))
 
 -- A line of the notes, from their own bytes: what is above it is empty or ends in a line feed.
 pub line-of-bytes : (above text end below : List ℕ) → Closed above → LineIs text end below
@@ -204,7 +200,7 @@ closed-line text end (feed e n) = rw e (closed-fed text)
 closed-line text end (returnAndFeed e) = rw (e, ← append-assoc text (13 ∷ []) (10 ∷ [])) (closed-fed (text ++ 13 ∷ []))
 
 not-none : (before : List Line) (l : Line) (after : List Line) → linesOf [] ≡ before ++ l ∷ after → ⊥
-not-none before l after e = let n = ap length (sym lines-none ∙ e) in let k = length-append before (l ∷ after) in omega arith
+not-none before l after e = let n = ap length (sym (lines-past [] 0 (omega arith)) ∙ e) in let k = length-append before (l ∷ after) in omega arith
 
 -- the first line of a text, and the lines below it
 lines-first : (xs : List ℕ) (f : First xs) → linesOf xs ≡ record { raw = f .text ++ f .end; text = f .text } ∷ linesOf (f .below)

@@ -1,11 +1,12 @@
 -- Texts without a damaged character, end to end: none in either, none in both. And a blank line has none.
 use mathlib.Core.Path.{_≡_, refl, sym, ap, _∙_}
-use mathlib.Core.Bool.{Bool, true, false, not, and-eq-true-iff, false≢true}
+use mathlib.Core.Bool.{Bool, true, false, and-eq-true-iff, false≢true}
 use mathlib.Core.List.{List, [], _∷_, _++_, append-assoc}
 use Prim.Native.Nat.{ℕ, suc, _-_, _<_}
 use native.Mathlib.Omega.{arith}
 use lib.ListN.{length, drop}
 use lib.Seq.{take-append-le}
+use borrow.Author.Tests.{not-true}
 use Rattle.lists.specs.Walk.{walkUpTo, walk, piece, each}
 use Rattle.lists.specs.Runs.{every, begins}
 use Rattle.lists.proofs.Parts.{every-cons, every-append}
@@ -55,12 +56,8 @@ characters-append a b g = each-append cut glyph Good b stays a g
         let s = each-step cut glyph d h in
         let k = and-eq-true-iff (isGood (glyph d)) (every isGood (characters (drop (suc (cut d)) d))) .0 (rw (s, every-cons isGood) at w) in
         let y = bytes-of d h in
-        let e = good-append d b (not-damaged (glyph d .damaged) (k .0)) in
+        let e = good-append d b (not-true (glyph d .damaged) (k .0)) in
         (e, ap (λ (q : Glyph). length (q .bytes) - 1) e, omega (arith, y .some, y .within, y .count), k .1)
-      where
-        not-damaged : (t : Bool) → not t ≡ true → t ≡ false
-        not-damaged true z = absurd (false≢true z)
-        not-damaged false z = refl
 
 good-sound : (a : List ℕ) → Good a → damage a ≡ Nowhere
 unfolding damage

@@ -11,6 +11,7 @@ use Rattle.lists.specs.Runs.{every, joined}
 use Rattle.lists.specs.Theorems.All.{All, _∈_}
 use Rattle.lists.proofs.All.{all-at, all-map, all-weaken, all-joined}
 use Rattle.lists.proofs.Parts.{every-nil, every-cons, every-append, joined-nil, joined-cons}
+use Rattle.lists.proofs.Joins.{append-inner}
 use Rattle.text.specs.Characters.{characters}
 use Rattle.text.proofs.Glyphs.{characters-past}
 use Rattle.text.specs.Theorems.Blanks.{Gap}
@@ -89,9 +90,6 @@ first-bytes indent text rest more = sym (append-assoc (indent ++ (text ++ rest))
 
 broken-bytes : (indent text rest more : List ℕ) → (lineFeed ++ indent) ++ (text ++ (rest ++ (lineFeed ++ more))) ≡ lineFeed ++ (((indent ++ (text ++ rest)) ++ lineFeed) ++ more)
 broken-bytes indent text rest more = append-assoc lineFeed indent (text ++ (rest ++ (lineFeed ++ more))) ∙ ap (λ (l : List ℕ). lineFeed ++ l) (first-bytes indent text rest more)
-
-on-bytes : (space text rest more : List ℕ) → space ++ (text ++ (rest ++ more)) ≡ (space ++ (text ++ rest)) ++ more
-on-bytes space text rest more = sym (append-assoc space (text ++ rest) more ∙ ap (λ (l : List ℕ). space ++ l) (append-assoc text rest more))
 
 nothing-read : characters [] ≡ []
 nothing-read = characters-past [] 0 (omega arith)
@@ -209,7 +207,7 @@ module _ (o : Opts) (p : Paragraph) (least : 1 ≤ o .tab) (first : Margined (o 
         bytes = space ++ (w .text ++ r .bytes);
         words = w ∷ r .words;
         more = r .more;
-        emits = rw (r .emits) (on-bytes space (w .text) (r .bytes) (lineFeed ++ joined ended (r .more)));
+        emits = rw (r .emits) (sym (append-inner space (w .text) (r .bytes) (lineFeed ++ joined ended (r .more))));
         holds = ap (λ (k : List Word). w ∷ k) (r .holds);
         one-line = rw (every-append noFeed space (w .text ++ r .bytes), every-append noFeed (w .text) (r .bytes), space-feedless punct w (placed .1), placed .1 .feedless, r .one-line);
         separators = space ∷ r .separators;

@@ -5,28 +5,25 @@ use mathlib.Core.List.{List, [], _∷_, _++_}
 use Prim.Native.Nat.{ℕ, _+_, _-_, _≤_, _<_}
 use native.Mathlib.Omega.{arith}
 use native.Mathlib.Nat.{zero-add, suc-add}
-use lib.ListN.{length, getD, take, drop, replicate, length-append, length-drop}
-use lib.Seq.{slice, take-all}
+use lib.ListN.{length, getD, take, drop, replicate, length-append}
+use lib.Seq.{slice}
 use borrow.Author.Tests.{eqb-true, eq-eqb, ne-eqb}
 use Rattle.lists.specs.Runs.{while, behind, begins}
 use Rattle.lists.proofs.Runs.{while-more, while-end}
 use Rattle.lists.proofs.RunsAt.{while-front}
 use Rattle.lists.proofs.RunParts.{drop-while}
+use Rattle.lists.proofs.Fronts.{part-to-end}
 use Rattle.lists.proofs.Slices.{slice-is}
 use Rattle.lists.proofs.Views.{drop-here, drop-none}
 use Rattle.pieces.specs.Pieces.{fromWord}
 use Rattle.unflow.specs.Flowed.{space, quoteMark, isMark, quoteDepth, needsSpace, stuffing, unstuffed, contentOf, isDashes, isSeparator, endsInSpace, isSoft}
 use Rattle.unflow.specs.Contracts.Steps.{Parted}
 
--- a list from a place on, as it is lent
-pub part-all : (s : List ℕ) (at : ℕ) → take (length s - at) (drop at s) ≡ drop at s
-part-all s at = take-all (length s - at) (drop at s) (omega (arith, length-drop at s))
-
--- and as it is copied
+-- a list from a place on, as it is copied
 pub slice-all : (s : List ℕ) (at : ℕ) → at ≤ length s → slice at (length s) s ≡ drop at s
 slice-all s at h =
     let e : at + (length s - at) ≡ length s = omega arith in
-    ap (λ (n : ℕ). slice at n s) (sym e) ∙ slice-is at (length s - at) s ∙ part-all s at
+    ap (λ (n : ℕ). slice at n s) (sym e) ∙ slice-is at (length s - at) s ∙ part-to-end at s
 
 -- ---- quote marks and stuffing, by places
 
@@ -152,6 +149,6 @@ parted line depth start separator ends d c order within s e = record {
   order = order;
   within = within;
   content = c;
-  soft = rw (c, s, e, part-all line start);
+  soft = rw (c, s, e, part-to-end start line);
   separator = sym s;
 }

@@ -8,12 +8,13 @@ use lib.Dec.{eqb}
 use lib.ListN.{length, take, drop, set, replicate, length-replicate, length-drop, length-take}
 use lib.Seq.{slice}
 use borrow.Author.Tests.{not-true, not-false}
+use Rattle.lists.proofs.Fronts.{part-to-end}
 use Rattle.output.specs.Contracts.Sink.{paint, written, Wrote}
 use Rattle.output.proofs.Sink.{written-past, wrote-nil, wrote-then}
 use Rattle.unflow.specs.Flowed.{crLf, stuffing, contentOf}
 use Rattle.unflow.specs.Contracts.Steps.{Parted, joins, endOf, startOf, placed}
 use Rattle.unflow.specs.declared.Line.{Line}
-use Rattle.unflow.proofs.Lines.{slice-all, part-all}
+use Rattle.unflow.proofs.Lines.{slice-all}
 use Rattle.unflow.proofs.Texts.{end-most, start-most}
 
 -- ---- carriage return and line feed, as far as they fit
@@ -55,7 +56,7 @@ module _ (line : List ℕ) (l : Line) (going : Bool) (depth : ℕ) (p : Parted l
       → Wrote o 0 (startOf going depth line) o₃ r
   unfolding startOf joins
   start-apart s h a b e c =
-      let f : replicate s 32 ≡ stuffing (contentOf line) = e ∙ ap stuffing (part-all line (l .start) ∙ sym (p .content)) in
+      let f : replicate s 32 ≡ stuffing (contentOf line) = e ∙ ap stuffing (part-to-end (l .start) line ∙ sym (p .content)) in
       rw (p .depth, p .separator, h, ← p .marks, ← f) (wrote-then a (wrote-then b c))
 
   pub line-placed : {o o₁ o₂ o₃ : List ℕ} {k m r : ℕ} → Wrote o 0 (startOf going depth line) o₁ k

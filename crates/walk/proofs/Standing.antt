@@ -12,6 +12,7 @@ use Rattle.lists.proofs.Parts.{joined-nil, joined-append, joined-joined}
 use Rattle.options.specs.Opts.{Opts}
 use Rattle.lines.specs.Lines.{Line, linesOf}
 use Rattle.pieces.specs.Pieces.{Paragraph, Piece, Kind, blankLine, plainLine, paragraph, pieces}
+use Rattle.pieces.specs.Contracts.Places.{rawBytes}
 use Rattle.pieces.proofs.Extents.{linesIn, pieces-lines, OfKind, OfPiece, pieces-rows}
 use Rattle.records.specs.Word.{Word}
 use Rattle.words.specs.Places.{Standing, wordsStanding}
@@ -23,9 +24,6 @@ use Rattle.walk.proofs.Extents.{extents-are-notes, joined-at}
 
 abbrev wordIn : Standing → Word
 wordIn s = s .word
-
-abbrev rawOf : Line → List ℕ
-rawOf l = l .raw
 
 -- ---- one list of words behind the other
 
@@ -53,31 +51,31 @@ module _ (o : Opts) (notes : List ℕ) where
 
   -- the words of a piece
   piece-stands : (above ls below : List Line) (k : Kind) → linesOf notes ≡ above ++ (ls ++ below) → OfKind o ls k
-      → AllStand o notes (length (joined rawOf above)) (length (joined rawOf above) + length (joined rawOf ls)) (standingUnder o (length (joined rawOf above)) ls k) (wordsUnder o k)
+      → AllStand o notes (length (joined rawBytes above)) (length (joined rawBytes above) + length (joined rawBytes ls)) (standingUnder o (length (joined rawBytes above)) ls k) (wordsUnder o k)
   piece-stands above ls below blankLine e r = record { words = refl; each = tt; ascend = omega arith }
   piece-stands above ls below (plainLine text) e r = record { words = refl; each = tt; ascend = omega arith }
   piece-stands above ls below (paragraph p) e r =
       let s = paragraph-stands o notes above ls below p e (r .rows) in
       record { words = s .words; each = s .each; ascend = s .ascend }
 
-  pieces-stand : (above : List Line) (qs : List Piece) (at : ℕ) → at ≡ length (joined rawOf above) → linesOf notes ≡ above ++ joined linesIn qs → All (OfPiece o) qs
+  pieces-stand : (above : List Line) (qs : List Piece) (at : ℕ) → at ≡ length (joined rawBytes above) → linesOf notes ≡ above ++ joined linesIn qs → All (OfPiece o) qs
       → AllStand o notes at (at + length (joined extentOf qs)) (standingFrom o at qs) (joined (λ (q : Piece). wordsUnder o (q .kind)) qs)
   unfolding standingFrom joined extentOf
   pieces-stand above [] at q e r = record { words = refl; each = tt; ascend = omega arith }
   pieces-stand above (p ∷ qs) at q e r =
-      let n = length (joined rawOf (p .lines)) in
-      let m : at + n ≡ length (joined rawOf (above ++ p .lines)) = omega (arith, q, simp length-append at (ap length (joined-append rawOf above (p .lines)))) in
+      let n = length (joined rawBytes (p .lines)) in
+      let m : at + n ≡ length (joined rawBytes (above ++ p .lines)) = omega (arith, q, simp length-append at (ap length (joined-append rawBytes above (p .lines)))) in
       let z : at + (n + length (joined extentOf qs)) ≡ at + n + length (joined extentOf qs) = omega arith in
       let here = rw (← q) at (piece-stands above (p .lines) (joined linesIn qs) (p .kind) e (r .0)) in
       let later = pieces-stand (above ++ p .lines) qs (at + n) m (e ∙ sym (append-assoc above (p .lines) (joined linesIn qs))) (r .1) in
-      rw (length-append (joined rawOf (p .lines)) (joined extentOf qs), z)
+      rw (length-append (joined rawBytes (p .lines)) (joined extentOf qs), z)
       (stand-append at (at + n) (at + n + length (joined extentOf qs)) (standingUnder o at (p .lines) (p .kind)) (standingFrom o (at + n) qs) (wordsUnder o (p .kind)) _ here later)
 
 pub words-stand : (o : Opts) (notes : List ℕ) → AllStand o notes 0 (length notes) (standingWords o notes) (joined (λ (q : Piece). wordsUnder o (q .kind)) (pieces o notes))
 unfolding standingWords
 words-stand o notes =
     let n : 0 + length (joined extentOf (pieces o notes)) ≡ length notes = omega (arith, ap length (extents-are-notes o notes)) in
-    rw n at (pieces-stand o notes [] (pieces o notes) 0 (sym (ap length (joined-nil rawOf))) (sym (pieces-lines o notes)) (pieces-rows o notes))
+    rw n at (pieces-stand o notes [] (pieces o notes) 0 (sym (ap length (joined-nil rawBytes))) (sym (pieces-lines o notes)) (pieces-rows o notes))
 
 -- ---- at one of the pieces
 
@@ -99,7 +97,7 @@ module _ (o : Opts) (notes : List ℕ) (before : List Piece) (q : Piece) (after 
   paragraph-stands-there =
       let lines = sym (pieces-lines o notes) ∙ joined-at linesIn before q after (pieces o notes) e in
       let rows = rw k at (all-back (OfPiece o) before (q ∷ after) (rw e at (pieces-rows o notes)) .0) in
-      rw (joined-joined rawOf linesIn before) at (paragraph-stands o notes (joined linesIn before) (q .lines) (joined linesIn after) p lines (rows .rows))
+      rw (joined-joined rawBytes linesIn before) at (paragraph-stands o notes (joined linesIn before) (q .lines) (joined linesIn after) p lines (rows .rows))
 
   pub standing-there : standingWords o notes ≡ standingFrom o 0 before ++ (wordsStanding o place (q .lines) p ++ standingFrom o (place + length (extentOf q)) after)
   unfolding standingWords standingFrom

@@ -6,6 +6,7 @@ use Prim.Native.String.{String}
 use lib.Dec.{T, eqb}
 use Rattle.lists.specs.Walk.{walkUpTo, walk, piece, each}
 use Rattle.lists.specs.Runs.{while, behind, every, begins, joined}
+use Rattle.lists.specs.Trials.Bytes.{bytes, same}
 use Rattle.widths.specs.Ranges.{widthIn}
 use Rattle.widths.specs.Table.{table}
 use Rattle.widths.specs.Widths.{widthOf}
@@ -22,7 +23,6 @@ use Rattle.output.specs.Emission.{spaceBefore}
 use Rattle.quick.specs.Quick.{quickFrom, quickBreaks}
 use Rattle.paragraphs.specs.Breaks.{settingOf}
 use Rattle.unflow.specs.Flowed.{needsSpace, stuffing, isDashes}
-use Rattle.unflow.specs.Trials.Read.{bytes, same}
 use Rattle.flow.specs.Flow.{linesFrom, brokenInto, paragraphLines, isDashed, softened, allButLast, dashesAmong, trimmed, plainSent, sentLines, sent, sentPiece, flowed, dashesIn}
 
 -- width 10 and no other option, but a skip prefix perhaps

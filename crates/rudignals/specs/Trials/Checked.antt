@@ -4,11 +4,12 @@ use mathlib.Core.List.{List, [], _∷_, _++_}
 use Prim.Native.Nat.{ℕ}
 use lib.Dec.{T, eqb}
 use Rattle.lists.specs.Runs.{every}
+use Rattle.lists.specs.Trials.Bytes.{bytes}
 use Rattle.checker.specs.Matching.{matchText, matchFeed, matchLine, spaces, parting, lead, matchSpaced, matchNext, matchRest, matchWords, matchPiece, matchPieces, verdict}
 use Rattle.judge.specs.Answers.{code, value}
 use Rattle.judge.specs.Checking.{checking}
 use Rattle.rudignals.specs.Trials.Computing.{everything}
-use Rattle.rudignals.specs.Trials.MarkedTexts.{bytes, none, flags, prefix, damagedLine}
+use Rattle.rudignals.specs.Trials.MarkedTexts.{none, flags, prefix, damagedLine}
 
 -- an option block, notes, a digest, and the code and N of the answer
 pub record Checked : Type 0 where

@@ -1,26 +1,15 @@
 -- Document 01, "Trial texts": the twelve marked texts, one table and one statement. Each row has the option block as bytes, the notes
 -- and the digest; the call with that block and room for the digest answers code 0, N and those bytes.
-use mathlib.Core.Bool.{Bool, true, false, _&&_}
+use mathlib.Core.Bool.{Bool, _&&_}
 use mathlib.Core.List.{List, [], _∷_, _++_}
 use Prim.Native.Nat.{ℕ}
-use Prim.Native.Char.{code as charCode}
-use Prim.Native.String.{String, [] as nil, _∷_ as _then_}
 use lib.Dec.{T, eqb}
 use lib.ListN.{length, replicate}
 use Rattle.lists.specs.Runs.{every}
+use Rattle.lists.specs.Trials.Bytes.{bytes, same}
 use Rattle.formatter.specs.Answers.{numbered, outputAfter}
 use Rattle.formatter.specs.Format.{answer}
 use Rattle.rudignals.specs.Trials.Computing.{everything}
-
-abbrev pub bytes : String → List ℕ
-bytes nil = []
-bytes (c then s) = charCode c ∷ bytes s
-
-abbrev pub same : List ℕ → List ℕ → Bool
-same [] [] = true
-same [] (y ∷ ys) = false
-same (x ∷ xs) [] = false
-same (x ∷ xs) (y ∷ ys) = eqb x y && same xs ys
 
 pub record Row : Type 0 where
   pub block : List ℕ

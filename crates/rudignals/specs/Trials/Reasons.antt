@@ -4,6 +4,7 @@ use mathlib.Core.List.{List, [], _∷_, _++_}
 use Prim.Native.Nat.{ℕ, _+_, _*_, _^_}
 use Prim.Native.String.{String}
 use Rattle.lists.specs.Runs.{joined}
+use Rattle.lists.specs.Trials.Bytes.{bytes}
 use Rattle.options.specs.Opts.{meant}
 use Rattle.options.specs.OptionBlock.{readBlock}
 use Rattle.options.specs.declared.Block.{Block}
@@ -15,7 +16,7 @@ use Rattle.knuth_plass.specs.BestLines.{offering, chosenOf, maker, makersFrom, 
 use Rattle.explain.specs.Reasons.{paragraphEndings, endingsOf, lineEndings}
 use Rattle.explain.specs.Explain.{explaining, explainedNumber}
 use Rattle.rudignals.specs.Trials.Computing.{everything}
-use Rattle.rudignals.specs.Trials.MarkedTexts.{bytes, none, flags, width10}
+use Rattle.rudignals.specs.Trials.MarkedTexts.{none, flags, width10}
 
 unfoldable reasons : Unit {0}
 unfolding numbersOf breaks endings linesFrom quickLines offering chosenOf maker makersFrom makersOf nextAt nextsFrom bestLines paragraphEndings endingsOf lineEndings explaining explainedNumber

@@ -2,8 +2,9 @@
 use borrow.Author.Needs.{needs}
 use mathlib.Core.Path.{ap, _∙_}
 use denote.Ref.{now}
+use Rattle.lists.proofs.Fronts.{part-to-end}
 use Rattle.unflow.specs.Flowed.{isDashes}
-use Rattle.unflow.proofs.Lines.{part-all, separator-whole, separator-quoted}
+use Rattle.unflow.proofs.Lines.{separator-whole, separator-quoted}
 use Rattle.unflow.proofs.is_separator.Statement.{statement}
 use Rattle.unflow.proofs.is_separator.Tie as tie
 
@@ -26,7 +27,7 @@ is-dashes-requires-2 : tie.Need-is-dashes-requires-2
 is-dashes-requires-2 c κs = search needs
 
 returns-2 : tie.Need-returns-2
-returns-2 c = c .is-dashes2 .ensures ∙ ap isDashes (part-all (now (c .before .before .before .before .args .line)) (c .before .before .before .before .args .start)) ∙ separator-quoted _ _ (c .before .before .before .before .pre .0) (c .before .before .if1 .left) (c .before .before .before .before .args .start) (c .before .before .before .before .pre .1)
+returns-2 c = c .is-dashes2 .ensures ∙ ap isDashes (part-to-end (c .before .before .before .before .args .start) (now (c .before .before .before .before .args .line))) ∙ separator-quoted _ _ (c .before .before .before .before .pre .0) (c .before .before .if1 .left) (c .before .before .before .before .args .start) (c .before .before .before .before .pre .1)
 
 pub is-separator-spec : {M : Type 1} → statement M
 is-separator-spec =

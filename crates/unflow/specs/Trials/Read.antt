@@ -1,26 +1,15 @@
 -- The examples of RFC 3676, section 4, and the readings of P10's reader: one table and one statement.
-use mathlib.Core.Bool.{Bool, true, false, _&&_}
+use mathlib.Core.Bool.{Bool}
 use mathlib.Core.List.{List, [], _∷_}
-use Prim.Native.Nat.{ℕ}
-use Prim.Native.Char.{code as charCode}
-use Prim.Native.String.{String, [] as nil, _∷_ as _then_}
-use lib.Dec.{T, eqb}
+use Prim.Native.String.{String}
+use lib.Dec.{T}
 use Rattle.lists.specs.Walk.{walkUpTo, walk, piece, each}
 use Rattle.lists.specs.Runs.{while, behind, every, begins, joined}
+use Rattle.lists.specs.Trials.Bytes.{bytes, same}
 use Rattle.lines.specs.Lines.{body, withoutReturn, firstLine, linesOf}
 use Rattle.pieces.specs.Pieces.{fromWord}
 use Rattle.unflow.specs.Flowed.{quoteDepth, needsSpace, stuffing, unstuffed, contentOf, isDashes, isSeparator, endsInSpace, isSoft}
 use Rattle.unflow.specs.Unflow.{goesOn, paragraphsFrom, paragraphs, asLine, mailLines, unflowed}
-
-abbrev pub bytes : String → List ℕ
-bytes nil = []
-bytes (c then s) = charCode c ∷ bytes s
-
-abbrev pub same : List ℕ → List ℕ → Bool
-same [] [] = true
-same [] (y ∷ ys) = false
-same (x ∷ xs) [] = false
-same (x ∷ xs) (y ∷ ys) = eqb x y && same xs ys
 
 pub record Row : Type 0 where
   pub text : String
