@@ -2,4 +2,4 @@ pub mod Laws
 pub mod Reading
 pub mod Test
 pub mod Walk
-pub mod Worked
+pub mod NoRecord

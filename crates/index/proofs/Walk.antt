@@ -76,7 +76,10 @@ use Rattle.index.proofs.Part.Laws as Par′
 abbrev pub R : RattleType
 R = Rec.the-row
 
--- the MIR type of a record that a local holds
+-- the MIR types of a number and a record that a local holds
+abbrev pub word : Ty
+word = tyInt w64
+
 abbrev pub rec-ty : Ty
 rec-ty = Rec′.mir
 

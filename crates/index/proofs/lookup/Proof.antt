@@ -10,11 +10,12 @@ use prog.Wp.{afterTurn}
 use contract.Running.{tablesOf}
 use types.Share.{arr-parts}
 use denote.Plain.{bool-lawful, uint-lawful}
-use Rattle.index.proofs.Walk.{meets-by, _≡_, refl, sym, ap, subst, _∙_, ℕ, zero, suc, _+_, _-_, _*_, _^_, _≤_, _<_, zero-le, List, [], _∷_, length, URA, fullShare, Ty, named, imm, w64, tyPtr, tyInt, tyBool, tyRef, Val, vint, vptr, SProp, ent, emp, via, fst∗, id⊢, exE, snd∗, Lft, GName, Share, ftrue, fat, froom, fdies, flft, fres, fobor, fshr-bor, Memory, Routine, Heap, Env, Out, afterSeq, afterBlock, Calls, Loops, Wp, atReturn, WpFn, Tables, Atoms, sem, Fun, fact, givenOf, tables, Given, Item, Sq, runs, anyQ, atRet, ‵, raw, later, some, _⊛_, ⋆, _$_, _∵_, !, qed, by, move, keep, drop, use1, split, join, pick, await, rewrite, fsplit, fjoin, suffices, frame, done, whole, sub, look-in, look, look-raw, init, store, forget, stop, hop, fld, from, load, lit, of-opd, and-then, no-more, bin, assigns, assigns-last, land, first, blocks, exec, Below, again, loops, returns, enter, alloc1, alloc0, params1, pass1, pass0, free1, free0, fmOf, owns, pureI, Is, shows, pointee, shares, uint-vals, uint-tells, uint-makes, usize, u64, bool, RefT, sliceTy, sliceVal, ShrSlice, Room, heres, codedHoleys, at-slice, slice-vals, shr-slice-tells, row, plain, only, owned, facts, heard, nothing, Vals, onEntry, Meets, tripleOf, Contract, Triple, calls-at, ensured, lasts, entered, cited, says, Stays, stay-none-slice, stay-none, walkOf, ends-at, goes-none-slice, goes-none, yes, Record, R, rec-ty, low, rec-tells, Ok, place-at, R-makes, typed, takes-out, puts-back, looks-in, shuts-in, Part, P, part-ty, P-makes, part-typed}
+use Rattle.index.proofs.Walk.{meets-by, _≡_, refl, sym, ap, subst, _∙_, ℕ, zero, suc, _+_, _-_, _*_, _^_, _≤_, _<_, zero-le, List, [], _∷_, length, URA, fullShare, Ty, named, imm, w64, tyPtr, tyBool, tyRef, Val, vint, vptr, SProp, ent, emp, via, fst∗, id⊢, exE, snd∗, Lft, GName, Share, ftrue, fat, froom, fdies, flft, fres, fobor, fshr-bor, Memory, Routine, Heap, Env, Out, afterSeq, afterBlock, Calls, Loops, Wp, atReturn, WpFn, Tables, Atoms, sem, Fun, fact, givenOf, tables, Given, Item, Sq, runs, anyQ, atRet, ‵, raw, later, some, _⊛_, ⋆, _$_, _∵_, !, qed, by, move, keep, drop, use1, split, join, pick, await, rewrite, fsplit, fjoin, suffices, frame, done, whole, sub, look-in, look, look-raw, init, store, forget, stop, hop, fld, from, load, lit, of-opd, and-then, no-more, bin, assigns, assigns-last, land, first, blocks, exec, Below, again, loops, returns, enter, alloc1, alloc0, params1, pass1, pass0, free1, free0, fmOf, owns, pureI, Is, shows, pointee, shares, uint-vals, uint-tells, uint-makes, usize, u64, bool, RefT, sliceTy, sliceVal, ShrSlice, Room, heres, codedHoleys, at-slice, slice-vals, shr-slice-tells, row, plain, only, owned, facts, heard, nothing, Vals, onEntry, Meets, tripleOf, Contract, Triple, calls-at, ensured, lasts, entered, cited, says, Stays, stay-none-slice, stay-none, walkOf, ends-at, goes-none-slice, goes-none, yes, Record, R, word, rec-ty, low, rec-tells, Ok, place-at, R-makes, typed, takes-out, puts-back, looks-in, shuts-in, Part, P, part-ty, P-makes, part-typed}
 use Rattle.index.specs.Lookup as Lookup
 use Rattle.index.specs.Lookup.{holds}
 use Rattle.index.specs.Contracts.Lists.{noRecord, recordAt, partIf}
 use Rattle.index.proofs.Laws.{none-holds, part-held, part-not, lookup-within, within-most, restFrom, rest-last, rest-here, rest-on}
+use Rattle.index.proofs.NoRecord.{NoRecord, no-record-told, to-no-record, no-record-goes}
 use Rattle.index.proofs.Test.{tests, breaks}
 use Rattle.index.proofs.within as within
 use Rattle.index.proofs.within.Symbol as within-def
@@ -49,9 +50,6 @@ missing false _ = refl
 abbrev stayed : Stays (f.ended .signature .params) (f.ended .kept)
 stayed = (stay-none-slice (0 ∷ []) tt (plain (λ _. R)) yes, (stay-none (λ _. u64) yes, (stay-none (λ _. usize) yes, (stay-none (λ _. u64) yes, tt))))
 
-abbrev word : Ty
-word = tyInt w64
-
 abbrev slice : Ty
 slice = sliceTy (tyRef (named 0) imm (pointee (R .written)))
 
@@ -59,9 +57,6 @@ module _ {M : Type 1} (𝓤 : URA M) (H : Heap 𝓤) (A : Atoms 𝓤) (mem : Mem
   -- the contracts that the proof cites
   abbrev Within : Contract 𝓤
   Within = tripleOf 𝓤 H A within.signature (within.spec 𝓤 H A mem run)
-
-  abbrev NoRecord : Contract 𝓤
-  NoRecord = tripleOf 𝓤 H A no-record.signature (no-record.spec 𝓤 H A mem run)
 
   abbrev IsHolding : Contract 𝓤
   IsHolding = tripleOf 𝓤 H A is-holding.signature (is-holding.spec 𝓤 H A mem run)
@@ -72,9 +67,6 @@ module _ {M : Type 1} (𝓤 : URA M) (H : Heap 𝓤) (A : Atoms 𝓤) (mem : Mem
   -- of what they ensure, the clause alone: they have no `&mut`, so what is said of last values is dropped
   within-told : (filled records n : ℕ) → ent 𝓤 (ensured 𝓤 H A within.ended (within.clauses 𝓤 H A mem run) tt (filled, (records, tt)) tt n) (fact 𝓤 (n ≡ cond (leb filled records) filled 0))
   within-told filled records n = exE 𝓤 _ (λ ws. snd∗ 𝓤 (sem 𝓤 H A (lasts within.ended tt (filled, (records, tt)) ws)) (fact 𝓤 (n ≡ cond (leb filled records) filled 0)))
-
-  no-record-told : (r : Record) → ent 𝓤 (ensured 𝓤 H A no-record.ended (no-record.clauses 𝓤 H A mem run) tt tt tt r) (fact 𝓤 (r ≡ noRecord))
-  no-record-told r = exE 𝓤 _ (λ ws. snd∗ 𝓤 (sem 𝓤 H A (lasts no-record.ended tt tt ws)) (fact 𝓤 (r ≡ noRecord)))
 
   is-holding-told : (e : Record) (line : ℕ) (t : Bool) → ent 𝓤 (ensured 𝓤 H A is-holding.ended (is-holding.clauses 𝓤 H A mem run) tt (e, (line, tt)) tt t) (fact 𝓤 (t ≡ holds line e))
   is-holding-told e line t = exE 𝓤 _ (λ ws. snd∗ 𝓤 (sem 𝓤 H A (lasts is-holding.ended tt (e, (line, tt)) ws)) (fact 𝓤 (t ≡ holds line e)))
@@ -110,12 +102,6 @@ module _ {M : Type 1} (𝓤 : URA M) (H : Heap 𝓤) (A : Atoms 𝓤) (W : Given
   within-goes =
       qed W (‵ ftrue ∷ []) ∵ nothing ! $ owned ! usize (Is usize) (uint-makes 𝓤 H A W w64) (length ys) _ (refl, gn .0) $ fjoin ! $ owned ! u64 (Is u64) (uint-makes 𝓤 H A W w64) filled _ (refl, filled-fits) $ fjoin ! $
       move ! (1 ∷ 0 ∷ []) $ join ! $ frame ! $ done !
-
-  abbrev to-no-record : NoRecord 𝓤 H A mem run .Ghost
-  to-no-record = ((tt, tt, tt, tt, tt), tt)
-
-  no-record-goes : ent 𝓤 (sem 𝓤 H A ftrue) (NoRecord 𝓤 H A mem run .pre to-no-record)
-  no-record-goes = qed W (‵ ftrue ∷ []) ∵ nothing ! $ move ! (1 ∷ 0 ∷ []) $ join ! $ frame ! $ done !
 
   abbrev to-is-holding : Record → IsHolding 𝓤 H A mem run .Ghost
   to-is-holding e = ((tt, tt, tt, (e, (line, tt)), (low e ∷ [], (vint w64 line ∷ [], tt))), tt)
@@ -270,8 +256,8 @@ module _ {M : Type 1} (𝓤 : URA M) (H : Heap 𝓤) (A : Atoms 𝓤) (W : Given
 
       fetches : Triple 𝓤 (𝓣 .C #index·no-record) (NoRecord 𝓤 H A mem run) → Sq W (Begun (‵ (froom rec-ty l₆ 0)) (‵ (fat fullShare word l₅ 0 (vint w64 n)))) (runs (𝓣 .C) (𝓣 .Λ) Env₀ parts.t-3 (atRet Env₀ Post))
       fetches known-no-record =
-          nothing ! $ use1 W (raw (NoRecord 𝓤 H A mem run .pre to-no-record)) no-record-goes $
-          calls-at ! (fmOf 𝓤 H (W .laws) 𝓣) (NoRecord 𝓤 H A mem run) known-no-record to-no-record (no-more !) (λ v.
+          nothing ! $ use1 W (raw (NoRecord 𝓤 H A mem run .pre (to-no-record 𝓤 H A mem run))) (no-record-goes 𝓤 H A mem run W) $
+          calls-at ! (fmOf 𝓤 H (W .laws) 𝓣) (NoRecord 𝓤 H A mem run) known-no-record (to-no-record 𝓤 H A mem run) (no-more !) (λ v.
           use1 W (later (some (λ (r : Record). (‵ ftrue ⊛ ‵ (R .own r (v ∷ []))) ⊛ raw (ensured 𝓤 H A no-record.ended (no-record.clauses 𝓤 H A mem run) tt tt tt r)))) (id⊢ 𝓤 _) $ await ! tt $ pick ! (λ r.
           split ! $ move ! (1 ∷ []) $ use1 W (raw (fact 𝓤 (r ≡ noRecord))) (no-record-told 𝓤 H A mem run r) $ heard ! (r ≡ noRecord) (λ none. split ! $ drop ! $
           facts ! R (Is R) (shows 𝓤 H A R) r (v ∷ []) (λ is.

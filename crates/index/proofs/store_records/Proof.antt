@@ -9,11 +9,12 @@ use lib.Dec.{T, ltb, ltb→lt, nltb→le, lit<}
 use lib.WfN.{Nat·lt-wfRel}
 use prog.Wp.{afterTurn}
 use contract.Running.{tablesOf}
-use Rattle.index.proofs.Walk.{meets-by, _≡_, refl, sym, ap, subst, _∙_, ℕ, _+_, _-_, _*_, _^_, _≤_, _<_, zero-le, List, [], _∷_, length, URA, fullShare, Ty, named, imm, mut, w32, w64, tyPtr, tyInt, tyBool, tyUnit, tyRef, Val, vunit, vint, vptr, SProp, ent, sep, id⊢, exE, snd∗, Lft, GName, Share, Fml, ftrue, fat, froom, fdies, flft, fobs, fauth, fbor, fobor, Memory, Routine, Heap, Env, Out, afterSeq, afterBlock, Calls, Loops, Wp, atReturn, WpFn, Tables, Atoms, sem, Fun, fact, givenOf, tables, Given, Item, Sq, runs, anyQ, atRet, ‵, raw, later, some, _⊛_, ⋆, _$_, _∵_, !, qed, by, move, keep, drop, use1, use2, split, join, pick, await, rewrite, fsplit, fjoin, feqI, suffices, frame, done, whole, sub, look-in, look, init, store, store-raw, forget, stop, hop, fld, from, load, lit, unit-lit, of-opd, and-then, no-more, bin, assigns, assigns-last, land, first, blocks, exec, Below, again, loops, returns, enter, alloc1, alloc0, params1, pass1, pass0, free1, free0, fmOf, owns, pureI, Is, shows, pointee, uint-vals, uint-tells, uint-makes, usize, u32, RefT, sliceTy, sliceVal, MutSlice, ShrSlice, Room, heres, codedHoleys, at-slice, slice-vals, mut-slice-tells, shr-slice-tells, shr-slice-copy, Held, row, opens-slice, closes-slice, plain, only, owned, facts, heard, nothing, Vals, onEntry, Meets, tripleOf, Contract, Triple, calls-at, ensured, lasts, entered, cited, says, needs, Stays, stay-slice, stay-none-slice, stay-none, walkOf, ends-at, goes-slice, goes-none-slice, goes-none, yes, Record, R, rec-ty, low, rec-tells, Ok, place-at, R-makes, typed, takes-out, puts-in}
+use Rattle.index.proofs.Walk.{meets-by, _≡_, refl, sym, ap, subst, _∙_, ℕ, _+_, _-_, _*_, _^_, _≤_, _<_, zero-le, List, [], _∷_, length, URA, fullShare, Ty, named, imm, mut, w32, w64, tyPtr, tyInt, tyBool, tyUnit, tyRef, Val, vunit, vint, vptr, SProp, ent, sep, id⊢, exE, snd∗, Lft, GName, Share, Fml, ftrue, fat, froom, fdies, flft, fobs, fauth, fbor, fobor, Memory, Routine, Heap, Env, Out, afterSeq, afterBlock, Calls, Loops, Wp, atReturn, WpFn, Tables, Atoms, sem, Fun, fact, givenOf, tables, Given, Item, Sq, runs, anyQ, atRet, ‵, raw, later, some, _⊛_, ⋆, _$_, _∵_, !, qed, by, move, keep, drop, use1, use2, split, join, pick, await, rewrite, fsplit, fjoin, feqI, suffices, frame, done, whole, sub, look-in, look, init, store, store-raw, forget, stop, hop, fld, from, load, lit, unit-lit, of-opd, and-then, no-more, bin, assigns, assigns-last, land, first, blocks, exec, Below, again, loops, returns, enter, alloc1, alloc0, params1, pass1, pass0, free1, free0, fmOf, owns, pureI, Is, shows, pointee, uint-vals, uint-tells, uint-makes, usize, u32, RefT, sliceTy, sliceVal, MutSlice, ShrSlice, Room, heres, codedHoleys, at-slice, slice-vals, mut-slice-tells, shr-slice-tells, shr-slice-copy, Held, row, opens-slice, closes-slice, plain, only, owned, facts, heard, nothing, Vals, onEntry, Meets, tripleOf, Contract, Triple, calls-at, ensured, lasts, entered, cited, says, needs, Stays, stay-slice, stay-none-slice, stay-none, walkOf, ends-at, goes-slice, goes-none-slice, goes-none, yes, Record, R, word, rec-ty, low, rec-tells, Ok, place-at, R-makes, typed, takes-out, puts-in}
 use Rattle.marks.specs.Contracts.Marks.{marksIn}
 use Rattle.index.specs.Contracts.Lists.{noRecord}
 use Rattle.index.specs.Contracts.Reading.{behind, recordAfter, readFrom}
 use Rattle.index.proofs.Reading.{lastRead, last-within, last-more, readTo, read-more, same-length}
+use Rattle.index.proofs.NoRecord.{NoRecord, no-record-told, to-no-record, no-record-goes}
 use Rattle.index.proofs.Test.{tests}
 use Rattle.index.proofs.no_record as no-record
 use Rattle.index.proofs.no_record.Symbol as no-record-def
@@ -32,9 +33,6 @@ use Rattle.index.proofs.store_records.Code.Mir as parts
 abbrev stayed : Stays (f.ended .signature .params) (f.ended .kept)
 stayed = (stay-slice (0 ∷ []) tt (plain (λ _. R)), (stay-none (λ _. usize) yes, (stay-none-slice (1 ∷ []) tt (plain (λ _. u32)) yes, tt)))
 
-abbrev word : Ty
-word = tyInt w64
-
 abbrev slice : Ty
 slice = sliceTy (tyRef (named 0) mut (pointee (R .written)))
 
@@ -43,16 +41,10 @@ words = sliceTy (tyRef (named 1) imm (tyInt w32))
 
 module _ {M : Type 1} (𝓤 : URA M) (H : Heap 𝓤) (A : Atoms 𝓤) (mem : Memory → SProp 𝓤) (run : Routine → Fun 𝓤) where
   -- the contracts that the proof cites
-  abbrev NoRecord : Contract 𝓤
-  NoRecord = tripleOf 𝓤 H A no-record.signature (no-record.spec 𝓤 H A mem run)
-
   abbrev NextRecord : Contract 𝓤
   NextRecord = tripleOf 𝓤 H A next-record.signature (next-record.spec 𝓤 H A mem run)
 
   -- of what they ensure, the clause alone: they have no `&mut`, so what is said of last values is dropped
-  no-record-told : (r : Record) → ent 𝓤 (ensured 𝓤 H A no-record.ended (no-record.clauses 𝓤 H A mem run) tt tt tt r) (fact 𝓤 (r ≡ noRecord))
-  no-record-told r = exE 𝓤 _ (λ ws. snd∗ 𝓤 (sem 𝓤 H A (lasts no-record.ended tt tt ws)) (fact 𝓤 (r ≡ noRecord)))
-
   next-record-told : (κ′ : Lft) (ms : RefT (List ℕ)) (r s : Record) → ent 𝓤 (ensured 𝓤 H A next-record.ended (next-record.clauses 𝓤 H A mem run) (κ′, tt) (ms, (r, tt)) tt s) (fact 𝓤 (s ≡ recordAfter (marksIn (ms .now)) r))
   next-record-told κ′ ms r s = exE 𝓤 _ (λ ws. snd∗ 𝓤 (sem 𝓤 H A (lasts next-record.ended (κ′, tt) (ms, (r, tt)) ws)) (fact 𝓤 (s ≡ recordAfter (marksIn (ms .now)) r)))
 
@@ -96,12 +88,6 @@ module _ {M : Type 1} (𝓤 : URA M) (H : Heap 𝓤) (A : Atoms 𝓤) (W : Given
       nothing ! $ move ! (2 ∷ 0 ∷ []) $ fjoin ! $ owned ! usize (Is usize) (uint-makes 𝓤 H A W w64) n _ (refl, fits) $ fjoin ! $ move ! (1 ∷ 0 ∷ []) $ fjoin ! $ feqI ! (List Val) (vunit ∷ []) (vunit ∷ []) refl $ move ! (1 ∷ 0 ∷ []) $ done !
 
   -- what the callees' triples bind outside, and that it is had
-  abbrev to-no-record : NoRecord 𝓤 H A mem run .Ghost
-  to-no-record = ((tt, tt, tt, tt, tt), tt)
-
-  no-record-goes : ent 𝓤 (sem 𝓤 H A ftrue) (NoRecord 𝓤 H A mem run .pre to-no-record)
-  no-record-goes = qed W (‵ ftrue ∷ []) ∵ nothing ! $ move ! (1 ∷ 0 ∷ []) $ join ! $ frame ! $ done !
-
   abbrev to-next-record : Record → NextRecord 𝓤 H A mem run .Ghost
   to-next-record r = (((κ′, tt), (q′, tt), tt, (ms, (r, tt)), (slice-vals ms, (low r ∷ [], tt))), tt)
 
@@ -204,8 +190,8 @@ module _ {M : Type 1} (𝓤 : URA M) (H : Heap 𝓤) (A : Atoms 𝓤) (W : Given
       alloc1 ! (λ l₀. alloc1 ! (λ l₁. alloc1 ! (λ l₂. alloc1 ! (λ l₃. alloc1 ! (λ l₄. alloc1 ! (λ l₅. alloc1 ! (λ l₆. alloc1 ! (λ l₇. alloc1 ! (λ l₈. alloc0 ! $ params1 ! $
       pass1 ! (init ! 14 refl (tt, (tt, (record { fits = gn .0 }, tt)))) $ pass1 ! (init ! 12 refl (tt, record { fits = fits })) $ pass1 ! (init ! 10 refl (tt, (tt, (record { fits = room-ms .0 }, tt)))) $ pass0 ! $
       -- [_8; …; _1; …; room for _0; …; the tokens; what the parameters own]
-      nothing ! $ use1 W (raw (NoRecord 𝓤 H A mem run .pre to-no-record)) no-record-goes $
-      calls-at ! (fmOf 𝓤 H (W .laws) 𝓣) (NoRecord 𝓤 H A mem run) known-none to-no-record (no-more !) (λ w.
+      nothing ! $ use1 W (raw (NoRecord 𝓤 H A mem run .pre (to-no-record 𝓤 H A mem run))) (no-record-goes 𝓤 H A mem run W) $
+      calls-at ! (fmOf 𝓤 H (W .laws) 𝓣) (NoRecord 𝓤 H A mem run) known-none (to-no-record 𝓤 H A mem run) (no-more !) (λ w.
       use1 W (later (some (λ (r : Record). (‵ ftrue ⊛ ‵ (R .own r (w ∷ []))) ⊛ raw (ensured 𝓤 H A no-record.ended (no-record.clauses 𝓤 H A mem run) tt tt tt r)))) (id⊢ 𝓤 _) $ await ! tt $ pick ! (λ r.
       split ! $ move ! (1 ∷ []) $ use1 W (raw (fact 𝓤 (r ≡ noRecord))) (no-record-told 𝓤 H A mem run r) $ heard ! (r ≡ noRecord) (λ none. split ! $ drop ! $
       facts ! R (Is R) (shows 𝓤 H A R) r (w ∷ []) (λ is.

@@ -1,16 +1,13 @@
 -- Document 02, P3: an index worked out by the definition, and the order of its refusals: 6 before 5.
 use mathlib.Core.Path.{_≡_, refl}
 use mathlib.Core.List.{[], _∷_}
-use Prim.Native.Nat.{ℕ}
-use Rattle.index.specs.declared.Record.{Record}
+use Rattle.lists.specs.Trials.Bytes.{bytes}
+use Rattle.index.specs.Trials.Lookups.{entry}
 use Rattle.indexer.specs.Index.{lineCount, recordsFrom, indexOf}
 use Rattle.indexer.specs.Answers.{done, full, room}
 use Rattle.indexer.specs.Indexing.{indexing}
 use Rattle.rudignals.specs.Trials.Computing.{everything}
-use Rattle.rudignals.specs.Trials.MarkedTexts.{bytes, none}
-
-abbrev entry : ℕ → ℕ → ℕ → ℕ → Record
-entry p l f c = record { place = p; length = l; first = f; count = c }
+use Rattle.rudignals.specs.Trials.MarkedTexts.{none}
 
 pub three-pieces : indexing none (bytes "a\r\n\nb") 5 3 ≡ done (bytes "a\n\nb\n") (entry 0 3 0 1 ∷ entry 3 1 1 1 ∷ entry 4 1 2 1 ∷ [])
 unfolding everything indexing indexOf recordsFrom lineCount

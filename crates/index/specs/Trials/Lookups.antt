@@ -6,7 +6,7 @@ use Rattle.index.specs.declared.Record.{Record}
 use Rattle.index.specs.declared.Part.the-variants.{Nowhere, At}
 use Rattle.index.specs.Lookup.{holds, partIn, partUnder, lookup}
 
-abbrev entry : ℕ → ℕ → ℕ → ℕ → Record
+abbrev pub entry : ℕ → ℕ → ℕ → ℕ → Record
 entry p l f c = record { place = p; length = l; first = f; count = c }
 
 abbrev three : List Record
