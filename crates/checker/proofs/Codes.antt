@@ -22,7 +22,8 @@ use Rattle.text.specs.Characters.{Glyph, glyphAs, glyph, characters, extent}
 use Rattle.text.specs.Theorems.Blanks.{spaceCode}
 use Rattle.text.proofs.Decoder.{scalar-true, some-octets, sound, complete}
 use Rattle.text.proofs.Glyphs.{Bytes, characters-first, characters-induct}
-use Rattle.checker.proofs.Feeds.{Feedless, feedless-inside}
+use Rattle.output.proofs.Indents.{Feedless}
+use Rattle.checker.proofs.Feeds.{feedless-inside}
 
 -- a number that is a character's
 pub record Character (c : ℕ) : Type 0 where
@@ -224,6 +225,18 @@ no-break-space = refl
 pub space-space : spaceCode 32 ≡ true
 unfolding whiteSpace
 space-space = refl
+
+pub feed-no-space : spaceCode 10 ≡ false
+unfolding whiteSpace
+feed-no-space = refl
+
+pub ink-no-break : (c : ℕ) → whiteSpace c ≡ false → eqb c 0xA0 ≡ false
+unfolding whiteSpace
+ink-no-break c h = go (eqb c 0xA0) refl
+  where
+    go : (t : Bool) → eqb c 0xA0 ≡ t → t ≡ false
+    go true e = absurd (false≢true (sym h ∙ ap whiteSpace (eqb-true c 0xA0 e)))
+    go false e = refl
 
 pub space-octets : encode 32 ≡ 32 ∷ []
 unfolding encode

@@ -12,10 +12,11 @@ use lib.Seq.{drop-append-seam}
 use Rattle.lists.specs.Runs.{begins}
 use Rattle.lists.proofs.Runs.{begins-append, begins-front}
 use Rattle.output.specs.Emission.{lineFeed}
+use Rattle.output.proofs.Indents.{Feedless}
 use Rattle.checker.specs.Acceptable.{Then}
 use Rattle.checker.specs.Named.{feeds}
 use Rattle.checker.specs.Matching.{Match, on, fault, andThen, matchText, matchFeed}
-use Rattle.checker.proofs.Feeds.{Feedless, feeds-nil, feeds-feed, feeds-append, feedless-feeds, begins-feed, feed-first}
+use Rattle.checker.proofs.Feeds.{feeds-nil, feeds-feed, feeds-append, feedless-feeds, begins-feed, feed-first}
 
 abbrev pub Language : Type 1
 Language = List ℕ → Type 0

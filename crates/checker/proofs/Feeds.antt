@@ -1,28 +1,22 @@
 -- Lines by their line feeds: counts, the first lines of a text, and what does not hang on what stands behind a line feed.
 use mathlib.Core.Path.{_≡_, refl, sym, ap, ap₂, _∙_}
-use mathlib.Core.Bool.{Bool, true, false, not, false≢true, and-eq-true-iff}
+use mathlib.Core.Bool.{Bool, true, false, false≢true, and-eq-true-iff}
 use mathlib.Core.List.{List, [], _∷_, _++_}
 use Prim.Native.Nat.{ℕ, zero, suc, _+_, _≤_, _<_}
 use native.Mathlib.Omega.{arith}
 use lib.Dec.{eqb}
 use lib.ListN.{length}
-use borrow.Author.Tests.{eqb-true, eq-eqb, ne-eqb}
+use borrow.Author.Tests.{eqb-true, eq-eqb, ne-eqb, not-true}
 use Rattle.lists.specs.Runs.{every, begins}
 use Rattle.lists.proofs.Parts.{every-nil, every-cons}
 use Rattle.lines.specs.Lines.{noFeed}
 use Rattle.output.specs.Emission.{lineFeed}
+use Rattle.output.proofs.Indents.{Feedless}
 use Rattle.checker.specs.Named.{feeds, firstLines}
-
-abbrev pub Feedless : List ℕ → Type 0
-Feedless p = every noFeed p ≡ true
 
 -- the first byte of a feedless text, and the others
 pub feedless-cons : (a : ℕ) (p : List ℕ) → Feedless (a ∷ p) → (eqb a 10 ≡ false) × Feedless p
-feedless-cons a p h = let k = and-eq-true-iff (noFeed a) (every noFeed p) .0 (rw every-cons at h) in (go (eqb a 10) (k .0), k .1)
-  where
-    go : (t : Bool) → not t ≡ true → t ≡ false
-    go true e = absurd (false≢true e)
-    go false e = refl
+feedless-cons a p h = let k = and-eq-true-iff (noFeed a) (every noFeed p) .0 (rw every-cons at h) in (not-true (eqb a 10) (k .0), k .1)
 
 feeds-end : (x : ℕ) (xs : List ℕ) → eqb x 10 ≡ true → feeds (x ∷ xs) ≡ suc (feeds xs)
 unfolding feeds

@@ -9,7 +9,7 @@ use native.Mathlib.Omega.{arith}
 use lib.Dec.{eqb}
 use lib.ListN.{length, drop, replicate}
 use lib.Seq.{drop-append-seam}
-use borrow.Author.Tests.{eqb-true}
+use borrow.Author.Tests.{eqb-true, not-true}
 use Rattle.lists.specs.Walk.{piece, each}
 use Rattle.lists.specs.Runs.{while, behind, every, joined}
 use Rattle.lists.specs.Theorems.All.{All}
@@ -26,11 +26,10 @@ use Rattle.options.specs.Opts.{Opts}
 use Rattle.lines.specs.Lines.{noFeed}
 use Rattle.lines.specs.Classes.{glyphsFrom}
 use Rattle.pieces.specs.Pieces.{Row}
-use Rattle.records.specs.Word.{Word}
 use Rattle.words.specs.Words.{Run, isInk, runOf, runs, glyphBytes, bytesOf, punctAtEnd, counting, wordOf, lineWords, mailWord, mailWords, rowWords}
-use Rattle.checker.proofs.Feeds.{Feedless}
+use Rattle.output.proofs.Indents.{Feedless}
 use Rattle.checker.proofs.Codes.{Character, octets, good-read}
-use Rattle.checker.proofs.Gaps.{Fits}
+use Rattle.checker.proofs.Gaps.{Fits, WordFits}
 
 -- ---- the characters of an undamaged text
 
@@ -43,15 +42,11 @@ record Sound (g : Glyph) : Type 0 where
 characters-sound : (xs : List ℕ) → every isGood (characters xs) ≡ true → Feedless xs → All Sound (characters xs)
 characters-sound = characters-induct (λ ys gs. every isGood gs ≡ true → Feedless ys → All Sound gs) (λ e f. tt) turn
   where
-    not-damaged : (t : Bool) → not t ≡ true → t ≡ false
-    not-damaged true e = absurd (false≢true e)
-    not-damaged false e = refl
-
     turn : (ys : List ℕ) (b : Bytes ys) → (every isGood (characters (drop (b .n) ys)) ≡ true → Feedless (drop (b .n) ys) → All Sound (characters (drop (b .n) ys)))
         → every isGood (glyph ys ∷ characters (drop (b .n) ys)) ≡ true → Feedless ys → All Sound (glyph ys ∷ characters (drop (b .n) ys))
     turn ys b rest e f =
         let k = and-eq-true-iff (isGood (glyph ys)) (every isGood (characters (drop (b .n) ys))) .0 (rw every-cons at e) in
-        let r = good-read ys (not-damaged (glyph ys .damaged) (k .0)) in
+        let r = good-read ys (not-true (glyph ys .damaged) (k .0)) in
         let n : b .n ≡ length (encode (r .code)) = sym (b .count) ∙ ap (λ (g : Glyph). length (g .bytes)) (r .glyph-is) in
         let s : drop (b .n) ys ≡ r .rest = ap (λ (i : ℕ). drop i ys) n ∙ ap (drop (length (encode (r .code)))) (r .octets) ∙ drop-append-seam (encode (r .code)) (r .rest) in
         let h = and-eq-true-iff (every noFeed (encode (r .code))) (every noFeed (r .rest)) .0 (sym (every-append noFeed (encode (r .code)) (r .rest)) ∙ ap (every noFeed) (sym (r .octets)) ∙ f) in
@@ -126,10 +121,6 @@ ahead-first (g ∷ gs) h = go (noBreak g) refl
     go : (t : Bool) → noBreak g ≡ t → InkFirst (glued true (g ∷ gs))
     go true e = let k : inkAhead gs ≡ true = sym (ahead-run g gs e) ∙ h in rw (glued-run true g gs e, k) refl
     go false e = rw (glued-other true g gs e) (not-true (g .blank) (sym (ahead-other g gs e) ∙ h))
-      where
-        not-true : (b : Bool) → not b ≡ true → b ≡ false
-        not-true true q = absurd (false≢true q)
-        not-true false q = refl
 
 glued-line : (ink : Bool) (gs : List Glyph) → All Sound gs → Line true (glued ink gs)
 glued-line ink [] a = rw (glued-none ink) (record { good = tt; anchored = tt })
@@ -255,9 +246,6 @@ run-fits glue gs l = go (behind isBlank gs) refl (line-behind glue gs l)
 runs-fit : (glue : Bool) (gs : List Glyph) → Line glue gs → All (RunFits glue) (runs gs)
 unfolding runs each piece
 runs-fit glue gs l = walk-all (piece (λ gs. let r = runOf gs in length (r .blanks) + length (r .text) - 1) runOf) (RunFits glue) (Line glue) (line-drop glue) (λ s ys h k. run-fits glue ys k) tt gs l
-
-abbrev WordFits : Bool → Word → Type 0
-WordFits glue w = Fits glue (w .text)
 
 some-fits : (glue : Bool) (r : Run) (g : Glyph) (gs : List Glyph) → r .text ≡ g ∷ gs → RunFits glue r → Fits glue (bytesOf (r .text))
 some-fits glue r g gs e (inl z) = absurd (let q = sym z ∙ e in let y : _≡_ {A = ℕ} 0 1 = cc in omega arith)

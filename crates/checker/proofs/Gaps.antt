@@ -1,6 +1,6 @@
 -- A word behind a gap: what is matched is a gap and the word, wherever the word is one that notes can have.
 use mathlib.Core.Path.{_≡_, refl, sym, ap, ap₂, _∙_}
-use mathlib.Core.Bool.{Bool, true, false, cond, not, _&&_, _||_, false≢true, true≢false, and-eq-true-iff}
+use mathlib.Core.Bool.{Bool, true, false, cond, not, _&&_, _||_, and-false, false≢true, true≢false, and-eq-true-iff}
 use mathlib.Core.List.{List, [], _∷_, _++_, append-assoc, map}
 use Prim.Native.Nat.{ℕ, zero, suc, _+_, _-_, _≤_, _<_}
 use native.Mathlib.Omega.{arith}
@@ -16,13 +16,15 @@ use Rattle.widths.specs.WhiteSpace.{whiteSpace}
 use Rattle.text.specs.Rfc3629.{encode}
 use Rattle.text.specs.Characters.{Glyph, characters, extent}
 use Rattle.text.specs.Theorems.Blanks.{spaceCode, Gap}
+use Rattle.records.specs.Word.{Word}
 use Rattle.output.specs.Emission.{lineFeed}
+use Rattle.output.proofs.Indents.{Feedless}
 use Rattle.checker.specs.Acceptable.{Then}
 use Rattle.checker.specs.Named.{feeds}
 use Rattle.checker.specs.Matching.{on, fault, matchText, isSpace, spaces, soft, parting, lead, matchSpaced}
-use Rattle.checker.proofs.Feeds.{Feedless, feedless-inside, feedless-first, feeds-nil, feeds-append, feedless-feeds, begins-feed}
+use Rattle.checker.proofs.Feeds.{feedless-inside, feedless-first, feeds-nil, feeds-append, feedless-feeds, begins-feed}
 use Rattle.checker.proofs.Decides.{Language, Took, Faults, Decides, Is, on-fault, decides-text, decides-same}
-use Rattle.checker.proofs.Codes.{Character, encode-some, glyphOf, octets, extent-codes, Begins, begins-of, kind-glyphs, other-stops, octets-feedless, stops-before, space-characters, no-break-space, space-space, space-octets}
+use Rattle.checker.proofs.Codes.{Character, encode-some, glyphOf, octets, extent-codes, Begins, begins-of, kind-glyphs, other-stops, octets-feedless, stops-before, space-characters, no-break-space, space-space, space-octets, feed-no-space, ink-no-break}
 
 -- a word that notes can have: no line feed; behind any U+00A0 of its own in front, which it has with glue on alone, a character that is no blank
 pub record Fits (glue : Bool) (w : List ℕ) : Type 0 where
@@ -34,6 +36,9 @@ pub record Fits (glue : Bool) (w : List ℕ) : Type 0 where
   pub isInk : whiteSpace ink ≡ false
   pub tail : List ℕ
   pub is : w ≡ octets (replicate count 0xA0) ++ (encode ink ++ tail)
+
+abbrev pub WordFits : Bool → Word → Type 0
+WordFits glue w = Fits glue (w .text)
 
 -- what parts two words of a line, by its characters' numbers
 record Spaces (glue : Bool) (bytes : List ℕ) : Type 0 where
@@ -66,10 +71,6 @@ spaces-damage : spaceCode 0xFFFD ≡ false
 unfolding whiteSpace
 spaces-damage = refl
 
-spaces-feed : spaceCode 10 ≡ false
-unfolding whiteSpace
-spaces-feed = refl
-
 -- no-break spaces in a row
 no-breaks : (k : ℕ) → (every spaceCode (replicate k 0xA0) ≡ true) × (every (λ c. eqb c 0xA0) (replicate k 0xA0) ≡ true)
 no-breaks zero = (every-nil spaceCode, every-nil (λ c. eqb c 0xA0))
@@ -91,14 +92,6 @@ no-breaks-size (suc k) =
 
 shorter : (k j : ℕ) → length (octets (replicate k 0xA0)) ≤ length (octets (replicate j 0xA0)) → k ≤ j
 shorter k j h = omega (arith, no-breaks-size k, no-breaks-size j)
-
-ink-no-break : (c : ℕ) → whiteSpace c ≡ false → eqb c 0xA0 ≡ false
-unfolding whiteSpace
-ink-no-break c h = go (eqb c 0xA0) refl
-  where
-    go : (t : Bool) → eqb c 0xA0 ≡ t → t ≡ false
-    go true e = absurd (false≢true (sym h ∙ ap (whiteSpace) (eqb-true c 0xA0 e)))
-    go false e = refl
 
 -- ---- what parts
 
@@ -144,12 +137,8 @@ parts-of glue (c ∷ codes) a = go (ltb 0 (parting glue (map glyphOf codes))) (s
           are = ap (λ (l : List ℕ). c ∷ l) (p .are);
           none = p .none;
           size = rw (k, joined-cons encode c (p .front), length-append (encode c) (octets (p .front)), p .size);
-          some = λ h. rw (every-cons, p .some (ltb-true _ _ t)) (both (soft glue c));
+          some = λ h. rw (every-cons, p .some (ltb-true _ _ t)) (and-false (soft glue c));
         }
-      where
-        both : (b : Bool) → (b && false) ≡ false
-        both true = refl
-        both false = refl
 
     go : (t u : Bool) → ltb 0 (parting glue (map glyphOf codes)) ≡ t → soft glue c ≡ u → Parts glue codes → Parts glue (c ∷ codes)
     go true u et eu p = more u et eu p
@@ -243,8 +232,8 @@ module _ (glue : Bool) (w : List ℕ) (f : Fits glue w) where
   unfolding spaces
   spaces-of xs = refl
 
-  spaces-codes : (xs : List ℕ) → Begins spaceCode spaces-damage spaces-feed xs
-  spaces-codes xs = begins-of spaceCode spaces-damage spaces-feed xs
+  spaces-codes : (xs : List ℕ) → Begins spaceCode spaces-damage feed-no-space xs
+  spaces-codes xs = begins-of spaceCode spaces-damage feed-no-space xs
 
   spaces-are : (xs : List ℕ) → spaces xs ≡ map glyphOf (spaces-codes xs .codes)
   unfolding spaces
@@ -284,7 +273,7 @@ module _ (glue : Bool) (w : List ℕ) (f : Fits glue w) where
   spaced-found : (xs : List ℕ) (n : ℕ) (rest : List ℕ) (m : ℕ) → matchSpaced glue w xs n ≡ on rest m → Took Behind xs n rest m
   spaced-found xs n rest m e = go (ltb 0 (parting glue (map glyphOf codes))) (leb (parting glue (map glyphOf codes) + lead w) (extent (map glyphOf codes))) refl refl (sym (spaced-as xs n (map glyphOf codes) (spaces-are xs)) ∙ e)
     where
-      b : Begins spaceCode spaces-damage spaces-feed xs
+      b : Begins spaceCode spaces-damage feed-no-space xs
       b = spaces-codes xs
 
       codes : List ℕ
@@ -298,7 +287,7 @@ module _ (glue : Bool) (w : List ℕ) (f : Fits glue w) where
           let g = gap-before xs codes (b .rest) (b .are) (b .each) (b .is) (ltb-true _ _ et) fits in
           let start : extent (map glyphOf codes) - lead w ≡ length (octets codes) - length own = rw (x, lead-is) in
           let a = decides-text w (f .feedless) .found (drop (length (octets codes) - length own) xs) n rest m (rw (← start) k) in
-          let z : feeds (g .0) ≡ 0 = rw (g .1 .octets) (feedless-feeds _ (octets-feedless spaceCode spaces-damage spaces-feed (g .1 .codes) (g .1 .blank))) in
+          let z : feeds (g .0) ≡ 0 = rw (g .1 .octets) (feedless-feeds _ (octets-feedless spaceCode spaces-damage feed-no-space (g .1 .codes) (g .1 .blank))) in
           record {
             part = g .0 ++ w;
             is = g .2 ∙ ap (λ (l : List ℕ). g .0 ++ l) (a .is ∙ ap (λ (l : List ℕ). l ++ rest) (a .takes)) ∙ sym (append-assoc (g .0) w rest);
@@ -322,7 +311,7 @@ module _ (glue : Bool) (w : List ℕ) (f : Fits glue w) where
       let xs-is : part ++ rest ≡ octets codes ++ behind =
       xs-w ∙ ap (λ (l : List ℕ). octets (g .codes) ++ l) w-rest ∙ sym (append-assoc (octets (g .codes)) (octets (replicate k 0xA0)) behind) ∙ ap (λ (l : List ℕ). l ++ behind) (sym (joined-append encode (g .codes) (replicate k 0xA0))) in
       let blank : every spaceCode codes ≡ true = rw (every-append spaceCode (g .codes) (replicate k 0xA0), g .blank, no-breaks k .0) in
-      let stop = other-stops spaceCode spaces-damage spaces-feed (f .ink) (f .tail ++ rest) (f .isCharacter) (rw (f .isInk)) in
+      let stop = other-stops spaceCode spaces-damage feed-no-space (f .ink) (f .tail ++ rest) (f .isCharacter) (rw (f .isInk)) in
       let gs : spaces (part ++ rest) ≡ map glyphOf codes = found (part ++ rest) codes behind xs-is blank stop in
       let some : 0 < parting glue (map glyphOf codes) = rw (map-append (g .codes) (replicate k 0xA0)) (parting-some glue (g .codes) (map glyphOf (replicate k 0xA0)) (space-characters (g .codes) (g .blank)) (g .parts)) in
       let least : parting glue (map glyphOf codes) ≤ extent (map glyphOf (g .codes)) = rw (map-append (g .codes) (replicate k 0xA0)) (parting-least glue (map glyphOf (g .codes)) (map glyphOf (replicate k 0xA0)) (no-breaks-part glue k (f .none))) in
@@ -331,14 +320,14 @@ module _ (glue : Bool) (w : List ℕ) (f : Fits glue w) where
       let start : extent (map glyphOf codes) - lead w ≡ length (octets (g .codes)) = let z = extent-codes (g .codes) in omega arith in
       let place : drop (extent (map glyphOf codes) - lead w) (part ++ rest) ≡ w ++ rest = rw (start, xs-w) (drop-append-seam (octets (g .codes)) (w ++ rest)) in
       let line : n + feeds w ≡ n + feeds part =
-      let z = feedless-feeds (octets (g .codes)) (octets-feedless spaceCode spaces-damage spaces-feed (g .codes) (g .blank)) in
+      let z = feedless-feeds (octets (g .codes)) (octets-feedless spaceCode spaces-damage feed-no-space (g .codes) (g .blank)) in
       omega (arith, ap feeds (t .bytes-are) ∙ feeds-append (t .part) (t .rest), ap feeds (g .octets), ap feeds (t .second)) in
       spaced-as (part ++ rest) n (map glyphOf codes) gs
       ∙ rw (lt-ltb 0 (parting glue (map glyphOf codes)) some, le-leb (parting glue (map glyphOf codes) + lead w) (extent (map glyphOf codes)) (omega arith), place) (decides-text w (f .feedless) .finds w rest n refl)
       ∙ ap (on rest) line
     where
       found : (xs codes behind : List ℕ) → xs ≡ octets codes ++ behind → every spaceCode codes ≡ true → while isSpace (characters behind) ≡ [] → spaces xs ≡ map glyphOf codes
-      found xs codes behind x e s = spaces-of xs ∙ ap (λ (l : List ℕ). while isSpace (characters l)) x ∙ kind-glyphs spaceCode spaces-damage spaces-feed codes behind (space-characters codes e) e s
+      found xs codes behind x e s = spaces-of xs ∙ ap (λ (l : List ℕ). while isSpace (characters l)) x ∙ kind-glyphs spaceCode spaces-damage feed-no-space codes behind (space-characters codes e) e s
 
   text-never : (left below others : List ℕ) (n k : ℕ) → matchText w (left ++ 10 ∷ below) n ≡ fault n → matchText w (left ++ 10 ∷ others) k ≡ fault k
   unfolding matchText
@@ -352,10 +341,10 @@ module _ (glue : Bool) (w : List ℕ) (f : Fits glue w) where
   spaced-never : (body below others : List ℕ) (n k : ℕ) → matchSpaced glue w (body ++ 10 ∷ below) n ≡ fault n → matchSpaced glue w (body ++ 10 ∷ others) k ≡ fault k
   spaced-never body below others n k e =
       let b = spaces-codes (body ++ 10 ∷ below) in
-      let i = feedless-inside (octets (b .codes)) (b .rest) body below (octets-feedless spaceCode spaces-damage spaces-feed (b .codes) (b .each)) (sym (b .is)) in
-      let stop = stops-before spaceCode spaces-damage spaces-feed (i .left) below others (rw (i .rest-is) at (b .stops)) in
+      let i = feedless-inside (octets (b .codes)) (b .rest) body below (octets-feedless spaceCode spaces-damage feed-no-space (b .codes) (b .each)) (sym (b .is)) in
+      let stop = stops-before spaceCode spaces-damage feed-no-space (i .left) below others (rw (i .rest-is) at (b .stops)) in
       let x : body ++ 10 ∷ others ≡ octets (b .codes) ++ (i .left ++ 10 ∷ others) = ap (λ (l : List ℕ). l ++ 10 ∷ others) (i .body-is) ∙ append-assoc (octets (b .codes)) (i .left) (10 ∷ others) in
-      let gs : spaces (body ++ 10 ∷ others) ≡ map glyphOf (b .codes) = spaces-of (body ++ 10 ∷ others) ∙ ap (λ (l : List ℕ). while isSpace (characters l)) x ∙ kind-glyphs spaceCode spaces-damage spaces-feed (b .codes) (i .left ++ 10 ∷ others) (b .are) (b .each) stop in
+      let gs : spaces (body ++ 10 ∷ others) ≡ map glyphOf (b .codes) = spaces-of (body ++ 10 ∷ others) ∙ ap (λ (l : List ℕ). while isSpace (characters l)) x ∙ kind-glyphs spaceCode spaces-damage feed-no-space (b .codes) (i .left ++ 10 ∷ others) (b .are) (b .each) stop in
       let few : extent (map glyphOf (b .codes)) - lead w ≤ length body = omega (arith, extent-codes (b .codes), ap length (i .body-is) ∙ length-append (octets (b .codes)) (i .left)) in
       spaced-as (body ++ 10 ∷ others) k (map glyphOf (b .codes)) gs
       ∙ go (ltb 0 (parting glue (map glyphOf (b .codes))) && leb (parting glue (map glyphOf (b .codes)) + lead w) (extent (map glyphOf (b .codes)))) (extent (map glyphOf (b .codes)) - lead w) few
@@ -439,4 +428,4 @@ gap-no-feed glue gap rest p = let g = gap-spaces glue gap p in rw (g .octets) (g
     go (c ∷ codes) b p =
         let s = encode-some c (space-characters (c ∷ codes) b .0) [] in
         let l = length-append (encode c) (octets codes) in
-        first (octets (c ∷ codes)) (omega (arith, ap length (joined-cons encode c codes))) (octets-feedless spaceCode spaces-damage spaces-feed (c ∷ codes) b)
+        first (octets (c ∷ codes)) (omega (arith, ap length (joined-cons encode c codes))) (octets-feedless spaceCode spaces-damage feed-no-space (c ∷ codes) b)

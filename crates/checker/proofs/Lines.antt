@@ -13,11 +13,11 @@ use Rattle.text.specs.Theorems.Blanks.{Gap}
 use Rattle.records.specs.Word.{Word}
 use Rattle.output.specs.Emission.{lineFeed}
 use Rattle.output.specs.Theorems.Order.{laidOut, InOrder}
+use Rattle.output.proofs.Indents.{Feedless}
 use Rattle.checker.specs.Acceptable.{Cut, cutWords, cutBytes, LineOf, Carries, Then}
 use Rattle.checker.specs.Matching.{matchText, matchFeed, matchSpaced, matchNext, matchRest, matchWords}
-use Rattle.checker.proofs.Feeds.{Feedless}
 use Rattle.checker.proofs.Decides.{Language, Decides, Is, decides-text, decides-feed, decides-then, decides-either, decides-same}
-use Rattle.checker.proofs.Gaps.{Fits, decides-spaced, gap-no-feed}
+use Rattle.checker.proofs.Gaps.{Fits, WordFits, decides-spaced, gap-no-feed}
 
 -- the next word: on a line of its own, or behind a gap
 abbrev Next : Bool → List ℕ → List ℕ → Language
@@ -26,9 +26,6 @@ Next glue indent w part = Then (Is lineFeed) (Is (indent ++ w)) part ⊎ Then (G
 abbrev Rest : Bool → List ℕ → List Word → Language
 Rest glue indent [] = Is lineFeed
 Rest glue indent (w ∷ ws) = Then (Next glue indent (w .text)) (Rest glue indent ws)
-
-abbrev Fit : Bool → Word → Type 0
-Fit glue w = Fits glue (w .text)
 
 -- ---- they are decided
 
@@ -42,7 +39,7 @@ module _ (glue : Bool) (indent : List ℕ) (i : Feedless indent) where
       (λ part rest t. rw (t .bytes-are, t .first))
       (λ part rest t. rw (t .bytes-are, append-assoc (t .part) (t .rest) rest) (gap-no-feed glue (t .part) (t .rest ++ rest) (t .first)))
 
-  decides-rest : (ws : List Word) → All (Fit glue) ws → Decides (Rest glue indent ws) (matchRest glue indent ws)
+  decides-rest : (ws : List Word) → All (WordFits glue) ws → Decides (Rest glue indent ws) (matchRest glue indent ws)
   unfolding matchRest
   decides-rest [] a = decides-feed
   decides-rest (w ∷ ws) a = decides-then (Next glue indent (w .text)) (Rest glue indent ws) (matchNext glue indent (w .text)) (matchRest glue indent ws) (decides-next (w .text) (a .0)) (decides-rest ws (a .1))
@@ -225,7 +222,7 @@ module _ (glue : Bool) (indent : List ℕ) where
         second = rw b (s .5);
       }
 
-pub decides-words : (glue : Bool) (first indent : List ℕ) (ws : List Word) → Feedless first → Feedless indent → All (Fit glue) ws → 0 < length ws
+pub decides-words : (glue : Bool) (first indent : List ℕ) (ws : List Word) → Feedless first → Feedless indent → All (WordFits glue) ws → 0 < length ws
     → Decides (Carries glue first indent ws) (matchWords glue first indent ws)
 unfolding matchWords
 decides-words glue first indent [] f i a h = absurd (omega arith)

@@ -1,31 +1,31 @@
 -- The pieces of notes fit: no line feed stands in a plain line or an indent, and a paragraph's words are those of undamaged lines.
 use mathlib.Core.Path.{_≡_, refl, sym, ap, _∙_, subst⁻¹}
-use mathlib.Core.Bool.{Bool, true, false, cond, _||_, and-eq-true-iff}
+use mathlib.Core.Bool.{Bool, true, false, _||_}
 use mathlib.Core.List.{List, [], _∷_, map}
-use Prim.Native.Nat.{ℕ, zero, suc, _<_}
+use Prim.Native.Nat.{ℕ, suc, _<_}
 use native.Mathlib.Omega.{arith}
-use lib.ListN.{length, take, drop, replicate, take-append-drop}
+use lib.ListN.{length, take, drop}
 use Rattle.lists.specs.Runs.{every}
 use Rattle.lists.specs.Theorems.All.{All}
-use Rattle.lists.proofs.Parts.{every-nil, every-cons, every-append}
 use Rattle.lists.proofs.All.{all-drop, all-take, all-map, all-joined}
 use Rattle.lists.proofs.Extents.{walk-all}
 use Rattle.text.specs.Characters.{glyphs, isGood}
 use Rattle.options.specs.Opts.{Opts}
-use Rattle.lines.specs.Lines.{Line, noFeed, linesOf}
+use Rattle.lines.specs.Lines.{Line, linesOf}
 use Rattle.lines.specs.Classes.{classify}
 use Rattle.lines.specs.declared.Shape.{Shape}
 use Rattle.lines.specs.declared.Class.{Class}
 use Rattle.lines.specs.declared.Class.the-variants.{Blank, Plain, Formatted}
 use Rattle.lines.proofs.Ink.{damaged-plain}
 use Rattle.lines.proofs.Extents.{lines-feedless}
-use Rattle.pieces.specs.Pieces.{Paragraph, Second, alone, joins, startsMail, continues, agrees, follow, secondOf, followSecond, further, Indent, indentOf, widened, noIndent, laterIndent, firstIndent, indentFor, rowOf, paragraphAt, pieceAs, nextPiece, pieces}
+use Rattle.pieces.specs.Pieces.{Paragraph, Second, alone, joins, startsMail, continues, agrees, follow, secondOf, followSecond, further, firstIndent, indentFor, rowOf, paragraphAt, pieceAs, nextPiece, pieces}
 use Rattle.pieces.proofs.Indents.{second-is}
 use Rattle.pieces.proofs.Extents.{Feedless as LineFeedless, Rows}
+use Rattle.pieces.proofs.Columns.{first-feedless}
 use Rattle.records.specs.Word.{Word}
 use Rattle.words.specs.Words.{rowWords, wordsOf}
 use Rattle.words.proofs.Order.{paragraph-some}
-use Rattle.checker.proofs.Feeds.{Feedless}
+use Rattle.output.proofs.Indents.{indent-for-feedless}
 use Rattle.checker.proofs.Gaps.{Fits}
 use Rattle.checker.proofs.Pieces.{PieceFits}
 use Rattle.checker.proofs.Fitting.{row-fits}
@@ -73,43 +73,6 @@ further-good o mail a ls = go (o .split) mail (o .crown || o .tagged)
     go false false true = second-good o a ls (secondOf o a ls) refl
     go false false false = follow-good o (agrees a) ls
 
--- ---- indents
-
-feedless-take : (n : ℕ) (xs : List ℕ) → Feedless xs → Feedless (take n xs)
-feedless-take n xs h = and-eq-true-iff (every noFeed (take n xs)) (every noFeed (drop n xs)) .0 (sym (every-append noFeed (take n xs) (drop n xs)) ∙ ap (every noFeed) (take-append-drop n xs) ∙ h) .0
-
-feedless-spaces : (n : ℕ) → Feedless (replicate n 32)
-feedless-spaces zero = every-nil noFeed
-feedless-spaces (suc n) = rw (every-cons, feedless-spaces n)
-
-feedless-widened : (i : Indent) (n : ℕ) → Feedless (i .bytes) → Feedless (widened i n .bytes)
-feedless-widened i n h = rw (every-append noFeed (i .bytes) (replicate n 32), h, feedless-spaces n)
-
-feedless-indent : (text : List ℕ) (s : Shape) → Feedless text → Feedless (indentOf text s .bytes)
-unfolding indentOf
-feedless-indent text s h = feedless-take (s .«indent_end») text h
-
-first-feedless : (mail : Bool) (text : List ℕ) (s : Shape) → Feedless text → Feedless (firstIndent mail text s .bytes)
-unfolding firstIndent
-first-feedless true text s h = every-nil noFeed
-first-feedless false text s h = feedless-indent text s h
-
-later-feedless : (o : Opts) (s : Shape) (i : Indent) (ls : List Line) (k : Second) → secondOf o s ls ≡ k → Feedless (i .bytes) → All LineFeedless ls → Feedless (laterIndent o i k .bytes)
-later-feedless o s i ls alone e h a = feedless-widened i (cond (o .tagged) 4 0) h
-later-feedless o s i ls (joins text b) e h a =
-    let k = second-is o s ls text b e in
-    let f : All LineFeedless (k .head ∷ k .tail) = rw (k .are) at a in
-    feedless-indent text b (ap (every noFeed) (sym (k .is)) ∙ f .0)
-
-indent-feedless : (o : Opts) (mail : Bool) (text : List ℕ) (s : Shape) (ls : List Line) → Feedless text → All LineFeedless ls → Feedless (indentFor o mail text s ls .bytes)
-unfolding indentFor
-indent-feedless o mail text s ls h a = go mail (o .crown || o .tagged)
-  where
-    go : (m k : Bool) → Feedless ((elim m as (λ x. Indent) [ true ↦ widened noIndent 2 | false ↦ elim k as (λ x. Indent) [ true ↦ laterIndent o (indentOf text s) (secondOf o s ls) | false ↦ indentOf text s ] ]) .bytes)
-    go true k = feedless-widened noIndent 2 (every-nil noFeed)
-    go false true = later-feedless o s (indentOf text s) ls (secondOf o s ls) refl (feedless-indent text s h) a
-    go false false = feedless-indent text s h
-
 -- ---- pieces
 
 row-words : (o : Opts) (mail : Bool) (ls : List Line) → All (LineGood o) ls → All LineFeedless ls → All (λ (l : Line). All (λ (w : Word). Fits (o .glue) (w .text)) (rowWords o mail (rowOf o l))) ls
@@ -134,7 +97,7 @@ next-fits o nextMail (l ∷ ls) h f = go (classify o (l .text)) refl
         let rows : Rows o taken p = record { rows = refl; feedless = feedless; head = l; tail = take n ls; begin = refl; shape = s; formatted = e } in
         record {
           first = first-feedless mail (l .text) s (f .0);
-          indent = indent-feedless o mail (l .text) s ls (f .0) (f .1);
+          indent = indent-for-feedless o mail (l .text) s ls (f .0) (f .1);
           words = all-joined (rowWords o mail) _ (map (rowOf o) taken) (all-map _ (rowOf o) taken (row-words o mail taken (formatted-good o (l .text) s e, further-good o mail s ls) feedless));
           some = paragraph-some o taken p rows;
         }

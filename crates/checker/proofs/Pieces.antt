@@ -12,10 +12,11 @@ use Rattle.pieces.specs.Pieces.{Paragraph, Kind, Piece, blankLine, plainLine, p
 use Rattle.records.specs.Word.{Word}
 use Rattle.words.specs.Words.{wordsOf}
 use Rattle.output.specs.Emission.{lineFeed}
+use Rattle.output.proofs.Indents.{Feedless}
 use Rattle.checker.specs.Acceptable.{Then, PieceIn, PiecesIn}
 use Rattle.checker.specs.Named.{feeds}
 use Rattle.checker.specs.Matching.{matchText, matchFeed, matchLine, matchPiece, matchPieces}
-use Rattle.checker.proofs.Feeds.{Feedless, feeds-nil}
+use Rattle.checker.proofs.Feeds.{feeds-nil}
 use Rattle.checker.proofs.Decides.{Decides, Is, on-fault, decides-text, decides-feed, decides-then, decides-same}
 use Rattle.checker.proofs.Gaps.{Fits}
 use Rattle.checker.proofs.Lines.{decides-words}

@@ -1,12 +1,12 @@
 -- Blanks of a digest read from a place on, one by one; and the U+00A0 that a word begins with.
-use mathlib.Core.Path.{_≡_, refl, sym, ap, _∙_}
-use mathlib.Core.Bool.{Bool, true, false, cond, not, _&&_, _||_, true≢false}
+use mathlib.Core.Path.{_≡_, refl, ap, _∙_}
+use mathlib.Core.Bool.{Bool, true, false, cond, not, _||_}
 use mathlib.Core.List.{List, [], _∷_}
 use Prim.Native.Nat.{ℕ, _+_, _≤_}
 use native.Mathlib.Omega.{arith}
 use lib.Dec.{eqb, ltb}
 use lib.ListN.{length, drop, length-drop}
-use borrow.Author.Tests.{eqb-true, ne-eqb, lt-ltb, ltb-true, ltb-false}
+use borrow.Author.Tests.{ne-eqb, lt-ltb, ltb-true, ltb-false}
 use Rattle.lists.specs.Runs.{while}
 use Rattle.lists.proofs.Runs.{while-more, while-end}
 use Rattle.lists.proofs.Parts.{while-nil}
@@ -18,10 +18,7 @@ use Rattle.text.proofs.Extents.{glyph-read}
 use Rattle.checker.specs.Matching.{isSpace, spaces, soft, parting, lead}
 use Rattle.checker.specs.Contracts.Places.{GapAt}
 use Rattle.checker.specs.declared.Gap.{Gap}
-
-no-break : whiteSpace 0xA0 ≡ true
-unfolding whiteSpace
-no-break = refl
+use Rattle.checker.proofs.Codes.{feed-no-space, ink-no-break}
 
 -- ---- the blanks at a place
 
@@ -61,14 +58,7 @@ module _ (s : List ℕ) (at : ℕ) where
 
   pub spaces-feed : {next : ℕ} → Here true s at 10 next → spaces (drop at s) ≡ []
   unfolding spaces
-  spaces-feed h = first-none isSpace (ap spaceCode (h .hasCode) ∙ last)
-    where
-      last : spaceCode 10 ≡ false
-      last = and-false (whiteSpace 10)
-        where
-          and-false : (b : Bool) → (b && false) ≡ false
-          and-false true = refl
-          and-false false = refl
+  spaces-feed h = first-none isSpace (ap spaceCode (h .hasCode) ∙ feed-no-space)
 
 -- what is left of the blanks: at a gap so far
 pub record GapLeft (glue : Bool) (s : List ℕ) (at : ℕ) (g : Gap) : Type 0 where
@@ -146,14 +136,7 @@ module _ (word : List ℕ) where
     lead-none e = omega (arith, rw e at (l .is))
 
     pub lead-ink : glyph (drop i word) .blank ≡ false → (i ≡ lead word) × (i ≤ length word)
-    lead-ink b = (lead-none (no-blank-none word i (λ c. eqb c 0xA0) (λ c e. other c e) b), l .within)
-      where
-        other : (c : ℕ) → whiteSpace c ≡ false → eqb c 0xA0 ≡ false
-        other c e = go (eqb c 0xA0) refl
-          where
-            go : (t : Bool) → eqb c 0xA0 ≡ t → t ≡ false
-            go true k = absurd (true≢false (sym no-break ∙ ap whiteSpace (sym (eqb-true c 0xA0 k)) ∙ e))
-            go false k = refl
+    lead-ink b = (lead-none (no-blank-none word i (λ c. eqb c 0xA0) ink-no-break b), l .within)
 
     pub lead-other : {code next : ℕ} → Here true word i code next → (code ≡ 0xA0 → ⊥) → (i ≡ lead word) × (i ≤ length word)
     lead-other {code} h k = (lead-none (first-none word i noBreak (ap (λ (c : ℕ). eqb c 0xA0) (h .hasCode) ∙ ne-eqb code 0xA0 k)), l .within)

@@ -8,9 +8,10 @@ use lib.Dec.{ltb}
 use lib.ListN.{length, length-append}
 use borrow.Author.Tests.{ltb-true, ltb-false}
 use Rattle.output.specs.Emission.{lineFeed}
+use Rattle.output.proofs.Indents.{Feedless}
 use Rattle.checker.specs.Named.{feeds, firstLines, Named}
 use Rattle.checker.specs.Matching.{Match, on, fault, Verdict, accepted, at, verdictOf}
-use Rattle.checker.proofs.Feeds.{Feedless, feeds-append, first-behind, first-line, first-within, line-first}
+use Rattle.checker.proofs.Feeds.{feeds-append, first-behind, first-line, first-within, line-first}
 use Rattle.checker.proofs.Decides.{Language, Matcher, Decides}
 
 accepted-at : {n : ℕ} {A : Type 0} → accepted ≡ at n → A

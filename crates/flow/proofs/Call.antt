@@ -1,6 +1,6 @@
 -- What the writing call has written comes back: its answers lead to the statements about what is sent.
 use mathlib.Core.Path.{_≡_, refl, sym, ap, _∙_}
-use mathlib.Core.Bool.{Bool, true, false, cond, not, _&&_, _||_, true≢false}
+use mathlib.Core.Bool.{Bool, true, false, cond}
 use mathlib.Core.List.{List, _++_, map}
 use Prim.Native.Nat.{ℕ, _+_}
 use native.Mathlib.Omega.{arith}
@@ -11,7 +11,7 @@ use Rattle.lists.specs.Theorems.All.{_∈_}
 use Rattle.text.specs.declared.Found.{Found}
 use Rattle.text.specs.declared.Found.the-variants.{At, Nowhere}
 use Rattle.options.specs.Opts.{Opts, meant}
-use Rattle.options.specs.OptionBlock.{fields, partOf, bit, optionsOf, readBlock}
+use Rattle.options.specs.OptionBlock.{readBlock}
 use Rattle.options.specs.declared.Options.{Options}
 use Rattle.options.specs.declared.Block.{Block}
 use Rattle.options.specs.declared.Block.the-variants.{Accepted, Fault}
@@ -23,9 +23,8 @@ use Rattle.formatter.specs.Answers.{Answer, done, options, long, room}
 use Rattle.formatter.specs.Format.{mostBytes, damageIn}
 use Rattle.unflow.specs.Unflow.{paragraphs, mailLines}
 use Rattle.flow.specs.Flow.{mailed, paragraphLines, flowed, dashesIn}
-use Rattle.flow.specs.Answers.{isGiven, flagsOf, unfit, sentWords, sentText, sentNotes, sentBlock, flow, countedBy, dashesOf}
+use Rattle.flow.specs.Answers.{unfit, sentWords, sentText, sentNotes, sentBlock, flow, countedBy, dashesOf}
 use Rattle.flow.specs.Theorems.ReadBack.{unquoted, back, cameBack, Carry}
-use Rattle.flow.proofs.Flags.{accepted-are}
 use Rattle.flow.proofs.Theorems.{what-was-written-comes-back, its-words-come-back-in-order, each-piece-once-and-each-such-line, its-lines-are-the-digest's}
 
 -- ---- what an answer that is done says
@@ -49,19 +48,7 @@ sent-notes space o notes bytes h = size (ltb mostBytes (length notes)) h
     size true k = cc
     size false k = damaged (damageIn (o .keep) notes) k
 
--- ---- the options of an accepted block that the writer does not refuse
-
--- neither crown nor tagged is on
-fit-flat : (block : List ℕ) (o : Options) → readBlock block ≡ Accepted o → unfit block ≡ false → (mailed (meant block o) .crown || mailed (meant block o) .tagged) ≡ false
-unfolding mailed meant optionsOf unfit flagsOf
-fit-flat block o e u =
-    ap (λ (p : Options). p .crown || p .tagged) (accepted-are block o e)
-    ∙ go (bit 0 (flagsOf block)) (bit 1 (flagsOf block)) (bit 2 (flagsOf block)) (isGiven (partOf 5 (fields block))) (not (bit 3 (flagsOf block))) u
-  where
-    go : (a b c d s : Bool) → (a || b || c || d) ≡ false → (a && s || b && not a && s) ≡ false
-    go true b c d s k = absurd (true≢false k)
-    go false true c d s k = absurd (true≢false k)
-    go false false c d s k = refl
+-- ---- the options that the writer sends with
 
 uniform-on : (o : Opts) → mailed o .uniform ≡ true
 unfolding mailed
@@ -101,7 +88,7 @@ what-the-call-wrote-comes-back block notes space bytes h = read (readBlock block
     fit o e false u k =
         let m = mailed (meant block o) in
         let s = sent-notes space m notes bytes k in
-        let b = ap (λ (t : List ℕ). paragraphs (mailLines t)) s ∙ what-was-written-comes-back m notes (fit-flat block o e u) in
+        let b = ap (λ (t : List ℕ). paragraphs (mailLines t)) s ∙ what-was-written-comes-back m notes in
         record {
           options = o;
           accepted = e;

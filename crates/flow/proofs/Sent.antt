@@ -1,6 +1,6 @@
 -- The lines that are sent of a piece have no line feed, the last of them is fixed, and they are read as the piece comes back.
 use mathlib.Core.Path.{_≡_, refl, sym, ap, _∙_, subst⁻¹}
-use mathlib.Core.Bool.{Bool, true, false, cond, _||_, and-eq-true-iff}
+use mathlib.Core.Bool.{Bool, true, false, cond, and-eq-true-iff}
 use mathlib.Core.List.{List, [], _∷_, _++_}
 use Prim.Native.Nat.{ℕ, _<_}
 use native.Mathlib.Omega.{arith}
@@ -14,17 +14,17 @@ use Rattle.lists.proofs.Extents.{walk-all}
 use Rattle.options.specs.Opts.{Opts}
 use Rattle.lines.specs.Lines.{Line, noFeed, linesOf}
 use Rattle.lines.specs.Classes.{classify}
-use Rattle.lines.specs.declared.Shape.{Shape}
 use Rattle.lines.specs.declared.Class.{Class}
 use Rattle.lines.specs.declared.Class.the-variants.{Blank, Plain, Formatted}
 use Rattle.lines.proofs.Extents.{lines-feedless}
-use Rattle.pieces.specs.Pieces.{Indent, Paragraph, Kind, Piece, blankLine, plainLine, paragraph, startsMail, secondOf, indentOf, laterIndent, indentFor, paragraphAt, pieceAs, nextPiece, pieces}
+use Rattle.pieces.specs.Pieces.{Paragraph, Kind, Piece, blankLine, plainLine, paragraph, startsMail, paragraphAt, pieceAs, nextPiece, pieces}
 use Rattle.pieces.proofs.Extents.{Feedless}
-use Rattle.pieces.proofs.Columns.{spaces-feedless, feedless-append, feedless-take, first-feedless}
+use Rattle.pieces.proofs.Columns.{spaces-feedless, feedless-append, first-feedless}
 use Rattle.records.specs.Word.{Word}
 use Rattle.spacing.specs.Spacing.{addedSpace}
 use Rattle.words.specs.Words.{wordsOf}
 use Rattle.output.specs.Emission.{spaceBefore}
+use Rattle.output.proofs.Indents.{Feedless as Feed, indent-for-feedless}
 use Rattle.unflow.specs.Flowed.{space, isDashes, endsInSpace}
 use Rattle.unflow.proofs.Lines.{ends-append}
 use Rattle.flow.specs.Flow.{linesFrom, brokenInto, paragraphLines, isDashed, softened, allButLast, before, trimmed, plainSent, sentLines}
@@ -32,9 +32,6 @@ use Rattle.flow.specs.Theorems.ReadBack.{flows, readFrom, read, back, ca
 use Rattle.flow.proofs.Readings.{Ended}
 use Rattle.flow.proofs.Back.{LastBare, sent-ended, read-back, plain-fixed}
 use Rattle.flow.proofs.Solid.{Solid}
-
-abbrev pub Feed : List ℕ → Type 0
-Feed t = every noFeed t ≡ true
 
 -- ---- a paragraph's lines
 
@@ -150,21 +147,14 @@ pub paragraph-sound : (o : Opts) (p : Paragraph) → Feed (p .first .bytes) → 
 unfolding paragraphLines
 paragraph-sound o p f i n a = let s = broken-sound (p .first .bytes) (p .indent .bytes) _ (wordsOf o p) f i n a in lines-sound o p _ refl (s .0) (s .1)
 
--- ---- indents and plain lines have no line feed, where neither crown nor tagged is on
+-- ---- indents and plain lines have no line feed
 
 abbrev pub Level : Kind → Type 0
 Level blankLine = Unit {0}
 Level (plainLine t) = Feed t
 Level (paragraph p) = Feed (p .first .bytes) × Feed (p .indent .bytes)
 
-module _ (o : Opts) (flat : (o .crown || o .tagged) ≡ false) where
-  indent-feed : (mail : Bool) (text : List ℕ) (s : Shape) (ls : List Line) → Feed text → Feed (indentFor o mail text s ls .bytes)
-  unfolding indentFor indentOf
-  indent-feed true text s ls h = spaces-feedless 2
-  indent-feed false text s ls h =
-      ap (λ (b : Bool). every noFeed (elim b as (λ z. Indent) [ true ↦ laterIndent o (indentOf text s) (secondOf o s ls) | false ↦ indentOf text s ] .bytes)) flat
-      ∙ feedless-take (s .«indent_end») text h
-
+module _ (o : Opts) where
   next-level : (nextMail : Bool) (ls : List Line) → 0 < length ls → All Feedless ls → Level (nextPiece o nextMail ls .item .kind)
   unfolding nextPiece paragraphAt
   next-level nextMail [] h f = tt
@@ -173,7 +163,7 @@ module _ (o : Opts) (flat : (o .crown || o .tagged) ≡ false) where
       go : (c : Class) → Level (pieceAs o nextMail l ls c .item .kind)
       go Blank = tt
       go Plain = f .0
-      go (Formatted s) = let mail = startsMail (o .mail) nextMail s (l .text) in (first-feedless mail (l .text) s (f .0), indent-feed mail (l .text) s ls (f .0))
+      go (Formatted s) = let mail = startsMail (o .mail) nextMail s (l .text) in (first-feedless mail (l .text) s (f .0), indent-for-feedless o mail (l .text) s ls (f .0) (f .1))
 
   pub pieces-level : (notes : List ℕ) → All (λ (q : Piece). Level (q .kind)) (pieces o notes)
   unfolding pieces

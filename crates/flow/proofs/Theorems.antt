@@ -20,6 +20,7 @@ use Rattle.records.specs.Word.{Word}
 use Rattle.words.specs.Words.{wordsOf}
 use Rattle.words.proofs.Order.{Whole, paragraph-some, paragraph-whole}
 use Rattle.output.specs.Emission.{lineFeed, emit}
+use Rattle.output.proofs.Indents.{Feedless as Feed}
 use Rattle.paragraphs.specs.Breaks.{settingOf, breaksBy}
 use Rattle.walk.specs.Digest.{formatted}
 use Rattle.unflow.specs.Unflow.{Paragraph as Read, paragraphs, asLine, mailLines, unflowed, unflow, done}
@@ -29,7 +30,7 @@ use Rattle.flow.proofs.Readings.{Ended, mail-sent, sent-read, read-piec
 use Rattle.flow.proofs.Back.{back-count}
 use Rattle.flow.proofs.Carries.{lines-some as from-some, words-carried}
 use Rattle.flow.proofs.Solid.{paragraph-solid}
-use Rattle.flow.proofs.Sent.{Feed, Sound, Level, blank-sound, plain-sound, paragraph-sound, pieces-level}
+use Rattle.flow.proofs.Sent.{Sound, Level, blank-sound, plain-sound, paragraph-sound, pieces-level}
 use Rattle.flow.proofs.Digest.{lines-are-emitted}
 
 joined-alike : {A B : Type 0} (f g : A → List B) (xs : List A) → All (λ x. f x ≡ g x) xs → joined f xs ≡ joined g xs
@@ -50,10 +51,9 @@ all-sound o (q ∷ qs) r l = (kind-sound o (q .lines) (q .kind) (r .0) (l .0), a
 
 -- ---- the mail comes back
 
--- Neither crown nor tagged is on (the writer refuses both).
-module _ (o : Opts) (notes : List ℕ) (flat : (o .crown || o .tagged) ≡ false) where
+module _ (o : Opts) (notes : List ℕ) where
   sound : All (SoundPiece o) (pieces o notes)
-  sound = all-sound o (pieces o notes) (pieces-rows o notes) (pieces-level o flat notes)
+  sound = all-sound o (pieces o notes) (pieces-rows o notes) (pieces-level o notes)
 
   abbrev linesOf : Piece → List (List ℕ)
   linesOf q = sentLines o (q .kind)

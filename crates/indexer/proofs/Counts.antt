@@ -7,7 +7,7 @@ use Prim.Native.Nat.{ℕ, suc, _+_, _≤_, _<_}
 use native.Mathlib.Omega.{arith}
 use lib.ListN.{length, take, drop, length-append}
 use lib.Seq.{drop-append-add}
-use Rattle.lists.specs.Runs.{every, joined}
+use Rattle.lists.specs.Runs.{joined}
 use Rattle.lists.specs.Theorems.All.{All}
 use Rattle.lists.proofs.Parts.{every-nil, every-append, joined-nil, joined-cons}
 use Rattle.lists.proofs.Walk.{each-nil, each-step}
@@ -19,30 +19,27 @@ use Rattle.text.proofs.Edges.{glyphs-joined}
 use Rattle.options.specs.Opts.{Opts}
 use Rattle.lines.specs.Lines.{Line, noFeed, body, firstLine, linesOf}
 use Rattle.lines.specs.Classes.{glyphsBefore, glyphsFrom, classify}
-use Rattle.lines.specs.declared.Shape.{Shape}
 use Rattle.lines.specs.declared.Class.{Class}
 use Rattle.lines.specs.declared.Class.the-variants.{Blank, Plain, Formatted}
 use Rattle.lines.proofs.Lines.{feedless-body}
 use Rattle.lines.proofs.Extents.{lines-some, lines-feedless}
 use Rattle.lines.proofs.Ink.{upTo-from}
-use Rattle.pieces.specs.Pieces.{Row, Indent, Paragraph, Kind, Piece, blankLine, plainLine, paragraph, Second, alone, joins, secondOf, further, startsMail, indentOf, widened, noIndent, laterIndent, firstIndent, indentFor, rowOf, paragraphAt, pieceAs, nextPiece}
-use Rattle.pieces.proofs.Columns.{spaces-feedless, feedless-append, feedless-take, first-feedless}
-use Rattle.pieces.proofs.Indents.{second-is}
+use Rattle.pieces.specs.Pieces.{Row, Paragraph, Kind, Piece, blankLine, plainLine, paragraph, further, startsMail, firstIndent, indentFor, rowOf, paragraphAt, pieceAs, nextPiece}
+use Rattle.pieces.specs.Contracts.Places.{rawBytes}
+use Rattle.pieces.proofs.Columns.{spaces-feedless, feedless-append, first-feedless}
 use Rattle.pieces.proofs.Extents.{Feedless, Rows}
 use Rattle.records.specs.Word.{Word}
 use Rattle.words.specs.Words.{glyphBytes, rowWords, wordsOf}
 use Rattle.words.proofs.Spelled.{Spelled, row-spelled}
 use Rattle.words.proofs.Order.{Whole, paragraph-some, paragraph-whole}
 use Rattle.output.specs.Emission.{lineFeed, spaceBefore, emitRest, emit}
+use Rattle.output.proofs.Indents.{Feedless as Feed, indent-for-feedless}
 use Rattle.walk.specs.Digest.{formatted, outputOf, extentOf}
 use Rattle.walk.specs.Contracts.Course.{piecesFrom}
 use Rattle.walk.proofs.Bound.{Shorter, lines-shorter}
 use Rattle.indexer.specs.Index.{lineCount}
 
 -- ---- the lines of a text, counted
-
-abbrev Feed : List ℕ → Type 0
-Feed t = every noFeed t ≡ true
 
 abbrev count : List ℕ → ℕ
 count xs = length (linesOf xs)
@@ -79,21 +76,21 @@ breaks line indent text rest n f r =
     let e = count-more line (indent ++ (text ++ rest)) f ∙ ap (λ (xs : List ℕ). suc (count xs)) (sym (append-assoc indent text rest)) in
     (omega (arith, e, r .0), omega (arith, e, r .1))
 
-module _ (glue uniform : Bool) (indent : List ℕ) (i : Feed indent) where
-  space-feed : (punct : Bool) (w : Word) → Whole glue uniform w → Feed (spaceBefore uniform punct w ++ w .text)
-  unfolding spaceBefore
-  space-feed punct w h = rw (every-append, every-append, spaces-feedless, h .blanksFeedless, h .feedless)
+pub space-feed : (glue uniform punct : Bool) (w : Word) → Whole glue uniform w → Feed (spaceBefore uniform punct w ++ w .text)
+unfolding spaceBefore
+space-feed glue uniform punct w h = rw (every-append, every-append, spaces-feedless, h .blanksFeedless, h .feedless)
 
+module _ (glue uniform : Bool) (indent : List ℕ) (i : Feed indent) where
   rest-lines : (line : List ℕ) (punct : Bool) (bs : List Bool) (ws : List Word) → Feed line → All (Whole glue uniform) ws
       → Between (suc (length ws)) (count (line ++ emitRest uniform indent punct bs ws))
   unfolding emitRest
   rest-lines line punct bs [] l a = let c = count-one line l in (omega (arith, c), omega (arith, c))
   rest-lines line punct [] (w ∷ ws) l a =
       goes-on line (spaceBefore uniform punct w) (w .text) (emitRest uniform indent (w .endsPunct) [] ws) (suc (length ws))
-      (rest-lines (line ++ (spaceBefore uniform punct w ++ w .text)) (w .endsPunct) [] ws (feedless-append line (spaceBefore uniform punct w ++ w .text) l (space-feed punct w (a .0))) (a .1))
+      (rest-lines (line ++ (spaceBefore uniform punct w ++ w .text)) (w .endsPunct) [] ws (feedless-append line (spaceBefore uniform punct w ++ w .text) l (space-feed glue uniform punct w (a .0))) (a .1))
   rest-lines line punct (false ∷ bs) (w ∷ ws) l a =
       goes-on line (spaceBefore uniform punct w) (w .text) (emitRest uniform indent (w .endsPunct) bs ws) (suc (length ws))
-      (rest-lines (line ++ (spaceBefore uniform punct w ++ w .text)) (w .endsPunct) bs ws (feedless-append line (spaceBefore uniform punct w ++ w .text) l (space-feed punct w (a .0))) (a .1))
+      (rest-lines (line ++ (spaceBefore uniform punct w ++ w .text)) (w .endsPunct) bs ws (feedless-append line (spaceBefore uniform punct w ++ w .text) l (space-feed glue uniform punct w (a .0))) (a .1))
   rest-lines line punct (true ∷ bs) (w ∷ ws) l a =
       breaks line indent (w .text) (emitRest uniform indent (w .endsPunct) bs ws) (suc (length ws)) l
       (rest-lines (indent ++ w .text) (w .endsPunct) bs ws (feedless-append indent (w .text) i (a .0 .feedless)) (a .1))
@@ -137,10 +134,7 @@ row-few o mail row = let r = read mail in omega (arith, spelled-few (o .glue) (o
     read true = all
     read false = let e = sym (length-append (glyphsBefore (row .start) gs) (glyphsFrom (row .start) gs)) ∙ ap length (upTo-from (row .start) gs) in omega (arith, all, e)
 
-abbrev rawOf : Line → List ℕ
-rawOf l = l .raw
-
-rows-few : (o : Opts) (mail : Bool) (ls : List Line) → All Shorter ls → length (joined (rowWords o mail) (map (rowOf o) ls)) ≤ length (joined rawOf ls)
+rows-few : (o : Opts) (mail : Bool) (ls : List Line) → All Shorter ls → length (joined (rowWords o mail) (map (rowOf o) ls)) ≤ length (joined rawBytes ls)
 unfolding rowOf
 rows-few o mail [] s = rw joined-nil (omega arith)
 rows-few o mail (l ∷ ls) s =
@@ -153,32 +147,7 @@ rows-few o mail (l ∷ ls) s =
 abbrev Lines : List Line → Type 0
 Lines ls = All (λ (l : Line). 0 < length (l .raw)) ls × All Shorter ls × All Feedless ls
 
--- ---- an indent has no line feed
-
-indent-feed : (text : List ℕ) (s : Shape) → Feed text → Feed (indentOf text s .bytes)
-unfolding indentOf
-indent-feed text s h = feedless-take (s .«indent_end») text h
-
-widened-feed : (i : Indent) (n : ℕ) → Feed (i .bytes) → Feed (widened i n .bytes)
-widened-feed i n h = rw (every-append, h, spaces-feedless n)
-
 module _ (o : Opts) where
-  later-feed : (s : Shape) (i : Indent) (ls : List Line) (k : Second) → secondOf o s ls ≡ k → Feed (i .bytes) → All Feedless ls → Feed (laterIndent o i k .bytes)
-  later-feed s i ls alone e h a = widened-feed i (cond (o .tagged) 4 0) h
-  later-feed s i ls (joins text b) e h a =
-      let k = second-is o s ls text b e in
-      let f : All Feedless (k .head ∷ k .tail) = rw (k .are) at a in
-      indent-feed text b (ap (every noFeed) (sym (k .is)) ∙ f .0)
-
-  indent-for : (mail : Bool) (text : List ℕ) (s : Shape) (ls : List Line) → Feed text → All Feedless ls → Feed (indentFor o mail text s ls .bytes)
-  unfolding indentFor
-  indent-for true text s ls h a = widened-feed noIndent 2 (every-nil noFeed)
-  indent-for false text s ls h a = go (o .crown || o .tagged)
-    where
-      go : (k : Bool) → Feed (elim k as (λ x. Indent) [ true ↦ laterIndent o (indentOf text s) (secondOf o s ls) | false ↦ indentOf text s ] .bytes)
-      go true = later-feed s (indentOf text s) ls (secondOf o s ls) refl (indent-feed text s h) a
-      go false = indent-feed text s h
-
   -- ---- a piece
 
   -- a piece of the notes has a line of output, and no more of them than bytes
@@ -193,7 +162,7 @@ module _ (o : Opts) where
   unfolding lineCount extentOf outputOf formatted wordsOf
   text-counted lines p r s f i =
       let c = emit-lines (o .glue) (o .uniform || p .mail) (p .indent .bytes) i (p .first .bytes) _ (wordsOf o p) f (paragraph-some o lines p r) (paragraph-whole o lines p r) in
-      let w : length (wordsOf o p) ≤ length (joined rawOf lines) = rw (r .rows) (rows-few o (p .mail) lines s) in
+      let w : length (wordsOf o p) ≤ length (joined rawBytes lines) = rw (r .rows) (rows-few o (p .mail) lines s) in
       (c .0, omega (arith, c .1, w))
 
   next-counted : (nextMail : Bool) (ls : List Line) → 0 < length ls → Lines ls → Counted (nextPiece o nextMail ls .item)
@@ -209,7 +178,7 @@ module _ (o : Opts) where
           let n = further o mail s ls in
           let p : Paragraph = record { mail = mail; first = firstIndent mail (l .text) s; indent = indentFor o mail (l .text) s ls; rows = map (rowOf o) (l ∷ take n ls) } in
           let rows : Rows o (l ∷ take n ls) p = record { rows = refl; feedless = (f .2 .0, all-take Feedless n ls (f .2 .1)); head = l; tail = take n ls; begin = refl; shape = s; formatted = e } in
-          text-counted (l ∷ take n ls) p rows (f .1 .0, all-take Shorter n ls (f .1 .1)) (first-feedless mail (l .text) s (f .2 .0)) (indent-for mail (l .text) s ls (f .2 .0) (f .2 .1))
+          text-counted (l ∷ take n ls) p rows (f .1 .0, all-take Shorter n ls (f .1 .1)) (first-feedless mail (l .text) s (f .2 .0)) (indent-for-feedless o mail (l .text) s ls (f .2 .0) (f .2 .1))
 
   pieces-counted : (nextMail : Bool) (notes : List ℕ) (at : ℕ) → All Counted (piecesFrom o nextMail notes at)
   unfolding piecesFrom

@@ -4,49 +4,41 @@ use mathlib.Core.Bool.{Bool, true, false, _||_}
 use mathlib.Core.List.{List, [], _∷_, _++_}
 use Prim.Native.Nat.{ℕ}
 use native.Mathlib.Omega.{arith}
-use lib.ListN.{length, replicate}
+use lib.ListN.{length}
 use Rattle.lists.specs.Runs.{joined}
 use Rattle.lists.specs.Theorems.All.{All}
 use Rattle.lists.proofs.All.{all-append}
-use Rattle.lists.proofs.Parts.{every-nil, every-append, joined-nil, joined-cons}
+use Rattle.lists.proofs.Parts.{every-nil, joined-nil, joined-cons}
 use Rattle.options.specs.Opts.{Opts}
 use Rattle.lines.specs.Lines.{Line, noFeed}
 use Rattle.pieces.specs.Pieces.{Piece, Kind, blankLine, plainLine, paragraph, pieces}
-use Rattle.pieces.proofs.Columns.{spaces-feedless}
+use Rattle.pieces.proofs.Columns.{feedless-append}
 use Rattle.pieces.proofs.Extents.{OfKind, OfPiece, pieces-rows}
 use Rattle.records.specs.Word.{Word}
 use Rattle.words.specs.Words.{wordsOf}
 use Rattle.words.proofs.Order.{Whole, paragraph-whole}
-use Rattle.spacing.specs.Spacing.{addedSpace}
 use Rattle.output.specs.Emission.{lineFeed, spaceBefore}
 use Rattle.walk.specs.Digest.{digest}
 use Rattle.checker.specs.Named.{feeds}
 use Rattle.checker.proofs.Pieces.{PieceFits, KindFits}
 use Rattle.checker.proofs.Notes.{pieces-fit}
-use Rattle.checker.proofs.Feeds.{Feedless, feeds-nil, feeds-feed, feeds-append, feedless-feeds}
+use Rattle.checker.proofs.Feeds.{feeds-nil, feeds-feed, feeds-append, feedless-feeds}
 use Rattle.endings.specs.Endings.{Next, breaks}
+use Rattle.output.proofs.Indents.{Feedless}
 use Rattle.explain.specs.Reasons.{lineEndings}
 use Rattle.explain.specs.Theorems.LineFeeds.{linesFrom, fed, textLines, kindLines, pieceLines, digestLines}
 use Rattle.explain.proofs.LineFeeds.{the-digest-is-its-lines, each-line-has-its-reason}
+use Rattle.indexer.proofs.Counts.{space-feed}
 
 -- ---- no line has a line feed inside
 
-feedless-append : (a b : List ℕ) → Feedless a → Feedless b → Feedless (a ++ b)
-feedless-append a b h k = rw (every-append noFeed a b, h, k)
-
 module _ (glue uniform : Bool) (indent : List ℕ) (i : Feedless indent) where
-  space-feedless : (punct : Bool) (w : Word) → Whole glue uniform w → Feedless (spaceBefore uniform punct w ++ w .text)
-  unfolding spaceBefore
-  space-feedless punct w h =
-      let n = addedSpace uniform (w .newLine) (w .sentenceStart) punct in
-      feedless-append (replicate n 32 ++ w .blanks) (w .text) (feedless-append (replicate n 32) (w .blanks) (spaces-feedless n) (h .blanksFeedless)) (h .feedless)
-
   lines-feedless : (line : List ℕ) (punct : Bool) (bs : List Bool) (ws : List Word) → Feedless line → All (Whole glue uniform) ws → All Feedless (linesFrom uniform indent line punct bs ws)
   unfolding linesFrom
   lines-feedless line punct bs [] l a = (l, tt)
-  lines-feedless line punct [] (w ∷ ws) l a = lines-feedless (line ++ (spaceBefore uniform punct w ++ w .text)) (w .endsPunct) [] ws (feedless-append line (spaceBefore uniform punct w ++ w .text) l (space-feedless punct w (a .0))) (a .1)
+  lines-feedless line punct [] (w ∷ ws) l a = lines-feedless (line ++ (spaceBefore uniform punct w ++ w .text)) (w .endsPunct) [] ws (feedless-append line (spaceBefore uniform punct w ++ w .text) l (space-feed glue uniform punct w (a .0))) (a .1)
   lines-feedless line punct (true ∷ bs) (w ∷ ws) l a = (l, lines-feedless (indent ++ w .text) (w .endsPunct) bs ws (feedless-append indent (w .text) i (a .0 .feedless)) (a .1))
-  lines-feedless line punct (false ∷ bs) (w ∷ ws) l a = lines-feedless (line ++ (spaceBefore uniform punct w ++ w .text)) (w .endsPunct) bs ws (feedless-append line (spaceBefore uniform punct w ++ w .text) l (space-feedless punct w (a .0))) (a .1)
+  lines-feedless line punct (false ∷ bs) (w ∷ ws) l a = lines-feedless (line ++ (spaceBefore uniform punct w ++ w .text)) (w .endsPunct) bs ws (feedless-append line (spaceBefore uniform punct w ++ w .text) l (space-feed glue uniform punct w (a .0))) (a .1)
 
   text-feedless : (first : List ℕ) (ns : List Next) (ws : List Word) → Feedless first → All (Whole glue uniform) ws → All Feedless (textLines uniform first indent ns ws)
   unfolding textLines
