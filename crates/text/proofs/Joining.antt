@@ -6,7 +6,7 @@ use Prim.Native.Nat.{ℕ, zero, suc, _+_, _-_, _*_, _/_, _%_, _≤_, _<_}
 use native.Mathlib.Omega.{arith}
 use lib.Dec.{ltb, leb, eqb}
 use lib.ListN.{length, getD, drop}
-use borrow.Author.Tests.{ltb-true, ltb-false, leb-true, le-leb, lt-leb, eqb-true, eqb-false, eq-eqb}
+use borrow.Author.Tests.{ltb-true, ltb-false, leb-true, le-leb, lt-leb, eqb-true, eqb-false, eq-eqb, not-true}
 use Rattle.lists.proofs.Views.{drop-here, drop-none}
 use Rattle.text.specs.Rfc3629.{decode}
 use Rattle.text.specs.Characters.{damage}
@@ -16,7 +16,6 @@ use Rattle.text.specs.declared.Found.the-variants.{Nowhere}
 use Rattle.text.specs.declared.Char.the-variants.{Good}
 use Rattle.text.proofs.Forms.{ascii, is-two, is-three, is-four}
 use Rattle.text.proofs.Glyphs.{char-here}
-use Rattle.text.proofs.Letters.{refuted}
 use Rattle.text.proofs.Damage.{later, later-zero, damage-past, damage-on}
 
 -- what the tests say of an octet
@@ -38,7 +37,7 @@ second false u e h = absurd (let z : _≡_ {A = ℕ} 0 1 = cc in omega arith)
 
 other : (t u : Bool) → (t || not u) ≡ true → t ≡ false → u ≡ false
 other true u e h = absurd (let z : _≡_ {A = ℕ} 0 1 = cc in omega arith)
-other false u e h = refuted u e
+other false u e h = not-true u e
 
 pub joins-is : (p q r b : ℕ) → joins p q r b ≡ true → Joins p q r b
 unfolding joins
@@ -54,8 +53,8 @@ joins-is p q r b e =
     record {
       follows = λ h. eqb-true _ _ (second (asked p q r) _ (on .0) h);
       begins = λ h. eqb-false _ _ (other (asked p q r) _ (on .1) h);
-      notC0 = eqb-false _ _ (refuted _ (c0 .1));
-      notC1 = eqb-false _ _ (refuted _ (c1 .1));
+      notC0 = eqb-false _ _ (not-true _ (c0 .1));
+      notC1 = eqb-false _ _ (not-true _ (c1 .1));
       most = leb-true _ _ (most .1);
       behindE0 = λ h. leb-true _ _ (second (eqb r 0xE0) _ (e0 .1) (eq-eqb r 0xE0 h));
       behindED = λ h. ltb-true _ _ (second (eqb r 0xED) _ (ed .1) (eq-eqb r 0xED h));

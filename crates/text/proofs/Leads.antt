@@ -41,14 +41,11 @@ module _ (s : List ℕ) (at : ℕ) (more : at < length s) where
   unfolding glyph
   lead-ink h c2 e1 e2 e3 = pick (decode (drop at s)) refl
     where
-      a : getD s at 0 ≡ getD (drop at s) 0 0
-      a = lead s at more
-
       b : getD (drop at s) 1 0 ≡ getD s (at + 1) 0
       b = getD-drop at s 1 0
 
       behind : (c : ℕ) → 0x1000 ≤ c → getD (drop at s) 0 0 ≡ 0xE0 + c / 4096 → getD (drop at s) 1 0 ≡ 0x80 + c / 64 % 64 → (u : Bool) → ltb c 0x4000 ≡ u → 0x3000 < c
-      behind c l q r true v = let w = ltb-true c 0x4000 v in let z : getD s at 0 ≡ 0xE3 = omega (arith, a, e1, e2) in omega (arith, a, b, z, e3 z)
+      behind c l q r true v = let w = ltb-true c 0x4000 v in let z : getD s at 0 ≡ 0xE3 = omega (arith, lead s at more, e1, e2) in omega (arith, lead s at more, b, z, e3 z)
       behind c l q r false v = let w = ltb-false c 0x4000 v in omega arith
 
       third : (c : ℕ) → 0x800 ≤ c → getD (drop at s) 0 0 ≡ 0xE0 + c / 4096 → getD (drop at s) 1 0 ≡ 0x80 + c / 64 % 64 → (u : Bool) → ltb c 0x1000 ≡ u → whiteSpace c ≡ false
@@ -56,8 +53,8 @@ module _ (s : List ℕ) (at : ℕ) (more : at < length s) where
       third c l q r false v = ink-behind c (behind c (ltb-false c 0x1000 v) q r (ltb c 0x4000) refl)
 
       of : (c : ℕ) → Octets c (drop at s) → whiteSpace c ≡ false
-      of c (one l q) = plain-ink c (omega (arith, a)) (omega (arith, a))
-      of c (two l m q r) = ink-letter c (omega (arith, a, c2)) (omega arith)
+      of c (one l q) = plain-ink c (omega (arith, lead s at more)) (omega (arith, lead s at more))
+      of c (two l m q r) = ink-letter c (omega (arith, lead s at more, c2)) (omega arith)
       of c (three l m q r t) = third c l q r (ltb c 0x1000) refl
       of c (four l m q r t u) = ink-behind c (omega arith)
 

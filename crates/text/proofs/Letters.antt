@@ -1,13 +1,13 @@
 -- Characters of two bytes; and letters of two: what their test says, that none is blank and that each takes one column.
 use mathlib.Core.Path.{_≡_, refl, sym}
-use mathlib.Core.Bool.{Bool, true, false, not, and-eq-true-iff}
+use mathlib.Core.Bool.{Bool, true, false, and-eq-true-iff}
 use mathlib.Core.List.{List}
 use Prim.Native.Nat.{ℕ, _+_, _/_, _≤_, _<_}
 use native.Mathlib.Omega.{arith}
 use lib.Dec.{ltb, eqb}
 use lib.ListN.{length, getD, drop}
 use lib.Seq.{getD-drop}
-use borrow.Author.Tests.{ltb-true, ltb-false, lt-ltb, le-ltb, leb-true, le-leb, lt-leb, eqb-true, eqb-false, ne-eqb}
+use borrow.Author.Tests.{ltb-true, ltb-false, lt-ltb, le-ltb, leb-true, le-leb, lt-leb, eqb-true, eqb-false, ne-eqb, not-true}
 use Rattle.widths.specs.Ranges.{widthIn}
 use Rattle.widths.specs.Table.{table}
 use Rattle.widths.specs.Widths.{widthOf}
@@ -36,10 +36,6 @@ one-behind-accents : (c : ℕ) → 0x370 ≤ c → c < 0x483 → widthOf c ≡ 1
 unfolding widthOf widthIn table
 one-behind-accents c h k = rw (le-ltb c 0x300 (omega arith), lt-leb c 0x36F (omega arith), lt-ltb c 0x483 k, widthIn)
 
-pub refuted : (t : Bool) → not t ≡ true → t ≡ false
-refuted true e = sym e
-refuted false e = refl
-
 module _ (s : List ℕ) (at : ℕ) where
   pub letter-is : letterAt s at ≡ true → Letter s at
   unfolding letterAt
@@ -48,7 +44,7 @@ module _ (s : List ℕ) (at : ℕ) where
       let b = and-eq-true-iff _ _ .0 (a .1) in
       let c = and-eq-true-iff _ _ .0 (b .1) in
       let d = and-eq-true-iff _ _ .0 (c .1) in
-      record { within = ltb-true _ _ (a .0); least = leb-true _ _ (b .0); most = leb-true _ _ (c .0); noAccent = eqb-false _ _ (refuted _ (d .0)); second = eqb-true _ _ (d .1) }
+      record { within = ltb-true _ _ (a .0); least = leb-true _ _ (b .0); most = leb-true _ _ (c .0); noAccent = eqb-false _ _ (not-true _ (d .0)); second = eqb-true _ _ (d .1) }
 
   pub letter-not : (Letter s at → ⊥) → false ≡ letterAt s at
   letter-not never = pick (letterAt s at) refl

@@ -5,6 +5,7 @@ use mathlib.Core.List.{List, [], _∷_, _++_, map}
 use Prim.Native.Nat.{ℕ, _-_, _<_}
 use native.Mathlib.Omega.{arith}
 use lib.Dec.{eqb}
+use borrow.Author.Tests.{not-true}
 use lib.ListN.{length}
 use Rattle.lists.specs.Runs.{while, behind, every}
 use Rattle.lists.specs.Theorems.All.{All}
@@ -142,11 +143,7 @@ no-blank (c ∷ cs) h = pick (noBreak c) refl
     pick true n =
         let m = while-more noBreak c cs n in
         ap (while isBlank) (settle-run (c ∷ cs) h ∙ ap (λ (gs : List Glyph). map ordinary gs ++ settle true true (behind noBreak (c ∷ cs))) m) ∙ while-end isBlank (ordinary c) _ refl
-    pick false n = ap (while isBlank) (settle-other true c cs true n) ∙ while-end isBlank c _ (ink (c .blank) (sym (ahead-other c cs n) ∙ h))
-      where
-        ink : (b : Bool) → not b ≡ true → b ≡ false
-        ink true q = absurd (false≢true q)
-        ink false q = refl
+    pick false n = ap (while isBlank) (settle-other true c cs true n) ∙ while-end isBlank c _ (not-true (c .blank) (sym (ahead-other c cs n) ∙ h))
 
 -- behind ink and before ink stand blanks of which one is no U+00A0
 pub gap-other : (gs : List Glyph) → OfLine true gs → 0 < length (while isBlank gs) → 0 < length (behind isBlank gs) → every noBreak (while isBlank gs) ≡ false

@@ -24,6 +24,7 @@ use Rattle.lines.proofs.Extents.{lines-extents}
 use Rattle.lines.proofs.Ink.{upTo-from}
 use Rattle.lines.proofs.Lines.{line-here}
 use Rattle.pieces.specs.Pieces.{Row, Paragraph, rowOf}
+use Rattle.pieces.specs.Contracts.Places.{rawBytes}
 use Rattle.records.specs.Word.{Word}
 use Rattle.words.specs.Words.{isInk, runOf, runs, glyphBytes, bytesOf, punctAtEnd, wordOf, mailWord, rowWords, wordsOf}
 use Rattle.words.specs.Places.{Standing, standing, placesFrom, rowPlaces, placesOf, wordsStanding}
@@ -199,9 +200,6 @@ row-stood o false at row =
 
 -- ---- the lines of the notes
 
-abbrev rawOf : Line → List ℕ
-rawOf l = l .raw
-
 -- behind a line's text stands its end
 abbrev Ended : Line → Type 0
 Ended l = (end : List ℕ) × (l .raw ≡ l .text ++ end)
@@ -230,14 +228,14 @@ regrouped : (t b c r e z : List ℕ) → t ≡ b ++ (c ++ r) → (t ++ e) ++ z �
 regrouped t b c r e z h = rw (h, append-assoc (b ++ (c ++ r)) e z, append-assoc b (c ++ r) (e ++ z), append-assoc c r (e ++ z))
 
 module _ (glue : Bool) (notes : List ℕ) (above : List Line) (l : Line) (below : List Line) (lines : linesOf notes ≡ above ++ l ∷ below) (ended : Ended l) where
-  line-stands : (place : ℕ) (bytes : List ℕ) → InLine glue (l .text) (length (joined rawOf above)) place bytes → Stands glue notes place bytes
+  line-stands : (place : ℕ) (bytes : List ℕ) → InLine glue (l .text) (length (joined rawBytes above)) place bytes → Stands glue notes place bytes
   line-stands place bytes i =
-      let a = joined rawOf above in
+      let a = joined rawBytes above in
       let b = bytesOf (i .before) in
-      let d = i .rest ++ (ended .0 ++ joined rawOf below) in
+      let d = i .rest ++ (ended .0 ++ joined rawBytes below) in
       let whole : notes ≡ a ++ (b ++ (bytes ++ d)) =
-      sym (lines-extents notes) ∙ ap (joined rawOf) lines ∙ joined-append rawOf above (l ∷ below)
-      ∙ ap (λ (t : List ℕ). a ++ t) (joined-cons rawOf l below ∙ ap (λ (t : List ℕ). t ++ joined rawOf below) (ended .1) ∙ regrouped (l .text) b bytes (i .rest) (ended .0) (joined rawOf below) (i .is)) in
+      sym (lines-extents notes) ∙ ap (joined rawBytes) lines ∙ joined-append rawBytes above (l ∷ below)
+      ∙ ap (λ (t : List ℕ). a ++ t) (joined-cons rawBytes l below ∙ ap (λ (t : List ℕ). t ++ joined rawBytes below) (ended .1) ∙ regrouped (l .text) b bytes (i .rest) (ended .0) (joined rawBytes below) (i .is)) in
       let p : place ≡ length a + length b = i .there ∙ ap (λ (n : ℕ). length a + n) (extent-bytes (i .before)) in
       record {
         is = rw (whole, p) (part-there a b bytes d);
@@ -257,29 +255,29 @@ module _ (glue : Bool) (notes : List ℕ) (above : List Line) (l : Line) (below 
 -- ---- the words of a paragraph, whose lines are lines of the notes
 
 module _ (o : Opts) (mail : Bool) (notes : List ℕ) where
-  lines-stood : (above ls below : List Line) (at : ℕ) → linesOf notes ≡ above ++ (ls ++ below) → at ≡ length (joined rawOf above) → All Ended ls
-      → Stood (Stands (o .glue) notes) at (placesOf (o .glue) mail at ls (map (rowOf o) ls)) (joined (rowWords o mail) (map (rowOf o) ls)) (at + length (joined rawOf ls))
+  lines-stood : (above ls below : List Line) (at : ℕ) → linesOf notes ≡ above ++ (ls ++ below) → at ≡ length (joined rawBytes above) → All Ended ls
+      → Stood (Stands (o .glue) notes) at (placesOf (o .glue) mail at ls (map (rowOf o) ls)) (joined (rowWords o mail) (map (rowOf o) ls)) (at + length (joined rawBytes ls))
   unfolding placesOf joined Stood rowOf
   lines-stood above [] below at e q d = omega arith
   lines-stood above (l ∷ ls) below at e q d =
       let row = rowOf o l in
       let here = stood-weaken (InLine (o .glue) (l .text) at) (Stands (o .glue) notes) (λ p t i. line-stands (o .glue) notes above l (ls ++ below) e (d .0) p t (rw q at i)) at (at + length (l .text)) (rowPlaces (o .glue) mail at row) (rowWords o mail row) (row-stood o mail at row) in
-      let m : at + length (l .raw) ≡ length (joined rawOf (above ++ (l ∷ []))) = omega (arith, q, simp (length-append, append-nil) at (ap length (joined-append rawOf above (l ∷ [])))) in
+      let m : at + length (l .raw) ≡ length (joined rawBytes (above ++ (l ∷ []))) = omega (arith, q, simp (length-append, append-nil) at (ap length (joined-append rawBytes above (l ∷ [])))) in
       let later = lines-stood (above ++ (l ∷ [])) ls below (at + length (l .raw)) (e ∙ sym (append-assoc above (l ∷ []) (ls ++ below))) m (d .1) in
-      let z : at + (length (l .raw) + length (joined rawOf ls)) ≡ at + length (l .raw) + length (joined rawOf ls) = omega arith in
-      rw (length-append (l .raw) (joined rawOf ls), z)
-      (stood-append (Stands (o .glue) notes) at (at + length (l .text)) (at + length (l .raw)) (at + length (l .raw) + length (joined rawOf ls)) (rowPlaces (o .glue) mail at row) _ (rowWords o mail row) _ here (omega (arith, simp length-append at (ap length (d .0 .1)))) later)
+      let z : at + (length (l .raw) + length (joined rawBytes ls)) ≡ at + length (l .raw) + length (joined rawBytes ls) = omega arith in
+      rw (length-append (l .raw) (joined rawBytes ls), z)
+      (stood-append (Stands (o .glue) notes) at (at + length (l .text)) (at + length (l .raw)) (at + length (l .raw) + length (joined rawBytes ls)) (rowPlaces (o .glue) mail at row) _ (rowWords o mail row) _ here (omega (arith, simp length-append at (ap length (d .0 .1)))) later)
 
 -- a paragraph's rows are its lines
 pub paragraph-stands : (o : Opts) (notes : List ℕ) (above ls below : List Line) (p : Paragraph) → linesOf notes ≡ above ++ (ls ++ below) → p .rows ≡ map (rowOf o) ls
-    → WordsStand o notes (length (joined rawOf above)) ls p
+    → WordsStand o notes (length (joined rawBytes above)) ls p
 unfolding wordsStanding wordsOf
 paragraph-stands o notes above ls below p e r =
-    let at = length (joined rawOf above) in
+    let at = length (joined rawBytes above) in
     let ended = all-front Ended ls below (all-back Ended above (ls ++ below) (rw e at (lines-ended notes))) in
     let s = lines-stood o (p .mail) notes above ls below at e refl ended in
     record {
-      words = rw r (stood-words _ at (at + length (joined rawOf ls)) _ _ s);
-      each = rw r (stood-all _ at (at + length (joined rawOf ls)) _ _ s);
-      ascend = rw r (stood-ascends _ at (at + length (joined rawOf ls)) _ _ s);
+      words = rw r (stood-words _ at (at + length (joined rawBytes ls)) _ _ s);
+      each = rw r (stood-all _ at (at + length (joined rawBytes ls)) _ _ s);
+      ascend = rw r (stood-ascends _ at (at + length (joined rawBytes ls)) _ _ s);
     }

@@ -8,7 +8,7 @@ use native.Mathlib.Omega.{arith}
 use lib.Dec.{ltb, eqb}
 use lib.ListN.{length, getD, take, drop, length-take}
 use lib.Seq.{slice, getD-take, take-take, length-take-le}
-use borrow.Author.Tests.{ltb-true, ltb-false}
+use borrow.Author.Tests.{ltb-true, ltb-false, not-true}
 use Rattle.lists.proofs.Runs.{while-end}
 use Rattle.text.specs.Characters.{glyphs, isBlank}
 use Rattle.text.proofs.Glyphs.{Here}
@@ -176,11 +176,7 @@ module _ (o : Opts) (notes : List ℕ) (next at : ℕ) (first previous : Bool) (
 
 -- no word yet
 pub spaced-none : {o : Opts} {notes : List ℕ} {start end n : ℕ} {t : List ℕ} (mail : Bool) → start ≤ end → SpacedTo o mail notes start end n t (record { count = n; at = start; first = not mail; punct = false }) t
-spaced-none mail on = record { to = on; words = refl; places = refl; ink = λ ink e. ink (not-mail mail e) }
-  where
-    not-mail : (m : Bool) → not m ≡ true → m ≡ false
-    not-mail true e = absurd (false≢true e)
-    not-mail false e = refl
+spaced-none mail on = record { to = on; words = refl; places = refl; ink = λ ink e. ink (not-true mail e) }
 
 -- with the words of the rest of the line, up to where its end was found
 pub spaced-filled : (most : ℕ) {o : Opts} {mail : Bool} {notes : List ℕ} {start end n : ℕ} {t : List ℕ} {r : Spaced} {t′ : List ℕ} → SpacedTo o mail notes start end n t r t′ → (stop : ℕ) → stop ≡ end → (t″ : List ℕ) (k : Count)

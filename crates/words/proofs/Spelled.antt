@@ -9,13 +9,14 @@ use lib.Seq.{drop-at}
 use Rattle.lists.specs.Runs.{while, behind, every}
 use Rattle.lists.proofs.Runs.{while-more, behind-more, behind-end}
 use Rattle.lists.proofs.Parts.{behind-nil, while-behind, every-nil, every-while}
-use Rattle.lists.proofs.Walk.{each-nil, each-step}
+use Rattle.lists.proofs.Walk.{each-step}
 use Rattle.text.specs.Characters.{Glyph, noBreak, glyphs, isBlank}
 use Rattle.options.specs.Opts.{Opts}
 use Rattle.lines.specs.Classes.{glyphsFrom}
 use Rattle.pieces.specs.Pieces.{Row}
 use Rattle.records.specs.Word.{Word}
 use Rattle.words.specs.Words.{Run, isInk, runOf, runs, bytesOf, punctAtEnd, counting, wordOf, lineWords, mailWord, mailWords, rowWords}
+use Rattle.words.proofs.WordRuns.{runs-nil}
 use Rattle.words.proofs.Gaps.{Lined, line-lined, from-lined, behind-word, gap-other}
 
 -- ---- a line's runs
@@ -99,10 +100,6 @@ run-some g gs = go (runOf (g ∷ gs) .text) refl
         let l = simp (e, f .end e, append-nil) at (ap length (f .parts)) in
         omega arith
     go (x ∷ xs) e = omega arith
-
-runs-nil : runs [] ≡ []
-unfolding runs
-runs-nil = each-nil (λ gs. let r = runOf gs in length (r .blanks) + length (r .text) - 1) runOf
 
 runs-step : (g : Glyph) (gs : List Glyph) → runs (g ∷ gs) ≡ runOf (g ∷ gs) ∷ runs (restOf (g ∷ gs))
 unfolding runs

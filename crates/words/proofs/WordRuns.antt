@@ -49,9 +49,9 @@ run-bytes test gs s at end j e =
 
 -- ---- words
 
-runs-none : runs [] ≡ []
+pub runs-nil : runs [] ≡ []
 unfolding runs
-runs-none = each-nil _ runOf
+runs-nil = each-nil _ runOf
 
 runs-step : (gs : List Glyph) → 0 < length gs
     → runs gs ≡ runOf gs ∷ runs (drop (suc (length (runOf gs .blanks) + length (runOf gs .text) - 1)) gs)
@@ -80,8 +80,8 @@ module _ (count : List Glyph → ℕ) (o : Opts) (newLine previous : Bool) (r : 
 -- blanks alone make no word
 pub words-none : (o : Opts) (mail newLine previous : Bool) (gs : List Glyph) → behind isBlank gs ≡ [] → wordsFrom o mail newLine previous gs ≡ []
 unfolding runOf while wordsFrom
-words-none o true newLine previous [] e = rw runs-none (no-runs (counting (o .characters)) o newLine previous .0)
-words-none o false newLine previous [] e = rw runs-none (no-runs (counting (o .characters)) o newLine previous .1)
+words-none o true newLine previous [] e = rw runs-nil (no-runs (counting (o .characters)) o newLine previous .0)
+words-none o false newLine previous [] e = rw runs-nil (no-runs (counting (o .characters)) o newLine previous .1)
 words-none o true newLine previous (g ∷ gs) e = rw (runs-step (g ∷ gs) (omega arith)) (text-none (counting (o .characters)) o newLine previous (runOf (g ∷ gs)) _ (rw e) .0)
 words-none o false newLine previous (g ∷ gs) e = rw (runs-step (g ∷ gs) (omega arith)) (text-none (counting (o .characters)) o newLine previous (runOf (g ∷ gs)) _ (rw e) .1)
 
@@ -96,7 +96,7 @@ places-text-none at r rs e = rw e
 
 pub places-none : (at : ℕ) (gs : List Glyph) → behind isBlank gs ≡ [] → placesFrom at (runs gs) ≡ []
 unfolding runOf while
-places-none at [] e = rw runs-none (places-empty at)
+places-none at [] e = rw runs-nil (places-empty at)
 places-none at (g ∷ gs) e = rw (runs-step (g ∷ gs) (omega arith)) (places-text-none at (runOf (g ∷ gs)) _ (rw e))
 
 places-text-some : (at start end : ℕ) (r : Run) (rs : List Run) {g : Glyph} {gs : List Glyph} → r .text ≡ g ∷ gs → start ≡ at + extent (r .blanks) → end ≡ start + extent (r .text)
