@@ -41,8 +41,8 @@ static char *caption_of(size_t lines, const char *label) {
 
 void put_digest(struct panel *panel, const struct digest *digest, uint64_t tab, const char *label) {
     panel->bar = 0;
-    if (put_text(panel->cells, digest->bytes, digest->length, tab)) {
-        put_caption(panel, caption_of(lines_of(digest->bytes, digest->length), label));
+    if (put_text(panel->cells, digest->text.bytes, digest->text.length, tab)) {
+        put_caption(panel, caption_of(lines_of(digest->text.bytes, digest->text.length), label));
     } else {
         say("%s: the panel refuses a tab width of %lu", label, (unsigned long)tab);
         put_failure(panel, REFUSED, last_said(), label);

@@ -2,7 +2,6 @@
 #include "command.h"
 
 #include <errno.h>
-#include <stdlib.h>
 #include <string.h>
 
 static int show_help(void) {
@@ -45,7 +44,7 @@ static void say_notes(const struct options *options, const char *name, struct wi
     }
     make_digest(&digest, options, notes);
     say_refusal(label_of(name), &digest.refusal);
-    free(digest.bytes);
+    buffer_free(&digest.text);
 }
 
 /* Line N of a digest, counted from 0: it is there and ended, there and not ended, or past the end. */

@@ -2,6 +2,8 @@
 #ifndef COMMAND_H
 #define COMMAND_H
 
+#include "buffer.h"
+#include "lines.h"
 #include "rudignals.h"
 
 #include <stdbool.h>
@@ -42,8 +44,6 @@ int shown(void);
 #define MOST_PART RUDIGNALS_MOST_NOTES
 #endif
 
-struct text;
-
 /* A file's bytes from some place on: a blank line that begins within the first part is seen whole, unless it is longer than any part. */
 struct window {
     int file;
@@ -51,7 +51,7 @@ struct window {
     uint8_t bytes[2 * MOST_PART];
     size_t length;
     bool ended;        /* no byte follows */
-    struct text *kept; /* what was read so far is kept there, if it is not null */
+    struct buffer *kept; /* what was read so far is kept there, if it is not null */
 };
 
 /* Opens a file, `-' being standard input. These answer false, with errno, if that fails. */
@@ -117,16 +117,12 @@ struct refusal {
 struct digest {
     bool mail; /* it is written as mail of format=flowed */
     uint64_t dashes; /* the lines `--' that this made */
-    uint8_t *bytes;
-    size_t length;
-    size_t room;
+    struct buffer text;
     struct refusal refusal;
 };
 
 /* Formats what the window shows from now on. Answers false, with errno, if the file cannot be read to its end. */
 bool make_digest(struct digest *digest, const struct options *options, struct window *window);
-/* How many line feeds bytes have. */
-unsigned long feeds(const uint8_t *bytes, size_t length);
 
 /* ---- format.c: the digest of a file by its name */
 

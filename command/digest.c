@@ -1,8 +1,6 @@
 /* A file of any length, formatted part by part. All of it is in memory before a byte is written: a file is formatted whole or refused whole. */
 #include "command.h"
 
-#include <stdlib.h>
-
 /* The file's part that is being formatted. */
 struct part {
     const uint8_t *bytes;
@@ -10,14 +8,6 @@ struct part {
     size_t bytes_before;
     unsigned long lines_before;
 };
-
-unsigned long feeds(const uint8_t *bytes, size_t length) {
-    unsigned long count = 0;
-    size_t i;
-    for (i = 0; i < length; i++)
-        count += bytes[i] == '\n';
-    return count;
-}
 
 /* A column is a character: bytes from 80 to BF continue one. That is exact, since the library names the first damaged character and all
  * before it are whole. */
@@ -39,22 +29,6 @@ static void refuse(struct refusal *refusal, const struct part *part, uint32_t co
     refusal->byte = place < part->length ? part->bytes[place] : 0;
 }
 
-/* Room for so many bytes more. It grows at least to twice its length, so that copying costs little in all. */
-static bool make_room(struct digest *digest, size_t more) {
-    size_t wanted = digest->length + more, room = 2 * digest->room;
-    uint8_t *wider;
-    if (wanted <= digest->room)
-        return true;
-    if (room < wanted)
-        room = wanted;
-    wider = realloc(digest->bytes, room);
-    if (wider == NULL)
-        return false;
-    digest->bytes = wider;
-    digest->room = room;
-    return true;
-}
-
 /* The part as mail: without room the call tells how much it needs. */
 static uint64_t measure_mail(const struct options *options, const struct part *part) {
     uint64_t dashes, answer = rudignals_flow(options->block, options->block_len, part->bytes, part->length, NULL, 0, &dashes);
@@ -62,7 +36,7 @@ static uint64_t measure_mail(const struct options *options, const struct part *p
 }
 
 static uint64_t write_mail(struct digest *digest, const struct options *options, const struct part *part, size_t needed) {
-    uint64_t dashes, answer = rudignals_flow(options->block, options->block_len, part->bytes, part->length, digest->bytes + digest->length, needed, &dashes);
+    uint64_t dashes, answer = rudignals_flow(options->block, options->block_len, part->bytes, part->length, digest->text.bytes + digest->text.length, needed, &dashes);
     digest->dashes += dashes;
     return answer;
 }
@@ -74,11 +48,11 @@ static uint64_t ask(struct digest *digest, const struct options *options, const 
     size_t needed = rudignals_number_of(answer);
     if (rudignals_code_of(answer) != RUDIGNALS_DONE || needed == 0 || digest->refusal.code != RUDIGNALS_DONE)
         return answer;
-    if (!make_room(digest, needed))
+    if (!buffer_room(&digest->text, needed))
         return (uint64_t)RUDIGNALS_ROOM << 32;
     if (digest->mail)
         return write_mail(digest, options, part, needed);
-    return rudignals_write(options->block, options->block_len, part->bytes, part->length, digest->bytes + digest->length, needed);
+    return rudignals_write(options->block, options->block_len, part->bytes, part->length, digest->text.bytes + digest->text.length, needed);
 }
 
 /* Once something is refused no more is written, but a lower code may still come. */
@@ -90,12 +64,12 @@ static void add_part(struct digest *digest, const struct options *options, const
     else if (code != RUDIGNALS_DONE)
         refuse(&digest->refusal, part, code, 0);
     else if (digest->refusal.code == RUDIGNALS_DONE)
-        digest->length += rudignals_number_of(answer);
+        digest->text.length += rudignals_number_of(answer);
 }
 
 bool make_digest(struct digest *digest, const struct options *options, struct window *window) {
     struct part part = {window->bytes, 0, 0, 0};
-    digest->length = 0;
+    digest->text.length = 0;
     digest->dashes = 0;
     digest->refusal.code = RUDIGNALS_DONE;
     do {

@@ -2,7 +2,6 @@
 #include "command.h"
 
 #include <inttypes.h>
-#include <stdlib.h>
 
 static int show_help(void) {
     printf("Usage: %s [-WIDTH] [OPTION]... [FILE]\n"
@@ -45,10 +44,10 @@ static int flow_asked(const struct options *options) {
         return wrong_call();
     }
     digest.mail = true;
-    whole = digest_file(options, name, &window, &digest) == MADE && write_out(digest.bytes == NULL ? (const uint8_t *)"" : digest.bytes, digest.length);
+    whole = digest_file(options, name, &window, &digest) == MADE && write_out(digest.text.bytes, digest.text.length);
     if (whole && digest.dashes > 0)
         say("%s: %" PRIu64 " lines `--' in paragraphs: a mail reader ends the paragraph there", label_of(name), digest.dashes);
-    free(digest.bytes);
+    buffer_free(&digest.text);
     return whole ? WELL : FAILED;
 }
 

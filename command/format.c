@@ -57,7 +57,7 @@ enum outcome digest_file(const struct options *options, const char *name, struct
 
 /* Each file's digest is out before the next file is read, as in the original. */
 static bool format_file(const struct options *options, const char *name, struct window *window, struct digest *digest) {
-    return digest_file(options, name, window, digest) == MADE && write_out(digest->bytes, digest->length);
+    return digest_file(options, name, window, digest) == MADE && write_out(digest->text.bytes, digest->text.length);
 }
 
 /* A file that is refused or cannot be read does not keep the others from being formatted. Nobody would read them if one could not be
@@ -69,7 +69,7 @@ static int format_files(const struct options *options, int count, char **names) 
     int i;
     for (i = 0; i < count && !ferror(stdout); i++)
         whole = format_file(options, names[i], &window, &digest) && whole;
-    free(digest.bytes);
+    buffer_free(&digest.text);
     return whole ? WELL : FAILED;
 }
 

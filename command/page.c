@@ -4,7 +4,6 @@
  * rudignals_explain. */
 #define _POSIX_C_SOURCE 200809L
 #include "page.h"
-#include "salvage.h"
 
 #include <stdlib.h>
 #include <string.h>
@@ -56,8 +55,8 @@ static bool index_part(struct page *page, size_t at, size_t length, size_t *dige
     bool well = index != NULL;
     if (!well)
         return false;
-    answer = rudignals_write_indexed(page->options->block, page->options->block_len, page->notes + at, length, page->digest->bytes + *digest_at,
-                                     page->digest->length - *digest_at, index, length, &filled);
+    answer = rudignals_write_indexed(page->options->block, page->options->block_len, page->notes + at, length, page->digest->text.bytes + *digest_at,
+                                     page->digest->text.length - *digest_at, index, length, &filled);
     well = rudignals_code_of(answer) == RUDIGNALS_DONE;
     for (i = 0; well && i < filled; i++)
         well = add_piece(page, &index[i], at, length);
@@ -78,12 +77,12 @@ static bool find_pieces(struct page *page) {
 }
 
 static void find_lines(struct page *page) {
-    const uint8_t *bytes = page->digest->bytes, *feed;
+    const uint8_t *bytes = page->digest->text.bytes, *feed;
     uint64_t tab = tab_of(page->options);
     size_t at = 0, i;
     for (i = 0; i < page->lines_len; i++) {
         struct line *line = &page->lines[i];
-        feed = memchr(bytes + at, '\n', page->digest->length - at);
+        feed = memchr(bytes + at, '\n', page->digest->text.length - at);
         line->at = at;
         line->length = (size_t)(feed - (bytes + at));
         line->look = look_at(bytes + at, line->length, tab);
@@ -136,10 +135,10 @@ static bool read_page(struct page *page) {
 enum { MOST_LINES = 65536, MOST_BYTES = 4 << 20 };
 
 static bool fits_page(const struct page *page) {
-    if (page->lines_len <= MOST_LINES && page->digest->length <= MOST_BYTES)
+    if (page->lines_len <= MOST_LINES && page->digest->text.length <= MOST_BYTES)
         return true;
     say("%s: the digest has %lu lines and %lu bytes, and a page shows at most %d and %d; `rudignals format' writes it", page->label,
-        (unsigned long)page->lines_len, (unsigned long)page->digest->length, MOST_LINES, MOST_BYTES);
+        (unsigned long)page->lines_len, (unsigned long)page->digest->text.length, MOST_LINES, MOST_BYTES);
     return false;
 }
 
@@ -172,7 +171,7 @@ static int write_failure(struct page *page, enum outcome outcome, const char *re
 
 static int page_of(struct page *page, const char *name) {
     static struct window window;
-    static struct text notes;
+    static struct buffer notes;
     static struct digest digest;
     enum outcome outcome;
     window.kept = &notes;
@@ -180,7 +179,7 @@ static int page_of(struct page *page, const char *name) {
     page->digest = &digest;
     page->notes = notes.bytes;
     page->notes_len = notes.length;
-    page->lines_len = outcome == MADE ? feeds(digest.bytes, digest.length) : 0;
+    page->lines_len = outcome == MADE ? feeds(digest.text.bytes, digest.text.length) : 0;
     page->read_whole = window.ended;
     if (outcome == MADE && !fits_page(page))
         outcome = REFUSED;

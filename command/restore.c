@@ -49,7 +49,7 @@ static bool take_entries(struct entries *list, unsigned long from, size_t length
     return true;
 }
 
-static bool restore_part(struct text *notes, struct entries *list, unsigned long from, const uint8_t *part, size_t length) {
+static bool restore_part(struct buffer *notes, struct entries *list, unsigned long from, const uint8_t *part, size_t length) {
     static uint32_t places[RUDIGNALS_MOST_NOTES];
     static uint8_t bytes[RUDIGNALS_MOST_NOTES];
     unsigned long first = list->line;
@@ -57,7 +57,7 @@ static bool restore_part(struct text *notes, struct entries *list, unsigned long
     size_t count;
     if (!take_entries(list, from, length, places, bytes, &count))
         return false;
-    if (!widen(notes, length + 1)) {
+    if (!buffer_room(notes, length + 1)) {
         say("no memory for the notes");
         return false;
     }
@@ -68,7 +68,7 @@ static bool restore_part(struct text *notes, struct entries *list, unsigned long
     return true;
 }
 
-static bool restore_file(const char *label, struct window *window, struct entries *list, struct text *notes) {
+static bool restore_file(const char *label, struct window *window, struct entries *list, struct buffer *notes) {
     size_t length;
     do {
         if (!fill_window(window)) {
@@ -87,7 +87,7 @@ static bool restore_file(const char *label, struct window *window, struct entrie
     return !list->there || say_stray(list, list->line);
 }
 
-static bool restore_with(const struct files *files, struct entries *list, struct text *notes) {
+static bool restore_with(const struct files *files, struct entries *list, struct buffer *notes) {
     static struct window window;
     bool whole;
     if (!next_entry(list))
@@ -102,7 +102,7 @@ static bool restore_with(const struct files *files, struct entries *list, struct
 }
 
 int run_restore(int argc, char **argv) {
-    struct text notes = {0};
+    struct buffer notes = {0};
     struct entries list = {0};
     struct files files;
     bool whole;
@@ -117,7 +117,7 @@ int run_restore(int argc, char **argv) {
     }
     whole = restore_with(&files, &list, &notes);
     fclose(list.file);
-    whole = whole && write_out(notes.bytes == NULL ? (const uint8_t *)"" : notes.bytes, notes.length);
-    free(notes.bytes);
+    whole = whole && write_out(notes.bytes, notes.length);
+    buffer_free(&notes);
     return whole ? WELL : FAILED;
 }

@@ -3,9 +3,9 @@
  * Lines are mended one by one (P5), so a file of any length is mended in parts that end with a line. All is in memory before a byte is
  * written. The list goes out first: a copy without its list could not be undone. */
 #include "salvage.h"
+#include "whole.h"
 
 #include <errno.h>
-#include <stdlib.h>
 #include <string.h>
 
 static const char HELP[] = " LIST [FILE]\n"
@@ -17,21 +17,6 @@ static const char HELP[] = " LIST [FILE]\n"
                            "\n"
                            "Limits: a file may have any length, a line at most 65536 bytes. LIST must not be\n"
                            "there yet.\n";
-
-bool widen(struct text *text, size_t more) {
-    size_t wanted = text->length + more, room = 2 * text->room;
-    uint8_t *wider;
-    if (wanted <= text->room)
-        return true;
-    if (room < wanted)
-        room = wanted;
-    wider = realloc(text->bytes, room);
-    if (wider == NULL)
-        return false;
-    text->bytes = wider;
-    text->room = room;
-    return true;
-}
 
 size_t lines_within(const struct window *window, size_t most) {
     size_t end = window->length < most ? window->length : most;
@@ -64,22 +49,21 @@ bool read_files(struct files *files, int argc, char **argv, const char *help, in
 }
 
 /* The changes of a part whose first byte has a place in the file, as lines. */
-static bool add_changes(struct text *list, unsigned long place, const uint32_t *places, const uint8_t *bytes, size_t changes) {
+static bool add_changes(struct buffer *list, unsigned long place, const uint32_t *places, const uint8_t *bytes, size_t changes) {
     size_t i;
     for (i = 0; i < changes; i++) {
-        if (!widen(list, 32))
+        if (!buffer_print(list, "%lu %02X\n", place + places[i], (unsigned)bytes[i]))
             return false;
-        list->length += (size_t)sprintf((char *)list->bytes + list->length, "%lu %02X\n", place + places[i], (unsigned)bytes[i]);
     }
     return true;
 }
 
 /* Room for the longest copy and list of a part is always there, so nothing but memory can be missing. */
-static bool mend_part(struct text *copy, struct text *list, unsigned long place, const uint8_t *part, size_t length) {
+static bool mend_part(struct buffer *copy, struct buffer *list, unsigned long place, const uint8_t *part, size_t length) {
     static uint32_t places[RUDIGNALS_MOST_NOTES];
     static uint8_t bytes[RUDIGNALS_MOST_NOTES];
     uint64_t answer;
-    if (!widen(copy, 2 * length + 1))
+    if (!buffer_room(copy, 2 * length + 1))
         return false;
     answer = rudignals_mend(part, length, copy->bytes + copy->length, copy->room - copy->length, places, RUDIGNALS_MOST_NOTES, bytes, RUDIGNALS_MOST_NOTES);
     if (rudignals_code_of(answer) != RUDIGNALS_DONE)
@@ -88,7 +72,7 @@ static bool mend_part(struct text *copy, struct text *list, unsigned long place,
     return add_changes(list, place, places, bytes, rudignals_number_of(answer) - length);
 }
 
-static bool mend_file(const char *label, struct window *window, struct text *copy, struct text *list) {
+static bool mend_file(const char *label, struct window *window, struct buffer *copy, struct buffer *list) {
     unsigned long place = 0;
     size_t length;
     do {
@@ -112,25 +96,16 @@ static bool mend_file(const char *label, struct window *window, struct text *cop
 }
 
 /* A list that is there already belongs to another copy, and stays. */
-static bool write_list(const char *name, const struct text *list) {
-    FILE *file = fopen(name, "wx");
-    bool whole;
-    if (file == NULL) {
+static bool write_list(const char *name, const struct buffer *list) {
+    bool whole = write_new(name, list->bytes, list->length);
+    if (!whole)
         say_failure(name, errno);
-        return false;
-    }
-    whole = list->length == 0 || fwrite(list->bytes, 1, list->length, file) == list->length;
-    whole = fclose(file) == 0 && whole;
-    if (!whole) {
-        say_failure(name, errno);
-        remove(name);
-    }
     return whole;
 }
 
 int run_salvage(int argc, char **argv) {
     static struct window window;
-    struct text copy = {0}, list = {0};
+    struct buffer copy = {0}, list = {0};
     struct files files;
     bool whole;
     int status;
@@ -142,8 +117,8 @@ int run_salvage(int argc, char **argv) {
     }
     whole = mend_file(files.label, &window, &copy, &list);
     close_window(&window);
-    whole = whole && write_list(files.list, &list) && write_out(copy.bytes == NULL ? (const uint8_t *)"" : copy.bytes, copy.length);
-    free(copy.bytes);
-    free(list.bytes);
+    whole = whole && write_list(files.list, &list) && write_out(copy.bytes, copy.length);
+    buffer_free(&copy);
+    buffer_free(&list);
     return whole ? WELL : FAILED;
 }

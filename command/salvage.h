@@ -1,17 +1,8 @@
-/* What salvage.c, restore.c and, of the first, unflow.c share: a text that grows, a part of a file that ends with a line, and their command line. */
+/* What salvage.c and restore.c share: a part of a file that ends with a line, and their command line. */
 #ifndef SALVAGE_H
 #define SALVAGE_H
 
 #include "command.h"
-
-struct text {
-    uint8_t *bytes;
-    size_t length;
-    size_t room;
-};
-
-/* Room for so many bytes behind the text; false without memory. */
-bool widen(struct text *text, size_t more);
 
 /* How long the first part of a window is: up to its last line feed within so many bytes, or all of it at the file's end. 0 if its first
  * line is longer. */

@@ -110,7 +110,7 @@ static void put_digest_line(FILE *out, const struct page *page, size_t number, c
     const struct line *line = &page->lines[number];
     const char *class = line->look.damaged > 0 ? " class=d" : is_over(page, line) ? " class=o" : "";
     fprintf(out, "<a id=%zu%s href=#n%lu>", number + 1, class, piece->note);
-    put_line(out, page->digest->bytes + line->at, line->length, tab_of(page->options));
+    put_line(out, page->digest->text.bytes + line->at, line->length, tab_of(page->options));
     fputs("\n</a>", out);
 }
 

@@ -1,6 +1,6 @@
 /* What comes in and what goes out. */
 #define _POSIX_C_SOURCE 200809L
-#include "salvage.h"
+#include "command.h"
 
 #include <errno.h>
 #include <fcntl.h>
@@ -15,18 +15,6 @@ bool open_window(struct window *window, const char *name) {
     return window->file >= 0;
 }
 
-static bool keep(struct text *kept, const uint8_t *bytes, size_t length) {
-    if (kept == NULL)
-        return true;
-    if (!widen(kept, length)) {
-        errno = ENOMEM;
-        return false;
-    }
-    memcpy(kept->bytes + kept->length, bytes, length);
-    kept->length += length;
-    return true;
-}
-
 /* A read may give less than asked for, from a pipe say. */
 bool fill_window(struct window *window) {
     ssize_t got;
@@ -36,7 +24,7 @@ bool fill_window(struct window *window) {
             return false;
         window->ended = got == 0;
         if (got > 0) {
-            if (!keep(window->kept, window->bytes + window->length, (size_t)got))
+            if (window->kept != NULL && !buffer_add(window->kept, window->bytes + window->length, (size_t)got))
                 return false;
             window->length += (size_t)got;
         }
@@ -61,7 +49,7 @@ static bool written(bool well) {
 }
 
 bool write_out(const void *bytes, size_t length) {
-    return written(fwrite(bytes, 1, length, stdout) == length && fflush(stdout) == 0 && !ferror(stdout));
+    return written((length == 0 || fwrite(bytes, 1, length, stdout) == length) && fflush(stdout) == 0 && !ferror(stdout));
 }
 
 /* Some file systems tell only on closing that a write failed. A failure that was told before is not told again. */

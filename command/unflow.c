@@ -2,10 +2,9 @@
  *
  * A line that does not end in a space ends its paragraph, so a file of any length is read in parts that end with such a line. All is in memory
  * before a byte is written. */
-#include "salvage.h"
+#include "command.h"
 
 #include <errno.h>
-#include <stdlib.h>
 #include <string.h>
 
 static const char HELP[] = " [FILE]\n"
@@ -32,7 +31,7 @@ static size_t fixed_within(const struct window *window) {
     return 0;
 }
 
-static bool read_mail(const char *label, struct window *window, struct text *read) {
+static bool read_mail(const char *label, struct window *window, struct buffer *read) {
     size_t length;
     do {
         if (!fill_window(window)) {
@@ -44,7 +43,7 @@ static bool read_mail(const char *label, struct window *window, struct text *rea
             say("%s: a paragraph has more than %u bytes", label, (unsigned)MOST_PART);
             return false;
         }
-        if (!widen(read, RUDIGNALS_MOST_UNFLOWED(length))) {
+        if (!buffer_room(read, RUDIGNALS_MOST_UNFLOWED(length))) {
             say("%s: no memory for what was read", label);
             return false;
         }
@@ -56,7 +55,7 @@ static bool read_mail(const char *label, struct window *window, struct text *rea
 
 int run_unflow(int argc, char **argv) {
     static struct window window;
-    struct text read = {0};
+    struct buffer read = {0};
     const char *name = argc > 1 ? argv[1] : "-";
     bool whole;
     if (argc > 1 && (strcmp(argv[1], "--help") == 0 || strcmp(argv[1], "-h") == 0)) {
@@ -75,7 +74,7 @@ int run_unflow(int argc, char **argv) {
     }
     whole = read_mail(label_of(name), &window, &read);
     close_window(&window);
-    whole = whole && write_out(read.bytes == NULL ? (const uint8_t *)"" : read.bytes, read.length);
-    free(read.bytes);
+    whole = whole && write_out(read.bytes, read.length);
+    buffer_free(&read);
     return whole ? WELL : FAILED;
 }
