@@ -116,6 +116,16 @@ static size_t tail_lost(const struct sequence *mine) {
     return at;
 }
 
+/* Cut where a character begins. */
+static void quote(struct stretch *stretch, const struct ink *ink) {
+    size_t length = ink->length < QUOTED ? ink->length : QUOTED;
+    while (length < ink->length && length > 0 && (ink->bytes[length] & 0xC0u) == 0x80u)
+        length--;
+    memcpy(stretch->quoted, ink->bytes, length);
+    stretch->quoted_len = length;
+    stretch->quoted_whole = length == ink->length;
+}
+
 static bool gather(struct stretches *stretches, const struct gathering *g) {
     size_t i = 0, other = 0, counted = 0, last_line = g->first_line, tail = tail_lost(g->mine);
     struct line_words words;
@@ -129,9 +139,11 @@ static bool gather(struct stretches *stretches, const struct gathering *g) {
         } else if (words.lost > 0) {
             other = go_matched(g->other, other, matched_before(g->mine, counted, words.first_lost));
             counted = words.first_lost;
-            fresh = (struct stretch){g->mine->inks[i].line, g->mine->inks[i].line, words.lost, other == 0 ? g->other_line : g->other->inks[other - 1].line,
-                g->mine->inks[words.first_lost].bytes, g->mine->inks[words.first_lost].length, words.first_lost >= tail,
-                words.first_lost == i && g->mine->inks[i].line != g->first_line};
+            fresh = (struct stretch){.first = g->mine->inks[i].line, .last = g->mine->inks[i].line, .words = words.lost};
+            fresh.behind = other == 0 ? g->other_line : g->other->inks[other - 1].line;
+            fresh.to_the_end = words.first_lost >= tail;
+            fresh.whole_lines = words.first_lost == i && g->mine->inks[i].line != g->first_line;
+            quote(&fresh, &g->mine->inks[words.first_lost]);
             if (!add_stretch(stretches, &fresh))
                 return false;
         }

@@ -10,13 +10,16 @@
 enum verdict { CARRIED, LAYOUT, MISSING, ADDED, BOTH, NO_DIGEST, NO_NOTES, UNJUDGED, VERDICTS };
 extern const char *const VERDICT_NAMES[VERDICTS], *const VERDICT_WORDS[VERDICTS];
 
+enum { QUOTED = 48 };
+
 /* Lines of one text, from 1, with so many words that the other has not. Every line between them that has words lacks some, too. */
 struct stretch {
     size_t first, last;
     size_t words;
     size_t behind;          /* the line of the other text that they should stand behind, or 0: at its start */
-    const uint8_t *quoted;  /* the first of these words */
+    uint8_t quoted[QUOTED]; /* the first of these words, or its beginning */
     size_t quoted_len;
+    bool quoted_whole;
     bool to_the_end;        /* all from its first word on is such */
     bool whole_lines;       /* that word is the first of its line */
 };
