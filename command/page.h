@@ -60,5 +60,8 @@ void put_failed_page(FILE *out, const struct page *page, enum outcome outcome, c
 
 extern const char *const PAGE_STYLE[], *const PAGE_SCRIPT[];
 extern const char PAGE_STYLE_HASH[], PAGE_SCRIPT_HASH[];
+/* and those of an audit's report */
+extern const char *const REPORT_STYLE[], *const REPORT_SCRIPT[];
+extern const char REPORT_STYLE_HASH[], REPORT_SCRIPT_HASH[];
 
 #endif
