@@ -11,7 +11,8 @@ struct audited {
     const struct pair *pair;
     struct finding finding;
     struct buffer notes, digest;
-    bool ended; /* it was judged */
+    size_t read; /* so many bytes of the two */
+    bool ended;  /* it was judged */
 };
 
 struct audit {

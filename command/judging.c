@@ -91,6 +91,7 @@ static struct finding judge_files(const struct audit *audit, struct audited *row
 
 static void judge_row(const struct audit *audit, struct audited *row) {
     row->finding = row->pair->why != NULL ? not_judged(row->pair->why) : judge_files(audit, row);
+    row->read = row->notes.length + row->digest.length;
 }
 
 static void drop_texts(struct audited *row) {
