@@ -110,9 +110,9 @@ static bool write_report(struct report *report, const struct audit *audit, const
     bool well;
     if (localtime_r(&seconds, &local) != NULL)
         strftime(drawn, sizeof drawn, "%Y-%m-%d %H:%M", &local);
-    well = end_report(report, audit, said_of(options, 0), said_of(options, 1), drawn, &page) && write_whole(options->value[HTML], page.bytes, page.length);
+    well = end_report(report, audit, said_of(options, 0), said_of(options, 1), drawn, &page) && write_whole(options->value[REPORT], page.bytes, page.length);
     if (!well)
-        say_failure(options->value[HTML], errno);
+        say_failure(options->value[REPORT], errno);
     buffer_free(&page);
     return well;
 }
@@ -137,10 +137,10 @@ static int audit_pairs(struct audit *audit, const struct options *options) {
     bool well;
     showing.bar.begun = now();
     showing.bar.next = showing.bar.begun + 1;
-    if (options->value[HTML] != NULL) {
+    if (options->value[REPORT] != NULL) {
         audit->keep_texts = true;
         if (!begin_report(&report)) {
-            say_failure(options->value[HTML], errno);
+            say_failure(options->value[REPORT], errno);
             return NOT_ALL_JUDGED;
         }
         showing.report = &report;
@@ -217,7 +217,7 @@ static int run_audit(const struct options *given) {
     bool well = true;
     int status;
     if (options.value[NO_KEEP] == NULL)
-        set_flag(&options, RUDIGNALS_KEEP);
+        add_flag(&options, RUDIGNALS_KEEP);
     if (!options_accepted(&options))
         return WRONG_CALL;
     audit.terms = (struct terms){{options.block, options.block_len}, heads_of(&options), options.value[NO_KEEP] == NULL};
@@ -236,9 +236,9 @@ static int run_audit(const struct options *given) {
     return status;
 }
 
-static const int TAKES[] = {PAIRS, ALL, STRICT, JSON, HTML, JOBS, 'o', FORMATTING_BUT_KEEP, NO_KEEP, 0};
+static const int TAKES[] = {PAIRS, ALL, STRICT, JSON, REPORT, JOBS, 'o', LAYING_OUT, NO_KEEP, 0};
 
-const struct subcommand AUDIT = {
+const struct subcommand audit_subcommand = {
     .name = "audit",
     .does = "find what digests of an archive lack of their notes",
     .arguments = "NOTES DIGESTS",

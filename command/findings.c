@@ -9,14 +9,16 @@
 
 /* ---- records */
 
+static bool add_key(struct buffer *out, const char *key) { return buffer_print(out, "%s\"%s\": ", out->bytes[out->length - 1] == '{' ? "" : ", ", key); }
+
 static bool add_name(struct buffer *out, const char *key, const char *name) {
-    return add_json_key(out, key) && (name == NULL ? buffer_add(out, "null", 4) : add_json_text(out, name, strlen(name)));
+    return add_key(out, key) && (name == NULL ? buffer_add(out, "null", 4) : add_json_words(out, name));
 }
 
 static bool add_items(struct buffer *out, const char *key, const struct stretches *stretches) {
     const struct stretch *row;
     size_t i;
-    if (!add_json_key(out, key) || !buffer_add(out, "[", 1))
+    if (!add_key(out, key) || !buffer_add(out, "[", 1))
         return false;
     for (i = 0; i < stretches->length; i++) {
         row = &stretches->rows[i];
@@ -27,7 +29,7 @@ static bool add_items(struct buffer *out, const char *key, const struct stretche
 }
 
 static bool add_line_number(struct buffer *out, const struct finding *finding) {
-    return add_json_key(out, "line") && (finding->verdict == LAYOUT ? buffer_print(out, "%zu", finding->line) : buffer_add(out, "null", 4));
+    return add_key(out, "line") && (finding->verdict == LAYOUT ? buffer_print(out, "%zu", finding->line) : buffer_add(out, "null", 4));
 }
 
 bool add_record(struct buffer *out, const struct audited *row) {

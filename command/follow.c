@@ -1,6 +1,9 @@
 /* The panel as long as it is looked at: drawn again when the file has changed. */
 #define _POSIX_C_SOURCE 200809L
-#include "command.h"
+#include "panel.h"
+
+#include "output.h"
+#include "say.h"
 
 #include <signal.h>
 #include <string.h>
@@ -29,7 +32,7 @@ static bool same(const struct mark *a, const struct mark *b) {
 }
 
 /* A screen of its own, without a cursor; a row that a narrow window cannot show is cut and not carried to the next. */
-static bool write_escape(const char *escape) { return write_out(escape, strlen(escape)); }
+static bool write_escape(const char *escape) { return draw_out(escape, strlen(escape)) && flush_out(); }
 static bool enter_screen(void) { return write_escape("\033[?1049h\033[?25l\033[?7l"); }
 static bool leave_screen(void) { return write_escape("\033[0m\033[?7h\033[?25h\033[?1049l"); }
 

@@ -1,6 +1,8 @@
 /* The panel as text: rows in a frame, fillers left out, so that wide characters line up. */
 #define _POSIX_C_SOURCE 200809L
-#include "command.h"
+#include "panel.h"
+
+#include "output.h"
 
 #include <stdlib.h>
 #include <string.h>
@@ -12,7 +14,7 @@ static const char *const COLOUR[KINDS] = {
 
 static bool is_terminal(void) {
     const char *kind = getenv("TERM");
-    return isatty(STDOUT_FILENO) && kind != NULL && strcmp(kind, "dumb") != 0;
+    return output_is_terminal() && kind != NULL && strcmp(kind, "dumb") != 0;
 }
 
 /* A frame takes two columns and, with the caption, three lines. Where they are not to be had it is left out; a whole screen then has the
@@ -20,7 +22,7 @@ static bool is_terminal(void) {
 struct view view_of_output(bool whole_screen) {
     struct view view = {is_terminal(), true, ROWS, COLUMNS};
     struct winsize size;
-    if (!isatty(STDOUT_FILENO) || ioctl(STDOUT_FILENO, TIOCGWINSZ, &size) != 0 || size.ws_col == 0)
+    if (!output_is_terminal() || ioctl(STDOUT_FILENO, TIOCGWINSZ, &size) != 0 || size.ws_col == 0)
         return view;
     view.framed = size.ws_col >= COLUMNS + 2 && (!whole_screen || size.ws_row >= ROWS + 3);
     if (whole_screen && size.ws_row <= ROWS)

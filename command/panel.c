@@ -1,49 +1,13 @@
 /* rudignals panel: reads a file, has it formatted, shows the end of the digest as the wall panel does. */
 #define _POSIX_C_SOURCE 200809L
-#include "command.h"
+#include "panel.h"
 
-#include <getopt.h>
+#include "output.h"
+#include "subcommand.h"
+
 #include <stdlib.h>
 #include <string.h>
 #include <sys/stat.h>
-
-static const struct option OWN[] = {
-    {"text", no_argument, NULL, TEXT},
-    {"svg", required_argument, NULL, SVG},
-    {"follow", no_argument, NULL, FOLLOW},
-    {NULL, 0, NULL, 0},
-};
-
-static const char USAGE[] = " [-WIDTH] [OPTION]... [FILE]\n"
-                            "Formats FILE, or standard input (also -), and shows the last 24 lines as the\n"
-                            "wall panel does, in 80 columns, the newest at the bottom.\n"
-                            "\n"
-                            "      --text               as text in a frame; this is the default\n"
-                            "      --svg PICTURE        as a picture, 1920 x 1080; - is standard output\n"
-                            "      --follow             draw again whenever FILE changes, until a signal\n"
-                            "                           (Ctrl-C) ends it\n"
-                            "\n"
-                            "and the options of format:\n"
-                            "\n";
-
-static const char SIGNS[] =
-    "\n"
-    "A line that runs past column 80 has + in its last column, a byte that is part\n"
-    "of no character is shown as U+FFFD; both are coloured. What takes no column, a\n"
-    "combining mark say, is not shown.\n"
-    "\n"
-    "Where there is no digest, because FILE is refused or cannot be read, the\n"
-    "bottom rows say so in red, between ! marks. Below the panel stands how many\n"
-    "lines there are. With --svg, --text draws both. A PICTURE that is there and is\n"
-    "no panel is not written over.\n"
-    "\n"
-    "Exit status: 0 the digest was shown; 1 something was refused, not read or not\n"
-    "written; 2 a wrong call. With --follow it is that of the last drawing.\n";
-
-static int show_help(void) {
-    printf("Usage: %s%s%s%s", subject, USAGE, OPTIONS_HELP, SIGNS);
-    return shown();
-}
 
 /* ---- drawing */
 
@@ -66,7 +30,7 @@ static bool write_text(const struct panel *panel, bool whole_screen) {
         well = fclose(out) == 0;
     }
     if (well)
-        well = write_out(bytes, length);
+        well = draw_out(bytes, length) && flush_out();
     else
         say("no memory for the panel");
     free(bytes);
@@ -138,6 +102,8 @@ static bool goes_together(const struct show *show) {
         say("--follow: a file must be named");
     else if (follow && is_dash(show->picture))
         say("--follow: the picture must go to a file");
+    else if (follow && show->options.value['o'] != NULL)
+        say("--follow: a panel that is drawn again goes to a terminal or to PICTURE");
     else if (show->text && is_dash(show->picture))
         say("--text and --svg - would both go to standard output");
     else
@@ -145,25 +111,42 @@ static bool goes_together(const struct show *show) {
     return false;
 }
 
-static int show_asked(struct show *show) {
+static int run_panel(const struct options *options) {
+    static struct show show;
     bool written;
-    show->name = show->options.count == 0 ? "-" : show->options.files[0];
-    show->picture = show->options.value[SVG];
-    show->text = show->picture == NULL || show->options.value[TEXT] != NULL;
-    if (!goes_together(show))
+    show.options = *options;
+    show.name = options->count == 0 ? "-" : options->files[0];
+    show.picture = options->value[SVG];
+    show.text = show.picture == NULL || options->value[TEXT] != NULL;
+    if (!goes_together(&show))
         return wrong_call();
-    if (!options_accepted(&show->options))
-        return draw_refused_options(show);
-    return show->options.value[FOLLOW] != NULL ? follow(show) : draw_once(show, false, &written);
+    if (!options_accepted(options))
+        return draw_refused_options(&show);
+    return options->value[FOLLOW] != NULL ? follow(&show) : draw_once(&show, false, &written);
 }
 
-int run_panel(int argc, char **argv) {
-    static struct show show;
-    argv[0] = (char *)called; /* getopt_long's messages begin with it */
-    switch (read_options(&show.options, OWN, argc, argv)) {
-    case ASKED_WORK: return show_asked(&show);
-    case ASKED_HELP: return show_help();
-    case ASKED_VERSION: return show_version();
-    default: return wrong_call();
-    }
-}
+static const int TAKES[] = {TEXT, SVG, FOLLOW, 'o', FORMATTING, 0};
+
+const struct subcommand panel_subcommand = {
+    .name = "panel",
+    .does = "show the last lines of formatted notes as a wall panel does",
+    .arguments = "[FILE]",
+    .about = "Formats FILE, or standard input (also -), and shows the last 24 lines as the\n"
+             "wall panel does, in 80 columns, the newest at the bottom.\n",
+    .takes = TAKES,
+    .limits = "A line that runs past column 80 has + in its last column, a byte that is part\n"
+              "of no character is shown as U+FFFD; both are coloured. What takes no column, a\n"
+              "combining mark say, is not shown.\n"
+              "\n"
+              "Where there is no digest, because FILE is refused or cannot be read, the\n"
+              "bottom rows say so in red, between ! marks. Below the panel stands how many\n"
+              "lines there are. With --svg, --text draws both. A PICTURE that is there and is\n"
+              "no panel is not written over.\n"
+              "\n"
+              "Limits: a file may have any length, but no more than 65536 bytes without\n"
+              "an empty line and no more than 1024 words in a paragraph.\n",
+    .statuses = "0 the digest was shown; 1 something was refused, not read or not\n"
+                "written; 2 a wrong call. With --follow it is that of the last drawing",
+    .draws = true,
+    .run = run_panel,
+};

@@ -1,14 +1,16 @@
 /* The panel as a picture, SVG for a screen of 1920 x 1080. Each cell is a text of its own at the middle of its place: no font, no script that
  * runs from the right and no character of another width moves a second cell. */
 #define _POSIX_C_SOURCE 200809L
-#include "command.h"
+#include "panel.h"
+
+#include "output.h"
+#include "say.h"
+#include "whole.h"
 
 #include <errno.h>
-#include <fcntl.h>
 #include <stdlib.h>
 #include <string.h>
 #include <sys/stat.h>
-#include <unistd.h>
 
 /* A cell is 23 x 42, and so 80 by 24 of them 1840 x 1008. */
 enum { WIDE = 1920, HIGH = 1080, CELL_WIDE = 23, CELL_HIGH = 42, LEFT = 40, TOP = 20, BASE = 32 };
@@ -108,52 +110,16 @@ static bool may_write_over(const char *name) {
     return length == sizeof HEAD - 1 && memcmp(found, HEAD, length) == 0;
 }
 
-/* Answers 0 or the system's reason. */
-static int write_file(const char *name, int flags, const char *bytes, size_t length) {
-    int file = open(name, O_WRONLY | flags, 0666), reason = 0;
-    ssize_t put;
-    if (file < 0)
-        return errno;
-    while (length > 0 && reason == 0) {
-        put = write(file, bytes, length);
-        if (put >= 0)
-            bytes += put, length -= (size_t)put;
-        else if (errno != EINTR)
-            reason = errno;
-    }
-    if (close(file) != 0 && reason == 0)
-        reason = errno;
-    return reason;
-}
-
-/* Who looks at the picture while it is drawn anew sees the old one or the new one, and no half. */
-static int replace_file(const char *name, const char *bytes, size_t length) {
-    char *beside = words("%s.%ld.new", name, (long)getpid());
-    int reason = ENOMEM;
-    if (beside != NULL) {
-        reason = write_file(beside, O_CREAT | O_EXCL, bytes, length);
-        if (reason == 0 && rename(beside, name) != 0)
-            reason = errno;
-        if (reason != 0 && reason != EEXIST)
-            unlink(beside);
-    }
-    free(beside);
-    return reason;
-}
-
-/* A device, a pipe or what a link leads to is written in its place. */
 static bool save(const char *name, const char *bytes, size_t length) {
-    struct stat about;
-    bool replaced = lstat(name, &about) != 0 || S_ISREG(about.st_mode);
-    int reason;
+    bool well;
     if (!may_write_over(name)) {
         say("%s: is there and is no picture of a panel; it is not written over", name);
         return false;
     }
-    reason = replaced ? replace_file(name, bytes, length) : write_file(name, O_TRUNC | O_CREAT, bytes, length);
-    if (reason != 0)
-        say_failure(name, reason);
-    return reason == 0;
+    well = write_whole(name, bytes, length);
+    if (!well)
+        say_failure(name, errno);
+    return well;
 }
 
 bool draw_picture(const struct panel *panel, const char *name) {
@@ -168,7 +134,7 @@ bool draw_picture(const struct panel *panel, const char *name) {
     if (!well)
         say("%s: no memory for the picture", name);
     else
-        well = strcmp(name, "-") == 0 ? write_out(bytes, length) : save(name, bytes, length);
+        well = strcmp(name, "-") == 0 ? draw_out(bytes, length) : save(name, bytes, length);
     free(bytes);
     return well;
 }
