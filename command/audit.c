@@ -256,13 +256,14 @@ const struct subcommand audit_subcommand = {
              "  could not be judged  and why\n"
              "\n"
              "A line is written for each pair that is not carried, and a summary. A stray\n"
-             "byte in the notes keeps its line as it is, as with `format --keep'.",
+             "byte in the notes keeps its line as it is, as with `format --keep'.\n",
     .takes = TAKES,
     .limits = "Give the options that the digests were made with, where prefixes or indents\n"
-              "depend on them; width and goal do not matter.",
+              "depend on them; width and goal do not matter.\n",
     .statuses = "0 every pair is carried or laid out otherwise (with --strict:\n"
                 "carried); 1 text is missing or was added, or a file is missing; 2 something\n"
                 "could not be judged or written, or a wrong call",
+    .draws = true,
     .unwritten = NOT_ALL_JUDGED,
     .run = run_audit,
 };

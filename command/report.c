@@ -3,6 +3,7 @@
 #define _POSIX_C_SOURCE 200809L
 #include "report.h"
 
+#include "lines.h"
 #include "numbers.h"
 #include "page.h"
 
