@@ -87,9 +87,12 @@ static bool wait_for_change(const char *name, const struct mark *drawn, bool scr
     }
 }
 
+/* What went wrong: first with the writing, which the wall cannot show. */
+static const char *why(const struct show *show) { return show->trouble.lasts && show->trouble.words != NULL ? show->trouble.words : last_said(); }
+
 /* What goes wrong is said when it begins, not at every drawing. */
-static void say_once(bool failed, bool hushed, char **before) {
-    char *now = failed ? words("%s", last_said()) : NULL;
+static void say_once(const struct show *show, bool failed, bool hushed, char **before) {
+    char *now = failed ? words("%s", why(show)) : NULL;
     silent = hushed;
     if (now != NULL && (*before == NULL || strcmp(*before, now) != 0))
         say("%s", now);
@@ -106,12 +109,12 @@ static int draw_until_ended(struct show *show, bool screen, bool hushed) {
     do {
         mark = mark_of(show->name);
         drawing = draw_now(show, screen);
-        say_once(drawing.status != WELL, hushed, &said);
+        say_once(show, drawing.status != WELL, hushed, &said);
     } while (!drawing.hopeless && wait_for_change(show->name, &mark, screen, drawing.written ? STANDS : TRIED_AGAIN));
-    free(said);
     end = draw_end(show);
-    if (!end.written && drawing.written)
-        say_once(true, hushed, &(char *){NULL});
+    if (!end.written)
+        say_once(show, true, hushed, &said);
+    free(said);
     return end.written ? drawing.status : FAILED;
 }
 
@@ -129,6 +132,6 @@ int follow(struct show *show) {
         status = FAILED;
     silent = false;
     if (hushed && status != WELL)
-        say("%s", last_said());
+        say("%s", why(show));
     return status;
 }

@@ -43,27 +43,30 @@ static const char *const STATE[] = {[MADE] = "", [NOT_READ] = "not read", [REFUS
 
 static const char *plural(size_t count) { return count == 1 ? "" : "s"; }
 
-static bool put_number(struct buffer *out, const char *before, size_t count, const char *what) {
-    return count == 0 ? buffer_print(out, "%snone%s", before, what) : buffer_print(out, "%s%zu%s", before, count, what);
+/* So many lines, and so many damaged ones; the word for the first may be left out. */
+static bool put_lines(struct buffer *out, size_t lines, size_t damaged, bool brief) {
+    if (!buffer_print(out, "%zu%s%s, ", lines, brief ? "" : " line", brief ? "" : plural(lines)))
+        return false;
+    return damaged == 0 ? buffer_print(out, "none damaged") : buffer_print(out, "%zu damaged", damaged);
 }
 
 /* Of a text that has something to be seen. */
-static bool put_counts(struct buffer *out, const struct rows *rows) {
+static bool put_counts(struct buffer *out, const struct rows *rows, bool brief) {
     const struct counts *counts = &rows->counts;
-    bool well = buffer_print(out, "%zu line%s", counts->lines, plural(counts->lines)) && put_number(out, ", ", counts->damaged, " damaged");
+    bool well = put_lines(out, counts->lines, counts->damaged, false);
     if (rows->cut)
-        well = well && put_number(out, ", ", counts->cut, " cut");
-    if (counts->above > 0)
-        well = well && buffer_print(out, "; %zu above", counts->above) && put_number(out, ", ", counts->damaged_above, " damaged");
-    else
+        well = well && (counts->cut == 0 ? buffer_print(out, ", none cut") : buffer_print(out, ", %zu cut", counts->cut));
+    if (counts->above == 0)
         well = well && buffer_print(out, "; none above");
+    else
+        well = well && buffer_print(out, brief ? "; above " : "; above: ") && put_lines(out, counts->above, counts->damaged_above, brief);
     if (counts->blank > 0)
-        well = well && buffer_print(out, "; %zu blank at the end", counts->blank);
+        well = well && buffer_print(out, "; %zu blank below", counts->blank);
     return well;
 }
 
 /* What was mended stands first: it must not be cut off. */
-static bool put_counted(struct buffer *out, const struct facts *facts, const struct rows *rows, enum outcome outcome) {
+static bool put_counted(struct buffer *out, const struct facts *facts, const struct rows *rows, enum outcome outcome, bool brief) {
     const struct counts *counts = &rows->counts;
     bool known = outcome == MADE || counts->lines > 0;
     if (!buffer_print(out, "%s%s", STATE[outcome], outcome != MADE && known ? ": " : ""))
@@ -77,7 +80,7 @@ static bool put_counted(struct buffer *out, const struct facts *facts, const str
         return buffer_print(out, "no notes: the file is empty");
     if (counts->lines == counts->blank)
         return buffer_print(out, "no text: %zu blank line%s", counts->lines, plural(counts->lines));
-    return put_counts(out, rows);
+    return put_counts(out, rows, brief);
 }
 
 /* The name stands last: it may be of any length. */
@@ -99,12 +102,12 @@ static const char *short_name(const char *name) {
 static bool put_brief(struct buffer *out, const struct facts *facts, const struct rows *rows, enum outcome outcome) {
     char drawn[MOMENT], changed[MOMENT];
     put_moment(drawn, "%H:%M:%S", facts->drawn);
-    if (!buffer_print(out, "%s  ", drawn) || !put_counted(out, facts, rows, outcome))
+    if (!buffer_print(out, "%s ", drawn) || !put_counted(out, facts, rows, outcome, true))
         return false;
     if (!facts->dated)
-        return buffer_print(out, "  %s", short_name(facts->label));
-    put_time(changed, facts->changed, facts->drawn);
-    return buffer_print(out, "; changed %s  %s", changed, short_name(facts->label));
+        return buffer_print(out, "; %s", short_name(facts->label));
+    put_moment(changed, same_day(facts->changed, facts->drawn) ? "%H:%M" : "%m-%d %H:%M", facts->changed);
+    return buffer_print(out, "; changed %s %s", changed, short_name(facts->label));
 }
 
 /* A line's words, without control characters; no word of it is lost silently. */
@@ -117,7 +120,7 @@ static void put_words(struct panel *panel, enum line_below line, struct buffer *
 
 static void put_lines_below(struct panel *panel, const struct facts *facts, const struct rows *rows, enum outcome outcome) {
     struct buffer text = {0};
-    put_words(panel, COUNTED, &text, put_counted(&text, facts, rows, outcome));
+    put_words(panel, COUNTED, &text, put_counted(&text, facts, rows, outcome, false));
     put_words(panel, DATED, &text, put_dated(&text, facts));
     put_words(panel, BRIEF, &text, put_brief(&text, facts, rows, outcome));
     buffer_free(&text);
