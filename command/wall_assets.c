@@ -20,7 +20,7 @@ const char *const PICTURE_STYLE[] = {
     NULL,
 };
 
-const char WALL_STYLE_HASH[] = "HziIU2B5+5DAw/VmWPKQX+A4cNz7SVW9udQeRlhfg34=";
+const char WALL_STYLE_HASH[] = "DSsFIe+/mB279bymUIqTixOEuePlGdysVaoyr0fltHU=";
 
 const char *const WALL_STYLE[] = {
     "text { font-family: 'DejaVu Sans Mono', 'Noto Sans Mono CJK SC', 'Noto Sans CJK SC', monospace; font-size: 36px; text-anchor: middle; fill: #f0f0f0; }\n",
@@ -43,9 +43,10 @@ const char *const WALL_STYLE[] = {
     "iframe { z-index: 1; }\n",
     ".shown { z-index: 2; }\n",
     ".seen > svg { visibility: hidden; }\n",
-    "#old { display: none; position: fixed; z-index: 3; inset: 0; margin: 0; border: 2.2vmin solid #e00000; background: rgb(160 0 0 / 45%); color: #fff; font: bold 6.5vmin/1.2 'DejaVu Sans', 'Noto Sans', sans-serif; text-align: center; }\n",
+    ".old > svg, .old > iframe { top: 17%; height: 83%; }\n",
+    "#old { display: none; position: fixed; z-index: 3; inset: 0; margin: 0; border: 2vmin solid #e00000; background: rgb(190 0 0 / 40%); color: #fff; font: bold 7vmin/1.15 'DejaVu Sans', 'Noto Sans', sans-serif; text-align: center; }\n",
     ".old #old { display: block; }\n",
-    "#old span { display: block; margin-top: 9vh; padding: 2.5vh 0; background: #c00000; }\n",
+    "#old span { display: flex; flex-direction: column; justify-content: center; height: calc(17vh - 2vmin); background: #c00000; }\n",
     "#old small { display: block; font-size: 3vmin; font-weight: normal; }\n",
     "noscript p { position: fixed; z-index: 3; inset: auto 0 0; margin: 0; padding: .6vmin; background: #c00000; color: #fff; font: bold 2.6vmin/1.2 'DejaVu Sans', 'Noto Sans', sans-serif; text-align: center; }\n",
     "@media (prefers-color-scheme: light) {\n",
