@@ -2,7 +2,7 @@
  *
  * Every cell comes from the library, those of our own words and of a file's name too. So what is drawn is a code point for each cell, and
  * nothing in notes or names can do more than be seen. */
-#include "wall.h"
+#include "panel.h"
 
 #include <string.h>
 

@@ -1,7 +1,10 @@
 /* The panel as long as it is looked at: drawn again when the file has changed, and at least every minute, so that its time tells that it is
  * followed. */
 #define _POSIX_C_SOURCE 200809L
-#include "wall.h"
+#include "panel.h"
+
+#include "progress.h"
+#include "say.h"
 
 #include <signal.h>
 #include <stdlib.h>
@@ -124,6 +127,7 @@ int follow(struct show *show) {
     sigset_t set = watched();
     int status;
     sigprocmask(SIG_BLOCK, &set, NULL);
+    end_progress(); /* the wall alone is drawn */
     if (screen && !enter_screen())
         return FAILED;
     silent = true;

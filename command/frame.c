@@ -1,6 +1,8 @@
 /* The panel as text: rows in a frame, fillers left out, so that wide characters line up. */
 #define _POSIX_C_SOURCE 200809L
-#include "wall.h"
+#include "panel.h"
+
+#include "output.h"
 
 #include <stdlib.h>
 #include <string.h>
@@ -19,7 +21,7 @@ static bool is_terminal(void) {
 struct view view_of_output(void) {
     struct view view = {false, false, 0, 0};
     struct winsize size;
-    if (!isatty(STDOUT_FILENO))
+    if (!output_is_terminal())
         return view;
     view.terminal = is_terminal();
     view.window = ioctl(STDOUT_FILENO, TIOCGWINSZ, &size) == 0 && size.ws_col > 0 && size.ws_row > 0;

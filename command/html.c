@@ -1,5 +1,5 @@
 /* The panel as a page for a browser that fills a wall: one file, which reads itself anew and tells when it is old. */
-#include "wall.h"
+#include "panel.h"
 
 /* In seconds: how often the page is read anew, and how old its drawing may be. */
 enum { EVERY = 3, OLD = 120 };

@@ -5,31 +5,13 @@
 #define _POSIX_C_SOURCE 200809L
 #include "page.h"
 
+#include "cut.h"
+#include "lines.h"
+#include "output.h"
+#include "subcommand.h"
+
 #include <stdlib.h>
 #include <string.h>
-
-static const char USAGE[] = " [-WIDTH] [OPTION]... [FILE] >PAGE\n"
-                            "Formats FILE, or standard input (also -), as `format' does, and writes a page for\n"
-                            "a browser: the digest line by line; for the line that is pointed at, with the\n"
-                            "mouse, a finger or the arrow keys, the notes that it comes from, byte for byte,\n"
-                            "and why it ends where it does; and its last 24 lines as the wall panel shows\n"
-                            "them. The page is one file, loads nothing and works without script too. What\n"
-                            "stands in the notes is shown and takes no effect.\n"
-                            "\n";
-
-static const char SIGNS[] =
-    "\n"
-    "Damaged lines and lines over the width are listed first. Where there is no\n"
-    "digest, because FILE is refused or cannot be read, the page says so, and shows\n"
-    "the notes and the place in them.\n"
-    "\n"
-    "Exit status: 0 the page shows a digest; 1 something was refused, not read or\n"
-    "not written; 2 a wrong call.\n";
-
-static int show_help(void) {
-    printf("Usage: %s%s%s%s", subject, USAGE, OPTIONS_HELP, SIGNS);
-    return shown();
-}
 
 /* ---- the pieces and lines of the digest */
 
@@ -193,7 +175,7 @@ static int page_of(struct page *page, const char *name) {
     return write_page(page, MADE, NULL) ? WELL : FAILED;
 }
 
-static int page_asked(const struct options *options) {
+static int run_page(const struct options *options) {
     static struct page page;
     const char *name = options->count == 0 ? "-" : options->files[0];
     int status;
@@ -213,23 +195,36 @@ static int page_asked(const struct options *options) {
     return status;
 }
 
-/* What is wrong with the call was said by getopt_long. */
-static int page_asked_wrongly(const struct options *options) {
+static int run_page_wrongly(const struct options *options) {
     static struct page page;
     page.options = options;
     page.label = "the notes";
     page.facts = facts_of("-");
-    wrong_call();
     return write_failure(&page, NOT_READ, "rudignals page was called wrongly, and said why on standard error", WRONG_CALL);
 }
 
-int run_page(int argc, char **argv) {
-    struct options options;
-    argv[0] = (char *)called; /* getopt_long's messages begin with it */
-    switch (read_options(&options, NULL, argc, argv)) {
-    case ASKED_WORK: return page_asked(&options);
-    case ASKED_HELP: return show_help();
-    case ASKED_VERSION: return show_version();
-    default: return page_asked_wrongly(&options);
-    }
-}
+static const int TAKES[] = {'o', FORMATTING, 0};
+
+const struct subcommand page_subcommand = {
+    .name = "page",
+    .does = "write a page on which lines of a digest can be pointed at",
+    .arguments = "[FILE] >PAGE",
+    .about = "Formats FILE, or standard input (also -), as `format' does, and writes a page\n"
+             "for a browser: the digest line by line; for the line that is pointed at, with\n"
+             "the mouse, a finger or the arrow keys, the notes that it comes from, byte for\n"
+             "byte, and why it ends where it does; and its last 24 lines as the wall panel\n"
+             "shows them. The page is one file, loads nothing and works without script too.\n"
+             "What stands in the notes is shown and takes no effect.\n",
+    .takes = TAKES,
+    .limits = "Damaged lines and lines over the width are listed first. Where there is no\n"
+              "digest, because FILE is refused or cannot be read, the page says so, and shows\n"
+              "the notes and the place in them.\n"
+              "\n"
+              "Limits: no more than 65536 bytes without an empty line, 1024 words in a\n"
+              "paragraph, and 65536 lines or 4 MiB of digest.\n",
+    .statuses = "0 the page shows a digest; 1 something was refused, not read or\n"
+                "not written; 2 a wrong call",
+    .draws = true,
+    .run = run_page,
+    .run_wrongly = run_page_wrongly,
+};

@@ -2,7 +2,7 @@
 #ifndef PAGE_H
 #define PAGE_H
 
-#include "wall.h"
+#include "panel.h"
 
 /* ---- markup.c: bytes as the text of a page */
 

@@ -1,6 +1,6 @@
 /* The panel as a picture, SVG for a screen of 1920 x 1080. A cell is a text of its own at the middle of its place: no font and no character of
  * another width moves a second cell. Letters that join, or are written from the right, are one text in the box of their cells. */
-#include "wall.h"
+#include "panel.h"
 
 /* A cell is 23 x 40, and so 80 by 24 of them 1840 x 960. */
 enum { WIDE = 1920, HIGH = 1080, CELL_WIDE = 23, CELL_HIGH = 40, LEFT = 44, TOP = 12, BASE = 31 };

@@ -2,12 +2,14 @@
  *
  * The library folds, and says how many columns a character takes and which byte is damaged. A line is at least one row, so of a long text only
  * as many lines as there are rows need be folded; the counts speak of all of it. */
-#include "wall.h"
+#include "panel.h"
+
+#include "lines.h"
 
 #include <string.h>
 
 /* A text, or its end. */
-struct part {
+struct stretch {
     const uint8_t *bytes; /* never null */
     size_t length;
 };
@@ -57,7 +59,7 @@ static bool is_blank_line(const uint8_t *line, size_t length, uint64_t tab) {
 }
 
 /* Where the text ends without the blank lines at its end, which are counted. */
-static size_t end_of_text(struct part text, uint64_t tab, size_t *blank) {
+static size_t end_of_text(struct stretch text, uint64_t tab, size_t *blank) {
     size_t end = text.length, begin;
     for (*blank = 0; end > 0; (*blank)++) {
         begin = line_before(text.bytes, end);
@@ -128,7 +130,7 @@ static bool runs_over(const uint8_t *line, size_t length, uint64_t tab, struct b
     return !fold(room, line, length, tab) || room->length > length;
 }
 
-static size_t cut_in(struct part text, uint64_t tab) {
+static size_t cut_in(struct stretch text, uint64_t tab) {
     struct lines lines = read_lines(text.bytes, text.length);
     struct buffer room = {0};
     size_t count = 0;
@@ -140,7 +142,7 @@ static size_t cut_in(struct part text, uint64_t tab) {
 
 /* Keeps the last rows of a folded part. A line feed that the part does not have at its place was put in, and what follows goes on with its
  * line. Answers where in the part the first row begins. */
-static size_t keep_last(struct rows *rows, struct part part, int most) {
+static size_t keep_last(struct rows *rows, struct stretch part, int most) {
     struct buffer *text = &rows->text;
     size_t top = lines_before(text->bytes, text->length, most), at = 0, begin = 0, i;
     bool continued = false, own;
@@ -161,7 +163,7 @@ static size_t keep_last(struct rows *rows, struct part part, int most) {
 }
 
 /* Each line as a row. */
-static bool copy_lines(struct rows *rows, struct part part) {
+static bool copy_lines(struct rows *rows, struct stretch part) {
     rows->text.length = 0;
     rows->count = (int)lines_in(part.bytes, part.length);
     memset(rows->continued, 0, sizeof rows->continued);
@@ -169,7 +171,7 @@ static bool copy_lines(struct rows *rows, struct part part) {
 }
 
 /* Lines that begin before the first row, and among them the damaged ones; then those of the rest. */
-static void count_lines(struct rows *rows, struct part text, size_t top) {
+static void count_lines(struct rows *rows, struct stretch text, size_t top) {
     struct counts *counts = &rows->counts;
     bool within = rows->count > 0 && rows->continued[0];
     size_t behind = within ? behind_line(text.bytes, text.length, top) : top;
@@ -180,9 +182,9 @@ static void count_lines(struct rows *rows, struct part text, size_t top) {
 }
 
 void find_rows(struct rows *rows, const struct buffer *buffer, uint64_t tab, bool cut, int most) {
-    struct part text = {buffer->length == 0 ? (const uint8_t *)"" : buffer->bytes, buffer->length};
+    struct stretch text = {buffer->length == 0 ? (const uint8_t *)"" : buffer->bytes, buffer->length};
     size_t end = end_of_text(text, tab, &rows->counts.blank), top = lines_before(text.bytes, end, most);
-    struct part part = {text.bytes + top, end - top};
+    struct stretch part = {text.bytes + top, end - top};
     rows->cut = cut || !fold(&rows->text, part.bytes, part.length, tab);
     if (!rows->cut)
         top += keep_last(rows, part, most);

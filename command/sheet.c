@@ -5,6 +5,10 @@
  * shows of the pieces the one that is pointed at. */
 #include "page.h"
 
+#include "numbers.h"
+#include "reasons.h"
+#include "say.h"
+
 #include <inttypes.h>
 #include <stdlib.h>
 #include <string.h>

@@ -1,7 +1,9 @@
 /* One drawing of the panel: the file is read and formatted, the panel made, and written wherever it is to be seen. */
 #define _POSIX_C_SOURCE 200809L
-#include "wall.h"
+#include "panel.h"
 
+#include "output.h"
+#include "say.h"
 #include "whole.h"
 
 #include <errno.h>
@@ -63,7 +65,7 @@ static enum outcome read_shown(const struct show *show, struct digest *digest, s
 
 /* A full disk is emptied, and a file system comes back; these do not pass. */
 static bool is_hopeless(int reason) {
-    static const int HOPELESS[] = {EISDIR, ENOTDIR, ENAMETOOLONG, ELOOP, EINVAL, EBADF, EPIPE, EEXIST};
+    static const int HOPELESS[] = {EISDIR, ENOTDIR, ENAMETOOLONG, ELOOP, EINVAL, EBADF, EPIPE};
     size_t i;
     for (i = 0; i < sizeof HOPELESS / sizeof HOPELESS[0]; i++)
         if (reason == HOPELESS[i])
@@ -112,7 +114,9 @@ static bool may_write_over(const char *name, const char *head) {
     return length == wanted && memcmp(found, head, wanted) == 0;
 }
 
-/* Answers 0, or the system's reason. A terminal or a pipe can take a part. */
+static const char STANDARD[] = "standard output";
+
+/* Answers 0, or the system's reason. What was written in part is begun anew on a line of its own. */
 static int write_standard(struct show *show, const char *bytes, size_t length) {
     ssize_t put;
     if (show->torn && !isatty(STDOUT_FILENO) && write(STDOUT_FILENO, "\n", 1) < 0)
@@ -152,12 +156,20 @@ static void tell(struct drawing *drawing, const char *name, int reason) {
         return;
     say_failure(name, reason);
     drawing->written = false;
-    drawing->hopeless = drawing->hopeless || is_hopeless(reason) || (reason == EIO && strcmp(name, "standard output") == 0);
+    drawing->hopeless = drawing->hopeless || is_hopeless(reason) || (reason == EIO && strcmp(name, STANDARD) == 0);
+}
+
+/* One drawing goes out as everything else does, into a file if so asked. */
+static void put_standard(struct show *show, struct drawing *drawing, const struct sheet *sheet) {
+    if (show->follow)
+        tell(drawing, STANDARD, write_standard(show, sheet->bytes, sheet->length));
+    else if (!draw_out(sheet->bytes, sheet->length) || !flush_out())
+        drawing->written = false;
 }
 
 static void write_sheet(struct show *show, struct drawing *drawing, const char *name, const char *head, const struct sheet *sheet) {
     if (strcmp(name, "-") == 0)
-        tell(drawing, "standard output", write_standard(show, sheet->bytes, sheet->length));
+        put_standard(show, drawing, sheet);
     else if (may_write_over(name, head))
         tell(drawing, name, write_whole(name, sheet->bytes, sheet->length) ? 0 : errno);
     else {
@@ -199,13 +211,16 @@ static void draw_output(struct show *show, struct drawing *drawing, const struct
     bool screen = whole_screen && view.terminal;
     struct sheet sheet;
     if (!open_sheet(&sheet)) {
-        tell(drawing, "standard output", ENOMEM);
+        tell(drawing, STANDARD, ENOMEM);
         return;
     }
     fputs(screen ? "\033[H\033[2J" : "", sheet.out);
     draw_text(sheet.out, panel, &view);
     fputs(screen ? "" : "\n", sheet.out);
-    tell(drawing, "standard output", close_sheet(&sheet) ? write_standard(show, sheet.bytes, sheet.length) : ENOMEM);
+    if (close_sheet(&sheet))
+        put_standard(show, drawing, &sheet);
+    else
+        tell(drawing, STANDARD, ENOMEM);
     if (!fits(&view))
         tell_small(drawing, &view);
     free(sheet.bytes);

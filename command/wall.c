@@ -1,6 +1,8 @@
 /* What every drawing tells: the rows, and below them how many lines there are, which are above, when it was drawn and of which file. */
 #define _POSIX_C_SOURCE 200809L
-#include "wall.h"
+#include "panel.h"
+
+#include "say.h"
 
 #include <stdlib.h>
 #include <string.h>

@@ -1,5 +1,5 @@
 /* Made by tools/page from page/picture.css, page/wall.css and page/wall.js: change those, and make it anew. */
-#include "wall.h"
+#include "panel.h"
 
 const char *const PICTURE_STYLE[] = {
     "text { font-family: 'DejaVu Sans Mono', 'Noto Sans Mono CJK SC', 'Noto Sans CJK SC', monospace; font-size: 36px; text-anchor: middle; fill: #f0f0f0; }\n",

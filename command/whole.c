@@ -2,8 +2,6 @@
 #define _XOPEN_SOURCE 700
 #include "whole.h"
 
-#include "buffer.h"
-
 #include <errno.h>
 #include <fcntl.h>
 #include <signal.h>
@@ -66,14 +64,15 @@ static bool follow_links(struct buffer *path, const char *name, struct stat *abo
     return false;
 }
 
-static bool write_all(int file, const char *bytes, size_t length) {
+bool write_all(int file, const void *bytes, size_t length) {
+    const char *next = bytes;
     ssize_t put;
     while (length > 0) {
-        put = write(file, bytes, length);
+        put = write(file, next, length);
         if (put < 0 && errno != EINTR)
             return false;
         if (put > 0)
-            bytes += put, length -= (size_t)put;
+            next += put, length -= (size_t)put;
     }
     return true;
 }
@@ -121,48 +120,112 @@ static bool sync_folder(const char *path) {
     return well;
 }
 
-/* Its name is short, so that a long one beside it does not matter. */
-static bool replace(const char *path, const struct stat *old, const void *bytes, size_t length) {
+/* ---- who ends the command meanwhile leaves nothing beside */
+
+static const int ENDING[] = {SIGINT, SIGTERM, SIGHUP, SIGQUIT};
+enum { ENDINGS = sizeof ENDING / sizeof ENDING[0] };
+static struct sigaction before[ENDINGS];
+static char *volatile left_behind = NULL;
+
+static void clean_up(int signal_number) {
+    if (left_behind != NULL)
+        unlink(left_behind);
+    signal(signal_number, SIG_DFL);
+    raise(signal_number);
+}
+
+/* A signal that is ignored stays so: the command was started to outlive its terminal, say. */
+static void guard(char *path) {
+    struct sigaction action;
+    size_t i;
+    memset(&action, 0, sizeof action);
+    action.sa_handler = clean_up;
+    sigemptyset(&action.sa_mask);
+    left_behind = path;
+    for (i = 0; i < ENDINGS; i++)
+        if (sigaction(ENDING[i], NULL, &before[i]) == 0 && before[i].sa_handler == SIG_DFL)
+            sigaction(ENDING[i], &action, NULL);
+}
+
+static void unguard(void) {
+    size_t i;
+    for (i = 0; i < ENDINGS; i++)
+        sigaction(ENDING[i], &before[i], NULL);
+    left_behind = NULL;
+}
+
+/* ---- the file */
+
+/* The name beside is short, so that a long one in that place does not matter. */
+static bool begin_beside(struct whole *whole, const struct stat *old) {
     static const char BESIDE[] = ".rudignals-XXXXXX";
-    struct buffer beside = {0};
-    int file = name_in(&beside, path, BESIDE, sizeof BESIDE - 1) ? mkstemp((char *)beside.bytes) : -1, reason;
-    bool well = file >= 0;
-    if (well) {
-        well = close_well(file, put_like(file, old) && write_all(file, bytes, length) && sync_file(file));
-        well = well && rename((char *)beside.bytes, path) == 0;
-        if (!well) {
-            reason = errno;
-            unlink((char *)beside.bytes);
-            errno = reason;
-        }
-        well = well && sync_folder(path);
+    if (!name_in(&whole->beside, (char *)whole->path.bytes, BESIDE, sizeof BESIDE - 1))
+        return false;
+    whole->file = mkstemp((char *)whole->beside.bytes);
+    if (whole->file < 0) {
+        buffer_free(&whole->beside);
+        return false;
     }
-    buffer_free(&beside);
-    return well;
+    guard((char *)whole->beside.bytes);
+    return put_like(whole->file, old);
 }
 
-static bool write_to(const char *path, const void *bytes, size_t length) {
-    int file = open(path, O_WRONLY | O_CLOEXEC);
-    return file >= 0 && close_well(file, write_all(file, bytes, length));
-}
-
-static bool write_file(const char *name, const void *bytes, size_t length) {
-    struct buffer path = {0};
+/* A file that may not be written to is not replaced either. */
+static bool begin(struct whole *whole, const char *name) {
     struct stat about;
-    bool there, well = follow_links(&path, name, &about, &there);
-    if (well && there && !S_ISREG(about.st_mode))
-        well = write_to((char *)path.bytes, bytes, length);
-    else if (well)
-        well = (!there || access((char *)path.bytes, W_OK) == 0) && replace((char *)path.bytes, there ? &about : NULL, bytes, length);
-    buffer_free(&path);
+    bool there;
+    if (!follow_links(&whole->path, name, &about, &there))
+        return false;
+    if (there && !S_ISREG(about.st_mode)) {
+        whole->file = open((char *)whole->path.bytes, O_WRONLY | O_CLOEXEC);
+        return whole->file >= 0;
+    }
+    return (!there || access((char *)whole->path.bytes, W_OK) == 0) && begin_beside(whole, there ? &about : NULL);
+}
+
+bool begin_whole(struct whole *whole, const char *name) {
+    *whole = (struct whole){.file = -1};
+    return begin(whole, name) || end_whole(whole, false);
+}
+
+bool add_whole(struct whole *whole, const void *bytes, size_t length) { return write_all(whole->file, bytes, length); }
+
+static bool put_in_place(struct whole *whole, bool well) {
+    const char *beside = (char *)whole->beside.bytes, *path = (char *)whole->path.bytes;
+    int reason;
+    well = close_well(whole->file, well && sync_file(whole->file)) && rename(beside, path) == 0;
+    if (!well) {
+        reason = errno;
+        unlink(beside);
+        errno = reason;
+    }
+    unguard();
+    return well && sync_folder(path);
+}
+
+/* Where it fails before, errno is that of the failure. */
+bool end_whole(struct whole *whole, bool well) {
+    int reason;
+    if (whole->beside.length > 0)
+        well = put_in_place(whole, well);
+    else if (whole->file >= 0)
+        well = close_well(whole->file, well);
+    reason = errno;
+    buffer_free(&whole->path);
+    buffer_free(&whole->beside);
+    errno = reason;
     return well;
+}
+
+bool write_whole(const char *name, const void *bytes, size_t length) {
+    struct whole whole;
+    return begin_whole(&whole, name) && end_whole(&whole, add_whole(&whole, bytes, length));
 }
 
 /* The name is taken first, by an empty file, so that nobody else's can get it. */
-static bool write_new_file(const char *name, const void *bytes, size_t length) {
+bool write_new(const char *name, const void *bytes, size_t length) {
     int file = open(name, O_WRONLY | O_CREAT | O_EXCL | O_CLOEXEC, 0666), reason;
-    struct stat about;
-    bool well = file >= 0 && close_well(file, fstat(file, &about) == 0) && replace(name, &about, bytes, length);
+    bool well = file >= 0 && close_well(file, true) && write_whole(name, bytes, length);
     if (file >= 0 && !well) {
         reason = errno;
         unlink(name);
@@ -170,25 +233,3 @@ static bool write_new_file(const char *name, const void *bytes, size_t length) {
     }
     return well;
 }
-
-/* Who ends the command meanwhile ends it behind this: so no file is left beside. */
-static bool undisturbed(bool (*write)(const char *, const void *, size_t), const char *name, const void *bytes, size_t length) {
-    static const int ENDING[] = {SIGINT, SIGTERM, SIGHUP, SIGQUIT};
-    sigset_t ending, before;
-    size_t i;
-    int reason;
-    bool well;
-    sigemptyset(&ending);
-    for (i = 0; i < sizeof ENDING / sizeof ENDING[0]; i++)
-        sigaddset(&ending, ENDING[i]);
-    sigprocmask(SIG_BLOCK, &ending, &before);
-    well = write(name, bytes, length);
-    reason = errno;
-    sigprocmask(SIG_SETMASK, &before, NULL);
-    errno = reason;
-    return well;
-}
-
-bool write_whole(const char *name, const void *bytes, size_t length) { return undisturbed(write_file, name, bytes, length); }
-
-bool write_new(const char *name, const void *bytes, size_t length) { return undisturbed(write_new_file, name, bytes, length); }

@@ -21,7 +21,7 @@ def several(folder):
     expect("standard input twice", run(["-", "-"], b"x\ny\n"), (0, b"x y\n", ""))
     expect("a file named as an option", run(["--", "-c"], cwd=folder), (0, b"e f\n", ""))
     expect("a missing file", run(["one", "none", "two"], cwd=folder), (1, b"a b\nc d\n", "fmt: none: No such file or directory\n"))
-    expect("an odd name", run(["a\nb\x1b[31m"], cwd=folder), (1, b"", "fmt: a?b?[31m: No such file or directory\n"))
+    expect("an odd name", run(["a\nb\x1b[31m"], cwd=folder), (1, b"", "fmt: a^Jb^[[31m: No such file or directory\n"))
     expect("a folder", run([".", "two"], cwd=folder), (1, b"c d\n", "fmt: .: Is a directory\n"))
     expect("a refused file", run(["one", "bad", "two"], cwd=folder), (1, b"a b\nc d\n", "fmt: bad: line 2, column 1: byte B0 " + DAMAGED))
     expect("refused options, before any file", run(["-w", "5", "none"], cwd=folder)[2], "fmt: --width 5: must be 6 to 1000 without --goal\n")
@@ -82,10 +82,11 @@ def no_memory(folder):
         "void *__wrap_realloc(void *old, size_t n) { return n > 200000 ? NULL : __real_realloc(old, n); }\n"
     )
     poor = link(folder, "poor", "-Wl,--wrap=realloc", *SOURCES, str(folder / "poor.c"))
-    cases = [("one part", b" " * 2000 + b"a " * 1000), ("some parts", b"a\n\n" * 90000), ("the next room", b"\n\n".join(letter * 65000 for letter in (b"a", b"b", b"c")))]
-    for what, notes in cases:
+    text, notes_themselves = "no memory for the formatted text", "Cannot allocate memory"
+    cases = [("one part", b" " * 2000 + b"a " * 1000, text), ("short notes, which are kept", b"a\n\n" * 90000, notes_themselves)]
+    for what, notes, why in cases:
         (folder / "grows").write_bytes(notes)
-        words = "rudignals: grows: no memory for the formatted text\n"
+        words = f"rudignals: grows: {why}\n"
         expect(f"no memory, {what}", run(["format", "-w6", "grows", "-"], b"x\ny\n", poor, cwd=folder), (1, b"x y\n", words))
 
 

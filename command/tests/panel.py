@@ -206,7 +206,7 @@ def dated(folder):
         wanted = time.strftime("%Y-%m-%d %H:%M:%S", time.localtime(then))
         expect(f"changed {seconds} seconds ago", changed, wanted if day or wanted[:10] != drawn[:10] else wanted[11:])
     names = "a" * 50, "三" * 20, "tab\tand\nfeed\x1b[31m"
-    for name, told in zip(names, ("a" * 34 + "+", "三" * 17 + "+", "tab?and?feed?[31m")):
+    for name, told in zip(names, ("a" * 34 + "+", "三" * 17 + "+", "tab^Iand^Jfeed^[[31m")):
         (folder / name).write_bytes(b"x\n")
         wanted = f" drawn NOW, changed {time.strftime('%H:%M:%S')}"
         status, output, errors = shown([name], cwd=folder)
@@ -222,8 +222,8 @@ FAILURES = [
     (["none"], b"", f"none: {NO_SUCH}", [f"none: {NO_SUCH}", READING], "not read", "none", 1),
     (["-w", "5"], b"a\n", "--width 5: must be 6 to 1000 without --goal", None, "refused", "standard input", 2),
     (["-T", "101"], b"a\n", "--tab-width 101: must be 0 to 100", ["--tab-width 101: must be 0 to 100", REFUSING], "refused", "standard input", 2),
-    (["a\nb\x1b[31m"], b"", f"a?b?[31m: {NO_SUCH}", [f"a?b?[31m: {NO_SUCH}", READING], "not read", "a?b?[31m", 1),
-    (["a\u009b31m"], b"", f"a??31m: {NO_SUCH}", [f"a??31m: {NO_SUCH}", READING], "not read", "a??31m", 1),
+    (["a\nb\x1b[31m"], b"", f"a^Jb^[[31m: {NO_SUCH}", [f"a^Jb^[[31m: {NO_SUCH}", READING], "not read", "a^Jb^[[31m", 1),
+    (["a\u009b31m"], b"", f"a<U+009B>31m: {NO_SUCH}", [f"a<U+009B>31m: {NO_SUCH}", READING], "not read", "a<U+009B>31m", 1),
     (["n" * 90], b"", "n" * 90 + f": {NO_SUCH}", ["n" * 80, "n" * 10 + ":", NO_SUCH, READING], "not read", "n" * 52 + "+", 1),
     (["a" * 10 + " " + "b" * 69], b"", " ".join(PARTED[:-1]), PARTED, "not read", "a" * 10 + " " + "b" * 41 + "+", 1),
     (["三号.txt"], b"", f"三号.txt: {NO_SUCH}", None, "not read", "三号.txt", 1),

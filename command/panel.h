@@ -1,9 +1,10 @@
 /* What the files of the wall panel share; the page has the first three too. */
-#ifndef WALL_H
-#define WALL_H
+#ifndef PANEL_H
+#define PANEL_H
 
-#include "command.h"
+#include "digest.h"
 
+#include <stdio.h>
 #include <time.h>
 
 /* ---- rows.c: the end of a text as rows of the panel */
