@@ -12,7 +12,9 @@
 static const struct option_row ROWS[] = {
     {TEXT, "text", NULL, "as text in a frame; this is the default", 0},
     {SVG, "svg", "PICTURE", "as a picture, 1920 x 1080; - is standard output", 0},
-    {FOLLOW, "follow", NULL, "draw again whenever FILE changes, until a signal\n(Ctrl-C) ends it", 0},
+    {HTML, "html", "PAGE", "as a page for a browser that fills a wall: it reads\nitself anew, and turns red when it is over two\nminutes old; - is standard output", 0},
+    {FOLLOW, "follow", NULL, "draw again whenever FILE changes, and at least every\nminute, until a signal (Ctrl-C) ends it", 0},
+    {CUT, "cut", NULL, "a line is one row, and what runs past column 80 is\ncut; else it is folded", 0},
     {LINE, "line", "LINE", "show the notes under output line LINE instead", 0},
     {JSON, "json", NULL, "write JSON Lines, an object a line, for programs", 0},
     {PAIRS, "pairs", "LIST", "take the pairs from LIST, a pair a line, a tab between\nthe names; - is standard input", 0},

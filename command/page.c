@@ -147,7 +147,7 @@ static bool write_page(const struct page *page, enum outcome outcome, const char
 
 /* A page that says why there is no digest: an empty one would look like a quiet night. */
 static int write_failure(struct page *page, enum outcome outcome, const char *reason, int status) {
-    put_failure(&page->panel, outcome, reason, page->label);
+    put_failure(&page->panel, &page->facts, outcome, reason, NULL, 8, true);
     return write_page(page, outcome, reason) ? status : FAILED;
 }
 
@@ -171,7 +171,7 @@ static int page_of(struct page *page, const char *name) {
     }
     if (outcome != MADE)
         return write_failure(page, outcome, last_said(), FAILED);
-    put_digest(&page->panel, &digest, tab_of(page->options), page->label);
+    put_digest(&page->panel, &page->facts, &digest.text, tab_of(page->options), true);
     return write_page(page, MADE, NULL) ? WELL : FAILED;
 }
 
@@ -181,6 +181,7 @@ static int run_page(const struct options *options) {
     int status;
     page.options = options;
     page.label = label_of(name);
+    page.facts = facts_of(name);
     if (!options_accepted(options))
         return write_failure(&page, REFUSED, last_said(), WRONG_CALL);
     if (options->count > 1) {
@@ -198,6 +199,7 @@ static int run_page_wrongly(const struct options *options) {
     static struct page page;
     page.options = options;
     page.label = "the notes";
+    page.facts = facts_of("-");
     return write_failure(&page, NOT_READ, "rudignals page was called wrongly, and said why on standard error", WRONG_CALL);
 }
 

@@ -49,6 +49,7 @@ struct page {
     size_t pieces_len;
     struct line *lines;
     size_t lines_len;
+    struct facts facts;
     struct panel panel;
 };
 
@@ -60,8 +61,5 @@ void put_failed_page(FILE *out, const struct page *page, enum outcome outcome, c
 
 extern const char *const PAGE_STYLE[], *const PAGE_SCRIPT[];
 extern const char PAGE_STYLE_HASH[], PAGE_SCRIPT_HASH[];
-/* and those of an audit's report */
-extern const char *const REPORT_STYLE[], *const REPORT_SCRIPT[];
-extern const char REPORT_STYLE_HASH[], REPORT_SCRIPT_HASH[];
 
 #endif

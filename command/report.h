@@ -22,4 +22,9 @@ void report_pair(struct report *report, const struct audit *audit, const struct 
 /* The page, with the names of what was audited and the time. Answers false, with errno, if it could not be made. */
 bool end_report(struct report *report, const struct audit *audit, const char *notes, const char *digests, const char *time, struct buffer *page);
 
+/* ---- report_assets.c, made by tools/page */
+
+extern const char *const REPORT_STYLE[], *const REPORT_SCRIPT[];
+extern const char REPORT_STYLE_HASH[], REPORT_SCRIPT_HASH[];
+
 #endif
