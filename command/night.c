@@ -1,0 +1,207 @@
+/* rudignals night: digest, mail, page and wall of each file of notes, whole and in their place. */
+#define _POSIX_C_SOURCE 200809L
+#include "night.h"
+
+#include "cut.h"
+#include "lines.h"
+#include "say.h"
+#include "subcommand.h"
+
+#include <errno.h>
+#include <stdio.h>
+#include <stdlib.h>
+#include <string.h>
+#include <sys/wait.h>
+
+/* ---- the digest of notes in memory */
+
+static bool write_digest_part(struct night *night, const struct part *part, uint64_t answer) {
+    struct buffer *text = &night->digest.text;
+    uint64_t dashes = 0;
+    if (!buffer_room(text, rudignals_number_of(answer)))
+        return false;
+    text->length += rudignals_number_of(write_part(night->options, false, part, text->bytes + text->length, rudignals_number_of(answer), &dashes));
+    return true;
+}
+
+/* Once something is refused no more is written, but a lower code may still come. Answers false without memory. */
+static bool digest_notes(struct night *night) {
+    struct refusal *refusal = &night->digest.refusal;
+    struct part part = {night->notes.bytes, 0, 0, 0};
+    uint64_t answer;
+    night->digest.text.length = 0;
+    refusal->code = RUDIGNALS_DONE;
+    while (part.bytes_before < night->notes.length) {
+        part.bytes = night->notes.bytes + part.bytes_before;
+        part.length = first_part(part.bytes, night->notes.length - part.bytes_before, true);
+        if (part.length == 0) {
+            refuse_uncut(refusal, &part);
+            return true;
+        }
+        answer = measure_part(night->options, false, &part);
+        refuse_part(refusal, &part, answer);
+        if (refusal->code == RUDIGNALS_DONE && !write_digest_part(night, &part, answer))
+            return false;
+        part.bytes_before += part.length;
+        part.lines_before += feeds(part.bytes, part.length);
+    }
+    return true;
+}
+
+/* ---- a night */
+
+static void fail(struct night *night, enum outcome outcome) {
+    night->outcome = outcome;
+    night->reason = words("%s", last_said());
+}
+
+static void read_notes(struct night *night) {
+    night->notes.length = 0;
+    night->outcome = MADE;
+    if (!read_whole(night->name, &night->notes)) {
+        say_failure(night->name, errno);
+        night->notes.length = 0;
+        fail(night, NOT_READ);
+    } else if (!digest_notes(night)) {
+        say_failure(night->name, ENOMEM);
+        fail(night, NOT_READ);
+    } else if (night->digest.refusal.code != RUDIGNALS_DONE) {
+        say_refusal(night->name, &night->digest.refusal);
+        night->digest.text.length = 0;
+        fail(night, REFUSED);
+    }
+}
+
+/* What the command says of how it went is said again here: a mail that nobody got is no mail. */
+static bool hand_on(const char *command, const struct buffer *mail) {
+    FILE *to = popen(command, "w");
+    bool well = to != NULL && fwrite(mail->bytes, 1, mail->length, to) == mail->length;
+    int status;
+    well = to != NULL && fflush(to) == 0 && well;
+    status = to == NULL ? -1 : pclose(to);
+    if (well && status == 0)
+        return true;
+    if (status > 0 && WIFEXITED(status))
+        say("the mail was not sent: `%s' ended with status %d", command, WEXITSTATUS(status));
+    else
+        say("the mail was not sent by `%s'", command);
+    return false;
+}
+
+static bool make_night(struct night *night, const struct nights *nights, const char *name) {
+    const char *slash = strrchr(name, '/'), *command = night->options->value[SENDMAIL];
+    bool put;
+    night->name = name;
+    night->label = slash == NULL ? name : slash + 1;
+    night->facts = facts_of(name);
+    night->counts = (struct counts){0};
+    read_notes(night);
+    put = make_outputs(night);
+    if (!put)
+        say_failure(name, errno);
+    put = put && put_night(nights, night);
+    if (put && command != NULL)
+        put = hand_on(command, &night->output[DIGEST_EML]);
+    free(night->reason);
+    night->reason = NULL;
+    return put && night->outcome == MADE;
+}
+
+static void free_night(struct night *night) {
+    size_t i;
+    for (i = 0; i < OUTPUTS; i++)
+        buffer_free(&night->output[i]);
+    buffer_free(&night->notes);
+    buffer_free(&night->digest.text);
+}
+
+/* ---- the call */
+
+static const char *own_name(const char *name) {
+    const char *slash = strrchr(name, '/');
+    return slash == NULL ? name : slash + 1;
+}
+
+/* Two files of one name would have one folder. */
+static const char *named_twice(const struct options *options) {
+    int i, j;
+    for (i = 0; i < options->count; i++)
+        for (j = 0; j < i; j++)
+            if (strcmp(own_name(options->files[i]), own_name(options->files[j])) == 0)
+                return options->files[i];
+    return NULL;
+}
+
+static const char *nameless(const struct options *options) {
+    int i;
+    for (i = 0; i < options->count; i++) {
+        const char *own = own_name(options->files[i]);
+        if (*own == '\0' || *own == '.' || strcmp(options->files[i], "-") == 0)
+            return options->files[i];
+    }
+    return NULL;
+}
+
+static bool goes_together(const struct options *options) {
+    const char *from = options->value[MAIL_FROM], *to = options->value[MAIL_TO];
+    if (options->value[TO] == NULL)
+        say("--to FOLDER is missing");
+    else if (options->count == 0)
+        say("a file of notes must be named");
+    else if (nameless(options) != NULL)
+        say("%s: gives a folder no name", nameless(options));
+    else if (named_twice(options) != NULL)
+        say("%s: another file has the same name, and a night is a folder of that name", named_twice(options));
+    else if ((from != NULL && !is_address(from)) || (to != NULL && !is_address(to)))
+        say("%s: is no address, as name@host or Name <name@host>", from != NULL && !is_address(from) ? from : to);
+    else
+        return true;
+    return false;
+}
+
+static int run_night(const struct options *options) {
+    static struct night night;
+    struct nights nights;
+    bool well = true;
+    int i;
+    if (!options_accepted(options))
+        return WRONG_CALL;
+    if (!goes_together(options))
+        return wrong_call();
+    if (!open_nights(&nights, options->value[TO]))
+        return FAILED;
+    night.options = options;
+    for (i = 0; i < options->count; i++)
+        well = make_night(&night, &nights, options->files[i]) && well;
+    free_night(&night);
+    close_nights(&nights);
+    return well ? WELL : FAILED;
+}
+
+static const int TAKES[] = {TO, MAIL_FROM, MAIL_TO, MAIL_SUBJECT, ATTACH_PAGE, SENDMAIL, FORMATTING, 0};
+
+const struct subcommand night_subcommand = {
+    .name = "night",
+    .does = "make digest, mail, page and wall of notes, in a folder",
+    .arguments = "NOTES...",
+    .about = "Makes of each file of notes, in a folder of its name below FOLDER:\n"
+             "\n"
+             "  digest.txt   the digest, as `format' writes it\n"
+             "  digest.eml   the digest as a whole mail, the notes attached\n"
+             "  page.html    the page that `page' writes\n"
+             "  wall.svg, wall.html\n"
+             "               the wall panel, as `panel --svg' and `--html' draw it\n"
+             "  index.json   which notes each line comes from\n"
+             "  status.json  version, options, sizes, counts and times\n"
+             "\n"
+             "All of them are put in their place in one step: whoever looks sees the old\n"
+             "night or the new one, whole. Notes that are refused or cannot be read are told\n"
+             "by every one of these files, with the place and the reason, and the notes as\n"
+             "they are; no file is empty unless the notes are.\n",
+    .takes = TAKES,
+    .limits = "A run that was broken off leaves the old night, and the next one cleans up.\n"
+              "Where -c, -t, -m or -p is given the mail has the digest's own lines; else they\n"
+              "flow.\n",
+    .statuses = "0 every night was made; " STATUSES,
+    .run = run_night,
+};
