@@ -124,6 +124,7 @@ const struct subcommand check_subcommand = {
     .statuses = "0 accepted; 1 not accepted; 2 could not be judged: refused, not\n"
                 "read, not written or a wrong call",
     .draws = true,
+    .quiet = true,
     .unwritten = NOT_JUDGED,
     .run = run_check,
 };

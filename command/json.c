@@ -5,13 +5,15 @@
 
 #include <string.h>
 
-/* What must be escaped, and what is better seen than acting. */
+/* What must be escaped, and what would act where it is shown. */
 static bool add_character(struct buffer *buffer, uint32_t character, const uint8_t *bytes, size_t length) {
     if (character == '"' || character == '\\')
         return buffer_print(buffer, "\\%c", (char)character);
-    if (character < ' ' || (character >= 0x7F && character <= 0x9F) || character == 0x2028 || character == 0x2029)
+    if (character >= ' ' && character != 0x7F && !acts(character))
+        return buffer_add(buffer, bytes, length);
+    if (character < 0x10000)
         return buffer_print(buffer, "\\u%04X", (unsigned)character);
-    return buffer_add(buffer, bytes, length);
+    return buffer_print(buffer, "\\u%04X\\u%04X", 0xD7C0 + (unsigned)(character >> 10), 0xDC00 + (unsigned)(character & 0x3FF));
 }
 
 /* Answers false also where a byte is part of no character and none is to stand for it. */

@@ -19,7 +19,7 @@ enum { ENOUGH = 1 << 16 };
 static const char *file_name = NULL; /* null: standard output */
 static struct whole whole;
 static struct buffer waiting;
-static bool begun = false, failed = false, closed_from_start = false;
+static bool touched = false, begun = false, failed = false, closed_from_start = false;
 
 /* Reading from the one, or writing to the other, fails as it would if the number were free. */
 void hold_streams(void) {
@@ -39,6 +39,8 @@ void set_output(const char *name) { file_name = name != NULL && strcmp(name, "-"
 bool output_is_terminal(void) { return file_name == NULL && isatty(STDOUT_FILENO); }
 
 bool output_failed(void) { return failed; }
+
+bool output_begun(void) { return touched; }
 
 static bool written(bool well) {
     if (!well && !failed)
@@ -69,6 +71,7 @@ static bool empty_buffer(void) {
 
 /* What is long goes out by itself. */
 bool draw_out(const void *bytes, size_t length) {
+    touched = true;
     if (failed || (waiting.length + length > ENOUGH && !empty_buffer()))
         return false;
     if (length > ENOUGH)

@@ -21,10 +21,12 @@ bool draw_out(const void *bytes, size_t length);
 bool flush_out(void);
 /* Was it told that something was not written? */
 bool output_failed(void);
+/* Was there anything to write? */
+bool output_begun(void);
 
 /* Has all of it arrive now, a file too; nothing more may be written. */
 bool end_output(void);
-/* The same, if that was not done; a file is left as it was unless it is wanted. Answers false if something has not arrived. */
+/* The same, if that was not done; a file that is not wanted is left as it was. Answers false if something has not arrived. */
 bool close_output(bool wanted);
 
 #endif

@@ -10,10 +10,16 @@
 static bool is(const char *word, const char *name) { return strcmp(word, name) == 0; }
 
 /* What did not arrive counts, unless something worse was found. */
-static int closed(int status, int unwritten, bool wanted) {
-    if (unwritten == WELL)
-        unwritten = FAILED;
-    return close_output(wanted) || status > unwritten ? status : unwritten;
+static int closed(int status, int unwritten, bool wanted) { return close_output(wanted) || status > unwritten ? status : unwritten; }
+
+/* With -o the file is written if all is well; a drawing of what is not, too. */
+static int closed_for(const struct subcommand *chosen, const struct options *options, int status) {
+    bool wanted = status == WELL || (chosen->draws && output_begun());
+    if (chosen->quiet && !output_begun())
+        return status;
+    if (!wanted && status == FAILED && options->value['o'] != NULL && !output_failed())
+        say("%s: is not written", options->value['o']);
+    return closed(status, chosen->unwritten == WELL ? FAILED : chosen->unwritten, wanted);
 }
 
 static int run_wrongly(const struct subcommand *chosen, const struct options *options) {
@@ -32,7 +38,7 @@ static int run(const struct subcommand *chosen, int argc, char **argv) {
         return closed(show_version(), FAILED, true);
     set_output(options.value['o']);
     status = asked == ASKED_WORK ? chosen->run(&options) : run_wrongly(chosen, &options);
-    return closed(status, chosen->unwritten, status == WELL || chosen->draws);
+    return closed_for(chosen, &options, status);
 }
 
 static int run_named(int argc, char **argv) {

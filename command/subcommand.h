@@ -15,7 +15,8 @@ struct subcommand {
     const char *limits;    /* what else is to be known of it; null: nothing */
     const char *statuses;  /* behind `Exit status: ` */
     const char *words;     /* what its first argument may be, parted by blanks; null: files */
-    bool draws;            /* what it writes tells of failures too: so -o writes its file then as well */
+    bool draws;            /* what it writes tells of failures too: then -o writes its file as well */
+    bool quiet;            /* it may have nothing to write, and then no matter where to */
     int unwritten;         /* its status where what it wrote does not arrive; 0: FAILED */
     int (*run)(const struct options *options);
     int (*run_wrongly)(const struct options *options); /* behind what was said of a wrong call; null: no more than that */

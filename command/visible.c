@@ -19,8 +19,8 @@ size_t character_at(const uint8_t *bytes, size_t length, uint32_t *character) {
     return *character < LEAST[wanted] || (*character >= 0xD800 && *character <= 0xDFFF) || *character > 0x10FFFF ? 0 : wanted;
 }
 
-/* Directions, separators, the mark of byte order, annotations and tags: not seen, and acting on what is. */
-static bool acts(uint32_t c) {
+/* Controls of two bytes, directions, separators, the mark of byte order, annotations and tags. */
+bool acts(uint32_t c) {
     return (c >= 0x80 && c <= 0x9F) || c == 0x61C || c == 0x180E || (c >= 0x200E && c <= 0x200F) || (c >= 0x2028 && c <= 0x202E) ||
            (c >= 0x2060 && c <= 0x206F) || c == 0xFEFF || (c >= 0xFFF9 && c <= 0xFFFB) || (c >= 0xE0000 && c <= 0xE0FFF);
 }

@@ -11,6 +11,8 @@ bool add_visible(struct buffer *buffer, const void *bytes, size_t length);
 /* The same for one line: line feeds, tabs and carriage returns are written out too. */
 bool add_visible_line(struct buffer *buffer, const void *bytes, size_t length);
 
+/* A character beyond ASCII that is not seen and acts on what is. */
+bool acts(uint32_t character);
 /* The character that begins there, and its length; 0 if none does. */
 size_t character_at(const uint8_t *bytes, size_t length, uint32_t *character);
 

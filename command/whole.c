@@ -174,12 +174,12 @@ static bool begin_beside(struct whole *whole, const struct stat *old) {
 static bool begin(struct whole *whole, const char *name) {
     struct stat about;
     bool there;
-    if (!follow_links(&whole->path, name, &about, &there))
-        return false;
-    if (there && !S_ISREG(about.st_mode)) {
-        whole->file = open((char *)whole->path.bytes, O_WRONLY | O_CLOEXEC);
+    if (stat(name, &about) == 0 && !S_ISREG(about.st_mode)) {
+        whole->file = open(name, O_WRONLY | O_CLOEXEC);
         return whole->file >= 0;
     }
+    if (!follow_links(&whole->path, name, &about, &there))
+        return false;
     return (!there || access((char *)whole->path.bytes, W_OK) == 0) && begin_beside(whole, there ? &about : NULL);
 }
 

@@ -1,12 +1,11 @@
 """Files and streams, whole and broken."""
 import fcntl
 import os
-import platform
 import shutil
 import subprocess
 import time
 
-from .calls import FMT, RUDIGNALS, SOURCES, expect, link, run
+from .calls import FMT, ROOT, RUDIGNALS, SANITIZED, SOURCES, expect, link, run
 from .words import DAMAGED, LONG
 
 
@@ -91,26 +90,38 @@ def no_memory(folder):
 
 
 def copied(folder):
-    """The program itself: it may be copied, and linked to, anywhere. On another processor a script calls an emulator, and only links go."""
+    """The program itself: it may be copied, and linked to, anywhere."""
     other = folder / "elsewhere"
     other.mkdir()
     (other / "fmt").symlink_to(RUDIGNALS)
     (other / "twice").symlink_to(other / "fmt")
     expect("a link named fmt", run([], b"a\nb\n", str(other / "fmt")), (0, b"a b\n", ""))
     expect("a link of another name", run(["format"], b"a\nb\n", str(other / "twice")), (0, b"a b\n", ""))
-    if platform.machine() == "x86_64":
-        expect("the program itself", open(RUDIGNALS, "rb").read(4), b"\x7fELF")
-        for name, arguments in ("copy", ["format"]), ("fmt", []):
-            (other / name).unlink(missing_ok=True)
-            shutil.copy(RUDIGNALS, other / name)
-            expect(f"a copy named {name}", run(arguments, b"a\nb\n", str(other / name)), (0, b"a b\n", ""))
+    expect("the program itself", open(RUDIGNALS, "rb").read(4), b"\x7fELF")
+    for name, arguments in ("copy", ["format"]), ("fmt", []):
+        (other / name).unlink(missing_ok=True)
+        shutil.copy(RUDIGNALS, other / name)
+        expect(f"a copy named {name}", run(arguments, b"a\nb\n", str(other / name)), (0, b"a b\n", ""))
 
 
-def run_all(folder):
-    several(folder)
-    read_in_pieces()
-    endless()
-    not_written()
-    closed(folder)
-    no_memory(folder)
-    copied(folder)
+def built_while_it_runs(folder):
+    """`make' while the command runs: the one that runs goes on, and the new one is in its place."""
+    child = subprocess.Popen([RUDIGNALS, "format"], stdin=subprocess.PIPE, stdout=subprocess.PIPE)
+    time.sleep(0.2)
+    for program in (RUDIGNALS, str(folder / "program")):
+        before = os.stat(RUDIGNALS).st_ino
+        words = [str(ROOT / "command/build"), *(["--sanitized"] if SANITIZED else [])] if program == RUDIGNALS else [str(ROOT / "tools/link"), program, *SOURCES]
+        for _ in range(2):
+            other = subprocess.Popen([program, "format"], stdin=subprocess.PIPE, stdout=subprocess.PIPE) if os.path.exists(program) else None
+            time.sleep(0.2)
+            done = subprocess.run(words, capture_output=True)
+            expect(f"{os.path.basename(words[0])} while the command runs", (done.returncode, done.stderr), (0, b""))
+            if other:
+                expect("which goes on", (other.communicate(b"a\nb\n")[0], other.returncode), (b"a b\n", 0))
+        expect("another file stands in its place", os.stat(RUDIGNALS).st_ino != before, program == RUDIGNALS)
+    expect("the one that ran goes on", (child.communicate(b"a\nb\n")[0], child.returncode), (b"a b\n", 0))
+    left = [name for name in [*os.listdir(os.path.dirname(RUDIGNALS)), *os.listdir(folder)] if name.endswith(".new")]
+    expect("nothing is left beside", left, [])
+
+
+ALL = [several, read_in_pieces, endless, not_written, closed, no_memory, copied, built_while_it_runs]

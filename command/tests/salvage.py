@@ -90,6 +90,4 @@ def refused(folder):
         expect(f"{name}: --help", (status, words.startswith(f"Usage: rudignals {name} [OPTION]... LIST [FILE]\n".encode()), errors), (0, True, ""))
 
 
-def run_all(folder):
-    there_and_back(folder)
-    refused(folder)
+ALL = [there_and_back, refused]

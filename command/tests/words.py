@@ -108,8 +108,4 @@ def versions():
             expect(f"{arguments}", (status, bool(re.fullmatch(rb"rudignals \d+\.\d+\.\d+\n", output)), errors), (0, True, ""))
 
 
-def run_all():
-    refusals()
-    subcommands()
-    helps()
-    versions()
+ALL = [refusals, subcommands, helps, versions]
