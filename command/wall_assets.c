@@ -20,7 +20,7 @@ const char *const PICTURE_STYLE[] = {
     NULL,
 };
 
-const char WALL_STYLE_HASH[] = "DSsFIe+/mB279bymUIqTixOEuePlGdysVaoyr0fltHU=";
+const char WALL_STYLE_HASH[] = "1uvSeAGeAPNJvLAtdfORC8C4KF4TgZGCj0wPUwLzrOo=";
 
 const char *const WALL_STYLE[] = {
     "text { font-family: 'DejaVu Sans Mono', 'Noto Sans Mono CJK SC', 'Noto Sans CJK SC', monospace; font-size: 36px; text-anchor: middle; fill: #f0f0f0; }\n",
@@ -43,8 +43,8 @@ const char *const WALL_STYLE[] = {
     "iframe { z-index: 1; }\n",
     ".shown { z-index: 2; }\n",
     ".seen > svg { visibility: hidden; }\n",
-    ".old > svg, .old > iframe { top: 17%; height: 83%; }\n",
-    "#old { display: none; position: fixed; z-index: 3; inset: 0; margin: 0; border: 2vmin solid #e00000; background: rgb(190 0 0 / 40%); color: #fff; font: bold 7vmin/1.15 'DejaVu Sans', 'Noto Sans', sans-serif; text-align: center; }\n",
+    ".old > svg, .old > iframe { inset: 17% 2vmin 2vmin; width: calc(100% - 4vmin); height: calc(83% - 2vmin); }\n",
+    "#old { display: none; position: fixed; z-index: 3; inset: 0; margin: 0; border: 2vmin solid #e00000; background: rgb(200 0 0 / 30%); color: #fff; font: bold 7vmin/1.15 'DejaVu Sans', 'Noto Sans', sans-serif; text-align: center; }\n",
     ".old #old { display: block; }\n",
     "#old span { display: flex; flex-direction: column; justify-content: center; height: calc(17vh - 2vmin); background: #c00000; }\n",
     "#old small { display: block; font-size: 3vmin; font-weight: normal; }\n",

@@ -27,6 +27,8 @@ WITH_NOTES = "REFUSED: not formatted; above is the end of the notes as they are"
 ZONE = "XST-5:45"  # the panel's times are those of the place where it stands
 DAY = time.struct_time((2026, 1, 2, 3, 4, 5, 0, 0, 0))
 OF_DAY = "2026-01-02 03:04:05"
+os.environ["TZ"] = ZONE
+time.tzset()
 
 
 def panel(arguments, notes=b"", **more):
@@ -758,46 +760,17 @@ def on_small_disk(folder, disk):
     expect("a disk that went, said once", ended(child), (0, f"rudignals: small/notes: {NO_SUCH}\n"))
 
 
-class Standing:
-    """A wall whose notes do not change is drawn anew all the same: begun before the other tests, looked at behind them."""
-
-    def __init__(self, folder):
-        self.wall = folder / "standing.svg"
-        (folder / "standing").write_bytes(b"quiet\n")
-        self.child = follower(["--svg", "standing.svg", "standing"], folder)
-        wait_until(self.wall.exists)
-        self.first, self.began = self.drawn(), time.monotonic()
-
-    def drawn(self):
-        return moment(re.search(r"drawn (\S+ \S+),", Picture(self.wall.read_bytes()).title)[1])
-
-    def look(self):
-        again = wait_until(lambda: self.drawn() > self.first, 62 - (time.monotonic() - self.began))
-        expect("drawn anew within a minute", again, True)
-        expect("ended", ended(self.child), (0, ""))
+def drawn_every_minute(folder):
+    """A wall whose notes do not change is drawn anew all the same."""
+    wall = folder / "standing.svg"
+    drawn = lambda: moment(re.search(r"drawn (\S+ \S+),", Picture(wall.read_bytes()).title)[1])
+    (folder / "standing").write_bytes(b"quiet\n")
+    child = follower(["--svg", "standing.svg", "standing"], folder)
+    wait_until(wall.exists)
+    first = drawn()
+    expect("drawn anew within a minute", wait_until(lambda: drawn() > first, 60), True)
+    expect("ended", ended(child), (0, ""))
 
 
-def run_all(folder):
-    before = os.environ.get("TZ")
-    os.environ["TZ"] = ZONE
-    time.tzset()
-    standing = Standing(folder)
-    frames()
-    counts()
-    formatted(folder)
-    dated(folder)
-    failures(folder)
-    refused()
-    wrong_calls()
-    pictures()
-    scripts()
-    picture_files(folder)
-    pages(folder)
-    on_a_terminal(folder)
-    sizes(folder)
-    followed(folder)
-    followed_elsewhere(folder)
-    failures_that_pass(folder)
-    standing.look()
-    os.environ.pop("TZ") if before is None else os.environ.update(TZ=before)
-    time.tzset()
+ALL = [frames, counts, formatted, dated, failures, refused, wrong_calls, pictures, scripts, picture_files, pages, on_a_terminal, sizes, followed, followed_elsewhere,
+       failures_that_pass, drawn_every_minute]

@@ -150,7 +150,8 @@ def killed(wall, night, tell, out):
     tell("not before", time.time() - long_ago >= 120, True)
     tell("the notes are seen still", "second" in wall.letters(), True)
     covered = wall.run("const b = document.querySelector('#old span').getBoundingClientRect(), s = document.querySelector('iframe.shown').getBoundingClientRect();"
-                       "return s.top < b.bottom - 1 || s.bottom > innerHeight + 1")
+                       "const e = parseFloat(getComputedStyle(document.getElementById('old')).borderLeftWidth);"
+                       "return s.top < b.bottom - 1 || s.bottom > innerHeight - e + 1 || s.left < e - 1 || s.right > innerWidth - e + 1")
     tell("and none of them is covered", covered, False)
     for dark in True, False:
         wall.media(dark=dark)
