@@ -199,7 +199,7 @@ static const char *plain_reason(const struct page *page, size_t number) {
     if (!line->asked)
         return "Not asked: too many lines stand here without a blank line.";
     switch (line->reason[0]) {
-    case RUDIGNALS_PLAIN_LINE: return "A plain line: it ends as it does in the notes.";
+    case RUDIGNALS_PLAIN_LINE: return is_damaged(page, line) ? "A damaged line, kept: it ends as it does in the notes." : "A plain line: it ends as it does in the notes.";
     case RUDIGNALS_BLANK_LINE: return "A blank line of the notes.";
     case RUDIGNALS_NOT_FIT: return "The next word did not fit.";
     case RUDIGNALS_CHOSEN: return next_did_not_fit(page, number) ? "The next word did not fit." : "Ending here gives a better spread over the lines that follow.";
@@ -298,10 +298,11 @@ static void put_blank_lines(FILE *out, const struct page *page, const struct pie
 static void put_pieces(FILE *out, const struct page *page) {
     const struct piece *piece = page->pieces;
     size_t count;
-    fputs("<aside id=notes aria-label='The notes under the line, and why it ends there' tabindex=-1>\n"
-          "<p class=hint><span class=mouse>Point at</span><span class=touch>Tap</span> a line of the digest: the notes that it comes from stand here, byte for byte, "
-          "and why it ends where it does.</p>\n",
-          out);
+    fputs("<aside id=notes aria-label='The notes under the line, and why it ends there' tabindex=-1>\n", out);
+    if (page->lines_len > 0)
+        fputs("<p class=hint><span class=mouse>Point at</span><span class=touch>Tap</span> a line of the digest: the notes that it comes from stand here, byte for byte, "
+              "and why it ends where it does.</p>\n",
+              out);
     for (; piece < page->pieces + page->pieces_len; piece += count) {
         count = told_together(page, piece);
         if (count == 1)

@@ -57,14 +57,14 @@ def first_word(line, prefix):
     return WORDS[word] if word in WORDS else len(word)
 
 
-def words_for(numbers, goal, width, following):
+def words_for(numbers, goal, width, following, damaged=False):
     """A reason as the page has it: plainly, and its numbers. A chosen break before a word that could not have stood on the line is plainly that."""
     kind, a, b, c, d, e = numbers
     if kind == 3:
         return PLAIN[3], f"It takes {d} column{'' if d == 1 else 's'} and would reach column {a + b + c + d} of {width}."
     if kind == 4:
         return PLAIN[3 if a + 1 + following() > width else 4], f"Chosen: {a} of {goal} columns, cost {e:,} (line {b}, word {c}, change {d})."
-    return PLAIN[kind], ""
+    return "A damaged line, kept: it ends as it does in the notes." if kind == 1 and damaged else PLAIN[kind], ""
 
 
 def together(index, notes, reasons):
@@ -151,7 +151,7 @@ def compare(command, page, arguments, block, notes):
             same("where a line leads", page.lines[line][2], anchor)
         for line in told:
             following = lambda: first_word(lines[line + 1], prefix) if line + 1 < len(lines) else 0  # noqa: E731, B023
-            wanted = words_for(reasons[line], goal, width, following) if times == 1 else ("Blank lines of the notes.", "")
+            wanted = words_for(reasons[line], goal, width, following, is_damaged(lines[line])) if times == 1 else ("Blank lines of the notes.", "")
             same(f"the reason of line {line + 1}", tuple(piece[1][line + 1][1:]), (*wanted, span("Line", line + 1, line + (count if times > 1 else 1))))
     damaged = [i + 1 for i, line in enumerate(lines) if is_damaged(line)]
     same("damaged lines", page.warned.get("d", ["", []])[1], damaged[:60])
