@@ -2,7 +2,7 @@
 #
 #   make              the command target/command/rudignals, and the package in target/package
 #   make check        every test (./check)
-#   make install      header, libraries, rudignals.pc, command and manual pages, under PREFIX; DESTDIR is put before it
+#   make install      header, libraries, rudignals.pc, command, completion and manual pages, under PREFIX; DESTDIR is put before it
 #   make uninstall    takes the same files away again
 #   make clean        removes target/, the proofs too: the next make takes some minutes
 PREFIX ?= /usr/local
@@ -12,7 +12,10 @@ INCLUDEDIR ?= $(PREFIX)/include
 LIBDIR ?= $(PREFIX)/lib
 MANDIR ?= $(PREFIX)/share/man
 DOCDIR ?= $(PREFIX)/share/doc/rudignals
-export PREFIX DESTDIR BINDIR INCLUDEDIR LIBDIR MANDIR DOCDIR
+BASHDIR ?= $(PREFIX)/share/bash-completion/completions
+ZSHDIR ?= $(PREFIX)/share/zsh/site-functions
+FISHDIR ?= $(PREFIX)/share/fish/vendor_completions.d
+export PREFIX DESTDIR BINDIR INCLUDEDIR LIBDIR MANDIR DOCDIR BASHDIR ZSHDIR FISHDIR
 
 all:
 	@tools/package build

@@ -1,96 +1,19 @@
-/* What stands on the wall panel: the last lines of a digest, or why there is none.
+/* What stands on the wall panel, cell by cell.
  *
  * Every cell comes from the library, those of our own words and of a file's name too. So what is drawn is a code point for each cell, and
  * nothing in notes or names can do more than be seen. */
-#include "command.h"
+#include "panel.h"
 
-#include <stdlib.h>
 #include <string.h>
 
-/* Answers false, with all cells blank, if the library refuses the tab width. */
-static bool put_text(uint32_t cells[ROWS * COLUMNS], const void *text, size_t length, uint64_t tab) {
+bool put_cells(uint32_t cells[ROWS * COLUMNS], const void *text, size_t length, uint64_t tab) {
     return rudignals_code_of(rudignals_panel(text, length, tab, cells)) == RUDIGNALS_DONE;
 }
 
-/* ---- the caption: it also tells a quiet night from a failure */
-
-/* Takes the words. */
-static void put_caption(struct panel *panel, char *caption) {
-    const char *text = caption == NULL ? "no memory for the caption" : caption;
+void put_below(struct panel *panel, enum line_below line, const char *text) {
     uint32_t cells[ROWS * COLUMNS];
-    put_text(cells, text, strlen(text), 8);
-    memcpy(panel->caption, cells + (ROWS - 1) * COLUMNS, sizeof panel->caption);
-    free(caption);
-}
-
-static size_t lines_of(const uint8_t *bytes, size_t length) {
-    size_t lines = length > 0 && bytes[length - 1] != '\n', i;
-    for (i = 0; i < length; i++)
-        lines += bytes[i] == '\n';
-    return lines;
-}
-
-/* The name stands last: it may be of any length. */
-static char *caption_of(size_t lines, const char *label) {
-    if (lines == 0)
-        return words("no notes: %s is empty", label);
-    if (lines > ROWS)
-        return words("the last %d of %lu lines of %s", ROWS, (unsigned long)lines, label);
-    return words("%lu line%s of %s", (unsigned long)lines, lines == 1 ? "" : "s", label);
-}
-
-void put_digest(struct panel *panel, const struct digest *digest, uint64_t tab, const char *label) {
-    panel->bar = 0;
-    if (put_text(panel->cells, digest->bytes, digest->length, tab)) {
-        put_caption(panel, caption_of(lines_of(digest->bytes, digest->length), label));
-    } else {
-        say("%s: the panel refuses a tab width of %lu", label, (unsigned long)tab);
-        put_failure(panel, REFUSED, last_said(), label);
-    }
-}
-
-/* ---- a failure: the words at the bottom, and nothing else */
-
-static const char *const HEADLINE[] = {[NOT_READ] = "NOT READ: there may be notes, and none is shown",
-                                       [REFUSED] = "REFUSED: there may be notes, and none is shown",
-                                       [ENDED] = "ENDED: there may be newer notes, and none is shown"};
-static const char *const CAPTION[] = {[NOT_READ] = "not read", [REFUSED] = "refused", [ENDED] = "no longer followed"};
-
-/* The reason, broken into lines that fit a row; where that cannot be had, as it is. Takes quick lines, which keep to the width. The text has
- * room for twice the reason and the headline, and its length is answered. */
-static size_t break_lines(uint8_t *text, const char *reason) {
-    size_t length = strlen(reason), block_len;
-    uint8_t block[RUDIGNALS_MOST_BLOCK];
-    uint64_t answer;
-    block_len = rudignals_put_number(block, 0, RUDIGNALS_TAG_FLAGS, RUDIGNALS_QUICK | RUDIGNALS_KEEP);
-    block_len = rudignals_put_number(block, block_len, RUDIGNALS_TAG_WIDTH, COLUMNS);
-    answer = rudignals_format(block, block_len, (const uint8_t *)reason, length, text, 2 * length + 1);
-    if (rudignals_code_of(answer) == RUDIGNALS_DONE)
-        return rudignals_number_of(answer);
-    memcpy(text, reason, length);
-    text[length] = '\n';
-    return length + 1;
-}
-
-/* The headline is the bottom line, where the newest is looked for; the reason stands above it. */
-void put_failure(struct panel *panel, enum outcome outcome, const char *reason, const char *label) {
-    const char *last = HEADLINE[outcome];
-    uint8_t *text = malloc(2 * strlen(reason) + 1 + strlen(last));
-    size_t length = 0;
-    if (text != NULL) {
-        length = break_lines(text, reason);
-        memcpy(text + length, last, strlen(last));
-        length += strlen(last);
-        put_text(panel->cells, text, length, 8);
-        panel->bar = (int)lines_of(text, length);
-        free(text);
-    } else {
-        put_text(panel->cells, last, strlen(last), 8);
-        panel->bar = 1;
-    }
-    if (panel->bar > ROWS)
-        panel->bar = ROWS;
-    put_caption(panel, words("%s: %s", CAPTION[outcome], label));
+    put_cells(cells, text, strlen(text), 8);
+    memcpy(panel->below[line], cells + (ROWS - 1) * COLUMNS, sizeof panel->below[line]);
 }
 
 /* ---- cells as they are drawn */
@@ -109,24 +32,24 @@ static uint32_t harmless(uint32_t character) {
     return character;
 }
 
-uint32_t caption_at(const struct panel *panel, int column) { return harmless(panel->caption[column]); }
-
-int caption_length(const struct panel *panel) {
-    int length = COLUMNS;
-    while (length > 0 && panel->caption[length - 1] == ' ')
-        length--;
-    return length;
-}
-
 struct cell cell_at(const struct panel *panel, int row, int column) {
     struct cell cell = {harmless(panel->cells[row * COLUMNS + column]), PLAIN};
     if (row >= ROWS - panel->bar)
         cell.kind = BAR;
     else if (cell.character == 0xFFFD)
         cell.kind = DAMAGED;
-    else if (cell.character == '+' && column == COLUMNS - 1)
+    else if (panel->cut && cell.character == '+' && column == COLUMNS - 1)
         cell.kind = OVER;
     return cell;
+}
+
+uint32_t below_at(const struct panel *panel, enum line_below line, int column) { return harmless(panel->below[line][column]); }
+
+int below_length(const struct panel *panel, enum line_below line) {
+    int length = COLUMNS;
+    while (length > 0 && (panel->below[line][length - 1] == ' ' || panel->below[line][length - 1] == FILLER))
+        length--;
+    return length < COLUMNS && length > 0 && panel->below[line][length] == FILLER ? length + 1 : length;
 }
 
 void put_character(FILE *out, uint32_t character) {
@@ -157,4 +80,11 @@ void put_escaped(FILE *out, uint32_t character) {
     case '\'': fputs("&#39;", out); break;
     default: put_character(out, character);
     }
+}
+
+void put_below_escaped(FILE *out, const struct panel *panel, enum line_below line) {
+    int length = below_length(panel, line), column;
+    for (column = 0; column < length; column++)
+        if (below_at(panel, line, column) != FILLER)
+            put_escaped(out, below_at(panel, line, column));
 }

@@ -1,35 +1,26 @@
 /* rudignals check: a digest that came with notes, checked against them. */
-#include "command.h"
+#include "digest.h"
+#include "json.h"
+#include "lines.h"
+#include "output.h"
+#include "subcommand.h"
 
 #include <errno.h>
-#include <stdlib.h>
+#include <inttypes.h>
 #include <string.h>
 
-static int show_help(void) {
-    printf("Usage: %s [-WIDTH] [OPTION]... NOTES DIGEST\n"
-           "Checks the digest of another site against its notes: plain and blank lines are\n"
-           "those that `format' writes, and each paragraph's lines carry its words once\n"
-           "each, in order, behind the right indent. Where lines break, and how many\n"
-           "blanks part two words, does not matter. One of the two may be -, standard\n"
-           "input. Says nothing if the digest is accepted; otherwise names the first line\n"
-           "that no such digest goes on with, counted from 1.\n"
-           "\n"
-           "%s"
-           "\n"
-           "Limits: NOTES and DIGEST have at most 65536 bytes each, and a paragraph at most\n"
-           "1024 words.\n"
-           "\n"
-           "Exit status: 0 accepted; 1 not accepted, refused or not read; 2 a wrong call.\n",
-           subject, OPTIONS_HELP);
-    return shown();
-}
+/* As diff has it. */
+enum verdict { ACCEPTED = 0, NOT_ACCEPTED = 1, NOT_JUDGED = 2 };
 
 /* As much of a file as tells whether it is too long. */
 static bool read_file(struct window *window, const char *name) {
     bool whole = open_window(window, name);
+    int reason;
     if (whole) {
         whole = fill_window(window);
+        reason = errno; /* closing may put another in its place */
         close_window(window);
+        errno = reason;
     }
     if (!whole)
         say_failure(label_of(name), errno);
@@ -45,39 +36,56 @@ static void say_notes(const struct options *options, const char *name, struct wi
     }
     make_digest(&digest, options, notes);
     say_refusal(label_of(name), &digest.refusal);
-    free(digest.bytes);
+    buffer_free(&digest.text);
 }
 
-/* Line N of a digest, counted from 0: it is there and ended, there and not ended, or past the end. */
-static void say_line(const char *name, const struct window *digest, uint32_t line) {
-    const uint8_t *at = digest->bytes, *end = digest->bytes + digest->length, *feed;
-    uint32_t left = line;
-    for (; left > 0 && (feed = memchr(at, '\n', (size_t)(end - at))) != NULL; left--)
-        at = feed + 1;
-    if (at == end)
-        say("%s: line %lu: is missing; the digest is cut short", label_of(name), line + 1ul);
-    else if (memchr(at, '\n', (size_t)(end - at)) == NULL)
-        say("%s: line %lu: is not ended by a line feed", label_of(name), line + 1ul);
+/* A line of the digest, counted from 1: it is there and ended, there and not ended, or past the end. */
+static void say_line(const char *name, const struct window *digest, unsigned long line) {
+    struct lines lines = read_lines(digest->bytes, digest->length);
+    while (lines.number < line && next_line(&lines))
+        continue;
+    if (lines.number < line)
+        say("%s: line %lu: is missing; the digest is cut short", label_of(name), line);
+    else if (!lines.fed)
+        say("%s: line %lu: is not ended by a line feed", label_of(name), line);
     else
-        say("%s: line %lu: no digest of these notes goes on with it", label_of(name), line + 1ul);
+        say("%s: line %lu: no digest of these notes goes on with it", label_of(name), line);
 }
 
-static bool check_files(const struct options *options, char **names) {
+/* The line is 0 unless one is to blame. */
+static enum verdict check_files(const struct options *options, char **names, unsigned long *line) {
     static struct window notes, digest;
     uint64_t answer;
     if (!read_file(&notes, names[0]) || !read_file(&digest, names[1]))
-        return false;
+        return NOT_JUDGED;
     answer = rudignals_check(options->block, options->block_len, notes.bytes, notes.length, digest.bytes, digest.length);
     switch (rudignals_code_of(answer)) {
-    case RUDIGNALS_DONE: return true;
-    case RUDIGNALS_LONG_DIGEST: say("%s: has more than %u bytes", label_of(names[1]), RUDIGNALS_MOST_NOTES); break;
-    case RUDIGNALS_NOT_ACCEPTED: say_line(names[1], &digest, rudignals_number_of(answer)); break;
-    default: say_notes(options, names[0], &notes, rudignals_code_of(answer));
+    case RUDIGNALS_DONE: return ACCEPTED;
+    case RUDIGNALS_NOT_ACCEPTED:
+        *line = rudignals_number_of(answer) + 1ul;
+        say_line(names[1], &digest, *line);
+        return NOT_ACCEPTED;
+    case RUDIGNALS_LONG_DIGEST: say("%s: has more than %u bytes", label_of(names[1]), RUDIGNALS_MOST_NOTES); return NOT_JUDGED;
+    default: say_notes(options, names[0], &notes, rudignals_code_of(answer)); return NOT_JUDGED;
     }
-    return false;
 }
 
-static int check_asked(const struct options *options) {
+static bool write_record(char **names, enum verdict verdict, unsigned long line) {
+    static const char *const VERDICT[] = {"accepted", "not accepted", "not judged"};
+    struct buffer text = {0};
+    bool well = buffer_print(&text, "{\"notes\":") && add_json_words(&text, names[0]) && buffer_print(&text, ",\"digest\":") && add_json_words(&text, names[1]) &&
+                buffer_print(&text, ",\"verdict\":\"%s\",\"line\":", VERDICT[verdict]) && (line == 0 ? buffer_print(&text, "null") : buffer_print(&text, "%lu", line)) &&
+                buffer_print(&text, ",\"why\":") && (verdict == ACCEPTED ? buffer_print(&text, "null") : add_json_words(&text, last_said())) && buffer_print(&text, "}\n");
+    if (!well)
+        say("no memory for the record");
+    well = well && write_out(text.bytes, text.length);
+    buffer_free(&text);
+    return well;
+}
+
+static int run_check(const struct options *options) {
+    enum verdict verdict;
+    unsigned long line = 0;
     if (!options_accepted(options))
         return WRONG_CALL;
     if (options->count != 2) {
@@ -88,16 +96,35 @@ static int check_asked(const struct options *options) {
         say("NOTES and DIGEST cannot both be standard input");
         return wrong_call();
     }
-    return check_files(options, options->files) ? WELL : FAILED;
+    verdict = check_files(options, options->files, &line);
+    if (options->value[JSON] != NULL && !write_record(options->files, verdict, line))
+        return NOT_JUDGED;
+    return (int)verdict;
 }
 
-int run_check(int argc, char **argv) {
-    struct options options;
-    argv[0] = (char *)called; /* getopt_long's messages begin with it */
-    switch (read_options(&options, NULL, argc, argv)) {
-    case ASKED_WORK: return check_asked(&options);
-    case ASKED_HELP: return show_help();
-    case ASKED_VERSION: return show_version();
-    default: return wrong_call();
-    }
-}
+static const int TAKES[] = {JSON, 'o', FORMATTING, 0};
+
+const struct subcommand check_subcommand = {
+    .name = "check",
+    .does = "check a digest against its notes",
+    .arguments = "NOTES DIGEST",
+    .about = "Checks the digest of another site against its notes: plain and blank lines are\n"
+             "those that `format' writes, and each paragraph's lines carry its words once\n"
+             "each, in order, behind the right indent. Where lines break, and how many\n"
+             "blanks part two words, does not matter. One of the two may be -, standard\n"
+             "input. Says nothing if the digest is accepted; otherwise names the first line\n"
+             "that no such digest goes on with. Lines are counted from 1.\n",
+    .takes = TAKES,
+    .limits = "With --json one object is written whatever the verdict is: notes, digest,\n"
+              "verdict (accepted, not accepted, not judged), line or null, why or null.\n"
+              "Without it nothing is written.\n"
+              "\n"
+              "Limits: NOTES and DIGEST have at most 65536 bytes each, and a paragraph at most\n"
+              "1024 words.\n",
+    .statuses = "0 accepted; 1 not accepted; 2 could not be judged: refused, not\n"
+                "read, not written or a wrong call",
+    .draws = true,
+    .quiet = true,
+    .unwritten = NOT_JUDGED,
+    .run = run_check,
+};

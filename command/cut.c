@@ -8,7 +8,9 @@
  *
  * Which lines are blank does not depend on the options. Only those of ASCII's blanks alone, an empty one or one of a carriage return among
  * them, are cut at; others, of U+0085 or U+00A0, are not looked for. A last line without a line feed is not cut at either. */
-#include "command.h"
+#include "cut.h"
+
+#include "streams.h"
 
 #include <string.h>
 

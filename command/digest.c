@@ -1,115 +1,64 @@
-/* A file of any length, formatted part by part. All of it is in memory before a byte is written: a file is formatted whole or refused whole. */
-#include "command.h"
+/* A file of any length, formatted part by part in memory. */
+#include "digest.h"
 
-#include <stdlib.h>
+#include "say.h"
 
-/* The file's part that is being formatted. */
-struct part {
-    const uint8_t *bytes;
-    size_t length;
-    size_t bytes_before;
-    unsigned long lines_before;
-};
-
-unsigned long feeds(const uint8_t *bytes, size_t length) {
-    unsigned long count = 0;
-    size_t i;
-    for (i = 0; i < length; i++)
-        count += bytes[i] == '\n';
-    return count;
-}
-
-/* A column is a character: bytes from 80 to BF continue one. That is exact, since the library names the first damaged character and all
- * before it are whole. */
-static unsigned long column_of(const uint8_t *bytes, size_t place) {
-    unsigned long column = 1;
-    for (; place > 0 && bytes[place - 1] != '\n'; place--)
-        column += (bytes[place - 1] & 0xC0u) != 0x80u;
-    return column;
-}
-
-/* Of the whole file the lowest code counts, and the first place with it, as in one call. */
-static void refuse(struct refusal *refusal, const struct part *part, uint32_t code, size_t place) {
-    if (refusal->code != RUDIGNALS_DONE && refusal->code <= code)
-        return;
-    refusal->code = code;
-    refusal->place = part->bytes_before + place;
-    refusal->line = part->lines_before + feeds(part->bytes, place) + 1;
-    refusal->column = column_of(part->bytes, place);
-    refusal->byte = place < part->length ? part->bytes[place] : 0;
-}
-
-/* Room for so many bytes more. It grows at least to twice its length, so that copying costs little in all. */
-static bool make_room(struct digest *digest, size_t more) {
-    size_t wanted = digest->length + more, room = 2 * digest->room;
-    uint8_t *wider;
-    if (wanted <= digest->room)
-        return true;
-    if (room < wanted)
-        room = wanted;
-    wider = realloc(digest->bytes, room);
-    if (wider == NULL)
-        return false;
-    digest->bytes = wider;
-    digest->room = room;
-    return true;
-}
-
-/* The part as mail: without room the call tells how much it needs. */
-static uint64_t measure_mail(const struct options *options, const struct part *part) {
-    uint64_t dashes, answer = rudignals_flow(options->block, options->block_len, part->bytes, part->length, NULL, 0, &dashes);
-    return rudignals_code_of(answer) == RUDIGNALS_ROOM ? rudignals_number_of(answer) : answer;
-}
-
-static uint64_t write_mail(struct digest *digest, const struct options *options, const struct part *part, size_t needed) {
-    uint64_t dashes, answer = rudignals_flow(options->block, options->block_len, part->bytes, part->length, digest->bytes + digest->length, needed, &dashes);
-    digest->dashes += dashes;
-    return answer;
-}
+#include <errno.h>
 
 /* Measures the part, makes room for just that much and writes it behind the digest so far. Where that room is not to be had the part is
  * refused for it. */
 static uint64_t ask(struct digest *digest, const struct options *options, const struct part *part) {
-    uint64_t answer = digest->mail ? measure_mail(options, part) : rudignals_measure(options->block, options->block_len, part->bytes, part->length);
+    uint64_t answer = measure_part(options, false, part), dashes = 0;
     size_t needed = rudignals_number_of(answer);
     if (rudignals_code_of(answer) != RUDIGNALS_DONE || needed == 0 || digest->refusal.code != RUDIGNALS_DONE)
         return answer;
-    if (!make_room(digest, needed))
+    if (!buffer_room(&digest->text, needed))
         return (uint64_t)RUDIGNALS_ROOM << 32;
-    if (digest->mail)
-        return write_mail(digest, options, part, needed);
-    return rudignals_write(options->block, options->block_len, part->bytes, part->length, digest->bytes + digest->length, needed);
+    return write_part(options, false, part, digest->text.bytes + digest->text.length, needed, &dashes);
 }
 
 /* Once something is refused no more is written, but a lower code may still come. */
 static void add_part(struct digest *digest, const struct options *options, const struct part *part) {
     uint64_t answer = ask(digest, options, part);
-    uint32_t code = rudignals_code_of(answer);
-    if (code == RUDIGNALS_TEXT || code == RUDIGNALS_WORDS)
-        refuse(&digest->refusal, part, code, rudignals_number_of(answer));
-    else if (code != RUDIGNALS_DONE)
-        refuse(&digest->refusal, part, code, 0);
+    if (rudignals_code_of(answer) != RUDIGNALS_DONE)
+        refuse_part(&digest->refusal, part, answer);
     else if (digest->refusal.code == RUDIGNALS_DONE)
-        digest->length += rudignals_number_of(answer);
+        digest->text.length += rudignals_number_of(answer);
 }
 
+/* Behind what has no cut no lower code can follow. */
 bool make_digest(struct digest *digest, const struct options *options, struct window *window) {
-    struct part part = {window->bytes, 0, 0, 0};
-    digest->length = 0;
-    digest->dashes = 0;
+    struct part part = {0};
+    enum found found;
+    digest->text.length = 0;
     digest->refusal.code = RUDIGNALS_DONE;
-    do {
-        if (!fill_window(window))
-            return false;
-        part.length = first_part(window->bytes, window->length, window->ended);
-        if (part.length == 0 && window->length > 0) {
-            refuse(&digest->refusal, &part, RUDIGNALS_LONG, 0);
-            return true; /* no lower code can follow */
-        }
+    while ((found = next_part(window, &part)) == PART)
         add_part(digest, options, &part);
-        part.bytes_before += part.length;
-        part.lines_before += feeds(part.bytes, part.length);
-        drop_bytes(window, part.length);
-    } while (!window->ended || window->length > 0);
-    return true;
+    if (found == UNCUT)
+        refuse_uncut(&digest->refusal, &part);
+    return found != UNREAD;
+}
+
+static bool read_digest(const struct options *options, const char *name, struct window *window, struct digest *digest) {
+    bool whole;
+    int reason;
+    if (!open_window(window, name))
+        return false;
+    whole = make_digest(digest, options, window);
+    reason = errno; /* closing may put another in its place */
+    close_window(window);
+    errno = reason;
+    return whole;
+}
+
+enum outcome digest_file(const struct options *options, const char *name, struct window *window, struct digest *digest) {
+    if (!read_digest(options, name, window, digest)) {
+        say_failure(label_of(name), errno);
+        return NOT_READ;
+    }
+    if (digest->refusal.code != RUDIGNALS_DONE) {
+        say_refusal(label_of(name), &digest->refusal);
+        return REFUSED;
+    }
+    return MADE;
 }

@@ -1,172 +1,242 @@
 /* rudignals explain: why the lines of a file's digest end where they do. */
-#include "command.h"
+#include "json.h"
+#include "lines.h"
+#include "output.h"
+#include "passes.h"
+#include "reasons.h"
+#include "subcommand.h"
 
-#include <errno.h>
 #include <inttypes.h>
 #include <stdlib.h>
 #include <string.h>
 
-static int show_help(void) {
-    printf("Usage: %s [-WIDTH] [OPTION]... FILE [LINE]\n"
-           "Formats FILE (- is standard input) as `format' does, and tells why output line\n"
-           "LINE ends where it does; without LINE it does so for each line, and shows the line\n"
-           "beside it. Lines are counted from 0.\n"
-           "\n"
-           "A chosen break has three terms: for a line that is short or long, for a short last\n"
-           "word, and for a line unlike the one before. Its cost is (1 + all three) squared.\n"
-           "\n"
-           "%s",
-           subject, OPTIONS_HELP);
-    return shown();
-}
-
 /* What is asked, and how many lines the parts before had. */
-struct asked_line {
-    bool one;
-    uint64_t line;
+struct question {
+    bool one, json;
+    uint64_t line; /* from 0, as the library counts */
     bool found;
     uint64_t lines_before;
+    struct rudignals_record *index;
 };
 
-/* What came of a part. */
-enum told { TOLD, NOT_TOLD, NOT_WRITTEN };
+/* ---- a line and its reason */
 
-/* One line's reason, in words. */
-static void say_reason(const struct options *options, uint64_t line, const uint64_t reason[6]) {
-    char *told = reason_in_words(reason, options);
-    printf("line %" PRIu64 ": %s\n", line, told == NULL ? "no memory for the words" : told);
-    free(told);
-}
-
-/* The same in short, for a table. The column is as wide as seven tab stops, so that a line's own tabs stand right beside it. */
+/* In short, for a table. The column is as wide as seven tab stops, so that a line's own tabs stand right beside it. */
 enum { BESIDE = 56 };
 
-static void put_reason(const struct options *options, uint64_t line, const uint64_t reason[6]) {
-    int wide = printf("%4" PRIu64 "  ", line);
+static bool add_short(struct buffer *text, const struct options *options, const uint64_t reason[6]) {
     switch (reason[0]) {
-    case RUDIGNALS_PLAIN_LINE: wide += printf("plain line"); break;
-    case RUDIGNALS_BLANK_LINE: wide += printf("blank line"); break;
+    case RUDIGNALS_PLAIN_LINE: return buffer_print(text, "plain line");
+    case RUDIGNALS_BLANK_LINE: return buffer_print(text, "blank line");
     case RUDIGNALS_NOT_FIT:
-        wide += printf("next word, %" PRIu64 " columns, would reach %" PRIu64 " of %" PRIu64, reason[4], reason[1] + reason[2] + reason[3] + reason[4], width_of(options));
-        break;
+        return buffer_print(text, "next word, %" PRIu64 " column%s, would reach %" PRIu64 " of %" PRIu64, reason[4], reason[4] == 1 ? "" : "s",
+                            reason[1] + reason[2] + reason[3] + reason[4], width_of(options));
     case RUDIGNALS_CHOSEN:
-        wide += printf("chosen: column %" PRIu64 ", goal %" PRIu64 ", cost %" PRIu64 " (%" PRIu64 ", %" PRIu64 ", %" PRIu64 ")", reason[1], goal_of(options), reason[5], reason[2],
-                       reason[3], reason[4]);
-        break;
-    case RUDIGNALS_FORCED_BEFORE: wide += printf("forced before the next word, which fits no line"); break;
-    case RUDIGNALS_FORCED_AFTER: wide += printf("forced behind its last word, which fits no line"); break;
-    default: wide += printf("end of paragraph"); break;
+        return buffer_print(text, "chosen: column %" PRIu64 ", goal %" PRIu64 ", cost %" PRIu64 " (%" PRIu64 ", %" PRIu64 ", %" PRIu64 ")", reason[1], goal_of(options),
+                            reason[5], reason[2], reason[3], reason[4]);
+    case RUDIGNALS_FORCED_BEFORE: return buffer_print(text, "forced before the next word, which fits no line");
+    case RUDIGNALS_FORCED_AFTER: return buffer_print(text, "forced behind its last word, which fits no line");
+    default: return buffer_print(text, "end of paragraph");
     }
-    printf("%*s|", wide < BESIDE - 1 ? BESIDE - 1 - wide : 1, "");
 }
 
-/* The lines of a part, of which the digest has so many bytes. */
-static bool tell_lines(struct asked_line *asked, const struct options *options, const uint8_t *notes, size_t length, const uint8_t *digest, size_t size) {
-    uint64_t line = 0, reason[6] = {0};
-    size_t at = 0, end;
-    for (; at < size; at = end, line++) {
-        end = (size_t)((const uint8_t *)memchr(digest + at, '\n', size - at) - digest) + 1;
-        if (asked->one && asked->line != asked->lines_before + line)
-            continue;
-        rudignals_explain(options->block, options->block_len, notes, length, line, reason);
-        if (asked->one) {
-            asked->found = true;
-            say_reason(options, asked->line, reason);
-            continue;
-        }
-        put_reason(options, asked->lines_before + line, reason);
-        if (!write_out(digest + at, end - at))
-            return false;
-    }
-    asked->lines_before += line;
+static bool add_row(struct buffer *text, const struct options *options, uint64_t line, const uint64_t reason[6], const uint8_t *bytes, size_t length) {
+    bool well = buffer_print(text, "%4" PRIu64 "  ", line) && add_short(text, options, reason);
+    return well && buffer_print(text, "%*s|", text->length < BESIDE - 1 ? (int)(BESIDE - 1 - text->length) : 1, "") && buffer_add(text, bytes, length);
+}
+
+static bool add_sentence(struct buffer *text, const struct options *options, uint64_t line, const uint64_t reason[6]) {
+    char *told = reason_in_words(reason, options);
+    bool well = told != NULL && buffer_print(text, "line %" PRIu64 ": %s\n", line, told);
+    free(told);
+    return well;
+}
+
+/* What a kind's numbers are called. */
+static bool add_numbers(struct buffer *text, const struct options *options, const uint64_t reason[6]) {
+    if (reason[0] == RUDIGNALS_NOT_FIT)
+        return buffer_print(text, ",\"column\":%" PRIu64 ",\"gap\":%" PRIu64 ",\"added\":%" PRIu64 ",\"word\":%" PRIu64 ",\"width\":%" PRIu64, reason[1], reason[2],
+                            reason[3], reason[4], width_of(options));
+    if (reason[0] == RUDIGNALS_CHOSEN)
+        return buffer_print(text, ",\"columns\":%" PRIu64 ",\"goal\":%" PRIu64 ",\"cost\":%" PRIu64 ",\"length\":%" PRIu64 ",\"word\":%" PRIu64 ",\"change\":%" PRIu64,
+                            reason[1], goal_of(options), reason[5], reason[2], reason[3], reason[4]);
     return true;
 }
 
-static enum told tell_part(struct asked_line *asked, const struct options *options, const uint8_t *notes, size_t length) {
-    uint64_t answer = rudignals_measure(options->block, options->block_len, notes, length);
-    size_t size = rudignals_number_of(answer);
-    enum told told = NOT_TOLD;
-    uint8_t *digest;
-    if (rudignals_code_of(answer) != RUDIGNALS_DONE)
-        return NOT_TOLD;
-    digest = malloc(size + 1);
-    if (digest != NULL && rudignals_code_of(rudignals_write(options->block, options->block_len, notes, length, digest, size)) == RUDIGNALS_DONE)
-        told = tell_lines(asked, options, notes, length, digest, size) ? TOLD : NOT_WRITTEN;
-    free(digest);
-    return told;
+static bool add_object(struct buffer *text, const struct options *options, uint64_t line, const uint64_t reason[6], const uint8_t *bytes, size_t length) {
+    static const char *const KINDS[] = {"end of paragraph", "plain line", "blank line", "not fit", "chosen", "forced before", "forced after"};
+    char *told = reason_in_words(reason, options);
+    bool well = told != NULL && buffer_print(text, "{\"line\":%" PRIu64 ",\"kind\":\"%s\"", line, KINDS[reason[0] < 7 ? reason[0] : 0]) &&
+                add_numbers(text, options, reason) && buffer_print(text, ",\"why\":") && add_json_words(text, told) && buffer_print(text, ",") &&
+                add_json_text(text, "text", bytes, length - (length > 0 && bytes[length - 1] == '\n')) && buffer_print(text, "}\n");
+    free(told);
+    return well;
 }
 
-/* Each line is explained by itself, and that takes as long as its part does: so parts are kept short where there is a place to cut. */
-enum { SHORT_PART = 4096 };
-
-static size_t short_part(const struct window *window) {
-    size_t length = window->length > SHORT_PART ? first_part(window->bytes, SHORT_PART, false) : 0;
-    return length > 0 ? length : first_part(window->bytes, window->length, window->ended);
+static bool tell_line(const struct question *question, const struct options *options, uint64_t line, const uint64_t reason[6], const uint8_t *bytes, size_t length) {
+    struct buffer text = {0};
+    bool well;
+    if (question->json)
+        well = add_object(&text, options, line, reason, bytes, length);
+    else if (question->one)
+        well = add_sentence(&text, options, line, reason);
+    else
+        well = add_row(&text, options, line, reason, bytes, length);
+    if (!well)
+        say("no memory for the words");
+    well = well && write_out(text.bytes, text.length);
+    buffer_free(&text);
+    return well;
 }
 
-static bool explain_file(struct asked_line *asked, const struct options *options, const char *name, struct window *window) {
-    enum told told = TOLD;
-    size_t length;
-    do {
-        if (!fill_window(window)) {
-            say_failure(label_of(name), errno);
+/* ---- one line: its part is asked as it stands */
+
+static enum taken tell_one(struct question *question, const struct options *options, const struct part *part, const uint8_t *digest, size_t length) {
+    struct lines lines = read_lines(digest, length);
+    uint64_t reason[6] = {0}, wanted = question->line - question->lines_before;
+    while (next_line(&lines)) {
+        if (lines.number - 1 < wanted)
+            continue;
+        question->found = true;
+        rudignals_explain(options->block, options->block_len, part->bytes, part->length, wanted, reason);
+        return tell_line(question, options, question->line + 1, reason, lines.line, lines.length) ? ENOUGH : BROKEN;
+    }
+    question->lines_before += lines.number;
+    return GO_ON;
+}
+
+/* ---- all lines: piece by piece
+ *
+ * A call looks at all the notes that it is given, up to the line and behind it. So each piece is asked about by itself: what a piece becomes
+ * depends on its own lines and on next-mail alone (docs/RULES.md, Pieces and paragraphs). Next-mail matters where the flag mail is set, and
+ * where it is false no paragraph is mail: then the piece is what it is without the flag. A paragraph has at most 1,024 lines, so the work goes
+ * with the length of the notes. */
+
+static bool is_header(const uint8_t *line, size_t length) {
+    size_t i;
+    if (length >= 5 && memcmp(line, "From ", 5) == 0)
+        return true;
+    for (i = 0; i < length && line[i] >= 33 && line[i] <= 126 && line[i] != ':';)
+        i++;
+    return i > 0 && i < length && line[i] == ':';
+}
+
+/* Next-mail behind a piece, of which the kind of its first line's reason is known. With a prefix that is not empty no indent ends at 0. */
+static bool next_mail(const struct options *options, bool before, uint64_t kind, const uint8_t *piece, size_t length) {
+    const char *prefix = options->value['p'];
+    if (kind == RUDIGNALS_BLANK_LINE || kind == RUDIGNALS_PLAIN_LINE)
+        return kind == RUDIGNALS_BLANK_LINE;
+    return before && (prefix == NULL || *prefix == '\0') && is_header(piece, length);
+}
+
+/* The same options without the flag mail. The flags are the block's first field. */
+static struct options without_mail(const struct options *options) {
+    struct options same = *options;
+    if ((same.flags & RUDIGNALS_MAIL) != 0)
+        rudignals_put_number(same.block, 0, RUDIGNALS_TAG_FLAGS, same.flags & ~(unsigned)RUDIGNALS_MAIL);
+    return same;
+}
+
+/* The lines of a piece, from the next one of the digest on. */
+static bool tell_piece(const struct question *question, const struct options *options, const uint8_t *piece, const struct rudignals_record *record, struct lines *lines,
+                       uint64_t *kind) {
+    uint64_t line, reason[6] = {0};
+    for (line = 0; line < record->count && next_line(lines); line++) {
+        rudignals_explain(options->block, options->block_len, piece, (size_t)record->length, line, reason);
+        if (line == 0)
+            *kind = reason[0];
+        if (!tell_line(question, options, question->lines_before + lines->number, reason, lines->line, lines->length))
             return false;
-        }
-        length = short_part(window);
-        if (length > 0 || window->length == 0)
-            told = tell_part(asked, options, window->bytes, length);
-        if (told == NOT_TOLD || (length == 0 && window->length > 0)) {
-            say("%s: refused; `rudignals format' tells where and why", label_of(name));
-            return false;
-        }
-        drop_bytes(window, length);
-    } while (told == TOLD && (!window->ended || window->length > 0));
-    if (asked->one && !asked->found) {
-        say("%s: there is no line %" PRIu64 ": the digest has %" PRIu64 " lines, counted from 0", label_of(name), asked->line, asked->lines_before);
+    }
+    return true;
+}
+
+/* A part begins behind a blank line or at the file's start, where next-mail is true. */
+static enum taken tell_all(struct question *question, const struct options *options, const struct part *part, uint64_t filled, const uint8_t *digest, size_t length) {
+    struct options plain = without_mail(options);
+    struct lines lines = read_lines(digest, length);
+    bool mail = true;
+    uint64_t i, kind = RUDIGNALS_BLANK_LINE;
+    for (i = 0; i < filled; i++) {
+        const struct rudignals_record *record = &question->index[i];
+        const uint8_t *piece = part->bytes + record->place;
+        if (!tell_piece(question, mail ? options : &plain, piece, record, &lines, &kind))
+            return BROKEN;
+        mail = next_mail(options, mail, kind, piece, (size_t)record->length);
+    }
+    question->lines_before += lines.number;
+    return GO_ON;
+}
+
+/* ---- the file */
+
+static enum taken explain_part(void *state, struct passes *passes, const struct part *part, size_t length) {
+    struct question *question = state;
+    const struct options *options = passes->options;
+    uint64_t filled, answer;
+    answer = rudignals_write_indexed(options->block, options->block_len, part->bytes, part->length, passes->room.bytes, length, question->index, part->length, &filled);
+    if (answer != length)
+        return not_as_before(passes);
+    if (question->one)
+        return tell_one(question, options, part, passes->room.bytes, length);
+    return tell_all(question, options, part, filled, passes->room.bytes, length);
+}
+
+static bool explain_file(struct question *question, const struct options *options, const char *name) {
+    static struct passes passes;
+    bool whole = measure_file(&passes, options, name);
+    if (whole) {
+        question->index = malloc(MOST_PART * sizeof *question->index);
+        if (question->index == NULL)
+            say("%s: no memory for the index", label_of(name));
+        whole = question->index != NULL && take_parts(&passes, explain_part, question);
+        free(question->index);
+        close_file(&passes);
+    }
+    free_passes(&passes);
+    if (whole && question->one && !question->found) {
+        say("%s: there is no line %" PRIu64 ": the digest has %" PRIu64 " line%s", label_of(name), question->line + 1, question->lines_before,
+            question->lines_before == 1 ? "" : "s");
         return false;
     }
-    return told == TOLD;
+    return whole;
 }
 
-static bool read_line(struct asked_line *asked, const char *typed) {
-    char *end;
-    asked->one = true;
-    errno = 0;
-    asked->line = strtoull(typed, &end, 10);
-    if (*typed >= '0' && *typed <= '9' && *end == '\0' && errno == 0)
-        return true;
-    say("%s: no line number", typed);
-    return false;
-}
-
-static int explain_asked(const struct options *options) {
-    static struct window window;
-    struct asked_line asked = {0};
-    bool whole;
+static int run_explain(const struct options *options) {
+    struct question question = {.json = options->value[JSON] != NULL, .one = options->count == 2};
     if (!options_accepted(options))
         return WRONG_CALL;
     if (options->count < 1 || options->count > 2) {
         say(options->count < 1 ? "a file is missing" : "one file and one line at a time");
         return wrong_call();
     }
-    if (options->count == 2 && !read_line(&asked, options->files[1]))
+    if (question.one && !read_line_number(options->files[1], &question.line))
         return wrong_call();
-    if (!open_window(&window, options->files[0])) {
-        say_failure(label_of(options->files[0]), errno);
-        return FAILED;
-    }
-    whole = explain_file(&asked, options, options->files[0], &window);
-    close_window(&window);
-    return whole ? WELL : FAILED;
+    question.line -= question.one;
+    return explain_file(&question, options, options->files[0]) ? WELL : FAILED;
 }
 
-int run_explain(int argc, char **argv) {
-    struct options options;
-    argv[0] = (char *)called; /* getopt_long's messages begin with it */
-    switch (read_options(&options, NULL, argc, argv)) {
-    case ASKED_WORK: return explain_asked(&options);
-    case ASKED_HELP: return show_help();
-    case ASKED_VERSION: return show_version();
-    default: return wrong_call();
-    }
-}
+static const int TAKES[] = {JSON, 'o', FORMATTING, 0};
+
+const struct subcommand explain_subcommand = {
+    .name = "explain",
+    .does = "tell why the lines of their digest end where they do",
+    .arguments = "FILE [LINE]",
+    .about = "Formats FILE (- is standard input) as `format' does, and tells why output line\n"
+             "LINE ends where it does; without LINE it does so for each line, and shows the\n"
+             "line beside it. Lines are counted from 1.\n"
+             "\n"
+             "A chosen break has three terms: for a line that is short or long, for a short\n"
+             "last word, and for a line unlike the one before. Its cost is (1 + all three)\n"
+             "squared.\n",
+    .takes = TAKES,
+    .limits = "With --json each object has the line, its kind, the numbers of that kind, why\n"
+              "in words, and its text or, where that is not UTF-8, text-hex. A file is\n"
+              "explained whole or refused whole.\n"
+              "\n"
+              "Limits: a file may have any length, but no more than 65536 bytes without\n"
+              "an empty line and no more than 1024 words in a paragraph.\n",
+    .statuses = "0 all was told; 1 something was refused, not read or not\n"
+                "written, or there is no such line; 2 a wrong call",
+    .run = run_explain,
+};

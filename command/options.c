@@ -1,95 +1,65 @@
 /* The command line, and the option block made of it. */
-#include "command.h"
+#include "options.h"
+
+#include "nearest.h"
+#include "numbers.h"
+#include "say.h"
 
 #include <getopt.h>
 #include <string.h>
 
-/* A digit: a width such as -60 that is not the first argument. */
-static const char SHORT[] = "ctmsup:P:xXw:g:qT:hV0123456789";
-
-static const struct option LONG[] = {
-    {"crown-margin", no_argument, NULL, 'c'},
-    {"tagged-paragraph", no_argument, NULL, 't'},
-    {"preserve-headers", no_argument, NULL, 'm'},
-    {"split-only", no_argument, NULL, 's'},
-    {"uniform-spacing", no_argument, NULL, 'u'},
-    {"prefix", required_argument, NULL, 'p'},
-    {"skip-prefix", required_argument, NULL, 'P'},
-    {"exact-prefix", no_argument, NULL, 'x'},
-    {"exact-skip-prefix", no_argument, NULL, 'X'},
-    {"width", required_argument, NULL, 'w'},
-    {"goal", required_argument, NULL, 'g'},
-    {"quick", no_argument, NULL, 'q'},
-    {"tab-width", required_argument, NULL, 'T'},
-    {"keep", no_argument, NULL, KEEP},
-    {"glue", no_argument, NULL, GLUE},
-    {"sentence-characters", no_argument, NULL, CHARACTERS},
-    {"help", no_argument, NULL, 'h'},
-    {"version", no_argument, NULL, 'V'},
-    {NULL, 0, NULL, 0},
+/* Every option there is, with or without a flag of the library's. */
+static const struct option_row ROWS[] = {
+    {TEXT, "text", NULL, "as text in a frame; this is the default", 0},
+    {SVG, "svg", "PICTURE", "as a picture, 1920 x 1080; - is standard output", 0},
+    {HTML, "html", "PAGE", "as a page for a browser that fills a wall: it reads\nitself anew, and turns red when it is over two\nminutes old; - is standard output", 0},
+    {FOLLOW, "follow", NULL, "draw again whenever FILE changes, and at least every\nminute, until a signal (Ctrl-C) ends it", 0},
+    {CUT, "cut", NULL, "a line is one row, and what runs past column 80 is\ncut; else it is folded", 0},
+    {LINE, "line", "LINE", "show the notes under output line LINE instead", 0},
+    {JSON, "json", NULL, "write JSON Lines, an object a line, for programs", 0},
+    {'o', "output", "FILE", "write to FILE, whole and in its place, instead of\nto standard output", 0},
+    {'c', "crown-margin", NULL, "a paragraph's first two lines may have indents of\ntheir own", RUDIGNALS_CROWN},
+    {'t', "tagged-paragraph", NULL, "likewise, and they must differ", RUDIGNALS_TAGGED},
+    {'m', "preserve-headers", NULL, "keep mail headers apart", RUDIGNALS_MAIL},
+    {'s', "split-only", NULL, "split long lines, join none", RUDIGNALS_SPLIT},
+    {'u', "uniform-spacing", NULL, "one space between words, two between sentences", RUDIGNALS_UNIFORM},
+    {'p', "prefix", "PREFIX", "format only lines that begin with PREFIX, and put it\nback", 0},
+    {'P', "skip-prefix", "PSKIP", "leave lines that begin with PSKIP as they are", 0},
+    {'x', "exact-prefix", NULL, "PREFIX stands at the line's start, not behind blanks", RUDIGNALS_EXACT_PREFIX},
+    {'X', "exact-skip-prefix", NULL, "PSKIP stands at the line's start, not behind blanks", RUDIGNALS_EXACT_SKIP},
+    {'w', "width", "WIDTH", "the most columns of a line; 79 by default", 0},
+    {'g', "goal", "GOAL", "the columns aimed at; by default 94 in 100 of WIDTH,\nat most WIDTH - 3", 0},
+    {'q', "quick", NULL, "fill line by line; more ragged", RUDIGNALS_QUICK},
+    {'T', "tab-width", "TAB", "columns between tab stops; 8 by default", 0},
+    {KEEP, "keep", NULL, "leave a line with a damaged character as it is,\ninstead of refusing its file", RUDIGNALS_KEEP},
+    {GLUE, "glue", NULL, "a no-break space, U+00A0, is part of its word; not\nbeside a blank or at a line's start or end", RUDIGNALS_GLUE},
+    {CHARACTERS, "sentence-characters", NULL, "with -u: between sentences count blanks as\ncharacters; else one U+00A0 counts as two, its bytes", RUDIGNALS_SENTENCE_CHARACTERS},
+    {HELP, "help", NULL, "show this", 0},
+    {VERSION, "version", NULL, "show the version", 0},
 };
 
-#define ROWS_OF(table) (sizeof(table) / sizeof(table)[0])
-enum { MOST_OWN = 8 };
+enum { COUNT = sizeof ROWS / sizeof ROWS[0] };
 
-const char OPTIONS_HELP[] =
-    "  -c, --crown-margin       a paragraph's first two lines may have indents of\n"
-    "                           their own\n"
-    "  -t, --tagged-paragraph   likewise, and they must differ\n"
-    "  -m, --preserve-headers   keep mail headers apart\n"
-    "  -s, --split-only         split long lines, join none\n"
-    "  -u, --uniform-spacing    one space between words, two between sentences\n"
-    "  -p, --prefix PREFIX      format only lines that begin with PREFIX, and put it\n"
-    "                           back\n"
-    "  -P, --skip-prefix PSKIP  leave lines that begin with PSKIP as they are\n"
-    "  -x, --exact-prefix       PREFIX stands at the line's start, not behind blanks\n"
-    "  -X, --exact-skip-prefix  likewise PSKIP\n"
-    "  -w, --width WIDTH        the most columns of a line; 79 by default\n"
-    "  -g, --goal GOAL          the columns aimed at; by default 94 in 100 of WIDTH,\n"
-    "                           at most WIDTH - 3\n"
-    "  -q, --quick              fill line by line; more ragged\n"
-    "  -T, --tab-width TAB      columns between tab stops; 8 by default\n"
-    "      --keep               leave a line with a damaged character as it is,\n"
-    "                           instead of refusing its file\n"
-    "      --glue               a no-break space, U+00A0, is part of its word; not\n"
-    "                           beside a blank or at a line's start or end\n"
-    "      --sentence-characters\n"
-    "                           with -u: between sentences count blanks as\n"
-    "                           characters; else one U+00A0 counts as two, its bytes\n"
-    "  -h, --help               show this\n"
-    "  -V, --version            show the version\n";
-
-static const uint16_t FLAG[OPTIONS] = {
-    ['c'] = RUDIGNALS_CROWN, ['t'] = RUDIGNALS_TAGGED,       ['m'] = RUDIGNALS_MAIL,       ['s'] = RUDIGNALS_SPLIT, ['u'] = RUDIGNALS_UNIFORM,
-    ['q'] = RUDIGNALS_QUICK, ['x'] = RUDIGNALS_EXACT_PREFIX, ['X'] = RUDIGNALS_EXACT_SKIP, [KEEP] = RUDIGNALS_KEEP, [GLUE] = RUDIGNALS_GLUE,
-    [CHARACTERS] = RUDIGNALS_SENTENCE_CHARACTERS,
-};
-
-const char *name_of(int option) {
-    const struct option *row = LONG;
-    while (row->val != option)
+const struct option_row *row_of(int option) {
+    const struct option_row *row = ROWS;
+    while (row->option != option)
         row++;
-    return row->name;
+    return row;
 }
+
+const char *name_of(int option) { return row_of(option)->name; }
+
+/* ---- numbers */
 
 static bool is_digit(char letter) { return letter >= '0' && letter <= '9'; }
 
-/* Reads digits, with a plus sign before them or not, as the original does. What is no number, or one that two bytes cannot hold, becomes
- * the largest that they can: that is over every limit, and so it is the library that refuses it. */
+/* A number, with a plus sign before it or not, as the original reads it. What is none, or one that two bytes cannot hold, becomes the largest
+ * that they can: that is over every limit, and so it is the library that refuses it. */
 static uint16_t number_in(const char *text) {
-    uint32_t value = 0;
+    uint64_t value;
     if (*text == '+')
         text++;
-    if (*text == '\0')
-        return UINT16_MAX;
-    for (; *text != '\0'; text++) {
-        if (!is_digit(*text))
-            return UINT16_MAX;
-        value = value * 10 + (uint32_t)(*text - '0');
-        if (value > UINT16_MAX)
-            value = UINT16_MAX;
-    }
-    return (uint16_t)value;
+    return read_number(text, strlen(text), &value) && value < UINT16_MAX ? (uint16_t)value : UINT16_MAX;
 }
 
 uint64_t tab_of(const struct options *options) { return options->value['T'] == NULL ? 8 : number_in(options->value['T']); }
@@ -113,6 +83,15 @@ uint64_t goal_of(const struct options *options) {
         return 74;
     return width * 94 / 100 < width - 3 ? width * 94 / 100 : width - 3;
 }
+
+bool read_line_number(const char *typed, uint64_t *line) {
+    if (read_number(typed, strlen(typed), line) && *line > 0)
+        return true;
+    say("%s: no line number; lines are counted from 1", *typed == '\0' ? "''" : typed);
+    return false;
+}
+
+/* ---- the block */
 
 static void add_number(struct options *options, enum rudignals_tag tag, int option) {
     if (options->value[option] != NULL)
@@ -141,19 +120,109 @@ static void build_block(struct options *options) {
     add_prefix(options, RUDIGNALS_TAG_SKIP, 'P');
 }
 
+/* ---- reading: the options that a subcommand takes, as getopt_long wants them */
+
+struct wanted {
+    char letters[3 * COUNT + 16];
+    struct option rows[COUNT + 1];
+    size_t count;
+    bool width; /* also as -60 */
+};
+
+static void want(struct wanted *wanted, int option) {
+    const struct option_row *row = row_of(option);
+    char *end = wanted->letters + strlen(wanted->letters);
+    wanted->rows[wanted->count++] = (struct option){row->name, row->value == NULL ? no_argument : required_argument, NULL, option};
+    if (option < KEEP) {
+        *end++ = (char)option;
+        if (row->value != NULL)
+            *end++ = ':';
+        *end = '\0';
+    }
+    wanted->width = wanted->width || option == 'w';
+}
+
+/* The colon in front has getopt_long say nothing and tell a missing value apart; a digit is a width such as -60 that is not the first
+ * argument. */
+static struct wanted wanted_of(const int *takes) {
+    struct wanted wanted = {":", {{NULL, 0, NULL, 0}}, 0, false};
+    for (; *takes != 0; takes++)
+        want(&wanted, *takes);
+    want(&wanted, HELP);
+    want(&wanted, VERSION);
+    if (wanted.width)
+        strcat(wanted.letters, "0123456789");
+    return wanted;
+}
+
+/* ---- what is wrong with an option */
+
+/* An option that another subcommand has. */
+static bool say_elsewhere(const char *name, size_t length, int letter) {
+    const struct option_row *row = ROWS, *end = ROWS + COUNT;
+    while (row < end && row->option != letter && (strlen(row->name) != length || strncmp(row->name, name, length) != 0))
+        row++;
+    if (row < end)
+        say("--%s: `%s' does not have it", row->name, subject);
+    return row < end;
+}
+
+/* A long one that is cut short may stand for several. */
+static void say_unknown(const struct wanted *wanted, const char *word) {
+    size_t length = strcspn(word, "="), i, fits = 0;
+    struct nearest nearest = nearest_to(word + 2, length - 2);
+    for (i = 0; i < wanted->count; i++) {
+        fits += strncmp(wanted->rows[i].name, word + 2, length - 2) == 0;
+        try_name(&nearest, wanted->rows[i].name);
+    }
+    if (fits > 1)
+        say("option '%.*s' is cut too short: several begin so", (int)length, word);
+    else if (say_elsewhere(word + 2, length - 2, 0))
+        return;
+    else if (nearest.name != NULL)
+        say("unrecognized option '%s'; did you mean --%s?", word, nearest.name);
+    else
+        say("unrecognized option '%s'", word);
+}
+
+static bool is_wanted(const struct wanted *wanted, int option) {
+    size_t i;
+    for (i = 0; i < wanted->count; i++)
+        if (wanted->rows[i].val == option)
+            return true;
+    return false;
+}
+
+/* Getopt_long leaves the option in question, or 0 for a long one that it does not know; and the word, if it is the last one of its word. */
+static void say_wrong(const struct wanted *wanted, const char *word, int option, int letter) {
+    char one[] = {(char)letter, '\0'};
+    if (option == ':' && strncmp(word, "--", 2) == 0)
+        say("option '%s' requires an argument", word);
+    else if (option == ':')
+        say("option requires an argument -- '%s'", one);
+    else if (letter == 0)
+        say_unknown(wanted, word);
+    else if (is_wanted(wanted, letter))
+        say("option '--%s' doesn't allow an argument", name_of(letter));
+    else if (!say_elsewhere("", 0, letter))
+        say("invalid option -- '%s'", one);
+}
+
 /* An option given again takes the place of the one before, so that an alias can be overruled. */
-static enum asked take(struct options *options, int option) {
-    if (option == 'h')
+static enum asked take(struct options *options, const struct wanted *wanted, int option, char **argv) {
+    if (option == HELP)
         return ASKED_HELP;
-    if (option == 'V')
+    if (option == VERSION)
         return ASKED_VERSION;
-    if (option == '?')
-        return ASKED_WRONGLY; /* getopt_long has said why */
-    if (option < OPTIONS && is_digit((char)option)) {
+    if (option == '?' || option == ':') {
+        say_wrong(wanted, argv[optind - 1], option, optopt);
+        return ASKED_WRONGLY;
+    }
+    if (option < KEEP && is_digit((char)option)) {
         say("-WIDTH must be the first argument; use -w WIDTH");
         return ASKED_WRONGLY;
     }
-    options->flags |= FLAG[option];
+    options->flags |= row_of(option)->flag;
     options->value[option] = optarg == NULL ? "" : optarg;
     return ASKED_WORK;
 }
@@ -167,26 +236,15 @@ static bool takes_width(struct options *options, int argc, char **argv) {
     return true;
 }
 
-/* fmt's options, and behind them the subcommand's own. */
-static const struct option *join_rows(const struct option *own) {
-    static struct option rows[ROWS_OF(LONG) + MOST_OWN];
-    size_t count = ROWS_OF(LONG) - 1;
-    memcpy(rows, LONG, sizeof LONG);
-    for (; own != NULL && own->name != NULL && count < ROWS_OF(rows) - 1; own++)
-        rows[count++] = *own;
-    rows[count] = LONG[ROWS_OF(LONG) - 1];
-    return rows;
-}
-
-enum asked read_options(struct options *options, const struct option *own, int argc, char **argv) {
-    const struct option *rows = join_rows(own);
+enum asked read_options(struct options *options, const int *takes, int argc, char **argv) {
+    struct wanted wanted = wanted_of(takes);
     enum asked asked = ASKED_WORK;
     int option;
     *options = (struct options){0};
-    if (takes_width(options, argc, argv))
+    if (wanted.width && takes_width(options, argc, argv))
         argc--, argv++;
-    while (asked == ASKED_WORK && (option = getopt_long(argc, argv, SHORT, rows, NULL)) != -1)
-        asked = take(options, option);
+    while (asked == ASKED_WORK && (option = getopt_long(argc, argv, wanted.letters, wanted.rows, NULL)) != -1)
+        asked = take(options, &wanted, option, argv);
     options->files = argv + optind;
     options->count = argc - optind;
     build_block(options);

@@ -4,33 +4,14 @@
  * rudignals_explain. */
 #define _POSIX_C_SOURCE 200809L
 #include "page.h"
-#include "salvage.h"
+
+#include "cut.h"
+#include "lines.h"
+#include "output.h"
+#include "subcommand.h"
 
 #include <stdlib.h>
 #include <string.h>
-
-static const char USAGE[] = " [-WIDTH] [OPTION]... [FILE] >PAGE\n"
-                            "Formats FILE, or standard input (also -), as `format' does, and writes a page for\n"
-                            "a browser: the digest line by line; for the line that is pointed at, with the\n"
-                            "mouse, a finger or the arrow keys, the notes that it comes from, byte for byte,\n"
-                            "and why it ends where it does; and its last 24 lines as the wall panel shows\n"
-                            "them. The page is one file, loads nothing and works without script too. What\n"
-                            "stands in the notes is shown and takes no effect.\n"
-                            "\n";
-
-static const char SIGNS[] =
-    "\n"
-    "Damaged lines and lines over the width are listed first. Where there is no\n"
-    "digest, because FILE is refused or cannot be read, the page says so, and shows\n"
-    "the notes and the place in them.\n"
-    "\n"
-    "Exit status: 0 the page shows a digest; 1 something was refused, not read or\n"
-    "not written; 2 a wrong call.\n";
-
-static int show_help(void) {
-    printf("Usage: %s%s%s%s", subject, USAGE, OPTIONS_HELP, SIGNS);
-    return shown();
-}
 
 /* ---- the pieces and lines of the digest */
 
@@ -56,8 +37,8 @@ static bool index_part(struct page *page, size_t at, size_t length, size_t *dige
     bool well = index != NULL;
     if (!well)
         return false;
-    answer = rudignals_write_indexed(page->options->block, page->options->block_len, page->notes + at, length, page->digest->bytes + *digest_at,
-                                     page->digest->length - *digest_at, index, length, &filled);
+    answer = rudignals_write_indexed(page->options->block, page->options->block_len, page->notes + at, length, page->digest->text.bytes + *digest_at,
+                                     page->digest->text.length - *digest_at, index, length, &filled);
     well = rudignals_code_of(answer) == RUDIGNALS_DONE;
     for (i = 0; well && i < filled; i++)
         well = add_piece(page, &index[i], at, length);
@@ -78,12 +59,12 @@ static bool find_pieces(struct page *page) {
 }
 
 static void find_lines(struct page *page) {
-    const uint8_t *bytes = page->digest->bytes, *feed;
+    const uint8_t *bytes = page->digest->text.bytes, *feed;
     uint64_t tab = tab_of(page->options);
     size_t at = 0, i;
     for (i = 0; i < page->lines_len; i++) {
         struct line *line = &page->lines[i];
-        feed = memchr(bytes + at, '\n', page->digest->length - at);
+        feed = memchr(bytes + at, '\n', page->digest->text.length - at);
         line->at = at;
         line->length = (size_t)(feed - (bytes + at));
         line->look = look_at(bytes + at, line->length, tab);
@@ -136,10 +117,10 @@ static bool read_page(struct page *page) {
 enum { MOST_LINES = 65536, MOST_BYTES = 4 << 20 };
 
 static bool fits_page(const struct page *page) {
-    if (page->lines_len <= MOST_LINES && page->digest->length <= MOST_BYTES)
+    if (page->lines_len <= MOST_LINES && page->digest->text.length <= MOST_BYTES)
         return true;
     say("%s: the digest has %lu lines and %lu bytes, and a page shows at most %d and %d; `rudignals format' writes it", page->label,
-        (unsigned long)page->lines_len, (unsigned long)page->digest->length, MOST_LINES, MOST_BYTES);
+        (unsigned long)page->lines_len, (unsigned long)page->digest->text.length, MOST_LINES, MOST_BYTES);
     return false;
 }
 
@@ -166,13 +147,13 @@ static bool write_page(const struct page *page, enum outcome outcome, const char
 
 /* A page that says why there is no digest: an empty one would look like a quiet night. */
 static int write_failure(struct page *page, enum outcome outcome, const char *reason, int status) {
-    put_failure(&page->panel, outcome, reason, page->label);
+    put_failure(&page->panel, &page->facts, outcome, reason, NULL, 8, true);
     return write_page(page, outcome, reason) ? status : FAILED;
 }
 
 static int page_of(struct page *page, const char *name) {
     static struct window window;
-    static struct text notes;
+    static struct buffer notes;
     static struct digest digest;
     enum outcome outcome;
     window.kept = &notes;
@@ -180,7 +161,7 @@ static int page_of(struct page *page, const char *name) {
     page->digest = &digest;
     page->notes = notes.bytes;
     page->notes_len = notes.length;
-    page->lines_len = outcome == MADE ? feeds(digest.bytes, digest.length) : 0;
+    page->lines_len = outcome == MADE ? feeds(digest.text.bytes, digest.text.length) : 0;
     page->read_whole = window.ended;
     if (outcome == MADE && !fits_page(page))
         outcome = REFUSED;
@@ -190,16 +171,17 @@ static int page_of(struct page *page, const char *name) {
     }
     if (outcome != MADE)
         return write_failure(page, outcome, last_said(), FAILED);
-    put_digest(&page->panel, &digest, tab_of(page->options), page->label);
+    put_digest(&page->panel, &page->facts, &digest.text, tab_of(page->options), true);
     return write_page(page, MADE, NULL) ? WELL : FAILED;
 }
 
-static int page_asked(const struct options *options) {
+static int run_page(const struct options *options) {
     static struct page page;
     const char *name = options->count == 0 ? "-" : options->files[0];
     int status;
     page.options = options;
     page.label = label_of(name);
+    page.facts = facts_of(name);
     if (!options_accepted(options))
         return write_failure(&page, REFUSED, last_said(), WRONG_CALL);
     if (options->count > 1) {
@@ -213,22 +195,36 @@ static int page_asked(const struct options *options) {
     return status;
 }
 
-/* What is wrong with the call was said by getopt_long. */
-static int page_asked_wrongly(const struct options *options) {
+static int run_page_wrongly(const struct options *options) {
     static struct page page;
     page.options = options;
     page.label = "the notes";
-    wrong_call();
+    page.facts = facts_of("-");
     return write_failure(&page, NOT_READ, "rudignals page was called wrongly, and said why on standard error", WRONG_CALL);
 }
 
-int run_page(int argc, char **argv) {
-    struct options options;
-    argv[0] = (char *)called; /* getopt_long's messages begin with it */
-    switch (read_options(&options, NULL, argc, argv)) {
-    case ASKED_WORK: return page_asked(&options);
-    case ASKED_HELP: return show_help();
-    case ASKED_VERSION: return show_version();
-    default: return page_asked_wrongly(&options);
-    }
-}
+static const int TAKES[] = {'o', FORMATTING, 0};
+
+const struct subcommand page_subcommand = {
+    .name = "page",
+    .does = "write a page on which lines of a digest can be pointed at",
+    .arguments = "[FILE] >PAGE",
+    .about = "Formats FILE, or standard input (also -), as `format' does, and writes a page\n"
+             "for a browser: the digest line by line; for the line that is pointed at, with\n"
+             "the mouse, a finger or the arrow keys, the notes that it comes from, byte for\n"
+             "byte, and why it ends where it does; and its last 24 lines as the wall panel\n"
+             "shows them. The page is one file, loads nothing and works without script too.\n"
+             "What stands in the notes is shown and takes no effect.\n",
+    .takes = TAKES,
+    .limits = "Damaged lines and lines over the width are listed first. Where there is no\n"
+              "digest, because FILE is refused or cannot be read, the page says so, and shows\n"
+              "the notes and the place in them.\n"
+              "\n"
+              "Limits: no more than 65536 bytes without an empty line, 1024 words in a\n"
+              "paragraph, and 65536 lines or 4 MiB of digest.\n",
+    .statuses = "0 the page shows a digest; 1 something was refused, not read or\n"
+                "not written; 2 a wrong call",
+    .draws = true,
+    .run = run_page,
+    .run_wrongly = run_page_wrongly,
+};

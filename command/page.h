@@ -2,7 +2,7 @@
 #ifndef PAGE_H
 #define PAGE_H
 
-#include "command.h"
+#include "panel.h"
 
 /* ---- markup.c: bytes as the text of a page */
 
@@ -52,6 +52,7 @@ struct page {
     size_t pieces_len;
     struct line *lines;
     size_t lines_len;
+    struct facts facts;
     struct panel panel;
 };
 

@@ -1,169 +1,80 @@
-/* rudignals panel: reads a file, has it formatted, shows the end of the digest as the wall panel does. */
-#define _POSIX_C_SOURCE 200809L
-#include "command.h"
+/* rudignals panel: the end of a digest as the wall panel shows it, once or as long as it is looked at. */
+#include "panel.h"
 
-#include <getopt.h>
-#include <stdlib.h>
+#include "say.h"
+#include "subcommand.h"
+
 #include <string.h>
-#include <sys/stat.h>
-
-static const struct option OWN[] = {
-    {"text", no_argument, NULL, TEXT},
-    {"svg", required_argument, NULL, SVG},
-    {"follow", no_argument, NULL, FOLLOW},
-    {NULL, 0, NULL, 0},
-};
-
-static const char USAGE[] = " [-WIDTH] [OPTION]... [FILE]\n"
-                            "Formats FILE, or standard input (also -), and shows the last 24 lines as the\n"
-                            "wall panel does, in 80 columns, the newest at the bottom.\n"
-                            "\n"
-                            "      --text               as text in a frame; this is the default\n"
-                            "      --svg PICTURE        as a picture, 1920 x 1080; - is standard output\n"
-                            "      --follow             draw again whenever FILE changes, until a signal\n"
-                            "                           (Ctrl-C) ends it\n"
-                            "\n"
-                            "and the options of format:\n"
-                            "\n";
-
-static const char SIGNS[] =
-    "\n"
-    "A line that runs past column 80 has + in its last column, a byte that is part\n"
-    "of no character is shown as U+FFFD; both are coloured. What takes no column, a\n"
-    "combining mark say, is not shown.\n"
-    "\n"
-    "Where there is no digest, because FILE is refused or cannot be read, the\n"
-    "bottom rows say so in red, between ! marks. Below the panel stands how many\n"
-    "lines there are. With --svg, --text draws both. A PICTURE that is there and is\n"
-    "no panel is not written over.\n"
-    "\n"
-    "Exit status: 0 the digest was shown; 1 something was refused, not read or not\n"
-    "written; 2 a wrong call. With --follow it is that of the last drawing.\n";
-
-static int show_help(void) {
-    printf("Usage: %s%s%s%s", subject, USAGE, OPTIONS_HELP, SIGNS);
-    return shown();
-}
-
-/* ---- drawing */
-
-/* All in one piece, so that a screen does not flicker. Behind the last line of a screen stands no line feed, which would move it. */
-static void draw_screen(FILE *out, const struct panel *panel, bool whole_screen) {
-    struct view view = view_of_output(whole_screen);
-    bool screen = whole_screen && view.terminal;
-    fputs(screen ? "\033[H\033[2J" : "", out);
-    draw_text(out, panel, &view);
-    fputs(screen ? "" : "\n", out);
-}
-
-static bool write_text(const struct panel *panel, bool whole_screen) {
-    char *bytes = NULL;
-    size_t length = 0;
-    FILE *out = open_memstream(&bytes, &length);
-    bool well = out != NULL;
-    if (well) {
-        draw_screen(out, panel, whole_screen);
-        well = fclose(out) == 0;
-    }
-    if (well)
-        well = write_out(bytes, length);
-    else
-        say("no memory for the panel");
-    free(bytes);
-    return well;
-}
-
-static bool write_panel(const struct show *show, const struct panel *panel, bool whole_screen) {
-    bool well = true;
-    if (show->picture != NULL)
-        well = draw_picture(panel, show->picture);
-    if (show->text)
-        well = write_text(panel, whole_screen) && well;
-    return well;
-}
-
-/* A pipe cannot be read again, and would be waited for with the signals blocked. */
-static bool can_be_followed(const char *name) {
-    struct stat about;
-    return stat(name, &about) != 0 || S_ISREG(about.st_mode);
-}
-
-static enum outcome digest_shown(const struct show *show, struct digest *digest) {
-    static struct window window;
-    if (show->options.value[FOLLOW] == NULL || can_be_followed(show->name))
-        return digest_file(&show->options, show->name, &window, digest);
-    say("%s: is no file that can be followed", show->name);
-    return NOT_READ;
-}
-
-int draw_once(const struct show *show, bool whole_screen, bool *written) {
-    static struct digest digest;
-    static struct panel panel;
-    enum outcome outcome = digest_shown(show, &digest);
-    if (outcome == MADE)
-        put_digest(&panel, &digest, tab_of(&show->options), label_of(show->name));
-    else
-        put_failure(&panel, outcome, last_said(), label_of(show->name));
-    *written = write_panel(show, &panel, whole_screen);
-    return *written && panel.bar == 0 ? WELL : FAILED;
-}
-
-/* A picture that nobody draws again would look like a quiet night. */
-bool draw_end(const struct show *show) {
-    static struct panel panel;
-    if (show->picture == NULL)
-        return true;
-    put_failure(&panel, ENDED, "The command that drew this panel was ended.", show->name);
-    return draw_picture(&panel, show->picture);
-}
-
-/* The options are refused: so would be every digest, and an old picture is not to be taken for it. */
-static int draw_refused_options(const struct show *show) {
-    static struct panel panel;
-    put_failure(&panel, REFUSED, last_said(), label_of(show->name));
-    write_panel(show, &panel, false);
-    return WRONG_CALL;
-}
-
-/* ---- the call */
 
 static bool is_dash(const char *name) { return name != NULL && strcmp(name, "-") == 0; }
 
 /* Says what is wrong with the options taken together. */
 static bool goes_together(const struct show *show) {
-    bool follow = show->options.value[FOLLOW] != NULL;
     if (show->options.count > 1)
         say("the panel shows one file, and %d are named", show->options.count);
-    else if (follow && is_dash(show->name))
+    else if (show->follow && is_dash(show->name))
         say("--follow: a file must be named");
-    else if (follow && is_dash(show->picture))
-        say("--follow: the picture must go to a file");
-    else if (show->text && is_dash(show->picture))
-        say("--text and --svg - would both go to standard output");
+    else if (show->follow && (is_dash(show->picture) || is_dash(show->page)))
+        say("--follow: the %s must go to a file", is_dash(show->picture) ? "picture" : "page");
+    else if (show->follow && show->options.value['o'] != NULL)
+        say("--follow: a panel that is drawn again goes to a terminal, to PICTURE or to PAGE");
+    else if (is_dash(show->picture) + is_dash(show->page) + show->text > 1)
+        say("%s and %s would both go to standard output", show->text ? "--text" : "--svg -", is_dash(show->picture) && show->text ? "--svg -" : "--html -");
+    else if (show->picture != NULL && show->page != NULL && strcmp(show->picture, show->page) == 0)
+        say("--svg and --html name the same file");
     else
         return true;
     return false;
 }
 
-static int show_asked(struct show *show) {
-    bool written;
-    show->name = show->options.count == 0 ? "-" : show->options.files[0];
-    show->picture = show->options.value[SVG];
-    show->text = show->picture == NULL || show->options.value[TEXT] != NULL;
-    if (!goes_together(show))
+static int run_panel(const struct options *options) {
+    static struct show show;
+    show.options = *options;
+    show.name = options->count == 0 ? "-" : options->files[0];
+    show.picture = options->value[SVG];
+    show.page = options->value[HTML];
+    show.text = (show.picture == NULL && show.page == NULL) || options->value[TEXT] != NULL;
+    show.follow = options->value[FOLLOW] != NULL;
+    show.cut = options->value[CUT] != NULL;
+    if (!goes_together(&show))
         return wrong_call();
-    if (!options_accepted(&show->options))
-        return draw_refused_options(show);
-    return show->options.value[FOLLOW] != NULL ? follow(show) : draw_once(show, false, &written);
+    if (!options_accepted(options)) {
+        draw_refused_options(&show);
+        return WRONG_CALL;
+    }
+    return show.follow ? follow(&show) : draw_now(&show, false).status;
 }
 
-int run_panel(int argc, char **argv) {
-    static struct show show;
-    argv[0] = (char *)called; /* getopt_long's messages begin with it */
-    switch (read_options(&show.options, OWN, argc, argv)) {
-    case ASKED_WORK: return show_asked(&show);
-    case ASKED_HELP: return show_help();
-    case ASKED_VERSION: return show_version();
-    default: return wrong_call();
-    }
-}
+static const int TAKES[] = {TEXT, SVG, HTML, FOLLOW, CUT, 'o', FORMATTING, 0};
+
+const struct subcommand panel_subcommand = {
+    .name = "panel",
+    .does = "show the last lines of formatted notes as a wall panel does",
+    .arguments = "[FILE]",
+    .about = "Formats FILE, or standard input (also -), and shows its end as the wall panel\n"
+             "does, in 24 rows of 80 columns, the newest at the bottom.\n",
+    .takes = TAKES,
+    .limits = "A row that goes on with the line above has > beside it, in a picture an arrow,\n"
+              "and in a window of 80 columns another colour. With --cut a line that runs past\n"
+              "column 80 has + in its last column. A byte that is part of no character is\n"
+              "shown as U+FFFD. What takes no column, a combining mark say, is not shown; nor\n"
+              "are blank lines at the end.\n"
+              "\n"
+              "Below the rows stand how many lines there are, how many of them are damaged or\n"
+              "cut, how many begin above the rows, when it was drawn, and the file's name and\n"
+              "last change. A window of under 80 columns or 25 rows shows only that it is too\n"
+              "small.\n"
+              "\n"
+              "Where there is no digest, because FILE is refused or cannot be read, the\n"
+              "bottom rows say so in red, between ! marks; above them stands the end of the\n"
+              "notes as they are. With --svg or --html, --text draws as well. A file that is\n"
+              "there and is no such drawing is not written over. With --follow a drawing that\n"
+              "cannot be written, on a full disk say, is tried again, and told.\n"
+              "\n"
+              "Limits: a file may have any length, but no more than 65536 bytes without\n"
+              "an empty line and no more than 1024 words in a paragraph.\n",
+    .statuses = "0 the digest was shown; 1 something was refused, not read or not\n"
+                "written; 2 a wrong call. With --follow it is that of the last drawing",
+    .draws = true,
+    .run = run_panel,
+};

@@ -1,21 +1,10 @@
 /* Why a line of the digest ends where it does, in words: the library's reason, with its very numbers. */
-#include "command.h"
+#include "reasons.h"
+
+#include "numbers.h"
+#include "say.h"
 
 #include <inttypes.h>
-
-char *in_thousands(uint64_t number, char room[GROUPED]) {
-    char *at = room + GROUPED - 1;
-    int digits = 0;
-    *at = '\0';
-    do {
-        if (digits > 0 && digits % 3 == 0)
-            *--at = ',';
-        *--at = (char)('0' + number % 10);
-        number /= 10;
-        digits++;
-    } while (number > 0);
-    return at;
-}
 
 /* The column that the next word would reach is the sum that the fit test compares with the width. */
 static char *not_fit(const uint64_t reason[6], const struct options *options) {

@@ -1,7 +1,9 @@
 /* What the library refuses, in words: what was given, the rule, and what to do. */
-#include "command.h"
+#include "refusals.h"
 
-#include <stdlib.h>
+#include "say.h"
+
+#include <inttypes.h>
 #include <string.h>
 
 static void say_option(const struct options *options, int option, const char *rule) {
@@ -21,14 +23,14 @@ static void say_prefix(const struct options *options, int option) {
 /* Each number is in its range, and width and goal do not go together: goal <= width <= 2 * goal. */
 static void say_width_and_goal(const struct options *options) {
     const char *width = options->value['w'], *goal = options->value['g'];
-    unsigned long most;
+    uint64_t most;
     if (goal == NULL) {
         say_option(options, 'w', "6 to 1000 without --goal");
     } else if (width == NULL) {
         say_option(options, 'g', "3 to 940 without --width");
     } else {
-        most = strtoul(width, NULL, 10);
-        say("--goal %s: must be %lu to %lu with --width %s", goal, (most + 1) / 2, most, width);
+        most = width_of(options);
+        say("--goal %s: must be %" PRIu64 " to %" PRIu64 " with --width %s", goal, (most + 1) / 2, most, width);
     }
 }
 

@@ -2,34 +2,29 @@
  *
  * The copy is taken in parts that end with a line, as it was made; each part gets the entries whose places lie in it. All is in memory
  * before a byte is written, and nothing is written if an entry does not belong to the copy. */
-#include "salvage.h"
+#include "lines.h"
+#include "listed.h"
+#include "numbers.h"
+#include "output.h"
+#include "subcommand.h"
 
 #include <errno.h>
-#include <stdlib.h>
+#include <string.h>
 
-static const char HELP[] = " LIST [FILE]\n"
-                           "Brings the old notes back from the mended copy FILE, or standard input (also -),\n"
-                           "and LIST, as rudignals salvage wrote them. The notes go to standard output.\n"
-                           "Nothing is written if a line of LIST does not belong to the copy: that line is\n"
-                           "named.\n";
-
-/* The list's next entry, if there is one. */
+/* The list, and its next entry, if there is one. */
 struct entries {
-    FILE *file;
     const char *name;
-    unsigned long line; /* of the entry, from 1 */
-    unsigned long place;
-    unsigned int byte;
+    struct lines lines;
+    uint64_t place;
+    uint8_t byte;
     bool there;
 };
 
-static bool next_entry(struct entries *list) {
-    char text[64], rest;
-    list->there = fgets(text, sizeof text, list->file) != NULL;
-    if (!list->there)
-        return !ferror(list->file);
-    list->line++;
-    return sscanf(text, "%lu %2x%c", &list->place, &list->byte, &rest) == 3 && rest == '\n' && list->byte <= 0xFF;
+/* `PLACE BYTE', a line feed behind it: what salvage writes. */
+static bool read_entry(struct entries *list) {
+    const char *line = (const char *)list->lines.line, *blank = memchr(line, ' ', list->lines.length);
+    return blank != NULL && list->lines.fed && list->lines.length == (size_t)(blank - line) + 4 && read_number(line, (size_t)(blank - line), &list->place) &&
+           read_byte(blank + 1, &list->byte);
 }
 
 static bool say_stray(const struct entries *list, unsigned long line) {
@@ -37,27 +32,32 @@ static bool say_stray(const struct entries *list, unsigned long line) {
     return false;
 }
 
+static bool next_entry(struct entries *list) {
+    list->there = next_line(&list->lines);
+    return !list->there || read_entry(list) || say_stray(list, list->lines.number);
+}
+
 /* The entries of a part of the copy that begins at an old place: an entry stands as many bytes further on as entries are before it. */
-static bool take_entries(struct entries *list, unsigned long from, size_t length, uint32_t *places, uint8_t *bytes, size_t *count) {
+static bool take_entries(struct entries *list, uint64_t from, size_t length, uint32_t *places, uint8_t *bytes, size_t *count) {
     *count = 0;
-    while (list->there && *count < RUDIGNALS_MOST_NOTES && list->place >= from && list->place - from + *count < length) {
+    while (list->there && *count < RUDIGNALS_MOST_NOTES && list->place >= from && list->place - from < length && list->place - from + *count < length) {
         places[*count] = (uint32_t)(list->place - from);
-        bytes[(*count)++] = (uint8_t)list->byte;
+        bytes[(*count)++] = list->byte;
         if (!next_entry(list))
-            return say_stray(list, list->line);
+            return false;
     }
     return true;
 }
 
-static bool restore_part(struct text *notes, struct entries *list, unsigned long from, const uint8_t *part, size_t length) {
+static bool restore_part(struct buffer *notes, struct entries *list, uint64_t from, const uint8_t *part, size_t length) {
     static uint32_t places[RUDIGNALS_MOST_NOTES];
     static uint8_t bytes[RUDIGNALS_MOST_NOTES];
-    unsigned long first = list->line;
+    unsigned long first = list->lines.number;
     uint64_t answer;
     size_t count;
     if (!take_entries(list, from, length, places, bytes, &count))
         return false;
-    if (!widen(notes, length + 1)) {
+    if (!buffer_room(notes, length + 1)) {
         say("no memory for the notes");
         return false;
     }
@@ -68,7 +68,7 @@ static bool restore_part(struct text *notes, struct entries *list, unsigned long
     return true;
 }
 
-static bool restore_file(const char *label, struct window *window, struct entries *list, struct text *notes) {
+static bool restore_window(const char *label, struct window *window, struct entries *list, struct buffer *notes) {
     size_t length;
     do {
         if (!fill_window(window)) {
@@ -80,44 +80,58 @@ static bool restore_file(const char *label, struct window *window, struct entrie
             say("%s: a line has more than %lu bytes; no mended copy has", label, (unsigned long)sizeof window->bytes);
             return false;
         }
-        if (!restore_part(notes, list, (unsigned long)notes->length, window->bytes, length))
+        if (!restore_part(notes, list, notes->length, window->bytes, length))
             return false;
         drop_bytes(window, length);
     } while (!window->ended || window->length > 0);
-    return !list->there || say_stray(list, list->line);
+    return !list->there || say_stray(list, list->lines.number);
 }
 
-static bool restore_with(const struct files *files, struct entries *list, struct text *notes) {
+static bool restore_file(const char *name, struct entries *list, struct buffer *notes) {
     static struct window window;
     bool whole;
     if (!next_entry(list))
-        return say_stray(list, list->line);
-    if (!open_window(&window, files->file)) {
-        say_failure(files->label, errno);
+        return false;
+    if (!open_window(&window, name)) {
+        say_failure(label_of(name), errno);
         return false;
     }
-    whole = restore_file(files->label, &window, list, notes);
+    whole = restore_window(label_of(name), &window, list, notes);
     close_window(&window);
     return whole;
 }
 
-int run_restore(int argc, char **argv) {
-    struct text notes = {0};
-    struct entries list = {0};
+static int run_restore(const struct options *options) {
+    struct buffer notes = {0}, list = {0};
+    struct entries entries = {0};
     struct files files;
     bool whole;
-    int status;
-    if (!read_files(&files, argc, argv, HELP, &status))
-        return status;
-    list.name = files.list;
-    list.file = fopen(files.list, "r");
-    if (list.file == NULL) {
+    if (!find_files(&files, options))
+        return wrong_call();
+    whole = read_whole(files.list, &list);
+    if (!whole)
         say_failure(files.list, errno);
-        return FAILED;
-    }
-    whole = restore_with(&files, &list, &notes);
-    fclose(list.file);
-    whole = whole && write_out(notes.bytes == NULL ? (const uint8_t *)"" : notes.bytes, notes.length);
-    free(notes.bytes);
+    entries.name = files.list;
+    entries.lines = read_lines(list.bytes, list.length);
+    whole = whole && restore_file(files.file, &entries, &notes) && write_out(notes.bytes, notes.length);
+    buffer_free(&notes);
+    buffer_free(&list);
     return whole ? WELL : FAILED;
 }
+
+static const int TAKES[] = {'o', 0};
+
+const struct subcommand restore_subcommand = {
+    .name = "restore",
+    .does = "bring the old notes back from a mended copy and its list",
+    .arguments = "LIST [FILE]",
+    .about = "Brings the old notes back from the mended copy FILE, or standard input (also\n"
+             "-), and LIST, as rudignals salvage wrote them. The notes go to standard output.\n"
+             "Nothing is written if a line of LIST does not belong to the copy: that line is\n"
+             "named, counted from 1.\n",
+    .takes = TAKES,
+    .limits = "Limits: a file may have any length, a line at most 131072 bytes, which is more\n"
+              "than a mended copy has.\n",
+    .statuses = "0 the notes were written; " STATUSES,
+    .run = run_restore,
+};

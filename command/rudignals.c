@@ -1,66 +1,54 @@
-/* The command: finds the subcommand and calls it. */
-#include "command.h"
+/* The command: finds the subcommand, reads its options and has it run. */
+#include "help.h"
+#include "output.h"
+#include "table.h"
 
 #include <signal.h>
+#include <stdio.h>
 #include <string.h>
-
-/* A subcommand: its name, and what it does, for --help. The function run_NAME stands in the file NAME.c. */
-#define SUBCOMMANDS(X)                                                                                                                       \
-    X(format, "reformat the paragraphs of notes; also called fmt")                                                                            \
-    X(panel, "show the last lines of formatted notes as a wall panel does")                                                                   \
-    X(index, "show which notes each line of their digest comes from")                                                                         \
-    X(explain, "tell why the lines of their digest end where they do")                                                                        \
-    X(page, "write a page on which lines of a digest can be pointed at")                                                                      \
-    X(salvage, "mend notes in ISO 8859-1, with a list of what was changed")                                                                   \
-    X(restore, "bring the old notes back from a mended copy and its list")                                                                    \
-    X(flow, "write the digest of notes as mail of format=flowed")                                                                             \
-    X(unflow, "read mail of format=flowed, a paragraph a line")                                                                               \
-    X(check, "check a digest against its notes")
-
-#define DECLARED(name, does) int run_##name(int argc, char **argv);
-SUBCOMMANDS(DECLARED)
-
-struct subcommand {
-    const char *name;
-    const char *does;
-    const char *subject;
-    int (*run)(int argc, char **argv);
-};
-
-#define ROW(name, does) {#name, does, "rudignals " #name, run_##name},
-static const struct subcommand TABLE[] = {SUBCOMMANDS(ROW){NULL, NULL, NULL, NULL}};
-
-static int show_help(void) {
-    const struct subcommand *row;
-    fputs("Usage: rudignals SUBCOMMAND [OPTION]... [FILE]...\n"
-          "A paragraph formatter for operators' notes.\n"
-          "\n",
-          stdout);
-    for (row = TABLE; row->name != NULL; row++)
-        printf("  %-10s %s\n", row->name, row->does);
-    fputs("\n"
-          "rudignals SUBCOMMAND --help tells more; rudignals --version shows the version.\n"
-          "Exit status: 0 done; 1 something was refused, not read or not written; 2 a\n"
-          "wrong call.\n",
-          stdout);
-    return shown();
-}
 
 static bool is(const char *word, const char *name) { return strcmp(word, name) == 0; }
 
+/* What did not arrive counts, unless something worse was found. */
+static int closed(int status, int unwritten, bool wanted) { return close_output(wanted) || status > unwritten ? status : unwritten; }
+
+/* With -o the file is written if all is well; a drawing of what is not, too. */
+static int closed_for(const struct subcommand *chosen, const struct options *options, int status) {
+    bool wanted = status == WELL || (chosen->draws && output_begun());
+    if (chosen->quiet && !output_begun())
+        return status;
+    if (!wanted && status == FAILED && options->value['o'] != NULL && !output_failed())
+        say("%s: is not written", options->value['o']);
+    return closed(status, chosen->unwritten == WELL ? FAILED : chosen->unwritten, wanted);
+}
+
+static int run_wrongly(const struct subcommand *chosen, const struct options *options) {
+    wrong_call();
+    return chosen->run_wrongly == NULL ? WRONG_CALL : chosen->run_wrongly(options);
+}
+
 static int run(const struct subcommand *chosen, int argc, char **argv) {
-    subject = chosen->subject;
-    return close_output(chosen->run(argc, argv));
+    struct options options;
+    enum asked asked = read_options(&options, chosen->takes, argc, argv);
+    int status;
+    options.table = TABLE;
+    if (asked == ASKED_HELP)
+        return closed(show_help(chosen), FAILED, true);
+    if (asked == ASKED_VERSION)
+        return closed(show_version(), FAILED, true);
+    set_output(options.value['o']);
+    status = asked == ASKED_WORK ? chosen->run(&options) : run_wrongly(chosen, &options);
+    return closed_for(chosen, &options, status);
 }
 
 static int run_named(int argc, char **argv) {
-    const struct subcommand *row = TABLE;
-    while (row->name != NULL && !is(argv[0], row->name))
-        row++;
-    if (row->name != NULL)
-        return run(row, argc, argv);
-    say("%s: no such subcommand", argv[0]);
-    return wrong_call();
+    static char name[32];
+    const struct subcommand *chosen = subcommand_of(TABLE, argv[0]);
+    if (chosen == NULL)
+        return no_such_subcommand(TABLE, argv[0]);
+    snprintf(name, sizeof name, "rudignals %s", argv[0]);
+    subject = name;
+    return run(chosen, argc, argv);
 }
 
 static int run_asked(int argc, char **argv) {
@@ -69,9 +57,9 @@ static int run_asked(int argc, char **argv) {
         return wrong_call();
     }
     if (is(argv[1], "--help") || is(argv[1], "-h"))
-        return close_output(show_help());
+        return closed(show_list(TABLE), FAILED, true);
     if (is(argv[1], "--version") || is(argv[1], "-V"))
-        return close_output(show_version());
+        return closed(show_version(), FAILED, true);
     return run_named(argc - 1, argv + 1);
 }
 
@@ -83,11 +71,11 @@ static const char *name_in(const char *path) {
 
 /* A closed pipe is to be told like any other failure to write, so it must not end the program. */
 int main(int argc, char **argv) {
-    static const struct subcommand fmt = {"fmt", NULL, "fmt", run_format};
+    hold_streams();
     signal(SIGPIPE, SIG_IGN);
-    if (argc > 0 && is(name_in(argv[0]), fmt.name)) {
-        called = fmt.name;
-        return run(&fmt, argc, argv);
+    if (argc > 0 && is(name_in(argv[0]), "fmt")) {
+        called = subject = "fmt";
+        return run(subcommand_of(TABLE, "format"), argc, argv);
     }
     return run_asked(argc, argv);
 }

@@ -1,85 +1,31 @@
 /* rudignals salvage: notes in ISO 8859-1 made readable, with a list of what was changed.
  *
  * Lines are mended one by one (P5), so a file of any length is mended in parts that end with a line. All is in memory before a byte is
- * written. The list goes out first: a copy without its list could not be undone. */
-#include "salvage.h"
+ * written. The list goes out first: a copy without its list could not be undone. Where the copy does not arrive the list is taken back. */
+#define _POSIX_C_SOURCE 200809L
+#include "listed.h"
+#include "output.h"
+#include "subcommand.h"
+#include "whole.h"
 
 #include <errno.h>
-#include <stdlib.h>
-#include <string.h>
-
-static const char HELP[] = " LIST [FILE]\n"
-                           "Mends the lines of FILE, or of standard input (also -), that are not UTF-8: each\n"
-                           "byte from 80 to FF becomes the same character of ISO 8859-1 in UTF-8. Every other\n"
-                           "line is left as found. The mended copy goes to standard output, what was changed\n"
-                           "to the new file LIST: a line for each byte, its place in decimal, from 0, and the\n"
-                           "byte in hex. rudignals restore brings the old notes back.\n"
-                           "\n"
-                           "Limits: a file may have any length, a line at most 65536 bytes. LIST must not be\n"
-                           "there yet.\n";
-
-bool widen(struct text *text, size_t more) {
-    size_t wanted = text->length + more, room = 2 * text->room;
-    uint8_t *wider;
-    if (wanted <= text->room)
-        return true;
-    if (room < wanted)
-        room = wanted;
-    wider = realloc(text->bytes, room);
-    if (wider == NULL)
-        return false;
-    text->bytes = wider;
-    text->room = room;
-    return true;
-}
-
-size_t lines_within(const struct window *window, size_t most) {
-    size_t end = window->length < most ? window->length : most;
-    if (window->ended && window->length <= most)
-        return window->length;
-    while (end > 0 && window->bytes[end - 1] != '\n')
-        end--;
-    return end;
-}
-
-bool read_files(struct files *files, int argc, char **argv, const char *help, int *status) {
-    if (argc > 1 && (strcmp(argv[1], "--help") == 0 || strcmp(argv[1], "-h") == 0)) {
-        printf("Usage: %s%s", subject, help);
-        *status = shown();
-        return false;
-    }
-    if (argc > 1 && (strcmp(argv[1], "--version") == 0 || strcmp(argv[1], "-V") == 0)) {
-        *status = show_version();
-        return false;
-    }
-    if (argc < 2 || argc > 3 || (argv[1][0] == '-' && argv[1][1] != '\0')) {
-        say(argc < 2 ? "LIST is missing" : "LIST and at most one FILE are asked for");
-        *status = wrong_call();
-        return false;
-    }
-    files->list = argv[1];
-    files->file = argc == 3 ? argv[2] : "-";
-    files->label = strcmp(files->file, "-") == 0 ? "standard input" : files->file;
-    return true;
-}
+#include <unistd.h>
 
 /* The changes of a part whose first byte has a place in the file, as lines. */
-static bool add_changes(struct text *list, unsigned long place, const uint32_t *places, const uint8_t *bytes, size_t changes) {
+static bool add_changes(struct buffer *list, unsigned long place, const uint32_t *places, const uint8_t *bytes, size_t changes) {
     size_t i;
-    for (i = 0; i < changes; i++) {
-        if (!widen(list, 32))
+    for (i = 0; i < changes; i++)
+        if (!buffer_print(list, "%lu %02X\n", place + places[i], (unsigned)bytes[i]))
             return false;
-        list->length += (size_t)sprintf((char *)list->bytes + list->length, "%lu %02X\n", place + places[i], (unsigned)bytes[i]);
-    }
     return true;
 }
 
 /* Room for the longest copy and list of a part is always there, so nothing but memory can be missing. */
-static bool mend_part(struct text *copy, struct text *list, unsigned long place, const uint8_t *part, size_t length) {
+static bool mend_part(struct buffer *copy, struct buffer *list, unsigned long place, const uint8_t *part, size_t length) {
     static uint32_t places[RUDIGNALS_MOST_NOTES];
     static uint8_t bytes[RUDIGNALS_MOST_NOTES];
     uint64_t answer;
-    if (!widen(copy, 2 * length + 1))
+    if (!buffer_room(copy, 2 * length + 1))
         return false;
     answer = rudignals_mend(part, length, copy->bytes + copy->length, copy->room - copy->length, places, RUDIGNALS_MOST_NOTES, bytes, RUDIGNALS_MOST_NOTES);
     if (rudignals_code_of(answer) != RUDIGNALS_DONE)
@@ -88,7 +34,7 @@ static bool mend_part(struct text *copy, struct text *list, unsigned long place,
     return add_changes(list, place, places, bytes, rudignals_number_of(answer) - length);
 }
 
-static bool mend_file(const char *label, struct window *window, struct text *copy, struct text *list) {
+static bool mend_window(const char *label, struct window *window, struct buffer *copy, struct buffer *list) {
     unsigned long place = 0;
     size_t length;
     do {
@@ -111,39 +57,60 @@ static bool mend_file(const char *label, struct window *window, struct text *cop
     return true;
 }
 
-/* A list that is there already belongs to another copy, and stays. */
-static bool write_list(const char *name, const struct text *list) {
-    FILE *file = fopen(name, "wx");
-    bool whole;
-    if (file == NULL) {
-        say_failure(name, errno);
+static bool mend_file(const char *name, struct buffer *copy, struct buffer *list) {
+    static struct window window;
+    bool whole = open_window(&window, name);
+    if (!whole) {
+        say_failure(label_of(name), errno);
         return false;
     }
-    whole = list->length == 0 || fwrite(list->bytes, 1, list->length, file) == list->length;
-    whole = fclose(file) == 0 && whole;
-    if (!whole) {
-        say_failure(name, errno);
-        remove(name);
-    }
+    whole = mend_window(label_of(name), &window, copy, list);
+    close_window(&window);
     return whole;
 }
 
-int run_salvage(int argc, char **argv) {
-    static struct window window;
-    struct text copy = {0}, list = {0};
+/* A list that is there already belongs to another copy, and stays. */
+static bool write_both(const char *name, const struct buffer *list, const struct buffer *copy) {
+    if (!write_new(name, list->bytes, list->length)) {
+        say_failure(name, errno);
+        return false;
+    }
+    if (write_out(copy->bytes, copy->length) && end_output())
+        return true;
+    if (unlink(name) != 0)
+        say_failure(name, errno);
+    return false;
+}
+
+static int run_salvage(const struct options *options) {
+    struct buffer copy = {0}, list = {0};
     struct files files;
     bool whole;
-    int status;
-    if (!read_files(&files, argc, argv, HELP, &status))
-        return status;
-    if (!open_window(&window, files.file)) {
-        say_failure(files.label, errno);
-        return FAILED;
-    }
-    whole = mend_file(files.label, &window, &copy, &list);
-    close_window(&window);
-    whole = whole && write_list(files.list, &list) && write_out(copy.bytes == NULL ? (const uint8_t *)"" : copy.bytes, copy.length);
-    free(copy.bytes);
-    free(list.bytes);
+    if (!find_files(&files, options))
+        return wrong_call();
+    whole = mend_file(files.file, &copy, &list) && write_both(files.list, &list, &copy);
+    buffer_free(&copy);
+    buffer_free(&list);
     return whole ? WELL : FAILED;
 }
+
+static const int TAKES[] = {'o', 0};
+
+const struct subcommand salvage_subcommand = {
+    .name = "salvage",
+    .does = "mend notes in ISO 8859-1, with a list of what was changed",
+    .arguments = "LIST [FILE]",
+    .about = "Mends the lines of FILE, or of standard input (also -), that are not UTF-8:\n"
+             "each byte from 80 to FF becomes the same character of ISO 8859-1 in UTF-8.\n"
+             "Every other line is left as found. The mended copy goes to standard output,\n"
+             "what was changed to the new file LIST: a line for each byte, its place in\n"
+             "decimal, from 0, and the byte in hex. rudignals restore brings the old notes\n"
+             "back.\n",
+    .takes = TAKES,
+    .limits = "Both are written, or none: where the copy does not arrive LIST is taken back.\n"
+              "\n"
+              "Limits: a file may have any length, a line at most 65536 bytes. LIST must not\n"
+              "be there yet.\n",
+    .statuses = "0 both were written; " STATUSES,
+    .run = run_salvage,
+};

@@ -1,7 +1,11 @@
 /* Words for a person. */
-#include "command.h"
+#include "say.h"
+
+#include "progress.h"
+#include "visible.h"
 
 #include <stdarg.h>
+#include <stdio.h>
 #include <stdlib.h>
 #include <string.h>
 
@@ -11,29 +15,29 @@ const char *subject = "rudignals";
 bool silent = false;
 static char *said = NULL;
 
-/* Control characters, in the name of a file say, could spoil a terminal or look like another message. Those from U+0080 on are two bytes. */
-static void make_plain(char *text) {
-    for (; *text != '\0'; text++) {
-        if ((unsigned char)*text < ' ' || *text == 127)
-            *text = '?';
-        if ((unsigned char)text[0] == 0xC2 && ((unsigned char)text[1] & 0xE0) == 0x80)
-            text[0] = text[1] = '?';
-    }
+/* Control characters, in the name of a file say, could spoil a terminal or look like another message. */
+static char *made_visible(const char *text, size_t length) {
+    struct buffer plain = {0};
+    if (add_visible_line(&plain, text, length) && buffer_add(&plain, "", 1))
+        return (char *)plain.bytes;
+    buffer_free(&plain);
+    return NULL;
 }
 
-static char *fill(const char *sentence, va_list values) {
+PRINTS(1, 0) static char *fill(const char *sentence, va_list values) {
     va_list again;
-    size_t room;
-    char *text;
+    char *text, *plain = NULL;
+    int length;
     va_copy(again, values);
-    room = (size_t)vsnprintf(NULL, 0, sentence, again) + 1;
+    length = vsnprintf(NULL, 0, sentence, again);
     va_end(again);
-    text = malloc(room);
+    text = length < 0 ? NULL : malloc((size_t)length + 1);
     if (text != NULL) {
-        vsnprintf(text, room, sentence, values);
-        make_plain(text);
+        vsnprintf(text, (size_t)length + 1, sentence, values);
+        plain = made_visible(text, (size_t)length);
     }
-    return text;
+    free(text);
+    return plain;
 }
 
 char *words(const char *sentence, ...) {
@@ -52,8 +56,10 @@ void say(const char *sentence, ...) {
     va_start(values, sentence);
     said = fill(sentence, values);
     va_end(values);
-    if (!silent)
+    if (!silent) {
+        clear_progress();
         fprintf(stderr, "%s: %s\n", called, said == NULL ? sentence : said);
+    }
     free(before);
 }
 
@@ -65,10 +71,3 @@ int wrong_call(void) {
     fprintf(stderr, "Try '%s --help'.\n", subject);
     return WRONG_CALL;
 }
-
-int show_version(void) {
-    puts("rudignals " RUDIGNALS_VERSION);
-    return shown();
-}
-
-int shown(void) { return write_out("", 0) ? WELL : FAILED; }

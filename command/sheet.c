@@ -5,6 +5,10 @@
  * shows of the pieces the one that is pointed at. */
 #include "page.h"
 
+#include "numbers.h"
+#include "reasons.h"
+#include "say.h"
+
 #include <inttypes.h>
 #include <stdlib.h>
 #include <string.h>
@@ -48,13 +52,6 @@ static void put_head(FILE *out, const char *what, const char *label) {
     fputs("</script>\n<body>\n<p id=cut role=alert>This page is not whole: it is still being read, or it was cut short.</p>\n", out);
 }
 
-static void put_caption(FILE *out, const struct panel *panel) {
-    int length = caption_length(panel), column;
-    for (column = 0; column < length; column++)
-        if (caption_at(panel, column) != FILLER)
-            put_escaped(out, caption_at(panel, column));
-}
-
 static void put_wall(FILE *out, const struct panel *panel) {
     int row;
     fputs("<section id=wall aria-label='The wall panel'>\n<pre tabindex=0>", out);
@@ -64,7 +61,9 @@ static void put_wall(FILE *out, const struct panel *panel) {
         fputs("\n</span>", out);
     }
     fprintf(out, "</pre>\n<p%s>", panel->bar > 0 ? " class=bar" : "");
-    put_caption(out, panel);
+    put_below_escaped(out, panel, COUNTED);
+    fputs("<br>", out);
+    put_below_escaped(out, panel, DATED);
     fputs("</p>\n<p><a href=#top>Back to the page</a></p>\n</section>\n", out);
 }
 
@@ -116,7 +115,7 @@ static void put_digest_line(FILE *out, const struct page *page, size_t number, c
     const struct line *line = &page->lines[number];
     const char *class = is_damaged(page, line) ? " class=d" : is_over(page, line) ? " class=o" : "";
     fprintf(out, "<a id=%zu%s href=#n%lu>", number + 1, class, piece->note);
-    put_line(out, page->digest->bytes + line->at, line->length, tab_of(page->options));
+    put_line(out, page->digest->text.bytes + line->at, line->length, tab_of(page->options));
     fputs("\n</a>", out);
 }
 

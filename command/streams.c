@@ -1,43 +1,73 @@
-/* What comes in and what goes out. */
+/* What comes in. */
 #define _POSIX_C_SOURCE 200809L
-#include "salvage.h"
+#include "streams.h"
+
+#include "progress.h"
 
 #include <errno.h>
 #include <fcntl.h>
 #include <string.h>
+#include <sys/stat.h>
 #include <unistd.h>
 
+const char *label_of(const char *name) { return strcmp(name, "-") == 0 ? "standard input" : name; }
+
+/* A regular file may be read again from where it stands now: standard input may have been read before. */
+static void look_at_file(struct window *window) {
+    struct stat about;
+    if (fstat(window->file, &about) != 0 || !S_ISREG(about.st_mode))
+        return;
+    window->start = lseek(window->file, 0, SEEK_CUR);
+    if (window->start >= 0 && about.st_size > window->start)
+        window->size = (size_t)(about.st_size - window->start);
+}
+
 bool open_window(struct window *window, const char *name) {
-    window->length = 0;
-    window->ended = false;
+    struct buffer *kept = window->kept;
+    memset(window, 0, sizeof *window);
+    window->kept = kept;
     window->opened = strcmp(name, "-") != 0;
-    window->file = window->opened ? open(name, O_RDONLY) : STDIN_FILENO;
+    window->file = window->opened ? open(name, O_RDONLY | O_CLOEXEC) : STDIN_FILENO;
+    if (window->file >= 0)
+        look_at_file(window);
     return window->file >= 0;
 }
 
-static bool keep(struct text *kept, const uint8_t *bytes, size_t length) {
-    if (kept == NULL)
-        return true;
-    if (!widen(kept, length)) {
-        errno = ENOMEM;
-        return false;
-    }
-    memcpy(kept->bytes + kept->length, bytes, length);
-    kept->length += length;
-    return true;
+/* FNV-1a: a file that is written to meanwhile has another sum. */
+static void add_to_sum(struct window *window, const uint8_t *bytes, size_t length) {
+    uint64_t sum = window->sum;
+    size_t i;
+    for (i = 0; i < length; i++)
+        sum = (sum ^ bytes[i]) * 1099511628211u;
+    window->sum = sum;
+}
+
+/* So many bytes more, from the file or, the second time, from what was kept. */
+static ssize_t get(struct window *window, uint8_t *to, size_t most) {
+    if (window->again && most > window->all - window->read)
+        most = window->all - window->read;
+    if (!window->again || window->kept == NULL)
+        return most == 0 ? 0 : read(window->file, to, most);
+    if (most > 0)
+        memcpy(to, window->kept->bytes + window->read, most);
+    return (ssize_t)most;
 }
 
 /* A read may give less than asked for, from a pipe say. */
 bool fill_window(struct window *window) {
     ssize_t got;
+    show_progress(window->read, window->size);
     while (!window->ended && window->length < sizeof window->bytes) {
-        got = read(window->file, window->bytes + window->length, sizeof window->bytes - window->length);
+        uint8_t *to = window->bytes + window->length;
+        got = get(window, to, sizeof window->bytes - window->length);
         if (got < 0 && errno != EINTR)
             return false;
         window->ended = got == 0;
         if (got > 0) {
-            if (!keep(window->kept, window->bytes + window->length, (size_t)got))
+            if (window->kept != NULL && !window->again && !buffer_add(window->kept, to, (size_t)got))
                 return false;
+            add_to_sum(window, to, (size_t)got);
+            window->read += (size_t)got;
             window->length += (size_t)got;
         }
     }
@@ -54,19 +84,40 @@ void close_window(struct window *window) {
         close(window->file);
 }
 
-static bool written(bool well) {
-    if (!well)
-        say_failure("standard output", errno);
+/* A short file is kept too: so nobody can change it between the two. */
+enum { SHORT_FILE = 1 << 20 };
+
+void keep_if_needed(struct window *window, struct buffer *kept) {
+    kept->length = 0;
+    window->kept = window->size > SHORT_FILE ? NULL : kept;
+}
+
+bool rewind_window(struct window *window) {
+    if (window->kept == NULL && lseek(window->file, window->start, SEEK_SET) != window->start)
+        return false;
+    window->again = true;
+    window->all = window->read;
+    window->before = window->sum;
+    window->read = window->length = window->sum = 0;
+    window->ended = false;
+    return true;
+}
+
+bool is_unchanged(const struct window *window) { return window->read == window->all && window->sum == window->before; }
+
+bool read_whole(const char *name, struct buffer *buffer) {
+    static struct window window;
+    bool well;
+    int reason;
+    window.kept = buffer;
+    if (!open_window(&window, name))
+        return false;
+    do {
+        well = fill_window(&window);
+        window.length = 0;
+    } while (well && !window.ended);
+    reason = errno; /* closing may put another in its place */
+    close_window(&window);
+    errno = reason;
     return well;
-}
-
-bool write_out(const void *bytes, size_t length) {
-    return written(fwrite(bytes, 1, length, stdout) == length && fflush(stdout) == 0 && !ferror(stdout));
-}
-
-/* Some file systems tell only on closing that a write failed. A failure that was told before is not told again. */
-int close_output(int status) {
-    bool told = ferror(stdout) != 0;
-    bool well = fclose(stdout) == 0;
-    return told || written(well) ? status : FAILED;
 }

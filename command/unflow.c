@@ -2,18 +2,11 @@
  *
  * A line that does not end in a space ends its paragraph, so a file of any length is read in parts that end with such a line. All is in memory
  * before a byte is written. */
-#include "salvage.h"
+#include "output.h"
+#include "streams.h"
+#include "subcommand.h"
 
 #include <errno.h>
-#include <stdlib.h>
-#include <string.h>
-
-static const char HELP[] = " [FILE]\n"
-                           "Reads mail of format=flowed (RFC 3676, DelSp=no) from FILE, or standard input\n"
-                           "(also -), and writes each of its paragraphs as one line, ended by CR LF, with its\n"
-                           "quote marks. FILE is the body alone, as it was sent.\n"
-                           "\n"
-                           "Limits: a file may have any length, a paragraph at most 65536 bytes.\n";
 
 /* How long the first part of the bytes is: up to the last line within MOST_PART that does not end in a space. 0 if there is none. */
 static size_t fixed_within(const struct window *window) {
@@ -32,7 +25,7 @@ static size_t fixed_within(const struct window *window) {
     return 0;
 }
 
-static bool read_mail(const char *label, struct window *window, struct text *read) {
+static bool read_mail(const char *label, struct window *window, struct buffer *read) {
     size_t length;
     do {
         if (!fill_window(window)) {
@@ -44,7 +37,7 @@ static bool read_mail(const char *label, struct window *window, struct text *rea
             say("%s: a paragraph has more than %u bytes", label, (unsigned)MOST_PART);
             return false;
         }
-        if (!widen(read, RUDIGNALS_MOST_UNFLOWED(length))) {
+        if (!buffer_room(read, RUDIGNALS_MOST_UNFLOWED(length))) {
             say("%s: no memory for what was read", label);
             return false;
         }
@@ -54,19 +47,13 @@ static bool read_mail(const char *label, struct window *window, struct text *rea
     return true;
 }
 
-int run_unflow(int argc, char **argv) {
+static int run_unflow(const struct options *options) {
     static struct window window;
-    struct text read = {0};
-    const char *name = argc > 1 ? argv[1] : "-";
+    struct buffer read = {0};
+    const char *name = options->count == 0 ? "-" : options->files[0];
     bool whole;
-    if (argc > 1 && (strcmp(argv[1], "--help") == 0 || strcmp(argv[1], "-h") == 0)) {
-        printf("Usage: %s%s", subject, HELP);
-        return shown();
-    }
-    if (argc > 1 && (strcmp(argv[1], "--version") == 0 || strcmp(argv[1], "-V") == 0))
-        return show_version();
-    if (argc > 2 || (name[0] == '-' && name[1] != '\0')) {
-        say("one FILE is read, and %s is no option of this", argv[argc - 1]);
+    if (options->count > 1) {
+        say("one file at a time");
         return wrong_call();
     }
     if (!open_window(&window, name)) {
@@ -75,7 +62,22 @@ int run_unflow(int argc, char **argv) {
     }
     whole = read_mail(label_of(name), &window, &read);
     close_window(&window);
-    whole = whole && write_out(read.bytes == NULL ? (const uint8_t *)"" : read.bytes, read.length);
-    free(read.bytes);
+    whole = whole && write_out(read.bytes, read.length);
+    buffer_free(&read);
     return whole ? WELL : FAILED;
 }
+
+static const int TAKES[] = {'o', 0};
+
+const struct subcommand unflow_subcommand = {
+    .name = "unflow",
+    .does = "read mail of format=flowed, a paragraph a line",
+    .arguments = "[FILE]",
+    .about = "Reads mail of format=flowed (RFC 3676, DelSp=no) from FILE, or standard input\n"
+             "(also -), and writes each of its paragraphs as one line, ended by CR LF, with\n"
+             "its quote marks. FILE is the body alone, as it was sent.\n",
+    .takes = TAKES,
+    .limits = "Limits: a file may have any length, a paragraph at most 65536 bytes.\n",
+    .statuses = "0 all was read; " STATUSES,
+    .run = run_unflow,
+};

@@ -5,8 +5,10 @@ import subprocess
 import sys
 
 ROOT = pathlib.Path(__file__).resolve().parents[2]
-RUDIGNALS = str(ROOT / "target/command/rudignals")
-FMT = str(ROOT / "target/command/fmt")
+SANITIZED = "RUDIGNALS_SANITIZED" in os.environ  # the command that reports what C leaves undefined; set by command/test
+BUILT = ROOT / "target/command" / ("sanitized" if SANITIZED else ".")
+RUDIGNALS = str(BUILT / "rudignals")
+FMT = str(BUILT / "fmt")
 SOURCES = sorted(str(path) for path in (ROOT / "command").glob("*.c"))
 
 tried = 0
@@ -17,7 +19,7 @@ def run(arguments, stdin=b"", program=FMT, **more):
     """Status, standard output and standard error of one call."""
     source = {"input": stdin} if isinstance(stdin, bytes) else {"stdin": stdin}
     done = subprocess.run([program, *arguments], stdout=more.pop("stdout", subprocess.PIPE), stderr=subprocess.PIPE, **source, **more)
-    return done.returncode, done.stdout, done.stderr.decode()
+    return done.returncode, done.stdout, done.stderr.decode(errors="backslashreplace")
 
 
 def shown(value):

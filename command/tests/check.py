@@ -24,13 +24,13 @@ CASES = [
     ([], b"> a b\n> c\n", b"> a\n> b c\n", 1, "digest: line 2: " + ON),
     ([], b"", b"", 0, ""),
     ([], b"", b"x", 1, "digest: line 1: is not ended by a line feed\n"),
-    ([], b"a\n\xb0 b\n", b"a\n", 1, "notes: line 2, column 1: byte B0 begins no UTF-8 character; --keep leaves such a line as it is\n"),
+    ([], b"a\n\xb0 b\n", b"a\n", 2, "notes: line 2, column 1: byte B0 begins no UTF-8 character; --keep leaves such a line as it is\n"),
     (["--keep"], b"a\n\xb0 b\n", b"a\n\xb0 b\n", 0, ""),
-    ([], b"a\n\n" + b"b " * 1025 + b"\n", b"x" * 70000, 1, "notes: line 3, column 1: " + MANY),
-    ([], b"a\n\n" * 25000, b"", 1, "notes: has more than 65536 bytes; notes are checked as a whole\n"),
+    ([], b"a\n\n" + b"b " * 1025 + b"\n", b"x" * 70000, 2, "notes: line 3, column 1: " + MANY),
+    ([], b"a\n\n" * 25000, b"", 2, "notes: has more than 65536 bytes; notes are checked as a whole\n"),
     ([], b"a b\n", b"a" + b" " * 65533 + b"b\n", 0, ""),
-    ([], b"a b\n", b"a" + b" " * 65534 + b"b\n", 1, "digest: has more than 65536 bytes\n"),
-    ([], b"a b\n", b"a b\n" * 100000, 1, "digest: has more than 65536 bytes\n"),
+    ([], b"a b\n", b"a" + b" " * 65534 + b"b\n", 2, "digest: has more than 65536 bytes\n"),
+    ([], b"a b\n", b"a b\n" * 100000, 2, "digest: has more than 65536 bytes\n"),
 ]
 
 
@@ -49,7 +49,7 @@ def run_all(folder):
     own = run(["format", "-w", "30", "notes"], b"", RUDIGNALS, cwd=folder)[1]
     expect("check: what format writes", run(["check", "-w", "30", "notes", "-"], own, RUDIGNALS, cwd=folder), (0, b"", ""))
     missing = "rudignals: nothing: No such file or directory\n"
-    expect("check: no such digest", run(["check", "notes", "nothing"], b"", RUDIGNALS, cwd=folder), (1, b"", missing))
+    expect("check: no such digest", run(["check", "notes", "nothing"], b"", RUDIGNALS, cwd=folder), (2, b"", missing))
     hint = "Try 'rudignals check --help'.\n"
     expect("check: one file", run(["check", "notes"], b"", RUDIGNALS, cwd=folder), (2, b"", "rudignals: NOTES and DIGEST are two files\n" + hint))
     both = "rudignals: NOTES and DIGEST cannot both be standard input\n" + hint

@@ -1,12 +1,11 @@
 """Files and streams, whole and broken."""
 import fcntl
 import os
-import platform
 import shutil
 import subprocess
 import time
 
-from .calls import FMT, RUDIGNALS, SOURCES, expect, link, run
+from .calls import FMT, ROOT, RUDIGNALS, SANITIZED, SOURCES, expect, link, run
 from .words import DAMAGED, LONG
 
 
@@ -21,7 +20,7 @@ def several(folder):
     expect("standard input twice", run(["-", "-"], b"x\ny\n"), (0, b"x y\n", ""))
     expect("a file named as an option", run(["--", "-c"], cwd=folder), (0, b"e f\n", ""))
     expect("a missing file", run(["one", "none", "two"], cwd=folder), (1, b"a b\nc d\n", "fmt: none: No such file or directory\n"))
-    expect("an odd name", run(["a\nb\x1b[31m"], cwd=folder), (1, b"", "fmt: a?b?[31m: No such file or directory\n"))
+    expect("an odd name", run(["a\nb\x1b[31m"], cwd=folder), (1, b"", "fmt: a^Jb^[[31m: No such file or directory\n"))
     expect("a folder", run([".", "two"], cwd=folder), (1, b"c d\n", "fmt: .: Is a directory\n"))
     expect("a refused file", run(["one", "bad", "two"], cwd=folder), (1, b"a b\nc d\n", "fmt: bad: line 2, column 1: byte B0 " + DAMAGED))
     expect("refused options, before any file", run(["-w", "5", "none"], cwd=folder)[2], "fmt: --width 5: must be 6 to 1000 without --goal\n")
@@ -82,34 +81,47 @@ def no_memory(folder):
         "void *__wrap_realloc(void *old, size_t n) { return n > 200000 ? NULL : __real_realloc(old, n); }\n"
     )
     poor = link(folder, "poor", "-Wl,--wrap=realloc", *SOURCES, str(folder / "poor.c"))
-    cases = [("one part", b" " * 2000 + b"a " * 1000), ("some parts", b"a\n\n" * 90000), ("the next room", b"\n\n".join(letter * 65000 for letter in (b"a", b"b", b"c")))]
-    for what, notes in cases:
+    text, notes_themselves = "no memory for the formatted text", "Cannot allocate memory"
+    cases = [("one part", b" " * 2000 + b"a " * 1000, text), ("short notes, which are kept", b"a\n\n" * 90000, notes_themselves)]
+    for what, notes, why in cases:
         (folder / "grows").write_bytes(notes)
-        words = "rudignals: grows: no memory for the formatted text\n"
+        words = f"rudignals: grows: {why}\n"
         expect(f"no memory, {what}", run(["format", "-w6", "grows", "-"], b"x\ny\n", poor, cwd=folder), (1, b"x y\n", words))
 
 
 def copied(folder):
-    """The program itself: it may be copied, and linked to, anywhere. On another processor a script calls an emulator, and only links go."""
+    """The program itself: it may be copied, and linked to, anywhere."""
     other = folder / "elsewhere"
     other.mkdir()
     (other / "fmt").symlink_to(RUDIGNALS)
     (other / "twice").symlink_to(other / "fmt")
     expect("a link named fmt", run([], b"a\nb\n", str(other / "fmt")), (0, b"a b\n", ""))
     expect("a link of another name", run(["format"], b"a\nb\n", str(other / "twice")), (0, b"a b\n", ""))
-    if platform.machine() == "x86_64":
-        expect("the program itself", open(RUDIGNALS, "rb").read(4), b"\x7fELF")
-        for name, arguments in ("copy", ["format"]), ("fmt", []):
-            (other / name).unlink(missing_ok=True)
-            shutil.copy(RUDIGNALS, other / name)
-            expect(f"a copy named {name}", run(arguments, b"a\nb\n", str(other / name)), (0, b"a b\n", ""))
+    expect("the program itself", open(RUDIGNALS, "rb").read(4), b"\x7fELF")
+    for name, arguments in ("copy", ["format"]), ("fmt", []):
+        (other / name).unlink(missing_ok=True)
+        shutil.copy(RUDIGNALS, other / name)
+        expect(f"a copy named {name}", run(arguments, b"a\nb\n", str(other / name)), (0, b"a b\n", ""))
 
 
-def run_all(folder):
-    several(folder)
-    read_in_pieces()
-    endless()
-    not_written()
-    closed(folder)
-    no_memory(folder)
-    copied(folder)
+def built_while_it_runs(folder):
+    """`make' while the command runs: the one that runs goes on, and the new one is in its place."""
+    child = subprocess.Popen([RUDIGNALS, "format"], stdin=subprocess.PIPE, stdout=subprocess.PIPE)
+    time.sleep(0.2)
+    for program in (RUDIGNALS, str(folder / "program")):
+        before = os.stat(RUDIGNALS).st_ino
+        words = [str(ROOT / "command/build"), *(["--sanitized"] if SANITIZED else [])] if program == RUDIGNALS else [str(ROOT / "tools/link"), program, *SOURCES]
+        for _ in range(2):
+            other = subprocess.Popen([program, "format"], stdin=subprocess.PIPE, stdout=subprocess.PIPE) if os.path.exists(program) else None
+            time.sleep(0.2)
+            done = subprocess.run(words, capture_output=True)
+            expect(f"{os.path.basename(words[0])} while the command runs", (done.returncode, done.stderr), (0, b""))
+            if other:
+                expect("which goes on", (other.communicate(b"a\nb\n")[0], other.returncode), (b"a b\n", 0))
+        expect("another file stands in its place", os.stat(RUDIGNALS).st_ino != before, program == RUDIGNALS)
+    expect("the one that ran goes on", (child.communicate(b"a\nb\n")[0], child.returncode), (b"a b\n", 0))
+    left = [name for name in [*os.listdir(os.path.dirname(RUDIGNALS)), *os.listdir(folder)] if name.endswith(".new")]
+    expect("nothing is left beside", left, [])
+
+
+ALL = [several, read_in_pieces, endless, not_written, closed, no_memory, copied, built_while_it_runs]

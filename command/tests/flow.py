@@ -19,7 +19,7 @@ def run_all(folder):
     expect("flow: a file", run(["flow", "-20", str(path)], b"", RUDIGNALS), (0, sent, ""))
     expect("flow: nothing", run(["flow", "-"], b"", RUDIGNALS), (0, b"", ""))
     expect("flow: what was written, read", run(["unflow"], sent, RUDIGNALS), (0, model.unflowed(sent), ""))
-    told = "rudignals: standard input: 1 lines `--' in paragraphs: a mail reader ends the paragraph there\n"
+    told = "rudignals: standard input: 1 line `--' in paragraphs: a mail reader ends the paragraph there\n"
     expect("flow: a line of dashes", run(["flow", "-w", "10"], b"aaaaaaaa -- bbbbbbbb\n", RUDIGNALS), (0, b"aaaaaaaa \r\n--\r\nbbbbbbbb\r\n", told))
     rng = texts.seeded(2026)
     long = b"".join(texts.notes(rng, (b"\n",)).replace(b"--", b"==").rstrip(b"\n") + b"\n\n" for _ in range(3000))
@@ -27,7 +27,10 @@ def run_all(folder):
     status, got, words = run(["flow", "-w", "20"], long, RUDIGNALS)
     expect("flow: status and words of a long file", (status, words), (0, ""))
     expect_same("flow: a long file", got, whole)
-    for option, name in ("-c", "crown-margin"), ("-t", "tagged-paragraph"), ("-m", "preserve-headers"), ("-p>", "prefix"):
-        expect(f"flow: {option}", run(["flow", option], b"a\n", RUDIGNALS), (2, b"", f"rudignals: --{name}: a digest by mail cannot have it\n"))
+    for option, name in ("-c", "crown-margin"), ("-t", "tagged-paragraph"), ("-m", "preserve-headers"), ("-p>", "prefix"), ("-x", "exact-prefix"):
+        for typed in option, f"--{name}":
+            said = f"rudignals: --{name}: `rudignals flow' does not have it\nTry 'rudignals flow --help'.\n"
+            expect(f"flow: {typed}", run(["flow", typed], b"a\n", RUDIGNALS), (2, b"", said))
+        expect(f"flow --help does not tell of {option}", f"--{name}" in run(["flow", "--help"], b"", RUDIGNALS)[1].decode(), False)
     expect("flow: two files", run(["flow", "a", "b"], b"", RUDIGNALS)[:2], (2, b""))
     expect("flow: a damaged character", run(["flow"], b"a \xb0\n", RUDIGNALS)[:2], (1, b""))

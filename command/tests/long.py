@@ -65,6 +65,8 @@ def by_hand(folder):
     expect("refused whole, the others formatted", run(["good", "bad", "good"], cwd=folder), (1, 2 * MANY_LINES, words))
 
 
-def run_all(folder):
-    by_hand(folder)
+def against_the_rust(folder):
     rust.run_all(folder)
+
+
+ALL = [by_hand, against_the_rust]

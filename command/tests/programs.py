@@ -64,8 +64,4 @@ def example(folder):
         expect(f"the example refuses {notes[:20]}", run(arguments, notes, host), (1, b"", f"refused: {words}\n"))
 
 
-def run_all(folder):
-    digest(folder)
-    digest_streams()
-    digest_usage()
-    example(folder)
+ALL = [digest, digest_streams, digest_usage, example]

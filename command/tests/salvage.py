@@ -87,9 +87,7 @@ def refused(folder):
         expect(f"{name}: no LIST", run([name], b"", RUDIGNALS), (2, b"", f"rudignals: LIST is missing\nTry 'rudignals {name} --help'.\n"))
         expect(f"{name}: too many", run([name, "a", "b", "c"], b"", RUDIGNALS)[0], 2)
         status, words, errors = run([name, "--help"], b"", RUDIGNALS)
-        expect(f"{name}: --help", (status, words.startswith(f"Usage: rudignals {name} LIST [FILE]\n".encode()), errors), (0, True, ""))
+        expect(f"{name}: --help", (status, words.startswith(f"Usage: rudignals {name} [OPTION]... LIST [FILE]\n".encode()), errors), (0, True, ""))
 
 
-def run_all(folder):
-    there_and_back(folder)
-    refused(folder)
+ALL = [there_and_back, refused]

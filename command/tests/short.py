@@ -130,9 +130,14 @@ def cut_to(size, rows, program, count):
         expect(f"{arguments} in parts of {size} on {notes[:60]}", run(["format", *arguments], notes, program), (0, output, ""))
 
 
-def run_all(folder):
-    tables()
+def rust_answers():
     for arguments, notes, output in list(committed())[::20]:
         expect(f"{arguments} on {notes[:60]}", run(arguments, notes), (0, output, ""))
+
+
+def in_parts(folder):
     for size in 12, 200:
         cut_to(size, committed(), link(folder, f"parts-{size}", f"-DMOST_PART={size}u", *SOURCES), 150)
+
+
+ALL = [tables, rust_answers, in_parts]

@@ -75,7 +75,7 @@ def subcommands():
     """The command by its own name: what it says begins with it."""
     hint = "Try 'rudignals --help'.\n"
     expect("no subcommand", run([], b"", RUDIGNALS), (2, b"", "rudignals: a subcommand is missing\n" + hint))
-    expect("another subcommand", run(["frmat"], b"", RUDIGNALS), (2, b"", "rudignals: frmat: no such subcommand\n" + hint))
+    expect("another subcommand", run(["frmat"], b"", RUDIGNALS), (2, b"", "rudignals: frmat: no such subcommand; did you mean format?\n" + hint))
     expect("refused options", run(["format", "-w5"], b"", RUDIGNALS), (2, b"", "rudignals: --width 5: must be 6 to 1000 without --goal\n"))
     expect("a wrong call", run(["format", "-z"], b"", RUDIGNALS), (2, b"", "rudignals: invalid option -- 'z'\nTry 'rudignals format --help'.\n"))
     expect("refused notes", run(["format"], b"\xb0", RUDIGNALS), (1, b"", "rudignals: standard input: line 1, column 1: byte B0 " + DAMAGED))
@@ -108,8 +108,4 @@ def versions():
             expect(f"{arguments}", (status, bool(re.fullmatch(rb"rudignals \d+\.\d+\.\d+\n", output)), errors), (0, True, ""))
 
 
-def run_all():
-    refusals()
-    subcommands()
-    helps()
-    versions()
+ALL = [refusals, subcommands, helps, versions]

@@ -126,7 +126,8 @@ def compare(command, page, arguments, block, notes):
 
     digest = command.run(["format", *arguments, "--keep"], notes).stdout
     lines = digest.split(b"\n")[:-1]
-    index = [tuple(map(int, row.split())) for row in command.run(["index", *arguments, "--keep"], notes).stdout.decode().split("\n")[:-1]]
+    rows = [tuple(map(int, row.split())) for row in command.run(["index", *arguments, "--keep"], notes).stdout.decode().split("\n")[:-1]]
+    index = [(place, length, first - 1, count) for place, length, first, count in rows]
     same("the digest", page.digest(), digest)
     same("the notes", page.all_notes(), notes)
     same("the lines", [line[0] for line in page.lines], list(range(1, len(lines) + 1)))

@@ -1,0 +1,30 @@
+/* Bytes that grow. */
+#ifndef BUFFER_H
+#define BUFFER_H
+
+#include <stdbool.h>
+#include <stddef.h>
+#include <stdint.h>
+
+/* Functions that print: the compiler compares the format, which is such an argument, with the values from that one on. */
+#if defined(__GNUC__)
+#define PRINTS(sentence, values) __attribute__((format(printf, sentence, values)))
+#else
+#define PRINTS(sentence, values)
+#endif
+
+/* All zero is an empty one. */
+struct buffer {
+    uint8_t *bytes;
+    size_t length;
+    size_t room;
+};
+
+/* Room for so many bytes behind those that are there. These answer false, with errno, and leave the bytes as they are, if there is no memory. */
+bool buffer_room(struct buffer *buffer, size_t more);
+bool buffer_add(struct buffer *buffer, const void *bytes, size_t length);
+bool buffer_print(struct buffer *buffer, const char *format, ...) PRINTS(2, 3);
+/* Gives the room back; the buffer is an empty one again. */
+void buffer_free(struct buffer *buffer);
+
+#endif

@@ -1,0 +1,49 @@
+/* What comes in: a file from its front, and again. */
+#ifndef STREAMS_H
+#define STREAMS_H
+
+#include "buffer.h"
+#include "rudignals.h"
+
+#include <sys/types.h>
+
+/* Notes may be cut into parts of at most so many bytes. Tests make it small, to have many parts. */
+#ifndef MOST_PART
+#define MOST_PART RUDIGNALS_MOST_NOTES
+#endif
+
+/* How a file is called in what is said of it: `-' is standard input. */
+const char *label_of(const char *name);
+
+/* A file's bytes from some place on: a blank line that begins within the first part is seen whole, unless it is longer than any part. */
+struct window {
+    int file;
+    bool opened; /* by us: standard input is not, and stays open */
+    uint8_t bytes[2 * MOST_PART];
+    size_t length;
+    bool ended;           /* no byte follows */
+    struct buffer *kept;  /* what was read so far is kept there, if it is not null */
+    size_t read, size;    /* so many bytes were read, of so many; 0: nobody knows */
+    off_t start;          /* where reading began */
+    bool again;           /* it is read a second time, */
+    size_t all;           /* as far as the first time, */
+    uint64_t sum, before; /* and has the same bytes if these agree at the end */
+};
+
+/* Opens a file, `-' being standard input. These answer false, with errno, if that fails. */
+bool open_window(struct window *window, const char *name);
+bool fill_window(struct window *window);
+void drop_bytes(struct window *window, size_t count);
+void close_window(struct window *window);
+
+/* A file that was read to its end is read again from its front: a regular one from the disk, so that memory does not grow with it, any other
+ * from what was kept, which keep_if_needed provides for. */
+void keep_if_needed(struct window *window, struct buffer *kept);
+bool rewind_window(struct window *window);
+/* Behind the second reading: had it the same bytes? */
+bool is_unchanged(const struct window *window);
+
+/* All of a file behind the buffer. */
+bool read_whole(const char *name, struct buffer *buffer);
+
+#endif

@@ -1,0 +1,11 @@
+/* The subcommands. NAME_subcommand stands in NAME.c. */
+#include "table.h"
+
+extern const struct subcommand format_subcommand, panel_subcommand, index_subcommand, explain_subcommand, page_subcommand, salvage_subcommand,
+    restore_subcommand, flow_subcommand, unflow_subcommand, check_subcommand, help_subcommand, completion_subcommand;
+
+const struct subcommand *const TABLE[] = {
+    &format_subcommand,  &panel_subcommand, &index_subcommand,  &explain_subcommand, &page_subcommand, &salvage_subcommand,
+    &restore_subcommand, &flow_subcommand,  &unflow_subcommand, &check_subcommand,   &help_subcommand, &completion_subcommand,
+    NULL,
+};

@@ -1,0 +1,9 @@
+/* The subcommands, as the list of them shows them; null behind the last. */
+#ifndef TABLE_H
+#define TABLE_H
+
+#include "subcommand.h"
+
+extern const struct subcommand *const TABLE[];
+
+#endif
