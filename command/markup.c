@@ -304,6 +304,22 @@ struct look look_at(const uint8_t *bytes, size_t length, uint64_t tab) {
     return look;
 }
 
+static bool is_blank(uint32_t c) {
+    return c == ' ' || within(c, '\t', '\r') || c == 0x85 || c == 0xA0 || c == 0x1680 || within(c, 0x2000, 0x200A) || within(c, 0x2028, 0x2029) || c == 0x202F || c == 0x205F ||
+           c == 0x3000;
+}
+
+static size_t length_while(const uint8_t *bytes, size_t length, bool blank) {
+    struct reader reader = reader_of(bytes, length);
+    size_t end = 0;
+    for (; !reader.ended && is_blank(reader.sign.character) == blank; step(&reader))
+        end = reader.at;
+    return end;
+}
+
+size_t word_length(const uint8_t *bytes, size_t length) { return length_while(bytes, length, false); }
+size_t blank_length(const uint8_t *bytes, size_t length) { return length_while(bytes, length, true); }
+
 void put_raw(FILE *out, const uint8_t *bytes, size_t length, size_t marked) {
     struct reader reader = reader_of(bytes, length);
     while (!reader.ended) {

@@ -20,6 +20,9 @@ struct look {
     size_t damaged;
 };
 struct look look_at(const uint8_t *bytes, size_t length, uint64_t tab);
+/* How many bytes of a text stand before its first blank, of any kind; and before its first other character. */
+size_t word_length(const uint8_t *bytes, size_t length);
+size_t blank_length(const uint8_t *bytes, size_t length);
 
 /* ---- sheet.c: the page */
 

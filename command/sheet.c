@@ -89,7 +89,13 @@ static void put_note_lines(FILE *out, const uint8_t *bytes, size_t length, size_
 
 /* ---- the digest */
 
-static bool is_over(const struct page *page, const struct line *line) { return line->look.columns > width_of(page->options); }
+static bool is_damaged(const struct page *page, const struct line *line) {
+    (void)page;
+    return line->look.damaged > 0;
+}
+
+/* A damaged line was kept as it is: that it is long as well tells nothing more. */
+static bool is_over(const struct page *page, const struct line *line) { return !is_damaged(page, line) && line->look.columns > width_of(page->options); }
 
 /* Boxes of so many blanks end where goal and width do. */
 static void put_rule(FILE *out, const char *class, uint64_t columns) { fprintf(out, "<span class=%s>%*s</span>", class, (int)columns, ""); }
@@ -107,54 +113,147 @@ static void put_ruler(FILE *out, uint64_t goal, uint64_t width) {
 
 static void put_digest_line(FILE *out, const struct page *page, size_t number, const struct piece *piece) {
     const struct line *line = &page->lines[number];
-    const char *class = line->look.damaged > 0 ? " class=d" : is_over(page, line) ? " class=o" : "";
+    const char *class = is_damaged(page, line) ? " class=d" : is_over(page, line) ? " class=o" : "";
     fprintf(out, "<a id=%zu%s href=#n%lu>", number + 1, class, piece->note);
     put_line(out, page->digest->text.bytes + line->at, line->length, tab_of(page->options));
     fputs("\n</a>", out);
+}
+
+static bool is_blank(const struct page *page, const struct line *line) {
+    (void)page;
+    return line->asked && line->reason[0] == RUDIGNALS_BLANK_LINE;
+}
+
+/* Blank lines of the same bytes that follow each other are told together, so many at a time: each by itself, thousands of them would make a
+ * page that no browser opens at once. */
+enum { MOST_TOGETHER = 100 };
+
+static bool is_alike(const struct page *page, const struct piece *a, const struct piece *b) {
+    return a->length == b->length && memcmp(page->notes + a->place, page->notes + b->place, a->length) == 0;
+}
+
+/* Of the pieces from one on: how many are told together. */
+static size_t told_together(const struct page *page, const struct piece *piece) {
+    const struct piece *end = page->pieces + page->pieces_len;
+    size_t count = 1;
+    if (!is_blank(page, &page->lines[piece->first]))
+        return 1;
+    while (piece + count < end && count < MOST_TOGETHER && is_alike(page, piece, piece + count))
+        count++;
+    return count;
 }
 
 /* A browser lays out what it shows: so many lines at a time. */
 enum { CHUNK = 50 };
 
 static void put_digest_lines(FILE *out, const struct page *page) {
-    const struct piece *piece;
-    size_t i, put = 0;
+    const struct piece *piece = page->pieces, *next;
+    size_t put = 0;
     fputs("<div id=digest role=region aria-label='The digest, line by line' tabindex=-1><pre>", out);
     put_ruler(out, goal_of(page->options), width_of(page->options));
-    for (piece = page->pieces; piece < page->pieces + page->pieces_len; piece++)
-        for (i = 0; i < piece->count; i++) {
+    for (; piece < page->pieces + page->pieces_len; piece = next) {
+        next = piece + told_together(page, piece);
+        while (put < next[-1].first + next[-1].count) {
             fputs(put == 0 ? "<span class=k>" : put % CHUNK == 0 ? "</span><span class=k>" : "", out);
             put_digest_line(out, page, put++, piece);
         }
+    }
     fputs(put == 0 ? "</pre></div>\n" : "</span></pre></div>\n", out);
 }
 
 /* ---- what each line comes from, and why it ends */
 
+/* How long the prefix is with which a text begins, blanks around it apart; all of the text if it does not. */
+static size_t prefix_length(const uint8_t *bytes, size_t length, const char *typed) {
+    const uint8_t *prefix = (const uint8_t *)typed;
+    size_t size = strlen(typed), blanks = blank_length(prefix, size);
+    prefix += blanks;
+    size -= blanks;
+    while (size > 0 && prefix[size - 1] == ' ')
+        size--;
+    return size <= length && memcmp(bytes, prefix, size) == 0 ? size : length;
+}
+
+/* The columns of the word with which a line of the digest begins, behind its indent and prefix. A blank of any kind ends it, so that it is
+ * never taken for longer than it is. */
+static uint64_t first_word(const struct page *page, const struct line *line) {
+    const uint8_t *bytes = page->digest->bytes + line->at, *end = bytes + line->length;
+    bytes += blank_length(bytes, line->length);
+    if (page->options->value['p'] != NULL) {
+        bytes += prefix_length(bytes, (size_t)(end - bytes), page->options->value['p']);
+        bytes += blank_length(bytes, (size_t)(end - bytes));
+    }
+    return look_at(bytes, word_length(bytes, (size_t)(end - bytes)), 1).columns;
+}
+
+/* Whatever the gap before the next word would have been, it has a column or more. */
+static bool next_did_not_fit(const struct page *page, size_t number) {
+    const struct line *line = &page->lines[number];
+    return number + 1 < page->lines_len && line->reason[1] + 1 + first_word(page, line + 1) > width_of(page->options);
+}
+
+/* What a person wants to know; the breaker's numbers are another matter. */
+static const char *plain_reason(const struct page *page, size_t number) {
+    const struct line *line = &page->lines[number];
+    if (!line->asked)
+        return "Not asked: too many lines stand here without a blank line.";
+    switch (line->reason[0]) {
+    case RUDIGNALS_PLAIN_LINE: return is_damaged(page, line) ? "A damaged line, kept: it ends as it does in the notes." : "A plain line: it ends as it does in the notes.";
+    case RUDIGNALS_BLANK_LINE: return "A blank line of the notes.";
+    case RUDIGNALS_NOT_FIT: return "The next word did not fit.";
+    case RUDIGNALS_CHOSEN: return next_did_not_fit(page, number) ? "The next word did not fit." : "Ending here gives a better spread over the lines that follow.";
+    case RUDIGNALS_FORCED_BEFORE: return "No line had room for the next word: the break is forced before it.";
+    case RUDIGNALS_FORCED_AFTER: return "No line had room for its last word: the break is forced behind it.";
+    default: return "Its paragraph ends here.";
+    }
+}
+
+/* The column that the next word would reach is the sum that the fit test compares with the width. */
+static void put_not_fit(FILE *out, const uint64_t reason[6], uint64_t width) {
+    fputs(" <small class=y>It takes ", out);
+    put_counted(out, reason[4], "column", "columns");
+    fprintf(out, " and would reach column %" PRIu64 " of %" PRIu64 ".</small>", reason[1] + reason[2] + reason[3] + reason[4], width);
+}
+
+static void put_chosen(FILE *out, const uint64_t reason[6], uint64_t goal) {
+    fprintf(out, " <small class=x>Chosen: %" PRIu64 " of %" PRIu64 " columns, cost ", reason[1], goal);
+    put_count(out, reason[5]);
+    fprintf(out, " (line %" PRIu64 ", word %" PRIu64 ", change %" PRIu64 ").</small>", reason[2], reason[3], reason[4]);
+}
+
+/* Small, below: the numbers, for kinds that have any. */
+static void put_numbers(FILE *out, const struct page *page, const struct line *line) {
+    if (line->asked && line->reason[0] == RUDIGNALS_NOT_FIT)
+        put_not_fit(out, line->reason, width_of(page->options));
+    if (line->asked && line->reason[0] == RUDIGNALS_CHOSEN)
+        put_chosen(out, line->reason, goal_of(page->options));
+}
+
 static void put_reason(FILE *out, const struct page *page, size_t number) {
     const struct line *line = &page->lines[number];
-    char *reason = line->asked ? reason_in_words(line->reason, page->options) : words("not asked: too many lines stand here without a blank line");
     fprintf(out, "<p id=r%zu><a href=#%zu>Line ", number + 1, number + 1);
     put_count(out, number + 1);
     fputs("</a> <small>", out);
     put_counted(out, line->look.columns, "column", "columns");
-    fprintf(out, "</small> <em%s>%s</em>\n", line->asked && line->reason[0] == RUDIGNALS_CHOSEN ? " class=x" : "", reason == NULL ? "no memory for the words" : reason);
-    free(reason);
+    fprintf(out, "</small> <em>%s</em>", plain_reason(page, number));
+    put_numbers(out, page, line);
+    fputs("\n", out);
 }
 
-static void put_place(FILE *out, const struct page *page, const struct piece *piece, unsigned long lines) {
-    fputs(lines == 1 ? "<h3>Line " : "<h3>Lines ", out);
-    put_count(out, piece->note);
-    if (lines > 1) {
+static void put_span(FILE *out, uint64_t first, uint64_t count, const char *one, const char *many) {
+    fprintf(out, "%s ", count == 1 ? one : many);
+    put_count(out, first);
+    if (count > 1) {
         fputs(" to ", out);
-        put_count(out, piece->note + lines - 1);
+        put_count(out, first + count - 1);
     }
-    fputs(piece->length == 1 ? " of the notes <small>byte " : " of the notes <small>bytes ", out);
-    put_count(out, piece->place);
-    if (piece->length > 1) {
-        fputs(" to ", out);
-        put_count(out, piece->place + piece->length - 1);
-    }
+}
+
+static void put_place(FILE *out, const struct page *page, const struct piece *piece, unsigned long lines, size_t bytes) {
+    fputs("<h3>", out);
+    put_span(out, piece->note, lines, "Line", "Lines");
+    fputs(" of the notes <small>", out);
+    put_span(out, piece->place, bytes, "byte", "bytes");
     fputs(" of ", out);
     put_count(out, page->notes_len);
     fputs("</small></h3>\n", out);
@@ -174,30 +273,48 @@ static void put_piece(FILE *out, const struct page *page, const struct piece *pi
     fprintf(out, "<section id=n%lu>", piece->note);
     for (i = 0; i < piece->count; i++)
         put_reason(out, page, piece->first + i);
-    put_place(out, page, piece, lines_in(bytes, piece->length));
+    put_place(out, page, piece, lines_in(bytes, piece->length), piece->length);
     fprintf(out, "<ol start=%lu>", piece->note);
     put_note_lines(out, bytes, piece->length, NOWHERE);
     fputs("</ol></section>\n", out);
 }
 
+/* So many blank lines, each of the same bytes. */
+static void put_blank_lines(FILE *out, const struct page *page, const struct piece *piece, size_t count) {
+    fprintf(out, "<section id=n%lu><p id=r%zu><a href=#%zu>", piece->note, piece->first + 1, piece->first + 1);
+    put_span(out, piece->first + 1, count, "Line", "Lines");
+    fputs("</a> <small>", out);
+    put_counted(out, page->lines[piece->first].look.columns, "column", "columns");
+    fputs("</small> <em>Blank lines of the notes.</em>\n", out);
+    put_place(out, page, piece, count, count * piece->length);
+    fprintf(out, "<ol start=%lu>", piece->note);
+    put_note_lines(out, page->notes + piece->place, piece->length, NOWHERE);
+    fputs("</ol><p class=e>", out);
+    put_count(out, count);
+    fputs(" lines of these same bytes</p></section>\n", out);
+}
+
 static void put_pieces(FILE *out, const struct page *page) {
-    const struct piece *piece;
-    fputs("<aside id=notes aria-label='The notes under the line, and why it ends there' tabindex=-1>\n"
-          "<p class=hint>Point at a line of the digest: the notes that it comes from stand here, byte for byte, and why it ends where it does.</p>\n",
-          out);
-    for (piece = page->pieces; piece < page->pieces + page->pieces_len; piece++)
-        put_piece(out, page, piece);
+    const struct piece *piece = page->pieces;
+    size_t count;
+    fputs("<aside id=notes aria-label='The notes under the line, and why it ends there' tabindex=-1>\n", out);
+    if (page->lines_len > 0)
+        fputs("<p class=hint><span class=mouse>Point at</span><span class=touch>Tap</span> a line of the digest: the notes that it comes from stand here, byte for byte, "
+              "and why it ends where it does.</p>\n",
+              out);
+    for (; piece < page->pieces + page->pieces_len; piece += count) {
+        count = told_together(page, piece);
+        if (count == 1)
+            put_piece(out, page, piece);
+        else
+            put_blank_lines(out, page, piece, count);
+    }
     fputs("</aside>\n", out);
 }
 
 /* ---- what must not be missed */
 
 typedef bool chosen_line(const struct page *page, const struct line *line);
-
-static bool is_damaged(const struct page *page, const struct line *line) {
-    (void)page;
-    return line->look.damaged > 0;
-}
 
 static bool was_not_asked(const struct page *page, const struct line *line) {
     (void)page;
@@ -242,9 +359,21 @@ static void put_warning(FILE *out, const struct page *page, chosen_line *chosen,
     fputs("\n", out);
 }
 
+/* Nothing is to be missed: of notes, or because there are none. */
+static void put_calm(FILE *out, const struct page *page) {
+    fputs("<p id=calm>", out);
+    if (page->lines_len == 0)
+        fputs("No notes: the file is empty.", out);
+    else if (count_lines(page, is_blank) == page->lines_len)
+        fputs(page->lines_len == 1 ? "No text: the only line of the notes is blank." : "No text: every line of the notes is blank.", out);
+    else
+        fputs("Nothing is damaged, and no line is over the width.", out);
+    fputs("</p>\n", out);
+}
+
 static void put_warnings(FILE *out, const struct page *page) {
     if (count_lines(page, is_damaged) + count_lines(page, is_over) + count_lines(page, was_not_asked) == 0) {
-        fputs(page->lines_len == 0 ? "<p id=calm>No notes: the file is empty.</p>\n" : "<p id=calm>Nothing is damaged, and no line is over the width.</p>\n", out);
+        put_calm(out, page);
         return;
     }
     fputs("<section id=seen aria-label='Not to be missed'><ul>", out);

@@ -1,6 +1,7 @@
 /* A host to copy from: formats standard input to a width, or says why not.
  *
- *     cc -std=c11 -I include -o host examples/host.c target/staticlib/librudignals.a
+ *     make                     # the library for this machine, x86-64 or Arm
+ *     cc -std=c11 -I include -o host examples/host.c target/package/librudignals.a
  *     ./host 60 < notes.txt
  */
 #include "rudignals.h"
@@ -29,10 +30,11 @@ int main(int argc, char **argv) {
     size_t notes_len = fread(notes, 1, sizeof notes, stdin), room;
     uint8_t *output = NULL;
     uint64_t answer;
+    int whole;
     if (argc > 1)
         block_len = rudignals_put_number(block, block_len, RUDIGNALS_TAG_WIDTH, strtoul(argv[1], NULL, 10));
     if (ferror(stdin))
-        return 1;
+        return perror("the notes were not read"), 1;
 
     /* measure, allocate just that, write; without the memory writing says how much is needed */
     answer = rudignals_measure(block, block_len, notes, notes_len);
@@ -47,5 +49,8 @@ int main(int argc, char **argv) {
         fprintf(stderr, "refused: %s %lu\n", in_words(rudignals_code_of(answer)), (unsigned long)rudignals_number_of(answer));
         return 1;
     }
-    return fwrite(output, 1, rudignals_number_of(answer), stdout) == rudignals_number_of(answer) && fflush(stdout) == 0 ? 0 : 1;
+    /* a full disk may be told on closing only */
+    whole = room == 0 || fwrite(output, 1, room, stdout) == room;
+    whole = fclose(stdout) == 0 && whole;
+    return whole ? 0 : (perror("the digest was not written"), 1);
 }

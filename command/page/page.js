@@ -5,6 +5,8 @@ addEventListener('DOMContentLoaded', () => {
   const $ = id => document.getElementById(id), root = document.documentElement, digest = $('digest'), notes = $('notes');
   const lines = digest ? [...digest.querySelectorAll('a')] : [];
   const held = () => root.classList.contains('held'), hold = on => root.classList.toggle('held', on);
+  // Blank lines that are told together have one reason.
+  const reason = at => $('r' + lines[at].id) || $(lines[at].hash.slice(1)).querySelector('p');
   let here = -1, mouse = '';
 
   // Marks a line, the others of its piece and, in the notes, the piece and the line's reason; or takes the marks away.
@@ -14,10 +16,16 @@ addEventListener('DOMContentLoaded', () => {
     for (let i = at; i >= 0 && lines[i].hash === piece; i--) lines[i].classList.toggle('p', on);
     for (let i = at + 1; i < lines.length && lines[i].hash === piece; i++) lines[i].classList.toggle('p', on);
     $(piece.slice(1)).classList.toggle('on', on);
-    $('r' + a.id).classList.toggle('on', on);
+    reason(at).classList.toggle('on', on);
     a.tabIndex = on ? 0 : -1;
-    if (on) a.setAttribute('aria-current', 'true'), a.setAttribute('aria-describedby', 'r' + a.id);
+    if (on) a.setAttribute('aria-current', 'true'), a.setAttribute('aria-describedby', reason(at).id);
     else a.removeAttribute('aria-current'), a.removeAttribute('aria-describedby');
+  };
+  // On a small screen the notes lie over the end of the digest: the line stays in sight above them.
+  const keep = () => {
+    if (here < 0 || getComputedStyle(notes).position !== 'sticky') return;
+    const line = lines[here].getBoundingClientRect(), under = line.bottom - notes.getBoundingClientRect().top;
+    if (under > 0) scrollBy(0, Math.ceil(under + line.height / 2));
   };
   const point = at => {
     if (at === here || !lines[at]) return;
@@ -25,6 +33,7 @@ addEventListener('DOMContentLoaded', () => {
     else lines[0].tabIndex = -1, notes.classList.add('pointed');
     mark(here = at, true);
     notes.scrollTop = 0;
+    keep();
   };
   const go = at => {
     if (!lines[at]) return;
@@ -33,6 +42,7 @@ addEventListener('DOMContentLoaded', () => {
     lines[at].focus({ preventScroll: true });
     lines[at].scrollIntoView({ block: 'nearest' });
     digest.scrollLeft = left;
+    keep();
   };
   const under = e => {
     const a = e.target.closest('#digest a');
@@ -92,10 +102,30 @@ addEventListener('DOMContentLoaded', () => {
   follow();
 
   // Letters of a face that is wider than their columns are drawn narrower, where they are seen.
-  const fit = new IntersectionObserver(seen => {
-    const runs = seen.filter(e => e.isIntersecting).flatMap(e => (fit.unobserve(e.target), [...e.target.querySelectorAll('i')]));
-    for (const [i, room, ink] of runs.map(i => [i, i.clientWidth, i.scrollWidth]))
+  const fit = chunk => {
+    for (const [i, room, ink] of [...chunk.querySelectorAll('i')].map(i => [i, i.clientWidth, i.scrollWidth]))
       if (room && ink > room + 1) i.style.transform = `scaleX(${room / ink})`, i.style.transformOrigin = 'left';
-  });
-  for (const chunk of document.querySelectorAll('.k')) fit.observe(chunk);
+  };
+  // A line that goes on beyond the right edge is marked there: of those near the window, by its columns, which stand beside its reason.
+  const near = new Set(), wide = [], width = digest && digest.querySelector('.width');
+  const columns = at => wide[at] ??= +reason(at).querySelector('small').textContent.replace(/\D/g, '');
+  const edges = () => {
+    const column = width.getBoundingClientRect().width / width.textContent.length, seen = (digest.clientWidth + digest.scrollLeft) / column - 8;
+    digest.classList.toggle('l', digest.scrollLeft > 0);
+    for (const chunk of near) for (const a of chunk.children) a.classList.toggle('m', columns(a.id - 1) > seen + .1);
+  };
+  if (lines.length) {
+    const sight = new IntersectionObserver(chunks => {
+      for (const { target, isIntersecting } of chunks) {
+        if (isIntersecting && !target.fitted) fit(target), target.fitted = true;
+        near[isIntersecting ? 'add' : 'delete'](target);
+      }
+      edges();
+    });
+    for (const chunk of document.querySelectorAll('.k')) sight.observe(chunk);
+    digest.addEventListener('scroll', edges);
+    const size = new ResizeObserver(() => (edges(), keep()));
+    size.observe(digest), size.observe(notes);
+    addEventListener('resize', keep);
+  }
 });

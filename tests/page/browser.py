@@ -11,6 +11,7 @@ import shutil
 import subprocess
 import tempfile
 import time
+import zlib
 
 ARROWS = {"ArrowUp": "\ue013", "ArrowDown": "\ue015", "Home": "\ue011", "End": "\ue010", "Enter": "\ue007", "Escape": "\ue00c", "Tab": "\ue004"}
 
@@ -22,6 +23,32 @@ class NotStarted(Exception):
 def missing():
     """The programs that are not at hand."""
     return [name for name in ("chromium", "chromedriver") if not shutil.which(name)]
+
+
+def unpacked(picture):
+    """The rows of a PNG as a browser makes it: 8 bits a colour, not interlaced. Answers its width, the rows and the bytes of a pixel."""
+    at, packed, width, size = 8, b"", 0, 0
+    while at < len(picture):
+        length, kind = int.from_bytes(picture[at : at + 4], "big"), picture[at + 4 : at + 8]
+        data = picture[at + 8 : at + 8 + length]
+        if kind == b"IHDR":
+            width, size = int.from_bytes(data[:4], "big"), {2: 3, 6: 4}[data[9]]
+        packed += data if kind == b"IDAT" else b""
+        at += 12 + length
+    flat, rows, above = zlib.decompress(packed), [], bytes(width * size)
+    for start in range(0, len(flat), width * size + 1):
+        rows.append(unfiltered(flat[start], bytearray(flat[start + 1 : start + 1 + width * size]), above, size))
+        above = rows[-1]
+    return width, rows, size
+
+
+def unfiltered(kind, row, above, size):
+    for i in range(len(row)):
+        left, up, corner = (row[i - size], above[i], above[i - size]) if i >= size else (0, above[i], 0)
+        if kind == 4:
+            nearest = min((left, up, corner), key=lambda value: abs(left + up - corner - value))
+        row[i] = (row[i] + (0, left, up, (left + up) // 2, nearest if kind == 4 else 0)[kind]) & 255
+    return row
 
 
 class Browser:
@@ -78,8 +105,13 @@ class Browser:
 
     # ---- what a person does
 
-    def open(self, file, anchor="", width=1280, height=800):
-        self.tool("Emulation.setDeviceMetricsOverride", width=width, height=height, deviceScaleFactor=1, mobile=False)
+    def size(self, width, height, phone=False):
+        """A phone has a finger, and no mouse that could hover."""
+        self.tool("Emulation.setTouchEmulationEnabled", enabled=phone, maxTouchPoints=5)
+        self.tool("Emulation.setDeviceMetricsOverride", width=width, height=height, deviceScaleFactor=2 if phone else 1, mobile=phone)
+
+    def open(self, file, anchor="", width=1280, height=800, phone=False):
+        self.size(width, height, phone)
         self.ask("POST", "/url", {"url": "about:blank"})
         began = time.time()
         self.ask("POST", "/url", {"url": pathlib.Path(file).resolve().as_uri() + anchor})
@@ -121,6 +153,12 @@ class Browser:
 
     def picture(self, file):
         pathlib.Path(file).write_bytes(base64.b64decode(self.ask("GET", "/screenshot")))
+
+    def colours(self, places):
+        """Those of a picture at places in pixels of the page: red, green and blue."""
+        width, rows, size = unpacked(base64.b64decode(self.ask("GET", "/screenshot")))
+        scale = width / self.run("return innerWidth")
+        return [tuple(rows[int(y * scale)][int(x * scale) * size : int(x * scale) * size + 3]) for x, y in places]
 
     def printed(self, file):
         words = {"page": {"width": 21.0, "height": 29.7}, "margin": {"top": 1.5, "bottom": 1.5, "left": 1.5, "right": 1.5}, "background": False}

@@ -194,6 +194,80 @@ def seen_first(sight):
     sight.shot("warned")
 
 
+# Of the lines in the window: the number, where its text ends and where it begins, and its box; of the digest its edges, of the notes the upper one.
+IN_SIGHT = """
+const digest = document.getElementById('digest').getBoundingClientRect(), notes = document.getElementById('notes').getBoundingClientRect();
+const ends = a => { const r = document.createRange(); r.selectNodeContents(a); return r.getBoundingClientRect(); };
+const lines = [...document.querySelectorAll('#digest a')].map(a => [+a.id, a.getBoundingClientRect(), ends(a)]).filter(([, box]) => box.top > 0 && box.bottom < (notes.left < digest.right ? Math.min(innerHeight, notes.top) : innerHeight));
+return [lines.map(([id, box, text]) => [id, text.right, text.left, (box.top + box.bottom) / 2]), digest.left, digest.right];
+"""
+# Is the line that is pointed at seen whole, above the notes?
+SEEN = """
+const line = document.querySelector('#digest a.on').getBoundingClientRect(), notes = document.getElementById('notes').getBoundingClientRect();
+return [+document.querySelector('#digest a.on').id, line.top >= 0 && line.bottom <= Math.min(notes.top, innerHeight), notes.height > 100 && notes.top < innerHeight];
+"""
+BLUE = (29, 90, 150)
+# A paragraph of many lines of notes, and lines of every length around what a phone shows.
+TALL = b"a\n" * 60 + b"\n" + b"".join(b"22:%02d Pump %d tripped on low pressure and was restarted by hand after the valve was bled, and the filter is due.\n\n%s\n\n" % (i, i, b"y" * (40 + i % 4)) for i in range(60))
+
+
+def marked_lines(sight):
+    """Of the lines in sight: those with the mark at the right edge, by the picture, and those whose text goes on beyond it, by its box."""
+    found, _, right = sight.browser.run(IN_SIGHT)
+    colours = sight.browser.colours([(right - 3, y - 4) for _, _, _, y in found])
+    return [line[0] for line, colour in zip(found, colours) if colour == BLUE], [line[0] for line in found if line[1] > right + 1], len(found)
+
+
+def on_phone(sight, file):
+    """What is not as it should be."""
+    b, faults = sight.browser, []
+
+    def check(what, holds):
+        faults.extend([] if holds else [what])
+
+    b.open(file, width=390, height=844, phone=True)
+    check("hints", b.run("return ['footer', '.mouse', '.touch'].map(s => document.querySelector(s).checkVisibility())") == [False, False, True])
+    marks, wanted, count = marked_lines(sight)
+    check("marks at the edge", marks == wanted and 0 < len(wanted) < count)
+    lowest = b.run(IN_SIGHT)[0][-1][0]
+    for line in 1, lowest - 3, lowest - 1, lowest:
+        b.open(file, width=390, height=844, phone=True)
+        b.point(f'[id="{line}"]', click=True, kind="touch")
+        time.sleep(0.1)
+        check(f"line {line} in sight", b.run(SEEN) == [line, True, True])
+    b.size(844, 390, phone=True)
+    time.sleep(0.3)
+    check("in sight when it is turned", b.run(SEEN) == [lowest, True, True])
+    last = b.run("return document.querySelectorAll('#digest a').length")
+    b.open(file, f"#{last}", width=390, height=844, phone=True)
+    time.sleep(0.1)
+    check("the last line in sight", b.run(SEEN) == [last, True, True])
+    b.open(file, width=390, height=844, phone=True)
+    b.run("document.getElementById('digest').scrollLeft = 10000")
+    time.sleep(0.2)
+    marks, wanted, _ = marked_lines(sight)
+    found, left, _ = b.run(IN_SIGHT)
+    check("no marks where all is seen", marks == wanted == [])
+    edge = b.run("return parseFloat(getComputedStyle(document.querySelector('#digest a'), '::before').width)")
+    check("the mark at the left", set(b.colours([(left + edge - 1.5, y) for _, _, _, y in found])) == {BLUE})
+    return faults
+
+
+def phone(sight):
+    b, tell = sight.browser, sight.tell
+    file = sight.page("tall", [], TALL)
+    tell("on a phone", on_phone(sight, file), [])
+    b.open(file, width=390, height=844, phone=True)
+    b.point('[id="26"]', click=True, kind="touch")
+    sight.shot("phone")
+    b.open(file)
+    tell("hints where there is a mouse", b.run("return ['footer', '.mouse', '.touch'].map(s => document.querySelector(s).checkVisibility())"), [True, True, False])
+    tell("no marks where all is seen", marked_lines(sight)[:2], ([], []))
+    b.open(sight.out / "warned.html", width=1000, height=800)
+    marks, wanted, _ = marked_lines(sight)
+    tell("a line over the width, at 1000", (marks, wanted), ([5], [5]))
+
+
 def refusal(sight):
     b, tell = sight.browser, sight.tell
     sight.page("refused", [], LATIN.replace(b"4.1", b"4\xb01"))
@@ -339,6 +413,7 @@ def tampered(old, new):
     """The page with another style or script, and the policy for it."""
 
     def change(data):
+        assert old in data, old
         data = data.replace(old, new, 1)
         for name in b"style", b"script":
             text = re.search(b"<%s>(.*?)</%s>" % (name, name), data, re.S)[1]
@@ -359,6 +434,10 @@ def faults(sight):
         alert = b.alert() is not None and b.ask("POST", "/alert/accept", {}) is None
         b.keys("ArrowDown", "ArrowDown")
         seen.append(alert or [sight.state()[i] for i in (0, 1, 2, 5)] != [[2], [1, 2], ["n1"], "2"])
+    for old, new in ((b"if (under > 0) scrollBy(0, Math.ceil(under + line.height / 2));", b""), (b"a.classList.toggle('m', columns(a.id - 1) > seen + .1);", b";"), (b"columns(a.id - 1) > seen + .1", b"columns(a.id - 1) > seen + 1.5"),
+                     (b"columns(a.id - 1) > seen + .1", b"columns(a.id - 1) > seen - 1.5"), (b"digest.classList.toggle('l', digest.scrollLeft > 0);", b""), (b"footer, .mouse { display: none; }", b""), (b".touch { display: inline; }", b""),
+                     (b"position: sticky; right: 0;", b""), (b"digest.addEventListener('scroll', edges);", b""), (b"max-height: 45vh; max-height: 45dvh;", b"")):
+        seen.append(bool(on_phone(sight, sight.page("spoiled", [], TALL, tampered(old, new)))))
     print(f"page: faults put in the style and the script: {sum(seen)} of {len(seen)} seen", flush=True)
     sight.tell("faults in the style and the script", seen, [True] * len(seen))
 
@@ -366,7 +445,7 @@ def faults(sight):
 def run_all(command, tell, out):
     sight = Sight(command, tell, out)
     try:
-        for test in pointing, columns, seen_first, refusal, hostile, plain, everybody, faults, speed:
+        for test in pointing, columns, seen_first, phone, refusal, hostile, plain, everybody, faults, speed:
             test(sight)
     finally:
         sight.browser.close()

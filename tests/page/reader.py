@@ -7,11 +7,11 @@ from html.parser import HTMLParser
 NUMBER = r"[1-9]\d*"
 ATTRIBUTES = {  # of each element that a page may have: the attributes, and what they may be
     "html": {"lang": "en"}, "meta": {"charset": ".*", "http-equiv": ".*", "content": ".*", "name": ".*"}, "title": {}, "style": {}, "script": {}, "body": {},
-    "header": {"id": "top", "class": "bar", "role": "alert"}, "h1": {}, "h2": {}, "h3": {}, "strong": {}, "small": {}, "em": {"class": "x"}, "ul": {}, "kbd": {}, "mark": {},
+    "header": {"id": "top", "class": "bar", "role": "alert"}, "h1": {}, "h2": {}, "h3": {}, "strong": {}, "small": {"class": "[xy]"}, "em": {}, "ul": {}, "kbd": {}, "mark": {},
     "nav": {"aria-label": "This page"}, "main": {"id": "failed"}, "footer": {}, "b": {"class": r"w\d+"}, "div": {"id": "digest", "role": "region", "aria-label": "The digest, line by line", "tabindex": "-1"},
     "section": {"id": f"n{NUMBER}|seen|wall", "aria-label": "Not to be missed|The wall panel"}, "aside": {"id": "notes", "aria-label": ".*", "tabindex": "-1"},
-    "p": {"id": f"r{NUMBER}|cut|calm", "class": "hint|bar", "role": "alert"}, "pre": {"tabindex": "0"}, "ol": {"start": NUMBER}, "li": {"class": "[don]|at"},
-    "a": {"id": NUMBER, "class": "[do]", "href": f"#(n?{NUMBER}|digest|notes|wall|top)"}, "span": {"class": "name|k|goal|width|ruler|bar"},
+    "p": {"id": f"r{NUMBER}|cut|calm", "class": "hint|bar|e", "role": "alert"}, "pre": {"tabindex": "0"}, "ol": {"start": NUMBER}, "li": {"class": "[don]|at"},
+    "a": {"id": NUMBER, "class": "[do]", "href": f"#(n?{NUMBER}|digest|notes|wall|top)"}, "span": {"class": "name|k|goal|width|ruler|bar|mouse|touch"},
     "i": {"class": r"w\d+|w1 [do]", "id": "end"}, "u": {"class": r"[cd] w\d+|[cdeqzt]", "data-x": r"[0-9A-F \n]+"},
 }
 VOID = {"meta"}
@@ -24,7 +24,7 @@ class Page(HTMLParser):
         self.faults, self.open, self.seen = [], [], set()
         self.texts = {"title": "", "top": "", "calm": ""}  # of these: their text
         self.lines = []  # of the digest: number, class, the piece's anchor, bytes
-        self.pieces = {}  # by its anchor: the first note's number, {line: (columns, words)}, the words for the place, bytes
+        self.pieces = {}  # by its anchor: the first note's number, {line: (columns, words, numbers, its link)}, the words for the place, bytes
         self.warned = {}  # by the class: the text, and the lines linked to
         self.rows, self.notes, self.rulers, self.heading = [], [], [], ""
         self.piece = self.reason = None
@@ -92,7 +92,7 @@ class Page(HTMLParser):
         elif tag == "section" and words.get("id", "").startswith("n"):
             self.piece = self.pieces[words["id"]] = [0, {}, "", b""]
         elif tag == "p" and self.piece and "id" in words:
-            self.reason = self.piece[1][int(words["id"][1:])] = ["", ""]
+            self.reason = self.piece[1][int(words["id"][1:])] = ["", "", "", ""]
         elif tag == "ol" and self.piece:
             self.piece[0] = int(words["start"])
         elif tag == "ol":
@@ -138,10 +138,19 @@ class Page(HTMLParser):
             self.note(data)
         elif self.piece and self.within("h3"):
             self.piece[2] += data
-        elif self.piece and self.within("small"):
-            self.reason[0] += data
-        elif self.piece and self.within("em"):
-            self.reason[1] += data
+        elif self.piece and self.within("p", **{"class": "e"}):
+            self.alike(data)
+        elif self.piece and self.within("p") and self.open[-1][0] in ("small", "em", "a"):
+            tag, words = self.open[-1]
+            self.reason[{"small": 2 if words else 0, "em": 1, "a": 3}[tag]] += data
+
+    def alike(self, data):
+        """Blank lines that are told together: one stands there, with how many there are."""
+        number = re.fullmatch(r"([1-9][\d,]*) lines of these same bytes", data)
+        if number is None:
+            self.faults.append(f"{data!r} behind the notes")
+        else:
+            self.piece[3] *= int(number[1].replace(",", ""))
 
     def note(self, data):
         if self.within("section", id="seen"):

@@ -40,16 +40,44 @@ def random_notes(chance):
     return b"".join(parts)
 
 
-def words_for(numbers, goal, width):
-    """A reason as the page has it."""
+# The columns of the words among PIECES, by hand: document 02, P4 and P7. The others are blanks, which are no words.
+WORDS = {"a": 1, "bc": 2, "pump": 4, "tripped.": 8, "restarted": 9, "a-very-long-word-that-fits-in-no-line": 37, "\u4e09\u53f7": 4, "e\u0301": 1, "\u0928\u092e\u0938\u094d\u0924\u0947": 4, "\U0001f527": 2,
+         "\u0416\u0443\u043a": 3, "\u05d0\u05d1": 2, "<b>": 3, "&amp;": 5, "'": 1, '"': 1, "</pre>": 6, "\0": 1, "\x1b[31m": 5, "\x7f": 1, "\u009b": 1, "\u00ad": 1, "\u202e": 0, "\u2066": 0, "\u200b": 0, "\ufeff": 0,
+         "\u200d": 0, "\ufffd": 1, "\ufffe": 1, "\u0301": 0, "To:": 3, "From": 4, ">": 1, "\u1160": 0, "\U000e0041": 0}
+FORCED = "No line had room for {} word: the break is forced {} it."
+PLAIN = ["Its paragraph ends here.", "A plain line: it ends as it does in the notes.", "A blank line of the notes.", "The next word did not fit.", "Ending here gives a better spread over the lines that follow.",
+         FORCED.format("the next", "before"), FORCED.format("its last", "behind")]
+TOGETHER = 100  # so many blank lines of the same bytes are told together, at most
+
+
+def first_word(line, prefix):
+    """The columns of a line's first word, behind its indent and the prefix."""
+    text = line.decode().lstrip()
+    word = text.removeprefix(prefix).split()[0] if text.startswith(prefix) else ""
+    return WORDS[word] if word in WORDS else len(word)
+
+
+def words_for(numbers, goal, width, following, damaged=False):
+    """A reason as the page has it: plainly, and its numbers. A chosen break before a word that could not have stood on the line is plainly that."""
     kind, a, b, c, d, e = numbers
     if kind == 3:
-        return f"ends here because the next word, {d} column{'' if d == 1 else 's'}, would reach column {a + b + c + d} of {width}"
+        return PLAIN[3], f"It takes {d} column{'' if d == 1 else 's'} and would reach column {a + b + c + d} of {width}."
     if kind == 4:
-        return f"chosen: {a} of {goal} columns, cost {e:,} (line {b}, word {c}, change {d})"
-    return ["ends here because its paragraph ends", "a plain line, which ends as it does in the notes", "a blank line of the notes", "", "",
-            "ends here because the next word fits on no line that leads to it: the break is forced before it",
-            "ends here because its last word fits on no line that leads to it: the break is forced behind it, which is the lesser evil"][kind]
+        return PLAIN[3 if a + 1 + following() > width else 4], f"Chosen: {a} of {goal} columns, cost {e:,} (line {b}, word {c}, change {d})."
+    return "A damaged line, kept: it ends as it does in the notes." if kind == 1 and damaged else PLAIN[kind], ""
+
+
+def together(index, notes, reasons):
+    """The records, those of blank lines that are told together joined: place, bytes of one, how many, first line, lines."""
+    joined = []
+    for place, length, first, count in index:
+        part, blank = notes[place : place + length], reasons[first][0] == 2
+        if joined and blank and joined[-1][5] and joined[-1][1] == part and joined[-1][2] < TOGETHER:
+            joined[-1][2] += 1
+            joined[-1][4] += count
+        else:
+            joined.append([place, part, 1, first, count, blank])
+    return joined
 
 
 def margins(width, goal):
@@ -107,26 +135,35 @@ def compare(command, page, arguments, block, notes):
     same("the ruler", page.rulers[-2:], [f"goal {goal}, width {width}", "\n"])
     status, reasons = command.reasons_of(block, notes)
     same("the reasons' program", status, 0)
-    pieces = list(page.pieces.items())
-    same("the count of pieces", len(pieces), len(index))
-    for (anchor, piece), (place, length, first, count) in zip(pieces, index):
-        start = notes[:place].count(b"\n") + 1
-        end = start + notes[place : place + length].rstrip(b"\n").count(b"\n") if notes[place : place + length].strip(b"\n") else start
-        bytes_at = f"byte {place:,} of {len(notes):,}" if length == 1 else f"bytes {place:,} to {place + length - 1:,} of {len(notes):,}"
-        lines_at = f"Line {start:,}" if start == end else f"Lines {start:,} to {end:,}"
-        same("a piece", (anchor, piece[0], piece[2].strip(), piece[3]), (f"n{start}", start, f"{lines_at} of the notes {bytes_at}", notes[place : place + length]))
-        same("its lines", sorted(piece[1]), list(range(first + 1, first + count + 1)))
+    same("the reasons", len(reasons), len(lines))
+    if faults:
+        return faults
+    prefix = arguments[arguments.index("-p") + 1] if "-p" in arguments else ""
+    pieces, expected = list(page.pieces.items()), together(index, notes, reasons)
+    same("the count of pieces", len(pieces), len(expected))
+    for (anchor, piece), (place, part, times, first, count, _) in zip(pieces, expected):
+        start, length = notes[:place].count(b"\n") + 1, len(part) * times
+        end = start + times - 1 + part.rstrip(b"\n").count(b"\n")
+        bytes_at = f"{span('byte', place, place + length - 1)} of {len(notes):,}"
+        same("a piece", (anchor, piece[0], piece[2].strip(), piece[3]), (f"n{start}", start, f"{span('Line', start, end)} of the notes {bytes_at}", part * times))
+        told = [first] if times > 1 else range(first, first + count)
+        same("its lines", sorted(piece[1]), [line + 1 for line in told])
         for line in range(first, first + count):
             same("where a line leads", page.lines[line][2], anchor)
-            if line < len(reasons):
-                same(f"the reason of line {line + 1}", piece[1][line + 1][1], words_for(reasons[line], goal, width))
-    same("the reasons", len(reasons), len(lines))
+        for line in told:
+            following = lambda: first_word(lines[line + 1], prefix) if line + 1 < len(lines) else 0  # noqa: E731, B023
+            wanted = words_for(reasons[line], goal, width, following, is_damaged(lines[line])) if times == 1 else ("Blank lines of the notes.", "")
+            same(f"the reason of line {line + 1}", tuple(piece[1][line + 1][1:]), (*wanted, span("Line", line + 1, line + (count if times > 1 else 1))))
     damaged = [i + 1 for i, line in enumerate(lines) if is_damaged(line)]
     same("damaged lines", page.warned.get("d", ["", []])[1], damaged[:60])
     same("their marks", [line[0] for line in page.lines if line[1] == "d"], damaged)
-    over = [i + 1 for i in range(len(lines)) if columns_said(pieces, i + 1) > width]
+    over = [i + 1 for i in range(len(lines)) if columns_said(pieces, i + 1) > width and i + 1 not in damaged]
     same("lines over the width", page.warned.get("o", ["", []])[1], over[:60])
     return faults
+
+
+def span(what, first, last):
+    return f"{what} {first:,}" if first == last else f"{what}s {first:,} to {last:,}"
 
 
 def columns_said(pieces, line):
@@ -187,8 +224,15 @@ def failures(command, tell):
 def edges(command, tell):
     status, page, _ = command.page([], b"")
     tell("no notes", (status, page.faults, page.lines, page.texts["calm"]), (0, [], [], "No notes: the file is empty."))
-    status, page, _ = command.page([], b"\n\n")
-    tell("blank notes", (status, len(page.lines), page.texts["calm"]), (0, 2, "Nothing is damaged, and no line is over the width."))
+    for notes, count, said in ((b"\n\n", 2, "every"), (b"\n", 1, "only"), (b" \t", 1, "only"), (b"\r\n \xc2\xa0\n\xe3\x80\x80\n", 3, "every"), ("\u200b\n".encode(), 1, ""), (b"a\n\n", 2, "")):
+        status, page, _ = command.page([], notes)
+        words = {"every": "No text: every line of the notes is blank.", "only": "No text: the only line of the notes is blank.", "": "Nothing is damaged, and no line is over the width."}[said]
+        tell(f"notes of {notes!r}", (status, len(page.lines), page.texts["calm"]), (0, count, words))
+    page = command.page(["--keep"], b"\xb0" + b"x" * 90 + b"\n\n" + b"y" * 90 + b"\n")[1]
+    tell("a damaged line is not told again as over the width", {kind: lines for kind, (_, lines) in page.warned.items()}, {"d": [1], "o": [3]})
+    data = command.run(["page"], b"\n" * 65536).stdout
+    page = Page(data)
+    tell("65,536 empty lines, in under 3 MB", (page.faults, page.all_notes() == b"\n" * 65536, len(page.lines), len(page.pieces), len(data) < 3000000), ([], True, 65536, 656, True))
     crowd = b"".join(b" " * (i % 2) + b"a\n" for i in range(11000))
     status, page, _ = command.page([], crowd)
     tell("more lines than are asked about", (status, page.faults, len(page.warned["n"][1]), page.warned["n"][0].split(":")[0]), (0, [], 60, "11,000 lines whose ends were not asked about"))
@@ -198,13 +242,18 @@ def edges(command, tell):
 
 
 # A page of these notes, changed in one place: what, and the change.
-SPOILED = b"22:40 Pump 2 <img> tripped on low pressure. Restarted by hand after the valve was\nbled\xe2\x80\xae.\n\n41\xb0C\n"
+SPOILED = b"22:40 Pump 2 <img> tripped on low pressure. Restarted by hand after the valve was\nbled\xe2\x80\xae.\n\n41\xb0C\n\n\n"
 FAULTS = [
     ("a byte of the digest", rb"(<a id=1 [^>]*>22:4)0", rb"\g<1>1"),
     ("a byte of the notes", rb"(<li>22:4)0", rb"\g<1>1"),
     ("markup of the notes", rb"&lt;img&gt;", rb"<img>"),
     ("a line's piece", rb"(<a id=1 href=#n)1", rb"\g<1>4"),
-    ("a number of a reason", rb"(chosen: \d+ of )74", rb"\g<1>75"),
+    ("a number of a reason", rb"(Chosen: \d+ of )74", rb"\g<1>75"),
+    ("another reason", rb"Its paragraph ends here", rb"The next word did not fit"),
+    ("the wrong plain words for a chosen break", rb"(<em>)(The next word did not fit|Ending here gives[^.]*)", lambda found: found[1] + (b"The next word did not fit" if found[2][:1] == b"E" else b"Ending here gives a better spread over the lines that follow")),
+    ("no numbers", rb" <small class=x>[^<]*</small>", rb""),
+    ("another number of blank lines", rb"2 lines of these same bytes", rb"3 lines of these same bytes"),
+    ("a damaged line told again", rb"(<li class=d>.*\n)", rb"\1<li class=o><strong>1 line over the width</strong>: line <a href=#4>4</a>\n"),
     ("the place in the notes", rb"bytes 0 to", rb"bytes 1 to"),
     ("no warning", rb"<li class=d>.*\n", rb""),
     ("no mark at the line", rb"(<a id=4) class=d", rb"\1"),
