@@ -34,7 +34,7 @@ struct options {
     const struct subcommand *const *table; /* all that there are, for help and completion */
     uint16_t flags;
     const char *value[OPTIONS];
-    uint8_t block[RUDIGNALS_MOST_BLOCK + 2]; /* a prefix that is too long is put in with one byte too many, for the library to refuse */
+    uint8_t block[RUDIGNALS_MOST_BLOCK];
     size_t block_len;
     char **files;
     int count;
