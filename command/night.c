@@ -104,7 +104,7 @@ static bool make_night(struct night *night, const struct nights *nights, const c
         put = hand_on(command, &night->output[DIGEST_EML]);
     free(night->reason);
     night->reason = NULL;
-    return put && night->outcome == MADE;
+    return put && night->outcome == MADE && night->paged;
 }
 
 static void free_night(struct night *night) {

@@ -21,6 +21,7 @@ struct night {
     char *reason; /* in words, if there is no digest; null: no memory for them */
     struct facts facts;
     struct counts counts; /* of the digest's lines */
+    bool paged; /* the page shows the digest */
     struct buffer output[OUTPUTS];
 };
 

@@ -7,7 +7,10 @@
 #include <stdbool.h>
 
 /* An option is named by its letter; those without one have numbers that no letter has. */
-enum { KEEP = 256, GLUE, CHARACTERS, TEXT, SVG, HTML, FOLLOW, CUT, LINE, JSON, PAIRS, ALL, STRICT, REPORT, JOBS, NO_KEEP, OPTIONS };
+enum {
+    KEEP = 256, GLUE, CHARACTERS, TEXT, SVG, HTML, FOLLOW, CUT, LINE, JSON, PAIRS, ALL, STRICT, REPORT, JOBS, NO_KEEP, TO, MAIL_FROM, MAIL_TO, MAIL_SUBJECT,
+    ATTACH_PAGE, SENDMAIL, OPTIONS
+};
 
 /* The options of formatting, for a subcommand that takes them all; and for one that keeps damaged lines of itself. */
 #define LAYING_OUT 'c', 't', 'm', 's', 'u', 'p', 'P', 'x', 'X', 'w', 'g', 'q', 'T', GLUE, CHARACTERS

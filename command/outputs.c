@@ -157,10 +157,20 @@ static bool close_sheet(struct sheet *sheet, struct buffer *out) {
     return well;
 }
 
+/* A digest that no page can show is told by the page, and by the status. */
 static bool make_page(struct night *night, struct buffer *out) {
+    static struct page page;
     struct sheet sheet;
-    return open_sheet(&sheet) && (put_page_of(sheet.out, night->options, night->label, &night->facts, &night->notes, &night->digest, night->outcome, reason_of(night)),
-                                  close_sheet(&sheet, out));
+    enum outcome outcome;
+    page = (struct page){.options = night->options, .label = night->label, .notes = night->notes.bytes, .notes_len = night->notes.length, .read_whole = true,
+                         .digest = &night->digest, .facts = night->facts};
+    outcome = find_page(&page, night->outcome);
+    night->paged = outcome == MADE;
+    if (!open_sheet(&sheet))
+        return false;
+    draw_found(sheet.out, &page, outcome, night->outcome == MADE ? last_said() : reason_of(night));
+    free_page(&page);
+    return close_sheet(&sheet, out);
 }
 
 static void put_panel(struct panel *panel, const struct night *night) {

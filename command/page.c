@@ -124,17 +124,45 @@ static bool fits_page(const struct page *page) {
     return false;
 }
 
+enum outcome find_page(struct page *page, enum outcome outcome) {
+    page->lines_len = outcome == MADE ? feeds(page->digest->text.bytes, page->digest->text.length) : 0;
+    if (outcome == MADE && !fits_page(page))
+        outcome = REFUSED;
+    if (outcome == MADE && !read_page(page)) {
+        say("%s: no memory for the page", page->label);
+        outcome = NOT_READ;
+    }
+    if (outcome == MADE)
+        put_digest(&page->panel, &page->facts, &page->digest->text, tab_of(page->options), true);
+    return outcome;
+}
+
+void free_page(struct page *page) {
+    free(page->lines);
+    free(page->pieces);
+    page->lines = NULL;
+    page->pieces = NULL;
+    page->pieces_len = 0;
+}
+
+/* A page that says why there is no digest: an empty one would look like a quiet night. */
+void draw_found(FILE *out, struct page *page, enum outcome outcome, const char *reason) {
+    if (outcome == MADE) {
+        put_page(out, page);
+        return;
+    }
+    put_failure(&page->panel, &page->facts, outcome, reason, NULL, 8, true);
+    put_failed_page(out, page, outcome, reason);
+}
+
 /* All of it is in memory before a byte is written. */
-static bool write_page(const struct page *page, enum outcome outcome, const char *reason) {
+static bool write_page(struct page *page, enum outcome outcome, const char *reason) {
     char *bytes = NULL;
     size_t length = 0;
     FILE *out = open_memstream(&bytes, &length);
     bool well = out != NULL;
     if (well) {
-        if (outcome == MADE)
-            put_page(out, page);
-        else
-            put_failed_page(out, page, outcome, reason);
+        draw_found(out, page, outcome, reason);
         well = !ferror(out);
         well = fclose(out) == 0 && well;
     }
@@ -145,11 +173,7 @@ static bool write_page(const struct page *page, enum outcome outcome, const char
     return well;
 }
 
-/* A page that says why there is no digest: an empty one would look like a quiet night. */
-static int write_failure(struct page *page, enum outcome outcome, const char *reason, int status) {
-    put_failure(&page->panel, &page->facts, outcome, reason, NULL, 8, true);
-    return write_page(page, outcome, reason) ? status : FAILED;
-}
+static int write_failure(struct page *page, enum outcome outcome, const char *reason, int status) { return write_page(page, outcome, reason) ? status : FAILED; }
 
 static int page_of(struct page *page, const char *name) {
     static struct window window;
@@ -161,17 +185,10 @@ static int page_of(struct page *page, const char *name) {
     page->digest = &digest;
     page->notes = notes.bytes;
     page->notes_len = notes.length;
-    page->lines_len = outcome == MADE ? feeds(digest.text.bytes, digest.text.length) : 0;
     page->read_whole = window.ended;
-    if (outcome == MADE && !fits_page(page))
-        outcome = REFUSED;
-    if (outcome == MADE && !read_page(page)) {
-        say("%s: no memory for the page", page->label);
-        outcome = NOT_READ;
-    }
+    outcome = find_page(page, outcome);
     if (outcome != MADE)
         return write_failure(page, outcome, last_said(), FAILED);
-    put_digest(&page->panel, &page->facts, &digest.text, tab_of(page->options), true);
     return write_page(page, MADE, NULL) ? WELL : FAILED;
 }
 
@@ -190,8 +207,7 @@ static int run_page(const struct options *options) {
         return write_failure(&page, NOT_READ, last_said(), WRONG_CALL);
     }
     status = page_of(&page, name);
-    free(page.lines);
-    free(page.pieces);
+    free_page(&page);
     return status;
 }
 

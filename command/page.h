@@ -60,6 +60,14 @@ struct page {
 void put_page(FILE *out, const struct page *page);
 void put_failed_page(FILE *out, const struct page *page, enum outcome outcome, const char *reason);
 
+/* ---- page.c: a page of notes and a digest in memory */
+
+/* Works out what the page shows, or says why there is none. Answers the outcome: that of the digest, or another if there is no page of it. */
+enum outcome find_page(struct page *page, enum outcome outcome);
+/* The page by its outcome: of the digest, or why there is none. */
+void draw_found(FILE *out, struct page *page, enum outcome outcome, const char *reason);
+void free_page(struct page *page);
+
 /* ---- assets.c, made by tools/page: the style and the script of every page, a line each, and their SHA-256 for its content policy */
 
 extern const char *const PAGE_STYLE[], *const PAGE_SCRIPT[];

@@ -2,10 +2,10 @@
 #include "table.h"
 
 extern const struct subcommand format_subcommand, panel_subcommand, index_subcommand, explain_subcommand, page_subcommand, salvage_subcommand,
-    restore_subcommand, flow_subcommand, unflow_subcommand, check_subcommand, audit_subcommand, help_subcommand, completion_subcommand;
+    restore_subcommand, flow_subcommand, unflow_subcommand, check_subcommand, audit_subcommand, night_subcommand, help_subcommand, completion_subcommand;
 
 const struct subcommand *const TABLE[] = {
     &format_subcommand,  &panel_subcommand, &index_subcommand,  &explain_subcommand, &page_subcommand,  &salvage_subcommand,
-    &restore_subcommand, &flow_subcommand,  &unflow_subcommand, &check_subcommand,   &audit_subcommand, &help_subcommand,
-    &completion_subcommand, NULL,
+    &restore_subcommand, &flow_subcommand,  &unflow_subcommand, &check_subcommand,   &audit_subcommand, &night_subcommand,
+    &help_subcommand,    &completion_subcommand, NULL,
 };
