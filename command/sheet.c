@@ -177,7 +177,7 @@ static size_t prefix_length(const uint8_t *bytes, size_t length, const char *typ
 /* The columns of the word with which a line of the digest begins, behind its indent and prefix. A blank of any kind ends it, so that it is
  * never taken for longer than it is. */
 static uint64_t first_word(const struct page *page, const struct line *line) {
-    const uint8_t *bytes = page->digest->bytes + line->at, *end = bytes + line->length;
+    const uint8_t *bytes = page->digest->text.bytes + line->at, *end = bytes + line->length;
     bytes += blank_length(bytes, line->length);
     if (page->options->value['p'] != NULL) {
         bytes += prefix_length(bytes, (size_t)(end - bytes), page->options->value['p']);
