@@ -53,13 +53,13 @@ static bool is_plain(const char *text) {
     return true;
 }
 
-/* The characters of a text that one encoded word takes: at most 45 bytes, so that it has no more than 75 signs, and no character is parted. A
- * byte of no character becomes U+FFFD. */
+/* The characters of a text that one encoded word takes: at most 39 bytes, so that with a header's name before it it has no more than 76 signs, and no
+ * character is parted. A byte of no character becomes U+FFFD. */
 static size_t add_word_bytes(struct buffer *word, const char *text) {
     const uint8_t *at = (const uint8_t *)text;
     size_t length = strlen(text), taken = 0, size;
     uint32_t character;
-    while (taken < length && word->length <= 45 - 4) {
+    while (taken < length && word->length <= 39 - 4) {
         size = character_at(at + taken, length - taken, &character);
         if (!(size == 0 ? buffer_add(word, "\xEF\xBF\xBD", 3) : buffer_add(word, at + taken, size)))
             return 0;
@@ -137,10 +137,11 @@ bool is_address(const char *text) {
     return length > 2 && ats == 1 && address[0] != '@' && address[length - 1] != '@';
 }
 
-/* The name before the address, as a quoted string or as encoded words. */
+/* The name before the address, as a quoted string or as encoded words; quotes that it came in are no part of it. */
 static bool add_display_name(struct buffer *out, const char *text, size_t length) {
     struct buffer name = {0};
-    bool well = buffer_add(&name, text, length) && buffer_add(&name, "", 1);
+    bool quoted = length > 1 && text[0] == '"' && text[length - 1] == '"';
+    bool well = buffer_add(&name, text + quoted, length - 2 * quoted) && buffer_add(&name, "", 1);
     const char *at = (const char *)name.bytes;
     if (well && is_plain(at) && strpbrk(at, "\"\\") == NULL && strstr(at, "=?") == NULL)
         well = buffer_print(out, "\"%s\" ", at);
