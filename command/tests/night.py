@@ -6,12 +6,13 @@ import json
 import os
 import pathlib
 import re
+import shlex
 import shutil
 import subprocess
 import time
 import xml.etree.ElementTree
 
-from .calls import RUDIGNALS, SANITIZED, expect, run
+from .calls import ROOT, RUDIGNALS, SANITIZED, expect, run
 
 FILES = ["digest.eml", "digest.txt", "index.json", "page.html", "status.json", "wall.html", "wall.svg"]
 NOTES = "22:40 Pump 2 tripped. Restarted by hand\nafter the valve was bled.\n\n  \u2013 falling\n".encode()
@@ -240,4 +241,27 @@ finally:
     expect("night: through a mail server", (done.returncode, (folder / "got").exists() and read(folder, "got")), (0, read(folder, "out/notes/digest.eml")))
 
 
-ALL = [files, refusals, mails, handed_on, wrong_calls, strangers, killed, full_disk, two_at_once, by_a_server]
+def units(folder):
+    """examples/nightly: systemd takes the units, and the service's command makes the nights."""
+    (folder / "var/notes").mkdir(parents=True)
+    (folder / "bin").mkdir()
+    (folder / "bin/rudignals").symlink_to(RUDIGNALS)
+    for unit in sorted((ROOT / "examples/nightly").glob("*.[st]*")):
+        text = re.sub(r"Documentation=.*\n", "", unit.read_text())
+        text = text.replace("/usr/bin/rudignals", RUDIGNALS).replace("/usr/bin/cage", "/bin/true").replace("/var/lib/rudignals", str(folder / "var"))
+        (folder / unit.name).write_text(text)
+    if shutil.which("systemd-analyze"):
+        for unit in sorted(folder.glob("*.[st]*")):
+            done = subprocess.run(["systemd-analyze", "verify", f"./{unit.name}"], cwd=folder, stdout=subprocess.PIPE, stderr=subprocess.STDOUT)
+            expect(f"nightly: systemd takes {unit.name}", (done.returncode, done.stdout), (0, b""))
+    command = re.search(r"^ExecStart=(.*)$", (folder / "rudignals-night.service").read_text(), re.M)[1]
+    path = {**os.environ, "PATH": f"{folder}/bin:{os.environ['PATH']}"}
+    expect("nightly: no notes, no night", (subprocess.run(shlex.split(command), env=path).returncode, (folder / "var/nights").exists()), (0, False))
+    for name in "a.txt", "-b c":
+        (folder / "var/notes" / name).write_bytes(NOTES)
+    expect("nightly: the service's command", (subprocess.run(shlex.split(command), env=path).returncode, sorted(os.listdir(folder / "var/nights"))), (0, ["-b c", "a.txt"]))
+    cron = (ROOT / "examples/nightly/crontab").read_text().splitlines()[-1].split(" ", 5)[5].replace("/var/lib/rudignals", str(folder / "var"))
+    expect("nightly: cron's line", subprocess.run(["sh", "-c", cron], env=path).returncode, 0)
+
+
+ALL = [units, files, refusals, mails, handed_on, wrong_calls, strangers, killed, full_disk, two_at_once, by_a_server]
