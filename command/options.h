@@ -30,9 +30,10 @@ const char *name_of(int option);
 /* Every subcommand has these two; a list of options ends with 0. */
 enum { HELP = 'h', VERSION = 'V' };
 
+struct subcommand;
+
 /* What was asked for. Values stand as they were typed, to be named if they are refused; null is not given, and an option that takes no value
  * has the empty one. */
-struct subcommand;
 struct options {
     const struct subcommand *const *table; /* all that there are, for help and completion */
     uint16_t flags;
