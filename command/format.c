@@ -3,6 +3,8 @@
 #include "passes.h"
 #include "subcommand.h"
 
+#include <stdlib.h>
+
 static enum taken write_digest(void *state, struct passes *passes, const struct part *part, size_t length) {
     uint64_t dashes = 0, answer = write_part(passes->options, false, part, passes->room.bytes, length, &dashes);
     (void)state;
@@ -11,26 +13,89 @@ static enum taken write_digest(void *state, struct passes *passes, const struct 
     return write_out(passes->room.bytes, length) ? GO_ON : BROKEN;
 }
 
-/* Each file's digest is out before the next file is read, as in the original. */
-static bool format_file(struct passes *passes, const struct options *options, const char *name) {
-    bool well = measure_file(passes, options, name);
-    if (!well)
-        return false;
-    well = take_parts(passes, write_digest, NULL);
+/* What stands for a file that is refused or cannot be read: nothing is left out silently. */
+static bool write_refusal(void) { return print_out("REFUSED: %s\n", last_said()) && flush_out(); }
+
+static bool write_file(struct passes *passes) {
+    bool well = take_parts(passes, write_digest, NULL);
     close_file(passes);
     return flush_out() && well;
 }
 
-/* A file that is refused or cannot be read does not keep the others from being formatted. Nobody would read them if one could not be
- * written. */
-static int format_files(const struct options *options, int count, char **names) {
+static bool format_file(struct passes *passes, const struct options *options, const char *name) {
+    if (measure_file(passes, options, name))
+        return write_file(passes);
+    if (options->value[SKIP_REFUSED] != NULL)
+        write_refusal();
+    return false;
+}
+
+/* Each file's digest is out before the next file is read. Nobody would read them if one could not be written. */
+static bool format_in_turn(const struct options *options, int count, char **names) {
     static struct passes passes;
     bool whole = true;
     int i;
     for (i = 0; i < count && !output_failed(); i++)
         whole = format_file(&passes, options, names[i]) && whole;
     free_passes(&passes);
-    return whole ? WELL : FAILED;
+    return whole;
+}
+
+/* ---- several files: all of them, or none */
+
+static void drop_passes(struct passes **passes) {
+    if (*passes != NULL)
+        free_passes(*passes);
+    free(*passes);
+    *passes = NULL;
+}
+
+/* Is the file accepted? One that cannot be read again stays open, with what was read of it; of any other nothing is kept. */
+static bool look_at_file(struct passes **looked, const struct options *options, const char *name) {
+    *looked = calloc(1, sizeof **looked);
+    if (*looked == NULL) {
+        say("%s: no memory to read it", label_of(name));
+        return false;
+    }
+    if (!measure_file(*looked, options, name)) {
+        drop_passes(looked);
+        return false;
+    }
+    if ((*looked)->window.kept == NULL) {
+        close_file(*looked);
+        drop_passes(looked);
+    }
+    return true;
+}
+
+static bool format_looked_at(struct passes **looked, const struct options *options, char **name) {
+    bool well;
+    if (*looked == NULL)
+        return format_in_turn(options, 1, name);
+    well = write_file(*looked);
+    drop_passes(looked);
+    return well;
+}
+
+static bool format_all_or_none(const struct options *options, int count, char **names) {
+    struct passes **looked = calloc((size_t)count, sizeof *looked);
+    bool whole = looked != NULL;
+    int i;
+    if (!whole)
+        say("no memory for so many files");
+    for (i = 0; looked != NULL && i < count; i++)
+        whole = look_at_file(&looked[i], options, names[i]) && whole;
+    for (i = 0; whole && i < count && !output_failed(); i++)
+        whole = format_looked_at(&looked[i], options, &names[i]);
+    for (i = 0; looked != NULL && i < count; i++)
+        drop_passes(&looked[i]);
+    free(looked);
+    return whole;
+}
+
+static int format_files(const struct options *options, int count, char **names) {
+    bool in_turn = count == 1 || options->value[SKIP_REFUSED] != NULL;
+    return (in_turn ? format_in_turn(options, count, names) : format_all_or_none(options, count, names)) ? WELL : FAILED;
 }
 
 static int run_format(const struct options *options) {
@@ -41,7 +106,7 @@ static int run_format(const struct options *options) {
     return options->count == 0 ? format_files(options, 1, only) : format_files(options, options->count, options->files);
 }
 
-static const int TAKES[] = {'o', FORMATTING, 0};
+static const int TAKES[] = {SKIP_REFUSED, 'o', FORMATTING, 0};
 
 const struct subcommand format_subcommand = {
     .name = "format",
@@ -50,8 +115,9 @@ const struct subcommand format_subcommand = {
     .about = "Reformats the paragraphs of each FILE, or of standard input (also -), to\n"
              "standard output.\n",
     .takes = TAKES,
-    .limits = "A file is formatted whole or refused whole, and a refused file does not keep\n"
-              "the others from being formatted; with -o FILE all are, or FILE stays as it is.\n"
+    .limits = "A file is formatted whole or refused whole. Of several files all are written, or\n"
+              "none if one is refused or cannot be read; with --skip-refused a line that says\n"
+              "so stands in its place.\n"
               "\n"
               "Limits: a file may have any length, but no more than 65536 bytes without\n"
               "an empty line and no more than 1024 words in a paragraph.\n",

@@ -10,7 +10,7 @@ from .words import DAMAGED, LONG
 
 
 def several(folder):
-    """Several files, each by itself; what is wrong with one leaves the others."""
+    """Several files, each by itself; if something is wrong with one, none is written, or a line in its place says so."""
     for name, text in [("one", b"a\nb"), ("two", b"c\nd\n"), ("bad", b"ok\n\xb0\n"), ("-c", b"e\nf\n")]:
         (folder / name).write_bytes(text)
     expect("two files", run(["one", "two"], cwd=folder), (0, b"a b\nc d\n", ""))
@@ -19,10 +19,15 @@ def several(folder):
     expect("standard input among files", run(["one", "-", "two"], b"x\ny\n", cwd=folder), (0, b"a b\nx y\nc d\n", ""))
     expect("standard input twice", run(["-", "-"], b"x\ny\n"), (0, b"x y\n", ""))
     expect("a file named as an option", run(["--", "-c"], cwd=folder), (0, b"e f\n", ""))
-    expect("a missing file", run(["one", "none", "two"], cwd=folder), (1, b"a b\nc d\n", "fmt: none: No such file or directory\n"))
+    expect("a missing file", run(["one", "none", "two"], cwd=folder), (1, b"", "fmt: none: No such file or directory\n"))
+    expect("a missing file, skipped", run(["--skip-refused", "one", "none", "two"], cwd=folder), (1, b"a b\nREFUSED: none: No such file or directory\nc d\n", "fmt: none: No such file or directory\n"))
+    expect("standard input among files, and one that is refused", run(["-", "bad"], b"x\ny\n", cwd=folder)[:2], (1, b""))
+    expect("every refusal is told", run(["none", "bad"], cwd=folder)[2].count("\n"), 2)
     expect("an odd name", run(["a\nb\x1b[31m"], cwd=folder), (1, b"", "fmt: a^Jb^[[31m: No such file or directory\n"))
-    expect("a folder", run([".", "two"], cwd=folder), (1, b"c d\n", "fmt: .: Is a directory\n"))
-    expect("a refused file", run(["one", "bad", "two"], cwd=folder), (1, b"a b\nc d\n", "fmt: bad: line 2, column 1: byte B0 " + DAMAGED))
+    expect("a folder", run([".", "two"], cwd=folder), (1, b"", "fmt: .: Is a directory\n"))
+    refusal = "bad: line 2, column 1: byte B0 " + DAMAGED
+    expect("a refused file: none is written", run(["one", "bad", "two"], cwd=folder), (1, b"", "fmt: " + refusal))
+    expect("a refused file: skipped, with a line in its place", run(["--skip-refused", "one", "bad", "two"], cwd=folder), (1, b"a b\nREFUSED: " + refusal.encode() + b"c d\n", "fmt: " + refusal))
     expect("refused options, before any file", run(["-w", "5", "none"], cwd=folder)[2], "fmt: --width 5: must be 6 to 1000 without --goal\n")
     if os.getuid() != 0:
         (folder / "two").chmod(0)
@@ -52,7 +57,7 @@ def endless():
 
 def not_written():
     with open("/dev/full", "wb") as full:
-        for program, arguments in (FMT, []), (FMT, ["--help"]), (FMT, ["-V"]), (RUDIGNALS, ["--help"]), (FMT, ["-", "none"]):
+        for program, arguments in (FMT, []), (FMT, ["--help"]), (FMT, ["-V"]), (RUDIGNALS, ["--help"]), (FMT, ["--skip-refused", "-", "none"]):
             name = os.path.basename(program)
             told = f"{name}: standard output: No space left on device\n"
             expect(f"a full device, {arguments}", run(arguments, b"a\n", program, stdout=full), (1, None, told))
