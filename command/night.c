@@ -88,39 +88,45 @@ static bool hand_on(const char *command, const struct buffer *mail) {
     return false;
 }
 
-static bool make_night(struct night *night, const struct nights *nights, const char *name) {
-    const char *slash = strrchr(name, '/'), *command = night->options->value[SENDMAIL];
-    bool put;
+static const char *own_name(const char *name) {
+    const char *slash = strrchr(name, '/');
+    return slash == NULL ? name : slash + 1;
+}
+
+void find_night(struct night *night, const char *name) {
     night->name = name;
-    night->label = slash == NULL ? name : slash + 1;
+    night->label = label_of(own_name(name));
     night->facts = facts_of(name);
     night->counts = (struct counts){0};
+    free(night->reason);
+    night->reason = NULL;
     read_notes(night);
+}
+
+static bool make_night(struct night *night, const struct nights *nights, const char *name) {
+    const char *command = night->options->value[SENDMAIL];
+    bool put;
+    find_night(night, name);
     put = make_outputs(night);
     if (!put)
         say_failure(name, errno);
     put = put && put_night(nights, night);
     if (put && command != NULL)
         put = hand_on(command, &night->output[DIGEST_EML]);
-    free(night->reason);
-    night->reason = NULL;
     return put && night->outcome == MADE && night->paged;
 }
 
-static void free_night(struct night *night) {
+void free_night(struct night *night) {
     size_t i;
     for (i = 0; i < OUTPUTS; i++)
         buffer_free(&night->output[i]);
     buffer_free(&night->notes);
     buffer_free(&night->digest.text);
+    free(night->reason);
+    night->reason = NULL;
 }
 
 /* ---- the call */
-
-static const char *own_name(const char *name) {
-    const char *slash = strrchr(name, '/');
-    return slash == NULL ? name : slash + 1;
-}
 
 /* Two files of one name would have one folder. */
 static const char *named_twice(const struct options *options) {
@@ -142,8 +148,15 @@ static const char *nameless(const struct options *options) {
     return NULL;
 }
 
-static bool goes_together(const struct options *options) {
+bool mail_options_accepted(const struct options *options) {
     const char *from = options->value[MAIL_FROM], *to = options->value[MAIL_TO];
+    bool well = (from == NULL || is_address(from)) && (to == NULL || is_address(to));
+    if (!well)
+        say("%s: is no address, as name@host or Name <name@host>", from != NULL && !is_address(from) ? from : to);
+    return well;
+}
+
+static bool goes_together(const struct options *options) {
     if (options->value[TO] == NULL)
         say("--to FOLDER is missing");
     else if (options->count == 0)
@@ -152,10 +165,8 @@ static bool goes_together(const struct options *options) {
         say("%s: gives a folder no name", nameless(options));
     else if (named_twice(options) != NULL)
         say("%s: another file has the same name, and a night is a folder of that name", named_twice(options));
-    else if ((from != NULL && !is_address(from)) || (to != NULL && !is_address(to)))
-        say("%s: is no address, as name@host or Name <name@host>", from != NULL && !is_address(from) ? from : to);
     else
-        return true;
+        return mail_options_accepted(options);
     return false;
 }
 

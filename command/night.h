@@ -25,10 +25,20 @@ struct night {
     struct buffer output[OUTPUTS];
 };
 
+/* ---- night.c: notes read and formatted */
+
+/* Reads the notes and makes their digest, or says why there is none. What is there already is used again; it is freed at the end. */
+void find_night(struct night *night, const char *name);
+void free_night(struct night *night);
+/* Says what is wrong with the addresses, if something is. */
+bool mail_options_accepted(const struct options *options);
+
 /* ---- outputs.c: every file of a night */
 
 /* Makes all of them. Answers false, with errno, without memory. */
 bool make_outputs(struct night *night);
+/* The mail alone, without the page. */
+bool make_mail_alone(struct night *night);
 
 /* ---- nights.c: a night put in its place whole */
 

@@ -23,6 +23,7 @@ static const struct option_row ROWS[] = {
     {REPORT, "html", "REPORT", "write a page for a browser, too: the year at a glance,\nand of each pair both texts", 0},
     {JOBS, "jobs", "N", "judge N pairs at once; by default as many as there\nare processors", 0},
     {SKIP_REFUSED, "skip-refused", NULL, "write the other files if one is refused, and a line\nin its place that says so", 0},
+    {MIME, "mime", NULL, "write the whole mail, with its headers", 0},
     {TO, "to", "FOLDER", "the folder that the nights are made in", 0},
     {MAIL_FROM, "mail-from", "ADDRESS", "who the mail is from; by default rudignals at this\nmachine", 0},
     {MAIL_TO, "mail-to", "ADDRESS", "who the mail is for; by default who it is from", 0},

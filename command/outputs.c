@@ -271,13 +271,22 @@ static void count_lines(struct night *night) {
     night->counts = rows.counts;
 }
 
+static void begin_outputs(struct night *night) {
+    size_t i;
+    for (i = 0; i < OUTPUTS; i++)
+        night->output[i].length = 0;
+    count_lines(night);
+}
+
+bool make_mail_alone(struct night *night) {
+    begin_outputs(night);
+    return make_text(night, &night->output[DIGEST_TXT]) && make_mail(night, &night->output[DIGEST_EML]);
+}
+
 bool make_outputs(struct night *night) {
     static struct panel panel;
     struct buffer *out = night->output;
-    size_t i;
-    for (i = 0; i < OUTPUTS; i++)
-        out[i].length = 0;
-    count_lines(night);
+    begin_outputs(night);
     put_panel(&panel, night);
     return make_text(night, &out[DIGEST_TXT]) && make_page(night, &out[PAGE_HTML]) && make_mail(night, &out[DIGEST_EML]) && make_drawing(&panel, draw_picture, &out[WALL_SVG]) &&
            make_drawing(&panel, draw_page, &out[WALL_HTML]) && make_index(night, &out[INDEX_JSON]) && make_status(night, &out[STATUS_JSON]);

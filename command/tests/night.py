@@ -108,6 +108,21 @@ def mails(folder):
         expect(f"night: mail in fixed lines with {option}", (night(folder, "--to", "out", *option, "notes")[0], b"Pump 2" in mail_of(folder / "out/notes").get_body().get_payload(decode=True)), (0, True))
 
 
+def flow_mime(folder):
+    """flow --mime writes the same mail by itself; flow tells a line that no server need take."""
+    (folder / "notes").write_bytes(NOTES)
+    status, out, said = run(["flow", "--mime", "--mail-from", "a@example.org", "notes"], b"", RUDIGNALS, cwd=folder)
+    mail = email.message_from_bytes(out, policy=email.policy.default)
+    expect("flow --mime", (status, said, mail["Subject"], mail["To"], mail.defects), (0, "", "notes: 3 lines", "a@example.org", []))
+    expect("flow --mime: text and notes", (mail.get_body().get_payload(decode=True).rstrip(), [p.get_payload(decode=True) for p in mail.iter_attachments()]),
+           (run(["flow", "notes"], b"", RUDIGNALS, cwd=folder)[1].rstrip(), [NOTES]))
+    status, out, said = run(["flow", "--mime"], b"ok\n\xb0\n", RUDIGNALS)
+    mail = email.message_from_bytes(out, policy=email.policy.default)
+    expect("flow --mime: a refusal", (status, "REFUSED" in mail["Subject"], mail.get_body().get_payload(decode=True).startswith(b"REFUSED")), (1, True, True))
+    (folder / "long").write_bytes(("\u6f22" * 500 + "\n").encode())
+    expect("flow: a line of over 998 octets is told", run(["flow", "long"], b"", RUDIGNALS, cwd=folder)[::2], (0, "rudignals: long: a line has 1500 octets, and mail takes 998 as they are; --mime encodes it\n"))
+
+
 def handed_on(folder):
     (folder / "notes").write_bytes(NOTES)
     expect("night --sendmail: gets the mail", (night(folder, "--to", "out", "--sendmail", "cat >sent", "notes")[0], read(folder, "sent")), (0, read(folder, "out/notes/digest.eml")))
@@ -264,4 +279,4 @@ def units(folder):
     expect("nightly: cron's line", subprocess.run(["sh", "-c", cron], env=path).returncode, 0)
 
 
-ALL = [units, files, refusals, mails, handed_on, wrong_calls, strangers, killed, full_disk, two_at_once, by_a_server]
+ALL = [units, files, refusals, mails, flow_mime, handed_on, wrong_calls, strangers, killed, full_disk, two_at_once, by_a_server]
