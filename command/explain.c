@@ -198,8 +198,7 @@ static bool explain_file(struct question *question, const struct options *option
     }
     free_passes(&passes);
     if (whole && question->one && !question->found) {
-        say("%s: there is no line %" PRIu64 ": the digest has %" PRIu64 " line%s", label_of(name), question->line + 1, question->lines_before,
-            question->lines_before == 1 ? "" : "s");
+        say_no_line(label_of(name), question->line + 1, question->lines_before);
         return false;
     }
     return whole;
