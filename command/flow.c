@@ -89,9 +89,10 @@ const struct subcommand flow_subcommand = {
              "reads the mail may break the lines anew. A line `-- ', which would begin a\n"
              "signature, is written as `--' and told. -q and -u go without saying.\n",
     .takes = TAKES,
-    .limits = "A file is written whole or refused whole. With --mime the whole mail is written,\n"
-              "with From, To, Subject, Date and a number, as quoted-printable if a line has\n"
-              "over 998 octets, the notes attached; if they are refused the mail says so.\n"
+    .limits = "A file is written whole or refused whole. With --mime the whole mail is\n"
+              "written, with From, To, Subject, Date and a number, as quoted-printable if a\n"
+              "line has over 998 octets, the notes attached; if they are refused the mail\n"
+              "says so.\n"
               "\n"
               "Limits: a file may have any length, but no more than 65536 bytes without\n"
               "an empty line and no more than 1024 words in a paragraph.\n",

@@ -115,9 +115,9 @@ const struct subcommand format_subcommand = {
     .about = "Reformats the paragraphs of each FILE, or of standard input (also -), to\n"
              "standard output.\n",
     .takes = TAKES,
-    .limits = "A file is formatted whole or refused whole. Of several files all are written, or\n"
-              "none if one is refused or cannot be read; with --skip-refused a line that says\n"
-              "so stands in its place.\n"
+    .limits = "A file is formatted whole or refused whole. Of several files all are written,\n"
+              "or none if one is refused or cannot be read; with --skip-refused a line that\n"
+              "says so stands in its place.\n"
               "\n"
               "Limits: a file may have any length, but no more than 65536 bytes without\n"
               "an empty line and no more than 1024 words in a paragraph.\n",

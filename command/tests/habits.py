@@ -6,23 +6,25 @@ import subprocess
 
 from .calls import RUDIGNALS, expect, run
 
-NAMES = ["format", "panel", "index", "explain", "page", "salvage", "restore", "flow", "unflow", "check", "help", "completion"]
+NAMES = ["format", "panel", "index", "explain", "page", "salvage", "restore", "flow", "unflow", "check", "audit", "night", "help", "completion"]
 FORMATTING = "-c -t -m -s -u -p -P -x -X -w -g -q -T --keep --glue --sentence-characters".split()
 # the options that each takes, by the issue and the manual; -h and -V apart
 TAKES = {
-    "format": ["-o", *FORMATTING],
+    "format": ["--skip-refused", "-o", *FORMATTING],
     "index": ["--line", "--json", "-o", *FORMATTING],
     "explain": ["--json", "-o", *FORMATTING],
     "salvage": ["-o"],
     "restore": ["-o"],
-    "flow": ["-o", "-s", "-u", "-P", "-X", "-w", "-g", "-q", "-T", "--keep", "--glue", "--sentence-characters"],
+    "flow": ["--mime", "--mail-from", "--mail-to", "--mail-subject", "-o", "-s", "-u", "-P", "-X", "-w", "-g", "-q", "-T", "--keep", "--glue", "--sentence-characters"],
     "unflow": ["-o"],
     "check": ["--json", "-o", *FORMATTING],
+    "audit": ["--pairs", "--all", "--strict", "--json", "--html", "--jobs", "-o", *[option for option in FORMATTING if option != "--keep"], "--no-keep"],
+    "night": ["--to", "--mail-from", "--mail-to", "--mail-subject", "--attach-page", "--sendmail", *FORMATTING],
     "help": ["-o"],
     "completion": ["-o"],
 }
 EVERY = sorted({option for options in TAKES.values() for option in options} | {"--text", "--svg", "--follow"})
-VALUES = {"-p", "-P", "-w", "-g", "-T", "-o", "--line", "--svg"}
+VALUES = {"-p", "-P", "-w", "-g", "-T", "-o", "--line", "--svg", "--pairs", "--html", "--jobs", "--mail-from", "--mail-to", "--mail-subject", "--to", "--sendmail"}
 
 
 def shown_options(text):
