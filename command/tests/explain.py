@@ -65,16 +65,22 @@ def some_notes(rng):
     return notes.replace(b"bb", b"\xb0", 1) if rng.random() < 0.3 else notes
 
 
+# what next-mail decides: a header behind a plain line, a paragraph, a header, a blank line
+HEADER = b"To: aaa bbbb cc ddddd e ff ggg hhhh\n ii jjj kk llll\n"
+MAIL = [before + HEADER for before in (b"", b"\xb0\n", b"x\n", b"x\n\n", b"From x\n", b"From: x\n", b" From x\n", b"Fromx y\n", b":\n", b"a b: c\n", b"\xc3\xa9:\n", b"a\x7f:\n", b"\xb0\n" + HEADER, b"a:\n" * 5, b"x\n" + b"a:\n" * 3)]
+
+
 def all_and_one(folder):
     """Every line as it is told of all, and by itself: then the library is asked about the notes as they stand."""
     rng = random.Random(38)
     told = 0
-    for _ in range(60):
-        notes = some_notes(rng)
+    for case in range(60 + len(MAIL)):
+        notes = some_notes(rng) if case < 60 else MAIL[case - 60]
         options = ["--keep", "-w", str(rng.choice([10, 15, 20]))] + [letter for letter in ("-c", "-t", "-s", "-u", "-q", "--glue") if rng.random() < 0.25]
-        options += ["-m"] if rng.random() < 0.7 else []
-        options += ["-p", rng.choice([">", "", "#"])] if rng.random() < 0.3 else []
+        options += ["-m"] if rng.random() < 0.7 or case >= 60 else []
+        options += ["-p", rng.choice([">", "", "#"])] if rng.random() < 0.3 and case < 60 else []
         options += ["-P", "#"] if rng.random() < 0.2 else []
+        options = options if case < 60 else ["--keep", "-m", "-w", "12"]
         (folder / "notes").write_bytes(notes)
         status, every, words = run(["explain", "--json", *options, "notes"], b"", RUDIGNALS, cwd=folder)
         rows = every.splitlines(keepends=True)
