@@ -6,8 +6,15 @@
 
 /* ---- what all shells have in common */
 
-/* Values of these are names of files; of any other option nothing is known. */
-static bool takes_file(const struct option_row *row) { return row->value != NULL && (strcmp(row->value, "FILE") == 0 || strcmp(row->value, "PICTURE") == 0); }
+/* Such values are names of files; of any other nothing is known. */
+static bool takes_file(const struct option_row *row) {
+    static const char *const FILES[] = {"FILE", "PICTURE", "PAGE"};
+    size_t i;
+    for (i = 0; row->value != NULL && i < sizeof FILES / sizeof FILES[0]; i++)
+        if (strcmp(row->value, FILES[i]) == 0)
+            return true;
+    return false;
+}
 
 /* The options of a row, and behind them the two that every one has. */
 static int option_at(const struct subcommand *row, size_t number) {

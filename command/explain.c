@@ -3,6 +3,7 @@
 #include "lines.h"
 #include "output.h"
 #include "passes.h"
+#include "progress.h"
 #include "reasons.h"
 #include "subcommand.h"
 
@@ -152,14 +153,16 @@ static bool tell_piece(const struct question *question, const struct options *op
 }
 
 /* A part begins behind a blank line or at the file's start, where next-mail is true. */
-static enum taken tell_all(struct question *question, const struct options *options, const struct part *part, uint64_t filled, const uint8_t *digest, size_t length) {
+static enum taken tell_all(struct question *question, const struct passes *passes, const struct part *part, uint64_t filled, size_t length) {
+    const struct options *options = passes->options;
     struct options plain = without_mail(options);
-    struct lines lines = read_lines(digest, length);
+    struct lines lines = read_lines(passes->room.bytes, length);
     bool mail = true;
     uint64_t i, kind = RUDIGNALS_BLANK_LINE;
     for (i = 0; i < filled; i++) {
         const struct rudignals_record *record = &question->index[i];
         const uint8_t *piece = part->bytes + record->place;
+        show_progress(part->bytes_before + (size_t)record->place, passes->window.size);
         if (!tell_piece(question, mail ? options : &plain, piece, record, &lines, &kind))
             return BROKEN;
         mail = next_mail(options, mail, kind, piece, (size_t)record->length);
@@ -179,7 +182,7 @@ static enum taken explain_part(void *state, struct passes *passes, const struct 
         return not_as_before(passes);
     if (question->one)
         return tell_one(question, options, part, passes->room.bytes, length);
-    return tell_all(question, options, part, filled, passes->room.bytes, length);
+    return tell_all(question, passes, part, filled, length);
 }
 
 static bool explain_file(struct question *question, const struct options *options, const char *name) {
@@ -195,8 +198,7 @@ static bool explain_file(struct question *question, const struct options *option
     }
     free_passes(&passes);
     if (whole && question->one && !question->found) {
-        say("%s: there is no line %" PRIu64 ": the digest has %" PRIu64 " line%s", label_of(name), question->line + 1, question->lines_before,
-            question->lines_before == 1 ? "" : "s");
+        say_no_line(label_of(name), question->line + 1, question->lines_before);
         return false;
     }
     return whole;

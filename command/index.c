@@ -78,7 +78,7 @@ static bool index_file(struct search *search, const struct options *options, con
     }
     free_passes(&passes);
     if (whole && search->one && !search->found) {
-        say("%s: there is no line %" PRIu64 ": the digest has %" PRIu64 " line%s", label_of(name), search->line + 1, search->lines_before, search->lines_before == 1 ? "" : "s");
+        say_no_line(label_of(name), search->line + 1, search->lines_before);
         return false;
     }
     return whole;

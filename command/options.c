@@ -100,13 +100,8 @@ static void add_number(struct options *options, enum rudignals_tag tag, int opti
 
 static void add_prefix(struct options *options, enum rudignals_tag tag, int option) {
     const char *text = options->value[option];
-    size_t length;
-    if (text == NULL)
-        return;
-    length = strlen(text);
-    if (length > RUDIGNALS_MOST_PREFIX)
-        length = RUDIGNALS_MOST_PREFIX + 1;
-    options->block_len = rudignals_put_prefix(options->block, options->block_len, tag, (const uint8_t *)text, (uint16_t)length);
+    if (text != NULL)
+        options->block_len = rudignals_put_prefix(options->block, options->block_len, tag, (const uint8_t *)text, strlen(text));
 }
 
 /* The tags ascend. What is not given has no field: an empty prefix is another thing than none, and the defaults are the library's. */

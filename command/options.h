@@ -26,14 +26,15 @@ const char *name_of(int option);
 /* Every subcommand has these two; a list of options ends with 0. */
 enum { HELP = 'h', VERSION = 'V' };
 
+struct subcommand;
+
 /* What was asked for. Values stand as they were typed, to be named if they are refused; null is not given, and an option that takes no value
  * has the empty one. */
-struct subcommand;
 struct options {
     const struct subcommand *const *table; /* all that there are, for help and completion */
     uint16_t flags;
     const char *value[OPTIONS];
-    uint8_t block[RUDIGNALS_MOST_BLOCK + 2]; /* a prefix that is too long is put in with one byte too many, for the library to refuse */
+    uint8_t block[RUDIGNALS_MOST_BLOCK];
     size_t block_len;
     char **files;
     int count;

@@ -4,19 +4,36 @@
 #include "say.h"
 
 #include <errno.h>
+#include <string.h>
 
-struct size {
+/* What is known of a part: its length, that of its digest, and a sum by which another part is told from it. */
+struct known {
     size_t part, digest;
+    uint64_t sum;
 };
+
+/* In the manner of Fowler, Noll and Vo, eight bytes at a time. */
+static uint64_t sum_of(const uint8_t *bytes, size_t length) {
+    uint64_t sum = 14695981039346656037u + length, word;
+    size_t taken;
+    for (; length > 0; bytes += taken, length -= taken) {
+        taken = length < sizeof word ? length : sizeof word;
+        word = 0;
+        memcpy(&word, bytes, taken);
+        sum = (sum ^ word) * 1099511628211u;
+        sum ^= sum >> 32;
+    }
+    return sum;
+}
 
 static void say_no_memory(const struct passes *passes) { say("%s: no memory for the formatted text", passes->label); }
 
 /* ---- the first */
 
-static bool remember(struct passes *passes, size_t *most, size_t part, size_t digest) {
-    struct size size = {part, digest};
+static bool remember(struct passes *passes, size_t *most, const struct part *part, size_t digest) {
+    struct known known = {part->length, digest, sum_of(part->bytes, part->length)};
     *most = digest > *most ? digest : *most;
-    return buffer_add(&passes->sizes, &size, sizeof size);
+    return buffer_add(&passes->known, &known, sizeof known);
 }
 
 /* Once something is refused no more is remembered, but a lower code may still come; not behind what has no cut. */
@@ -28,7 +45,7 @@ static bool measure_parts(struct passes *passes, struct refusal *refusal, size_t
         answer = measure_part(passes->options, passes->mail, &part);
         if (rudignals_code_of(answer) != RUDIGNALS_DONE)
             refuse_part(refusal, &part, answer);
-        else if (!remember(passes, most, part.length, rudignals_number_of(answer)))
+        else if (!remember(passes, most, &part, rudignals_number_of(answer)))
             return false;
     }
     if (found == UNCUT)
@@ -39,7 +56,7 @@ static bool measure_parts(struct passes *passes, struct refusal *refusal, size_t
 static bool measured(struct passes *passes) {
     struct refusal refusal = {0};
     size_t most = 0;
-    passes->sizes.length = passes->room.length = 0;
+    passes->known.length = passes->room.length = 0;
     keep_if_needed(&passes->window, &passes->kept);
     if (!measure_parts(passes, &refusal, &most)) {
         say_failure(passes->label, errno);
@@ -77,11 +94,14 @@ enum taken not_as_before(const struct passes *passes) {
     return BROKEN;
 }
 
+static size_t parts_known(const struct passes *passes) { return passes->known.length / sizeof(struct known); }
+
+/* A part is looked at before it is written. */
 static enum taken take_next(struct passes *passes, const struct part *part, size_t number, take_part *take, void *state) {
-    const struct size *sizes = (const struct size *)(const void *)passes->sizes.bytes;
-    if (number >= passes->sizes.length / sizeof *sizes || sizes[number].part != part->length)
+    const struct known *known = (const struct known *)(const void *)passes->known.bytes;
+    if (number >= parts_known(passes) || known[number].part != part->length || known[number].sum != sum_of(part->bytes, part->length))
         return not_as_before(passes);
-    return take(state, passes, part, sizes[number].digest);
+    return take(state, passes, part, known[number].digest);
 }
 
 bool take_parts(struct passes *passes, take_part *take, void *state) {
@@ -98,13 +118,13 @@ bool take_parts(struct passes *passes, take_part *take, void *state) {
         say_failure(passes->label, errno);
         return false;
     }
-    return (found == NO_PART && is_unchanged(&passes->window)) || not_as_before(passes) != BROKEN;
+    return (found == NO_PART && number == parts_known(passes)) || not_as_before(passes) != BROKEN;
 }
 
 void close_file(struct passes *passes) { close_window(&passes->window); }
 
 void free_passes(struct passes *passes) {
     buffer_free(&passes->kept);
-    buffer_free(&passes->sizes);
+    buffer_free(&passes->known);
     buffer_free(&passes->room);
 }

@@ -12,7 +12,7 @@ struct passes {
     bool mail; /* it is written as mail of format=flowed */
     struct window window;
     struct buffer kept;  /* the file, if it cannot be read again */
-    struct buffer sizes; /* how long each part is, and its digest */
+    struct buffer known; /* of each part */
     struct buffer room;  /* for the longest digest of a part */
 };
 

@@ -75,3 +75,7 @@ void say_refusal(const char *name, const struct refusal *at) {
     default: say("%s: no memory for the formatted text", name);
     }
 }
+
+void say_no_line(const char *name, uint64_t line, uint64_t lines) {
+    say("%s: there is no line %" PRIu64 ": the digest has %" PRIu64 " line%s", name, line, lines, lines == 1 ? "" : "s");
+}

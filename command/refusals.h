@@ -16,5 +16,7 @@ struct refusal {
 /* Says why the block is refused, if it is. */
 bool options_accepted(const struct options *options);
 void say_refusal(const char *name, const struct refusal *at);
+/* Says that a digest of so many lines has no such line, counted from 1. */
+void say_no_line(const char *name, uint64_t line, uint64_t lines);
 
 #endif

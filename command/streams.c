@@ -33,15 +33,6 @@ bool open_window(struct window *window, const char *name) {
     return window->file >= 0;
 }
 
-/* FNV-1a: a file that is written to meanwhile has another sum. */
-static void add_to_sum(struct window *window, const uint8_t *bytes, size_t length) {
-    uint64_t sum = window->sum;
-    size_t i;
-    for (i = 0; i < length; i++)
-        sum = (sum ^ bytes[i]) * 1099511628211u;
-    window->sum = sum;
-}
-
 /* So many bytes more, from the file or, the second time, from what was kept. */
 static ssize_t get(struct window *window, uint8_t *to, size_t most) {
     if (window->again && most > window->all - window->read)
@@ -66,7 +57,6 @@ bool fill_window(struct window *window) {
         if (got > 0) {
             if (window->kept != NULL && !window->again && !buffer_add(window->kept, to, (size_t)got))
                 return false;
-            add_to_sum(window, to, (size_t)got);
             window->read += (size_t)got;
             window->length += (size_t)got;
         }
@@ -97,13 +87,10 @@ bool rewind_window(struct window *window) {
         return false;
     window->again = true;
     window->all = window->read;
-    window->before = window->sum;
-    window->read = window->length = window->sum = 0;
+    window->read = window->length = 0;
     window->ended = false;
     return true;
 }
-
-bool is_unchanged(const struct window *window) { return window->read == window->all && window->sum == window->before; }
 
 bool read_whole(const char *name, struct buffer *buffer) {
     static struct window window;

@@ -21,13 +21,12 @@ struct window {
     bool opened; /* by us: standard input is not, and stays open */
     uint8_t bytes[2 * MOST_PART];
     size_t length;
-    bool ended;           /* no byte follows */
-    struct buffer *kept;  /* what was read so far is kept there, if it is not null */
-    size_t read, size;    /* so many bytes were read, of so many; 0: nobody knows */
-    off_t start;          /* where reading began */
-    bool again;           /* it is read a second time, */
-    size_t all;           /* as far as the first time, */
-    uint64_t sum, before; /* and has the same bytes if these agree at the end */
+    bool ended;          /* no byte follows */
+    struct buffer *kept; /* what was read so far is kept there, if it is not null */
+    size_t read, size;   /* so many bytes were read, of so many; 0: nobody knows */
+    off_t start;         /* where reading began */
+    bool again;          /* it is read a second time, */
+    size_t all;          /* as far as the first time */
 };
 
 /* Opens a file, `-' being standard input. These answer false, with errno, if that fails. */
@@ -40,8 +39,6 @@ void close_window(struct window *window);
  * from what was kept, which keep_if_needed provides for. */
 void keep_if_needed(struct window *window, struct buffer *kept);
 bool rewind_window(struct window *window);
-/* Behind the second reading: had it the same bytes? */
-bool is_unchanged(const struct window *window);
 
 /* All of a file behind the buffer. */
 bool read_whole(const char *name, struct buffer *buffer);

@@ -232,6 +232,16 @@ def completed_by_bash(folder):
         expect(f"bash completes {line}", bash(script, line, inside), wanted)
 
 
+def completed_by_fish(folder):
+    if not shutil.which("fish"):
+        return
+    script = folder / "completion.fish"
+    script.write_bytes(run(["completion", "fish"], b"", RUDIGNALS)[1])
+    for line, wanted in [("rudignals fo", ["format"]), ("rudignals salvage --", ["--help", "--output", "--version"]), ("rudignals fmt --ke", ["--keep"]), ("rudignals flow --cr", []), ("rudignals completion ", ["bash", "fish", "zsh"])]:
+        rows = subprocess.run(["fish", "-N", "-c", f"source {script}; complete -C '{line}'"], stdout=subprocess.PIPE, cwd=folder).stdout.decode().splitlines()
+        expect(f"fish completes {line}", sorted(row.split("\t")[0] for row in rows), wanted)
+
+
 def complete_for_all(folder):
     """Every subcommand and every option stands in each of the three; the shells that are at hand read them."""
     for shell in "bash", "zsh", "fish":
@@ -252,4 +262,4 @@ def complete_for_all(folder):
         expect(f"completion {words}", run(["completion", *words], b"", RUDIGNALS), (2, b"", "rudignals: a shell is asked for: bash, zsh or fish\nTry 'rudignals completion --help'.\n"))
 
 
-ALL = [helps, taken, one_way, nearest, numbers, counted_from_one, as_json, check_as_json, completed_by_bash, complete_for_all]
+ALL = [helps, taken, one_way, nearest, numbers, counted_from_one, as_json, check_as_json, completed_by_bash, completed_by_fish, complete_for_all]

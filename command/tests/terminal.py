@@ -14,6 +14,20 @@ BYTES = b"a\x1b[2Jb\x07c\x7fd \xc2\x9b31m e\xe2\x80\xaef\xe2\x81\xa6g \rh\xe4\xb
 SHOWN = "a^[[2Jb^Gc^?d <U+009B>31m e<U+202E>f<U+2066>g ^Mh\u4e2d\u00e9 i\n".encode()
 
 
+def all_shown(ours):
+    """What the terminal was given; reading fails when the other end is closed and nothing is left."""
+    shown = b""
+    while True:
+        try:
+            piece = os.read(ours, 65536)
+        except OSError:
+            piece = b""
+        if not piece:
+            os.close(ours)
+            return shown
+        shown += piece
+
+
 def on_terminal(words, stdin=b"", both=True, **more):
     """Status and what a terminal is given by standard output and, unless it goes elsewhere, standard error."""
     ours, theirs = pty.openpty()
@@ -25,16 +39,7 @@ def on_terminal(words, stdin=b"", both=True, **more):
     os.close(theirs)
     child.stdin.write(stdin)
     child.stdin.close()
-    shown = b""
-    while True:
-        try:
-            piece = os.read(ours, 65536)
-        except OSError:
-            piece = b""
-        if not piece:
-            break
-        shown += piece
-    os.close(ours)
+    shown = all_shown(ours)
     return child.wait(), shown
 
 
@@ -85,12 +90,10 @@ def words_do_not_act(folder):
             expect(f"{words}: it is shown", shown in found, True)
 
 
-def progress(folder):
+def progress():
     """What takes over two seconds says on a terminal how far it is, and takes that away; elsewhere nothing is said."""
     if SANITIZED:
         return
-    (folder / "long").write_bytes(b"The valve at the north gate opened late.\n\n" * 100)
-    (folder / "out").touch()
     ours, theirs = pty.openpty()
     child = subprocess.Popen([RUDIGNALS, "format"], stdin=subprocess.PIPE, stdout=subprocess.DEVNULL, stderr=theirs)
     os.close(theirs)
@@ -100,8 +103,7 @@ def progress(folder):
         time.sleep(0.25)
     child.stdin.close()
     child.wait()
-    shown = os.read(ours, 65536)
-    os.close(ours)
+    shown = all_shown(ours)
     expect("how far it is", (child.returncode, b" MB" in shown, shown.replace(b"\r\n", b"\n").endswith(b" \r")), (0, True, True))
     child = subprocess.Popen([RUDIGNALS, "format"], stdin=subprocess.PIPE, stdout=subprocess.DEVNULL, stderr=subprocess.PIPE)
     for _ in range(10):
