@@ -36,7 +36,7 @@ static enum script script_of(uint32_t c) {
 /* Signs and digits stand in a word of any script. */
 static bool is_sign(uint32_t c) { return within(c, '!', '@') || within(c, '[', '`') || within(c, '{', '~') || within(c, 0xA1, 0xBF) || c == 0x2026; }
 
-/* What stands between two blanks, or up to a cell of another kind. */
+/* What stands between two blanks, or up to a cell of another kind; nothing at all where a blank stands. */
 struct word {
     int end;
     bool from_right, digits, other; /* what it has: other letters are neither signs nor written from the right */
@@ -64,10 +64,6 @@ static int same_script(const struct panel *panel, int row, int column) {
     return end;
 }
 
-static bool one_blank(const struct panel *panel, int row, int column) {
-    return column + 1 < COLUMNS && cell_at(panel, row, column).character == ' ' && cell_at(panel, row, column + 1).character != ' ';
-}
-
 /* Words that are written from the right, one blank apart, and numbers behind them: a person reads them together. Of a word that has other
  * letters too, only those up to them. */
 static int end_from_right(const struct panel *panel, int row, int column) {
@@ -77,7 +73,7 @@ static int end_from_right(const struct panel *panel, int row, int column) {
         return column;
     while (!word.other && (word.from_right || word.digits)) {
         end = word.end;
-        if (!one_blank(panel, row, end))
+        if (end + 1 >= COLUMNS || cell_at(panel, row, end).character != ' ')
             break;
         word = word_at(panel, row, end + 1);
     }

@@ -172,6 +172,11 @@ def counts():
     torn = b"first\n\xb0" + b"y" * 160 + b"\n" + lines(1, 22)
     rows = [">" + "y" * 80, ">y"] + numbers[:22]
     expect("a damaged line that begins above", counted(torn), (well, rows, "24 lines, 1 damaged; above: 2 lines, 1 damaged"))
+    torn_below = b"first\n" + b"y" * 160 + b"\xb0\n" + lines(1, 22)
+    rows = [">" + "y" * 80, ">" + "\ufffd"] + numbers[:22]
+    expect("a damaged line that begins above, damaged below", counted(torn_below), (well, rows, "24 lines, 1 damaged; above: 2 lines, 1 damaged"))
+    torn_twice = torn_below.replace(b"\ny", b"\n\xb0", 1)
+    expect("a damaged line, damaged above and below", counted(torn_twice), (well, rows, "24 lines, 1 damaged; above: 2 lines, 1 damaged"))
     rows = ["first", "\ufffd" + "y" * 78 + "+"] + numbers[:22]
     expect("the same, cut", counted(torn, ["--cut"]), (well, rows, "24 lines, 1 damaged, 1 cut; none above"))
     expect("cut above", counted(b"z" * 81 + b"\n" + lines(1, 24), ["--cut"]), (well, numbers[:24], "25 lines, none damaged, 1 cut; above: 1 line, none damaged"))
@@ -360,6 +365,8 @@ def pictures():
     told, drawn = picture(AS_IT_IS, notes)
     expect("a folded picture", (drawn.words("883"), drawn.words("923"), drawn.arrows), ("x" * 80, "y", ["M10 898"]))
     expect("nothing is cut there", {kind for _, kind in drawn.letters.values()} & {"over"}, set())
+    told, drawn = picture(AS_IT_IS, b"x" * 79 + b"+y\n")
+    expect("a plus of the notes", drawn.row("923")["1872.5", "923"], ("+", None))
     told, drawn = picture([])
     expect("a picture of no notes", (drawn.words("963"), len(drawn.grounds), drawn.title), ("", 2, "no notes: the file is empty; drawn NOW: standard input"))
     told, drawn = picture(["<none>"])
@@ -629,8 +636,13 @@ def follower(arguments, folder, **more):
 
 
 def ended(child, number=signal.SIGTERM):
-    child.send_signal(number)
-    errors = child.communicate(timeout=10)[1]
+    """By a signal, or by itself: its status and what it said."""
+    try:
+        child.send_signal(number)
+        errors = child.communicate(timeout=10)[1]
+    except subprocess.TimeoutExpired:
+        child.kill()
+        return "it did not end", child.communicate()[1].decode()
     return child.returncode, errors.decode()
 
 
@@ -659,11 +671,11 @@ def followed_elsewhere(folder):
     file.write_bytes(b"first\n")
     (folder / "notes.txt").write_bytes(b"precious\n")
     told = "rudignals: notes.txt: is there and is no picture of a panel; it is not written over\n"
-    expect("a picture that never can be", panel(["--follow", "--svg", "notes.txt", "live"], cwd=folder), (1, b"", told))
-    expect("a folder in its place", panel(["--follow", "--svg", ".", "live"], cwd=folder), (1, b"", "rudignals: .: Is a directory\n"))
+    expect("a picture that never can be", ended(follower(["--svg", "notes.txt", "live"], folder), 0), (1, told))
+    expect("a folder in its place", ended(follower(["--svg", ".", "live"], folder), 0), (1, "rudignals: .: Is a directory\n"))
     reading, writing = os.pipe()
     os.close(reading)
-    expect("nobody reads", panel(["--follow", "live"], cwd=folder, stdout=writing), (1, None, "rudignals: standard output: Broken pipe\n"))
+    expect("nobody reads", ended(follower(["live"], folder, stdout=writing), 0), (1, "rudignals: standard output: Broken pipe\n"))
     os.close(writing)
     os.mkfifo(folder / "pipe")
     terminal = Terminal(["--follow", "pipe"], 100, 30, folder)
@@ -703,6 +715,8 @@ TROUBLE = re.compile(r"not written from (\d\d:\d\d:\d\d) to (\d\d:\d\d:\d\d): (.
 
 def trouble_in(wall):
     """What the third line below a picture says."""
+    if not wall.exists():
+        return ""
     letters = [(float(x), letter) for (x, y), (letter, kind) in Picture(wall.read_bytes()).letters.items() if y == "1076"]
     columns = {round((x - 44 - 7.5) / 15): letter for x, letter in letters}
     return "".join(columns.get(column, " ") for column in range(max(columns, default=-1) + 1))
@@ -746,6 +760,7 @@ def on_small_disk(folder, disk):
         expect("and tells that it was full", found and (began <= found[1] < found[2] <= time.strftime("%H:%M:%S"), found[3]), (True, f"small/wall.svg: {FULL}"))
         text = lambda: frames.read_text()
         expect("frames go on too", wait_until(lambda: "|second" in text() and text().endswith(": live\n")), True)
+        expect("each from a line's start", re.findall(r"[^\n]\+-{80}\+", text()), [])
         expect("said once, and not the end of it", ended(child), (0, f"rudignals: small/wall.svg: {FULL}\n"))
     expect("its end is told", title_of(wall), "no longer followed")
     shutil.copy(file, disk.folder / "notes")
