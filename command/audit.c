@@ -255,11 +255,15 @@ const struct subcommand audit_subcommand = {
              "  no digest, no notes  one of the two files is not there\n"
              "  could not be judged  and why\n"
              "\n"
-             "A line is written for each pair that is not carried, and a summary. A stray\n"
-             "byte in the notes keeps its line as it is, as with `format --keep'.\n",
+             "A line is written for each pair that is not carried, and a summary. A line of\n"
+             "the notes with a stray byte is to stand in the digest as it is.\n",
     .takes = TAKES,
     .limits = "Give the options that the digests were made with, where prefixes or indents\n"
-              "depend on them; width and goal do not matter.\n",
+              "depend on them; width and goal do not matter.\n"
+              "\n"
+              "Limits: files may have any length. Of notes with more than 65536 bytes without\n"
+              "an empty line, or 1024 words in a paragraph, it is told whether words are\n"
+              "missing; where none is, such a pair cannot be judged.\n",
     .statuses = "0 every pair is carried or laid out otherwise (with --strict:\n"
                 "carried); 1 text is missing or was added, or a file is missing; 2 something\n"
                 "could not be judged or written, or a wrong call",

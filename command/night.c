@@ -201,7 +201,7 @@ const struct subcommand night_subcommand = {
              "  digest.eml   the digest as a whole mail, the notes attached\n"
              "  page.html    the page that `page' writes\n"
              "  wall.svg, wall.html\n"
-             "               the wall panel, as `panel --svg' and `--html' draw it\n"
+             "               the wall panel, as `panel' draws it in a picture and on a page\n"
              "  index.json   which notes each line comes from\n"
              "  status.json  version, options, sizes, counts and times\n"
              "\n"
@@ -212,7 +212,11 @@ const struct subcommand night_subcommand = {
     .takes = TAKES,
     .limits = "A run that was broken off leaves the old night, and the next one cleans up.\n"
               "Where -c, -t, -m or -p is given the mail has the digest's own lines; else they\n"
-              "flow.\n",
+              "flow.\n"
+              "\n"
+              "Limits: a file may have any length, but no more than 65536 bytes without\n"
+              "an empty line and no more than 1024 words in a paragraph; a page shows at most\n"
+              "65536 lines or 4 MiB of digest.\n",
     .statuses = "0 every night was made; " STATUSES,
     .run = run_night,
 };

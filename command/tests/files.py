@@ -74,7 +74,7 @@ def closed(folder):
         done = subprocess.run(["sh", "-c", f'exec "$0" {arguments} {sign}', FMT], input=b"", stderr=subprocess.PIPE, cwd=folder)
         expect(f"standard {name} closed, {arguments}", (done.returncode, done.stderr), (1, b"fmt: standard %s: Bad file descriptor\n" % name.encode()))
     done = subprocess.run(["sh", "-c", 'exec "$0" notes - <&-', FMT], stdout=subprocess.PIPE, stderr=subprocess.PIPE, cwd=folder)
-    wanted = (1, b"a\n", b"fmt: standard input: Bad file descriptor\n")
+    wanted = (1, b"", b"fmt: standard input: Bad file descriptor\n")
     expect("standard input closed, behind a file", (done.returncode, done.stdout, done.stderr), wanted)
     expect("the file is as it was", (folder / "notes").read_bytes(), b"a\n")
 
@@ -91,7 +91,7 @@ def no_memory(folder):
     for what, notes, why in cases:
         (folder / "grows").write_bytes(notes)
         words = f"rudignals: grows: {why}\n"
-        expect(f"no memory, {what}", run(["format", "-w6", "grows", "-"], b"x\ny\n", poor, cwd=folder), (1, b"x y\n", words))
+        expect(f"no memory, {what}", run(["format", "-w6", "--skip-refused", "grows", "-"], b"x\ny\n", poor, cwd=folder), (1, b"REFUSED: " + words.split(": ", 1)[1].encode() + b"x y\n", words))
 
 
 def copied(folder):

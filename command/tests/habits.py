@@ -55,13 +55,17 @@ def helps(folder):
 def taken(folder):
     """An option that help shows is taken, and one that it does not show is refused."""
     (folder / "notes").write_bytes(b"a\n")
-    files = {"salvage": ["list", "notes"], "restore": ["/dev/null", "notes"], "check": ["notes", "notes"], "help": [], "completion": ["bash"]}
+    files = {"salvage": ["list", "notes"], "restore": ["/dev/null", "notes"], "check": ["notes", "notes"], "audit": ["notes", "notes"], "night": ["--to", "nights", "notes"], "help": [], "completion": ["bash"]}
+    values = {"--line": "1", "-o": "out", "--html": "out.html", "--jobs": "2", "--mail-from": "a@example.org", "--mail-to": "a@example.org", "--to": "nights", "--sendmail": "cat >sent", "--pairs": "pairs"}
+    (folder / "pairs").write_bytes(b"notes\tnotes\n")
     for name, options in TAKES.items():
         for option in EVERY:
             (folder / "list").unlink(missing_ok=True)
-            value = ["1"] if option == "--line" else ["out"] if option == "-o" else ["20"] if option in VALUES else []
-            status, _, errors = run([name, *files.get(name, ["notes"]), option, *value], b"", RUDIGNALS, cwd=folder)
-            expect(f"{name} {option}", (status, errors[:11]), (0, "") if option in options else (2, "rudignals: "))
+            value = [values.get(option, "20")] if option in VALUES else []
+            named = [] if (name, option) == ("audit", "--pairs") else files.get(name, ["notes"])
+            status, _, errors = run([name, *named, option, *value], b"", RUDIGNALS, cwd=folder)
+            said = "rudignals: " if (name, option) == ("audit", "--json") else ""  # its summary
+            expect(f"{name} {option}", (status, errors[:11]), (0, said) if option in options else (2, "rudignals: "))
 
 
 def one_way(folder):
