@@ -32,7 +32,7 @@ void draw_page(FILE *out, const struct panel *panel) {
     put_head(out, panel);
     fprintf(out, "<body data-drawn=%lld data-every=%d data-old=%d>\n", (long long)panel->drawn, EVERY, OLD);
     draw_shapes(out, panel, NULL);
-    fputs("<p id=old role=alert><span>NOT DRAWN SINCE <time id=since></time><small>There may be newer notes; what is below is old.</small></span></p>\n"
+    fputs("<p id=old role=alert><span><strong>NOT DRAWN SINCE <time id=since></time></strong><small>There may be newer notes; what is below is old.</small></span></p>\n"
           "<noscript><p>Script is off: this page cannot tell when it is old.</p></noscript>\n"
           "</body>\n</html>\n",
           out);

@@ -34,8 +34,7 @@ class Wall(browser.Browser):
 
     def old(self):
         """The words of an old page, or none."""
-        return self.run("const e = document.getElementById('old'); return getComputedStyle(e).display === 'none' ? null : e.querySelector('span').firstChild.data"
-                        " + document.getElementById('since').textContent")
+        return self.run("const e = document.getElementById('old'); return getComputedStyle(e).display === 'none' ? null : e.querySelector('strong').textContent")
 
     def piece(self, x, y, width, height):
         """A part of the screen, as a picture's bytes."""
@@ -131,7 +130,7 @@ def nothing_acts(wall, night, tell):
     letters = wall.letters()
     tell("notes stand as they are", ("<script>alert(1)</script></svg>" in letters, "onerror=alert(2)>]]><!--" in letters, "\"'&amp;" in letters), (True, True, True))
     names = wall.shown("return [...new Set([...document.body.querySelectorAll('*')].map(e => e.localName))].sort().join(' ')")
-    tell("and make no element", names, "noscript p path rect small span svg text time title".replace("path ", ""))
+    tell("and make no element", names, "noscript p rect small span strong svg text time title")
     tell("and nothing else", (wall.alert(), wall.log()), (None, []))
     wall.run("window.noise = setInterval(() => postMessage([0, 1], '*'), 20)")
     tell("words from elsewhere are not heard", wait_until(lambda: wall.old() is not None, 7), False)
@@ -157,6 +156,14 @@ def killed(wall, night, tell, out):
                        "const e = parseFloat(getComputedStyle(document.getElementById('old')).borderLeftWidth);"
                        "return s.top < b.bottom - 1 || s.bottom > innerHeight - e + 1 || s.left < e - 1 || s.right > innerWidth - e + 1")
     tell("and none of them is covered", covered, False)
+    for width, height in (1280, 720), (1920, 1080), (800, 1200):
+        wall.tool("Emulation.setDeviceMetricsOverride", width=width, height=height, deviceScaleFactor=1, mobile=False)
+        room = wall.run("const s = document.querySelector('#old span'), r = s.getBoundingClientRect(), t = s.querySelector('strong').getBoundingClientRect(),"
+                        "m = s.querySelector('small').getBoundingClientRect(); return t.top >= r.top && m.bottom <= r.bottom && t.bottom <= m.top + 1")
+        tell(f"the words have room, {width} x {height}", room, True)
+    wall.tool("Emulation.setDeviceMetricsOverride", width=1280, height=720, deviceScaleFactor=1, mobile=False)
+    one_line = wall.run("const s = document.querySelector('#old strong'); return s.getClientRects().length === 1 && s.offsetHeight < 1.5 * parseFloat(getComputedStyle(s).fontSize)")
+    tell("and stand in one line", one_line, True)
     for dark in True, False:
         wall.media(dark=dark)
         wall.picture(out / f"old-{'dark' if dark else 'light'}.png")
