@@ -32,6 +32,7 @@ static const struct option_row ROWS[] = {
     {'q', "quick", NULL, "fill line by line; more ragged", RUDIGNALS_QUICK},
     {'T', "tab-width", "TAB", "columns between tab stops; 8 by default", 0},
     {KEEP, "keep", NULL, "leave a line with a damaged character as it is,\ninstead of refusing its file", RUDIGNALS_KEEP},
+    {SALVAGE, "salvage", NULL, "mend lines that are not UTF-8 in memory first, as\n`rudignals salvage' does, and say how many", 0},
     {GLUE, "glue", NULL, "a no-break space, U+00A0, is part of its word; not\nbeside a blank or at a line's start or end", RUDIGNALS_GLUE},
     {CHARACTERS, "sentence-characters", NULL, "with -u: between sentences count blanks as\ncharacters; else one U+00A0 counts as two, its bytes", RUDIGNALS_SENTENCE_CHARACTERS},
     {HELP, "help", NULL, "show this", 0},

@@ -53,6 +53,7 @@ static bool measured(struct passes *passes) {
         say_no_memory(passes);
         return false;
     }
+    say_mended(passes->label, &passes->window.mender.mended);
     return true;
 }
 
@@ -60,6 +61,7 @@ bool measure_file(struct passes *passes, const struct options *options, const ch
     bool well;
     passes->options = options;
     passes->label = label_of(name);
+    passes->window.mends = options->value[SALVAGE] != NULL;
     if (!open_window(&passes->window, name)) {
         say_failure(passes->label, errno);
         return false;
@@ -107,4 +109,5 @@ void free_passes(struct passes *passes) {
     buffer_free(&passes->kept);
     buffer_free(&passes->sizes);
     buffer_free(&passes->room);
+    free_mender(&passes->window.mender);
 }
