@@ -42,6 +42,7 @@ bool make_digest(struct digest *digest, const struct options *options, struct wi
 static bool read_digest(const struct options *options, const char *name, struct window *window, struct digest *digest) {
     bool whole;
     int reason;
+    window->mends = options->value[SALVAGE] != NULL;
     if (!open_window(window, name))
         return false;
     whole = make_digest(digest, options, window);

@@ -74,7 +74,7 @@ static int run_flow(const struct options *options) {
 }
 
 /* What the library refuses in a block for mail is not there: -c, -t, -m, -p, and -x, which goes with -p. */
-static const int TAKES[] = {MIME, MAIL_FROM, MAIL_TO, MAIL_SUBJECT, 'o', 's', 'u', 'P', 'X', 'w', 'g', 'q', 'T', KEEP, GLUE, CHARACTERS, 0};
+static const int TAKES[] = {MIME, MAIL_FROM, MAIL_TO, MAIL_SUBJECT, 'o', 's', 'u', 'P', 'X', 'w', 'g', 'q', 'T', KEEP, GLUE, CHARACTERS, SALVAGE, 0};
 
 const struct subcommand flow_subcommand = {
     .name = "flow",

@@ -106,7 +106,7 @@ static int run_format(const struct options *options) {
     return options->count == 0 ? format_files(options, 1, only) : format_files(options, options->count, options->files);
 }
 
-static const int TAKES[] = {SKIP_REFUSED, 'o', FORMATTING, 0};
+static const int TAKES[] = {SKIP_REFUSED, 'o', FORMATTING, SALVAGE, 0};
 
 const struct subcommand format_subcommand = {
     .name = "format",

@@ -55,6 +55,20 @@ static void fail(struct night *night, enum outcome outcome) {
     night->reason = words("%s", last_said());
 }
 
+/* Lines in ISO 8859-1 are mended first, if so asked; what was read is kept for whoever wants it as it was. */
+static bool mend_read(struct night *night) {
+    night->raw.length = 0;
+    night->mended = (struct mended){0};
+    if (night->options->value[SALVAGE] == NULL)
+        return true;
+    if (!buffer_add(&night->raw, night->notes.bytes, night->notes.length) || !mend_notes(&night->notes, &night->mended))
+        return false;
+    night->facts.mended_lines = night->mended.lines;
+    night->facts.mended_bytes = night->mended.bytes;
+    say_mended(night->name, &night->mended);
+    return true;
+}
+
 static void read_notes(struct night *night) {
     night->notes.length = 0;
     night->outcome = MADE;
@@ -62,7 +76,7 @@ static void read_notes(struct night *night) {
         say_failure(night->name, errno);
         night->notes.length = 0;
         fail(night, NOT_READ);
-    } else if (!digest_notes(night)) {
+    } else if (!mend_read(night) || !digest_notes(night)) {
         say_failure(night->name, ENOMEM);
         fail(night, NOT_READ);
     } else if (night->digest.refusal.code != RUDIGNALS_DONE) {
@@ -121,6 +135,7 @@ void free_night(struct night *night) {
     for (i = 0; i < OUTPUTS; i++)
         buffer_free(&night->output[i]);
     buffer_free(&night->notes);
+    buffer_free(&night->raw);
     buffer_free(&night->digest.text);
     free(night->reason);
     night->reason = NULL;
@@ -189,7 +204,7 @@ static int run_night(const struct options *options) {
     return well ? WELL : FAILED;
 }
 
-static const int TAKES[] = {TO, MAIL_FROM, MAIL_TO, MAIL_SUBJECT, ATTACH_PAGE, SENDMAIL, FORMATTING, 0};
+static const int TAKES[] = {TO, MAIL_FROM, MAIL_TO, MAIL_SUBJECT, ATTACH_PAGE, SENDMAIL, FORMATTING, SALVAGE, 0};
 
 const struct subcommand night_subcommand = {
     .name = "night",

@@ -3,6 +3,7 @@
 #define NIGHT_H
 
 #include "digest.h"
+#include "mend.h"
 #include "mime.h"
 #include "panel.h"
 
@@ -15,7 +16,9 @@ struct night {
     const struct options *options;
     const char *name;  /* of the file of notes, as it was given */
     const char *label; /* without its folder */
-    struct buffer notes;
+    struct buffer notes; /* as they are formatted: mended, if so asked */
+    struct buffer raw;   /* as they were read, if they were mended */
+    struct mended mended;
     struct digest digest;
     enum outcome outcome;
     char *reason; /* in words, if there is no digest; null: no memory for them */

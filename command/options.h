@@ -9,7 +9,7 @@
 /* An option is named by its letter; those without one have numbers that no letter has. */
 enum {
     KEEP = 256, GLUE, CHARACTERS, TEXT, SVG, HTML, FOLLOW, CUT, LINE, JSON, PAIRS, ALL, STRICT, REPORT, JOBS, NO_KEEP, TO, MAIL_FROM, MAIL_TO, MAIL_SUBJECT,
-    ATTACH_PAGE, SENDMAIL, SKIP_REFUSED, MIME, OPTIONS
+    ATTACH_PAGE, SENDMAIL, SKIP_REFUSED, MIME, SALVAGE, OPTIONS
 };
 
 /* The options of formatting, for a subcommand that takes them all; and for one that keeps damaged lines of itself. */

@@ -114,7 +114,8 @@ static bool make_mail(struct night *night, struct buffer *out) {
     struct buffer text = {0}, subject = {0}, sender = {0};
     bool paged = night->options->value[ATTACH_PAGE] != NULL;
     const char *from = night->options->value[MAIL_FROM], *to = night->options->value[MAIL_TO];
-    struct attachment attachments[] = {{night->label, "application/octet-stream", night->notes.bytes, night->notes.length},
+    const struct buffer *raw = night->raw.length > 0 ? &night->raw : &night->notes;
+    struct attachment attachments[] = {{night->label, "application/octet-stream", raw->bytes, raw->length},
                                        {OUTPUT_NAMES[PAGE_HTML], "text/html; charset=UTF-8", night->output[PAGE_HTML].bytes, night->output[PAGE_HTML].length}};
     struct mail mail = {from, to, NULL, night->facts.drawn, &text, attachments, paged ? 2 : 1};
     bool well = add_mail_text(&text, night) && add_subject(&subject, night) && add_sender(&sender);
@@ -163,7 +164,7 @@ static bool make_page(struct night *night, struct buffer *out) {
     struct sheet sheet;
     enum outcome outcome;
     page = (struct page){.options = night->options, .label = night->label, .notes = night->notes.bytes, .notes_len = night->notes.length, .read_whole = true,
-                         .digest = &night->digest, .facts = night->facts};
+                         .digest = &night->digest, .facts = night->facts, .mended = night->mended};
     outcome = find_page(&page, night->outcome);
     night->paged = outcome == MADE;
     if (!open_sheet(&sheet))

@@ -175,6 +175,21 @@ static bool write_page(struct page *page, enum outcome outcome, const char *reas
 
 static int write_failure(struct page *page, enum outcome outcome, const char *reason, int status) { return write_page(page, outcome, reason) ? status : FAILED; }
 
+/* The notes that the page shows are those that were formatted. Where reading stopped early, a character that it cut off does not make a line
+ * look damaged. */
+static bool mend_shown(struct page *page, struct buffer *notes, bool whole) {
+    size_t most = notes->length < 3 ? 0 : notes->length - 3;
+    if (page->options->value[SALVAGE] == NULL)
+        return true;
+    while (!whole && notes->length > most && notes->bytes[notes->length - 1] >= 0x80)
+        notes->length--;
+    if (!mend_notes(notes, &page->mended))
+        return false;
+    page->facts.mended_lines = page->mended.lines;
+    page->facts.mended_bytes = page->mended.bytes;
+    return true;
+}
+
 static int page_of(struct page *page, const char *name) {
     static struct window window;
     static struct buffer notes;
@@ -182,6 +197,11 @@ static int page_of(struct page *page, const char *name) {
     enum outcome outcome;
     window.kept = &notes;
     outcome = digest_file(page->options, name, &window, &digest);
+    if (!mend_shown(page, &notes, window.ended)) {
+        say("%s: no memory for the mended notes", page->label);
+        outcome = NOT_READ;
+        notes.length = 0;
+    }
     page->digest = &digest;
     page->notes = notes.bytes;
     page->notes_len = notes.length;
@@ -207,6 +227,7 @@ static int run_page(const struct options *options) {
         return write_failure(&page, NOT_READ, last_said(), WRONG_CALL);
     }
     status = page_of(&page, name);
+    say_mended(page.label, &page.mended);
     free_page(&page);
     return status;
 }
@@ -219,7 +240,7 @@ static int run_page_wrongly(const struct options *options) {
     return write_failure(&page, NOT_READ, "rudignals page was called wrongly, and said why on standard error", WRONG_CALL);
 }
 
-static const int TAKES[] = {'o', FORMATTING, 0};
+static const int TAKES[] = {'o', FORMATTING, SALVAGE, 0};
 
 const struct subcommand page_subcommand = {
     .name = "page",

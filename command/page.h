@@ -52,6 +52,7 @@ struct page {
     size_t pieces_len;
     struct line *lines;
     size_t lines_len;
+    struct mended mended; /* before it was formatted; the notes are the mended ones */
     struct facts facts;
     struct panel panel;
 };

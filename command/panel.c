@@ -45,7 +45,7 @@ static int run_panel(const struct options *options) {
     return show.follow ? follow(&show) : draw_now(&show, false).status;
 }
 
-static const int TAKES[] = {TEXT, SVG, HTML, FOLLOW, CUT, 'o', FORMATTING, 0};
+static const int TAKES[] = {TEXT, SVG, HTML, FOLLOW, CUT, 'o', FORMATTING, SALVAGE, 0};
 
 const struct subcommand panel_subcommand = {
     .name = "panel",

@@ -70,6 +70,7 @@ static bool measured(struct passes *passes) {
         say_no_memory(passes);
         return false;
     }
+    say_mended(passes->label, &passes->window.mender.mended);
     return true;
 }
 
@@ -77,6 +78,7 @@ bool measure_file(struct passes *passes, const struct options *options, const ch
     bool well;
     passes->options = options;
     passes->label = label_of(name);
+    passes->window.mends = options->value[SALVAGE] != NULL;
     if (!open_window(&passes->window, name)) {
         say_failure(passes->label, errno);
         return false;
@@ -127,4 +129,5 @@ void free_passes(struct passes *passes) {
     buffer_free(&passes->kept);
     buffer_free(&passes->known);
     buffer_free(&passes->room);
+    free_mender(&passes->window.mender);
 }

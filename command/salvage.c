@@ -21,7 +21,7 @@ static bool add_changes(struct buffer *list, unsigned long place, const uint32_t
 }
 
 /* Room for the longest copy and list of a part is always there, so nothing but memory can be missing. */
-static bool mend_part(struct buffer *copy, struct buffer *list, unsigned long place, const uint8_t *part, size_t length) {
+static bool mend_part(struct buffer *copy, struct buffer *list, unsigned long place, const uint8_t *part, size_t length, size_t *nameless) {
     static uint32_t places[RUDIGNALS_MOST_NOTES];
     static uint8_t bytes[RUDIGNALS_MOST_NOTES];
     uint64_t answer;
@@ -31,10 +31,11 @@ static bool mend_part(struct buffer *copy, struct buffer *list, unsigned long pl
     if (rudignals_code_of(answer) != RUDIGNALS_DONE)
         return false;
     copy->length += rudignals_number_of(answer);
+    *nameless += count_nameless(bytes, rudignals_number_of(answer) - length);
     return add_changes(list, place, places, bytes, rudignals_number_of(answer) - length);
 }
 
-static bool mend_window(const char *label, struct window *window, struct buffer *copy, struct buffer *list) {
+static bool mend_window(const char *label, struct window *window, struct buffer *copy, struct buffer *list, size_t *nameless) {
     unsigned long place = 0;
     size_t length;
     do {
@@ -47,7 +48,7 @@ static bool mend_window(const char *label, struct window *window, struct buffer 
             say("%s: the line at byte %lu has more than %u bytes", label, place, (unsigned)MOST_PART);
             return false;
         }
-        if (!mend_part(copy, list, place, window->bytes, length)) {
+        if (!mend_part(copy, list, place, window->bytes, length, nameless)) {
             say("%s: no memory for the mended copy", label);
             return false;
         }
@@ -57,14 +58,14 @@ static bool mend_window(const char *label, struct window *window, struct buffer 
     return true;
 }
 
-static bool mend_file(const char *name, struct buffer *copy, struct buffer *list) {
+static bool mend_file(const char *name, struct buffer *copy, struct buffer *list, size_t *nameless) {
     static struct window window;
     bool whole = open_window(&window, name);
     if (!whole) {
         say_failure(label_of(name), errno);
         return false;
     }
-    whole = mend_window(label_of(name), &window, copy, list);
+    whole = mend_window(label_of(name), &window, copy, list, nameless);
     close_window(&window);
     return whole;
 }
@@ -85,10 +86,13 @@ static bool write_both(const char *name, const struct buffer *list, const struct
 static int run_salvage(const struct options *options) {
     struct buffer copy = {0}, list = {0};
     struct files files;
+    size_t nameless = 0;
     bool whole;
     if (!find_files(&files, options))
         return wrong_call();
-    whole = mend_file(files.file, &copy, &list) && write_both(files.list, &list, &copy);
+    whole = mend_file(files.file, &copy, &list, &nameless) && write_both(files.list, &list, &copy);
+    if (whole)
+        say_nameless(label_of(files.file), nameless);
     buffer_free(&copy);
     buffer_free(&list);
     return whole ? WELL : FAILED;
@@ -105,7 +109,10 @@ const struct subcommand salvage_subcommand = {
              "Every other line is left as found. The mended copy goes to standard output,\n"
              "what was changed to the new file LIST: a line for each byte, its place in\n"
              "decimal, from 0, and the byte in hex. rudignals restore brings the old notes\n"
-             "back.\n",
+             "back.\n"
+             "\n"
+             "ISO 8859-1 has no letter for the bytes 80 to 9F, which become controls that are\n"
+             "not seen. How many there were is said: such notes may be windows-1252.\n",
     .takes = TAKES,
     .limits = "Both are written, or none: where the copy does not arrive LIST is taken back.\n"
               "\n"

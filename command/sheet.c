@@ -6,8 +6,6 @@
 #include "page.h"
 
 #include "numbers.h"
-#include "reasons.h"
-#include "say.h"
 
 #include <inttypes.h>
 #include <stdlib.h>
@@ -371,12 +369,31 @@ static void put_calm(FILE *out, const struct page *page) {
     fputs("</p>\n", out);
 }
 
+/* Nothing is mended silently. */
+static void put_mended(FILE *out, const struct mended *mended) {
+    fputs("<strong>", out);
+    put_counted(out, mended->lines, "line of the notes mended", "lines of the notes mended");
+    fputs("</strong>: ", out);
+    put_counted(out, mended->bytes, "byte that was no UTF-8 is", "bytes that were no UTF-8 are");
+    fputs(" read as ISO 8859-1. The notes here are the mended ones.", out);
+    if (mended->nameless > 0) {
+        fputs(" ISO 8859-1 has no letter for ", out);
+        put_counted(out, mended->nameless, "of these bytes", "of these bytes");
+        fputs(", 80 to 9F: they may be windows-1252.", out);
+    }
+}
+
 static void put_warnings(FILE *out, const struct page *page) {
-    if (count_lines(page, is_damaged) + count_lines(page, is_over) + count_lines(page, was_not_asked) == 0) {
+    if (count_lines(page, is_damaged) + count_lines(page, is_over) + count_lines(page, was_not_asked) + page->mended.lines == 0) {
         put_calm(out, page);
         return;
     }
     fputs("<section id=seen aria-label='Not to be missed'><ul>", out);
+    if (page->mended.lines > 0) {
+        fputs("<li class=m>", out);
+        put_mended(out, &page->mended);
+        fputs("\n", out);
+    }
     put_warning(out, page, is_damaged, "d", "damaged line, kept as it is", "damaged lines, kept as they are");
     put_warning(out, page, is_over, "o", "line over the width", "lines over the width");
     put_warning(out, page, was_not_asked, "n", "line whose end was not asked about", "lines whose ends were not asked about");
@@ -428,7 +445,7 @@ enum { MOST_NOTES_SHOWN = 1 << 20 };
 
 static void put_all_notes(FILE *out, const struct page *page) {
     size_t length = page->notes_len < MOST_NOTES_SHOWN ? page->notes_len : MOST_NOTES_SHOWN;
-    fputs("<section><h2>All the notes, as they are</h2>\n<ol>", out);
+    fputs(page->mended.lines > 0 ? "<section><h2>All the notes, as they were mended</h2>\n<ol>" : "<section><h2>All the notes, as they are</h2>\n<ol>", out);
     put_note_lines(out, page->notes, length, NOWHERE);
     fputs("</ol>\n", out);
     if (length < page->notes_len || !page->read_whole) {
@@ -450,7 +467,13 @@ void put_failed_page(FILE *out, const struct page *page, enum outcome outcome, c
     put_head(out, outcome == REFUSED ? "REFUSED: " : "NOT READ: ", page->label);
     fprintf(out, "<header id=top class=bar role=alert>\n<h1>%s</h1>\n<p>", headline(page, outcome));
     put_raw(out, (const uint8_t *)reason, strlen(reason), NOWHERE);
-    fputs("</p>\n<nav aria-label='This page'><a href=#wall>Wall panel</a></nav></header>\n<main id=failed>\n", out);
+    fputs("</p>\n", out);
+    if (page->mended.lines > 0) {
+        fputs("<p>", out);
+        put_mended(out, &page->mended);
+        fputs("</p>\n", out);
+    }
+    fputs("<nav aria-label='This page'><a href=#wall>Wall panel</a></nav></header>\n<main id=failed>\n", out);
     if (placed)
         put_excerpt(out, page, &page->digest->refusal);
     if (outcome == REFUSED && page->notes_len > 0)

@@ -24,8 +24,13 @@ static void look_at_file(struct window *window) {
 
 bool open_window(struct window *window, const char *name) {
     struct buffer *kept = window->kept;
+    struct mender mender = window->mender;
+    bool mends = window->mends;
     memset(window, 0, sizeof *window);
     window->kept = kept;
+    window->mends = mends;
+    window->mender = mender;
+    mend_anew(&window->mender);
     window->opened = strcmp(name, "-") != 0;
     window->file = window->opened ? open(name, O_RDONLY | O_CLOEXEC) : STDIN_FILENO;
     if (window->file >= 0)
@@ -44,22 +49,45 @@ static ssize_t get(struct window *window, uint8_t *to, size_t most) {
     return (ssize_t)most;
 }
 
-/* A read may give less than asked for, from a pipe say. */
-bool fill_window(struct window *window) {
+/* The file's next bytes, at most so many; none at its end. A read may give less than asked for, from a pipe say. */
+static bool read_next(struct window *window, uint8_t *to, size_t most, size_t *length) {
     ssize_t got;
+    do
+        got = get(window, to, most);
+    while (got < 0 && errno == EINTR);
+    if (got < 0)
+        return false;
+    *length = (size_t)got;
+    if (window->kept != NULL && !window->again && !buffer_add(window->kept, to, *length))
+        return false;
+    window->read += *length;
+    return true;
+}
+
+/* Mended bytes go out as they are asked for, whole lines of the file come in. */
+static bool read_mended(struct window *window, uint8_t *to, size_t most, size_t *length) {
+    static uint8_t raw[RUDIGNALS_MOST_NOTES];
+    size_t got;
+    while ((*length = take_mended(&window->mender, to, most)) == 0 && !window->drained) {
+        if (!read_next(window, raw, sizeof raw, &got))
+            return false;
+        window->drained = got == 0;
+        if (!mend_next(&window->mender, raw, got, window->drained))
+            return false;
+    }
+    return true;
+}
+
+bool fill_window(struct window *window) {
+    size_t got;
     show_progress(window->read, window->size);
     while (!window->ended && window->length < sizeof window->bytes) {
         uint8_t *to = window->bytes + window->length;
-        got = get(window, to, sizeof window->bytes - window->length);
-        if (got < 0 && errno != EINTR)
+        size_t most = sizeof window->bytes - window->length;
+        if (!(window->mends ? read_mended(window, to, most, &got) : read_next(window, to, most, &got)))
             return false;
         window->ended = got == 0;
-        if (got > 0) {
-            if (window->kept != NULL && !window->again && !buffer_add(window->kept, to, (size_t)got))
-                return false;
-            window->read += (size_t)got;
-            window->length += (size_t)got;
-        }
+        window->length += got;
     }
     return true;
 }
@@ -88,7 +116,8 @@ bool rewind_window(struct window *window) {
     window->again = true;
     window->all = window->read;
     window->read = window->length = 0;
-    window->ended = false;
+    window->ended = window->drained = false;
+    mend_anew(&window->mender);
     return true;
 }
 

@@ -3,14 +3,9 @@
 #define STREAMS_H
 
 #include "buffer.h"
-#include "rudignals.h"
+#include "mend.h"
 
 #include <sys/types.h>
-
-/* Notes may be cut into parts of at most so many bytes. Tests make it small, to have many parts. */
-#ifndef MOST_PART
-#define MOST_PART RUDIGNALS_MOST_NOTES
-#endif
 
 /* How a file is called in what is said of it: `-' is standard input. */
 const char *label_of(const char *name);
@@ -27,9 +22,12 @@ struct window {
     off_t start;         /* where reading began */
     bool again;          /* it is read a second time, */
     size_t all;          /* as far as the first time */
+    bool mends;          /* what is shown is mended, by this: what is kept is not */
+    bool drained;        /* the file has ended; mended bytes may be left */
+    struct mender mender;
 };
 
-/* Opens a file, `-' being standard input. These answer false, with errno, if that fails. */
+/* Opens a file, `-' being standard input; `kept` and `mends` are the caller's to set before. These answer false, with errno, if that fails. */
 bool open_window(struct window *window, const char *name);
 bool fill_window(struct window *window);
 void drop_bytes(struct window *window, size_t count);

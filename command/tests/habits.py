@@ -10,16 +10,16 @@ NAMES = ["format", "panel", "index", "explain", "page", "salvage", "restore", "f
 FORMATTING = "-c -t -m -s -u -p -P -x -X -w -g -q -T --keep --glue --sentence-characters".split()
 # the options that each takes, by the issue and the manual; -h and -V apart
 TAKES = {
-    "format": ["--skip-refused", "-o", *FORMATTING],
+    "format": ["--skip-refused", "-o", *FORMATTING, "--salvage"],
     "index": ["--line", "--json", "-o", *FORMATTING],
     "explain": ["--json", "-o", *FORMATTING],
     "salvage": ["-o"],
     "restore": ["-o"],
-    "flow": ["--mime", "--mail-from", "--mail-to", "--mail-subject", "-o", "-s", "-u", "-P", "-X", "-w", "-g", "-q", "-T", "--keep", "--glue", "--sentence-characters"],
+    "flow": ["--mime", "--mail-from", "--mail-to", "--mail-subject", "-o", "-s", "-u", "-P", "-X", "-w", "-g", "-q", "-T", "--keep", "--glue", "--sentence-characters", "--salvage"],
     "unflow": ["-o"],
     "check": ["--json", "-o", *FORMATTING],
     "audit": ["--pairs", "--all", "--strict", "--json", "--html", "--jobs", "-o", *[option for option in FORMATTING if option != "--keep"], "--no-keep"],
-    "night": ["--to", "--mail-from", "--mail-to", "--mail-subject", "--attach-page", "--sendmail", *FORMATTING],
+    "night": ["--to", "--mail-from", "--mail-to", "--mail-subject", "--attach-page", "--sendmail", *FORMATTING, "--salvage"],
     "help": ["-o"],
     "completion": ["-o"],
 }

@@ -59,7 +59,7 @@ const names = {}; for (const e of document.querySelectorAll('*')) names[e.localN
 const handlers = [...document.querySelectorAll('*')].filter(e => [...e.attributes].some(a => a.name.startsWith('on') || /^(src|style|srcdoc|action)$/.test(a.name))).length;
 return [names, handlers, performance.getEntriesByType('resource').length, [...document.links].filter(a => a.protocol !== 'file:').length];
 """
-OURS = set("html head meta title style script body header h1 h2 h3 p nav a section ul ol li strong small main div pre span b i u em aside footer kbd mark".split())
+OURS = set("html head br meta title style script body header h1 h2 h3 p nav a section ul ol li strong small main div pre span b i u em aside footer kbd mark".split())
 # Contrast of text with what is behind it, by WCAG's formula, for elements that hold text themselves and for the signs before them.
 CONTRAST = """
 const c = document.createElement('canvas').getContext('2d', {willReadFrequently: true});
@@ -278,7 +278,7 @@ def refusal(sight):
     tell("its words", "line 6, column 6: byte B0 begins no UTF-8 character" in b.text("header p"), True)
     sight.shot("refused")
     b.keys("w")
-    tell("on the wall", b.run("return [...document.querySelectorAll('#wall .bar')].map(e => e.textContent.trim()).slice(-2)"), ["REFUSED: there may be notes, and none is shown", "refused: standard input"])
+    tell("on the wall", b.run("return [...document.querySelectorAll('#wall .bar')].map(e => e.innerText.trim().split('\\n')[0]).slice(-2)"), ["REFUSED: there may be notes, and none is shown", "refused"])
     sight.page("cut", [], LATIN, lambda data: data[: data.index(b"</aside>")])
     b.open(sight.out / "cut.html")
     tell("a page that was cut short", b.run("return document.getElementById('cut').checkVisibility()"), True)

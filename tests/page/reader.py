@@ -7,14 +7,14 @@ from html.parser import HTMLParser
 NUMBER = r"[1-9]\d*"
 ATTRIBUTES = {  # of each element that a page may have: the attributes, and what they may be
     "html": {"lang": "en"}, "meta": {"charset": ".*", "http-equiv": ".*", "content": ".*", "name": ".*"}, "title": {}, "style": {}, "script": {}, "body": {},
-    "header": {"id": "top", "class": "bar", "role": "alert"}, "h1": {}, "h2": {}, "h3": {}, "strong": {}, "small": {"class": "[xy]"}, "em": {}, "ul": {}, "kbd": {}, "mark": {},
+    "header": {"id": "top", "class": "bar", "role": "alert"}, "h1": {}, "h2": {}, "h3": {}, "strong": {}, "small": {"class": "[xy]"}, "em": {}, "ul": {}, "br": {}, "kbd": {}, "mark": {},
     "nav": {"aria-label": "This page"}, "main": {"id": "failed"}, "footer": {}, "b": {"class": r"w\d+"}, "div": {"id": "digest", "role": "region", "aria-label": "The digest, line by line", "tabindex": "-1"},
     "section": {"id": f"n{NUMBER}|seen|wall", "aria-label": "Not to be missed|The wall panel"}, "aside": {"id": "notes", "aria-label": ".*", "tabindex": "-1"},
-    "p": {"id": f"r{NUMBER}|cut|calm", "class": "hint|bar|e", "role": "alert"}, "pre": {"tabindex": "0"}, "ol": {"start": NUMBER}, "li": {"class": "[don]|at"},
+    "p": {"id": f"r{NUMBER}|cut|calm", "class": "hint|bar|e", "role": "alert"}, "pre": {"tabindex": "0"}, "ol": {"start": NUMBER}, "li": {"class": "[donm]|at"},
     "a": {"id": NUMBER, "class": "[do]", "href": f"#(n?{NUMBER}|digest|notes|wall|top)"}, "span": {"class": "name|k|goal|width|ruler|bar|mouse|touch"},
     "i": {"class": r"w\d+|w1 [do]", "id": "end"}, "u": {"class": r"[cd] w\d+|[cdeqzt]", "data-x": r"[0-9A-F \n]+"},
 }
-VOID = {"meta"}
+VOID = {"meta", "br"}
 CLOSED_BY = {"li": {"li"}, "p": {"p", "h3", "div", "section"}}  # elements whose end is left out
 
 
