@@ -60,7 +60,7 @@ static void put_wall(FILE *out, const struct panel *panel) {
     }
     fprintf(out, "</pre>\n<p%s>", panel->bar > 0 ? " class=bar" : "");
     put_below_escaped(out, panel, COUNTED);
-    fputs("<br>", out);
+    fputs("; ", out);
     put_below_escaped(out, panel, DATED);
     fputs("</p>\n<p><a href=#top>Back to the page</a></p>\n</section>\n", out);
 }
