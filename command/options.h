@@ -7,7 +7,7 @@
 #include <stdbool.h>
 
 /* An option is named by its letter; those without one have numbers that no letter has. */
-enum { KEEP = 256, GLUE, CHARACTERS, TEXT, SVG, HTML, FOLLOW, CUT, LINE, JSON, SALVAGE, OPTIONS };
+enum { KEEP = 256, GLUE, CHARACTERS, TEXT, SVG, HTML, FOLLOW, CUT, LINE, JSON, SALVAGE, MIME, MAIL_FROM, MAIL_TO, OPTIONS };
 
 /* The options of formatting, for a subcommand that takes them all. */
 #define FORMATTING 'c', 't', 'm', 's', 'u', 'p', 'P', 'x', 'X', 'w', 'g', 'q', 'T', KEEP, GLUE, CHARACTERS

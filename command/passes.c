@@ -41,6 +41,8 @@ static bool measured(struct passes *passes) {
     size_t most = 0;
     passes->sizes.length = passes->room.length = 0;
     keep_if_needed(&passes->window, &passes->kept);
+    if (passes->whole)
+        passes->window.kept = &passes->kept;
     if (!measure_parts(passes, &refusal, &most)) {
         say_failure(passes->label, errno);
         return false;

@@ -9,7 +9,8 @@
 struct passes {
     const struct options *options;
     const char *label;
-    bool mail; /* it is written as mail of format=flowed */
+    bool mail;  /* it is written as mail of format=flowed */
+    bool whole; /* the file is kept in memory, for more than its digest */
     struct window window;
     struct buffer kept;  /* the file, if it cannot be read again */
     struct buffer sizes; /* how long each part is, and its digest */

@@ -21,6 +21,11 @@ def run_all(folder):
     expect("flow: what was written, read", run(["unflow"], sent, RUDIGNALS), (0, model.unflowed(sent), ""))
     told = "rudignals: standard input: 1 line `--' in paragraphs: a mail reader ends the paragraph there\n"
     expect("flow: a line of dashes", run(["flow", "-w", "10"], b"aaaaaaaa -- bbbbbbbb\n", RUDIGNALS), (0, b"aaaaaaaa \r\n--\r\nbbbbbbbb\r\n", told))
+    for words, over in ([998], []), ([999], [999]), ([998, 1200, 999], [1200, 999]):
+        notes = b"\n\n".join(b"a" * length for length in words) + b"\n"
+        told = f"rudignals: standard input: {len(over)} line{'s' * (len(over) != 1)} of more than 998 octets, at most {max(over)}: mail may not carry them as they are; send it as quoted-printable or base64\n" if over else ""
+        expect(f"flow: lines of {words} octets", run(["flow"], notes, RUDIGNALS), (0, notes.replace(b"\n", b"\r\n"), told))
+    expect("flow: a Chinese paragraph", run(["flow"], "\u4e09".encode() * 400, RUDIGNALS)[2].startswith("rudignals: standard input: 1 line of more than 998 octets, at most 1200: "), True)
     rng = texts.seeded(2026)
     long = b"".join(texts.notes(rng, (b"\n",)).replace(b"--", b"==").rstrip(b"\n") + b"\n\n" for _ in range(3000))
     whole = b"".join(model.flowed_piece(piece, o)[0] for piece in model.pieces(long, o))
