@@ -104,15 +104,29 @@ static void say_once(const struct show *show, bool failed, bool hushed, char **b
     *before = now;
 }
 
+/* Likewise what was mended. */
+static void say_mended_once(const struct show *show, bool hushed, struct mended *before) {
+    const struct mended *now = &show->mended;
+    if (hushed) /* what went wrong is the last that was said, and is said behind the screen */
+        return;
+    silent = false;
+    if (now->lines != before->lines || now->bytes != before->bytes || now->nameless != before->nameless)
+        say_mended(label_of(show->name), now);
+    silent = true;
+    *before = *now;
+}
+
 /* The mark is taken before the file is read: what is written in between is seen the next time. */
 static int draw_until_ended(struct show *show, bool screen, bool hushed) {
     struct drawing drawing, end;
     struct mark mark;
+    struct mended mended = {0};
     char *said = NULL;
     do {
         mark = mark_of(show->name);
         drawing = draw_now(show, screen);
         say_once(show, drawing.status != WELL, hushed, &said);
+        say_mended_once(show, hushed, &mended);
     } while (!drawing.hopeless && wait_for_change(show->name, &mark, screen, drawing.written ? STANDS : TRIED_AGAIN));
     end = draw_end(show);
     if (!end.written)

@@ -27,6 +27,12 @@ static bool goes_together(const struct show *show) {
     return false;
 }
 
+static int draw_once(struct show *show) {
+    int status = draw_now(show, false).status;
+    say_mended(label_of(show->name), &show->mended);
+    return status;
+}
+
 static int run_panel(const struct options *options) {
     static struct show show;
     show.options = *options;
@@ -42,7 +48,7 @@ static int run_panel(const struct options *options) {
         draw_refused_options(&show);
         return WRONG_CALL;
     }
-    return show.follow ? follow(&show) : draw_now(&show, false).status;
+    return show.follow ? follow(&show) : draw_once(&show);
 }
 
 static const int TAKES[] = {TEXT, SVG, HTML, FOLLOW, CUT, 'o', FORMATTING, SALVAGE, 0};

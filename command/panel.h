@@ -135,7 +135,8 @@ struct show {
     const char *picture, *page; /* null: none */
     bool text, follow, cut;
     struct trouble trouble;
-    bool torn; /* the last text was written in part */
+    struct mended mended; /* of the notes in the last drawing */
+    bool torn;            /* the last text was written in part */
 };
 
 struct drawing {

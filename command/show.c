@@ -249,21 +249,14 @@ static void write_panel(struct show *show, struct drawing *drawing, struct panel
 
 /* ---- drawings */
 
-/* The notes that are shown are those that were formatted; it is said when there are other ones to say. */
-static void mend_shown(const struct show *show, struct buffer *notes, struct facts *facts, struct mended *mended) {
+/* The notes that are shown are those that were formatted. */
+static void mend_shown(struct show *show, struct buffer *notes, struct facts *facts) {
     if (show->options.value[SALVAGE] == NULL)
         return;
-    if (!mend_notes(notes, mended))
+    if (!mend_notes(notes, &show->mended))
         notes->length = 0;
-    facts->mended_lines = mended->lines;
-    facts->mended_bytes = mended->bytes;
-}
-
-static void tell_mended(const struct show *show, const struct mended *mended) {
-    static struct mended told;
-    if (mended->lines != told.lines || mended->bytes != told.bytes || mended->nameless != told.nameless)
-        say_mended(label_of(show->name), mended);
-    told = *mended;
+    facts->mended_lines = show->mended.lines;
+    facts->mended_bytes = show->mended.bytes;
 }
 
 struct drawing draw_now(struct show *show, bool whole_screen) {
@@ -274,15 +267,13 @@ struct drawing draw_now(struct show *show, bool whole_screen) {
     struct facts facts = facts_of(show->name);
     enum outcome outcome = read_shown(show, &digest, &notes);
     uint64_t tab = tab_of(&show->options);
-    struct mended mended = {0};
-    mend_shown(show, &notes, &facts, &mended);
+    mend_shown(show, &notes, &facts);
     if (outcome == MADE) {
         put_digest(&panel, &facts, &digest.text, tab, show->cut);
     } else {
         put_failure(&panel, &facts, outcome, last_said(), &notes, tab, show->cut);
         drawing.status = FAILED;
     }
-    tell_mended(show, &mended);
     write_panel(show, &drawing, &panel, show->text, whole_screen);
     return drawing;
 }
