@@ -105,23 +105,21 @@ def copied(folder):
 
 
 def built_while_it_runs(folder):
-    """`make' while the command runs: the one that runs goes on, and the new one is in its place."""
-    child = subprocess.Popen([RUDIGNALS, "format"], stdin=subprocess.PIPE, stdout=subprocess.PIPE)
-    time.sleep(0.2)
-    for program in (RUDIGNALS, str(folder / "program")):
-        before = os.stat(RUDIGNALS).st_ino
-        words = [str(ROOT / "command/build"), *(["--sanitized"] if SANITIZED else [])] if program == RUDIGNALS else [str(ROOT / "tools/link"), program, *SOURCES]
-        for _ in range(2):
-            other = subprocess.Popen([program, "format"], stdin=subprocess.PIPE, stdout=subprocess.PIPE) if os.path.exists(program) else None
-            time.sleep(0.2)
-            done = subprocess.run(words, capture_output=True)
-            expect(f"{os.path.basename(words[0])} while the command runs", (done.returncode, done.stderr), (0, b""))
-            if other:
-                expect("which goes on", (other.communicate(b"a\nb\n")[0], other.returncode), (b"a b\n", 0))
-        expect("another file stands in its place", os.stat(RUDIGNALS).st_ino != before, program == RUDIGNALS)
-    expect("the one that ran goes on", (child.communicate(b"a\nb\n")[0], child.returncode), (b"a b\n", 0))
-    left = [name for name in [*os.listdir(os.path.dirname(RUDIGNALS)), *os.listdir(folder)] if name.endswith(".new")]
-    expect("nothing is left beside", left, [])
+    """`make' while the command runs, from each place where it is put: the one that runs goes on, and the new one is in its place."""
+    packaged = ROOT / "target/package/rudignals"
+    builds = [(RUDIGNALS, [str(ROOT / "command/build"), *(["--sanitized"] if SANITIZED else [])]), (str(folder / "program"), [str(ROOT / "tools/link"), str(folder / "program"), *SOURCES])]
+    builds += [] if SANITIZED else [(str(packaged), [str(ROOT / "tools/package"), "build"])]
+    for program, words in builds:
+        subprocess.run(words, capture_output=True, check=True)
+        before = os.stat(program).st_ino
+        child = subprocess.Popen([program, "format"], stdin=subprocess.PIPE, stdout=subprocess.PIPE)
+        time.sleep(0.2)
+        done = subprocess.run(words, capture_output=True)
+        what = " ".join(map(os.path.basename, words[:2]))
+        expect(f"{what} while the command runs", (done.returncode, done.stderr), (0, b""))
+        expect(f"{what}: another file stands in its place", os.stat(program).st_ino != before, True)
+        expect(f"{what}: the one that ran goes on", (child.communicate(b"a\nb\n")[0], child.returncode), (b"a b\n", 0))
+        expect(f"{what}: nothing is left beside", [name for name in os.listdir(os.path.dirname(program)) if name.endswith(".new")], [])
 
 
 ALL = [several, read_in_pieces, endless, not_written, closed, no_memory, copied, built_while_it_runs]
