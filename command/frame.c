@@ -129,7 +129,7 @@ static void draw_rule(FILE *out) {
 /* ---- below the rows */
 
 static const char *colour_below(const struct panel *panel, enum line_below line) {
-    if (line == TROUBLE || (panel->bar > 0 && line != DATED))
+    if (line == TROUBLE || (panel->bar > 0 && line != DATED) || (panel->unwritten && line == BRIEF))
         return ALARM;
     return panel->warned && line != DATED ? WARNING : COLOUR[PLAIN];
 }
@@ -151,7 +151,7 @@ static void draw_below(const struct canvas *canvas, enum line_below line) {
 static void draw_lines_below(const struct canvas *canvas) {
     bool trouble = below_length(canvas->panel, TROUBLE) > 0;
     if (canvas->plan.brief) {
-        draw_below(canvas, trouble ? TROUBLE : BRIEF);
+        draw_below(canvas, BRIEF);
         return;
     }
     if (trouble) {

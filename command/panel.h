@@ -45,6 +45,8 @@ struct panel {
     bool cut;    /* a `+' in the last column is a mark */
     int bar;     /* so many rows at the bottom say why there is no digest; 0: there is one */
     bool warned; /* there are damaged lines above the rows */
+    bool unwritten; /* a drawing cannot be written now */
+    int counted; /* the columns that time and counts take of the one line */
     time_t drawn;
     uint32_t below[LINES_BELOW][COLUMNS];
 };

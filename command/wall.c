@@ -101,11 +101,12 @@ static const char *short_name(const char *name) {
     return slash == NULL || slash[1] == '\0' ? name : slash + 1;
 }
 
-static bool put_brief(struct buffer *out, const struct facts *facts, const struct rows *rows, enum outcome outcome) {
+static bool put_brief(struct buffer *out, const struct facts *facts, const struct rows *rows, enum outcome outcome, int *counted) {
     char drawn[MOMENT], changed[MOMENT];
     put_moment(drawn, "%H:%M:%S", facts->drawn);
     if (!buffer_print(out, "%s ", drawn) || !put_counted(out, facts, rows, outcome, true))
         return false;
+    *counted = out->length < COLUMNS ? (int)out->length : COLUMNS;
     if (!facts->dated)
         return buffer_print(out, "; %s", short_name(facts->label));
     put_moment(changed, same_day(facts->changed, facts->drawn) ? "%H:%M" : "%m-%d %H:%M", facts->changed);
@@ -124,7 +125,7 @@ static void put_lines_below(struct panel *panel, const struct facts *facts, cons
     struct buffer text = {0};
     put_words(panel, COUNTED, &text, put_counted(&text, facts, rows, outcome, false));
     put_words(panel, DATED, &text, put_dated(&text, facts));
-    put_words(panel, BRIEF, &text, put_brief(&text, facts, rows, outcome));
+    put_words(panel, BRIEF, &text, put_brief(&text, facts, rows, outcome, &panel->counted));
     buffer_free(&text);
 }
 
@@ -212,9 +213,31 @@ void put_failure(struct panel *panel, const struct facts *facts, enum outcome ou
 
 /* ---- a drawing that could not be written */
 
+/* In the one line, behind time and counts, in the place of the file's name; what does not fit is cut as the library cuts. */
+static void put_brief_trouble(struct panel *panel, const struct trouble *trouble) {
+    uint32_t cells[ROWS * COLUMNS], *row = cells + (ROWS - 1) * COLUMNS, *brief = panel->below[BRIEF];
+    int room = COLUMNS - panel->counted, last;
+    char *text = words("; not written: %s", trouble->words);
+    if (text != NULL && room > 0) {
+        put_cells(cells, text, strlen(text), 8);
+        for (last = COLUMNS; last > room && row[last - 1] == ' ';)
+            last--;
+        memcpy(brief + panel->counted, row, (size_t)room * sizeof *brief);
+        if (last > room) {
+            if (row[room - 1] == FILLER && room > 1)
+                brief[COLUMNS - 2] = ' ';
+            brief[COLUMNS - 1] = '+';
+        }
+    }
+    free(text);
+}
+
 void put_trouble(struct panel *panel, const struct trouble *trouble) {
     char since[MOMENT], until[MOMENT];
     struct buffer text = {0};
+    panel->unwritten = trouble->words != NULL && trouble->lasts;
+    if (panel->unwritten)
+        put_brief_trouble(panel, trouble);
     if (trouble->words == NULL)
         return;
     put_time(since, trouble->since, panel->drawn);

@@ -744,6 +744,22 @@ def failures_that_pass(folder):
         disk.take_away()
 
 
+def told_in_one_line(folder):
+    """Where there is one line below the cells, what is wrong stands behind time and counts, as long as it lasts."""
+    (folder / "live").write_bytes(b"first\n")
+    terminal = Terminal(["--follow", "--text", "--svg", "no/wall.svg", "live"], 80, 25, folder)
+    last = terminal.wait_for(b"written").decode().replace("\r", "").split("\n")[-1]
+    wanted = f"{RED}TIME 1 line, none damaged; none above; not written: no/wall.svg: No such fi+{PLAIN}"
+    expect("in one line, as long as it lasts", re.sub(r"\d\d:\d\d:\d\d", "TIME", last), wanted)
+    (folder / "no").mkdir()
+    wait_until((folder / "no" / "wall.svg").exists)
+    (folder / "live").write_bytes(b"first\n\nsecond\n")
+    last = terminal.wait_for(b"3 lines").decode().replace("\r", "").split("\n")[-1]
+    told = re.sub(r"\d\d:\d\d(:\d\d)?", "TIME", last)
+    expect("and no longer", told, "TIME 3 lines, none damaged; none above; changed TIME live")
+    expect("ended", terminal.ends(signal.SIGTERM)[0], 0)
+
+
 def on_small_disk(folder, disk):
     file, wall, frames = folder / "live", disk.folder / "wall.svg", disk.folder / "frames"
     with frames.open("wb") as out:
@@ -788,4 +804,4 @@ def drawn_every_minute(folder):
 
 
 ALL = [frames, counts, formatted, dated, failures, refused, wrong_calls, pictures, scripts, picture_files, pages, on_a_terminal, sizes, followed, followed_elsewhere,
-       failures_that_pass, drawn_every_minute]
+       failures_that_pass, told_in_one_line, drawn_every_minute]

@@ -1,6 +1,7 @@
 """What is written to a file: -o FILE, and salvage's LIST. Whole and in its place, or not at all, with nothing left behind."""
 import os
 import pathlib
+import re
 import signal
 import subprocess
 import time
@@ -17,6 +18,11 @@ def listed(folder):
     return sorted(os.listdir(folder))
 
 
+def timeless(drawn):
+    """Without the second at which a panel was drawn."""
+    return re.sub(rb"drawn [-0-9]+ [0-9:]+", b"drawn NOW", drawn)
+
+
 def same_as_standard_output(folder):
     """-o FILE has what standard output would have had, which is then empty; wherever the option stands, short or long."""
     (folder / "notes").write_bytes(NOTES)
@@ -27,7 +33,7 @@ def same_as_standard_output(folder):
         for option in ["-o", "out"], ["-oout"], ["--output", "out"], ["--output=out"]:
             (folder / "out").write_bytes(b"old\n" * 100)
             call = [*words(), *option]
-            expect(f"{call}", (run(call, b"", RUDIGNALS, cwd=folder), (folder / "out").read_bytes()), ((status, b"", errors), wanted))
+            expect(f"{call}", (run(call, b"", RUDIGNALS, cwd=folder), timeless((folder / "out").read_bytes())), ((status, b"", errors), timeless(wanted)))
     call = ["format", "-o", "-", "notes"]
     expect("-o -", run(call, b"", RUDIGNALS, cwd=folder), (0, DIGEST, ""))
     expect("and no file of that name", (folder / "-").exists(), False)

@@ -1,7 +1,7 @@
 -- What folding promises, in the customer's sentences. Each statement is about the definitions of specs/ alone, no code, and is proved with
 -- nothing assumed. `rowsOf`, `folded` and `fold` stand in specs/Fold.antt, `fits`, `marked` and `unadded` in specs/Theorems/Rows.antt.
 use mathlib.Core.Path.{_≡_, refl, sym, ap, ap₂, _∙_}
-use mathlib.Core.Bool.{Bool, true, false, cond, _&&_, _||_, false≢true}
+use mathlib.Core.Bool.{Bool, true, false, cond, _&&_, _||_, false≢true, and-eq-true-iff}
 use mathlib.Core.List.{List, [], _∷_, _++_, map, map-append}
 use Prim.Native.Nat.{ℕ, suc, _+_, _-_, _*_, _/_, _%_, _^_, _≤_, _<_}
 use native.Mathlib.Omega.{arith}
@@ -11,9 +11,9 @@ use lib.Seq.{take-take}
 use borrow.Author.Tests.{leb-true, leb-false, ltb-false, eqb-true, lt-ltb, le-leb, lt-leb}
 use Rattle.lists.specs.Runs.{every, joined}
 use Rattle.lists.specs.Theorems.All.{All}
-use Rattle.lists.proofs.Parts.{every-nil, joined-nil, joined-cons, joined-joined}
+use Rattle.lists.proofs.Parts.{every-nil, every-append, joined-nil, joined-cons, joined-joined}
 use Rattle.lists.proofs.Runs.{every-more}
-use Rattle.lists.proofs.All.{all-drop, all-append, all-joined}
+use Rattle.lists.proofs.All.{all-drop, all-weaken, all-append, all-joined}
 use Rattle.lists.proofs.Extents.{walk-all, each-joined, each-all}
 use Rattle.lists.specs.Walk.{piece, each}
 use Rattle.widths.specs.Widths.{widthOf}
@@ -22,14 +22,14 @@ use Rattle.text.specs.Characters.{Glyph, glyphAs, glyph, characters}
 use Rattle.text.proofs.Glyphs.{characters-joined}
 use Rattle.text.proofs.Extents.{Sound, glyphs-sound}
 use Rattle.text.proofs.Glue.{glue-off}
-use Rattle.lines.specs.Lines.{Line, firstLine, linesOf}
+use Rattle.lines.specs.Lines.{Line, noFeed, firstLine, linesOf}
 use Rattle.lines.specs.Classes.{nextStop, columnBehind, columnsOf}
 use Rattle.lines.specs.Contracts.Places.{lengthsOf}
 use Rattle.lines.proofs.Lines.{lengths}
-use Rattle.lines.proofs.Extents.{lines-extents}
+use Rattle.lines.proofs.Extents.{lines-extents, lines-feedless}
 use Rattle.panel.specs.Panel.{stopWidth}
 use Rattle.spacing.proofs.Laws.{stop-behind}
-use Rattle.fold.specs.Fold.{stays, staying, firstRow, rowsOf, feed, bytesOf, fed, inRows, endOf, foldedLine, folded, Answer, done, options, long, room, fold, code, value, numbered}
+use Rattle.fold.specs.Fold.{stays, staying, firstRow, rowsOf, feed, bytesOf, fed, inRows, endOf, foldedLine, folded, done, options, long, room, fold, code, value, numbered}
 use Rattle.fold.specs.Theorems.Rows.{hasNoWidth, isAlone, fits, Marked, kept, addedFeed, markedRows, markedLine, marked, unadded}
 use Rattle.fold.proofs.Stays.{width-tab, staying-more, staying-end}
 use Rattle.fold.proofs.Rows.{first-front, first-some}
@@ -177,6 +177,19 @@ module _ (tab columns : ℕ) where
   rows-bytes line =
       sym (joined-joined (λ (g : Glyph). g .bytes) (λ (row : List Glyph). row) (rowsOf tab columns (characters line)))
       ∙ ap (joined (λ (g : Glyph). g .bytes)) (rows-joined (characters line)) ∙ characters-joined line
+
+  rows-feedless : (rows : List (List Glyph)) → every noFeed (joined bytesOf rows) ≡ true → All (λ row. every noFeed (bytesOf row) ≡ true) rows
+  rows-feedless [] e = tt
+  rows-feedless (row ∷ rows) e =
+      let f : every noFeed (bytesOf row ++ joined bytesOf rows) ≡ true = ap (every noFeed) (sym (joined-cons bytesOf row rows)) ∙ e in
+      let p = and-eq-true-iff (every noFeed (bytesOf row)) (every noFeed (joined bytesOf rows)) .0 (sym (every-append noFeed (bytesOf row) (joined bytesOf rows)) ∙ f) in
+      (p .0, rows-feedless rows (p .1))
+
+  -- No row has a line feed in it: the rows are what stands between the line feeds of the output.
+  pub no-row-has-a-line-feed : (text : List ℕ) → All (λ (l : Line). All (λ row. every noFeed (bytesOf row) ≡ true) (rowsOf tab columns (characters (l .text)))) (linesOf text)
+  no-row-has-a-line-feed text =
+      all-weaken (λ (l : Line). every noFeed (l .text) ≡ true) (λ (l : Line). All (λ row. every noFeed (bytesOf row) ≡ true) (rowsOf tab columns (characters (l .text))))
+      (λ l e. rows-feedless (rowsOf tab columns (characters (l .text))) (ap (every noFeed) (rows-bytes (l .text)) ∙ e)) (linesOf text) (lines-feedless text)
 
   bytes-rows : (rows : List (List Glyph)) → map (λ (m : Marked). m .byte) (markedRows rows) ≡ inRows rows
   unfolding markedRows inRows
