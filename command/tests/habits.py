@@ -10,18 +10,19 @@ NAMES = ["format", "panel", "index", "explain", "page", "salvage", "restore", "f
 FORMATTING = "-c -t -m -s -u -p -P -x -X -w -g -q -T --keep --glue --sentence-characters".split()
 # the options that each takes, by the issue and the manual; -h and -V apart
 TAKES = {
-    "format": ["-o", *FORMATTING],
+    "format": ["-o", *FORMATTING, "--salvage"],
     "index": ["--line", "--json", "-o", *FORMATTING],
     "explain": ["--json", "-o", *FORMATTING],
     "salvage": ["-o"],
     "restore": ["-o"],
-    "flow": ["-o", "-s", "-u", "-P", "-X", "-w", "-g", "-q", "-T", "--keep", "--glue", "--sentence-characters"],
+    "flow": ["--mime", "--from", "--to", "-o", "-s", "-u", "-P", "-X", "-w", "-g", "-q", "-T", "--keep", "--glue", "--sentence-characters", "--salvage"],
     "unflow": ["-o"],
     "check": ["--json", "-o", *FORMATTING],
     "help": ["-o"],
     "completion": ["-o"],
 }
 EVERY = sorted({option for options in TAKES.values() for option in options} | {"--text", "--svg", "--follow"})
+MAIL = ["--mime", "--from", "a@b", "--to", "c@d"]
 VALUES = {"-p", "-P", "-w", "-g", "-T", "-o", "--line", "--svg"}
 
 
@@ -58,7 +59,9 @@ def taken(folder):
         for option in EVERY:
             (folder / "list").unlink(missing_ok=True)
             value = ["1"] if option == "--line" else ["out"] if option == "-o" else ["20"] if option in VALUES else []
-            status, _, errors = run([name, *files.get(name, ["notes"]), option, *value], b"", RUDIGNALS, cwd=folder)
+            if option in MAIL:
+                value = MAIL  # they go together
+            status, _, errors = run([name, *files.get(name, ["notes"]), *([] if option in MAIL else [option]), *value], b"", RUDIGNALS, cwd=folder)
             expect(f"{name} {option}", (status, errors[:11]), (0, "") if option in options else (2, "rudignals: "))
 
 
