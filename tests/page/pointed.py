@@ -278,7 +278,8 @@ def refusal(sight):
     tell("its words", "line 6, column 6: byte B0 begins no UTF-8 character" in b.text("header p"), True)
     sight.shot("refused")
     b.keys("w")
-    tell("on the wall", b.run("return [...document.querySelectorAll('#wall .bar')].map(e => e.innerText.trim().split('\\n')[0]).slice(-2)"), ["REFUSED: there may be notes, and none is shown", "refused"])
+    tell("on the wall", b.run("return [...document.querySelectorAll('#wall .bar')].map(e => e.textContent.trim().replace(/; drawn [-0-9]+ [0-9:]+: /, ': ')).slice(-2)"),
+         ["REFUSED: there may be notes, and none is shown", "refused: standard input"])
     sight.page("cut", [], LATIN, lambda data: data[: data.index(b"</aside>")])
     b.open(sight.out / "cut.html")
     tell("a page that was cut short", b.run("return document.getElementById('cut').checkVisibility()"), True)
