@@ -14,6 +14,7 @@ use Rattle.options.specs.OptionBlock.{readBlock}
 use Rattle.options.specs.declared.Options.{Options}
 use Rattle.options.specs.declared.Block.{Block}
 use Rattle.options.specs.declared.Block.the-variants.{Accepted, Fault}
+use Rattle.lines.specs.Contracts.Places.{mostLarge}
 use Rattle.pieces.specs.Pieces.{pieces}
 use Rattle.output.proofs.Sink.{written-fits, wrote-length}
 use Rattle.walk.specs.Digest.{longParagraph}
@@ -36,7 +37,7 @@ use Rattle.flow.specs.declared.Ended.the-variants.{All, Stopped}
 
 -- ---- from what the pieces came to
 
-module _ (o : Opts) (notes out out′ : List ℕ) (r : Ended) (f : Finished o notes out out′ r) (short : length notes ≤ 65536) where
+module _ (o : Opts) (notes out out′ : List ℕ) (r : Ended) (f : Finished o notes out out′ r) (short : length notes ≤ mostLarge) where
   all-of : {n k : ℕ} → r ≡ All n k → Finished o notes out out′ (All n k)
   all-of e = rw e at f
 
@@ -169,7 +170,7 @@ module _ (block notes : List ℕ) where
           go : (f : Found) → damageIn (o .keep) notes ≡ f → f ≡ Nowhere
           go Nowhere d = refl
           go (At place) d =
-              let w : withBlock none block notes (readBlock block) ≡ text place = rw (passed .0 .accepted, withNotes, le-ltb mostBytes (length notes) (passed .0 .short), d) in
+              let w : withBlock none block notes (readBlock block) ≡ text place = rw (passed .0 .accepted, withNotes, le-ltb mostBytes (length notes) (passed .2), d) in
               absurd (left (longParagraph (meant block o) 0 (pieces (meant block o) notes)) (ap code (sym (passed .1 none) ∙ w)))
 
       flow-left : (space : ℕ) → flow block notes space ≡ leftOf (meant block (switched o)) notes space
@@ -177,7 +178,7 @@ module _ (block notes : List ℕ) where
       flow-left space =
           ap (sentBlock space block notes) (passed .0 .accepted)
           ∙ ap (λ (t : Bool). elim t as (λ x. Answer) [ true ↦ options (length block) | false ↦ sentNotes space m notes ]) fits
-          ∙ ap (λ (t : Bool). elim t as (λ x. Answer) [ true ↦ long | false ↦ sentText space m notes (damageIn (o .keep) notes) ]) (le-ltb mostBytes (length notes) (passed .0 .short))
+          ∙ ap (λ (t : Bool). elim t as (λ x. Answer) [ true ↦ long | false ↦ sentText space m notes (damageIn (o .keep) notes) ]) (le-ltb mostBytes (length notes) (passed .2))
           ∙ ap (sentText space m notes) undamaged
         where
           m : Opts

@@ -11,6 +11,7 @@ use borrow.Author.Tests.{ltb-true, ltb-false}
 use Rattle.lists.specs.Runs.{joined}
 use Rattle.text.specs.declared.Found.the-variants.{Nowhere}
 use Rattle.options.specs.Opts.{Opts}
+use Rattle.lines.specs.Contracts.Places.{mostLarge}
 use Rattle.pieces.specs.Pieces.{Kind, blankLine, plainLine, paragraph, pieces}
 use Rattle.pieces.specs.Contracts.Places.{pieceAt}
 use Rattle.pieces.specs.declared.Paragraph.{Paragraph as ParagraphAt}
@@ -76,7 +77,7 @@ next-of o nextMail notes at (PlainAt end next) g =
 next-of o nextMail notes at (Text p) g =
     record { kind = paragraph (g .paragraph-is); state = p .mail; next = p .next; goes = g .goes; most = paragraph-most o nextMail notes at g }
 
-module _ (o : Opts) (notes : List ℕ) (least : 1 ≤ o .tab) (most : o .tab ≤ 100) (short : length notes ≤ 65536) (cleared : o .split ≡ true → (o .crown || o .tagged) ≡ false) where
+module _ (o : Opts) (notes : List ℕ) (least : 1 ≤ o .tab) (most : o .tab ≤ 100) (short : length notes ≤ mostLarge) (cleared : o .split ≡ true → (o .crown || o .tagged) ≡ false) where
   past-most : (nextMail : Bool) (at : ℕ) → at ≤ length notes → length notes ≤ at → length (flowedFrom o nextMail notes at) + 3120 * at ≤ 3120 * length notes
   past-most nextMail at h k = rw (sent-none o notes nextMail at k) (omega arith)
 

@@ -100,7 +100,7 @@ module _ (block notes : List ℕ) (b : Block) (read : b ≡ readBlock block) whe
 
   pub block-admits : {o : Options} (r : Admission) → b ≡ Accepted o → AdmitsNotes block o notes r → Admits block notes r
   block-admits (Refused r) e n = record { refusal = n .refusal; is = n .is; whole-is = λ then. rw (sym read ∙ e) (n .whole-is then); untouched = n .untouched }
-  block-admits {o} (Passed p) e n = (record { accepted = sym read ∙ e ∙ ap Accepted (sym (n .0)); short = n .1 }, λ then. rw (sym read ∙ e, n .0) (n .2 then))
+  block-admits {o} (Passed p) e n = (record { accepted = sym read ∙ e ∙ ap Accepted (sym (n .0)); short = omega (arith, n .1) }, λ then. rw (sym read ∙ e, n .0) (n .2 then), n .1)
 
 -- ---- what is replied to it
 

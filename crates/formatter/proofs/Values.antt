@@ -97,7 +97,7 @@ module _ (o : Opts) (notes : List ℕ) (least : 1 ≤ o .tab) (most : o .tab ≤
       go true t rest =
           let i = ltb-true at (length notes) t in
           let r = pieceAt o nextMail notes at in
-          let n = next-of o nextMail notes at r (piece-goes o nextMail notes at r (means o nextMail notes at i least most short cleared) (bounded o nextMail notes at i least most short cleared)) in
+          let n = next-of o nextMail notes at r (piece-goes o nextMail notes at r (means o nextMail notes at i least most (omega (arith, short)) cleared) (bounded o nextMail notes at i least most (omega (arith, short)) cleared)) in
           small-more nextMail at i n (rest (n .state) (n .next) (n .goes .within) (omega (arith, n .goes .on)))
 
   all-small : Small true 0

@@ -2,7 +2,7 @@
 use mathlib.Core.Path.{_≡_, refl, sym, ap, _∙_}
 use mathlib.Core.Bool.{Bool, true, false}
 use mathlib.Core.List.{List, [], _∷_, _++_, append-assoc, append-nil}
-use Prim.Native.Nat.{ℕ, _+_, _-_, _≤_}
+use Prim.Native.Nat.{ℕ, _+_, _-_, _*_, _≤_}
 use native.Mathlib.Omega.{arith}
 use lib.Dec.{leb}
 use lib.ListN.{length, take, drop, getD, set, replicate, length-append}
@@ -114,7 +114,7 @@ module _ (o : Opts) (notes : List ℕ) (size : ℕ) where
   }
 
   module _ {c : Cursor} {k line : ℕ} {gaps : List ℕ} (m : Marking o notes size c k line gaps) where
-    module _ {out : List ℕ} {d : Cursor} {out′ : List ℕ} (p : Put o notes out c d out′) (short : length notes ≤ 65536) (same : length out′ ≡ size) where
+    module _ {out : List ℕ} {d : Cursor} {out′ : List ℕ} (p : Put o notes out c d out′) (short : 2 * length notes ≤ 4096 * 32) (same : length out′ ≡ size) where
       abbrev here : Piece
       here = p .goes .piece
 

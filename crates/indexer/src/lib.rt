@@ -15,7 +15,7 @@ ghost use Rattle.options.specs.Opts.{meant};
 ghost use Rattle.lines.specs.Lines.{linesOf};
 ghost use Rattle.walk.specs.Contracts.Course.{Admitted, CursorIn};
 ghost use Rattle.indexer.specs.Indexing.{indexing};
-ghost use Rattle.indexer.specs.Contracts.Noting.{Ample, PieceStepped, Spells, Spelt, Noted, Indexes, Marked, refusedAs, leftOf, toldNumber, toldFilled};
+ghost use Rattle.indexer.specs.Contracts.Noting.{Ample, PieceStepped, Unmarked, Spells, Spelt, Noted, Indexes, Marked, refusedAs, leftOf, toldNumber, toldFilled};
 
 // What the call tells: its answer's number, and how many records the marks tell (none where it is refused).
 pub struct Told {
@@ -101,7 +101,7 @@ fn index_notes(
     records: usize,
     gaps: &mut [u32],
 ) -> Filled
-    requires { ⌜ Admitted (now block) (now notes) o × (now gaps ≡ replicate 4096 0) ⌝ }
+    requires { ⌜ Admitted (now block) (now notes) o × Unmarked (now notes) (now gaps) ⌝ }
     ensures { λ r. ⌜ Indexes (leftOf (meant (now (block .entry)) o) (now (notes .entry)) (length (now (out .entry))) records) (now (out .entry)) r (now (out .exit)) (now (gaps .exit)) ⌝ }
 {
     if o.quick {
@@ -118,7 +118,7 @@ fn index_quick(
     records: usize,
     gaps: &mut [u32],
 ) -> Filled
-    requires { ⌜ Admitted (now block) (now notes) o × (now gaps ≡ replicate 4096 0) × (o .quick ≡ true) ⌝ }
+    requires { ⌜ Admitted (now block) (now notes) o × Unmarked (now notes) (now gaps) × (o .quick ≡ true) ⌝ }
     ensures { λ r. ⌜ Indexes (leftOf (meant (now (block .entry)) o) (now (notes .entry)) (length (now (out .entry))) records) (now (out .entry)) r (now (out .exit)) (now (gaps .exit)) ⌝ }
 {
     let mut table = [0u32; 7168];
@@ -149,7 +149,7 @@ fn index_best(
     records: usize,
     gaps: &mut [u32],
 ) -> Filled
-    requires { ⌜ Admitted (now block) (now notes) o × (now gaps ≡ replicate 4096 0) ⌝ }
+    requires { ⌜ Admitted (now block) (now notes) o × Unmarked (now notes) (now gaps) ⌝ }
     ensures { λ r. ⌜ Indexes (leftOf (meant (now (block .entry)) o) (now (notes .entry)) (length (now (out .entry))) records) (now (out .entry)) r (now (out .exit)) (now (gaps .exit)) ⌝ }
 {
     let mut table = [0u32; 7168];
@@ -186,7 +186,7 @@ fn index_with(
     active: &mut [u32],
     marks: &mut [bool],
 ) -> Filled
-    requires { ⌜ Admitted (now block) (now notes) o × (now gaps ≡ replicate 4096 0) × Ample o (now table) (now breaks) (now ratios) (now active) (now marks) ⌝ }
+    requires { ⌜ Admitted (now block) (now notes) o × Unmarked (now notes) (now gaps) × Ample o (now table) (now breaks) (now ratios) (now active) (now marks) ⌝ }
     ensures { λ r. ⌜ Indexes (leftOf (meant (now (block .entry)) o) (now (notes .entry)) (length (now (out .entry))) records) (now (out .entry)) r (now (out .exit)) (now (gaps .exit)) ⌝ }
 {
     match note_pieces(
@@ -235,7 +235,7 @@ fn note_pieces(
     active: &mut [u32],
     marks: &mut [bool],
 ) -> Pieces
-    requires { ⌜ Admitted (now block) (now notes) o × (now gaps ≡ replicate 4096 0) × Ample o (now table) (now breaks) (now ratios) (now active) (now marks) ⌝ }
+    requires { ⌜ Admitted (now block) (now notes) o × Unmarked (now notes) (now gaps) × Ample o (now table) (now breaks) (now ratios) (now active) (now marks) ⌝ }
     ensures { λ r. ⌜ Noted (meant (now (block .entry)) o) (now (notes .entry)) (now (out .entry)) (now (out .exit)) (now (gaps .exit)) r ⌝ }
 {
     let mut c = Cursor {

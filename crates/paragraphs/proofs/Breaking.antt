@@ -9,6 +9,7 @@ use lib.ListN.{length}
 use borrow.Author.Tests.{leb-true, leb-false}
 use Rattle.options.specs.Opts.{meant}
 use Rattle.options.specs.declared.Options.{Options}
+use Rattle.lines.specs.Contracts.Places.{mostLarge}
 use Rattle.pieces.specs.declared.Margin.{Margin}
 use Rattle.pieces.specs.declared.Paragraph.{Paragraph as ParagraphAt}
 use Rattle.records.specs.Word.{Word}
@@ -58,7 +59,7 @@ module _ {longest : ℕ} {notes t : List ℕ} {r : Count} {ws : List Word} {es :
   split-few n e = counted-few longest ws n (sym (s .count) ∙ e)
 
   -- no word is wider than the notes are long
-  pub split-narrow : (n : ℕ) → r ≡ Words n → length notes ≤ 65536 → AllNarrow n t
+  pub split-narrow : (n : ℕ) → r ≡ Words n → length notes ≤ mostLarge → AllNarrow n t
   split-narrow n e h i l = omega (arith, s .kept n e .narrow i l)
 
 module _ (fast : Bool) (g : Setting) (n : ℕ) (table : List ℕ) (marks marks′ : List Bool) where

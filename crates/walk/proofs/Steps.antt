@@ -11,7 +11,7 @@ use Rattle.lists.proofs.Slices.{slice-is}
 use Rattle.options.specs.Opts.{Opts, meant}
 use Rattle.options.specs.declared.Options.{Options}
 use Rattle.options.proofs.Accepted.{Kept, accepted}
-use Rattle.lines.specs.Contracts.Places.{Usable}
+use Rattle.lines.specs.Contracts.Places.{mostLarge, Usable}
 use Rattle.lines.proofs.Usable.{usable}
 use Rattle.pieces.specs.Pieces.{Paragraph, blankLine, plainLine, paragraph}
 use Rattle.pieces.specs.Contracts.Places.{Cleared, pieceAt}
@@ -43,7 +43,7 @@ use Rattle.walk.proofs.Loop.{going-over}
 -- ---- what the block's options allow
 
 -- in notes that are not too long, under options that a block can give
-module _ (block notes : List ℕ) (o : Options) (kept : Kept block o) (short : length notes ≤ 65536) (nextMail : Bool) (at : ℕ) where
+module _ (block notes : List ℕ) (o : Options) (kept : Kept block o) (short : length notes ≤ mostLarge) (nextMail : Bool) (at : ℕ) where
   -- the piece that the code found at a place, with the bounds promised of it
   pub piece-found : (r s : PieceAt) → at < length notes → (r ≡ pieceAt (meant block o) nextMail notes at) × Bounded (o .glue) notes at r → r ≡ s → PieceGoes (meant block o) nextMail notes at s
   unfolding meant

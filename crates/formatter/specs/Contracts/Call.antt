@@ -59,4 +59,4 @@ AdmitsNotes block o notes (Passed p) = (p ≡ o) × (length notes ≤ mostBytes)
 
 abbrev pub Admits : List ℕ → List ℕ → Admission → Type 0
 Admits block notes (Refused r) = Refuses (λ then. withBlock then block notes (readBlock block)) r
-Admits block notes (Passed o) = Admitted block notes o × ((then : List ℕ → Answer) → withBlock then block notes (readBlock block) ≡ leftOf (meant block o) notes then)
+Admits block notes (Passed o) = Admitted block notes o × ((then : List ℕ → Answer) → withBlock then block notes (readBlock block) ≡ leftOf (meant block o) notes then) × (length notes ≤ mostBytes)

@@ -21,7 +21,7 @@ abbrev μ-loop : tie.MeasureT-loop
 μ-loop o block notes out₀ gaps₀ table₀ breaks₀ ratios₀ active₀ marks₀ c₀ k₀ line₀ out gaps table breaks ratios active marks c k line = length notes - c .at
 
 loop-holds : tie.Need-loop-holds Inv-loop μ-loop
-loop-holds c = (going-first _ _ _ _ (stands-first _), marking-first _ _ _ _ (c .before .before .before .before .before .before .before .before .before .pre .1), refl, refl, refl, refl, refl, refl)
+loop-holds c = (going-first _ _ _ _ (stands-first _), marking-first _ _ _ _ (c .before .before .before .before .before .before .before .before .before .pre .1 .clear), refl, refl, refl, refl, refl, refl)
 
 put-piece-requires : tie.Need-put-piece-requires Inv-loop μ-loop
 put-piece-requires c κs =
@@ -63,7 +63,7 @@ spell-requires : tie.Need-spell-requires Inv-loop μ-loop
 spell-requires c κs =
     let p = stepped-on _ _ _ _ _ (c .before .before .before .before .before .before .before .before .before .before .before .before .before .before .before .before .before .put-piece .ensures) (c .before .before .before .d .given .1) in
     let i = c .before .before .before .before .before .before .before .before .before .before .before .before .before .before .before .before .before .before .before .before .before .before .before .before .before .before .loop .inv in
-    marking-spells _ _ _ (i .1) p (c .before .before .before .before .before .before .before .before .before .before .before .before .before .before .before .before .before .before .before .before .before .before .before .before .before .before .before .before .before .before .before .before .before .before .before .before .pre .0 .short) (c .before .before .before .before .before .before .before .before .before .before .before .before .before .before .before .before .out .given ∙ going-length _ _ (i .0))
+    marking-spells _ _ _ (i .1) p (c .before .before .before .before .before .before .before .before .before .before .before .before .before .before .before .before .before .before .before .before .before .before .before .before .before .before .before .before .before .before .before .before .before .before .before .before .pre .1 .enough) (c .before .before .before .before .before .before .before .before .before .before .before .before .before .before .before .before .out .given ∙ going-length _ _ (i .0))
 
 add-k : tie.Need-add-k Inv-loop μ-loop
 add-k c =
@@ -80,7 +80,7 @@ loop-again c =
     let p = stepped-on _ _ _ _ _ (c .before .before .before .before .before .before .before .before .before .before .before .before .before .before .before .before .before .before .before .before .put-piece .ensures) (c .before .before .before .before .before .before .d .given .1) in
     let i = c .before .before .before .before .before .before .before .before .before .before .before .before .before .before .before .before .before .before .before .before .before .before .before .before .before .before .before .before .before .loop .inv in (
       going-on _ _ (i .0) p,
-      marking-on _ _ _ (i .1) p (c .before .before .before .before .before .before .before .before .before .before .before .before .before .before .before .before .before .before .before .before .before .before .before .before .before .before .before .before .before .before .before .before .before .before .before .before .before .before .before .pre .0 .short) (c .before .before .before .before .before .before .before .before .before .before .before .before .before .before .before .before .before .before .before .out .given ∙ going-length _ _ (i .0)) (c .before .before .spell .ensures),
+      marking-on _ _ _ (i .1) p (c .before .before .before .before .before .before .before .before .before .before .before .before .before .before .before .before .before .before .before .before .before .before .before .before .before .before .before .before .before .before .before .before .before .before .before .before .before .before .before .pre .1 .enough) (c .before .before .before .before .before .before .before .before .before .before .before .before .before .before .before .before .before .before .before .out .given ∙ going-length _ _ (i .0)) (c .before .before .spell .ensures),
       c .before .gaps .given ∙ i .2,
       c .before .before .before .before .before .before .before .before .before .before .before .before .before .before .before .before .before .table .given ∙ i .3,
       c .before .before .before .before .before .before .before .before .before .before .before .before .before .before .before .breaks .given ∙ i .4,

@@ -1,4 +1,5 @@
 -- `indexer::write_pieces` meets its contract.
+use native.Mathlib.Omega.{arith}
 use Rattle.formatter.proofs.Refusals.{passed, refused}
 use Rattle.indexer.proofs.Answers.{indexing-left, refused-answer}
 use borrow.Author.Needs.{needs}
@@ -18,7 +19,9 @@ enum-known-o : tie.Need-enum-known-o
 enum-known-o c = search needs
 
 index-notes-requires : tie.Need-index-notes-requires
-index-notes-requires c κs = (passed _ _ (c .before .before .before .before .before .admit .ensures) (c .before .before .before .o .given .1) .0, c .before .before .before .before .before .before .before .before .before .before .pre)
+index-notes-requires c κs =
+    let a = passed _ _ (c .before .before .before .before .before .admit .ensures) (c .before .before .before .o .given .1) in
+    (a .0, record { clear = c .before .before .before .before .before .before .before .before .before .before .pre; enough = omega (arith, a .2) })
 
 returns : tie.Need-returns
 returns c = rw (c .refused .ensures) (refused-answer _ _ _ _ _ _ _ (refused _ _ (c .before .before .before .before .admit .ensures) (c .before .before .r .given .1)))

@@ -5,12 +5,13 @@ use mathlib.Core.Bool.{Bool, true, false}
 use mathlib.Core.List.{List, [], _∷_}
 use Prim.Native.Nat.{ℕ, _+_, _-_, _*_, _^_, _≤_, _<_}
 use lib.Ieee.{Float}
-use lib.ListN.{length, take, drop, getD, set}
+use lib.ListN.{length, take, drop, replicate, getD, set}
 use Rattle.text.specs.declared.Found.{Found}
 use Rattle.text.specs.declared.Found.the-variants.{At, Nowhere}
 use Rattle.options.specs.Opts.{Opts}
 use Rattle.options.specs.declared.Options.{Options}
 use Rattle.lines.specs.Lines.{linesOf}
+use Rattle.lines.specs.Contracts.Places.{mostLarge}
 use Rattle.pieces.specs.Pieces.{Piece, pieces}
 use Rattle.output.specs.Contracts.Sink.{Wrote}
 use Rattle.paragraphs.specs.Contracts.Steps.{Scratch}
@@ -56,10 +57,15 @@ gapsOf o (q ∷ qs) = length (extentOf q) ∷ lineCount o q ∷ gapsOf o qs
 abbrev pub linesPut : List ℕ → Cursor → Cursor → ℕ
 linesPut out c d = length (linesOf (take (d .written - c .written) (drop (c .written) out)))
 
+-- a table of bits, none of them set, with two for each byte of the notes
+pub record Unmarked (notes gaps : List ℕ) : Type 0 where
+  pub clear : gaps ≡ replicate 4096 0
+  pub enough : 2 * length notes ≤ 4096 * 32
+
 -- before a piece is spelled: where its output fits, neither of its two places is marked
 pub record Spells (gaps out : List ℕ) (c d : Cursor) (line : ℕ) : Type 0 where
   pub on : c .at < d .at
-  pub within : d .at ≤ 65536
+  pub within : d .at ≤ mostLarge
   pub few : line ≤ c .at
   pub behind : c .written ≤ d .written
   pub lines : d .written ≤ length out → linesPut out c d ≤ d .at

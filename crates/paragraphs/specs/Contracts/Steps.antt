@@ -9,6 +9,7 @@ use lib.Seq.{slice}
 use Rattle.options.specs.Opts.{meant}
 use Rattle.options.specs.declared.Options.{Options}
 use Rattle.lines.specs.Lines.{linesOf}
+use Rattle.lines.specs.Contracts.Places.{mostLarge}
 use Rattle.pieces.specs.Contracts.Bounds.{AllBegin}
 use Rattle.pieces.specs.declared.Paragraph.{Paragraph}
 use Rattle.records.specs.Word.{Word}
@@ -52,7 +53,7 @@ wordsFor block notes at o p = wordsAt (meant block o) (p .mail) (p .start) (p .l
 pub record Placed (notes : List ℕ) (at : ℕ) (o : Options) (p : Paragraph) : Type 0 where
   pub order : at ≤ p .next
   pub within : p .next ≤ length notes
-  pub short : length notes ≤ 65536
+  pub short : length notes ≤ mostLarge
   pub begins : p .mail ≡ false → AllBegin (o .glue) (p .start) (p .later) (linesOf (slice at (p .next) notes))
   pub block : List ℕ
   pub some : 0 < length (wordsFor block notes at o p)

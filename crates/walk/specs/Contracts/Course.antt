@@ -13,6 +13,7 @@ use Rattle.options.specs.OptionBlock.{readBlock}
 use Rattle.options.specs.declared.Options.{Options}
 use Rattle.options.specs.declared.Block.the-variants.{Accepted}
 use Rattle.lines.specs.Lines.{linesOf}
+use Rattle.lines.specs.Contracts.Places.{mostLarge}
 use Rattle.pieces.specs.Pieces.{Piece, Kind, nextPiece, pieces}
 use Rattle.pieces.specs.Contracts.Places.{pieceAt}
 use Rattle.pieces.specs.Contracts.Bounds.{Bounded}
@@ -32,7 +33,7 @@ use Rattle.walk.specs.declared.Ended.the-variants.{All, Stopped}
 -- the options of an accepted block, and notes within the limit
 pub record Admitted (block notes : List ℕ) (o : Options) : Type 0 where
   pub accepted : readBlock block ≡ Accepted o
-  pub short : length notes ≤ 65536
+  pub short : length notes ≤ mostLarge
 
 -- ---- pieces
 
