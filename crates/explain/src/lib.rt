@@ -21,6 +21,7 @@ ghost use Rattle.knuth_plass.specs.Contracts.Round.{Limits, AllNarrow};
 ghost use Rattle.paragraphs.specs.Contracts.Steps.{Scratch, Placed};
 ghost use Rattle.walk.specs.Contracts.Course.{Admitted};
 ghost use Rattle.explain.specs.Reasons.{linesBy};
+ghost use Rattle.formatter.specs.Format.{document01};
 ghost use Rattle.explain.specs.Explain.{explaining};
 ghost use Rattle.explain.specs.declared.Asked.the-variants.{Behind};
 ghost use Rattle.explain.specs.Contracts.Asking.{EndsSo, passed};
@@ -66,7 +67,7 @@ enum Sought {
 
 // Why an output line ends, counted from 0: 1 to 4 are refused as measuring does, then 8.
 pub fn explain(block: &[u8], notes: &[u8], line: u64) -> Explained
-    ensures { λ r. ⌜ r ≡ told (explaining (now (block .entry)) (now (notes .entry)) line) ⌝ }
+    ensures { λ r. ⌜ r ≡ told (explaining document01 (now (block .entry)) (now (notes .entry)) line) ⌝ }
 {
     match formatter::admit(block, notes) {
         Admission::Refused(r) => Explained::Refused(r),

@@ -208,7 +208,7 @@ module _ (block notes : List ℕ) (o : Options) (ready : Ready block notes o) (n
         counted = rw (a, v .next) (omega (arith, v .dashes, b, k, few-longest first indent ws));
       }
 
-  many : mostWords < length ws → tooMany (meant block o) (paragraph q) ≡ true
+  many : mostWords < length ws → tooMany mostWords (meant block o) (paragraph q) ≡ true
   many h = rw words-count (lt-ltb mostWords (length ws) h)
 
 module _ (block notes : List ℕ) (o : Options) (ready : Ready block notes o) (c : Cursor) {p : ParagraphAt} (g : TextGoes (meant block o) (c .mail) notes (c .at) p) where
@@ -259,7 +259,7 @@ module _ (o : Opts) (notes : List ℕ) where
     pub stands : CursorIn notes c
     pub left : Left out₀ 0 (flowed o notes) out (c .written) (flowedFrom o (c .mail) notes (c .at))
     pub dashes : c .dashes + dashesFor o (c .mail) notes (c .at) ≡ dashesIn o (pieces o notes)
-    pub long : longFrom o (c .mail) notes (c .at) ≡ longParagraph o 0 (pieces o notes)
+    pub long : longFrom o (c .mail) notes (c .at) ≡ longParagraph mostWords o 0 (pieces o notes)
 
   pub going-first : (out : List ℕ) → Going out (record { at = 0; written = 0; mail = true; dashes = 0 }) out
   going-first out = record {

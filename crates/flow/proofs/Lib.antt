@@ -15,3 +15,4 @@ pub mod Bound
 pub mod Theorems
 pub mod Call
 pub mod Unique
+pub mod Values

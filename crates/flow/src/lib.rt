@@ -26,6 +26,7 @@ ghost use Rattle.output.specs.Contracts.Writers.{marginOf, MarginIn, Laid};
 ghost use Rattle.paragraphs.specs.Contracts.Steps.{settingFor, Placed};
 ghost use Rattle.unflow.specs.Flowed.{stuffing, isDashes};
 ghost use Rattle.flow.specs.Flow.{plainSent, trimmed, sent};
+ghost use Rattle.formatter.specs.Format.{document01};
 ghost use Rattle.flow.specs.Answers.{flagsOf, flow as flowOf, dashesOf};
 ghost use Rattle.flow.specs.Contracts.Words.{lineEnd};
 ghost use Rattle.flow.specs.Contracts.Sending.{switched, Ready, refusedFor, shaped, Opens, Turned, RestSent, ParagraphSent, Tables, TextStepped, CursorIn, PieceStepped, Finished, Sends, leftOf, leftDashes};
@@ -71,7 +72,7 @@ struct Turn {
 
 // Writes the notes as mail. A block that the writer does not take is refused before the notes are looked at.
 pub fn flow(block: &[u8], notes: &[u8], out: &mut [u8]) -> Outcome
-    ensures { λ r. ⌜ Sends (flowOf (now (block .entry)) (now (notes .entry)) (length (now (out .entry)))) (dashesOf (now (block .entry)) (now (notes .entry)) (length (now (out .entry)))) (now (out .entry)) r (now (out .exit)) ⌝ }
+    ensures { λ r. ⌜ Sends (flowOf document01 (now (block .entry)) (now (notes .entry)) (length (now (out .entry)))) (dashesOf document01 (now (block .entry)) (now (notes .entry)) (length (now (out .entry)))) (now (out .entry)) r (now (out .exit)) ⌝ }
 {
     if is_unfit(block) {
         return Outcome {

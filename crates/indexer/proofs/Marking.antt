@@ -15,7 +15,7 @@ use Rattle.pieces.specs.Pieces.{Piece, Kind, pieces}
 use Rattle.output.specs.Contracts.Sink.{Wrote}
 use Rattle.output.proofs.Sink.{written-fits, wrote-length}
 use Rattle.paragraphs.specs.declared.Cursor.{Cursor}
-use Rattle.walk.specs.Digest.{outputOf, extentOf, longParagraph}
+use Rattle.walk.specs.Digest.{mostWords, outputOf, extentOf, longParagraph}
 use Rattle.walk.specs.Contracts.Course.{piecesFrom, longFrom, Put, Going, start}
 use Rattle.walk.proofs.Loop.{all-output, all-long, going-length, going-last, none-left, all-pieces}
 use Rattle.marks.specs.Contracts.Marks.{marksIn, spelled, sum, Positive}
@@ -205,5 +205,5 @@ module _ (o : Opts) (notes out₀ : List ℕ) {c : Cursor} {out : List ℕ} (w :
       let f = going-last o notes w h in
       (sym (all-long o notes) ∙ f .0, rw (all-output o notes) at (f .1), count-all o notes (length out₀) m h, read-all o notes (length out₀) m h)
 
-  pub noted-stopped : {out′ : List ℕ} → (longFrom o (c .mail) notes (c .at) ≡ At (c .at)) × (out′ ≡ out) → (longParagraph o 0 (pieces o notes) ≡ At (c .at)) × (length out′ ≡ length out₀)
+  pub noted-stopped : {out′ : List ℕ} → (longFrom o (c .mail) notes (c .at) ≡ At (c .at)) × (out′ ≡ out) → (longParagraph mostWords o 0 (pieces o notes) ≡ At (c .at)) × (length out′ ≡ length out₀)
   noted-stopped t = (sym (all-long o notes) ∙ sym (w .long) ∙ t .0, ap length (t .1) ∙ going-length o notes w)

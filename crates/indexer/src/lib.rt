@@ -14,6 +14,7 @@ ghost use lib.ListN.{length, replicate};
 ghost use Rattle.options.specs.Opts.{meant};
 ghost use Rattle.lines.specs.Lines.{linesOf};
 ghost use Rattle.walk.specs.Contracts.Course.{Admitted, CursorIn};
+ghost use Rattle.formatter.specs.Format.{document01};
 ghost use Rattle.indexer.specs.Indexing.{indexing};
 ghost use Rattle.indexer.specs.Contracts.Noting.{Ample, PieceStepped, Unmarked, Spells, Spelt, Noted, Indexes, Marked, refusedAs, leftOf, toldNumber, toldFilled};
 
@@ -32,6 +33,7 @@ enum Filled {
     Words(usize),
     Full(usize),
     Room(usize),
+    Work(usize),
 }
 
 // What came of the pieces: the digest's length and their number, or the place of the first paragraph that has too many words.
@@ -50,7 +52,7 @@ pub fn write_marked(
     marks: &mut [u32],
 ) -> Told
     requires { ⌜ now marks ≡ replicate 4096 0 ⌝ }
-    ensures { λ t. ⌜ Marked (indexing (now (block .entry)) (now (notes .entry)) (length (now (out .entry))) records) records (now (out .entry)) (now (out .exit)) (now (filled .exit)) (now (marks .exit)) t ⌝ }
+    ensures { λ t. ⌜ Marked (indexing document01 (now (block .entry)) (now (notes .entry)) (length (now (out .entry))) records) records (now (out .entry)) (now (out .exit)) (now (filled .exit)) (now (marks .exit)) t ⌝ }
 {
     let r = write_pieces(block, notes, out, records, marks);
     let n = records_in(r);
@@ -70,7 +72,7 @@ fn write_pieces(
     gaps: &mut [u32],
 ) -> Filled
     requires { ⌜ now gaps ≡ replicate 4096 0 ⌝ }
-    ensures { λ r. ⌜ Indexes (indexing (now (block .entry)) (now (notes .entry)) (length (now (out .entry))) records) (now (out .entry)) r (now (out .exit)) (now (gaps .exit)) ⌝ }
+    ensures { λ r. ⌜ Indexes (indexing document01 (now (block .entry)) (now (notes .entry)) (length (now (out .entry))) records) (now (out .entry)) r (now (out .exit)) (now (gaps .exit)) ⌝ }
 {
     match formatter::admit(block, notes) {
         Admission::Refused(r) => refused(r),
@@ -89,6 +91,7 @@ fn refused(r: Reply) -> Filled
         Reply::Text(place) => Filled::Text(place),
         Reply::Words(place) => Filled::Words(place),
         Reply::Room(needed) => Filled::Room(needed),
+        Reply::Work(needed) => Filled::Work(needed),
     }
 }
 
@@ -365,6 +368,7 @@ fn number_of(r: Filled) -> u64
         Filled::Words(place) => 4 * UPPER + place as u64,
         Filled::Full(pieces) => 6 * UPPER + pieces as u64,
         Filled::Room(needed) => 5 * UPPER + needed as u64,
+        Filled::Work(needed) => 12 * UPPER + needed as u64,
     }
 }
 
@@ -383,5 +387,6 @@ fn records_in(r: Filled) -> u64
         Filled::Words(_) => 0,
         Filled::Full(_) => 0,
         Filled::Room(_) => 0,
+        Filled::Work(_) => 0,
     }
 }

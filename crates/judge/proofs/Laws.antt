@@ -160,7 +160,7 @@ pub record Going (o : Opts) (notes digest : List ℕ) (first : Matched) (c : Sta
   pub within : c .at ≤ length notes
   pub inside : MatchedIn digest (c .matched)
   pub left : andThen (matched digest (c .matched)) (matchPieces o (piecesFrom o (c .mail) notes (c .at))) ≡ andThen (matched digest first) (matchPieces o (pieces o notes))
-  pub long : longFrom o (c .mail) notes (c .at) ≡ longParagraph o 0 (pieces o notes)
+  pub long : longFrom o (c .mail) notes (c .at) ≡ longParagraph mostWords o 0 (pieces o notes)
 
 module _ (o : Opts) (notes digest : List ℕ) (first : Matched) where
   pub going-first : MatchedIn digest first → Going o notes digest first (record { at = 0; mail = true; matched = first })

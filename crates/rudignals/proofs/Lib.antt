@@ -8,6 +8,7 @@ pub mod Gaps
 pub mod Indexed
 pub mod Lent
 pub mod Mailed
+pub mod Numbers
 pub mod Explained
 pub mod Demand3
 pub mod Unique

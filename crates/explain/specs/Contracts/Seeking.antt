@@ -15,7 +15,7 @@ use Rattle.words.specs.Words.{wordsOf}
 use Rattle.endings.specs.declared.Ending.{Ending}
 use Rattle.endings.specs.Endings.{numbersOf, endings}
 use Rattle.paragraphs.specs.Contracts.Steps.{settingFor, wordsFor}
-use Rattle.walk.specs.Digest.{tooMany, longParagraph}
+use Rattle.walk.specs.Digest.{mostWords, tooMany, longParagraph}
 use Rattle.walk.specs.Contracts.Course.{piecesFrom, longFrom, FirstPiece}
 use Rattle.formatter.specs.Answers.{words}
 use Rattle.formatter.specs.Contracts.Call.{told as replied, replyNumber}
@@ -54,7 +54,7 @@ TextPassed w b notes at o p a Over block = cond (o .quick || p .mail) w b < leng
 pub record PieceBehind (o : Opts) (notes : List ℕ) (s t : Seek) : Type 0 where
   pub kind : Kind
   pub goes : FirstPiece o (s .mail) notes (s .at) kind (t .mail) (t .at)
-  pub few : tooMany o kind ≡ false
+  pub few : tooMany mostWords o kind ≡ false
   pub asked : t .asked ≡ passed (endingsOf o kind) (s .asked)
 
 -- or there is not enough room for it
@@ -130,4 +130,4 @@ wordsOr (At place) a = refused (words place)
 wordsOr Nowhere a = a
 
 abbrev pub leftOf : Opts → List ℕ → ℕ → Explanation
-leftOf o notes line = wordsOr (longParagraph o 0 (pieces o notes)) (lookUp line (lineEndings o notes))
+leftOf o notes line = wordsOr (longParagraph mostWords o 0 (pieces o notes)) (lookUp line (lineEndings o notes))

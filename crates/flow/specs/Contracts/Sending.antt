@@ -27,13 +27,14 @@ use Rattle.output.specs.Contracts.Sink.{Wrote}
 use Rattle.output.specs.Contracts.Writers.{marginOf}
 use Rattle.quick.specs.Quick.{quickBreaks}
 use Rattle.paragraphs.specs.Contracts.Steps.{settingFor, wordsFor}
-use Rattle.walk.specs.Digest.{tooMany, longParagraph}
+use Rattle.walk.specs.Digest.{mostWords, tooMany, longParagraph}
 use Rattle.walk.specs.Contracts.Course.{Admitted, piecesFrom, longFrom, FirstPiece}
 use Rattle.formatter.specs.Answers.{Answer, outputAfter}
+use Rattle.formatter.specs.Format.{document01, within}
 use Rattle.formatter.specs.Contracts.Call.{told, replyNumber}
 use Rattle.unflow.specs.Flowed.{stuffing}
 use Rattle.flow.specs.Flow.{isDashed, sent, sentLines, flowed, pieceDashes, dashesIn}
-use Rattle.flow.specs.Answers.{isGiven, unfit, sentWords}
+use Rattle.flow.specs.Answers.{isGiven, unfit, sentIn}
 use Rattle.flow.specs.Contracts.Words.{spaceIf, nextSent, nextDashed, restSent, restDashes, wordsSent, wordsDashes}
 use Rattle.flow.specs.declared.Outcome.{Outcome}
 use Rattle.flow.specs.declared.Cursor.{Cursor}
@@ -156,7 +157,7 @@ pub record CursorIn (notes : List ℕ) (c : Cursor) : Type 0 where
 pub record Put (o : Opts) (notes out : List ℕ) (c d : Cursor) (out′ : List ℕ) : Type 0 where
   pub kind : Kind
   pub goes : FirstPiece o (c .mail) notes (c .at) kind (d .mail) (d .at)
-  pub few : tooMany o kind ≡ false
+  pub few : tooMany mostWords o kind ≡ false
   pub wrote : Wrote out (c .written) (joined sent (sentLines o kind)) out′ (d .written)
   pub dashes : d .dashes ≡ c .dashes + pieceDashes o kind
   pub bounded : d .written + 3120 * c .at ≤ c .written + 3120 * d .at
@@ -169,8 +170,8 @@ PieceStepped o notes out c out′ Over = (longFrom o (c .mail) notes (c .at) ≡
 -- all were written; or the work stopped at a paragraph of too many words
 abbrev pub Finished : Opts → List ℕ → List ℕ → List ℕ → Ended → Type 0
 Finished o notes out out′ (All n k) =
-    (longParagraph o 0 (pieces o notes) ≡ Nowhere) × Wrote out 0 (flowed o notes) out′ n × (k ≡ dashesIn o (pieces o notes)) × (n ≤ 3120 * length notes)
-Finished o notes out out′ (Stopped place) = (longParagraph o 0 (pieces o notes) ≡ At place) × (length out′ ≡ length out) × (place ≤ length notes)
+    (longParagraph mostWords o 0 (pieces o notes) ≡ Nowhere) × Wrote out 0 (flowed o notes) out′ n × (k ≡ dashesIn o (pieces o notes)) × (n ≤ 3120 * length notes)
+Finished o notes out out′ (Stopped place) = (longParagraph mostWords o 0 (pieces o notes) ≡ At place) × (length out′ ≡ length out) × (place ≤ length notes)
 
 -- ---- the answer in code: without the bytes, which are in the output
 
@@ -182,11 +183,11 @@ pub record Sends (a : Answer) (dashes : ℕ) (out : List ℕ) (r : Outcome) (out
 
 -- what is left to be told where codes 1 to 3 are not due
 abbrev pub leftOf : Opts → List ℕ → ℕ → Answer
-leftOf o notes space = sentWords space o notes (longParagraph o 0 (pieces o notes))
+leftOf o notes space = within (document01 .words) (λ d. sentIn (document01 .words) space (flowed o notes)) o notes
 
 abbrev pub dashesLeft : Opts → List ℕ → ℕ → Found → ℕ
 dashesLeft o notes space (At place) = 0
 dashesLeft o notes space Nowhere = cond (leb (length (flowed o notes)) space) (dashesIn o (pieces o notes)) 0
 
 abbrev pub leftDashes : Opts → List ℕ → ℕ → ℕ
-leftDashes o notes space = dashesLeft o notes space (longParagraph o 0 (pieces o notes))
+leftDashes o notes space = dashesLeft o notes space (longParagraph mostWords o 0 (pieces o notes))

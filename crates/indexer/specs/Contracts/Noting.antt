@@ -18,20 +18,21 @@ use Rattle.paragraphs.specs.Contracts.Steps.{Scratch}
 use Rattle.paragraphs.specs.declared.Cursor.{Cursor}
 use Rattle.paragraphs.specs.declared.Step.{Step}
 use Rattle.paragraphs.specs.declared.Step.the-variants.{On, Over}
-use Rattle.walk.specs.Digest.{digest, extentOf, longParagraph}
+use Rattle.walk.specs.Digest.{mostWords, digest, extentOf, longParagraph}
 use Rattle.walk.specs.Contracts.Course.{longFrom, Put}
+use Rattle.formatter.specs.Format.{document01}
 use Rattle.formatter.specs.declared.Reply.{Reply}
-use Rattle.formatter.specs.declared.Reply.the-variants.{Done as ReplyDone, Options as ReplyOptions, Long as ReplyLong, Text as ReplyText, Words as ReplyWords, Room as ReplyRoom}
+use Rattle.formatter.specs.declared.Reply.the-variants.{Done as ReplyDone, Options as ReplyOptions, Long as ReplyLong, Text as ReplyText, Words as ReplyWords, Room as ReplyRoom, Work as ReplyWork}
 use Rattle.marks.specs.Contracts.Marks.{marksIn}
 use Rattle.index.specs.declared.Record.{Record}
 use Rattle.index.specs.Contracts.Lists.{noRecord}
 use Rattle.index.specs.Contracts.Reading.{readFrom}
 use Rattle.indexer.specs.Index.{lineCount, indexOf}
-use Rattle.indexer.specs.Answers.{Indexed, done, options, long, text, words, full, room, numbered, outputAfter, filledAfter}
+use Rattle.indexer.specs.Answers.{Indexed, done, options, long, text, words, full, room, work, numbered, outputAfter, filledAfter}
 use Rattle.indexer.specs.Indexing.{withIndex}
 use Rattle.indexer.specs.declared.Told.{Told}
 use Rattle.indexer.specs.declared.Filled.{Filled}
-use Rattle.indexer.specs.declared.Filled.the-variants.{Done, Options as Faulty, Long, Text, Words, Full, Room}
+use Rattle.indexer.specs.declared.Filled.the-variants.{Done, Options as Faulty, Long, Text, Words, Full, Room, Work}
 use Rattle.indexer.specs.declared.Pieces.{Pieces}
 use Rattle.indexer.specs.declared.Pieces.the-variants.{All, Stopped}
 
@@ -81,9 +82,9 @@ pub record Spelt (gaps out : List ℕ) (c d : Cursor) (line : ℕ) (gaps′ : Li
 -- all pieces were written, and if they fit, the gaps tell their records; or the work stopped at a paragraph of too many words
 abbrev pub Noted : Opts → List ℕ → List ℕ → List ℕ → List ℕ → Pieces → Type 0
 Noted o notes out out′ gaps′ (All n k) =
-    (longParagraph o 0 (pieces o notes) ≡ Nowhere) × Wrote out 0 (digest o notes) out′ n × (k ≡ length (indexOf o notes))
+    (longParagraph mostWords o 0 (pieces o notes) ≡ Nowhere) × Wrote out 0 (digest o notes) out′ n × (k ≡ length (indexOf o notes))
     × (n ≤ length out → readFrom (marksIn gaps′) k noRecord ≡ indexOf o notes)
-Noted o notes out out′ gaps′ (Stopped place) = (longParagraph o 0 (pieces o notes) ≡ At place) × (length out′ ≡ length out)
+Noted o notes out out′ gaps′ (Stopped place) = (longParagraph mostWords o 0 (pieces o notes) ≡ At place) × (length out′ ≡ length out)
 
 -- ---- the answer in code: without the digest's bytes, which stand in the output, and the records, which the gaps tell
 
@@ -95,6 +96,7 @@ told (text place) = Text place
 told (words place) = Words place
 told (full pieces) = Full pieces
 told (room needed) = Room needed
+told (work needed) = Work needed
 
 -- its number, and its count of filled records
 abbrev pub toldNumber : Filled → ℕ
@@ -105,6 +107,7 @@ toldNumber (Text place) = 3 * 2 ^ 32 + place
 toldNumber (Words place) = 4 * 2 ^ 32 + place
 toldNumber (Full pieces) = 6 * 2 ^ 32 + pieces
 toldNumber (Room needed) = 5 * 2 ^ 32 + needed
+toldNumber (Work needed) = 12 * 2 ^ 32 + needed
 
 abbrev pub toldFilled : Filled → ℕ
 toldFilled (Done n k) = k
@@ -114,6 +117,7 @@ toldFilled (Text place) = 0
 toldFilled (Words place) = 0
 toldFilled (Full pieces) = 0
 toldFilled (Room needed) = 0
+toldFilled (Work needed) = 0
 
 -- the records of an answer: none on a refusal
 abbrev pub recordsOf : Indexed → List Record
@@ -124,6 +128,7 @@ recordsOf (text place) = []
 recordsOf (words place) = []
 recordsOf (full pieces) = []
 recordsOf (room needed) = []
+recordsOf (work needed) = []
 
 -- what a function that gives the answer leaves behind
 pub record Indexes (a : Indexed) (out : List ℕ) (r : Filled) (out′ gaps′ : List ℕ) : Type 0 where
@@ -148,6 +153,7 @@ refusedAs ReplyLong = Long
 refusedAs (ReplyText place) = Text place
 refusedAs (ReplyWords place) = Words place
 refusedAs (ReplyRoom needed) = Room needed
+refusedAs (ReplyWork needed) = Work needed
 
 -- what is left to be told behind them
 abbrev pub wordsOr : Found → Indexed → Indexed
@@ -155,4 +161,4 @@ wordsOr (At place) a = words place
 wordsOr Nowhere a = a
 
 abbrev pub leftOf : Opts → List ℕ → ℕ → ℕ → Indexed
-leftOf o notes space records = wordsOr (longParagraph o 0 (pieces o notes)) (withIndex space records (indexOf o notes) (digest o notes))
+leftOf o notes space records = wordsOr (longParagraph mostWords o 0 (pieces o notes)) (withIndex (document01 .words) space records (indexOf o notes) (digest o notes))

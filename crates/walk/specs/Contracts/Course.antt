@@ -22,7 +22,7 @@ use Rattle.pieces.specs.declared.Piece.the-variants.{Text as TextAt}
 use Rattle.output.specs.Contracts.Sink.{Wrote, Left}
 use Rattle.paragraphs.specs.Contracts.Steps.{wordsFor}
 use Rattle.paragraphs.specs.declared.Cursor.{Cursor}
-use Rattle.walk.specs.Digest.{outputOf, pieceOutput, digest, extentOf, tooMany, longParagraph}
+use Rattle.walk.specs.Digest.{mostWords, outputOf, pieceOutput, digest, extentOf, tooMany, longParagraph}
 use Rattle.walk.specs.declared.Ahead.{Ahead}
 use Rattle.walk.specs.declared.Ahead.the-variants.{Text as AheadText, End}
 use Rattle.walk.specs.declared.Course.{Course}
@@ -46,7 +46,7 @@ unfoldable pub outputFrom : Opts → Bool → List ℕ → ℕ → List ℕ
 outputFrom o nextMail notes at = joined (pieceOutput o) (piecesFrom o nextMail notes at)
 
 unfoldable pub longFrom : Opts → Bool → List ℕ → ℕ → Found
-longFrom o nextMail notes at = longParagraph o at (piecesFrom o nextMail notes at)
+longFrom o nextMail notes at = longParagraph mostWords o at (piecesFrom o nextMail notes at)
 
 -- the first of them is of a kind and stands from at up to next; the others stand behind it
 pub record FirstPiece (o : Opts) (nextMail : Bool) (notes : List ℕ) (at : ℕ) (kind : Kind) (state : Bool) (next : ℕ) : Type 0 where
@@ -61,7 +61,7 @@ pub record FirstPiece (o : Opts) (nextMail : Bool) (notes : List ℕ) (at : ℕ)
 pub record Put (o : Opts) (notes out : List ℕ) (c d : Cursor) (out′ : List ℕ) : Type 0 where
   pub kind : Kind
   pub goes : FirstPiece o (c .mail) notes (c .at) kind (d .mail) (d .at)
-  pub few : tooMany o kind ≡ false
+  pub few : tooMany mostWords o kind ≡ false
   pub wrote : Wrote out (c .written) (outputOf o kind) out′ (d .written)
   pub bounded : d .written + 1040 * c .at ≤ c .written + 1040 * d .at
 
@@ -71,7 +71,7 @@ pub record TooLong (o : Opts) (notes out : List ℕ) (c : Cursor) (out′ : List
   pub state : Bool
   pub next : ℕ
   pub goes : FirstPiece o (c .mail) notes (c .at) kind state next
-  pub many : tooMany o kind ≡ true
+  pub many : tooMany mostWords o kind ≡ true
   pub same : out′ ≡ out
 
 -- ---- the notes
@@ -119,5 +119,5 @@ abbrev pub start : Cursor
 start = record { at = 0; written = 0; mail = true }
 
 abbrev pub Finished : Opts → List ℕ → List ℕ → List ℕ → Ended → Type 0
-Finished o notes out out′ (All n) = (longParagraph o 0 (pieces o notes) ≡ Nowhere) × Wrote out 0 (digest o notes) out′ n
-Finished o notes out out′ (Stopped place) = (longParagraph o 0 (pieces o notes) ≡ At place) × (out′ ≡ replicate (length out) 0)
+Finished o notes out out′ (All n) = (longParagraph mostWords o 0 (pieces o notes) ≡ Nowhere) × Wrote out 0 (digest o notes) out′ n
+Finished o notes out out′ (Stopped place) = (longParagraph mostWords o 0 (pieces o notes) ≡ At place) × (out′ ≡ replicate (length out) 0)
