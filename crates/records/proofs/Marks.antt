@@ -1,34 +1,19 @@
--- The marks' laws: what the marks from word i on say, and all breaks stored. A mark set in a table is read back and changes no word.
+-- The marks' laws: a mark that is set is read back, the others are as they were, and no word is changed; the first n marks one by one.
 use mathlib.Core.Path.{_≡_, refl, sym, ap, _∙_}
 use mathlib.Core.Bool.{Bool, true, false, cond}
 use mathlib.Core.Logic.{⊎-elim}
 use mathlib.Core.List.{List, [], _∷_, _++_, map}
 use Prim.Native.Nat.{ℕ, zero, suc, _+_, _-_, _*_, _/_, _%_, _≤_, _<_}
 use native.Mathlib.Nat.{eq-or-lt-of-le, le-of-suc-le-suc}
-use native.Mathlib.Numerals.{add-one}
 use native.Mathlib.Omega.{arith}
 use borrow.Author.Tests.{eqb-true, eqb-false}
 use lib.Dec.{eqb}
 use lib.ListN.{length, getD, length-set, length-append, List·getD-append}
-use lib.Seq.{sets, length-sets, slice, slice-cons, getD-at, getD-set-same, getD-set-other}
-use Rattle.lists.proofs.Stores.{sets-slice}
-use Rattle.lists.proofs.Remaining.{slice-none}
-use Rattle.records.specs.declared.Word.{Word as Record}
+use lib.Seq.{slice, getD-at, getD-set-same, getD-set-other}
+use Rattle.lists.proofs.Remaining.{slice-here, slice-none}
 use Rattle.records.specs.Word.{meaning}
-use Rattle.records.specs.Contracts.Table.{numberIn, wordNumbers, Room, Holds, wordIn, withWord, recordsOf, wordsIn}
-use Rattle.records.specs.Contracts.Marks.{Marked, markIn, withMark, withMarks, marksIn, MarkedBy, MarkedUpTo}
-use Rattle.records.proofs.Table.{number-back, number-other}
-
-pub marks-here : (marks : List Bool) (i n : ℕ) → i < n → n ≤ length marks → slice i n marks ≡ getD marks i false ∷ slice (i + 1) n marks
-marks-here marks i n h k = rw add-one (slice-cons i n marks false h k)
-
-pub marked : (n : ℕ) (marks breaks marks′ : List Bool) → 1 ≤ n → n ≤ length marks → length breaks ≡ n - 1
-    → marks′ ≡ sets marks 1 breaks → Marked n marks breaks marks′
-marked n marks breaks marks′ some few l e = record {
-  is = e;
-  says = rw e (sets-slice marks 1 n breaks (omega arith) (omega arith));
-  sized = ap length e ∙ length-sets marks 1 breaks;
-}
+use Rattle.records.specs.Contracts.Table.{numberIn, Room, Holds, wordIn, recordsOf, wordsIn}
+use Rattle.records.specs.Contracts.Marks.{markIn, withMark, withMarks, marksIn, MarkedBy, MarkedUpTo}
 
 -- ---- one mark of a table
 
@@ -39,27 +24,17 @@ bits-back : (x : ℕ) (b : Bool) → (eqb ((x % 8 + cond b 8 0) / 8 % 2) 1 ≡ b
 bits-back x true = let e : (x % 8 + 8) / 8 % 2 ≡ 1 = omega arith in (rw e, omega arith, omega arith, omega arith)
 bits-back x false = let e : (x % 8 + 0) / 8 % 2 ≡ 0 = omega arith in (rw e, omega arith, omega arith, omega arith)
 
-unmarked : (a b c : Bool) → eqb ((cond a 1 0 + cond b 2 0 + cond c 4 0) / 8 % 2) 1 ≡ false
-unmarked true true true = refl
-unmarked true true false = refl
-unmarked true false true = refl
-unmarked true false false = refl
-unmarked false true true = refl
-unmarked false true false = refl
-unmarked false false true = refl
-unmarked false false false = refl
-
 module _ (t : List ℕ) (i : ℕ) (b : Bool) where
-  pub length-mark : length (withMark t i b) ≡ length t
+  length-mark : length (withMark t i b) ≡ length t
   unfolding withMark
   length-mark = length-set t (i * 7 + 6) _
 
   -- every other number is as it was
-  pub mark-keeps : (k : ℕ) → (k ≡ i * 7 + 6 → ⊥) → getD (withMark t i b) k 0 ≡ getD t k 0
+  mark-keeps : (k : ℕ) → (k ≡ i * 7 + 6 → ⊥) → getD (withMark t i b) k 0 ≡ getD t k 0
   unfolding withMark
   mark-keeps k ne = getD-set-other t (i * 7 + 6) k _ 0 ne
 
-  pub mark-other : (j : ℕ) → (j ≡ i → ⊥) → markIn (withMark t i b) j ≡ markIn t j
+  mark-other : (j : ℕ) → (j ≡ i → ⊥) → markIn (withMark t i b) j ≡ markIn t j
   mark-other j ne = rw (mark-keeps (j * 7 + 6) (λ e. ne (omega arith)))
 
   module _ (room : Room i t) where
@@ -67,7 +42,7 @@ module _ (t : List ℕ) (i : ℕ) (b : Bool) where
     unfolding withMark
     mark-number = getD-set-same t (i * 7 + 6) _ 0 (omega arith)
 
-    pub mark-back : markIn (withMark t i b) i ≡ b
+    mark-back : markIn (withMark t i b) i ≡ b
     mark-back = rw mark-number (bits-back (numberIn t i 6) b .0)
 
     word-here : wordIn (withMark t i b) i ≡ wordIn t i
@@ -108,15 +83,6 @@ module _ (t : List ℕ) (i : ℕ) (b : Bool) where
         go true e = rw (eqb-true j i e) word-here
         go false e = word-there j (eqb-false j i e)
 
--- a word that is stored has no mark, and the others keep theirs
-module _ (t : List ℕ) (i : ℕ) (w : Record) where
-  pub stored-unmarked : Room i t → markIn (withWord t i w) i ≡ false
-  unfolding wordNumbers
-  stored-unmarked room = rw (number-back t i w room 6 (omega arith)) (unmarked (w .first) (w .punct) (w .sentence))
-
-  pub stored-other : (j : ℕ) → (j ≡ i → ⊥) → markIn (withWord t i w) j ≡ markIn t j
-  stored-other j ne = rw (number-other t i w j ne 6 (omega arith))
-
 -- ---- the marks of the first n records
 
 module _ (t : List ℕ) where
@@ -136,11 +102,11 @@ module _ (t : List ℕ) where
 
   pub marks-from : (n i : ℕ) → i < n → slice i n (marksIn n t) ≡ markIn t i ∷ slice (i + 1) n (marksIn n t)
   marks-from n i h =
-      marks-here (marksIn n t) i n h (rw marks-length (omega arith)) ∙ ap (λ (b : Bool). b ∷ slice (i + 1) n (marksIn n t)) (marks-at n i false h)
+      slice-here (marksIn n t) i n false h (rw marks-length (omega arith)) ∙ ap (λ (b : Bool). b ∷ slice (i + 1) n (marksIn n t)) (marks-at n i false h)
 
 -- ---- marks set one behind the other
 
-pub length-marks : (t : List ℕ) (i : ℕ) (bs : List Bool) → length (withMarks t i bs) ≡ length t
+length-marks : (t : List ℕ) (i : ℕ) (bs : List Bool) → length (withMarks t i bs) ≡ length t
 unfolding withMarks
 length-marks t i [] = refl
 length-marks t i (b ∷ bs) = length-marks (withMark t i b) (i + 1) bs ∙ length-mark t i b
@@ -150,13 +116,13 @@ unfolding withMarks
 marks-before t i [] j h = refl
 marks-before t i (b ∷ bs) j h = marks-before (withMark t i b) (i + 1) bs j (omega arith) ∙ mark-other t i b j (λ e. omega arith)
 
-pub marks-word : (t : List ℕ) (i : ℕ) (bs : List Bool) → Holds (i + length bs) t → (j : ℕ) → wordIn (withMarks t i bs) j ≡ wordIn t j
+marks-word : (t : List ℕ) (i : ℕ) (bs : List Bool) → Holds (i + length bs) t → (j : ℕ) → wordIn (withMarks t i bs) j ≡ wordIn t j
 unfolding withMarks
 marks-word t i [] h j = refl
 marks-word t i (b ∷ bs) h j =
     marks-word (withMark t i b) (i + 1) bs (rw length-mark (omega arith)) j ∙ mark-word t i b (omega arith) j
 
-pub marks-say : (t : List ℕ) (i n : ℕ) (bs : List Bool) → i + length bs ≡ n → Holds n t → slice i n (marksIn n (withMarks t i bs)) ≡ bs
+marks-say : (t : List ℕ) (i n : ℕ) (bs : List Bool) → i + length bs ≡ n → Holds n t → slice i n (marksIn n (withMarks t i bs)) ≡ bs
 unfolding withMarks
 marks-say t i n [] e h = slice-none (marksIn n t) i n (omega arith)
 marks-say t i n (b ∷ bs) e h =
@@ -176,7 +142,7 @@ marked-by n t breaks t′ some held l e = record {
 
 -- ---- words that are as they were
 
-pub records-same : (n : ℕ) (t t′ : List ℕ) → ((j : ℕ) → j < n → wordIn t′ j ≡ wordIn t j) → recordsOf n t′ ≡ recordsOf n t
+records-same : (n : ℕ) (t t′ : List ℕ) → ((j : ℕ) → j < n → wordIn t′ j ≡ wordIn t j) → recordsOf n t′ ≡ recordsOf n t
 unfolding recordsOf
 records-same zero t t′ e = refl
 records-same (suc n) t t′ e = rw (records-same n t t′ (λ j h. e j (omega arith)), e n (omega arith))
@@ -207,6 +173,3 @@ module _ {n : ℕ} {old new : List ℕ} {says : ℕ → Bool} (m : MarkedUpTo n 
   -- what they say may be told otherwise
   pub up-to-as : (says′ : ℕ → Bool) → ((j : ℕ) → j < n → says j ≡ says′ j) → MarkedUpTo n old new says′
   up-to-as says′ e = record { sized = m .sized; marks = λ j k. m .marks j k ∙ e j k; words = m .words; beyond = m .beyond }
-
-  pub up-to-words : (notes : List ℕ) → wordsIn notes n new ≡ wordsIn notes n old
-  up-to-words notes = words-same notes n old new (m .words)

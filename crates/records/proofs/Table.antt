@@ -48,7 +48,7 @@ module _ (t : List ℕ) (i : ℕ) (w : Record) where
   length-with = length-sets t (i * 7) (wordNumbers w)
 
   module _ (room : Room i t) where
-    pub number-back : (j : ℕ) → j < 7 → numberIn (withWord t i w) i j ≡ getD (wordNumbers w) j 0
+    number-back : (j : ℕ) → j < 7 → numberIn (withWord t i w) i j ≡ getD (wordNumbers w) j 0
     unfolding withWord wordNumbers
     number-back j h = sets-within 0 t (i * 7) (wordNumbers w) j h (omega arith)
 
@@ -71,7 +71,7 @@ module _ (t : List ℕ) (i : ℕ) (w : Record) where
         )
 
   module _ (j : ℕ) (other : j ≡ i → ⊥) where
-    pub number-other : (a : ℕ) → a < 7 → numberIn (withWord t i w) j a ≡ numberIn t j a
+    number-other : (a : ℕ) → a < 7 → numberIn (withWord t i w) j a ≡ numberIn t j a
     unfolding withWord wordNumbers
     number-other a h = sets-other 0 t (i * 7) (wordNumbers w) (j * 7 + a) (λ b g e. other (omega arith))
 
