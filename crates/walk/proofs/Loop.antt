@@ -126,16 +126,16 @@ module _ (block : List ℕ) (o : Options) (notes out₀ out : List ℕ) (c₀ : 
   pub reached-end : {n : ℕ} → r ≡ End n → Reached block o notes c₀ out₀ out (End n)
   reached-end e = rw e at s
 
--- by how far the tables reached
-module _ (w b : ℕ) (block : List ℕ) (o : Options) (notes out₀ out : List ℕ) (c₀ : Cursor) (r : Course) (s : Coursed w b block o notes c₀ out₀ out r) where
+-- by how far the room reached
+module _ (room : ℕ) (block : List ℕ) (o : Options) (notes out₀ out : List ℕ) (c₀ : Cursor) (r : Course) (s : Coursed room block o notes c₀ out₀ out r) where
   pub course-end : {n : ℕ} → r ≡ CourseEnd n → FinishedFrom (meant block o) notes c₀ out₀ out (All n)
   course-end e = rw e at s
 
-  pub course-short : {c : Cursor} {p : Paragraph} → r ≡ Short c p → Coursed w b block o notes c₀ out₀ out (Short c p)
+  pub course-short : {c : Cursor} {p : Paragraph} → r ≡ Short c p → Coursed room block o notes c₀ out₀ out (Short c p)
   course-short e = rw e at s
 
-module _ (w b : ℕ) (block : List ℕ) (o : Options) (notes out₀ out : List ℕ) (c₀ : Cursor) where
-  pub course-begun : (r : Course) → Coursed w b block o notes c₀ out₀ out r → Begun block o notes c₀ out₀ out r
+module _ (room : ℕ) (block : List ℕ) (o : Options) (notes out₀ out : List ℕ) (c₀ : Cursor) where
+  pub course-begun : (r : Course) → Coursed room block o notes c₀ out₀ out r → Begun block o notes c₀ out₀ out r
   course-begun (CourseEnd n) s = s
   course-begun (Short c p) s = (s .0, s .1)
 

@@ -20,8 +20,8 @@ use Rattle.pieces.specs.declared.Margin.{Margin}
 use Rattle.pieces.specs.declared.Paragraph.{Paragraph}
 use Rattle.records.specs.declared.Word.{Word as Record}
 use Rattle.records.specs.Word.{meaning}
-use Rattle.records.specs.Contracts.Table.{Holds, wordsIn}
-use Rattle.records.specs.Contracts.Marks.{breaksIn}
+use Rattle.records.specs.Contracts.Table.{wordsIn}
+use Rattle.records.specs.Contracts.Marks.{marksIn, breaksOf}
 use Rattle.output.specs.declared.Layout.{Layout}
 use Rattle.output.specs.Contracts.Sink.{Wrote}
 use Rattle.output.specs.Contracts.Writers.{marginOf}
@@ -103,27 +103,22 @@ pub record Turned (notes : List ℕ) (w : Record) (fresh : Bool) (added : ℕ) (
   pub few : r .at ≤ t .at + 2 ^ 34
 
 -- the words from i on
-abbrev pub sentFrom : List ℕ → List ℕ → ℕ → List Bool → Margin → Bool → Bool → ℕ → List ℕ
-sentFrom notes table n marks indent dashed punct i = restSent (marginOf notes indent) dashed punct (slice i n marks) (drop i (wordsIn notes n table))
+abbrev pub sentFrom : List ℕ → List ℕ → ℕ → Margin → Bool → Bool → ℕ → List ℕ
+sentFrom notes table n indent dashed punct i = restSent (marginOf notes indent) dashed punct (slice i n (marksIn n table)) (drop i (wordsIn notes n table))
 
-abbrev pub dashesFrom : List ℕ → List ℕ → ℕ → List Bool → Margin → Bool → ℕ → ℕ
-dashesFrom notes table n marks indent dashed i = restDashes (marginOf notes indent) dashed (slice i n marks) (drop i (wordsIn notes n table))
+abbrev pub dashesFrom : List ℕ → List ℕ → ℕ → Margin → Bool → ℕ → ℕ
+dashesFrom notes table n indent dashed i = restDashes (marginOf notes indent) dashed (slice i n (marksIn n table)) (drop i (wordsIn notes n table))
 
-pub record RestSent (notes table : List ℕ) (n : ℕ) (marks : List Bool) (indent : Margin) (out : List ℕ) (t : Turn) (out′ : List ℕ) (r : Turn) : Type 0 where
-  pub wrote : Wrote out (t .at) (sentFrom notes table n marks indent (t .dashed) false 1) out′ (r .at)
-  pub dashes : r .dashes ≡ dashesFrom notes table n marks indent (t .dashed) 1
+pub record RestSent (notes table : List ℕ) (n : ℕ) (indent : Margin) (out : List ℕ) (t : Turn) (out′ : List ℕ) (r : Turn) : Type 0 where
+  pub wrote : Wrote out (t .at) (sentFrom notes table n indent (t .dashed) false 1) out′ (r .at)
+  pub dashes : r .dashes ≡ dashesFrom notes table n indent (t .dashed) 1
   pub few : r .dashes ≤ n
 
 -- all of them
-pub record ParagraphSent (notes table : List ℕ) (n : ℕ) (marks : List Bool) (l : Layout) (out : List ℕ) (at : ℕ) (out′ : List ℕ) (r : Turn) : Type 0 where
-  pub wrote : Wrote out at (wordsSent (marginOf notes (l .first)) (marginOf notes (l .indent)) (breaksIn n marks) (wordsIn notes n table)) out′ (r .at)
-  pub dashes : r .dashes ≡ wordsDashes (marginOf notes (l .first)) (marginOf notes (l .indent)) (breaksIn n marks) (wordsIn notes n table)
+pub record ParagraphSent (notes table : List ℕ) (n : ℕ) (l : Layout) (out : List ℕ) (at : ℕ) (out′ : List ℕ) (r : Turn) : Type 0 where
+  pub wrote : Wrote out at (wordsSent (marginOf notes (l .first)) (marginOf notes (l .indent)) (breaksOf n table) (wordsIn notes n table)) out′ (r .at)
+  pub dashes : r .dashes ≡ wordsDashes (marginOf notes (l .first)) (marginOf notes (l .indent)) (breaksOf n table) (wordsIn notes n table)
   pub few : r .dashes ≤ n
-
--- tables for the most words that a paragraph may have
-pub record Tables (table : List ℕ) (marks : List Bool) : Type 0 where
-  pub words : Holds 1024 table
-  pub marked : length marks ≡ 1024
 
 -- a paragraph in places was written, or has too many words, and then the output is as it was
 pub record TextSent (notes : List ℕ) (c : Cursor) (o : Options) (p : Paragraph) (out out′ : List ℕ) (d : Cursor) (block : List ℕ) : Type 0 where

@@ -1,20 +1,17 @@
 -- What the functions of the indexed call answer for: what is spelled of the pieces, the records that are read from it, and the code's
 -- answer.
 use mathlib.Core.Path.{_≡_}
-use mathlib.Core.Bool.{Bool, true, false}
+use mathlib.Core.Bool.{true, false}
 use mathlib.Core.List.{List, [], _∷_}
 use Prim.Native.Nat.{ℕ, _+_, _-_, _*_, _^_, _≤_, _<_}
-use lib.Ieee.{Float}
 use lib.ListN.{length, take, drop, replicate, getD, set}
 use Rattle.text.specs.declared.Found.{Found}
 use Rattle.text.specs.declared.Found.the-variants.{At, Nowhere}
 use Rattle.options.specs.Opts.{Opts}
-use Rattle.options.specs.declared.Options.{Options}
 use Rattle.lines.specs.Lines.{linesOf}
 use Rattle.lines.specs.Contracts.Places.{mostLarge}
 use Rattle.pieces.specs.Pieces.{Piece, pieces}
 use Rattle.output.specs.Contracts.Sink.{Wrote}
-use Rattle.paragraphs.specs.Contracts.Steps.{Scratch}
 use Rattle.paragraphs.specs.declared.Cursor.{Cursor}
 use Rattle.paragraphs.specs.declared.Step.{Step}
 use Rattle.paragraphs.specs.declared.Step.the-variants.{On, Over}
@@ -37,12 +34,6 @@ use Rattle.indexer.specs.declared.Pieces.{Pieces}
 use Rattle.indexer.specs.declared.Pieces.the-variants.{All, Stopped}
 
 -- ---- a piece: written, or a paragraph of too many words, and then the output is as it was
-
--- working storage for the most words that a paragraph may have; quick does without breaks
-pub record Ample (o : Options) (table breaks : List ℕ) (ratios : List Float) (active : List ℕ) (marks : List Bool) : Type 0 where
-  pub tables : Scratch table breaks ratios active marks
-  pub words : length marks ≡ 1024
-  pub offers : o .quick ≡ false → length ratios ≡ 1024
 
 abbrev pub PieceStepped : Opts → List ℕ → List ℕ → Cursor → List ℕ → Step → Type 0
 PieceStepped o notes out c out′ (On d) = Put o notes out c d out′

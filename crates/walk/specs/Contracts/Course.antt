@@ -1,6 +1,6 @@
 -- What the functions of the walk answer for: the pieces from a place of the notes on, and what has become of them and of the output.
 use mathlib.Core.Path.{_≡_}
-use mathlib.Core.Bool.{Bool, true, false, cond, _||_}
+use mathlib.Core.Bool.{Bool, true, false}
 use mathlib.Core.List.{List, _∷_}
 use Prim.Native.Nat.{ℕ, _+_, _*_, _≤_, _<_}
 use lib.ListN.{length, drop, replicate}
@@ -98,11 +98,11 @@ abbrev pub FinishedFrom : Opts → List ℕ → Cursor → List ℕ → List ℕ
 FinishedFrom o notes c out out′ (All n) = (longFrom o (c .mail) notes (c .at) ≡ Nowhere) × Wrote out (c .written) (outputFrom o (c .mail) notes (c .at)) out′ n
 FinishedFrom o notes c out out′ (Stopped place) = (longFrom o (c .mail) notes (c .at) ≡ At place) × (length out′ ≡ length out)
 
--- so far as the tables reach, which have room for so many words and breaks: to the end, or to a paragraph of more words
-abbrev pub Coursed : ℕ → ℕ → List ℕ → Options → List ℕ → Cursor → List ℕ → List ℕ → Course → Type 0
-Coursed w b block o notes c₀ out₀ out (CourseEnd n) = FinishedFrom (meant block o) notes c₀ out₀ out (All n)
-Coursed w b block o notes c₀ out₀ out (Short c p) =
-    Going (meant block o) notes c₀ out₀ c out × TextAhead block o notes c p × (cond (o .quick || p .mail) w b < length (wordsFor block notes (c .at) o p))
+-- so far as the room reaches, which is for so many words: to the end, or to a paragraph of more words
+abbrev pub Coursed : ℕ → List ℕ → Options → List ℕ → Cursor → List ℕ → List ℕ → Course → Type 0
+Coursed room block o notes c₀ out₀ out (CourseEnd n) = FinishedFrom (meant block o) notes c₀ out₀ out (All n)
+Coursed room block o notes c₀ out₀ out (Short c p) =
+    Going (meant block o) notes c₀ out₀ c out × TextAhead block o notes c p × (room < length (wordsFor block notes (c .at) o p))
 
 -- the same, whatever the paragraph before which the work stopped
 abbrev pub Begun : List ℕ → Options → List ℕ → Cursor → List ℕ → List ℕ → Course → Type 0
