@@ -66,7 +66,7 @@ module _ (g : Setting) (turn : Turn) (n : ℕ) (b : Record) (best : Best) where
       → OfferedIs g turn n b best best
   offers-none e = record { is = λ notes t. rw (e notes (pathTo t n)) (sym (lesser-none (offerIn g (turn .number) t best))); fits = λ size h f. f }
 
-  offers-some : (d r : ℕ) → turn .number < mostWords → d ≤ suc (turn .number) * mostCost → T (within 1 (ratioOf r))
+  offers-some : (d : ℕ) (r : Float) → turn .number < mostWords → d ≤ suc (turn .number) * mostCost → T (within 1 r)
       → ((notes : List ℕ) (t : Tables)
       → offerOf g (turn .last) (turn .number) (turn .space) (meaning notes (turn .word)) (seen (pathTo t n) b) ≡ offerIn g (turn .number) t (bestFrom n d r))
       → OfferedIs g turn n b best (better best n d r)
@@ -87,13 +87,14 @@ module _ (g : Setting) (turn : Turn) (n : ℕ) (b : Record) (best : Best) where
       offered-last-none l h =
           offers-none (λ notes path. rw (offerOf, line-is g turn b notes path, ← o .is, le-leb x (g .width) (o .fits), le-leb (minimumOf g) x long, l, lt-leb (b .demerits) 0 h))
 
-      pub offered-last : (r : ℕ) → ratioOf r ≡ noRatio → turn .last ≡ true → b .demerits ≤ 0 → OfferedIs g turn n b best (better best n 0 r)
+      pub offered-last : (r : Float) → r ≡ noRatio → turn .last ≡ true → b .demerits ≤ 0 → OfferedIs g turn n b best (better best n 0 r)
       unfolding offerOf offerIn seen
       offered-last r z l h =
-          offers-some 0 r (o .turns .few) (omega arith) (rw z tt)
-          (λ notes t. rw (offerOf, line-is g turn b notes (pathTo t n), ← o .is, le-leb x (g .width) (o .fits), le-leb (minimumOf g) x long, l, le-leb (b .demerits) 0 h, z))
+          rw z
+          (offers-some 0 noRatio (o .turns .few) (omega arith) tt
+          (λ notes t. rw (offerOf, line-is g turn b notes (pathTo t n), ← o .is, le-leb x (g .width) (o .fits), le-leb (minimumOf g) x long, l, le-leb (b .demerits) 0 h)))
 
-      full-offer : (d r : ℕ) → turn .last ≡ false → ratioOf r ≡ ratio (g .goal) x (stretchOf g)
+      full-offer : (d : ℕ) (r : Float) → turn .last ≡ false → r ≡ ratio (g .goal) x (stretchOf g)
           → d ≡ cost (ratio (g .goal) x (stretchOf g)) (ratioOf (b .ratio)) (stretchOf g) (turn .word .width) → d + b .demerits < nothing
           → (notes : List ℕ) (t : Tables) → offerOf g (turn .last) (turn .number) (turn .space) (meaning notes (turn .word)) (seen (pathTo t n) b) ≡ offerIn g (turn .number) t (bestFrom n (d + b .demerits) r)
       unfolding offerOf seen meaning
@@ -101,8 +102,8 @@ module _ (g : Setting) (turn : Turn) (n : ℕ) (b : Record) (best : Best) where
           rw (offerOf, line-is g turn b notes (pathTo t n), ← o .is, le-leb x (g .width) (o .fits), le-leb (minimumOf g) x long, l, line-is g turn b notes (pathTo t n), ← o .is, ← f, ← e)
           (sym (offer-some g (turn .number) t (bestFrom n (d + b .demerits) r) few))
 
-      pub offered-full : (d r : ℕ) → turn .last ≡ false → ratioOf r ≡ ratio (g .goal) x (stretchOf g)
-          → d ≡ cost (ratio (g .goal) x (stretchOf g)) (ratioOf (b .ratio)) (stretchOf g) (turn .word .width) → d ≤ mostCost → T (within 1 (ratioOf r))
+      pub offered-full : (d : ℕ) (r : Float) → turn .last ≡ false → r ≡ ratio (g .goal) x (stretchOf g)
+          → d ≡ cost (ratio (g .goal) x (stretchOf g)) (ratioOf (b .ratio)) (stretchOf g) (turn .word .width) → d ≤ mostCost → T (within 1 r)
           → OfferedIs g turn n b best (better best n (d + b .demerits) r)
       offered-full d r l e f k w =
           let s = o .sound .demerits in
@@ -110,11 +111,11 @@ module _ (g : Setting) (turn : Turn) (n : ℕ) (b : Record) (best : Best) where
           offers-some (d + b .demerits) r h (omega arith) w (full-offer d r l e f (omega arith))
 
       -- the best offer so far is no more than the floor, so it stays
-      pub offered-beaten : (f r : ℕ) → turn .last ≡ false → ratioOf r ≡ ratio (g .goal) x (stretchOf g) → T (within 1 (ratioOf r)) → Floor (turn .weight) f
+      pub offered-beaten : (f : ℕ) (r : Float) → turn .last ≡ false → r ≡ ratio (g .goal) x (stretchOf g) → T (within 1 r) → Floor (turn .weight) f
           → best .total ≤ f + b .demerits → OfferedIs g turn n b best best
       offered-beaten f r l e w floor h =
-          let d = costWith (ratioOf r) (ratioOf (b .ratio)) (turn .weight) in
-          let k = floor-least (ratioOf r) (ratioOf (b .ratio)) (turn .weight) f floor in
-          let small : d ≤ mostCost = square-le-most (lineTerm (ratioOf r)) (turn .weight) (ratioTerm (ratioOf r) (ratioOf (b .ratio))) (line-le (ratioOf r) w) (o .turns .light) (ratio-le (ratioOf r) (ratioOf (b .ratio)) w (o .sound .ratio)) in
-          let is : d ≡ cost (ratio (g .goal) x (stretchOf g)) (ratioOf (b .ratio)) (stretchOf g) (turn .word .width) = rw (← e) (cost-with (ratioOf r) (ratioOf (b .ratio)) (stretchOf g) (turn .word .width) (turn .weight) (o .turns .weight)) in
+          let d = costWith r (ratioOf (b .ratio)) (turn .weight) in
+          let k = floor-least r (ratioOf (b .ratio)) (turn .weight) f floor in
+          let small : d ≤ mostCost = square-le-most (lineTerm r) (turn .weight) (ratioTerm r (ratioOf (b .ratio))) (line-le r w) (o .turns .light) (ratio-le r (ratioOf (b .ratio)) w (o .sound .ratio)) in
+          let is : d ≡ cost (ratio (g .goal) x (stretchOf g)) (ratioOf (b .ratio)) (stretchOf g) (turn .word .width) = rw (← e) (cost-with r (ratioOf (b .ratio)) (stretchOf g) (turn .word .width) (turn .weight) (o .turns .weight)) in
           subst (λ (z : Best). OfferedIs g turn n b best z) (better-stays best n (d + b .demerits) r (omega (arith, k, h))) (offered-full d r l e is small w)

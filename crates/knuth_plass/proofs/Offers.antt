@@ -6,17 +6,18 @@ use Prim.Native.Nat.{ℕ, suc, _*_, _≤_, _<_}
 use native.Mathlib.Omega.{arith}
 use borrow.Author.Tests.{le-leb, lt-leb, leb-true, leb-false, lt-ltb, le-ltb, ltb-true, ltb-false}
 use lib.Dec.{T, leb, ltb}
+use lib.Ieee.{Float}
 use Rattle.spacing.specs.declared.Setting.{Setting}
 use Rattle.demerits.specs.Contracts.Bounds.{within, mostCost}
 use Rattle.knuth_plass.specs.declared.Best.{Best}
 use Rattle.knuth_plass.specs.KnuthPlass.{Break, Offer, none, offer, after, lesser}
-use Rattle.knuth_plass.specs.Contracts.Table.{ratioOf, Tables, pathTo}
+use Rattle.knuth_plass.specs.Contracts.Table.{Tables, pathTo}
 use Rattle.knuth_plass.specs.Contracts.Round.{nothing, bestFrom, better, offerIn, BestFits}
 
 -- ---- as the code chooses
 
 -- a choice for each number is a choice between the two
-pub better-is : (b : Best) (p d r e q u : ℕ) → e ≡ cond (leb (b .total) d) (b .total) d → q ≡ cond (leb (b .total) d) (b .previous) p
+pub better-is : (b : Best) (p d : ℕ) (r : Float) (e q : ℕ) (u : Float) → e ≡ cond (leb (b .total) d) (b .total) d → q ≡ cond (leb (b .total) d) (b .previous) p
     → u ≡ cond (leb (b .total) d) (b .ratio) r → bestFrom q e u ≡ better b p d r
 unfolding better
 better-is b p d r e q u f g h = rw (f, g, h) (by (leb (b .total) d)) where
@@ -25,7 +26,7 @@ better-is b p d r e q u f g h = rw (f, g, h) (by (leb (b .total) d)) where
   by false = refl
 
 -- one that is no less than the best so far is not taken
-pub better-stays : (b : Best) (p d r : ℕ) → b .total ≤ d → better b p d r ≡ b
+pub better-stays : (b : Best) (p d : ℕ) (r : Float) → b .total ≤ d → better b p d r ≡ b
 unfolding better
 better-stays b p d r h = rw (le-leb (b .total) d h)
 
@@ -34,7 +35,7 @@ better-stays b p d r h = rw (le-leb (b .total) d h)
 module _ (g : Setting) (i : ℕ) (t : Tables) where
   -- the break that an offer would be
   abbrev one : Best → Break
-  one b = record { places = after i ∷ pathTo t (b .previous); demerits = b .total; ratio = ratioOf (b .ratio); columns = g .indent; fresh = true }
+  one b = record { places = after i ∷ pathTo t (b .previous); demerits = b .total; ratio = b .ratio; columns = g .indent; fresh = true }
 
   pub offer-some : (b : Best) → b .total < nothing → offerIn g i t b ≡ offer (one b)
   unfolding offerIn
@@ -44,7 +45,7 @@ module _ (g : Setting) (i : ℕ) (t : Tables) where
   unfolding offerIn
   offer-none b h = rw (le-ltb (b .total) nothing h)
 
-  pub offer-better : (b : Best) (p d r : ℕ) → d < nothing → offerIn g i t (better b p d r) ≡ lesser (offerIn g i t b) (offerIn g i t (bestFrom p d r))
+  pub offer-better : (b : Best) (p d : ℕ) (r : Float) → d < nothing → offerIn g i t (better b p d r) ≡ lesser (offerIn g i t b) (offerIn g i t (bestFrom p d r))
   unfolding better lesser
   offer-better b p d r few = by (leb (b .total) d) (ltb (b .total) nothing) refl refl where
     by : (x y : Bool) → leb (b .total) d ≡ x → ltb (b .total) nothing ≡ y → offerIn g i t (cond x b (bestFrom p d r)) ≡ lesser (offerIn g i t b) (offerIn g i t (bestFrom p d r))
@@ -53,7 +54,7 @@ module _ (g : Setting) (i : ℕ) (t : Tables) where
     by true false e f = let h = leb-true (b .total) d e in let k = ltb-false (b .total) nothing f in absurd (omega arith)
     by false false e f = rw (offer-none b (ltb-false (b .total) nothing f), lesser)
 
-pub fits-better : (i size : ℕ) (b : Best) (p d r : ℕ) → (b .total < nothing → BestFits i size b) → p < size → d ≤ suc i * mostCost → T (within 1 (ratioOf r))
+pub fits-better : (i size : ℕ) (b : Best) (p d : ℕ) (r : Float) → (b .total < nothing → BestFits i size b) → p < size → d ≤ suc i * mostCost → T (within 1 r)
     → better b p d r .total < nothing → BestFits i size (better b p d r)
 unfolding better
 fits-better i size b p d r f h k w = by (leb (b .total) d) where

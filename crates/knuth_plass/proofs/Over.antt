@@ -5,6 +5,7 @@ use mathlib.Core.List.{List, _∷_, map, append-nil}
 use Prim.Native.Nat.{ℕ, _≤_, _<_}
 use native.Mathlib.Omega.{arith}
 use lib.Dec.{ltb}
+use lib.Ieee.{Float}
 use lib.ListN.{length, getD, take}
 use lib.Seq.{slice}
 use Rattle.lists.proofs.Remaining.{slice-here, slice-none}
@@ -29,7 +30,7 @@ least-again b bs = ap (λ (c : Break). leastFrom c bs) (by (ltb (b .demerits) (b
   by false = refl
 
 -- the round so far where none is done, the first break having the demerits d
-abbrev begun : ℕ → ℕ → ℕ → State
+abbrev begun : ℕ → ℕ → Float → State
 begun n d r = record { kept = 0; from = n; least = d; best = record { total = nothing; previous = 0; ratio = r } }
 
 abbrev pub answer : Setting → Turn → List Break → List ℕ → Outcome
@@ -53,7 +54,7 @@ module _ (g : Setting) (turn : Turn) (st : Standing) (t : Tables) (a : List ℕ)
   pub first-room : n < length t
   first-room = let w = first-within in let f = holds in let h = ready .few in omega arith
 
-  module _ (r : ℕ) (b : Record) (is : b ≡ lessened (st .reduction) (breakIn t (n))) where
+  module _ (r : Float) (b : Record) (is : b ≡ lessened (st .reduction) (breakIn t (n))) where
     pub fit-first : Fit turn st 0 t a (begun (n) (b .demerits) r)
     fit-first = record {
       filled = ready .filled;

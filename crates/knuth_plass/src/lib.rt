@@ -179,11 +179,11 @@ pub struct Turn {
 // A total that no offer reaches.
 const NOTHING: u64 = 0x4000_0000_0000_0000;
 
-// The best offer so far: its total, or NOTHING; the break it goes on from, and its ratio as bits.
+// The best offer so far: its total, or NOTHING; the break it goes on from, and its ratio.
 pub struct Best {
     pub total: u64,
     pub previous: usize,
-    pub ratio: u32,
+    pub ratio: f32,
 }
 
 // A round so far: how many breaks stay, the number and the demerits of the first least break, and the best offer.
@@ -274,7 +274,7 @@ fn either_total(first: bool, a: u64, b: u64) -> u64
     b
 }
 
-fn either_ratio(first: bool, a: u32, b: u32) -> u32
+fn either_ratio(first: bool, a: f32, b: f32) -> f32
     ensures { λ r. ⌜ r ≡ cond first a b ⌝ }
 {
     if first {
@@ -284,7 +284,7 @@ fn either_ratio(first: bool, a: u32, b: u32) -> u32
 }
 
 // The lesser of the best offer so far and another, the first where they are equal.
-fn better(best: Best, previous: usize, total: u64, ratio: u32) -> Best
+fn better(best: Best, previous: usize, total: u64, ratio: f32) -> Best
     ensures { λ r. ⌜ r ≡ R.better best previous total ratio ⌝ }
 {
     let stays = best.total <= total;
@@ -349,17 +349,16 @@ fn offered(g: Setting, turn: Turn, n: usize, b: Break, t: usize, best: Best) -> 
         if 0 < b.demerits {
             return best;
         }
-        return better(best, n, 0, 0);
+        return better(best, n, 0, 0.0);
     }
     let stretch = g.width - g.goal;
     let ratio = demerits::ratio(g.goal, t, stretch);
-    let bits = bits_of(ratio);
     // Most offers are beaten before their cost is worked out.
     if best.total <= floor(stretch, turn.weight) + b.demerits {
         return best;
     }
     let cost = demerits::cost(ratio, ratio_of(b.ratio), turn.weight);
-    better(best, n, cost + b.demerits, bits)
+    better(best, n, cost + b.demerits, ratio)
 }
 
 // Break n, which is b, stays active with the word on its line of t columns.
@@ -412,7 +411,7 @@ fn advance(g: Setting, turn: Turn, st: Standing, breaks: &mut [u32]) -> State
     let best = Best {
         total: NOTHING,
         previous: 0,
-        ratio: 0,
+        ratio: 0.0,
     };
     let mut s = State {
         kept: 0,
@@ -488,7 +487,7 @@ fn settle(g: Setting, turn: Turn, st: Standing, breaks: &mut [u32], s: State) ->
             word: turn.number,
             before: false,
             demerits: best.total,
-            ratio: best.ratio,
+            ratio: bits_of(best.ratio),
             columns: g.indent,
             fresh: true,
         };
@@ -816,7 +815,7 @@ fn advance_again(g: Setting, turn: Turn, st: Standing, breaks: &mut [u32]) -> St
     let best = Best {
         total: NOTHING,
         previous: 0,
-        ratio: 0,
+        ratio: 0.0,
     };
     let mut s = State {
         kept: 0,

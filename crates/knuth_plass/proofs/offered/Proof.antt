@@ -27,9 +27,6 @@ sub-stretch c = search needs
 ratio-requires : tie.Need-ratio-requires
 ratio-requires c κs = search needs
 
-bits-of-requires : tie.Need-bits-of-requires
-bits-of-requires c κs = c .ratio .ensures .1
-
 floor-requires : tie.Need-floor-requires
 floor-requires c κs = search needs
 
@@ -38,17 +35,16 @@ add-if3 c = search needs
 
 returns-3 : tie.Need-returns-3
 returns-3 c =
-    let a = c .before .before .before .before .before .before .before .before .args in
-    let p = c .before .before .before .before .before .before .before .before .pre in
-    let r = c .before .before .before .before .before .ratio .ensures in
-    let q = c .before .before .before .before .bits-of .ensures in
-    offered-beaten (a .g) (a .turn) (a .n) (a .b) (a .best) (a .t) (p .0) (p .1) _ _ (c .before .before .before .before .before .before .before .if1 .left) (q ∙ r .0) (rw q (r .1)) (c .before .before .before .floor .ensures) (c .if3 .taken)
+    let a = c .before .before .before .before .before .before .before .args in
+    let p = c .before .before .before .before .before .before .before .pre in
+    let r = c .before .before .before .before .ratio .ensures in
+    offered-beaten (a .g) (a .turn) (a .n) (a .b) (a .best) (a .t) (p .0) (p .1) _ _ (c .before .before .before .before .before .before .if1 .left) (r .0) (r .1) (c .before .before .before .floor .ensures) (c .if3 .taken)
 
 ratio-of-requires : tie.Need-ratio-of-requires
-ratio-of-requires c κs = c .before .before .before .before .before .before .before .before .pre .0 .sound .ratio
+ratio-of-requires c κs = c .before .before .before .before .before .before .before .pre .0 .sound .ratio
 
 cost-requires : tie.Need-cost-requires
-cost-requires c κs = let p = c .before .before .before .before .before .before .before .before .before .pre .0 in (c .before .before .before .before .before .before .ratio .ensures .1, rw (c .ratio-of .ensures) (p .sound .ratio), p .turns .light)
+cost-requires c κs = let p = c .before .before .before .before .before .before .before .before .pre .0 in (c .before .before .before .before .before .ratio .ensures .1, rw (c .ratio-of .ensures) (p .sound .ratio), p .turns .light)
 
 add-better : tie.Need-add-better
 add-better c = search needs
@@ -58,14 +54,13 @@ better-requires-2 c κs = search needs
 
 returns-4 : tie.Need-returns-4
 returns-4 c =
-    let a = c .before .before .before .before .before .before .before .before .before .before .before .before .args in
-    let p = c .before .before .before .before .before .before .before .before .before .before .before .before .pre in
-    let r = c .before .before .before .before .before .before .before .before .before .ratio .ensures in
-    let q = c .before .before .before .before .before .before .before .before .bits-of .ensures in
+    let a = c .before .before .before .before .before .before .before .before .before .before .before .args in
+    let p = c .before .before .before .before .before .before .before .before .before .before .before .pre in
+    let r = c .before .before .before .before .before .before .before .before .ratio .ensures in
     let o = c .before .before .cost .ensures in
     let cost-is = o .0 ∙ ap₂ (λ (y z : Float). costWith y z (a .turn .weight)) (r .0) (c .before .before .before .ratio-of .ensures) ∙ cost-with _ _ _ _ _ (p .0 .turns .weight) in
     rw (c .better2 .ensures)
-    (offered-full (a .g) (a .turn) (a .n) (a .b) (a .best) (a .t) (p .0) (p .1) _ _ (c .before .before .before .before .before .before .before .before .before .before .before .if1 .left) (q ∙ r .0) cost-is (o .1) (rw q (r .1)))
+    (offered-full (a .g) (a .turn) (a .n) (a .b) (a .best) (a .t) (p .0) (p .1) _ _ (c .before .before .before .before .before .before .before .before .before .before .if1 .left) (r .0) cost-is (o .1) (r .1))
 
 pub offered-spec : {M : Type 1} → statement M
 offered-spec =
@@ -76,7 +71,6 @@ offered-spec =
     returns-2
     sub-stretch
     ratio-requires
-    bits-of-requires
     floor-requires
     add-if3
     returns-3

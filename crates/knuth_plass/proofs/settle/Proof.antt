@@ -8,20 +8,23 @@ use borrow.Author.Needs.{needs}
 use Rattle.knuth_plass.proofs.settle.Statement.{statement}
 use Rattle.knuth_plass.proofs.settle.Tie as tie
 
-append-requires : tie.Need-append-requires
-append-requires c κs = let p = c .before .before .before .before .before .pre in let r = append-room (c .before .before .before .before .before .args .g) _ _ _ _ _ (p .1) (p .2) in (r .0, r .1, r .2, offer-fits (c .before .before .before .before .before .args .g) _ _ _ _ _ (p .1) (p .2) (p .0) (c .before .if1 .taken) (tableIn (c .before .before .before .before .before .args .breaks .now)) (activeIn (c .before .before .before .before .before .args .breaks .now)))
+bits-of-requires : tie.Need-bits-of-requires
+bits-of-requires c κs = c .before .before .before .before .pre .2 .best (c .if1 .taken) .ratio
 
-add-t15 : tie.Need-add-t15
-add-t15 c = search needs
+append-requires : tie.Need-append-requires
+append-requires c κs = let p = c .before .before .before .before .before .before .pre in let r = append-room (c .before .before .before .before .before .before .args .g) _ _ _ _ _ (p .1) (p .2) in (r .0, r .1, r .2, offer-fits (c .before .before .before .before .before .before .args .g) _ _ _ _ _ (p .1) (p .2) (p .0) (c .before .before .if1 .taken) _ (c .before .bits-of .ensures) (tableIn (c .before .before .before .before .before .before .args .breaks .now)) (activeIn (c .before .before .before .before .before .before .args .breaks .now)))
 
 add-t16 : tie.Need-add-t16
 add-t16 c = search needs
+
+add-t17 : tie.Need-add-t17
+add-t17 c = search needs
 
 same-length : tie.Need-same-length
 same-length c = search needs
 
 returns : tie.Need-returns
-returns c = settles-offer (c .before .before .before .before .before .before .before .before .args .g) _ _ _ _ _ (c .before .before .before .before .before .before .before .before .pre .1) (c .before .before .before .before .before .before .before .before .pre .2) (c .before .before .before .before .before .before .before .before .pre .0) (c .before .before .before .before .if1 .taken) _ _ (c .before .before .append .ensures .0) (c .before .before .append .ensures .1)
+returns c = settles-offer (c .before .before .before .before .before .before .before .before .before .args .g) _ _ _ _ _ (c .before .before .before .before .before .before .before .before .before .pre .1) (c .before .before .before .before .before .before .before .before .before .pre .2) (c .before .before .before .before .before .before .before .before .before .pre .0) (c .before .before .before .before .before .if1 .taken) _ (c .before .before .before .before .bits-of .ensures) _ _ (c .before .before .append .ensures .0) (c .before .before .append .ensures .1)
 
 returns-2 : tie.Need-returns-2
 returns-2 c = settles-none (c .before .before .before .before .before .args .g) _ _ _ _ _ (c .before .before .before .before .before .pre .1) (c .before .before .before .before .before .pre .2) (c .before .if1 .left) (c .if2 .taken)
@@ -40,8 +43,8 @@ restarted-requires c κs =
 append-requires-2 : tie.Need-append-requires-2
 append-requires-2 c κs = let p = c .before .before .before .before .before .before .before .before .before .before .pre in let r = append-room (c .before .before .before .before .before .before .before .before .before .before .args .g) _ _ _ _ _ (p .1) (p .2) in let m = r .1 in (r .0, omega arith, r .2, restart-fits (c .before .before .before .before .before .before .before .before .before .before .args .g) _ _ _ _ _ (p .1) (p .2) _ _ (c .restarted .ensures))
 
-add-t23 : tie.Need-add-t23
-add-t23 c = let f = c .before .before .before .before .before .before .before .before .before .before .before .before .before .pre .1 .few in let h = c .before .before .before .before .before .before .before .before .before .before .before .before .before .pre .2 .few in omega arith
+add-t24 : tie.Need-add-t24
+add-t24 c = let f = c .before .before .before .before .before .before .before .before .before .before .before .before .before .pre .1 .few in let h = c .before .before .before .before .before .before .before .before .before .before .before .before .before .pre .2 .few in omega arith
 
 same-length-2 : tie.Need-same-length-2
 same-length-2 c = search needs
@@ -56,9 +59,10 @@ pub settle-spec : {M : Type 1} → statement M
 settle-spec =
     tie.close
     (tie.spec
+    bits-of-requires
     append-requires
-    add-t15
     add-t16
+    add-t17
     same-length
     returns
     returns-2
@@ -66,6 +70,6 @@ settle-spec =
     lessened-requires
     restarted-requires
     append-requires-2
-    add-t23
+    add-t24
     same-length-2
     returns-3)

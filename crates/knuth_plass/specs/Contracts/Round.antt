@@ -4,6 +4,7 @@ use mathlib.Core.List.{List, [], _∷_, _++_, map}
 use mathlib.Core.Path.{_≡_}
 use Prim.Native.Nat.{ℕ, suc, _+_, _-_, _*_, _^_, _≤_, _<_}
 use lib.Dec.{T, leb, ltb}
+use lib.Ieee.{Float}
 use lib.ListN.{length, getD, take, drop}
 use lib.Seq.{slice}
 use Rattle.records.specs.Word.{Word, meaning}
@@ -20,7 +21,7 @@ use Rattle.knuth_plass.specs.declared.Turn.{Turn}
 use Rattle.knuth_plass.specs.declared.State.{State}
 use Rattle.knuth_plass.specs.declared.Standing.{Standing}
 use Rattle.knuth_plass.specs.KnuthPlass.{stretchOf, Place, Break, Active, Offer, none, offer, after, reduced, staying, lesser, offerOf, bestOffer, leastFrom, least, restart, settled, withOffer, round, firstBreak, roundsFrom, pathOf, startsLine, bestBreaks}
-use Rattle.knuth_plass.specs.Contracts.Table.{mostWords, ratioOf, Tables, Sized, breakIn, placeOf, pathTo, seen, breakMeant, Sound, Filled, Ascends}
+use Rattle.knuth_plass.specs.Contracts.Table.{mostWords, Tables, Sized, breakIn, placeOf, pathTo, seen, breakMeant, Sound, Filled, Ascends}
 
 -- ---- what can be asked of a caller
 
@@ -90,23 +91,23 @@ pub record Keeps (n x k : ℕ) (numbers : List ℕ) : Type 0 where
 abbrev pub nothing : ℕ
 nothing = 2 ^ 62
 
-abbrev pub bestFrom : ℕ → ℕ → ℕ → Best
+abbrev pub bestFrom : ℕ → ℕ → Float → Best
 bestFrom p d r = record { total = d; previous = p; ratio = r }
 
-unfoldable pub better : Best → ℕ → ℕ → ℕ → Best
+unfoldable pub better : Best → ℕ → ℕ → Float → Best
 better b p d r = cond (leb (b .total) d) b (bestFrom p d r)
 
 -- the offer that it means, behind word i
 unfoldable pub offerIn : Setting → ℕ → Tables → Best → Offer
 offerIn g i t b =
     cond (ltb (b .total) nothing)
-    (offer (record { places = after i ∷ pathTo t (b .previous); demerits = b .total; ratio = ratioOf (b .ratio); columns = g .indent; fresh = true }))
+    (offer (record { places = after i ∷ pathTo t (b .previous); demerits = b .total; ratio = b .ratio; columns = g .indent; fresh = true }))
     none
 
 pub record BestFits (i size : ℕ) (b : Best) : Type 0 where
   pub previous : b .previous < size
   pub total : b .total ≤ suc i * mostCost
-  pub ratio : T (within 1 (ratioOf (b .ratio)))
+  pub ratio : T (within 1 (b .ratio))
 
 -- no break after a word of weight w costs less than f
 pub record Floor (w f : ℕ) : Type 0 where
