@@ -163,6 +163,22 @@ uint64_t rudignals_explain(const uint8_t *options, size_t options_len, const uin
 
 uint64_t rudignals_panel(const uint8_t *digest, size_t digest_len, uint64_t tab, uint32_t cells[RUDIGNALS_PANEL_CELLS]);
 
+/* A text folded into rows of at most so many columns, so that all of it can be shown: a line feed is put before each character that would end
+ * past the columns, unless its row has no character yet. Characters are read as by the panel: a tab goes to the next stop, in a new row to the
+ * first, a wide character takes 2 columns, one of width 0 none, every other 1, a control character and a byte that begins no well-formed
+ * character too. One of width 0 stays on its row, and begins none but a line's first. Lines end at line feeds; a carriage return just before
+ * a line feed belongs to the line end and takes no column. Line ends stay as they are, and a missing last line feed stays missing.
+ *
+ * Answers 0 and N, the bytes written; the rest of output is unchanged. Refusals, the first that applies: RUDIGNALS_OPTIONS, a tab width over
+ * 100, no columns or over RUDIGNALS_MOST_COLUMNS, N is 0 and output unchanged; RUDIGNALS_LONG, a text of over RUDIGNALS_MOST_TEXT bytes,
+ * likewise; RUDIGNALS_ROOM, N is the length needed and output all zero. A tab width of 0 acts as 1. Every text, of whatever bytes, has an
+ * answer, in time that grows with its length. With two bytes of room for each byte of the text RUDIGNALS_ROOM is never given (a theorem,
+ * `folded-most` in crates/fold/proofs/Theorems.antt). */
+#define RUDIGNALS_MOST_COLUMNS 1000u
+#define RUDIGNALS_MOST_TEXT 1073741824u
+
+uint64_t rudignals_fold(const uint8_t *text, size_t text_len, uint64_t tab, uint64_t columns, uint8_t *output, size_t output_len);
+
 /* An answer's two halves. */
 static inline uint32_t rudignals_code_of(uint64_t answer) { return (uint32_t)(answer >> 32); }
 static inline uint32_t rudignals_number_of(uint64_t answer) { return (uint32_t)(answer & 0xFFFFFFFFu); }

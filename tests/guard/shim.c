@@ -92,6 +92,8 @@ CALL(mend, (const uint8_t *notes, size_t notes_len, uint8_t *copy, size_t copy_l
 CALL(restore, (const uint8_t *copy, size_t copy_len, const uint32_t *places, size_t places_len, const uint8_t *bytes, size_t bytes_len, uint8_t *notes, size_t notes_len),
      (IN(copy, copy_len), copy_len, IN(places, places_len), places_len, IN(bytes, bytes_len), bytes_len, OUT(notes, notes_len), notes_len))
 CALL(panel, (const uint8_t *digest, size_t digest_len, uint64_t tab, uint32_t cells[1920]), (IN(digest, digest_len), digest_len, tab, OUT(cells, 1920)))
+CALL(fold, (const uint8_t *text, size_t text_len, uint64_t tab, uint64_t columns, uint8_t *output, size_t output_len),
+     (IN(text, text_len), text_len, tab, columns, OUTPUT))
 CALL(unflow, (const uint8_t *text, size_t text_len, uint8_t *output, size_t output_len), (IN(text, text_len), text_len, OUTPUT))
 CALL(explain, (ASKED, uint64_t line, uint64_t reason[6]), (LENT, line, OUT(reason, 6)))
 CALL(flow, (ASKED, uint8_t *output, size_t output_len, uint64_t *dashes), (LENT, OUTPUT, OUT(dashes, 1)))

@@ -103,6 +103,28 @@ static void codes(void) {
     CHECK(rudignals_code_of(told(5, 6)) == 5 && rudignals_number_of(told(5, 6)) == 6);
 }
 
+/* ---- folding: null parts, its codes, and the output afterwards */
+
+static void folding(void) {
+    static const uint8_t text[] = {'a', 'b', 'c'};
+    uint8_t output[6];
+    memset(output, MARK, sizeof output);
+    CHECK(rudignals_fold(NULL, 0, 8, 80, NULL, 0) == told(RUDIGNALS_DONE, 0));
+    CHECK(rudignals_fold(NULL, 0, 8, 80, output, sizeof output) == told(RUDIGNALS_DONE, 0));
+    CHECK(rudignals_fold(text, sizeof text, 8, 2, NULL, 0) == told(RUDIGNALS_ROOM, 4));
+    CHECK(rudignals_fold(text, sizeof text, 101, 2, output, sizeof output) == told(RUDIGNALS_OPTIONS, 0));
+    CHECK(rudignals_fold(text, sizeof text, 8, 0, output, sizeof output) == told(RUDIGNALS_OPTIONS, 0));
+    CHECK(rudignals_fold(text, sizeof text, 8, RUDIGNALS_MOST_COLUMNS + 1, output, sizeof output) == told(RUDIGNALS_OPTIONS, 0));
+    CHECK(all_are(output, sizeof output, MARK));
+    CHECK(rudignals_fold(text, sizeof text, 100, RUDIGNALS_MOST_COLUMNS, output, 3) == told(RUDIGNALS_DONE, 3));
+    CHECK(memcmp(output, text, 3) == 0 && all_are(output + 3, 3, MARK));
+    CHECK(rudignals_fold(text, sizeof text, 8, 2, output, sizeof output) == told(RUDIGNALS_DONE, 4));
+    CHECK(memcmp(output, "ab\nc", 4) == 0 && all_are(output + 4, 2, MARK));
+    CHECK(rudignals_fold(text, sizeof text, 8, 2, output, 3) == told(RUDIGNALS_ROOM, 4));
+    CHECK(all_are(output, 3, 0) && output[3] == 'c');
+    CHECK(RUDIGNALS_MOST_TEXT == 1073741824u);
+}
+
 /* ---- what is put too large is refused */
 
 /* the room is a block of memory of its own, so that a byte too many is seen */
@@ -276,6 +298,7 @@ int main(void) {
     null_notes();
     null_output();
     codes();
+    folding();
     numbers();
     width_and_goal();
     prefixes();

@@ -36,4 +36,5 @@ extern "C" {
     pub fn rudignals_lookup(index: *const Record, records: usize, filled: u64, notes: *const u8, notes_len: usize, line: u64, part: *mut u64) -> u64;
     pub fn rudignals_explain(options: *const u8, options_len: usize, notes: *const u8, notes_len: usize, line: u64, reason: *mut u64) -> u64;
     pub fn rudignals_panel(digest: *const u8, digest_len: usize, tab: u64, cells: *mut u32) -> u64;
+    pub fn rudignals_fold(text: *const u8, text_len: usize, tab: u64, columns: u64, output: *mut u8, output_len: usize) -> u64;
 }

@@ -61,6 +61,13 @@ static void *make_panel(void *unused) {
     return unused;
 }
 
+static void *make_fold(void *unused) {
+    unsigned char here = 0;
+    call.top = &here;
+    call.answer = rudignals_fold(call.notes, call.notes_len, 8, 79, output, call.room);
+    return unused;
+}
+
 static void *make_indexed(void *unused) {
     static struct rudignals_record index[RUDIGNALS_MOST_NOTES];
     uint64_t filled;
@@ -211,11 +218,11 @@ static void measure_refusals(void) {
 }
 
 /* U+50000: its width is looked up in the table itself. */
-static void measure_panel(void) {
+static void measure_wall(const char *name, void *(*run)(void *)) {
     static const uint8_t unassigned[] = {0xF1, 0x90, 0x80, 0x80};
-    text("a panel", 0, "", 80);
+    text(name, 0, "", 80);
     memcpy(call.notes + call.notes_len - sizeof unassigned, unassigned, sizeof unassigned);
-    printf("%7lu                  %s\n", (unsigned long)used_by(make_panel, RUDIGNALS_DONE), call.name);
+    printf("%7lu                  %s\n", (unsigned long)used_by(run, RUDIGNALS_DONE), call.name);
 }
 
 static void measure_alone(const char *name, void *(*run)(void *)) {
@@ -277,7 +284,8 @@ int main(void) {
     measure_text("keep and glue", RUDIGNALS_KEEP | RUDIGNALS_GLUE, "\xC2\xA0", 80);
     measure_prefix();
     measure_refusals();
-    measure_panel();
+    measure_wall("a panel", make_panel);
+    measure_wall("a text folded", make_fold);
     measure_indexed();
     measure_unflow();
     measure_check("a digest checked, paragraphs of 960 words", RUDIGNALS_QUICK, 80, 0, RUDIGNALS_DONE);

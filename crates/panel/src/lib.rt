@@ -65,7 +65,7 @@ pub fn number_of(a: Answer) -> u64
 }
 
 // Tab width 0 acts as 1.
-fn stop_width(tab: u64) -> usize
+pub fn stop_width(tab: u64) -> usize
     ensures { λ r. ⌜ r ≡ stopWidth tab ⌝ }
 {
     if tab == 0 { 1 } else { tab as usize }

@@ -1,0 +1,2 @@
+-- What the contracts of the code cite: no part of what must be believed of the call.
+pub mod Steps

@@ -1,0 +1,4 @@
+pub mod Fold
+pub mod Contracts
+pub mod Theorems
+pub mod Trials

@@ -1,0 +1,2 @@
+-- Words that the theorems of proofs/Theorems use.
+pub mod Rows
