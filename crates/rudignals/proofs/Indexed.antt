@@ -79,9 +79,9 @@ recordsIn (full pieces) = []
 recordsIn (room needed) = []
 
 -- it was measured as done, and its records are the index
-record IsDone (rs : List Record) (a : Answer) (d : List ℕ) (i : List Record) : Type 0 where
-  is : a ≡ measured d
-  index : i ≡ rs
+pub record IsDone (rs : List Record) (a : Answer) (d : List ℕ) (i : List Record) : Type 0 where
+  pub is : a ≡ measured d
+  pub index : i ≡ rs
 
 in-done : (space records : ℕ) (rs : List Record) (a : Answer) (d : List ℕ) (i : List Record) → inIndex space records rs a ≡ done d i → IsDone rs a d i
 unfolding digestIn recordsIn
@@ -97,13 +97,13 @@ in-done space records rs (damaged place) d i h = absurd (let z = ap code h in om
 in-done space records rs (manyWords place) d i h = absurd (let z = ap code h in omega (arith, z))
 in-done space records rs (noRoom needed) d i h = absurd (let z = ap code h in omega (arith, z))
 
-indexed-done : (block notes : List ℕ) (o : Options) (space records : ℕ) (d : List ℕ) (i : List Record) → readBlock block ≡ Accepted o → indexing block notes space records ≡ done d i
+pub indexed-done : (block notes : List ℕ) (o : Options) (space records : ℕ) (d : List ℕ) (i : List Record) → readBlock block ≡ Accepted o → indexing block notes space records ≡ done d i
     → IsDone (indexOf (meant block o) notes) (measuring block notes) d i
 unfolding indexing
 indexed-done block notes o space records d i b h =
     in-done space records (indexOf (meant block o) notes) (measuring block notes) d i (ap (λ (x : Block). inIndex space records (indexUnder block notes x) (measuring block notes)) (sym b) ∙ h)
 
-done-indexed : (block notes : List ℕ) (o : Options) (space records : ℕ) (d : List ℕ) → readBlock block ≡ Accepted o → measuring block notes ≡ measured d
+pub done-indexed : (block notes : List ℕ) (o : Options) (space records : ℕ) (d : List ℕ) → readBlock block ≡ Accepted o → measuring block notes ≡ measured d
     → length d ≤ space → length (indexOf (meant block o) notes) ≤ records → indexing block notes space records ≡ done d (indexOf (meant block o) notes)
 unfolding indexing
 done-indexed block notes o space records d b m r s =

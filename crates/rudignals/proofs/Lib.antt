@@ -6,6 +6,8 @@ pub mod LineEnds
 pub mod Undamaged
 pub mod Gaps
 pub mod Indexed
+pub mod PieceStarts
+pub mod Windows
 pub mod Lent
 pub mod Mailed
 pub mod Explained
