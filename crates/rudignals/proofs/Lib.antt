@@ -10,6 +10,8 @@ pub mod PieceStarts
 pub mod Windows
 pub mod Lent
 pub mod Mailed
+pub mod Mended
 pub mod Explained
 pub mod Demand3
 pub mod Unique
+mod Worked
