@@ -1,6 +1,7 @@
 mod Readings
 mod Back
 mod Carries
+mod Worked
 mod Solid
 mod Sent
 mod Digest

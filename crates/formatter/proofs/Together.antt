@@ -93,7 +93,7 @@ unfolding writing
 refusals-are-the-same l block notes space h = in-room-keeps space (measuring l block notes) h
 
 -- What is refused before there is a digest, measuring refuses so.
-abbrev retold : Words → Answer → Answer
+abbrev pub retold : Words → Answer → Answer
 retold w (done digest) = measured w digest
 retold w (options place) = options place
 retold w long = long
@@ -111,7 +111,7 @@ retold-keeps w (words place) k = refl
 retold-keeps w (room needed) k = refl
 retold-keeps w (work needed) k = refl
 
-measured-at-once : (l : Limits) (block notes : List ℕ) → retold (l .words) (finding l block notes) ≡ measuring l block notes
+pub measured-at-once : (l : Limits) (block notes : List ℕ) → retold (l .words) (finding l block notes) ≡ measuring l block notes
 unfolding measuring finding
 measured-at-once l block notes = block-at-once l (retold (l .words)) (retold-keeps (l .words)) done block notes (readBlock block)
 

@@ -1,6 +1,6 @@
 -- What the formatter writes, the checker accepts: from the order of its words (Order). So does the call, within 65,536 bytes.
 use mathlib.Core.Path.{_≡_, refl, ap}
-use mathlib.Core.List.{List, [], _∷_, List·Memᴰ·head, List·Memᴰ·tail}
+use mathlib.Core.List.{List, [], _∷_}
 use Prim.Native.Nat.{ℕ, _≤_}
 use native.Mathlib.Omega.{arith}
 use lib.ListN.{length}
@@ -24,12 +24,7 @@ use Rattle.checker.proofs.Theorems.{what-is-acceptable-is-accepted}
 use Rattle.judge.specs.Checking.{checking}
 use Rattle.judge.specs.declared.Judgement.the-variants.{Accepted}
 use Rattle.judge.proofs.Theorems.{what-is-acceptable-the-call-accepts}
-use Rattle.rudignals.proofs.Order.{paragraph-order}
-
--- what holds of each element of a list
-members-all : {A : Type 0} (P : A → Type 0) (xs : List A) → ((x : A) → x ∈ xs → P x) → All P xs
-members-all P [] f = tt
-members-all P (x ∷ xs) f = (f x (List·Memᴰ·head refl), members-all P xs (λ y m. f y (List·Memᴰ·tail m)))
+use Rattle.rudignals.proofs.Order.{members-all, paragraph-order}
 
 piece-in : (o : Opts) (notes : List ℕ) (q : Piece) → q ∈ pieces o notes → PieceIn o (q .kind) (pieceOutput o q)
 unfolding outputOf

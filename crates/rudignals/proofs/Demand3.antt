@@ -3,13 +3,13 @@
 -- `writing` and `done` (specs/Format.antt and Answers.antt; `done bytes` is code 0 with those bytes), `LineEnd` and `LineIs` (specs/Theorems/LineEnds.antt), `Closed` (lines/specs),
 -- `Gap` (text/specs/Theorems/Blanks.antt), `InOrder` (output/specs/Theorems/Order.antt), `rowInk` (words/specs/Theorems/Ink.antt), `All` and `∈`
 -- (lists/specs/Theorems/All.antt), `joined` (lists/specs/Runs.antt).
-use mathlib.Core.Path.{_≡_, refl, sym, _∙_}
-use mathlib.Core.Bool.{Bool, true, false, _||_}
+use mathlib.Core.Path.{_≡_, refl, sym, ap, ap₂, _∙_}
+use mathlib.Core.Bool.{Bool, true, false, _||_, false≢true}
 use mathlib.Core.List.{List, [], _∷_, _++_, map}
 use mathlib.Core.Logic.{_⊎_}
-use Prim.Native.Nat.{ℕ, _+_, _≤_, _<_}
+use Prim.Native.Nat.{ℕ, _+_, _-_, _≤_, _<_}
 use native.Mathlib.Omega.{arith}
-use lib.ListN.{length, length-append}
+use lib.ListN.{length, take, drop, length-append}
 use Rattle.lists.specs.Walk.{walk}
 use Rattle.lists.specs.Runs.{every, joined}
 use Rattle.lists.specs.Theorems.All.{All, _∈_}
@@ -38,8 +38,9 @@ use Rattle.words.proofs.Order.{Whole, row-ink, paragraph-whole}
 use Rattle.output.specs.Theorems.Order.{InOrder}
 use Rattle.formatter.specs.Answers.{done, numbered}
 use Rattle.walk.specs.Digest.{pieceOutput, digest, mostWords, extentOf}
-use Rattle.formatter.specs.Format.{Limits, limited, mostBytes, document01, answer, isTold, measuring, writing}
+use Rattle.formatter.specs.Format.{Limits, limited, mostBytes, document01, answer, finding, isTold, measured, measuring, inRoom, writing}
 use Rattle.rudignals.specs.Theorems.LineEnds.{LineEnd, feed, LineIs}
+use Rattle.rudignals.specs.Theorems.Parts.{upToPiece, fromPiece, MayCut, ByParts, both, behindFirst, bothReasons}
 use Rattle.formatter.proofs.Together.{together-they-do-what-the-old-call-did, measured-room-suffices}
 use Rattle.formatter.proofs.Answers.{measured-done, written-measured, answer-measured}
 use Rattle.rudignals.proofs.Boundary.{Joining, measuring-boundary}
@@ -56,6 +57,11 @@ use Rattle.indexer.specs.Theorems.Follows.{Follows}
 use Rattle.indexer.proofs.Follows.{the-records-follow-without-a-gap as without-a-gap}
 use Rattle.rudignals.proofs.Indexed.{blankRecord, behindBlank, indexed-boundary}
 use Rattle.rudignals.proofs.LineEnds.{LineAt, line-of-bytes, line-at}
+use Rattle.checker.specs.Named.{feeds}
+use Rattle.explain.specs.Reasons.{lineEndings}
+use Rattle.explain.specs.Explain.{explaining}
+use Rattle.rudignals.proofs.Windows.{pieces-front}
+use Rattle.rudignals.proofs.PieceStarts.{parts-are, parts-pieces, digest-parts, index-parts, reasons-parts, measuring-parts, indexing-parts, explaining-parts}
 
 -- What measuring has found, and what a call that is done has written, is the digest of its notes, of which 2 to 4 speak, under the
 -- options that its block means. So with document 01's limits (`document01`) and with any others.
@@ -337,3 +343,119 @@ module _ (l : Limits) (joining : Joining (l .words)) (block first line end secon
       ≡ indexed (digest₁ ++ 10 ∷ digest₂) (index₁ ++ blankRecord (meant block o) first (line ++ end) ∷ behindBlank (meant block o) first (line ++ end) index₂)
   the-indexes-join =
       indexed-boundary l joining block first line end second o digest₁ digest₂ index₁ index₂ space₁ records₁ space₂ records₂ space records block-accepted first-ends one-line line-ends blank within-limit first-done second-done can-be-told enough-room enough-records
+
+-- ---- 6. where a piece begins, notes may be cut
+
+-- Where a piece begins is seen without reading all of the notes: a front part of them, empty or ending in a line feed, has the notes' own
+-- pieces, but for its last, which may go on in what is behind it.
+pub a-front-part-shows-where-pieces-begin : (o : Opts) (front behind : List ℕ) (k : ℕ)
+    → Closed front
+    → k < length (pieces o front)
+    → take k (pieces o (front ++ behind)) ≡ take k (pieces o front)
+a-front-part-shows-where-pieces-begin o front behind k = pieces-front o k front behind
+
+-- The cuts: without mail, every start.
+pub without-mail-every-start-is-a-cut : (o : Opts) (k : ℕ) (notes : List ℕ) → o .mail ≡ false → MayCut o k notes
+without-mail-every-start-is-a-cut o k notes off on = absurd (false≢true (sym off ∙ on))
+
+-- The option block is accepted. For any k the notes are cut behind their first k pieces, where the next piece begins. Without mail nothing
+-- else is asked; with mail, that next-mail is true there. (`upToPiece`, `fromPiece` and `MayCut`: specs/Theorems/Parts.antt.)
+module _ (block notes : List ℕ) (o : Options) (k : ℕ)
+    (block-accepted : readBlock block ≡ Accepted o)
+    (may-cut : MayCut (meant block o) k notes) where
+  abbrev first-part : List ℕ
+  first-part = upToPiece (meant block o) k notes
+
+  abbrev second-part : List ℕ
+  second-part = fromPiece (meant block o) k notes
+
+  -- The two parts are the notes ..
+  pub the-parts-are-the-notes : notes ≡ first-part ++ second-part
+  the-parts-are-the-notes = parts-are block notes o k block-accepted may-cut
+
+  -- .. the pieces of the first part are the first k, those of the second part are the others ..
+  pub each-part-has-its-pieces : (pieces (meant block o) first-part ≡ take k (pieces (meant block o) notes)) × (pieces (meant block o) second-part ≡ drop k (pieces (meant block o) notes))
+  each-part-has-its-pieces = parts-pieces block notes o k block-accepted may-cut
+
+  -- .. and the digest is the first part's digest followed by the second's.
+  pub the-start-of-every-piece-is-a-full-boundary : digest (meant block o) notes ≡ digest (meant block o) first-part ++ digest (meant block o) second-part
+  the-start-of-every-piece-is-a-full-boundary = digest-parts block notes o k block-accepted may-cut
+
+  -- The index is the first part's records and the second's, moved on; the reasons are the first part's and the second's.
+  pub the-index-is-that-of-the-parts : indexOf (meant block o) notes ≡ indexOf (meant block o) first-part ++ behindFirst first-part (digest (meant block o) first-part) (indexOf (meant block o) second-part)
+  the-index-is-that-of-the-parts = index-parts block notes o k block-accepted may-cut
+
+  pub the-reasons-are-those-of-the-parts : lineEndings (meant block o) notes ≡ lineEndings (meant block o) first-part ++ lineEndings (meant block o) second-part
+  the-reasons-are-those-of-the-parts = reasons-parts block notes o k block-accepted may-cut
+
+  -- The notes are within the input limit. The limits may be any: where working room is lent, the notes must need the greater of what their parts need
+  -- (`ByParts`), as they do (`lending-is-by-parts`: proofs/PieceStarts); with limits such as document 01's nothing is asked.
+  module _ (l : Limits) (by-parts : ByParts (l .words)) (within-limit : length notes ≤ l .bytes) where
+    -- What measuring finds is found by the part: if both are done, the first's output and then the second's, if their length can be told; else what a
+    -- part is refused for. The lowest number wins, then the first place, and a place in the second part is counted from the notes' front; of working
+    -- room, which comes in the place of words, the greater. (`both`: specs/Theorems/Parts.antt.)
+    pub the-start-of-every-piece-is-a-full-boundary-for-measuring : measuring l block notes ≡ both (measured (l .words)) (length first-part) (measuring l block first-part) (measuring l block second-part)
+    the-start-of-every-piece-is-a-full-boundary-for-measuring = measuring-parts block notes o k block-accepted may-cut l by-parts within-limit
+
+    -- Writing asks for the room besides.
+    pub the-start-of-every-piece-is-a-full-boundary-for-writing : (space : ℕ)
+        → writing l block notes space ≡ inRoom space (both (measured (l .words)) (length first-part) (measuring l block first-part) (measuring l block second-part))
+    unfolding writing
+    the-start-of-every-piece-is-a-full-boundary-for-writing space = ap (inRoom space) the-start-of-every-piece-is-a-full-boundary-for-measuring
+
+    -- Each part by itself is written, whatever room it had, and there is room for both, and their length can be told: writing the notes gives the
+    -- first's output and then the second's.
+    pub what-is-written-of-the-parts-joins : (digest₁ digest₂ : List ℕ) (room₁ room₂ space : ℕ)
+        → writing l block first-part room₁ ≡ done digest₁
+        → writing l block second-part room₂ ≡ done digest₂
+        → isTold (l .words) (length (digest₁ ++ digest₂)) ≡ true
+        → length digest₁ + length digest₂ ≤ space
+        → writing l block notes space ≡ done (digest₁ ++ digest₂)
+    what-is-written-of-the-parts-joins digest₁ digest₂ room₁ room₂ space first-written second-written can-be-told enough-room =
+        let m₁ = written-measured l block first-part room₁ digest₁ first-written in
+        let m₂ = written-measured l block second-part room₂ digest₂ second-written in
+        let n = length-append digest₁ digest₂ in
+        let w : measuring l block notes ≡ measured (l .words) (digest₁ ++ digest₂) = the-start-of-every-piece-is-a-full-boundary-for-measuring ∙ ap₂ (both (measured (l .words)) (length first-part)) (m₁ .0) (m₂ .0) in
+        measured-room-suffices l block notes space (digest₁ ++ digest₂) (w ∙ rw can-be-told) (omega (arith, n, enough-room))
+
+    -- Each part by itself is done with an index, whatever room it had, and there is room for both: the joined index is the first's records
+    -- and the second's, moved on by the first part's bytes and the lines of its output.
+    pub the-indexes-of-the-parts-join : (digest₁ digest₂ : List ℕ) (index₁ index₂ : List Record) (space₁ records₁ space₂ records₂ space records : ℕ)
+        → indexing l block first-part space₁ records₁ ≡ indexed digest₁ index₁
+        → indexing l block second-part space₂ records₂ ≡ indexed digest₂ index₂
+        → isTold (l .words) (length (digest₁ ++ digest₂)) ≡ true
+        → length digest₁ + length digest₂ ≤ space
+        → length index₁ + length index₂ ≤ records
+        → indexing l block notes space records ≡ indexed (digest₁ ++ digest₂) (index₁ ++ behindFirst first-part digest₁ index₂)
+    the-indexes-of-the-parts-join = indexing-parts block notes o k block-accepted may-cut l by-parts within-limit
+
+    -- Nothing is refused of either part: a line of the first part's output has its reason there, and a line behind them the reason that it has in the
+    -- second part; behind all lines their number is told. (`finding`: formatter/specs/Format.antt; `feeds` counts line feeds: checker/specs/Named.antt.)
+    pub the-reasons-of-the-parts-join : (line : ℕ) (digest₁ digest₂ : List ℕ)
+        → finding l block first-part ≡ done digest₁
+        → finding l block second-part ≡ done digest₂
+        → explaining l block notes line ≡ bothReasons (explaining l block first-part line) (explaining l block second-part (line - feeds digest₁))
+    the-reasons-of-the-parts-join = explaining-parts block notes o k block-accepted may-cut l by-parts within-limit
+
+  -- The call that measures and writes in one, with limits such as document 01's.
+  module _ (most words : ℕ) (within-limit : length notes ≤ most) where
+    pub the-start-of-every-piece-is-a-full-boundary-for-formatting : (space : ℕ)
+        → answer (limited most words) block notes space ≡ inRoom space (both done (length first-part) (measuring (limited most words) block first-part) (measuring (limited most words) block second-part))
+    the-start-of-every-piece-is-a-full-boundary-for-formatting space =
+        sym (together-they-do-what-the-old-call-did most words block notes space) ∙ the-start-of-every-piece-is-a-full-boundary-for-writing (limited most words) tt within-limit space
+
+    -- Each part by itself is done, whatever room it had, and there is room for both: formatting the notes gives the first's output and then
+    -- the second's, and the number that the host gets is the sum of the two parts' numbers.
+    module _ (digest₁ digest₂ : List ℕ) (room₁ room₂ space : ℕ)
+        (first-done : answer (limited most words) block first-part room₁ ≡ done digest₁)
+        (second-done : answer (limited most words) block second-part room₂ ≡ done digest₂)
+        (enough-room : length digest₁ + length digest₂ ≤ space) where
+      pub the-outputs-of-the-parts-join : answer (limited most words) block notes space ≡ done (digest₁ ++ digest₂)
+      the-outputs-of-the-parts-join =
+          sym (together-they-do-what-the-old-call-did most words block notes space)
+          ∙ what-is-written-of-the-parts-joins (limited most words) tt within-limit digest₁ digest₂ room₁ room₂ space
+          (together-they-do-what-the-old-call-did most words block first-part room₁ ∙ first-done) (together-they-do-what-the-old-call-did most words block second-part room₂ ∙ second-done) refl enough-room
+
+      pub the-numbers-of-the-parts-add-up : numbered (answer (limited most words) block notes space) ≡ numbered (answer (limited most words) block first-part room₁) + numbered (answer (limited most words) block second-part room₂)
+      unfolding numbered
+      the-numbers-of-the-parts-add-up = rw (the-outputs-of-the-parts-join, first-done, second-done, length-append) (omega arith)

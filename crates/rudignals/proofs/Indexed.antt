@@ -81,9 +81,9 @@ recordsIn (room needed) = []
 recordsIn (work needed) = []
 
 -- it was measured as done, and its records are the index
-record IsDone (rs : List Record) (a : Answer) (d : List ℕ) (i : List Record) : Type 0 where
-  is : a ≡ measured d
-  index : i ≡ rs
+pub record IsDone (rs : List Record) (a : Answer) (d : List ℕ) (i : List Record) : Type 0 where
+  pub is : a ≡ measured d
+  pub index : i ≡ rs
 
 in-done : (w : Words) (space records : ℕ) (rs : List Record) (a : Answer) (d : List ℕ) (i : List Record) → inIndex w space records rs a ≡ done d i → IsDone rs a d i
 unfolding digestIn recordsIn
@@ -101,13 +101,13 @@ in-done w space records rs (manyWords place) d i h = absurd (let z = ap code h i
 in-done w space records rs (noRoom needed) d i h = absurd (let z = ap code h in omega (arith, z))
 in-done w space records rs (noWork needed) d i h = absurd (let z = ap code h in omega (arith, z))
 
-indexed-done : (l : Limits) (block notes : List ℕ) (o : Options) (space records : ℕ) (d : List ℕ) (i : List Record) → readBlock block ≡ Accepted o → indexing l block notes space records ≡ done d i
+pub indexed-done : (l : Limits) (block notes : List ℕ) (o : Options) (space records : ℕ) (d : List ℕ) (i : List Record) → readBlock block ≡ Accepted o → indexing l block notes space records ≡ done d i
     → IsDone (indexOf (meant block o) notes) (finding l block notes) d i
 unfolding indexing
 indexed-done l block notes o space records d i b h =
     in-done (l .words) space records (indexOf (meant block o) notes) (finding l block notes) d i (ap (λ (x : Block). inIndex (l .words) space records (indexUnder block notes x) (finding l block notes)) (sym b) ∙ h)
 
-done-indexed : (l : Limits) (block notes : List ℕ) (o : Options) (space records : ℕ) (d : List ℕ) → readBlock block ≡ Accepted o → finding l block notes ≡ measured d → isTold (l .words) (length d) ≡ true
+pub done-indexed : (l : Limits) (block notes : List ℕ) (o : Options) (space records : ℕ) (d : List ℕ) → readBlock block ≡ Accepted o → finding l block notes ≡ measured d → isTold (l .words) (length d) ≡ true
     → length d ≤ space → length (indexOf (meant block o) notes) ≤ records → indexing l block notes space records ≡ done d (indexOf (meant block o) notes)
 unfolding indexing
 done-indexed l block notes o space records d b m t r s =
