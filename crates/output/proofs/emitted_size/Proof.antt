@@ -1,5 +1,5 @@
 -- `output::emitted_size` meets its contract. Invariant: the bytes counted, with those of the words that are left, are all; a word adds less than 2 ^ 34.
-use mathlib.Core.Path.{_≡_, refl}
+use mathlib.Core.Path.{_≡_}
 use Prim.Native.Nat.{_≤_, _+_, _-_, _*_, _^_}
 use native.Mathlib.Omega.{arith}
 use lib.ListN.{length}

@@ -1,5 +1,4 @@
 -- `records::mark` meets its contract.
-use native.Mathlib.Omega.{arith}
 use borrow.Author.Needs.{needs}
 use Rattle.records.specs.Contracts.Marks.{withMark}
 use Rattle.records.proofs.mark.Statement.{statement}
