@@ -8,8 +8,10 @@ use borrow.Author.Tests.{eqb-true, eqb-false, eq-eqb, ne-eqb}
 use lib.Dec.{eqb}
 use lib.ListN.{length, getD}
 use lib.Seq.{slice}
-use Rattle.lists.proofs.Remaining.{slice-here, slice-none}
+use Rattle.lists.proofs.Remaining.{slice-none}
 use Rattle.lists.proofs.Views.{behind-first}
+use Rattle.records.specs.Contracts.Marks.{markIn, marksIn}
+use Rattle.records.proofs.Marks.{marks-from}
 use Rattle.endings.specs.declared.Ending.{Ending}
 use Rattle.endings.specs.declared.Ending.the-variants.{Paragraph}
 use Rattle.endings.specs.declared.Spot.{Spot}
@@ -19,29 +21,28 @@ use Rattle.endings.specs.Contracts.Spots.{spotOf}
 
 -- ---- as the code goes
 
-module _ (marks : List Bool) (n : ℕ) where
+module _ (table : List ℕ) (n : ℕ) where
   abbrev pub spotFrom : ℕ → ℕ → Spot
-  spotFrom i left = spotOf (slice i n marks) i left
+  spotFrom i left = spotOf (slice i n (marksIn n table)) i left
 
-  spot-cons : (i left : ℕ) → i < n → n ≤ length marks
-      → spotFrom i left ≡ cond (getD marks i false && eqb left 0) (Before i) (spotFrom (i + 1) (cond (getD marks i false) (left - 1) left))
+  spot-cons : (i left : ℕ) → i < n → spotFrom i left ≡ cond (markIn table i && eqb left 0) (Before i) (spotFrom (i + 1) (cond (markIn table i) (left - 1) left))
   unfolding spotOf
-  spot-cons i left h l = rw (slice-here marks i n false h l)
+  spot-cons i left h = rw (marks-from table n i h)
 
-  pub spot-here : (i left : ℕ) (b : Bool) → i < n → n ≤ length marks → b ≡ getD marks i false → (b && eqb left 0) ≡ true → Before i ≡ spotFrom i left
-  spot-here i left b h l e t = sym (rw (← e, t) at (spot-cons i left h l))
+  pub spot-here : (i left : ℕ) (b : Bool) → i < n → b ≡ markIn table i → (b && eqb left 0) ≡ true → Before i ≡ spotFrom i left
+  spot-here i left b h e t = sym (rw (← e, t) at (spot-cons i left h))
 
-  pub spot-on : (i left left′ : ℕ) (b : Bool) → i < n → n ≤ length marks → b ≡ getD marks i false → (b && eqb left 0) ≡ false → left′ ≡ cond b (left - 1) left
+  pub spot-on : (i left left′ : ℕ) (b : Bool) → i < n → b ≡ markIn table i → (b && eqb left 0) ≡ false → left′ ≡ cond b (left - 1) left
       → spotFrom (i + 1) left′ ≡ spotFrom i left
-  spot-on i left left′ b h l e t f = rw f (sym (rw (← e, t) at (spot-cons i left h l)))
+  spot-on i left left′ b h e t f = rw f (sym (rw (← e, t) at (spot-cons i left h)))
 
   pub spot-last : (i left : ℕ) → n ≤ i → left ≡ 0 → Last ≡ spotFrom i left
   unfolding spotOf
-  spot-last i left h z = sym (rw (slice-none marks i n h, eq-eqb left 0 z))
+  spot-last i left h z = sym (rw (slice-none (marksIn n table) i n h, eq-eqb left 0 z))
 
   pub spot-behind : (i left : ℕ) → n ≤ i → (left ≡ 0 → ⊥) → Behind (left - 1) ≡ spotFrom i left
   unfolding spotOf
-  spot-behind i left h z = sym (rw (slice-none marks i n h, ne-eqb left 0 z))
+  spot-behind i left h z = sym (rw (slice-none (marksIn n table) i n h, ne-eqb left 0 z))
 
 -- ---- why a line ends there
 

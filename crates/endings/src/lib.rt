@@ -2,8 +2,8 @@
 ghost use mathlib.Core.Path.{_≡_};
 ghost use mathlib.Core.Bool.{cond};
 ghost use Prim.Native.Nat.{_-_, _≤_};
-ghost use lib.ListN.{length};
-ghost use lib.Seq.{slice};
+ghost use Rattle.records.specs.Contracts.Table.{Holds};
+ghost use Rattle.records.specs.Contracts.Marks.{breaksOf};
 ghost use Rattle.endings.specs.Endings.{numbersOf};
 ghost use Rattle.endings.specs.Contracts.Spots.{spotOf};
 
@@ -98,15 +98,15 @@ fn less(ends: bool, left: usize) -> usize
     left
 }
 
-// Finds a line, counted from the first, in the marks of n words: mark i says whether a new line starts with word i.
-pub fn find_line(marks: &[bool], n: usize, line: usize) -> Spot
-    requires { ⌜ (1 ≤ n) × (n ≤ length (now marks)) ⌝ }
-    ensures { λ r. ⌜ r ≡ spotOf (slice 1 n (now (marks .entry))) 1 line ⌝ }
+// Finds a line, counted from the first, in a table of n words that are marked where a new line starts.
+pub fn find_line(table: &[u32], n: usize, line: usize) -> Spot
+    requires { ⌜ (1 ≤ n) × Holds n (now table) ⌝ }
+    ensures { λ r. ⌜ r ≡ spotOf (breaksOf n (now (table .entry))) 1 line ⌝ }
 {
     let mut left = line;
     let mut i = 1;
     while i < n {
-        let ends = marks[i];
+        let ends = records::starts_line(table, i);
         if ends & (left == 0) {
             return Spot::Before(i);
         }

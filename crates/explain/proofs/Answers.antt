@@ -16,10 +16,10 @@ use Rattle.options.specs.declared.Block.{Block}
 use Rattle.pieces.specs.Pieces.{pieces}
 use Rattle.endings.specs.declared.Ending.{Ending}
 use Rattle.endings.specs.declared.Ending.the-variants.{Paragraph}
-use Rattle.walk.specs.Digest.{longParagraph}
+use Rattle.walk.specs.Digest.{mostWords, longParagraph}
 use Rattle.walk.proofs.Loop.{all-long}
-use Rattle.formatter.specs.Answers.{Answer, done, options, long, text, words, room, code}
-use Rattle.formatter.specs.Format.{withWords, withBlock, measuring}
+use Rattle.formatter.specs.Answers.{Answer, done, options, long, text, words, room, work, code}
+use Rattle.formatter.specs.Format.{document01, withWords, withBlock, finding}
 use Rattle.formatter.specs.Contracts.Call.{Admits}
 use Rattle.formatter.specs.declared.Reply.{Reply}
 use Rattle.formatter.specs.declared.Reply.the-variants.{Words}
@@ -56,10 +56,10 @@ module _ (o : Opts) (notes : List ℕ) (line : ℕ) (r : Sought) (s : SoughtIs o
   pub stopped-told : {place : ℕ} → r ≡ Stopped place → Refused (Words place) ≡ told (leftOf o notes line)
   stopped-told {place} e =
       let k : SoughtIs o notes (record { at = 0; mail = true; asked = Behind line }) (Stopped place) = rw e at s in
-      let l : longParagraph o 0 (pieces o notes) ≡ At place = sym (all-long o notes) ∙ k in
+      let l : longParagraph mostWords o 0 (pieces o notes) ≡ At place = sym (all-long o notes) ∙ k in
       rw l
 
-  all-of : {a : Asked} → r ≡ All a → (longParagraph o 0 (pieces o notes) ≡ Nowhere) × (a ≡ passed (lineEndings o notes) (Behind line))
+  all-of : {a : Asked} → r ≡ All a → (longParagraph mostWords o 0 (pieces o notes) ≡ Nowhere) × (a ≡ passed (lineEndings o notes) (Behind line))
   all-of {a} e =
       let k : SoughtIs o notes (record { at = 0; mail = true; asked = Behind line }) (All a) = rw e at s in
       (sym (all-long o notes) ∙ k .0, k .1 ∙ ap (λ (es : List Ending). passed es (Behind line)) (all-endings o notes))
@@ -74,7 +74,7 @@ module _ (o : Opts) (notes : List ℕ) (line : ℕ) (r : Sought) (s : SoughtIs o
 
 -- ---- before any piece is looked at
 
-module _ (block notes : List ℕ) (a : Admission) (admits : Admits block notes a) where
+module _ (block notes : List ℕ) (a : Admission) (admits : Admits document01 block notes a) where
   refusal-stays : (x : Explanation) (b : Answer) → 1 ≤ code b → afterMeasuring x b ≡ refused b
   refusal-stays x (done digest) h = absurd (omega (arith, h))
   refusal-stays x (options place) h = refl
@@ -82,23 +82,24 @@ module _ (block notes : List ℕ) (a : Admission) (admits : Admits block notes a
   refusal-stays x (text place) h = refl
   refusal-stays x (words place) h = refl
   refusal-stays x (room needed) h = refl
+  refusal-stays x (work needed) h = refl
 
-  pub refused-told : (line : ℕ) {r : Reply} → a ≡ NotAdmitted r → Refused r ≡ told (explaining block notes line)
-  unfolding explaining measuring
+  pub refused-told : (line : ℕ) {r : Reply} → a ≡ NotAdmitted r → Refused r ≡ told (explaining document01 block notes line)
+  unfolding explaining finding
   refused-told line e =
-      let f = refused-of block notes a admits e in
+      let f = refused-of document01 block notes a admits e in
       ap Refused (f .is)
-      ∙ ap told (sym (refusal-stays (lookUpIn line block notes (readBlock block)) (f .refusal) (a-refusal-is-no-digest block notes f)))
+      ∙ ap told (sym (refusal-stays (lookUpIn line block notes (readBlock block)) (f .refusal) (a-refusal-is-no-digest document01 block notes f)))
       ∙ ap (λ (b : Answer). told (afterMeasuring (lookUpIn line block notes (readBlock block)) b)) (sym (f .whole-is done))
 
-  pub passed-told : (line : ℕ) {o : Options} {x : Explained} → a ≡ Admitted o → x ≡ told (leftOf (meant block o) notes line) → x ≡ told (explaining block notes line)
-  unfolding explaining measuring
+  pub passed-told : (line : ℕ) {o : Options} {x : Explained} → a ≡ Admitted o → x ≡ told (leftOf (meant block o) notes line) → x ≡ told (explaining document01 block notes line)
+  unfolding explaining finding
   passed-told line {o} e h =
-      let f = passed-of block notes a admits e in
+      let f = passed-of document01 block notes a admits e in
       h
-      ∙ ap told (sym (go (longParagraph (meant block o) 0 (pieces (meant block o) notes))))
+      ∙ ap told (sym (go (longParagraph mostWords (meant block o) 0 (pieces (meant block o) notes))))
       ∙ ap (λ (b : Answer). told (afterMeasuring (lookUp line (lineEndings (meant block o) notes)) b)) (sym (f .1 done))
-      ∙ ap (λ (b : Block). told (afterMeasuring (lookUpIn line block notes b) (withBlock done block notes (readBlock block)))) (sym (f .0 .accepted))
+      ∙ ap (λ (b : Block). told (afterMeasuring (lookUpIn line block notes b) (withBlock document01 done block notes (readBlock block)))) (sym (f .0 .accepted))
     where
       go : (f : Found) → afterMeasuring (lookUp line (lineEndings (meant block o) notes)) (withWords done (meant block o) notes f) ≡ wordsOr f (lookUp line (lineEndings (meant block o) notes))
       go (At place) = refl

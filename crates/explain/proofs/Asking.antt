@@ -1,6 +1,6 @@
 -- A line that is found among a paragraph's breaks ends as the definition says.
 use mathlib.Core.Path.{_≡_, refl, sym, ap, _∙_}
-use mathlib.Core.Bool.{Bool, true, false, cond}
+use mathlib.Core.Bool.{Bool, true, false}
 use mathlib.Core.List.{List, [], _∷_}
 use Prim.Native.Nat.{ℕ, zero, suc, _+_, _-_, _≤_, _<_}
 use native.Mathlib.Omega.{arith}
@@ -30,10 +30,6 @@ breaks-are true g ws = breaks-are-quick's g ws
 breaks-are false g ws = breaks-are-the-best g ws
 
 -- there is a mark for each word
-pub room-marks : (fast : Bool) (m r n : ℕ) → n ≤ cond fast m r → r ≤ m → n ≤ m
-room-marks true m r n h k = h
-room-marks false m r n h k = omega arith
-
 -- the line asked for is one of those passed, or stands so many lines behind them
 passed-here : (es : List Ending) (left : ℕ) (e : Ending) → left < length es → e ≡ getD es left Paragraph → Told e ≡ passed es (Behind left)
 unfolding passed

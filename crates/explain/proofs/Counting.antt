@@ -1,17 +1,14 @@
--- How many lines there are: for each paragraph no more than it has words.
+-- How many lines there are: for each paragraph no more than it has words, and so for each piece no more than it has bytes.
 use mathlib.Core.Path.{_≡_, refl, ap}
 use mathlib.Core.Bool.{Bool, true, false, _||_}
 use mathlib.Core.List.{List, [], _∷_}
-use Prim.Native.Nat.{ℕ, suc, _+_, _*_, _≤_, _<_}
+use Prim.Native.Nat.{ℕ, suc, _+_, _≤_, _<_}
 use native.Mathlib.Omega.{arith}
-use borrow.Author.Tests.{ltb-false}
 use lib.Dec.{ltb}
 use lib.ListN.{length, length-append}
 use Rattle.lists.specs.Runs.{joined}
 use Rattle.lists.specs.Theorems.All.{All}
 use Rattle.lists.proofs.Parts.{joined-nil, joined-cons}
-use Rattle.text.specs.declared.Found.{Found}
-use Rattle.text.specs.declared.Found.the-variants.{At, Nowhere}
 use Rattle.options.specs.Opts.{Opts}
 use Rattle.pieces.specs.Pieces.{Piece, Kind, blankLine, plainLine, paragraph, pieces}
 use Rattle.records.specs.Word.{Word}
@@ -25,8 +22,10 @@ use Rattle.quick.specs.QuickLines.{linesFrom, quickLines}
 use Rattle.quick.proofs.Laws.{reached}
 use Rattle.knuth_plass.specs.BestLines.{bestLines}
 use Rattle.paragraphs.specs.Breaks.{settingOf}
-use Rattle.walk.specs.Digest.{mostWords, tooMany, extentOf, longParagraph}
+use Rattle.walk.specs.Digest.{extentOf}
+use Rattle.walk.specs.Standing.{wordsUnder}
 use Rattle.walk.proofs.Extents.{extents-are-notes, extents-some}
+use Rattle.formatter.proofs.Work.{words-are-few}
 use Rattle.explain.specs.Reasons.{linesBy, paragraphEndings, endingsOf, pieceEndings, lineEndings}
 use Rattle.explain.proofs.Asking.{nexts-length}
 
@@ -61,38 +60,29 @@ endings-most [] = omega arith
 endings-most (goesOn ∷ ns) = let r = endings-most ns in omega arith
 endings-most (ended e ∷ ns) = let r = endings-most ns in omega arith
 
-lines-few : (fast : Bool) (g : Setting) (ws : List Word) → length ws ≤ 1024 → length (endings (linesBy fast g ws)) ≤ 1024
+lines-few : (fast : Bool) (g : Setting) (ws : List Word) (n : ℕ) → length ws ≤ n → 0 < n → length (endings (linesBy fast g ws)) ≤ n
 unfolding endings quickLines bestLines
-lines-few true g [] h = omega arith
-lines-few false g [] h = omega arith
-lines-few fast g (w ∷ ws) h = let m = endings-most (linesBy fast g (w ∷ ws)) in let l = lines-length fast g w ws in omega arith
+lines-few true g [] n h k = omega arith
+lines-few false g [] n h k = omega arith
+lines-few fast g (w ∷ ws) n h k = let m = endings-most (linesBy fast g (w ∷ ws)) in let l = lines-length fast g w ws in omega arith
 
--- ---- the notes
+-- ---- the notes: a piece has no more lines than bytes
 
 module _ (o : Opts) where
-  piece-few : (k : Kind) → tooMany o k ≡ false → length (endingsOf o k) ≤ 1024
+  piece-few : (k : Kind) (n : ℕ) → length (wordsUnder o k) ≤ n → 0 < n → length (endingsOf o k) ≤ n
   unfolding endingsOf paragraphEndings
-  piece-few blankLine h = omega arith
-  piece-few (plainLine line) h = omega arith
-  piece-few (paragraph p) h =
-      lines-few (o .quick || p .mail) (settingOf o (p .mail) (p .first .columns) (p .indent .columns)) (wordsOf o p) (ltb-false mostWords (length (wordsOf o p)) h)
+  piece-few blankLine n h s = omega arith
+  piece-few (plainLine line) n h s = omega arith
+  piece-few (paragraph p) n h s = lines-few (o .quick || p .mail) (settingOf o (p .mail) (p .first .columns) (p .indent .columns)) (wordsOf o p) n h s
 
-  pieces-few : (place : ℕ) (qs : List Piece) → longParagraph o place qs ≡ Nowhere → All (λ (q : Piece). 0 < length (extentOf q)) qs
-      → length (joined (pieceEndings o) qs) ≤ 1024 * length (joined extentOf qs)
-  unfolding longParagraph
-  pieces-few place [] h a = rw (joined-nil (pieceEndings o)) (omega arith)
-  pieces-few place (q ∷ qs) h a = go (tooMany o (q .kind)) refl h (λ e. pieces-few (place + length (extentOf q)) qs e (a .1))
-    where
-      go : (t : Bool) → tooMany o (q .kind) ≡ t → elim t as (λ x. Found) [ true ↦ At place | false ↦ longParagraph o (place + length (extentOf q)) qs ] ≡ Nowhere
-          → (longParagraph o (place + length (extentOf q)) qs ≡ Nowhere → length (joined (pieceEndings o) qs) ≤ 1024 * length (joined extentOf qs))
-          → length (joined (pieceEndings o) (q ∷ qs)) ≤ 1024 * length (joined extentOf (q ∷ qs))
-      go true t e rest = absurd (let z : _≡_ {A = ℕ} 0 1 = cc in omega arith)
-      go false t e rest =
-          let f = piece-few (q .kind) t in
-          let r = rest e in
-          let s = a .0 in
-          rw (joined-cons (pieceEndings o) q qs, joined-cons extentOf q qs, length-append, length-append) (omega arith)
+  pieces-few : (qs : List Piece) → All (λ (q : Piece). length (wordsUnder o (q .kind)) ≤ length (extentOf q)) qs → All (λ (q : Piece). 0 < length (extentOf q)) qs
+      → length (joined (pieceEndings o) qs) ≤ length (joined extentOf qs)
+  pieces-few [] w a = rw (joined-nil (pieceEndings o)) (omega arith)
+  pieces-few (q ∷ qs) w a =
+      let f = piece-few (q .kind) (length (extentOf q)) (w .0) (a .0) in
+      let r = pieces-few qs (w .1) (a .1) in
+      rw (joined-cons (pieceEndings o) q qs, joined-cons extentOf q qs, length-append, length-append) (omega arith)
 
-  pub lines-are-few : (notes : List ℕ) → longParagraph o 0 (pieces o notes) ≡ Nowhere → length (lineEndings o notes) ≤ 1024 * length notes
+  pub lines-are-few : (notes : List ℕ) → length (lineEndings o notes) ≤ length notes
   unfolding lineEndings
-  lines-are-few notes h = rw (extents-are-notes o notes) at (pieces-few 0 (pieces o notes) h (extents-some o notes))
+  lines-are-few notes = rw (extents-are-notes o notes) at (pieces-few (pieces o notes) (words-are-few o notes) (extents-some o notes))

@@ -4,3 +4,5 @@ pub mod Answers
 pub mod Counting
 pub mod Values
 pub mod LineFeeds
+pub mod Ends
+mod Worked

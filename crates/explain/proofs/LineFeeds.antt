@@ -73,16 +73,16 @@ text-many uniform fast first indent g (w ∷ ws) = as-many-lines uniform indent 
 -- ---- the digest
 
 module _ (o : Opts) where
-  abbrev setting : Paragraph → Setting
+  abbrev pub setting : Paragraph → Setting
   setting p = settingOf o (p .mail) (p .first .columns) (p .indent .columns)
 
-  kind-is-lines : (k : Kind) → outputOf o k ≡ fed (kindLines o k)
+  pub kind-is-lines : (k : Kind) → outputOf o k ≡ fed (kindLines o k)
   unfolding outputOf formatted kindLines joined
   kind-is-lines blankLine = refl
   kind-is-lines (plainLine line) = sym (append-nil (line ++ lineFeed))
   kind-is-lines (paragraph p) = text-is-lines (o .uniform || p .mail) (o .quick || p .mail) (p .first .bytes) (p .indent .bytes) (setting p) (wordsOf o p)
 
-  kind-many : (k : Kind) → length (kindLines o k) ≡ length (endingsOf o k)
+  pub kind-many : (k : Kind) → length (kindLines o k) ≡ length (endingsOf o k)
   unfolding kindLines endingsOf paragraphEndings
   kind-many blankLine = refl
   kind-many (plainLine line) = refl

@@ -143,33 +143,23 @@ module _ (o : Opts) (notes : List ℕ) where
     seeking-sought (Stopped place) k = sym (g .long) ∙ k
 
     -- at last there is room for 1,024 words
-    pub seeking-stopped : {w b : ℕ} → NoRoom w b o notes t → ((q m : Bool) (n : ℕ) → o .quick ≡ q → cond (q || m) w b < n → 1024 < n) → SoughtIs o notes s (Stopped (t .at))
-    seeking-stopped n room =
-        sym (g .long) ∙ long-here o (n .goes) (lt-ltb mostWords (length (wordsOf o (n .text))) (room (o .quick) (n .text .mail) (length (wordsOf o (n .text))) refl (n .many)))
+    pub seeking-stopped : {room : ℕ} (n : NoRoom room o notes t) → mostWords < length (wordsOf o (n .text)) → SoughtIs o notes s (Stopped (t .at))
+    seeking-stopped n many = sym (g .long) ∙ long-here o (n .goes) (lt-ltb mostWords (length (wordsOf o (n .text))) many)
 
-pub room-both : (q m : Bool) (n : ℕ) → cond (q || m) 1024 1024 < n → 1024 < n
-room-both true m n h = h
-room-both false true n h = h
-room-both false false n h = h
-
-pub room-quick : (b : ℕ) (q m : Bool) (n : ℕ) → q ≡ true → cond (q || m) 1024 b < n → 1024 < n
-room-quick b true m n e h = h
-room-quick b false m n e h = absurd (let z : _≡_ {A = ℕ} 0 1 = cc in omega arith)
-
--- by how far the tables reached
-module _ (w b : ℕ) (o : Opts) (notes : List ℕ) (s : Seek) (r : Course) (c : Coursed w b o notes s r) where
+-- by how far the room reached
+module _ (room : ℕ) (o : Opts) (notes : List ℕ) (s : Seek) (r : Course) (c : Coursed room o notes s r) where
   pub course-end : {a : Asked} → r ≡ End a → SoughtIs o notes s (All a)
   course-end e = rw e at c
 
-  pub course-short : {t : Seek} → r ≡ Short t → Seeking o notes s t × NoRoom w b o notes t
+  pub course-short : {t : Seek} → r ≡ Short t → Seeking o notes s t × NoRoom room o notes t
   course-short e = rw e at c
 
 -- by what came of a piece
-module _ (w b : ℕ) (o : Opts) (notes : List ℕ) (s : Seek) (r : Passed) (p : PiecePassed w b o notes s r) where
+module _ (room : ℕ) (o : Opts) (notes : List ℕ) (s : Seek) (r : Passed) (p : PiecePassed room o notes s r) where
   pub piece-on : {t : Seek} → r ≡ On t → PieceBehind o notes s t
   piece-on e = rw e at p
 
-  pub piece-over : r ≡ Over → NoRoom w b o notes s
+  pub piece-over : r ≡ Over → NoRoom room o notes s
   piece-over e = rw e at p
 
 -- ---- a piece
@@ -184,7 +174,7 @@ module _ (o : Opts) (notes : List ℕ) (s : Seek) (next : ℕ) (a : Asked) where
   plain-behind {line} g e = record { kind = plainLine line; goes = g; few = refl; asked = e }
 
 -- a paragraph in places
-module _ (w b : ℕ) (block notes : List ℕ) (o : Options) (s : Seek) (p : ParagraphAt) (g : TextGoes (meant block o) (s .mail) notes (s .at) p) where
+module _ (room : ℕ) (block notes : List ℕ) (o : Options) (s : Seek) (p : ParagraphAt) (g : TextGoes (meant block o) (s .mail) notes (s .at) p) where
   words-are : wordsOf (meant block o) (g .paragraph-is) ≡ wordsFor block notes (s .at) o p
   words-are = text-words (meant block o) notes (s .at) p (g .paragraph-is) (g .text)
 
@@ -193,7 +183,7 @@ module _ (w b : ℕ) (block notes : List ℕ) (o : Options) (s : Seek) (p : Para
   unfolding endingsOf paragraphEndings meant
   endings-are = rw (words-are, g .text .mail, g .text .first .columns, g .text .indent .columns)
 
-  pub text-passed : (r : Passed) → TextPassed w b notes (s .at) o p (s .asked) r block → PiecePassed w b (meant block o) notes s r
+  pub text-passed : (r : Passed) → TextPassed room notes (s .at) o p (s .asked) r block → PiecePassed room (meant block o) notes s r
   unfolding meant
   text-passed (On t) h = record {
     kind = paragraph (g .paragraph-is);
@@ -206,5 +196,5 @@ module _ (w b : ℕ) (block notes : List ℕ) (o : Options) (s : Seek) (p : Para
     state = p .mail;
     next = p .next;
     goes = g .goes;
-    many = rw (words-are, g .text .mail) h;
+    many = rw words-are h;
   }

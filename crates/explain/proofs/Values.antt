@@ -2,25 +2,20 @@
 use mathlib.Core.Path.{_≡_, refl, ap}
 use mathlib.Core.Bool.{Bool, true, false, cond}
 use mathlib.Core.List.{List}
-use Prim.Native.Nat.{ℕ, _^_, _≤_, _<_}
+use Prim.Native.Nat.{ℕ, _+_, _*_, _/_, _%_, _^_, _≤_, _<_}
 use native.Mathlib.Omega.{arith}
 use borrow.Author.Tests.{ltb-false}
 use lib.Dec.{ltb}
 use lib.ListN.{length, getD}
-use Rattle.text.specs.declared.Found.{Found}
-use Rattle.text.specs.declared.Found.the-variants.{At, Nowhere}
 use Rattle.options.specs.Opts.{Opts, meant}
 use Rattle.options.specs.OptionBlock.{readBlock}
 use Rattle.options.specs.declared.Block.{Block}
 use Rattle.options.specs.declared.Block.the-variants.{Accepted, Fault}
-use Rattle.pieces.specs.Pieces.{pieces}
 use Rattle.endings.specs.declared.Ending.{Ending}
 use Rattle.endings.specs.declared.Ending.the-variants.{Paragraph}
-use Rattle.walk.specs.Digest.{longParagraph}
-use Rattle.formatter.specs.Answers.{Answer, done, options, long, text, words, room, code}
-use Rattle.formatter.specs.Format.{mostBytes, damageIn, withWords, withText, withNotes, withBlock, measuring}
-use Rattle.formatter.specs.Contracts.Call.{told as replied, replyNumber}
-use Rattle.formatter.proofs.Values.{measured-fits}
+use Rattle.formatter.specs.Answers.{Answer, done, options, long, text, words, room, work, code, value, numbered}
+use Rattle.formatter.specs.Format.{Limits, document01, damageIn, withText, withBlock, finding, mostTold}
+use Rattle.formatter.proofs.Values.{Sound, document01-sound, found-value, reads-back}
 use Rattle.formatter.proofs.Values as formatter
 use Rattle.explain.specs.Reasons.{lineEndings}
 use Rattle.explain.specs.Explain.{Explanation, because, refused, noLine, lookUp, lookUpIn, afterMeasuring, explaining, explainedNumber, reasonAfter}
@@ -39,44 +34,75 @@ told-reason (because e) reason = refl
 told-reason (refused a) reason = refl
 told-reason (noLine lines) reason = refl
 
--- ---- where measuring finds a digest, there are few lines
+-- ---- what the answer tells
 
-module _ (o : Opts) (notes digest : List ℕ) where
-  done-words : (f : Found) → withWords done o notes f ≡ done digest → f ≡ Nowhere
-  done-words (At place) e = absurd (let z = ap code e in omega (arith, z))
-  done-words Nowhere e = refl
+-- code and N
+abbrev pub codeOf : Explanation → ℕ
+codeOf (because e) = 0
+codeOf (refused a) = code a
+codeOf (noLine n) = 8
 
-  done-text : (f : Found) → withText done o notes f ≡ done digest → longParagraph o 0 (pieces o notes) ≡ Nowhere
-  done-text (At place) e = absurd (let z = ap code e in omega (arith, z))
-  done-text Nowhere e = done-words (longParagraph o 0 (pieces o notes)) e
+abbrev pub valueOf : Explanation → ℕ
+valueOf (because e) = 0
+valueOf (refused a) = value a
+valueOf (noLine n) = n
 
-  done-few : withNotes done o notes ≡ done digest → length (lineEndings o notes) ≤ 67108864
-  done-few e = go (ltb mostBytes (length notes)) refl e
-    where
-      go : (b : Bool) → ltb mostBytes (length notes) ≡ b → elim b as (λ t. Answer) [ true ↦ long | false ↦ withText done o notes (damageIn (o .keep) notes) ] ≡ done digest → length (lineEndings o notes) ≤ 67108864
-      go true h k = absurd (let z = ap code k in omega (arith, z))
-      go false h k = let s = ltb-false mostBytes (length notes) h in let f = lines-are-few o notes (done-text (damageIn (o .keep) notes) k) in omega (arith, s, f)
+pub explained-is : (x : Explanation) → explainedNumber x ≡ codeOf x * 2 ^ 32 + valueOf x
+unfolding explainedNumber numbered
+explained-is (because e) = refl
+explained-is (refused a) = refl
+explained-is (noLine n) = refl
 
-look-fits : (line : ℕ) (es : List Ending) → length es ≤ 67108864 → toldNumber (told (lookUp line es)) < 2 ^ 64
-look-fits line es h = go (ltb line (length es))
+look-value : (line : ℕ) (es : List Ending) → length es ≤ mostTold → valueOf (lookUp line es) ≤ mostTold
+look-value line es h = go (ltb line (length es))
   where
-    go : (b : Bool) → toldNumber (told (cond b (because (getD es line Paragraph)) (noLine (length es)))) < 2 ^ 64
+    go : (b : Bool) → valueOf (cond b (because (getD es line Paragraph)) (noLine (length es))) ≤ mostTold
     go true = omega arith
-    go false = omega arith
+    go false = h
 
-module _ (block notes : List ℕ) (line : ℕ) where
-  done-fits : (digest : List ℕ) (b : Block) → withBlock done block notes b ≡ done digest → toldNumber (told (lookUpIn line block notes b)) < 2 ^ 64
-  done-fits digest (Fault place) e = absurd (let z = ap code e in omega (arith, z))
-  done-fits digest (Accepted o) e = look-fits line (lineEndings (meant block o) notes) (done-few (meant block o) notes digest e)
+module _ (l : Limits) (sound : Sound l) (block notes : List ℕ) (line : ℕ) where
+  -- where there is a digest, the notes are within the limit
+  done-short : (digest : List ℕ) (o : Opts) (b : Bool) → ltb (l .bytes) (length notes) ≡ b → elim b as (λ t. Answer) [ true ↦ long | false ↦ withText (l .words) done o notes (damageIn (o .keep) notes) ] ≡ done digest → length notes ≤ l .bytes
+  done-short digest o true h k = absurd (let z = ap code k in omega (arith, z))
+  done-short digest o false h k = ltb-false (l .bytes) (length notes) h
 
-  pub told-fits : toldNumber (told (explaining block notes line)) < 2 ^ 64
-  unfolding explaining measuring
-  told-fits = go (measuring block notes) refl (measured-fits block notes)
+  done-value : (digest : List ℕ) (b : Block) → withBlock l done block notes b ≡ done digest → valueOf (lookUpIn line block notes b) ≤ mostTold
+  done-value digest (Fault place) e = absurd (let z = ap code e in omega (arith, z))
+  done-value digest (Accepted o) e =
+      let s = done-short digest (meant block o) (ltb (l .bytes) (length notes)) refl e in
+      look-value line (lineEndings (meant block o) notes) (let f = lines-are-few (meant block o) notes in omega (arith, f, s, sound .short))
+
+  pub explained-value : valueOf (explaining l block notes line) ≤ mostTold
+  unfolding explaining finding
+  explained-value = go (finding l block notes) refl
     where
-      go : (a : Answer) → measuring block notes ≡ a → replyNumber (replied a) < 2 ^ 64 → toldNumber (told (afterMeasuring (lookUpIn line block notes (readBlock block)) a)) < 2 ^ 64
-      go (done digest) e h = done-fits digest (readBlock block) e
-      go (options place) e h = h
-      go long e h = h
-      go (text place) e h = h
-      go (words place) e h = h
-      go (room needed) e h = h
+      go : (a : Answer) → finding l block notes ≡ a → valueOf (afterMeasuring (lookUpIn line block notes (readBlock block)) a) ≤ mostTold
+      go (done digest) e = done-value digest (readBlock block) e
+      go (options place) e = found-value l sound block notes (options place) e (omega arith)
+      go long e = omega arith
+      go (text place) e = found-value l sound block notes (text place) e (omega arith)
+      go (words place) e = found-value l sound block notes (words place) e (omega arith)
+      go (room needed) e = found-value l sound block notes (room needed) e (omega arith)
+      go (work needed) e = found-value l sound block notes (work needed) e (omega arith)
+
+code-most : (x : Explanation) → codeOf x ≤ 12
+code-most (because e) = omega arith
+code-most (refused (done digest)) = omega arith
+code-most (refused (options place)) = omega arith
+code-most (refused long) = omega arith
+code-most (refused (text place)) = omega arith
+code-most (refused (words place)) = omega arith
+code-most (refused (room needed)) = omega arith
+code-most (refused (work needed)) = omega arith
+code-most (noLine n) = omega arith
+
+pub told-fits : (block notes : List ℕ) (line : ℕ) → toldNumber (told (explaining document01 block notes line)) < 2 ^ 64
+told-fits block notes line =
+    let c = code-most (explaining document01 block notes line) in
+    let v = explained-value document01 document01-sound block notes line in
+    rw (told-number, explained-is) (omega (arith, c, v))
+
+-- Code and value can be read back from the number, whatever the limits, the block, the notes and the line.
+pub explaining-tells-code-and-value : (l : Limits) → Sound l → (block notes : List ℕ) (line : ℕ)
+    → (explainedNumber (explaining l block notes line) / 2 ^ 32 ≡ codeOf (explaining l block notes line)) × (explainedNumber (explaining l block notes line) % 2 ^ 32 ≡ valueOf (explaining l block notes line))
+explaining-tells-code-and-value l sound block notes line = rw explained-is (reads-back (codeOf (explaining l block notes line)) (valueOf (explaining l block notes line)) (explained-value l sound block notes line))

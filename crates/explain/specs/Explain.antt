@@ -11,8 +11,8 @@ use Rattle.options.specs.declared.Block.the-variants.{Accepted, Fault}
 use Rattle.endings.specs.declared.Ending.{Ending}
 use Rattle.endings.specs.declared.Ending.the-variants.{Paragraph as OfParagraph}
 use Rattle.endings.specs.Endings.{numbersOf}
-use Rattle.formatter.specs.Answers.{Answer, done, options, long, text, words, room, numbered}
-use Rattle.formatter.specs.Format.{measuring}
+use Rattle.formatter.specs.Answers.{Answer, done, options, long, text, words, room, work, numbered}
+use Rattle.formatter.specs.Format.{Limits, finding}
 use Rattle.explain.specs.Reasons.{lineEndings}
 
 pub data Explanation : Type 0 where
@@ -36,11 +36,12 @@ afterMeasuring e (options place) = refused (options place)
 afterMeasuring e long = refused long
 afterMeasuring e (text place) = refused (text place)
 afterMeasuring e (words place) = refused (words place)
--- (measuring does not answer so)
+-- (nothing is found so)
 afterMeasuring e (room needed) = refused (room needed)
+afterMeasuring e (work needed) = refused (work needed)
 
-unfoldable pub explaining : List ℕ → List ℕ → ℕ → Explanation
-explaining block notes line = afterMeasuring (lookUpIn line block notes (readBlock block)) (measuring block notes)
+unfoldable pub explaining : Limits → List ℕ → List ℕ → ℕ → Explanation
+explaining l block notes line = afterMeasuring (lookUpIn line block notes (readBlock block)) (finding l block notes)
 
 -- code and N as one number
 unfoldable pub explainedNumber : Explanation → ℕ

@@ -1,2 +1,3 @@
 -- The words of theorems.
 pub mod LineFeeds
+pub mod Ends

@@ -10,17 +10,19 @@ use pieces::Piece;
 use spacing::Setting;
 use words::Count;
 ghost use mathlib.Core.Path.{_≡_};
-ghost use mathlib.Core.Bool.{true, cond};
+ghost use mathlib.Core.Bool.{true, false};
 ghost use mathlib.Core.List.{List, [], _∷_};
 ghost use Prim.Native.Nat.{ℕ, _^_, _≤_, _<_};
 ghost use lib.ListN.{length};
 ghost use Rattle.options.specs.Opts.{meant};
-ghost use Rattle.records.specs.Contracts.Table.{Holds, wordsIn};
+ghost use Rattle.records.specs.Contracts.Table.{wordsIn};
 ghost use Rattle.endings.specs.Endings.{endings};
 ghost use Rattle.knuth_plass.specs.Contracts.Round.{Limits, AllNarrow};
-ghost use Rattle.paragraphs.specs.Contracts.Steps.{Scratch, Placed};
+ghost use Rattle.paragraphs.specs.Contracts.Steps.{roomFor, Roomy, Placed};
+ghost use Rattle.walk.specs.Digest.{mostWords};
 ghost use Rattle.walk.specs.Contracts.Course.{Admitted};
 ghost use Rattle.explain.specs.Reasons.{linesBy};
+ghost use Rattle.formatter.specs.Format.{document01};
 ghost use Rattle.explain.specs.Explain.{explaining};
 ghost use Rattle.explain.specs.declared.Asked.the-variants.{Behind};
 ghost use Rattle.explain.specs.Contracts.Asking.{EndsSo, passed};
@@ -66,7 +68,7 @@ enum Sought {
 
 // Why an output line ends, counted from 0: 1 to 4 are refused as measuring does, then 8.
 pub fn explain(block: &[u8], notes: &[u8], line: u64) -> Explained
-    ensures { λ r. ⌜ r ≡ told (explaining (now (block .entry)) (now (notes .entry)) line) ⌝ }
+    ensures { λ r. ⌜ r ≡ told (explaining document01 (now (block .entry)) (now (notes .entry)) line) ⌝ }
 {
     match formatter::admit(block, notes) {
         Admission::Refused(r) => Explained::Refused(r),
@@ -119,8 +121,17 @@ fn found(line: usize, a: Asked) -> Explained
     }
 }
 
-// All pieces from a place on. As in measuring, the working storage is declared in the functions that follow, first for the words of a few
-// lines and then for the most words that a paragraph may have; quick needs none of Knuth-Plass's.
+// The rooms, in numbers: as in measuring seven a word with quick and fifteen with Knuth-Plass. For 48 words and 1,024, and for 40 and 1,024.
+const QUICK_FEW: usize = 336;
+
+const QUICK_MOST: usize = 7168;
+
+const BEST_FEW: usize = 600;
+
+const BEST_MOST: usize = 15360;
+
+// All pieces from a place on. As in measuring, the working room is declared in the functions that follow, first for the words of a few
+// lines and then for the most words that a paragraph may have.
 fn seek_line(o: Options, block: &[u8], notes: &[u8], from: Seek) -> Sought
     requires { ⌜ Admitted (now block) (now notes) o × (from .at ≤ length (now notes)) ⌝ }
     ensures { λ r. ⌜ SoughtIs (meant (now (block .entry)) o) (now (notes .entry)) from r ⌝ }
@@ -136,22 +147,8 @@ fn seek_quick(o: Options, block: &[u8], notes: &[u8], from: Seek) -> Sought
     requires { ⌜ Admitted (now block) (now notes) o × (from .at ≤ length (now notes)) × (o .quick ≡ true) ⌝ }
     ensures { λ r. ⌜ SoughtIs (meant (now (block .entry)) o) (now (notes .entry)) from r ⌝ }
 {
-    let mut table = [0u32; 336];
-    let mut marks = [false; 48];
-    let mut breaks = [0u32; 8];
-    let mut ratios = [0f32; 1];
-    let mut active = [0u32; 1];
-    match seek_with(
-        o,
-        block,
-        notes,
-        from,
-        &mut table,
-        &mut breaks,
-        &mut ratios,
-        &mut active,
-        &mut marks,
-    ) {
+    let mut work = [0u32; QUICK_FEW];
+    match seek_with(o, block, notes, from, &mut work) {
         Course::End(a) => Sought::All(a),
         Course::Short(s) => seek_quick_long(o, block, notes, s),
     }
@@ -162,22 +159,8 @@ fn seek_quick_long(o: Options, block: &[u8], notes: &[u8], from: Seek) -> Sought
     requires { ⌜ Admitted (now block) (now notes) o × (from .at ≤ length (now notes)) × (o .quick ≡ true) ⌝ }
     ensures { λ r. ⌜ SoughtIs (meant (now (block .entry)) o) (now (notes .entry)) from r ⌝ }
 {
-    let mut table = [0u32; 7168];
-    let mut marks = [false; 1024];
-    let mut breaks = [0u32; 8];
-    let mut ratios = [0f32; 1];
-    let mut active = [0u32; 1];
-    match seek_with(
-        o,
-        block,
-        notes,
-        from,
-        &mut table,
-        &mut breaks,
-        &mut ratios,
-        &mut active,
-        &mut marks,
-    ) {
+    let mut work = [0u32; QUICK_MOST];
+    match seek_with(o, block, notes, from, &mut work) {
         Course::End(a) => Sought::All(a),
         Course::Short(s) => Sought::Stopped(s.at),
     }
@@ -185,25 +168,11 @@ fn seek_quick_long(o: Options, block: &[u8], notes: &[u8], from: Seek) -> Sought
 
 // With Knuth-Plass: for the words of a few lines.
 fn seek_best(o: Options, block: &[u8], notes: &[u8], from: Seek) -> Sought
-    requires { ⌜ Admitted (now block) (now notes) o × (from .at ≤ length (now notes)) ⌝ }
+    requires { ⌜ Admitted (now block) (now notes) o × (from .at ≤ length (now notes)) × (o .quick ≡ false) ⌝ }
     ensures { λ r. ⌜ SoughtIs (meant (now (block .entry)) o) (now (notes .entry)) from r ⌝ }
 {
-    let mut table = [0u32; 280];
-    let mut marks = [false; 40];
-    let mut breaks = [0u32; 320];
-    let mut ratios = [0f32; 40];
-    let mut active = [0u32; 40];
-    match seek_with(
-        o,
-        block,
-        notes,
-        from,
-        &mut table,
-        &mut breaks,
-        &mut ratios,
-        &mut active,
-        &mut marks,
-    ) {
+    let mut work = [0u32; BEST_FEW];
+    match seek_with(o, block, notes, from, &mut work) {
         Course::End(a) => Sought::All(a),
         Course::Short(s) => seek_best_long(o, block, notes, s),
     }
@@ -211,49 +180,24 @@ fn seek_best(o: Options, block: &[u8], notes: &[u8], from: Seek) -> Sought
 
 // For the most words.
 fn seek_best_long(o: Options, block: &[u8], notes: &[u8], from: Seek) -> Sought
-    requires { ⌜ Admitted (now block) (now notes) o × (from .at ≤ length (now notes)) ⌝ }
+    requires { ⌜ Admitted (now block) (now notes) o × (from .at ≤ length (now notes)) × (o .quick ≡ false) ⌝ }
     ensures { λ r. ⌜ SoughtIs (meant (now (block .entry)) o) (now (notes .entry)) from r ⌝ }
 {
-    let mut table = [0u32; 7168];
-    let mut marks = [false; 1024];
-    let mut breaks = [0u32; 8192];
-    let mut ratios = [0f32; 1024];
-    let mut active = [0u32; 1024];
-    match seek_with(
-        o,
-        block,
-        notes,
-        from,
-        &mut table,
-        &mut breaks,
-        &mut ratios,
-        &mut active,
-        &mut marks,
-    ) {
+    let mut work = [0u32; BEST_MOST];
+    match seek_with(o, block, notes, from, &mut work) {
         Course::End(a) => Sought::All(a),
         Course::Short(s) => Sought::Stopped(s.at),
     }
 }
 
 // Piece by piece, as far as the tables reach.
-fn seek_with(
-    o: Options,
-    block: &[u8],
-    notes: &[u8],
-    from: Seek,
-    table: &mut [u32],
-    breaks: &mut [u32],
-    ratios: &mut [f32],
-    active: &mut [u32],
-    marks: &mut [bool],
-) -> Course
-    requires { ⌜ Admitted (now block) (now notes) o × (from .at ≤ length (now notes)) × Scratch (now table) (now breaks) (now ratios) (now active) (now marks) ⌝ }
-    ensures { λ r. ⌜ Coursed (length (now (marks .entry))) (length (now (ratios .entry))) (meant (now (block .entry)) o) (now (notes .entry)) from r ⌝ }
+fn seek_with(o: Options, block: &[u8], notes: &[u8], from: Seek, work: &mut [u32]) -> Course
+    requires { ⌜ Admitted (now block) (now notes) o × (from .at ≤ length (now notes)) × (roomFor (o .quick) (length (now work)) ≤ mostWords) ⌝ }
+    ensures { λ r. ⌜ Coursed (roomFor (o .quick) (length (now (work .entry)))) (meant (now (block .entry)) o) (now (notes .entry)) from r ⌝ }
 {
     let mut s = from;
     while s.at < notes.len() {
-        let Passed::On(t) = pass_piece(o, block, notes, s, table, breaks, ratios, active, marks)
-        else {
+        let Passed::On(t) = pass_piece(o, block, notes, s, work) else {
             return Course::Short(s);
         };
         s = t;
@@ -263,19 +207,9 @@ fn seek_with(
 }
 
 // Behind the piece at a place.
-fn pass_piece(
-    o: Options,
-    block: &[u8],
-    notes: &[u8],
-    s: Seek,
-    table: &mut [u32],
-    breaks: &mut [u32],
-    ratios: &mut [f32],
-    active: &mut [u32],
-    marks: &mut [bool],
-) -> Passed
-    requires { ⌜ Admitted (now block) (now notes) o × (s .at < length (now notes)) × Scratch (now table) (now breaks) (now ratios) (now active) (now marks) ⌝ }
-    ensures { λ r. ⌜ PiecePassed (length (now (marks .entry))) (length (now (ratios .entry))) (meant (now (block .entry)) o) (now (notes .entry)) s r ⌝ }
+fn pass_piece(o: Options, block: &[u8], notes: &[u8], s: Seek, work: &mut [u32]) -> Passed
+    requires { ⌜ Admitted (now block) (now notes) o × (s .at < length (now notes)) × (roomFor (o .quick) (length (now work)) ≤ mostWords) ⌝ }
+    ensures { λ r. ⌜ PiecePassed (roomFor (o .quick) (length (now (work .entry)))) (meant (now (block .entry)) o) (now (notes .entry)) s r ⌝ }
 {
     let at = s.at;
     let asked = s.asked;
@@ -290,18 +224,7 @@ fn pass_piece(
             mail: false,
             asked: pass_line(asked, Ending::Plain),
         }),
-        Piece::Text(p) => pass_paragraph(
-            notes,
-            at,
-            o,
-            p,
-            asked,
-            table,
-            breaks,
-            ratios,
-            active,
-            marks,
-        ),
+        Piece::Text(p) => pass_paragraph(notes, at, o, p, asked, work),
     }
 }
 
@@ -327,17 +250,12 @@ fn pass_paragraph(
     o: Options,
     p: Paragraph,
     asked: Asked,
-    table: &mut [u32],
-    breaks: &mut [u32],
-    ratios: &mut [f32],
-    active: &mut [u32],
-    marks: &mut [bool],
+    work: &mut [u32],
 ) -> Passed
-    requires { ⌜ Placed (now notes) at o p × Scratch (now table) (now breaks) (now ratios) (now active) (now marks) ⌝ }
-    ensures { λ r. ⌜ ((block : List ℕ) → TextPassed (length (now (marks .entry))) (length (now (ratios .entry))) (now (notes .entry)) at o p asked r block) ⌝ }
+    requires { ⌜ Placed (now notes) at o p × (roomFor (o .quick) (length (now work)) ≤ mostWords) ⌝ }
+    ensures { λ r. ⌜ ((block : List ℕ) → TextPassed (roomFor (o .quick) (length (now (work .entry)))) (now (notes .entry)) at o p asked r block) ⌝ }
 {
-    let fast = o.quick | p.mail;
-    let most = pick(fast, marks.len(), ratios.len());
+    let most = paragraphs::room_for(o.quick, work.len());
     let Count::Words(n) = words::split_words(
         notes,
         at,
@@ -347,7 +265,7 @@ fn pass_paragraph(
         p.later,
         o,
         most,
-        table,
+        work,
     ) else {
         return Passed::Over;
     };
@@ -362,59 +280,25 @@ fn pass_paragraph(
         at: p.next,
         mail: p.mail,
         asked: ask_lines(
-            fast,
+            o.quick | p.mail,
             paragraphs::setting_of(o, p),
-            table,
+            work,
             n,
             line,
-            breaks,
-            ratios,
-            active,
-            marks,
         ),
     })
 }
 
-fn pick(first: bool, a: usize, b: usize) -> usize
-    ensures { λ r. ⌜ r ≡ cond first a b ⌝ }
-{
-    if first {
-        return a;
-    }
-    b
-}
-
 // Asks a paragraph of n words for a line, counted from its first.
-fn ask_lines(
-    fast: bool,
-    g: Setting,
-    table: &[u32],
-    n: usize,
-    line: usize,
-    breaks: &mut [u32],
-    ratios: &mut [f32],
-    active: &mut [u32],
-    marks: &mut [bool],
-) -> Asked
-    requires { ⌜ Limits g × (1 ≤ n) × (n ≤ cond fast (length (now marks)) (length (now ratios))) × Holds n (now table) × AllNarrow n (now table) × Scratch (now table) (now breaks) (now ratios) (now active) (now marks) ⌝ }
-    ensures { λ r. ⌜ ((notes : List ℕ) → r ≡ passed (endings (linesBy fast g (wordsIn notes n (now (table .entry))))) (Behind line)) ⌝ }
+fn ask_lines(fast: bool, g: Setting, work: &mut [u32], n: usize, line: usize) -> Asked
+    requires { ⌜ Limits g × (1 ≤ n) × (n ≤ 2 ^ 20) × Roomy fast n (now work) × AllNarrow n (now work) ⌝ }
+    ensures { λ r. ⌜ ((notes : List ℕ) → r ≡ passed (endings (linesBy fast g (wordsIn notes n (now (work .entry))))) (Behind line)) ⌝ }
 {
-    paragraphs::mark_breaks(fast, g, table, n, breaks, ratios, active, marks);
-    match endings::find_line(marks, n, line) {
+    paragraphs::mark_breaks(fast, g, work, n);
+    match endings::find_line(work, n, line) {
         Spot::Last => Asked::Told(Ending::Paragraph),
         Spot::Behind(rest) => Asked::Behind(rest),
-        Spot::Before(e) => Asked::Told(ending_before(
-            fast,
-            g,
-            table,
-            n,
-            line,
-            e,
-            breaks,
-            ratios,
-            active,
-            marks,
-        )),
+        Spot::Before(e) => Asked::Told(ending_before(fast, g, work, n, line, e)),
     }
 }
 
@@ -422,20 +306,16 @@ fn ask_lines(
 fn ending_before(
     fast: bool,
     g: Setting,
-    table: &[u32],
+    work: &mut [u32],
     n: usize,
     line: usize,
     e: usize,
-    breaks: &mut [u32],
-    ratios: &mut [f32],
-    active: &mut [u32],
-    marks: &[bool],
 ) -> Ending
-    requires { ⌜ Limits g × (1 ≤ n) × (n ≤ cond fast (length (now marks)) (length (now ratios))) × Holds n (now table) × AllNarrow n (now table) × Scratch (now table) (now breaks) (now ratios) (now active) (now marks) × (1 ≤ e) × (e < n) ⌝ }
-    ensures { λ r. ⌜ ((notes : List ℕ) → EndsSo fast g line e (wordsIn notes n (now (table .entry))) r) ⌝ }
+    requires { ⌜ Limits g × (1 ≤ n) × (n ≤ 2 ^ 20) × Roomy fast n (now work) × AllNarrow n (now work) × (1 ≤ e) × (e < n) ⌝ }
+    ensures { λ r. ⌜ ((notes : List ℕ) → EndsSo fast g line e (wordsIn notes n (now (work .entry))) r) ⌝ }
 {
     if fast {
-        return quick::quick_ending(table, n, g, line);
+        return quick::quick_ending(work, n, g, line);
     }
-    knuth_plass::best_ending(table, n, g, e, breaks, ratios, active)
+    knuth_plass::best_ending(work, n, g, e)
 }

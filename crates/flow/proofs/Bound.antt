@@ -11,6 +11,7 @@ use borrow.Author.Tests.{ltb-true, ltb-false}
 use Rattle.lists.specs.Runs.{joined}
 use Rattle.text.specs.declared.Found.the-variants.{Nowhere}
 use Rattle.options.specs.Opts.{Opts}
+use Rattle.lines.specs.Contracts.Places.{mostLarge}
 use Rattle.pieces.specs.Pieces.{Kind, blankLine, plainLine, paragraph, pieces}
 use Rattle.pieces.specs.Contracts.Places.{pieceAt}
 use Rattle.pieces.specs.declared.Paragraph.{Paragraph as ParagraphAt}
@@ -37,7 +38,7 @@ line-most : (line : List ℕ) → length (sent line) ≤ length line + 3
 unfolding sent
 line-most line = omega (arith, stuffing-most line, length-append (stuffing line) (line ++ crLf), length-append line crLf)
 
-paragraph-most : (o : Opts) (nextMail : Bool) (notes : List ℕ) (at : ℕ) {p : ParagraphAt} (g : TextGoes o nextMail notes at p) → tooMany o (paragraph (g .paragraph-is)) ≡ false
+paragraph-most : (o : Opts) (nextMail : Bool) (notes : List ℕ) (at : ℕ) {p : ParagraphAt} (g : TextGoes o nextMail notes at p) → tooMany mostWords o (paragraph (g .paragraph-is)) ≡ false
     → length (joined sent (sentLines o (paragraph (g .paragraph-is)))) + 3120 * at ≤ 3120 * p .next
 unfolding sentLines paragraphLines
 paragraph-most o nextMail notes at {p} g few =
@@ -59,7 +60,7 @@ record Next (o : Opts) (nextMail : Bool) (notes : List ℕ) (at : ℕ) : Type 0 
   state : Bool
   next : ℕ
   goes : FirstPiece o nextMail notes at kind state next
-  most : tooMany o kind ≡ false → length (joined sent (sentLines o kind)) + 3120 * at ≤ 3120 * next
+  most : tooMany mostWords o kind ≡ false → length (joined sent (sentLines o kind)) + 3120 * at ≤ 3120 * next
 
 next-of : (o : Opts) (nextMail : Bool) (notes : List ℕ) (at : ℕ) (r : PieceAt) → PieceGoes o nextMail notes at r → Next o nextMail notes at
 unfolding sentLines
@@ -76,7 +77,7 @@ next-of o nextMail notes at (PlainAt end next) g =
 next-of o nextMail notes at (Text p) g =
     record { kind = paragraph (g .paragraph-is); state = p .mail; next = p .next; goes = g .goes; most = paragraph-most o nextMail notes at g }
 
-module _ (o : Opts) (notes : List ℕ) (least : 1 ≤ o .tab) (most : o .tab ≤ 100) (short : length notes ≤ 65536) (cleared : o .split ≡ true → (o .crown || o .tagged) ≡ false) where
+module _ (o : Opts) (notes : List ℕ) (least : 1 ≤ o .tab) (most : o .tab ≤ 100) (short : length notes ≤ mostLarge) (cleared : o .split ≡ true → (o .crown || o .tagged) ≡ false) where
   past-most : (nextMail : Bool) (at : ℕ) → at ≤ length notes → length notes ≤ at → length (flowedFrom o nextMail notes at) + 3120 * at ≤ 3120 * length notes
   past-most nextMail at h k = rw (sent-none o notes nextMail at k) (omega arith)
 
@@ -89,7 +90,7 @@ module _ (o : Opts) (notes : List ℕ) (least : 1 ≤ o .tab) (most : o .tab ≤
           → ((m : Bool) (i : ℕ) → i ≤ length notes → length notes ≤ i + k → longFrom o m notes i ≡ Nowhere → length (flowedFrom o m notes i) + 3120 * i ≤ 3120 * length notes)
           → length (flowedFrom o nextMail notes at) + 3120 * at ≤ 3120 * length notes
       go false t rest = past-most nextMail at h (ltb-false at (length notes) t)
-      go true t rest = step (tooMany o (n .kind)) refl
+      go true t rest = step (tooMany mostWords o (n .kind)) refl
         where
           i : at < length notes
           i = ltb-true at (length notes) t
@@ -100,7 +101,7 @@ module _ (o : Opts) (notes : List ℕ) (least : 1 ≤ o .tab) (most : o .tab ≤
           n : Next o nextMail notes at
           n = next-of o nextMail notes at r (piece-goes o nextMail notes at r (means o nextMail notes at i least most short cleared) (bounded o nextMail notes at i least most short cleared))
 
-          step : (b : Bool) → tooMany o (n .kind) ≡ b → length (flowedFrom o nextMail notes at) + 3120 * at ≤ 3120 * length notes
+          step : (b : Bool) → tooMany mostWords o (n .kind) ≡ b → length (flowedFrom o nextMail notes at) + 3120 * at ≤ 3120 * length notes
           step true b = absurd (let q = sym e ∙ long-here o (n .goes) b in let z : _≡_ {A = ℕ} 0 1 = cc in omega arith)
           step false b =
               let s = rest (n .state) (n .next) (n .goes .within) (omega (arith, n .goes .on)) (sym (long-more o (n .goes) b) ∙ e) in
@@ -108,5 +109,5 @@ module _ (o : Opts) (notes : List ℕ) (least : 1 ≤ o .tab) (most : o .tab ≤
               omega (arith, l, s, n .most b)
 
   -- a host that lends so much room never gets code 5
-  pub flowed-most : longParagraph o 0 (pieces o notes) ≡ Nowhere → length (flowed o notes) ≤ 3120 * length notes
+  pub flowed-most : longParagraph mostWords o 0 (pieces o notes) ≡ Nowhere → length (flowed o notes) ≤ 3120 * length notes
   flowed-most e = let s = from-most (length notes) true 0 (omega arith) (omega arith) (all-long o notes ∙ e) in omega (arith, s, ap length (all-sent o notes))

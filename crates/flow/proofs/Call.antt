@@ -19,32 +19,41 @@ use Rattle.pieces.specs.Pieces.{Piece, Paragraph, paragraph, pieces}
 use Rattle.words.specs.Words.{wordsOf}
 use Rattle.output.specs.Emission.{lineFeed}
 use Rattle.walk.specs.Digest.{formatted, longParagraph}
-use Rattle.formatter.specs.Answers.{Answer, done, options, long, room}
-use Rattle.formatter.specs.Format.{mostBytes, damageIn}
+use Rattle.formatter.specs.Answers.{Answer, done, options, long, room, work}
+use Rattle.formatter.specs.Format.{Words, upTo, lent, Limits, withWords, within, withText, damageIn, mostTold, isTold}
 use Rattle.unflow.specs.Unflow.{paragraphs, mailLines}
 use Rattle.flow.specs.Flow.{mailed, paragraphLines, flowed, dashesIn}
-use Rattle.flow.specs.Answers.{unfit, sentWords, sentText, sentNotes, sentBlock, flow, countedBy, dashesOf}
+use Rattle.flow.specs.Answers.{unfit, sentIn, sentNotes, sentBlock, flow, countedBy, dashesOf}
 use Rattle.flow.specs.Theorems.ReadBack.{unquoted, back, cameBack, Carry}
 use Rattle.flow.proofs.Theorems.{what-was-written-comes-back, its-words-come-back-in-order, each-piece-once-and-each-such-line, its-lines-are-the-digest's}
 
 -- ---- what an answer that is done says
 
-sent-notes : (space : ℕ) (o : Opts) (notes bytes : List ℕ) → sentNotes space o notes ≡ done bytes → bytes ≡ flowed o notes
-sent-notes space o notes bytes h = size (ltb mostBytes (length notes)) h
+sent-notes : (l : Limits) (space : ℕ) (o : Opts) (notes bytes : List ℕ) → sentNotes l space o notes ≡ done bytes → bytes ≡ flowed o notes
+sent-notes l space o notes bytes h = size (ltb (l .bytes) (length notes)) h
   where
-    fitted : (b : Bool) → cond b (done (flowed o notes)) (room (length (flowed o notes))) ≡ done bytes → bytes ≡ flowed o notes
-    fitted true k = cc
-    fitted false k = cc
+    fitted : (a b : Bool) → cond a (cond b (done (flowed o notes)) (room (length (flowed o notes)))) (room mostTold) ≡ done bytes → bytes ≡ flowed o notes
+    fitted true true k = cc
+    fitted true false k = cc
+    fitted false b k = cc
 
-    count : (f : Found) → sentWords space o notes f ≡ done bytes → bytes ≡ flowed o notes
+    count : (f : Found) → withWords (λ d. sentIn (l .words) space (flowed o notes)) o notes f ≡ done bytes → bytes ≡ flowed o notes
     count (At place) k = cc
-    count Nowhere k = fitted (leb (length (flowed o notes)) space) k
+    count Nowhere k = fitted (isTold (l .words) (length (flowed o notes))) (leb (length (flowed o notes)) space) k
 
-    damaged : (f : Found) → sentText space o notes f ≡ done bytes → bytes ≡ flowed o notes
+    lends : (b : Bool) (needed : ℕ) → elim b as (λ z. Answer) [ true ↦ work needed | false ↦ sentIn (l .words) space (flowed o notes) ] ≡ done bytes → bytes ≡ flowed o notes
+    lends true needed k = cc
+    lends false needed k = fitted (isTold (l .words) (length (flowed o notes))) (leb (length (flowed o notes)) space) k
+
+    enough : (w : Words) → within w (λ d. sentIn (l .words) space (flowed o notes)) o notes ≡ done bytes → bytes ≡ flowed o notes
+    enough (upTo most) k = count (longParagraph most o 0 (pieces o notes)) k
+    enough (lent n need) k = lends (ltb n (need o notes)) (need o notes) k
+
+    damaged : (f : Found) → withText (l .words) (λ d. sentIn (l .words) space (flowed o notes)) o notes f ≡ done bytes → bytes ≡ flowed o notes
     damaged (At place) k = cc
-    damaged Nowhere k = count (longParagraph o 0 (pieces o notes)) k
+    damaged Nowhere k = enough (l .words) k
 
-    size : (b : Bool) → elim b as (λ z. Answer) [ true ↦ long | false ↦ sentText space o notes (damageIn (o .keep) notes) ] ≡ done bytes → bytes ≡ flowed o notes
+    size : (b : Bool) → elim b as (λ z. Answer) [ true ↦ long | false ↦ withText (l .words) (λ d. sentIn (l .words) space (flowed o notes)) o notes (damageIn (o .keep) notes) ] ≡ done bytes → bytes ≡ flowed o notes
     size true k = cc
     size false k = damaged (damageIn (o .keep) notes) k
 
@@ -56,10 +65,10 @@ uniform-on o = refl
 
 -- ---- the count of `--` lines
 
-dashes-done : (block notes : List ℕ) (space : ℕ) (bytes : List ℕ) (o : Options) → flow block notes space ≡ done bytes → readBlock block ≡ Accepted o
-    → dashesOf block notes space ≡ dashesIn (mailed (meant block o)) (pieces (mailed (meant block o)) notes)
+dashes-done : (l : Limits) (block notes : List ℕ) (space : ℕ) (bytes : List ℕ) (o : Options) → flow l block notes space ≡ done bytes → readBlock block ≡ Accepted o
+    → dashesOf l block notes space ≡ dashesIn (mailed (meant block o)) (pieces (mailed (meant block o)) notes)
 unfolding dashesOf
-dashes-done block notes space bytes o h e = ap (λ (a : Answer). countedBy a block notes (readBlock block)) h ∙ ap (countedBy (done bytes) block notes) e
+dashes-done l block notes space bytes o h e = ap (λ (a : Answer). countedBy a block notes (readBlock block)) h ∙ ap (countedBy (done bytes) block notes) e
 
 -- ---- the theorem
 
@@ -69,25 +78,25 @@ InOrder o p =
     Carry (o .glue) (p .first .bytes) (p .indent .bytes) (wordsOf o p) (back (paragraphLines o p)) × (joined (λ (line : List ℕ). line ++ lineFeed) (paragraphLines o p) ≡ formatted o p)
 
 -- What the writer has written, when it answers that it is done, and how it comes back.
-pub record ComesBack (block notes : List ℕ) (space : ℕ) (bytes : List ℕ) : Type 0 where
+pub record ComesBack (l : Limits) (block notes : List ℕ) (space : ℕ) (bytes : List ℕ) : Type 0 where
   pub options : Options
   pub accepted : readBlock block ≡ Accepted options
   pub sent : bytes ≡ flowed (mailed (meant block options)) notes
   pub back : let o = mailed (meant block options) in paragraphs (mailLines bytes) ≡ map unquoted (joined (λ (q : Piece). cameBack o (q .kind)) (pieces o notes))
   pub words : (q : Piece) (p : Paragraph) → q ∈ pieces (mailed (meant block options)) notes → q .kind ≡ paragraph p → InOrder (mailed (meant block options)) p
   -- of the notes' pieces each came back once, and one more for each line `--` that the answer counts
-  pub count : let o = mailed (meant block options) in length (paragraphs (mailLines bytes)) ≡ length (pieces o notes) + dashesOf block notes space
+  pub count : let o = mailed (meant block options) in length (paragraphs (mailLines bytes)) ≡ length (pieces o notes) + dashesOf l block notes space
 
-pub what-the-call-wrote-comes-back : (block notes : List ℕ) (space : ℕ) (bytes : List ℕ) → flow block notes space ≡ done bytes → ComesBack block notes space bytes
+pub what-the-call-wrote-comes-back : (l : Limits) (block notes : List ℕ) (space : ℕ) (bytes : List ℕ) → flow l block notes space ≡ done bytes → ComesBack l block notes space bytes
 unfolding flow
-what-the-call-wrote-comes-back block notes space bytes h = read (readBlock block) refl h
+what-the-call-wrote-comes-back l block notes space bytes h = read (readBlock block) refl h
   where
     fit : (o : Options) → readBlock block ≡ Accepted o → (b : Bool) → unfit block ≡ b
-        → elim b as (λ z. Answer) [ true ↦ options (length block) | false ↦ sentNotes space (mailed (meant block o)) notes ] ≡ done bytes → ComesBack block notes space bytes
+        → elim b as (λ z. Answer) [ true ↦ options (length block) | false ↦ sentNotes l space (mailed (meant block o)) notes ] ≡ done bytes → ComesBack l block notes space bytes
     fit o e true u k = absurd (let z : _≡_ {A = ℕ} 0 1 = cc in omega arith)
     fit o e false u k =
         let m = mailed (meant block o) in
-        let s = sent-notes space m notes bytes k in
+        let s = sent-notes l space m notes bytes k in
         let b = ap (λ (t : List ℕ). paragraphs (mailLines t)) s ∙ what-was-written-comes-back m notes in
         record {
           options = o;
@@ -95,9 +104,9 @@ what-the-call-wrote-comes-back block notes space bytes h = read (readBlock block
           sent = s;
           back = b;
           words = λ q p i k. (its-words-come-back-in-order m notes q p i k (uniform-on (meant block o)), its-lines-are-the-digest's m notes q p i k (uniform-on (meant block o)));
-          count = ap length b ∙ length-map (joined (λ (q : Piece). cameBack m (q .kind)) (pieces m notes)) unquoted ∙ each-piece-once-and-each-such-line m notes ∙ ap (λ (n : ℕ). length (pieces m notes) + n) (sym (dashes-done block notes space bytes o h e));
+          count = ap length b ∙ length-map (joined (λ (q : Piece). cameBack m (q .kind)) (pieces m notes)) unquoted ∙ each-piece-once-and-each-such-line m notes ∙ ap (λ (n : ℕ). length (pieces m notes) + n) (sym (dashes-done l block notes space bytes o h e));
         }
 
-    read : (b : Block) → readBlock block ≡ b → sentBlock space block notes b ≡ done bytes → ComesBack block notes space bytes
+    read : (b : Block) → readBlock block ≡ b → sentBlock l space block notes b ≡ done bytes → ComesBack l block notes space bytes
     read (Fault place) e k = absurd (let z : _≡_ {A = ℕ} 0 1 = cc in omega arith)
     read (Accepted o) e k = fit o e (unfit block) refl k

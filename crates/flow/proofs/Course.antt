@@ -26,7 +26,7 @@ use Rattle.pieces.specs.declared.Piece.{Piece as PieceAt}
 use Rattle.pieces.proofs.Meaning.{TextIs}
 use Rattle.records.specs.Word.{Word}
 use Rattle.records.specs.Contracts.Table.{wordsIn}
-use Rattle.records.specs.Contracts.Marks.{breaksIn}
+use Rattle.records.specs.Contracts.Marks.{breaksOf}
 use Rattle.words.specs.Words.{wordsOf}
 use Rattle.words.proofs.Order.{paragraph-some}
 use Rattle.spacing.specs.declared.Setting.{Setting}
@@ -98,11 +98,11 @@ fair-of {notes} {at} {o} {p} h block =
 
 -- ---- what was sent of a paragraph, in terms of its own words
 
-pub text-sent : {notes table : List ℕ} {n : ℕ} {marks : List Bool} {c : Cursor} {o : Options} {p : ParagraphAt} {out out′ block : List ℕ} {g : Setting} (l : Layout) (t : Turn) → length (wordsFor block notes (c .at) o p) ≤ 1024
-    → l .first ≡ p .first → l .indent ≡ p .indent → wordsIn notes n table ≡ wordsFor block notes (c .at) o p → breaksIn n marks ≡ quickBreaks g (wordsIn notes n table) → g ≡ settingFor block o p
-    → ParagraphSent notes table n marks l out (c .written) out′ t
+pub text-sent : {notes table : List ℕ} {n : ℕ} {c : Cursor} {o : Options} {p : ParagraphAt} {out out′ block : List ℕ} {g : Setting} (l : Layout) (t : Turn) → length (wordsFor block notes (c .at) o p) ≤ 1024
+    → l .first ≡ p .first → l .indent ≡ p .indent → wordsIn notes n table ≡ wordsFor block notes (c .at) o p → breaksOf n table ≡ quickBreaks g (wordsFor block notes (c .at) o p) → g ≡ settingFor block o p
+    → ParagraphSent notes table n l out (c .written) out′ t
     → TextSent notes c o p out out′ (record { at = p .next; written = t .at; mail = p .mail; dashes = c .dashes + t .dashes }) block
-text-sent {notes} {table} {n} {marks} {c} {o} {p} {out} {out′} {block} {g} l t few f i w b s q = record {
+text-sent {notes} {table} {n} {c} {o} {p} {out} {out′} {block} {g} l t few f i w b s q = record {
   few = few;
   next = refl;
   mail = refl;
@@ -208,7 +208,7 @@ module _ (block notes : List ℕ) (o : Options) (ready : Ready block notes o) (n
         counted = rw (a, v .next) (omega (arith, v .dashes, b, k, few-longest first indent ws));
       }
 
-  many : mostWords < length ws → tooMany (meant block o) (paragraph q) ≡ true
+  many : mostWords < length ws → tooMany mostWords (meant block o) (paragraph q) ≡ true
   many h = rw words-count (lt-ltb mostWords (length ws) h)
 
 module _ (block notes : List ℕ) (o : Options) (ready : Ready block notes o) (c : Cursor) {p : ParagraphAt} (g : TextGoes (meant block o) (c .mail) notes (c .at) p) where
@@ -259,7 +259,7 @@ module _ (o : Opts) (notes : List ℕ) where
     pub stands : CursorIn notes c
     pub left : Left out₀ 0 (flowed o notes) out (c .written) (flowedFrom o (c .mail) notes (c .at))
     pub dashes : c .dashes + dashesFor o (c .mail) notes (c .at) ≡ dashesIn o (pieces o notes)
-    pub long : longFrom o (c .mail) notes (c .at) ≡ longParagraph o 0 (pieces o notes)
+    pub long : longFrom o (c .mail) notes (c .at) ≡ longParagraph mostWords o 0 (pieces o notes)
 
   pub going-first : (out : List ℕ) → Going out (record { at = 0; written = 0; mail = true; dashes = 0 }) out
   going-first out = record {

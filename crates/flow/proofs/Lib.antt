@@ -1,6 +1,7 @@
 mod Readings
 mod Back
 mod Carries
+mod Worked
 mod Solid
 mod Sent
 mod Digest
@@ -15,3 +16,4 @@ pub mod Bound
 pub mod Theorems
 pub mod Call
 pub mod Unique
+pub mod Values

@@ -5,15 +5,16 @@ use mathlib.Core.List.{List, _∷_, _++_, append-nil}
 use Prim.Native.Nat.{ℕ, _+_, _-_, _^_, _≤_, _<_}
 use native.Mathlib.Omega.{arith}
 use lib.Dec.{ltb}
-use lib.ListN.{length, getD, drop, replicate, length-append}
+use lib.ListN.{length, drop, replicate, length-append}
 use lib.Seq.{slice, slice-empty}
 use borrow.Author.Tests.{ltb-true, ltb-false, not-true, not-false}
 use Rattle.pieces.specs.declared.Margin.{Margin}
 use Rattle.records.specs.declared.Word.{Word as Record}
 use Rattle.records.specs.Word.{meaning}
 use Rattle.records.specs.Contracts.Table.{wordsIn, Within, Got}
+use Rattle.records.specs.Contracts.Marks.{markIn}
 use Rattle.records.proofs.Table.{words-drop, words-end}
-use Rattle.records.proofs.Marks.{marks-here}
+use Rattle.records.proofs.Marks.{marks-from}
 use Rattle.spacing.specs.Spacing.{addedSpace}
 use Rattle.output.specs.declared.Layout.{Layout}
 use Rattle.output.specs.Contracts.Sink.{Wrote, Left}
@@ -82,46 +83,46 @@ more-words notes table n i = go (ltb i n) refl
     go true e = ap some (words-drop notes n table i (ltb-true i n e))
     go false e = ap some (words-end notes n table i (ltb-false i n e))
 
-module _ {notes table : List ℕ} {n : ℕ} {marks : List Bool} {l : Layout} {i : ℕ} {w : Record} (laid : Laid notes table n marks l) (got : Got table i w) (more : i < n) where
-  sent-turn : (dashed punct : Bool) → sentFrom notes table n marks (l .indent) dashed punct i
-      ≡ nextSent (getD marks i false) (addedSpace true (w .first) (w .sentence) punct) dashed (marginOf notes (l .indent)) (ltb (i + 1) n) (meaning notes w)
-      ++ sentFrom notes table n marks (l .indent) (nextDashed (getD marks i false) (marginOf notes (l .indent)) (meaning notes w)) (w .punct) (i + 1)
+module _ {notes table : List ℕ} {n : ℕ} {l : Layout} {i : ℕ} {w : Record} (laid : Laid notes table n l) (got : Got table i w) (more : i < n) where
+  sent-turn : (dashed punct : Bool) → sentFrom notes table n (l .indent) dashed punct i
+      ≡ nextSent (markIn table i) (addedSpace true (w .first) (w .sentence) punct) dashed (marginOf notes (l .indent)) (ltb (i + 1) n) (meaning notes w)
+      ++ sentFrom notes table n (l .indent) (nextDashed (markIn table i) (marginOf notes (l .indent)) (meaning notes w)) (w .punct) (i + 1)
   unfolding restSent meaning
-  sent-turn dashed punct = rw (marks-here marks i n more (laid .marked), words-drop notes n table i more, ← got .is, ← more-words notes table n (i + 1))
+  sent-turn dashed punct = rw (marks-from table n i more, words-drop notes n table i more, ← got .is, ← more-words notes table n (i + 1))
 
-  dashes-turn : (dashed : Bool) → dashesFrom notes table n marks (l .indent) dashed i
-      ≡ cond (getD marks i false && dashed) 1 0 + dashesFrom notes table n marks (l .indent) (nextDashed (getD marks i false) (marginOf notes (l .indent)) (meaning notes w)) (i + 1)
+  dashes-turn : (dashed : Bool) → dashesFrom notes table n (l .indent) dashed i
+      ≡ cond (markIn table i && dashed) 1 0 + dashesFrom notes table n (l .indent) (nextDashed (markIn table i) (marginOf notes (l .indent)) (meaning notes w)) (i + 1)
   unfolding restDashes
-  dashes-turn dashed = rw (marks-here marks i n more (laid .marked), words-drop notes n table i more, ← got .is)
+  dashes-turn dashed = rw (marks-from table n i more, words-drop notes n table i more, ← got .is)
 
   pub turn-left : (punct : Bool) (added : ℕ) (t r : Turn) {o₀ o o′ : List ℕ} {n₀ : ℕ} {d₀ : List ℕ} → added ≡ addedSpace true (w .first) (w .sentence) punct
-      → Left o₀ n₀ d₀ o (t .at) (sentFrom notes table n marks (l .indent) (t .dashed) punct i)
-      → Turned notes w (getD marks i false) added (l .indent) (ltb (i + 1) n) t o o′ r
-      → Left o₀ n₀ d₀ o′ (r .at) (sentFrom notes table n marks (l .indent) (r .dashed) (w .punct) (i + 1))
+      → Left o₀ n₀ d₀ o (t .at) (sentFrom notes table n (l .indent) (t .dashed) punct i)
+      → Turned notes w (markIn table i) added (l .indent) (ltb (i + 1) n) t o o′ r
+      → Left o₀ n₀ d₀ o′ (r .at) (sentFrom notes table n (l .indent) (r .dashed) (w .punct) (i + 1))
   turn-left punct added t r a p q = rw (q .dashed) (left-then (rw (sent-turn (t .dashed) punct) at p) (rw a at (q .wrote)))
 
-  pub turn-dashes : (added : ℕ) (t r : Turn) {o o′ : List ℕ} (d : ℕ) → t .dashes + dashesFrom notes table n marks (l .indent) (t .dashed) i ≡ d
-      → Turned notes w (getD marks i false) added (l .indent) (ltb (i + 1) n) t o o′ r
-      → r .dashes + dashesFrom notes table n marks (l .indent) (r .dashed) (i + 1) ≡ d
+  pub turn-dashes : (added : ℕ) (t r : Turn) {o o′ : List ℕ} (d : ℕ) → t .dashes + dashesFrom notes table n (l .indent) (t .dashed) i ≡ d
+      → Turned notes w (markIn table i) added (l .indent) (ltb (i + 1) n) t o o′ r
+      → r .dashes + dashesFrom notes table n (l .indent) (r .dashed) (i + 1) ≡ d
   turn-dashes added t r d p q = rw (q .dashed) (omega (arith, p, q .dashes, dashes-turn (t .dashed)))
 
-module _ (notes table : List ℕ) (n : ℕ) (marks : List Bool) (indent : Margin) where
-  pub sent-end : (dashed punct : Bool) (i : ℕ) → n ≤ i → sentFrom notes table n marks indent dashed punct i ≡ endOf true
+module _ (notes table : List ℕ) (n : ℕ) (indent : Margin) where
+  pub sent-end : (dashed punct : Bool) (i : ℕ) → n ≤ i → sentFrom notes table n indent dashed punct i ≡ endOf true
   unfolding restSent endOf
   sent-end dashed punct i h = rw (words-end notes n table i h)
 
-  pub dashes-end : (dashed : Bool) (i : ℕ) → n ≤ i → dashesFrom notes table n marks indent dashed i ≡ 0
+  pub dashes-end : (dashed : Bool) (i : ℕ) → n ≤ i → dashesFrom notes table n indent dashed i ≡ 0
   unfolding restDashes
   dashes-end dashed i h = rw (words-end notes n table i h)
 
 -- ---- all of them
 
-pub paragraph-sent : (notes table : List ℕ) (n : ℕ) (marks : List Bool) (l : Layout) (w : Record) (o : Opening) (at : ℕ) (t r : Turn) {out out₁ out₂ : List ℕ} → Laid notes table n marks l → Got table 0 w
+pub paragraph-sent : (notes table : List ℕ) (n : ℕ) (l : Layout) (w : Record) (o : Opening) (at : ℕ) (t r : Turn) {out out₁ out₂ : List ℕ} → Laid notes table n l → Got table 0 w
     → Opens (ltb 1 n) (marginOf notes (l .first) ++ slice (w .start) (w .end) notes) o
     → Wrote out at (replicate (o .spaces) 32 ++ (marginOf notes (l .first) ++ slice (w .start) (w .end) notes)) out₁ (t .at) → t .dashed ≡ o .dashed
-    → RestSent notes table n marks (l .indent) out₁ t out₂ r → ParagraphSent notes table n marks l out at out₂ r
+    → RestSent notes table n (l .indent) out₁ t out₂ r → ParagraphSent notes table n l out at out₂ r
 unfolding wordsSent wordsDashes opened meaning
-paragraph-sent notes table n marks l w o at t r laid got j a d s =
+paragraph-sent notes table n l w o at t r laid got j a d s =
     let view : wordsIn notes n table ≡ meaning notes w ∷ drop 1 (wordsIn notes n table) = words-drop notes n table 0 (laid .some) ∙ ap (λ (x : Record). meaning notes x ∷ drop 1 (wordsIn notes n table)) (sym (got .is)) in
     let e : t .dashed ≡ isDashed (marginOf notes (l .first) ++ slice (w .start) (w .end) notes) = d ∙ j .dashed in
     record {

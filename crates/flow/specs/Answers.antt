@@ -1,12 +1,9 @@
 -- Document 02, P10: what the writer answers. It refuses a well-formed block with prefix, crown, tagged or mail; its other refusals are
 -- those of the writing call, in their order, with what is sent in the digest's place.
-use mathlib.Core.Bool.{Bool, true, false, _||_}
+use mathlib.Core.Bool.{Bool, true, false, cond, _||_}
 use mathlib.Core.List.{List}
 use Prim.Native.Nat.{ℕ}
-use lib.Dec.{ltb}
 use lib.ListN.{length}
-use Rattle.text.specs.declared.Found.{Found}
-use Rattle.text.specs.declared.Found.the-variants.{At, Nowhere}
 use Rattle.options.specs.Opts.{Opts, meant}
 use Rattle.options.specs.OptionBlock.{fields, partOf, numberAt, bit, readBlock}
 use Rattle.options.specs.declared.Part.{Part}
@@ -14,9 +11,8 @@ use Rattle.options.specs.declared.Part.the-variants.{Absent, Given}
 use Rattle.options.specs.declared.Block.{Block}
 use Rattle.options.specs.declared.Block.the-variants.{Accepted, Fault}
 use Rattle.pieces.specs.Pieces.{pieces}
-use Rattle.walk.specs.Digest.{longParagraph}
-use Rattle.formatter.specs.Answers.{Answer, done, options, long, text, words, room}
-use Rattle.formatter.specs.Format.{mostBytes, damageIn, withDigest}
+use Rattle.formatter.specs.Answers.{Answer, done, options, long, text, words, room, work}
+use Rattle.formatter.specs.Format.{Words, Limits, withNotes, withDigest, mostTold, isTold}
 use Rattle.flow.specs.Flow.{mailed, flowed, dashesIn}
 
 -- the block's own bits 0 to 2, whatever split makes of them, and a prefix given at all
@@ -32,25 +28,21 @@ unfit block = bit 0 (flagsOf block) || bit 1 (flagsOf block) || bit 2 (flagsOf b
 
 -- ---- the answers: the lowest number wins
 
-abbrev pub sentWords : ℕ → Opts → List ℕ → Found → Answer
-sentWords space o notes (At place) = words place
-sentWords space o notes Nowhere = withDigest space (flowed o notes)
+-- what is answered with what is to be sent, in the digest's place
+abbrev pub sentIn : Words → ℕ → List ℕ → Answer
+sentIn w space bytes = cond (isTold w (length bytes)) (withDigest space bytes) (room mostTold)
 
-abbrev pub sentText : ℕ → Opts → List ℕ → Found → Answer
-sentText space o notes (At place) = text place
-sentText space o notes Nowhere = sentWords space o notes (longParagraph o 0 (pieces o notes))
-
-abbrev pub sentNotes : ℕ → Opts → List ℕ → Answer
-sentNotes space o notes = elim (ltb mostBytes (length notes)) [ true ↦ long | false ↦ sentText space o notes (damageIn (o .keep) notes) ]
+abbrev pub sentNotes : Limits → ℕ → Opts → List ℕ → Answer
+sentNotes l space o notes = withNotes l (λ d. sentIn (l .words) space (flowed o notes)) o notes
 
 -- the place of a block that is refused by the writer alone is its length
-abbrev pub sentBlock : ℕ → List ℕ → List ℕ → Block → Answer
-sentBlock space block notes (Fault place) = options place
-sentBlock space block notes (Accepted o) = elim (unfit block) [ true ↦ options (length block) | false ↦ sentNotes space (mailed (meant block o)) notes ]
+abbrev pub sentBlock : Limits → ℕ → List ℕ → List ℕ → Block → Answer
+sentBlock l space block notes (Fault place) = options place
+sentBlock l space block notes (Accepted o) = elim (unfit block) [ true ↦ options (length block) | false ↦ sentNotes l space (mailed (meant block o)) notes ]
 
 -- what is answered with an output slice of so many bytes; its number and the output afterwards are those of document 01's answers
-unfoldable pub flow : List ℕ → List ℕ → ℕ → Answer
-flow block notes space = sentBlock space block notes (readBlock block)
+unfoldable pub flow : Limits → List ℕ → List ℕ → ℕ → Answer
+flow l block notes space = sentBlock l space block notes (readBlock block)
 
 -- and the count of lines `--`, which is 0 on a refusal
 abbrev pub countedBy : Answer → List ℕ → List ℕ → Block → ℕ
@@ -61,6 +53,7 @@ countedBy long block notes b = 0
 countedBy (text place) block notes b = 0
 countedBy (words place) block notes b = 0
 countedBy (room needed) block notes b = 0
+countedBy (work needed) block notes b = 0
 
-unfoldable pub dashesOf : List ℕ → List ℕ → ℕ → ℕ
-dashesOf block notes space = countedBy (flow block notes space) block notes (readBlock block)
+unfoldable pub dashesOf : Limits → List ℕ → List ℕ → ℕ → ℕ
+dashesOf l block notes space = countedBy (flow l block notes space) block notes (readBlock block)

@@ -23,12 +23,14 @@ ghost use Rattle.options.specs.OptionBlock.{fields, firstFault};
 ghost use Rattle.records.specs.Contracts.Table.{Within};
 ghost use Rattle.output.specs.Contracts.Sink.{Wrote};
 ghost use Rattle.output.specs.Contracts.Writers.{marginOf, MarginIn, Laid};
-ghost use Rattle.paragraphs.specs.Contracts.Steps.{settingFor, Placed};
+ghost use Rattle.paragraphs.specs.Contracts.Steps.{roomFor, settingFor, Placed};
+ghost use Rattle.walk.specs.Digest.{mostWords};
 ghost use Rattle.unflow.specs.Flowed.{stuffing, isDashes};
 ghost use Rattle.flow.specs.Flow.{plainSent, trimmed, sent};
+ghost use Rattle.formatter.specs.Format.{document01};
 ghost use Rattle.flow.specs.Answers.{flagsOf, flow as flowOf, dashesOf};
 ghost use Rattle.flow.specs.Contracts.Words.{lineEnd};
-ghost use Rattle.flow.specs.Contracts.Sending.{switched, Ready, refusedFor, shaped, Opens, Turned, RestSent, ParagraphSent, Tables, TextStepped, CursorIn, PieceStepped, Finished, Sends, leftOf, leftDashes};
+ghost use Rattle.flow.specs.Contracts.Sending.{switched, Ready, refusedFor, shaped, Opens, Turned, RestSent, ParagraphSent, TextStepped, CursorIn, PieceStepped, Finished, Sends, leftOf, leftDashes};
 
 // What the writer answers: the reply of a writing call, and the count of lines `--`.
 pub struct Outcome {
@@ -71,7 +73,7 @@ struct Turn {
 
 // Writes the notes as mail. A block that the writer does not take is refused before the notes are looked at.
 pub fn flow(block: &[u8], notes: &[u8], out: &mut [u8]) -> Outcome
-    ensures { λ r. ⌜ Sends (flowOf (now (block .entry)) (now (notes .entry)) (length (now (out .entry)))) (dashesOf (now (block .entry)) (now (notes .entry)) (length (now (out .entry)))) (now (out .entry)) r (now (out .exit)) ⌝ }
+    ensures { λ r. ⌜ Sends (flowOf document01 (now (block .entry)) (now (notes .entry)) (length (now (out .entry)))) (dashesOf document01 (now (block .entry)) (now (notes .entry)) (length (now (out .entry)))) (now (out .entry)) r (now (out .exit)) ⌝ }
 {
     if is_unfit(block) {
         return Outcome {
@@ -184,13 +186,15 @@ fn send_notes(o: Options, block: &[u8], notes: &[u8], out: &mut [u8]) -> Outcome
     }
 }
 
+// The room, in numbers, for the most words that a paragraph may have: seven a word.
+const QUICK_MOST: usize = 7168;
+
 // Piece by piece. The work goes on when no room is left: too many words, found later, take precedence.
 fn send_pieces(o: Options, block: &[u8], notes: &[u8], out: &mut [u8]) -> Ended
     requires { ⌜ Ready (now block) (now notes) o ⌝ }
     ensures { λ r. ⌜ Finished (meant (now (block .entry)) o) (now (notes .entry)) (now (out .entry)) (now (out .exit)) r ⌝ }
 {
-    let mut table = [0u32; 7168];
-    let mut marks = [false; 1024];
+    let mut work = [0u32; QUICK_MOST];
     let mut c = Cursor {
         at: 0,
         written: 0,
@@ -198,7 +202,7 @@ fn send_pieces(o: Options, block: &[u8], notes: &[u8], out: &mut [u8]) -> Ended
         dashes: 0,
     };
     while c.at < notes.len() {
-        let Step::On(d) = send_piece(o, block, notes, c, out, &mut table, &mut marks) else {
+        let Step::On(d) = send_piece(o, block, notes, c, out, &mut work) else {
             return Ended::Stopped(c.at);
         };
         c = d;
@@ -216,10 +220,9 @@ fn send_piece(
     notes: &[u8],
     c: Cursor,
     out: &mut [u8],
-    table: &mut [u32],
-    marks: &mut [bool],
+    work: &mut [u32],
 ) -> Step
-    requires { ⌜ Ready (now block) (now notes) o × CursorIn (now notes) c × (c .at < length (now notes)) × Tables (now table) (now marks) ⌝ }
+    requires { ⌜ Ready (now block) (now notes) o × CursorIn (now notes) c × (c .at < length (now notes)) × (roomFor true (length (now work)) ≡ mostWords) ⌝ }
     ensures { λ r. ⌜ PieceStepped (meant (now (block .entry)) o) (now (notes .entry)) (now (out .entry)) c (now (out .exit)) r ⌝ }
 {
     let at = c.at;
@@ -236,7 +239,7 @@ fn send_piece(
             mail: false,
             dashes: c.dashes,
         }),
-        Piece::Text(p) => send_text(notes, c, o, p, out, table, marks),
+        Piece::Text(p) => send_text(notes, c, o, p, out, work),
     }
 }
 
@@ -247,12 +250,12 @@ fn send_text(
     o: Options,
     p: Paragraph,
     out: &mut [u8],
-    table: &mut [u32],
-    marks: &mut [bool],
+    work: &mut [u32],
 ) -> Step
-    requires { ⌜ Placed (now notes) (c .at) o p × Tables (now table) (now marks) × (c .written < 2 ^ 62) × (c .dashes < 2 ^ 62) × (o .uniform ≡ true) ⌝ }
+    requires { ⌜ Placed (now notes) (c .at) o p × (roomFor true (length (now work)) ≡ mostWords) × (c .written < 2 ^ 62) × (c .dashes < 2 ^ 62) × (o .uniform ≡ true) ⌝ }
     ensures { λ r. ⌜ ((block : List ℕ) → TextStepped (now (notes .entry)) c o p (now (out .entry)) (now (out .exit)) r block) ⌝ }
 {
+    let most = paragraphs::room_for(true, work.len());
     let Count::Words(n) = words::split_words(
         notes,
         c.at,
@@ -261,23 +264,15 @@ fn send_text(
         p.start,
         p.later,
         o,
-        1024,
-        table,
+        most,
+        work,
     ) else {
         return Step::Over;
     };
     let first = p.first;
     let indent = p.indent;
-    quick::quick_breaks(table, n, setting_of(o, first, indent), marks);
-    let t = emit(
-        notes,
-        table,
-        n,
-        marks,
-        layout_of(first, indent),
-        out,
-        c.written,
-    );
+    quick::quick_breaks(work, n, setting_of(o, first, indent));
+    let t = emit(notes, work, n, layout_of(first, indent), out, c.written);
     Step::On(Cursor {
         at: p.next,
         written: t.at,
@@ -312,17 +307,9 @@ fn layout_of(first: Margin, indent: Margin) -> Layout
 }
 
 // A paragraph of n words, broken where the marks say, written behind at bytes.
-fn emit(
-    notes: &[u8],
-    table: &[u32],
-    n: usize,
-    marks: &[bool],
-    l: Layout,
-    out: &mut [u8],
-    at: usize,
-) -> Turn
-    requires { ⌜ Laid (now notes) (now table) n (now marks) l × (at < 2 ^ 62) ⌝ }
-    ensures { λ r. ⌜ ParagraphSent (now (notes .entry)) (now (table .entry)) n (now (marks .entry)) l (now (out .entry)) at (now (out .exit)) r ⌝ }
+fn emit(notes: &[u8], table: &[u32], n: usize, l: Layout, out: &mut [u8], at: usize) -> Turn
+    requires { ⌜ Laid (now notes) (now table) n l × (at < 2 ^ 62) ⌝ }
+    ensures { λ r. ⌜ ParagraphSent (now (notes .entry)) (now (table .entry)) n l (now (out .entry)) at (now (out .exit)) r ⌝ }
 {
     let w = records::get(table, 0);
     let first = l.first;
@@ -334,21 +321,13 @@ fn emit(
         dashed: o.dashed,
         dashes: 0,
     };
-    emit_rest(notes, table, n, marks, l, t, out)
+    emit_rest(notes, table, n, l, t, out)
 }
 
 // The words behind the first, and the end of the last line.
-fn emit_rest(
-    notes: &[u8],
-    table: &[u32],
-    n: usize,
-    marks: &[bool],
-    l: Layout,
-    head: Turn,
-    out: &mut [u8],
-) -> Turn
-    requires { ⌜ Laid (now notes) (now table) n (now marks) l × (head .at < 2 ^ 63) × (head .dashes ≡ 0) ⌝ }
-    ensures { λ r. ⌜ RestSent (now (notes .entry)) (now (table .entry)) n (now (marks .entry)) (l .indent) (now (out .entry)) head (now (out .exit)) r ⌝ }
+fn emit_rest(notes: &[u8], table: &[u32], n: usize, l: Layout, head: Turn, out: &mut [u8]) -> Turn
+    requires { ⌜ Laid (now notes) (now table) n l × (head .at < 2 ^ 63) × (head .dashes ≡ 0) ⌝ }
+    ensures { λ r. ⌜ RestSent (now (notes .entry)) (now (table .entry)) n (l .indent) (now (out .entry)) head (now (out .exit)) r ⌝ }
 {
     let indent = l.indent;
     // The first word's own punctuation does not count.
@@ -358,7 +337,7 @@ fn emit_rest(
     while i < n {
         let w = records::get(table, i);
         let added = spacing::added_space(true, w.first, w.sentence, punct);
-        let fresh = marks[i];
+        let fresh = records::starts_line(table, i);
         i += 1;
         t = put_next(notes, w, fresh, added, indent, i < n, t, out);
         punct = w.punct;

@@ -1,11 +1,12 @@
 -- What measuring says that is done has found, and when it says so; and a call that is done.
-use mathlib.Core.Path.{_≡_, refl, _∙_}
-use mathlib.Core.Bool.{Bool, true, false}
+use mathlib.Core.Path.{_≡_, refl, ap, _∙_}
+use mathlib.Core.Bool.{Bool, true, false, cond}
 use mathlib.Core.List.{List}
 use Prim.Native.Nat.{ℕ, _≤_}
+use native.Mathlib.Omega.{arith}
 use lib.Dec.{ltb}
 use lib.ListN.{length}
-use borrow.Author.Tests.{le-ltb}
+use borrow.Author.Tests.{le-ltb, ltb-false}
 use Rattle.text.specs.declared.Found.{Found}
 use Rattle.text.specs.declared.Found.the-variants.{At, Nowhere}
 use Rattle.options.specs.Opts.{Opts, meant}
@@ -13,42 +14,78 @@ use Rattle.options.specs.OptionBlock.{readBlock}
 use Rattle.options.specs.declared.Options.{Options}
 use Rattle.options.specs.declared.Block.the-variants.{Accepted}
 use Rattle.pieces.specs.Pieces.{pieces}
-use Rattle.formatter.specs.Answers.{Answer, done, long}
+use Rattle.formatter.specs.Answers.{Answer, done, long, room, work, code}
 use Rattle.walk.specs.Digest.{digest, longParagraph}
-use Rattle.formatter.specs.Format.{mostBytes, withWords, withText, damageIn, withNotes, answer, measuring, writing}
-use Rattle.formatter.proofs.Together.{together-they-do-what-the-old-call-did, in-room-done}
+use Rattle.formatter.specs.Format.{Words, upTo, lent, Limits, limited, withWords, withWork, within, withText, damageIn, withNotes, answer, finding, mostTold, isTold, measured, measuring, writing}
+use Rattle.formatter.proofs.Together.{together-they-do-what-the-old-call-did, what-is-found-is-measured, in-room-done}
+
+-- no paragraph has too many words; or so much room is lent as is needed
+abbrev pub Enough : Words → Opts → List ℕ → Type 0
+Enough (upTo most) o notes = longParagraph most o 0 (pieces o notes) ≡ Nowhere
+Enough (lent lends need) o notes = need o notes ≤ lends
 
 -- nothing is refused as damaged, no paragraph is too long, and the bytes are the digest
-pub record Done (o : Opts) (notes bytes : List ℕ) : Type 0 where
+pub record Done (l : Limits) (o : Opts) (notes bytes : List ℕ) : Type 0 where
   pub sound : damageIn (o .keep) notes ≡ Nowhere
-  pub short : longParagraph o 0 (pieces o notes) ≡ Nowhere
+  pub enough : Enough (l .words) o notes
   pub bytes-are : bytes ≡ digest o notes
 
-notes-done : (o : Opts) (notes bytes : List ℕ) → withNotes done o notes ≡ done bytes → Done o notes bytes
-notes-done o notes bytes e = size (ltb mostBytes (length notes)) e
-  where
-    count : (f : Found) → damageIn (o .keep) notes ≡ Nowhere → longParagraph o 0 (pieces o notes) ≡ f → withWords done o notes f ≡ done bytes → Done o notes bytes
-    count (At place) d l h = record { sound = d; short = cc; bytes-are = cc }
-    count Nowhere d l h = record { sound = d; short = l; bytes-are = cc }
+module _ (l : Limits) (then : List ℕ → Answer) (o : Opts) (notes bytes : List ℕ) (only : (d : List ℕ) → then d ≡ done bytes → bytes ≡ d) where
+  notes-done : withNotes l then o notes ≡ done bytes → Done l o notes bytes
+  notes-done e = size (ltb (l .bytes) (length notes)) e
+    where
+      count : (f : Found) → withWords then o notes f ≡ done bytes → (f ≡ Nowhere) × (bytes ≡ digest o notes)
+      count (At place) h = (cc, cc)
+      count Nowhere h = (refl, only (digest o notes) h)
 
-    damaged : (f : Found) → damageIn (o .keep) notes ≡ f → withText done o notes f ≡ done bytes → Done o notes bytes
-    damaged (At place) d h = record { sound = cc; short = cc; bytes-are = cc }
-    damaged Nowhere d h = count (longParagraph o 0 (pieces o notes)) d refl h
+      lends : (b : Bool) (needed : ℕ) → elim b as (λ t. Answer) [ true ↦ work needed | false ↦ then (digest o notes) ] ≡ done bytes → (b ≡ false) × (bytes ≡ digest o notes)
+      lends true needed h = (cc, cc)
+      lends false needed h = (refl, only (digest o notes) h)
 
-    size : (b : Bool) → elim b as (λ t. Answer) [ true ↦ long | false ↦ withText done o notes (damageIn (o .keep) notes) ] ≡ done bytes → Done o notes bytes
-    size true h = record { sound = cc; short = cc; bytes-are = cc }
-    size false h = damaged (damageIn (o .keep) notes) refl h
+      enough : (w : Words) → within w then o notes ≡ done bytes → Enough w o notes × (bytes ≡ digest o notes)
+      enough (upTo most) h = count (longParagraph most o 0 (pieces o notes)) h
+      enough (lent n need) h = let k = lends (ltb n (need o notes)) (need o notes) h in (ltb-false n (need o notes) (k .0), k .1)
 
-pub measured-done : (block notes : List ℕ) (o : Options) (bytes : List ℕ) → readBlock block ≡ Accepted o → measuring block notes ≡ done bytes → Done (meant block o) notes bytes
-unfolding measuring
-measured-done block notes o bytes b e = notes-done (meant block o) notes bytes (rw b at e)
+      damaged : (f : Found) → damageIn (o .keep) notes ≡ f → withText (l .words) then o notes f ≡ done bytes → Done l o notes bytes
+      damaged (At place) d h = absurd (let z = ap code h in omega (arith, z))
+      damaged Nowhere d h = let k = enough (l .words) h in record { sound = d; enough = k .0; bytes-are = k .1 }
 
--- notes are measured as done if they are within the limit, nothing is refused as damaged, and no paragraph is too long
-pub done-measured : (block notes : List ℕ) (o : Options) (bytes : List ℕ) → readBlock block ≡ Accepted o → length notes ≤ mostBytes → Done (meant block o) notes bytes → measuring block notes ≡ done bytes
-unfolding measuring
-done-measured block notes o bytes b n d = rw (d .bytes-are, b, withNotes, le-ltb mostBytes (length notes) n, d .sound, d .short)
+      size : (b : Bool) → elim b as (λ t. Answer) [ true ↦ long | false ↦ withText (l .words) then o notes (damageIn (o .keep) notes) ] ≡ done bytes → Done l o notes bytes
+      size true h = absurd (let z = ap code h in omega (arith, z))
+      size false h = damaged (damageIn (o .keep) notes) refl h
+
+-- what is told as done is the digest that was found, and its length can be told
+told-done : (b : Bool) (d bytes : List ℕ) → cond b (done d) (room mostTold) ≡ done bytes → (b ≡ true) × (bytes ≡ d)
+told-done true d bytes h = (refl, cc)
+told-done false d bytes h = (cc, cc)
+
+module _ (l : Limits) (block notes : List ℕ) (o : Options) (bytes : List ℕ) (accepts : readBlock block ≡ Accepted o) where
+  pub measured-done : measuring l block notes ≡ done bytes → Done l (meant block o) notes bytes
+  unfolding measuring
+  measured-done e = notes-done l (measured (l .words)) (meant block o) notes bytes (λ d h. told-done (isTold (l .words) (length d)) d bytes h .1) (rw accepts at e)
+
+  pub found-done : finding l block notes ≡ done bytes → Done l (meant block o) notes bytes
+  unfolding finding
+  found-done e = notes-done l done (meant block o) notes bytes (λ d h. cc) (rw accepts at e)
+
+  -- notes are found as done if they are within the limits, nothing is refused as damaged, and no paragraph is too long ..
+  enough-within : (w : Words) (then : List ℕ → Answer) → Enough w (meant block o) notes → within w then (meant block o) notes ≡ then (digest (meant block o) notes)
+  enough-within (upTo most) then h = rw h
+  enough-within (lent lends need) then h = rw (within, withWork, le-ltb lends (need (meant block o) notes) h)
+
+  pub done-found : length notes ≤ l .bytes → Done l (meant block o) notes bytes → finding l block notes ≡ done bytes
+  unfolding finding
+  done-found n d = rw (accepts, withNotes, le-ltb (l .bytes) (length notes) n, d .sound, enough-within (l .words) done (d .enough), ← d .bytes-are)
+
+  -- .. and measured so if their length can be told
+  pub done-measured : length notes ≤ l .bytes → Done l (meant block o) notes bytes → isTold (l .words) (length bytes) ≡ true → measuring l block notes ≡ done bytes
+  done-measured n d t = what-is-found-is-measured l block notes bytes (done-found n d) ∙ rw t
 
 -- a call that is done has written what was measured, and it fits
-pub answer-measured : (block notes : List ℕ) (space : ℕ) (bytes : List ℕ) → answer block notes space ≡ done bytes → (measuring block notes ≡ done bytes) × (length bytes ≤ space)
+pub written-measured : (l : Limits) (block notes : List ℕ) (space : ℕ) (bytes : List ℕ) → writing l block notes space ≡ done bytes → (measuring l block notes ≡ done bytes) × (length bytes ≤ space)
 unfolding writing
-answer-measured block notes space bytes e = in-room-done space (measuring block notes) bytes (together-they-do-what-the-old-call-did block notes space ∙ e)
+written-measured l block notes space bytes e = in-room-done space (measuring l block notes) bytes e
+
+pub answer-measured : (bytes most : ℕ) (block notes : List ℕ) (space : ℕ) (digest : List ℕ) → answer (limited bytes most) block notes space ≡ done digest
+    → (measuring (limited bytes most) block notes ≡ done digest) × (length digest ≤ space)
+answer-measured bytes most block notes space digest e = written-measured (limited bytes most) block notes space digest (together-they-do-what-the-old-call-did bytes most block notes space ∙ e)

@@ -110,19 +110,28 @@ small (suc k) s (x ∷ xs) l h p = go (wellFormed f) refl (small k)
           whole = λ m. omega (arith, r .whole (sym q ∙ m), w .whole);
         }
 
+all-small : (block : List ℕ) → Small (record { place = 0; previous = 0 }) block
+all-small block = small (length block) (record { place = 0; previous = 0 }) block (omega arith) (omega arith) (omega arith)
+
 pub fault-small : (block : List ℕ) (place : ℕ) → readBlock block ≡ Fault place → place ≤ 1548
 unfolding readBlock fields
 fault-small block place e = settle (firstFault (walk nextField (record { place = 0; previous = 0 }) block)) refl e
   where
-    all : Small (record { place = 0; previous = 0 }) block
-    all = small (length block) (record { place = 0; previous = 0 }) block (omega arith) (omega arith) (omega arith)
-
     rule : (t : Bool) (o : Options) → length block ≤ 1548 → cond t (Accepted o) (Fault (length block)) ≡ Fault place → place ≤ 1548
     rule true o l a = absurd (let z : _≡_ {A = ℕ} 0 1 = cc in omega arith)
     rule false o l a = let z : length block ≡ place = cc in omega arith
 
     settle : (f : Found) → firstFault (walk nextField (record { place = 0; previous = 0 }) block) ≡ f → judged block (fields block) f ≡ Fault place → place ≤ 1548
-    settle (At n) q a = let z : n ≡ place = cc in omega (arith, all .place n q)
+    settle (At n) q a = let z : n ≡ place = cc in omega (arith, all-small block .place n q)
     settle Nowhere q a =
         let o = optionsOf block (fields block) in
-        rule (fits (leastWidth (partOf 2 (fields block)) (partOf 3 (fields block))) (o .width) (o .goal)) o (omega (arith, all .whole q)) a
+        rule (fits (leastWidth (partOf 2 (fields block)) (partOf 3 (fields block))) (o .width) (o .goal)) o (omega (arith, all-small block .whole q)) a
+
+-- nor is a block without one long
+pub accepted-small : (block : List ℕ) (o : Options) → readBlock block ≡ Accepted o → length block ≤ 1548
+unfolding readBlock fields
+accepted-small block o e = settle (firstFault (walk nextField (record { place = 0; previous = 0 }) block)) refl e
+  where
+    settle : (f : Found) → firstFault (walk nextField (record { place = 0; previous = 0 }) block) ≡ f → judged block (fields block) f ≡ Accepted o → length block ≤ 1548
+    settle (At n) q a = absurd (let z : _≡_ {A = ℕ} 0 1 = cc in omega arith)
+    settle Nowhere q a = omega (arith, all-small block .whole q)

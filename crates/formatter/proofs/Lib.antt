@@ -5,3 +5,4 @@ pub mod Faults
 pub mod Values
 pub mod Unique
 pub mod Refusals
+pub mod Work

@@ -1,37 +1,42 @@
 -- What `admit` promises determines its answer.
-use mathlib.Core.Path.{_≡_, refl, sym, ap, _∙_}
-use mathlib.Core.List.{List, [], _∷_}
-use Prim.Native.Nat.{ℕ}
+use mathlib.Core.Path.{_≡_, sym, ap, _∙_}
+use mathlib.Core.Bool.{Bool, true, false}
+use mathlib.Core.List.{List}
+use Prim.Native.Nat.{ℕ, _≤_}
 use native.Mathlib.Omega.{arith}
+use lib.Dec.{ltb}
 use Rattle.text.specs.declared.Found.{Found}
 use Rattle.text.specs.declared.Found.the-variants.{At, Nowhere}
 use Rattle.options.specs.Opts.{Opts, meant}
 use Rattle.options.specs.declared.Block.the-variants.{Accepted}
 use Rattle.pieces.specs.Pieces.{pieces}
 use Rattle.walk.specs.Digest.{longParagraph}
-use Rattle.formatter.specs.Answers.{Answer, done, long, words, outputAfter}
-use Rattle.formatter.specs.Format.{withWords}
-use Rattle.formatter.specs.Contracts.Call.{told, Admits}
+use Rattle.formatter.specs.Answers.{Answer, done, words, work, code}
+use Rattle.formatter.specs.Format.{Words, upTo, lent, Limits, withWords, within}
+use Rattle.formatter.specs.Contracts.Call.{told, leftOf, Admits}
 use Rattle.formatter.specs.declared.Admission.{Admission}
 use Rattle.formatter.specs.declared.Admission.the-variants.{Refused, Passed}
 
-zeroed : (place : ℕ) → outputAfter (words place) (1 ∷ []) ≡ 0 ∷ []
-unfolding outputAfter
-zeroed place = refl
+-- where none of codes 1 to 3 is due, what is answered hangs on the digest or has a later code: it is no refusal of theirs
+later : (w : Words) (o : Opts) (notes : List ℕ) → 4 ≤ code (within w (λ d. words 0) o notes)
+later (upTo most) o notes = go (longParagraph most o 0 (pieces o notes))
+  where
+    go : (f : Found) → 4 ≤ code (withWords (λ d. words 0) o notes f)
+    go (At place) = omega arith
+    go Nowhere = omega arith
+later (lent lends need) o notes = go (ltb lends (need o notes))
+  where
+    go : (b : Bool) → 4 ≤ code (elim b as (λ t. Answer) [ true ↦ work (need o notes) | false ↦ words 0 ])
+    go true = omega arith
+    go false = omega arith
 
--- where none of codes 1 to 3 is due, what is answered hangs on the digest or zeroes the output: it is no refusal of theirs
-hangs : (refusal : Answer) (o : Opts) (notes : List ℕ) (d : Found) → ((out : List ℕ) → outputAfter refusal out ≡ out) → ((then : List ℕ → Answer) → refusal ≡ withWords then o notes d) → {A : Type 0} → A
-hangs refusal o notes (At place) u h =
-    let e : _≡_ {A = List ℕ} (1 ∷ []) (0 ∷ []) = sym (u (1 ∷ [])) ∙ ap (λ (a : Answer). outputAfter a (1 ∷ [])) (h done) ∙ zeroed place in
-    absurd (let z : _≡_ {A = ℕ} 1 0 = cc in omega arith)
-hangs refusal o notes Nowhere u h =
-    let e : long ≡ words 0 = sym (h (λ d. long)) ∙ h (λ d. words 0) in
-    absurd (let z : _≡_ {A = ℕ} 0 1 = cc in omega arith)
+hangs : (l : Limits) (refusal : Answer) (o : Opts) (notes : List ℕ) → code refusal ≤ 3 → ((then : List ℕ → Answer) → refusal ≡ leftOf l o notes then) → {A : Type 0} → A
+hangs l refusal o notes u h = absurd (let k = later (l .words) o notes in let e = ap code (h (λ d. words 0)) in omega (arith, k, e, u))
 
-pub admission-unique : (block notes : List ℕ) (a b : Admission) → Admits block notes a → Admits block notes b → a ≡ b
-admission-unique block notes (Refused r) (Refused s) h k = ap Refused (h .is ∙ ap told (sym (h .whole-is done) ∙ k .whole-is done) ∙ sym (k .is))
-admission-unique block notes (Refused r) (Passed o) h k = hangs (h .refusal) (meant block o) notes (longParagraph (meant block o) 0 (pieces (meant block o) notes)) (h .untouched) (λ then. sym (h .whole-is then) ∙ k .1 then)
-admission-unique block notes (Passed o) (Refused s) h k = hangs (k .refusal) (meant block o) notes (longParagraph (meant block o) 0 (pieces (meant block o) notes)) (k .untouched) (λ then. sym (k .whole-is then) ∙ h .1 then)
-admission-unique block notes (Passed o) (Passed p) h k =
+pub admission-unique : (l : Limits) (block notes : List ℕ) (a b : Admission) → Admits l block notes a → Admits l block notes b → a ≡ b
+admission-unique l block notes (Refused r) (Refused s) h k = ap Refused (h .is ∙ ap told (sym (h .whole-is done) ∙ k .whole-is done) ∙ sym (k .is))
+admission-unique l block notes (Refused r) (Passed o) h k = hangs l (h .refusal) (meant block o) notes (h .early) (λ then. sym (h .whole-is then) ∙ k .1 then)
+admission-unique l block notes (Passed o) (Refused s) h k = hangs l (k .refusal) (meant block o) notes (k .early) (λ then. sym (k .whole-is then) ∙ h .1 then)
+admission-unique l block notes (Passed o) (Passed p) h k =
     let e : Accepted o ≡ Accepted p = sym (h .0 .accepted) ∙ k .0 .accepted in
     let q : o ≡ p = cc in ap Passed q

@@ -1,40 +1,45 @@
--- What an answer tells is small: a fault's place is, other places lie in the notes, and a digest has at most 1,040 bytes for each byte of
--- the notes. So code and value can be read back from the number.
+-- What an answer tells has no more than 32 bits: a fault's place is small, other places lie in the notes, and a digest has at most 1,040 bytes
+-- for each byte of the notes, if no paragraph has more words than document 01 allows; if working room is lent for more, a longer digest
+-- is refused. So code and value can be read back from the number.
 use mathlib.Core.Path.{_≡_, refl, sym, ap, _∙_}
-use mathlib.Core.Bool.{Bool, true, false, _||_}
-use mathlib.Core.List.{List}
+use mathlib.Core.Bool.{Bool, true, false, cond, _||_}
+use mathlib.Core.List.{List, [], _∷_}
 use Prim.Native.Nat.{ℕ, zero, suc, _+_, _*_, _/_, _%_, _^_, _≤_, _<_}
 use native.Mathlib.Omega.{arith}
-use lib.Dec.{ltb}
+use lib.Dec.{leb, ltb}
 use lib.ListN.{length, length-append}
 use lib.Seq.{slice, length-slice}
-use borrow.Author.Tests.{lt-ltb, ltb-true, ltb-false}
+use borrow.Author.Tests.{leb-true, le-ltb, ltb-true, ltb-false}
+use Rattle.lists.specs.Runs.{joined}
+use Rattle.lists.proofs.Parts.{joined-cons}
 use Rattle.text.specs.declared.Found.{Found}
 use Rattle.text.specs.declared.Found.the-variants.{At, Nowhere}
 use Rattle.text.proofs.Damage.{damage-some}
 use Rattle.options.specs.Opts.{Opts, meant}
 use Rattle.options.specs.OptionBlock.{readBlock}
-use Rattle.options.specs.declared.Options.{Options}
 use Rattle.options.specs.declared.Block.{Block}
 use Rattle.options.specs.declared.Block.the-variants.{Accepted, Fault}
 use Rattle.options.proofs.Accepted.{accepted}
-use Rattle.pieces.specs.Pieces.{Kind, blankLine, plainLine, paragraph, pieces}
+use Rattle.lines.specs.Contracts.Places.{mostLarge}
+use Rattle.pieces.specs.Pieces.{Piece, Kind, blankLine, plainLine, paragraph, pieces}
 use Rattle.pieces.specs.Contracts.Places.{pieceAt}
 use Rattle.pieces.specs.declared.Piece.{Piece as PieceAt}
 use Rattle.pieces.specs.declared.Piece.the-variants.{Blank as BlankAt, Plain as PlainAt, Text}
 use Rattle.pieces.proofs.Meaning.{means, bounded}
 use Rattle.words.specs.Words.{wordsOf}
 use Rattle.output.specs.Emission.{lineFeed}
-use Rattle.formatter.specs.Answers.{Answer, done, options, long, text, words, room, code, value, numbered}
-use Rattle.walk.specs.Digest.{mostWords, outputOf, tooMany, digest, longParagraph}
-use Rattle.formatter.specs.Format.{mostBytes, withWords, withText, damageIn, withNotes, withBlock, answer, measuring, writing}
+use Rattle.formatter.specs.Answers.{Answer, done, options, long, text, words, room, work, code, value, numbered}
+use Rattle.walk.specs.Digest.{mostWords, outputOf, extentOf, tooMany, digest, longParagraph}
+use Rattle.formatter.specs.Format.{Words, upTo, lent, Limits, mostBytes, document01, withWords, within, withText, damageIn, withNotes, withBlock, answer, finding, mostTold, measured, measuring, writing}
 use Rattle.walk.specs.Contracts.Course.{outputFrom, longFrom, FirstPiece}
 use Rattle.formatter.specs.Contracts.Call.{told, replyNumber}
-use Rattle.formatter.proofs.Together.{together-they-do-what-the-old-call-did, in-room-value}
+use Rattle.formatter.proofs.Together.{together-they-do-what-the-old-call-did, what-is-refused-is-measured-so, what-is-found-is-measured, in-room-value}
+use Rattle.formatter.proofs.Answers.{Enough}
 use Rattle.walk.proofs.Meaning.{PieceGoes, piece-goes}
 use Rattle.walk.proofs.Bound.{formatted-most}
+use Rattle.walk.proofs.Extents.{extents-are-notes}
 use Rattle.formatter.proofs.Faults.{fault-small}
-use Rattle.walk.proofs.Loop.{all-output, all-long, output-none, long-none, output-more, long-more, long-here}
+use Rattle.walk.proofs.Loop.{all-output, all-long, output-none, output-more, long-more, long-here}
 
 -- ---- a piece
 
@@ -44,7 +49,7 @@ record Next (o : Opts) (nextMail : Bool) (notes : List ℕ) (at : ℕ) : Type 0 
   state : Bool
   next : ℕ
   goes : FirstPiece o nextMail notes at kind state next
-  bounded : tooMany o kind ≡ false → length (outputOf o kind) + 1040 * at ≤ 1040 * next
+  bounded : tooMany mostWords o kind ≡ false → length (outputOf o kind) + 1040 * at ≤ 1040 * next
 
 next-of : (o : Opts) (nextMail : Bool) (notes : List ℕ) (at : ℕ) (r : PieceAt) → PieceGoes o nextMail notes at r → Next o nextMail notes at
 unfolding outputOf
@@ -63,30 +68,20 @@ next-of o nextMail notes at (Text p) t = record {
 
 -- ---- the notes
 
-module _ (o : Opts) (notes : List ℕ) (least : 1 ≤ o .tab) (most : o .tab ≤ 100) (short : length notes ≤ mostBytes) (cleared : o .split ≡ true → (o .crown || o .tagged) ≡ false) where
-  -- from a place on: the output's length, and the place of a paragraph of too many words
-  record Small (nextMail : Bool) (at : ℕ) : Type 0 where
-    output : longFrom o nextMail notes at ≡ Nowhere → length (outputFrom o nextMail notes at) + 1040 * at ≤ 1040 * length notes
-    place : (n : ℕ) → longFrom o nextMail notes at ≡ At n → n ≤ length notes
+module _ (o : Opts) (notes : List ℕ) (least : 1 ≤ o .tab) (most : o .tab ≤ 100) (short : length notes ≤ mostLarge) (cleared : o .split ≡ true → (o .crown || o .tagged) ≡ false) where
+  -- from a place on: the output's length
+  abbrev Small : (nextMail : Bool) (at : ℕ) → Type 0
+  Small nextMail at = longFrom o nextMail notes at ≡ Nowhere → length (outputFrom o nextMail notes at) + 1040 * at ≤ 1040 * length notes
 
   small-past : (nextMail : Bool) (at : ℕ) → at ≤ length notes → length notes ≤ at → Small nextMail at
-  small-past nextMail at h k = record {
-    output = λ e. rw (output-none o nextMail notes at k) (omega arith);
-    place = λ n e. absurd (let q = long-none o nextMail notes at k in let z : _≡_ {A = ℕ} 0 1 = cc in omega arith);
-  }
+  small-past nextMail at h k e = rw (output-none o nextMail notes at k) (omega arith)
 
   small-more : (nextMail : Bool) (at : ℕ) → at < length notes → (n : Next o nextMail notes at) → Small (n .state) (n .next) → Small nextMail at
-  small-more nextMail at h n s = go (tooMany o (n .kind)) refl
+  small-more nextMail at h n s e = go (tooMany mostWords o (n .kind)) refl
     where
-      go : (t : Bool) → tooMany o (n .kind) ≡ t → Small nextMail at
-      go true t = record {
-        output = λ e. absurd (let q = long-here o (n .goes) t in let z : _≡_ {A = ℕ} 0 1 = cc in omega arith);
-        place = λ k e. let q = long-here o (n .goes) t in let z : at ≡ k = cc in omega arith;
-      }
-      go false t = record {
-        output = λ e. rw (output-more o (n .goes), length-append) (omega (arith, n .bounded t, s .output (sym (long-more o (n .goes) t) ∙ e)));
-        place = λ k e. s .place k (sym (long-more o (n .goes) t) ∙ e);
-      }
+      go : (t : Bool) → tooMany mostWords o (n .kind) ≡ t → length (outputFrom o nextMail notes at) + 1040 * at ≤ 1040 * length notes
+      go true t = absurd (let q = long-here o (n .goes) t in let z : _≡_ {A = ℕ} 0 1 = cc in omega arith)
+      go false t = rw (output-more o (n .goes), length-append) (omega (arith, n .bounded t, s (sym (long-more o (n .goes) t) ∙ e)))
 
   small : (k : ℕ) (nextMail : Bool) (at : ℕ) → at ≤ length notes → length notes ≤ at + k → Small nextMail at
   small zero nextMail at h k = small-past nextMail at h (omega arith)
@@ -100,80 +95,155 @@ module _ (o : Opts) (notes : List ℕ) (least : 1 ≤ o .tab) (most : o .tab ≤
           let n = next-of o nextMail notes at r (piece-goes o nextMail notes at r (means o nextMail notes at i least most short cleared) (bounded o nextMail notes at i least most short cleared)) in
           small-more nextMail at i n (rest (n .state) (n .next) (n .goes .within) (omega (arith, n .goes .on)))
 
-  all-small : Small true 0
-  all-small = small (length notes) true 0 (omega arith) (omega arith)
-
   -- without a paragraph of too many words, the digest has at most so many bytes for each byte of the notes
-  pub digest-most : longParagraph o 0 (pieces o notes) ≡ Nowhere → length (digest o notes) ≤ 1040 * length notes
-  digest-most e = let s = all-small .output (all-long o notes ∙ e) in omega (arith, ap length (all-output o notes))
+  pub digest-most : longParagraph mostWords o 0 (pieces o notes) ≡ Nowhere → length (digest o notes) ≤ 1040 * length notes
+  digest-most e = let s = small (length notes) true 0 (omega arith) (omega arith) (all-long o notes ∙ e) in omega (arith, ap length (all-output o notes))
 
-  pub long-within : (n : ℕ) → longParagraph o 0 (pieces o notes) ≡ At n → n ≤ length notes
-  long-within n e = all-small .place n (all-long o notes ∙ e)
+-- ---- a paragraph of too many words
 
-  notes-value : value (withNotes done o notes) ≤ 68157440
-  notes-value = size (ltb mostBytes (length notes)) refl
-    where
-      count : (f : Found) → longParagraph o 0 (pieces o notes) ≡ f → value (withWords done o notes f) ≤ 68157440
-      count (At n) e = omega (arith, long-within n e)
-      count Nowhere e = omega (arith, short, digest-most e)
-
-      damaged : (keep : Bool) (f : Found) → damageIn keep notes ≡ f → value (withText done o notes f) ≤ 68157440
-      damaged keep Nowhere e = count (longParagraph o 0 (pieces o notes)) refl
-      damaged true (At n) e = absurd (let z : _≡_ {A = ℕ} 0 1 = cc in omega arith)
-      damaged false (At n) e = omega (arith, damage-some false notes n e .1)
-
-      size : (b : Bool) → ltb mostBytes (length notes) ≡ b → value (elim b as (λ t. Answer) [ true ↦ long | false ↦ withText done o notes (damageIn (o .keep) notes) ]) ≤ 68157440
-      size true e = omega arith
-      size false e = damaged (o .keep) (damageIn (o .keep) notes) refl
-
--- ---- measuring
-
-long-value : (o : Opts) (notes : List ℕ) → mostBytes < length notes → value (withNotes done o notes) ≡ 0
-long-value o notes h = rw (withNotes, lt-ltb mostBytes (length notes) h)
-
-measured-value : (block notes : List ℕ) → value (measuring block notes) ≤ 68157440
-unfolding measuring meant
-measured-value block notes = go (readBlock block) refl
+-- it lies in the notes
+long-place : (most : ℕ) (o : Opts) (place : ℕ) (qs : List Piece) (n : ℕ) → longParagraph most o place qs ≡ At n → n ≤ place + length (joined extentOf qs)
+unfolding longParagraph
+long-place most o place [] n e = absurd (let z : _≡_ {A = ℕ} 0 1 = cc in omega arith)
+long-place most o place (q ∷ qs) n e = go (tooMany most o (q .kind)) e (long-place most o (place + length (extentOf q)) qs n)
   where
-    short : (o : Options) → readBlock block ≡ Accepted o → (t : Bool) → ltb mostBytes (length notes) ≡ t → value (withNotes done (meant block o) notes) ≤ 68157440
-    short o e true t = omega (arith, long-value (meant block o) notes (ltb-true mostBytes (length notes) t))
-    short o e false t =
-        let k = accepted block o e in
-        notes-value (meant block o) notes (k .tabLeast) (k .tabMost) (ltb-false mostBytes (length notes) t) (k .splitClears)
+    go : (t : Bool) → elim t as (λ x. Found) [ true ↦ At place | false ↦ longParagraph most o (place + length (extentOf q)) qs ] ≡ At n
+        → (longParagraph most o (place + length (extentOf q)) qs ≡ At n → n ≤ place + length (extentOf q) + length (joined extentOf qs)) → n ≤ place + length (joined extentOf (q ∷ qs))
+    go true k rest = let z : place ≡ n = cc in omega arith
+    go false k rest = let r = rest k in rw (joined-cons extentOf q qs, length-append) (omega (arith, r))
 
-    go : (b : Block) → readBlock block ≡ b → value (withBlock done block notes b) ≤ 68157440
-    go (Fault place) e = omega (arith, fault-small block place e)
-    go (Accepted o) e = short o e (ltb mostBytes (length notes)) refl
+pub long-within : (most : ℕ) (o : Opts) (notes : List ℕ) (n : ℕ) → longParagraph most o 0 (pieces o notes) ≡ At n → n ≤ length notes
+long-within most o notes n e = let p = long-place most o 0 (pieces o notes) n e in omega (arith, p, ap length (extents-are-notes o notes))
 
--- ---- writing
+-- where none has more than so many words, none has more than a greater number
+pub long-fewer : (most more : ℕ) (o : Opts) (place : ℕ) (qs : List Piece) → most ≤ more → longParagraph most o place qs ≡ Nowhere → longParagraph more o place qs ≡ Nowhere
+unfolding longParagraph
+long-fewer most more o place [] h e = refl
+long-fewer most more o place (q ∷ qs) h e = go (tooMany most o (q .kind)) refl e (long-fewer most more o (place + length (extentOf q)) qs h)
+  where
+    fewer : (k : Kind) → tooMany most o k ≡ false → tooMany more o k ≡ false
+    fewer blankLine t = refl
+    fewer (plainLine line) t = refl
+    fewer (paragraph p) t = le-ltb more (length (wordsOf o p)) (let f = ltb-false most (length (wordsOf o p)) t in omega arith)
 
-written-value : (block notes : List ℕ) (space : ℕ) → value (writing block notes space) ≤ 68157440
-unfolding writing
-written-value block notes space = rw in-room-value (measured-value block notes)
+    go : (t : Bool) → tooMany most o (q .kind) ≡ t → elim t as (λ x. Found) [ true ↦ At place | false ↦ longParagraph most o (place + length (extentOf q)) qs ] ≡ Nowhere
+        → (longParagraph most o (place + length (extentOf q)) qs ≡ Nowhere → longParagraph more o (place + length (extentOf q)) qs ≡ Nowhere) → longParagraph more o place (q ∷ qs) ≡ Nowhere
+    go true t k rest = absurd (let z : _≡_ {A = ℕ} 0 1 = cc in omega arith)
+    go false t k rest = rw (longParagraph, fewer (q .kind) t) (rest k)
+
+-- ---- limits
+
+-- with which N can be told: no more notes than the code is proved for; and no more words to a paragraph than document 01 has, or a need that
+-- can be told
+abbrev pub Modest : Words → ℕ → Type 0
+Modest (upTo most) bytes = most ≤ mostWords
+Modest (lent lends need) bytes = (o : Opts) (notes : List ℕ) → length notes ≤ bytes → need o notes ≤ mostTold
+
+pub record Sound (l : Limits) : Type 0 where
+  pub short : l .bytes ≤ mostLarge
+  pub modest : Modest (l .words) (l .bytes)
+
+pub document01-sound : Sound document01
+document01-sound = record { short = omega arith; modest = omega arith }
+
+-- ---- what is refused, and what becomes of the digest
+
+module _ (l : Limits) (sound : Sound l) where
+  module _ (o : Opts) (notes : List ℕ) (short : length notes ≤ l .bytes) (then : List ℕ → Answer) (fits : Enough (l .words) o notes → value (then (digest o notes)) ≤ mostTold) where
+    words-value : (most : ℕ) (f : Found) → longParagraph most o 0 (pieces o notes) ≡ f → (f ≡ Nowhere → value (then (digest o notes)) ≤ mostTold) → value (withWords then o notes f) ≤ mostTold
+    words-value most (At n) e h = omega (arith, long-within most o notes n e, short, sound .short)
+    words-value most Nowhere e h = h refl
+
+    work-value : (lends needed : ℕ) → needed ≤ mostTold → (b : Bool) → ltb lends needed ≡ b → (needed ≤ lends → value (then (digest o notes)) ≤ mostTold)
+        → value (elim b as (λ t. Answer) [ true ↦ work needed | false ↦ then (digest o notes) ]) ≤ mostTold
+    work-value lends needed m true e h = m
+    work-value lends needed m false e h = h (ltb-false lends needed e)
+
+    within-value : (w : Words) → Modest w (l .bytes) → (Enough w o notes → value (then (digest o notes)) ≤ mostTold) → value (within w then o notes) ≤ mostTold
+    within-value (upTo most) m h = words-value most (longParagraph most o 0 (pieces o notes)) refl h
+    within-value (lent lends need) m h = work-value lends (need o notes) (m o notes short) (ltb lends (need o notes)) refl h
+
+    text-value : (keep : Bool) (f : Found) → damageIn keep notes ≡ f → value (withText (l .words) then o notes f) ≤ mostTold
+    text-value keep Nowhere e = within-value (l .words) (sound .modest) fits
+    text-value true (At n) e = absurd (let z : _≡_ {A = ℕ} 0 1 = cc in omega arith)
+    text-value false (At n) e = omega (arith, damage-some false notes n e .1, short, sound .short)
+
+  -- notes within the limit or beyond it
+  pub notes-value : (o : Opts) (notes : List ℕ) (then : List ℕ → Answer) → (length notes ≤ l .bytes → Enough (l .words) o notes → value (then (digest o notes)) ≤ mostTold) → value (withNotes l then o notes) ≤ mostTold
+  notes-value o notes then fits = go (ltb (l .bytes) (length notes)) refl
+    where
+      go : (b : Bool) → ltb (l .bytes) (length notes) ≡ b → value (elim b as (λ t. Answer) [ true ↦ long | false ↦ withText (l .words) then o notes (damageIn (o .keep) notes) ]) ≤ mostTold
+      go true t = omega arith
+      go false t = let s = ltb-false (l .bytes) (length notes) t in text-value o notes s then (fits s) (o .keep) (damageIn (o .keep) notes) refl
+
+  -- ---- measuring
+
+  module _ (o : Opts) (notes : List ℕ) (least : 1 ≤ o .tab) (most : o .tab ≤ 100) (short : length notes ≤ l .bytes) (cleared : o .split ≡ true → (o .crown || o .tagged) ≡ false) where
+    told-value : (b : Bool) (d : List ℕ) → leb (length d) mostTold ≡ b → value (cond b (done d) (room mostTold)) ≤ mostTold
+    told-value true d e = leb-true (length d) mostTold e
+    told-value false d e = omega arith
+
+    digest-value : (w : Words) → Modest w (l .bytes) → Enough w o notes → value (measured w (digest o notes)) ≤ mostTold
+    digest-value (upTo more) m e =
+        let d = digest-most o notes least most (omega (arith, short, sound .short)) cleared (long-fewer more mostWords o 0 (pieces o notes) m e) in
+        omega (arith, d, short, sound .short)
+    digest-value (lent lends need) m e = told-value (leb (length (digest o notes)) mostTold) (digest o notes) refl
+
+  module _ (block notes : List ℕ) where
+    pub measured-value : value (measuring l block notes) ≤ mostTold
+    unfolding measuring meant
+    measured-value = go (readBlock block) refl
+      where
+        go : (b : Block) → readBlock block ≡ b → value (withBlock l (measured (l .words)) block notes b) ≤ mostTold
+        go (Fault place) e = omega (arith, fault-small block place e)
+        go (Accepted o) e =
+            let k = accepted block o e in
+            notes-value (meant block o) notes (measured (l .words)) (λ short enough. digest-value (meant block o) notes (k .tabLeast) (k .tabMost) short (k .splitClears) (l .words) (sound .modest) enough)
+
+    -- so is what is refused before there is a digest
+    pub found-value : (a : Answer) → finding l block notes ≡ a → 1 ≤ code a → value a ≤ mostTold
+    found-value a e h = rw (what-is-refused-is-measured-so l block notes (rw e h), e) at measured-value
+
+    -- and a digest that is found is told as it is measured
+    pub found-told : (digest : List ℕ) → finding l block notes ≡ done digest → value (measured (l .words) digest) ≤ mostTold
+    found-told digest e = rw (what-is-found-is-measured l block notes digest e) at measured-value
+
+    -- ---- writing
+
+    pub written-value : (space : ℕ) → value (writing l block notes space) ≤ mostTold
+    unfolding writing
+    written-value space = rw in-room-value measured-value
 
 -- ---- reading the number
 
-code-most : (a : Answer) → code a ≤ 5
+code-most : (a : Answer) → code a ≤ 12
 code-most (done digest) = omega arith
 code-most (options place) = omega arith
 code-most long = omega arith
 code-most (text place) = omega arith
 code-most (words place) = omega arith
 code-most (room needed) = omega arith
+code-most (work needed) = omega arith
 
-small-tells : (a : Answer) → value a ≤ 68157440 → (numbered a / 2 ^ 32 ≡ code a) × (numbered a % 2 ^ 32 ≡ value a)
+-- what has no more than 32 bits can be read back from a number, and the code above it: so from every call's
+pub reads-back : (c v : ℕ) → v ≤ mostTold → ((c * 2 ^ 32 + v) / 2 ^ 32 ≡ c) × ((c * 2 ^ 32 + v) % 2 ^ 32 ≡ v)
+reads-back c v h = (omega arith, omega arith)
+
+-- Code and value can be read back from writing's number and from measuring's, whatever the block, the notes and the room ..
+pub writing-tells-code-and-value : (l : Limits) → Sound l → (block notes : List ℕ) (space : ℕ)
+    → (numbered (writing l block notes space) / 2 ^ 32 ≡ code (writing l block notes space)) × (numbered (writing l block notes space) % 2 ^ 32 ≡ value (writing l block notes space))
 unfolding numbered
-small-tells a v = (omega arith, omega arith)
+writing-tells-code-and-value l sound block notes space = reads-back (code (writing l block notes space)) (value (writing l block notes space)) (written-value l sound block notes space)
 
--- Code and value can be read back from the number, whatever the block, the notes and the room.
+pub measuring-tells-code-and-value : (l : Limits) → Sound l → (block notes : List ℕ)
+    → (numbered (measuring l block notes) / 2 ^ 32 ≡ code (measuring l block notes)) × (numbered (measuring l block notes) % 2 ^ 32 ≡ value (measuring l block notes))
+unfolding numbered
+measuring-tells-code-and-value l sound block notes = reads-back (code (measuring l block notes)) (value (measuring l block notes)) (measured-value l sound block notes)
+
+-- .. and so from that of the call that document 01 has.
 pub the-answer-tells-code-and-value : (block notes : List ℕ) (space : ℕ)
-    → (numbered (answer block notes space) / 2 ^ 32 ≡ code (answer block notes space)) × (numbered (answer block notes space) % 2 ^ 32 ≡ value (answer block notes space))
-the-answer-tells-code-and-value block notes space = rw (← together-they-do-what-the-old-call-did block notes space) (small-tells (writing block notes space) (written-value block notes space))
-
--- So they can from measuring's number.
-pub measuring-tells-code-and-value : (block notes : List ℕ)
-    → (numbered (measuring block notes) / 2 ^ 32 ≡ code (measuring block notes)) × (numbered (measuring block notes) % 2 ^ 32 ≡ value (measuring block notes))
-measuring-tells-code-and-value block notes = small-tells (measuring block notes) (measured-value block notes)
+    → (numbered (answer document01 block notes space) / 2 ^ 32 ≡ code (answer document01 block notes space)) × (numbered (answer document01 block notes space) % 2 ^ 32 ≡ value (answer document01 block notes space))
+the-answer-tells-code-and-value block notes space = rw (← together-they-do-what-the-old-call-did mostBytes mostWords block notes space) (writing-tells-code-and-value document01 document01-sound block notes space)
 
 -- ---- the code's number
 
@@ -185,13 +255,14 @@ told-number long = omega arith
 told-number (text place) = omega arith
 told-number (words place) = omega arith
 told-number (room needed) = omega arith
+told-number (work needed) = omega arith
 
-small-fits : (a : Answer) → value a ≤ 68157440 → replyNumber (told a) < 2 ^ 64
+small-fits : (a : Answer) → value a ≤ mostTold → replyNumber (told a) < 2 ^ 64
 unfolding numbered
 small-fits a v = let c = code-most a in rw told-number (omega arith)
 
-pub measured-fits : (block notes : List ℕ) → replyNumber (told (measuring block notes)) < 2 ^ 64
-measured-fits block notes = small-fits (measuring block notes) (measured-value block notes)
+pub measured-fits : (block notes : List ℕ) → replyNumber (told (measuring document01 block notes)) < 2 ^ 64
+measured-fits block notes = small-fits (measuring document01 block notes) (measured-value document01 document01-sound block notes)
 
-pub written-fits : (block notes : List ℕ) (space : ℕ) → replyNumber (told (writing block notes space)) < 2 ^ 64
-written-fits block notes space = small-fits (writing block notes space) (written-value block notes space)
+pub written-fits : (block notes : List ℕ) (space : ℕ) → replyNumber (told (writing document01 block notes space)) < 2 ^ 64
+written-fits block notes space = small-fits (writing document01 block notes space) (written-value document01 document01-sound block notes space)

@@ -11,10 +11,12 @@ pub data Answer : Type 0 where
   long : Answer
   -- the place of the first damaged character's first byte
   text : ℕ → Answer
-  -- the start of the first paragraph of over 1,024 words
+  -- the start of the first paragraph of too many words: of over 1,024
   words : ℕ → Answer
   -- the length needed
   room : ℕ → Answer
+  -- of the calls that are lent working room, in the place of `words`: the room needed
+  work : ℕ → Answer
 
 -- the table: code and N
 abbrev pub code : Answer → ℕ
@@ -24,6 +26,7 @@ code long = 2
 code (text place) = 3
 code (words place) = 4
 code (room needed) = 5
+code (work needed) = 12
 
 abbrev pub value : Answer → ℕ
 value (done digest) = length digest
@@ -32,6 +35,7 @@ value long = 0
 value (text place) = place
 value (words place) = place
 value (room needed) = needed
+value (work needed) = needed
 
 -- the 64-bit number that the host gets
 unfoldable pub numbered : Answer → ℕ
@@ -45,3 +49,4 @@ outputAfter long output = output
 outputAfter (text place) output = output
 outputAfter (words place) output = replicate (length output) 0
 outputAfter (room needed) output = replicate (length output) 0
+outputAfter (work needed) output = output

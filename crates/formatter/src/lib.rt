@@ -10,10 +10,11 @@ ghost use lib.ListN.{length};
 ghost use Rattle.options.specs.Opts.{meant};
 ghost use Rattle.walk.specs.Contracts.Course.{Admitted};
 ghost use Rattle.formatter.specs.Answers.{done};
-ghost use Rattle.formatter.specs.Format.{damageIn, withDigest, measuring, writing};
+ghost use Rattle.formatter.specs.Format.{document01, damageIn, withDigest, measuring, writing};
 ghost use Rattle.formatter.specs.Contracts.Call.{told, replyNumber, Answers, leftOf, AdmitsNotes, Admits};
 
-// What measuring and writing reply: the digest's length, or a refusal with what is told of it. (Measuring has no `Room`.)
+// What measuring and writing reply: the digest's length, or a refusal with what is told of it. (Measuring has no `Room`, and where no working
+// room is lent there is no `Work`.)
 pub enum Reply {
     Done(usize),
     Options(usize),
@@ -21,6 +22,7 @@ pub enum Reply {
     Text(usize),
     Words(usize),
     Room(usize),
+    Work(usize),
 }
 
 // What comes before the work: a refusal, or the options of an accepted block.
@@ -44,12 +46,13 @@ pub fn number_of(a: Reply) -> u64
         Reply::Text(place) => 3 * UPPER + place as u64,
         Reply::Words(place) => 4 * UPPER + place as u64,
         Reply::Room(needed) => 5 * UPPER + needed as u64,
+        Reply::Work(needed) => 12 * UPPER + needed as u64,
     }
 }
 
 // What measuring replies: the lowest code wins.
 pub fn measure(block: &[u8], notes: &[u8]) -> Reply
-    ensures { λ r. ⌜ r ≡ told (measuring (now (block .entry)) (now (notes .entry))) ⌝ }
+    ensures { λ r. ⌜ r ≡ told (measuring document01 (now (block .entry)) (now (notes .entry))) ⌝ }
 {
     match admit(block, notes) {
         Admission::Refused(r) => r,
@@ -59,7 +62,7 @@ pub fn measure(block: &[u8], notes: &[u8]) -> Reply
 
 // What writing replies, likewise.
 pub fn write(block: &[u8], notes: &[u8], out: &mut [u8]) -> Reply
-    ensures { λ r. ⌜ Answers (writing (now (block .entry)) (now (notes .entry)) (length (now (out .entry)))) (now (out .entry)) r (now (out .exit)) ⌝ }
+    ensures { λ r. ⌜ Answers (writing document01 (now (block .entry)) (now (notes .entry)) (length (now (out .entry)))) (now (out .entry)) r (now (out .exit)) ⌝ }
 {
     match admit(block, notes) {
         Admission::Refused(r) => r,
@@ -69,7 +72,7 @@ pub fn write(block: &[u8], notes: &[u8], out: &mut [u8]) -> Reply
 
 // Codes 1 to 3, or the options with which the notes are to be formatted.
 pub fn admit(block: &[u8], notes: &[u8]) -> Admission
-    ensures { λ r. ⌜ Admits (now (block .entry)) (now (notes .entry)) r ⌝ }
+    ensures { λ r. ⌜ Admits document01 (now (block .entry)) (now (notes .entry)) r ⌝ }
 {
     match options::read_block(block) {
         Block::Fault(place) => Admission::Refused(Reply::Options(place)),
@@ -82,7 +85,7 @@ const MOST_BYTES: usize = 65536;
 
 // The same with the options of an accepted block: codes 2 and 3.
 fn admit_notes(o: Options, notes: &[u8]) -> Admission
-    ensures { λ r. ⌜ ((block : List ℕ) → AdmitsNotes block o (now (notes .entry)) r) ⌝ }
+    ensures { λ r. ⌜ ((block : List ℕ) → AdmitsNotes document01 block o (now (notes .entry)) r) ⌝ }
 {
     if MOST_BYTES < notes.len() {
         return Admission::Refused(Reply::Long);
@@ -106,7 +109,7 @@ fn damage_in(keep: bool, notes: &[u8]) -> Found
 // Measures the notes: the pieces are put into no room at all.
 fn measure_notes(o: Options, block: &[u8], notes: &[u8]) -> Reply
     requires { ⌜ Admitted (now block) (now notes) o ⌝ }
-    ensures { λ r. ⌜ r ≡ told (leftOf (meant (now (block .entry)) o) (now (notes .entry)) done) ⌝ }
+    ensures { λ r. ⌜ r ≡ told (leftOf document01 (meant (now (block .entry)) o) (now (notes .entry)) done) ⌝ }
 {
     let mut none = [0u8; 0];
     match walk::put_all(o, block, notes, &mut none) {
@@ -118,7 +121,7 @@ fn measure_notes(o: Options, block: &[u8], notes: &[u8]) -> Reply
 // Writes the notes' digest.
 fn write_notes(o: Options, block: &[u8], notes: &[u8], out: &mut [u8]) -> Reply
     requires { ⌜ Admitted (now block) (now notes) o ⌝ }
-    ensures { λ r. ⌜ Answers (leftOf (meant (now (block .entry)) o) (now (notes .entry)) (withDigest (length (now (out .entry))))) (now (out .entry)) r (now (out .exit)) ⌝ }
+    ensures { λ r. ⌜ Answers (leftOf document01 (meant (now (block .entry)) o) (now (notes .entry)) (withDigest (length (now (out .entry))))) (now (out .entry)) r (now (out .exit)) ⌝ }
 {
     match walk::put_all(o, block, notes, out) {
         Ended::Stopped(place) => Reply::Words(place),

@@ -13,9 +13,9 @@ use Rattle.options.specs.declared.Options.{Options}
 use Rattle.options.specs.declared.Block.{Block}
 use Rattle.pieces.specs.Pieces.{pieces}
 use Rattle.output.proofs.Sink.{written-fits, wrote-length}
-use Rattle.walk.specs.Digest.{digest, longParagraph}
-use Rattle.formatter.specs.Answers.{Answer, done as measured, options as faulty, long as tooLong, text as damaged, words as manyWords, room as noRoom, code as codeOf, outputAfter as outputLeft}
-use Rattle.formatter.specs.Format.{withWords, withBlock, measuring}
+use Rattle.walk.specs.Digest.{mostWords, digest, longParagraph}
+use Rattle.formatter.specs.Answers.{Answer, done as measured, options as faulty, long as tooLong, text as damaged, words as manyWords, room as noRoom, work as noWork, code as codeOf, outputAfter as outputLeft}
+use Rattle.formatter.specs.Format.{document01, withWords, withBlock, finding}
 use Rattle.formatter.specs.Contracts.Call.{Admits, told as replied}
 use Rattle.formatter.specs.declared.Reply.{Reply}
 use Rattle.formatter.specs.declared.Admission.the-variants.{Refused, Passed}
@@ -34,7 +34,7 @@ use Rattle.indexer.specs.declared.Pieces.the-variants.{All}
 
 -- ---- from what the pieces came to
 
-pub words-answer : (o : Opts) (notes out : List ℕ) (records place size : ℕ) (out″ gaps′ : List ℕ) → longParagraph o 0 (pieces o notes) ≡ At place → size ≡ length out → out″ ≡ replicate size 0
+pub words-answer : (o : Opts) (notes out : List ℕ) (records place size : ℕ) (out″ gaps′ : List ℕ) → longParagraph mostWords o 0 (pieces o notes) ≡ At place → size ≡ length out → out″ ≡ replicate size 0
     → Indexes (leftOf o notes (length out) records) out (Words place) out″ gaps′
 unfolding outputAfter readFrom
 words-answer o notes out records place size out″ gaps′ e l z = record { is = rw e; output = rw e (z ∙ ap (λ (k : ℕ). replicate k 0) l); read = rw e }
@@ -53,7 +53,7 @@ module _ (o : Opts) (notes out out′ gaps′ : List ℕ) where
     same-out : length out′ ≡ length out
     same-out = wrote-length (noted .1)
 
-    left-is : leftOf o notes (length out) records ≡ withIndex (length out) records (indexOf o notes) (digest o notes)
+    left-is : leftOf o notes (length out) records ≡ withIndex (document01 .words) (length out) records (indexOf o notes) (digest o notes)
     left-is = rw (noted .0)
 
     pub full-answer : (out″ : List ℕ) → records < k → out″ ≡ replicate (length out′) 0 → Indexes (leftOf o notes (length out) records) out (Full k) out″ gaps′
@@ -83,20 +83,20 @@ module _ (o : Opts) (notes out out′ gaps′ : List ℕ) where
 -- ---- what is told before
 
 module _ (block notes : List ℕ) where
-  pub indexing-left : (o : Options) (space records : ℕ) → Admits block notes (Passed o) → indexing block notes space records ≡ leftOf (meant block o) notes space records
-  unfolding indexing measuring
+  pub indexing-left : (o : Options) (space records : ℕ) → Admits document01 block notes (Passed o) → indexing document01 block notes space records ≡ leftOf (meant block o) notes space records
+  unfolding indexing finding
   indexing-left o space records s =
-      ap (λ (b : Block). inIndex space records (indexUnder block notes b) (withBlock measured block notes (readBlock block))) (s .0 .accepted)
-      ∙ ap (inIndex space records (indexOf (meant block o) notes)) (s .1 measured)
-      ∙ go (longParagraph (meant block o) 0 (pieces (meant block o) notes))
+      ap (λ (b : Block). inIndex (document01 .words) space records (indexUnder block notes b) (withBlock document01 measured block notes (readBlock block))) (s .0 .accepted)
+      ∙ ap (inIndex (document01 .words) space records (indexOf (meant block o) notes)) (s .1 measured)
+      ∙ go (longParagraph mostWords (meant block o) 0 (pieces (meant block o) notes))
     where
-      go : (f : Found) → inIndex space records (indexOf (meant block o) notes) (withWords measured (meant block o) notes f) ≡ wordsOr f (withIndex space records (indexOf (meant block o) notes) (digest (meant block o) notes))
+      go : (f : Found) → inIndex (document01 .words) space records (indexOf (meant block o) notes) (withWords measured (meant block o) notes f) ≡ wordsOr f (withIndex (document01 .words) space records (indexOf (meant block o) notes) (digest (meant block o) notes))
       go (At place) = refl
       go Nowhere = refl
 
   -- what is left of a refusal that is told before any piece is looked at
   refusal-answer : (space records : ℕ) (rs : List Record) (out gaps : List ℕ) (a : Answer) → (codeOf a ≡ 0 → ⊥) → ((xs : List ℕ) → outputLeft a xs ≡ xs)
-      → Indexes (inIndex space records rs a) out (refusedAs (replied a)) out gaps
+      → Indexes (inIndex (document01 .words) space records rs a) out (refusedAs (replied a)) out gaps
   unfolding outputAfter readFrom outputLeft
   refusal-answer space records rs out gaps (measured d) n u = absurd (n refl)
   refusal-answer space records rs out gaps (faulty place) n u = record { is = refl; output = refl; read = refl }
@@ -104,11 +104,12 @@ module _ (block notes : List ℕ) where
   refusal-answer space records rs out gaps (damaged place) n u = record { is = refl; output = refl; read = refl }
   refusal-answer space records rs out gaps (manyWords place) n u = record { is = refl; output = sym (u out); read = refl }
   refusal-answer space records rs out gaps (noRoom needed) n u = record { is = refl; output = sym (u out); read = refl }
+  refusal-answer space records rs out gaps (noWork needed) n u = record { is = refl; output = refl; read = refl }
 
-  pub refused-answer : (q : Reply) (space records : ℕ) (out gaps : List ℕ) → Admits block notes (Refused q) → Indexes (indexing block notes space records) out (refusedAs q) out gaps
-  unfolding indexing measuring
+  pub refused-answer : (q : Reply) (space records : ℕ) (out gaps : List ℕ) → Admits document01 block notes (Refused q) → Indexes (indexing document01 block notes space records) out (refusedAs q) out gaps
+  unfolding indexing finding
   refused-answer q space records out gaps s =
-      let some = a-refusal-is-no-digest block notes s in
-      subst (λ (a : Answer). Indexes (inIndex space records (indexUnder block notes (readBlock block)) a) out (refusedAs q) out gaps) (sym (s .whole-is measured))
-      (subst (λ (p : Reply). Indexes (inIndex space records (indexUnder block notes (readBlock block)) (s .refusal)) out (refusedAs p) out gaps) (sym (s .is))
+      let some = a-refusal-is-no-digest document01 block notes s in
+      subst (λ (a : Answer). Indexes (inIndex (document01 .words) space records (indexUnder block notes (readBlock block)) a) out (refusedAs q) out gaps) (sym (s .whole-is measured))
+      (subst (λ (p : Reply). Indexes (inIndex (document01 .words) space records (indexUnder block notes (readBlock block)) (s .refusal)) out (refusedAs p) out gaps) (sym (s .is))
       (refusal-answer space records (indexUnder block notes (readBlock block)) out gaps (s .refusal) (λ z. omega (arith, some, z)) (s .untouched)))

@@ -14,7 +14,7 @@ use Rattle.lists.proofs.Walk.{each-nil, each-step}
 use Rattle.lists.proofs.All.{all-drop, all-take}
 use Rattle.lists.proofs.Extents.{walk-all}
 use Rattle.text.specs.Characters.{Glyph, glyphs}
-use Rattle.text.proofs.Extents.{Sound, glyphs-sound}
+use Rattle.text.proofs.Extents.{glyphs-sound}
 use Rattle.text.proofs.Edges.{glyphs-joined}
 use Rattle.options.specs.Opts.{Opts}
 use Rattle.lines.specs.Lines.{Line, noFeed, body, firstLine, linesOf}
@@ -29,7 +29,7 @@ use Rattle.pieces.specs.Contracts.Places.{rawBytes}
 use Rattle.pieces.proofs.Columns.{spaces-feedless, feedless-append, first-feedless}
 use Rattle.pieces.proofs.Extents.{Feedless, Rows}
 use Rattle.records.specs.Word.{Word}
-use Rattle.words.specs.Words.{glyphBytes, rowWords, wordsOf}
+use Rattle.words.specs.Words.{rowWords, wordsOf}
 use Rattle.words.proofs.Spelled.{Spelled, row-spelled}
 use Rattle.words.proofs.Order.{Whole, paragraph-some, paragraph-whole}
 use Rattle.output.specs.Emission.{lineFeed, spaceBefore, emitRest, emit}
@@ -37,6 +37,7 @@ use Rattle.output.proofs.Indents.{Feedless as Feed, indent-for-feedless}
 use Rattle.walk.specs.Digest.{formatted, outputOf, extentOf}
 use Rattle.walk.specs.Contracts.Course.{piecesFrom}
 use Rattle.walk.proofs.Bound.{Shorter, lines-shorter}
+use Rattle.formatter.proofs.Work.{bytes-many}
 use Rattle.indexer.specs.Index.{lineCount}
 
 -- ---- the lines of a text, counted
@@ -113,13 +114,6 @@ spelled-few glue uniform (w ∷ ws) gs s =
     let p = ap length (b .parts) ∙ length-append (b .blanks) (b .ink ++ s .0) in
     let q = length-append (b .ink) (s .0) in
     omega (arith, p, q, r, b .some)
-
-bytes-many : (gs : List Glyph) → All Sound gs → length gs ≤ length (joined glyphBytes gs)
-bytes-many [] a = omega arith
-bytes-many (g ∷ gs) a =
-    let r = bytes-many gs (a .1) in
-    let k = a .0 .some in
-    rw (joined-cons, length-append) (omega arith)
 
 row-few : (o : Opts) (mail : Bool) (row : Row) → length (rowWords o mail row) ≤ length (row .text)
 row-few o mail row = let r = read mail in omega (arith, spelled-few (o .glue) (o .uniform || mail) (rowWords o mail row) _ (row-spelled o mail row), r)

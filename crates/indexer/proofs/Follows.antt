@@ -109,7 +109,7 @@ module _ (o : Opts) where
       subst (λ (x : ℕ). Follows 0 0 (recordsFrom o 0 0 (pieces o notes)) x (linesIn (pieces o notes))) e
       (subst (λ (x : ℕ). Follows 0 0 (recordsFrom o 0 0 (pieces o notes)) (0 + bytesIn (pieces o notes)) x) f (records-follow 0 0 (pieces o notes)))
 
-  -- ---- a piece of its own between two parts
+  -- ---- two parts, and a piece of its own between them
 
   records-append : (place line : ℕ) (qs rs : List Piece) → recordsFrom o place line (qs ++ rs) ≡ recordsFrom o place line qs ++ recordsFrom o (place + bytesIn qs) (line + linesIn qs) rs
   unfolding recordsFrom
@@ -138,6 +138,20 @@ module _ (o : Opts) where
       let r : Record = record { place = bytes + place; length = length (extentOf q); first = lines + line; count = lineCount o q } in
       ap (λ (ys : List Record). r ∷ ys) (ap (λ (x : ℕ). recordsFrom o x ((lines + line) + lineCount o q) qs) e ∙ ap (λ (x : ℕ). recordsFrom o (bytes + (place + length (extentOf q))) x qs) f
       ∙ records-shift bytes lines (place + length (extentOf q)) (line + lineCount o q) qs)
+
+  -- notes whose pieces are those of a first part and those of a second
+  pub index-append : (first second whole : List ℕ) → pieces o whole ≡ pieces o first ++ pieces o second
+      → indexOf o whole ≡ indexOf o first ++ map (shifted (length first) (length (linesOf (digest o first)))) (indexOf o second)
+  unfolding indexOf digest
+  index-append first second whole e =
+      let n : ℕ = length first in
+      let l : ℕ = linesIn (pieces o first) in
+      let a : 0 + bytesIn (pieces o first) ≡ n + 0 = let x = ap length (extents-are-notes o first) in omega (arith, x) in
+      let b : 0 + linesIn (pieces o first) ≡ l + 0 = omega arith in
+      let xs : List Record = recordsFrom o 0 0 (pieces o first) in
+      ap (recordsFrom o 0 0) e ∙ records-append 0 0 (pieces o first) (pieces o second)
+      ∙ ap (λ (x : ℕ). xs ++ recordsFrom o x (0 + linesIn (pieces o first)) (pieces o second)) a ∙ ap (λ (x : ℕ). xs ++ recordsFrom o (n + 0) x (pieces o second)) b
+      ∙ ap (λ (ys : List Record). xs ++ ys) (records-shift n l 0 0 (pieces o second))
 
   -- notes whose pieces are those of a first part, one between, and those of a second part
   pub index-between : (first second whole : List ℕ) (q : Piece) → pieces o whole ≡ pieces o first ++ q ∷ pieces o second

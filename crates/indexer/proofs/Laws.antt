@@ -1,10 +1,8 @@
 -- Piece by piece: written; and no more of them than bytes.
 use mathlib.Core.Path.{_≡_, refl, ap, _∙_}
-use mathlib.Core.Bool.{Bool, true, false, cond, _||_}
 use mathlib.Core.List.{List, [], _∷_}
 use Prim.Native.Nat.{ℕ, _+_, _≤_, _<_}
 use native.Mathlib.Omega.{arith}
-use lib.Ieee.{Float}
 use lib.ListN.{length, length-append}
 use Rattle.lists.specs.Runs.{joined}
 use Rattle.lists.specs.Theorems.All.{All}
@@ -18,38 +16,23 @@ use Rattle.paragraphs.specs.Contracts.Steps.{TextStepped}
 use Rattle.paragraphs.specs.declared.Cursor.{Cursor}
 use Rattle.paragraphs.specs.declared.Step.{Step}
 use Rattle.paragraphs.specs.declared.Step.the-variants.{On, Over}
-use Rattle.paragraphs.proofs.Tables.{scratch-same}
-use Rattle.walk.specs.Digest.{extentOf}
+use Rattle.walk.specs.Digest.{extentOf, mostWords}
 use Rattle.walk.specs.Contracts.Course.{Admitted, longFrom, Put, CursorIn, TextAhead}
 use Rattle.walk.proofs.Extents.{extents-are-notes, extents-some}
 use Rattle.walk.proofs.Loop.{going-first}
 use Rattle.walk.proofs.Steps.{begins-stepped, begins-over, begins-long}
 use Rattle.indexer.specs.Index.{lineCount, recordsFrom, indexOf}
-use Rattle.indexer.specs.Contracts.Noting.{Ample, PieceStepped}
+use Rattle.indexer.specs.Contracts.Noting.{PieceStepped}
 
 -- ---- a piece
 
-room-ample : (q m : Bool) (a b : ℕ) {n : ℕ} → a ≡ 1024 → (q ≡ false → b ≡ 1024) → cond (q || m) a b < n → 1024 < n
-room-ample true m a b e f h = omega (arith, e, h)
-room-ample false true a b e f h = omega (arith, e, h)
-room-ample false false a b e f h = let g = f refl in omega (arith, g, h)
-
-module _ (o : Options) (table breaks : List ℕ) (ratios : List Float) (active : List ℕ) (marks : List Bool) (a : Ample o table breaks ratios active marks) where
-  -- tables of the same lengths will do as well
-  pub ample-same : (table′ breaks′ : List ℕ) (ratios′ : List Float) (active′ : List ℕ) (marks′ : List Bool)
-      → length table′ ≡ length table → length breaks′ ≡ length breaks → length ratios′ ≡ length ratios → length active′ ≡ length active → length marks′ ≡ length marks → Ample o table′ breaks′ ratios′ active′ marks′
-  ample-same table′ breaks′ ratios′ active′ marks′ e f g h i = record {
-    tables = scratch-same _ _ _ _ _ (a .tables) _ _ _ _ _ e f g h i;
-    words = i ∙ a .words;
-    offers = λ q. g ∙ a .offers q;
-  }
-
+module _ (o : Options) (room : ℕ) (most : room ≡ mostWords) where
   pub text-stepped : (block notes : List ℕ) (c : Cursor) (p : Paragraph) → Admitted block notes o → CursorIn notes c → TextAhead block o notes c p → (out out′ : List ℕ) (r : Step)
-      → TextStepped (cond (o .quick || p .mail) (length marks) (length ratios)) notes (c .at) o p out (c .written) out′ r block → PieceStepped (meant block o) notes out c out′ r
-  text-stepped block notes c p ready s b out out′ (On d) w = begins-stepped block notes o c p ready b _ out out′ (On d) d w refl
+      → TextStepped room notes (c .at) o p out (c .written) out′ r block → PieceStepped (meant block o) notes out c out′ r
+  text-stepped block notes c p ready s b out out′ (On d) w = begins-stepped block notes o c p ready b room out out′ (On d) d (omega (arith, most)) w refl
   text-stepped block notes c p ready s b out out′ Over w =
-      let v = begins-over block notes o c p ready b _ out out′ Over w refl in
-      (begins-long block notes o c p ready b c out out (going-first (meant block o) notes c out s) (room-ample (o .quick) (p .mail) (length marks) (length ratios) (a .words) (a .offers) (v .0)) .0, v .1)
+      let v = begins-over block notes o c p ready b room out out′ Over w refl in
+      (begins-long block notes o c p ready b c out out (going-first (meant block o) notes c out s) (omega (arith, most, v .0)) .0, v .1)
 
 pub stepped-on : (o : Opts) (notes out : List ℕ) (c : Cursor) (out′ : List ℕ) {r : Step} {d : Cursor} → PieceStepped o notes out c out′ r → r ≡ On d → Put o notes out c d out′
 stepped-on o notes out c out′ s e = rw e at s

@@ -2,7 +2,7 @@
 use mathlib.Core.Path.{_≡_, refl, sym, ap, _∙_}
 use mathlib.Core.Bool.{Bool, true, false}
 use mathlib.Core.List.{List, [], _∷_, _++_, append-assoc, append-nil}
-use Prim.Native.Nat.{ℕ, _+_, _-_, _≤_}
+use Prim.Native.Nat.{ℕ, _+_, _-_, _*_, _≤_}
 use native.Mathlib.Omega.{arith}
 use lib.Dec.{leb}
 use lib.ListN.{length, take, drop, getD, set, replicate, length-append}
@@ -15,7 +15,7 @@ use Rattle.pieces.specs.Pieces.{Piece, Kind, pieces}
 use Rattle.output.specs.Contracts.Sink.{Wrote}
 use Rattle.output.proofs.Sink.{written-fits, wrote-length}
 use Rattle.paragraphs.specs.declared.Cursor.{Cursor}
-use Rattle.walk.specs.Digest.{outputOf, extentOf, longParagraph}
+use Rattle.walk.specs.Digest.{mostWords, outputOf, extentOf, longParagraph}
 use Rattle.walk.specs.Contracts.Course.{piecesFrom, longFrom, Put, Going, start}
 use Rattle.walk.proofs.Loop.{all-output, all-long, going-length, going-last, none-left, all-pieces}
 use Rattle.marks.specs.Contracts.Marks.{marksIn, spelled, sum, Positive}
@@ -114,7 +114,7 @@ module _ (o : Opts) (notes : List ℕ) (size : ℕ) where
   }
 
   module _ {c : Cursor} {k line : ℕ} {gaps : List ℕ} (m : Marking o notes size c k line gaps) where
-    module _ {out : List ℕ} {d : Cursor} {out′ : List ℕ} (p : Put o notes out c d out′) (short : length notes ≤ 65536) (same : length out′ ≡ size) where
+    module _ {out : List ℕ} {d : Cursor} {out′ : List ℕ} (p : Put o notes out c d out′) (short : 2 * length notes ≤ 4096 * 32) (same : length out′ ≡ size) where
       abbrev here : Piece
       here = p .goes .piece
 
@@ -205,5 +205,5 @@ module _ (o : Opts) (notes out₀ : List ℕ) {c : Cursor} {out : List ℕ} (w :
       let f = going-last o notes w h in
       (sym (all-long o notes) ∙ f .0, rw (all-output o notes) at (f .1), count-all o notes (length out₀) m h, read-all o notes (length out₀) m h)
 
-  pub noted-stopped : {out′ : List ℕ} → (longFrom o (c .mail) notes (c .at) ≡ At (c .at)) × (out′ ≡ out) → (longParagraph o 0 (pieces o notes) ≡ At (c .at)) × (length out′ ≡ length out₀)
+  pub noted-stopped : {out′ : List ℕ} → (longFrom o (c .mail) notes (c .at) ≡ At (c .at)) × (out′ ≡ out) → (longParagraph mostWords o 0 (pieces o notes) ≡ At (c .at)) × (length out′ ≡ length out₀)
   noted-stopped t = (sym (all-long o notes) ∙ sym (w .long) ∙ t .0, ap length (t .1) ∙ going-length o notes w)

@@ -2,7 +2,7 @@
 use mathlib.Core.Path.{_≡_, refl, ap}
 use mathlib.Core.Bool.{Bool, true, false, cond}
 use mathlib.Core.List.{List}
-use Prim.Native.Nat.{ℕ, _+_, _*_, _^_, _≤_, _<_}
+use Prim.Native.Nat.{ℕ, _/_, _%_, _^_, _≤_, _<_}
 use native.Mathlib.Omega.{arith}
 use lib.Dec.{leb, ltb}
 use lib.ListN.{length}
@@ -11,13 +11,12 @@ use Rattle.options.specs.Opts.{Opts, meant}
 use Rattle.options.specs.OptionBlock.{readBlock}
 use Rattle.options.specs.declared.Block.{Block}
 use Rattle.options.specs.declared.Block.the-variants.{Accepted, Fault}
-use Rattle.formatter.specs.Answers.{Answer, done as measured, options as faulty, long as tooLong, text as damaged, words as manyWords, room as noRoom, code as codeOf}
-use Rattle.formatter.specs.Format.{mostBytes, damageIn, withText, withNotes, withBlock, withDigest, measuring, writing}
-use Rattle.formatter.specs.Contracts.Call.{told as replied, replyNumber}
-use Rattle.formatter.proofs.Values.{measured-fits, written-fits}
+use Rattle.formatter.specs.Answers.{Answer, done as measured, options as faulty, long as tooLong, text as damaged, words as manyWords, room as noRoom, work as noWork, code as codeOf, value as valueOf}
+use Rattle.formatter.specs.Format.{Words, Limits, document01, damageIn, withText, withBlock, finding, mostTold, isTold, measured as measuredAs, measuring}
+use Rattle.formatter.proofs.Values.{Sound, document01-sound, found-value, found-told, reads-back}
 use Rattle.index.specs.declared.Record.{Record}
-use Rattle.indexer.specs.Answers.{Indexed, done, options, long, text, words, full, room, numbered, filledAfter}
-use Rattle.indexer.specs.Indexing.{withIndex, inIndex, indexUnder, indexing}
+use Rattle.indexer.specs.Answers.{Indexed, done, options, long, text, words, full, room, work, code, value, numbered, filledAfter}
+use Rattle.indexer.specs.Indexing.{withOutput, withIndex, inIndex, indexUnder, indexing}
 use Rattle.indexer.specs.Contracts.Noting.{told, toldNumber, toldFilled}
 use Rattle.indexer.proofs.Laws.{few-records}
 
@@ -30,6 +29,7 @@ told-number (text place) = omega arith
 told-number (words place) = omega arith
 told-number (full pieces) = omega arith
 told-number (room needed) = omega arith
+told-number (work needed) = omega arith
 
 pub told-filled : (a : Indexed) → toldFilled (told a) ≡ filledAfter a
 told-filled (done digest index) = refl
@@ -39,76 +39,93 @@ told-filled (text place) = refl
 told-filled (words place) = refl
 told-filled (full pieces) = refl
 told-filled (room needed) = refl
+told-filled (work needed) = refl
 
 -- no more records than there are
-index-few : (space records : ℕ) (rs : List Record) (d : List ℕ) → filledAfter (withIndex space records rs d) ≤ records
-index-few space records rs d = go (leb (length rs) records) (leb (length d) space) refl
+output-few : (b c : Bool) (rs : List Record) (d : List ℕ) (records : ℕ) → length rs ≤ records → filledAfter (cond b (cond c (done d rs) (room (length d))) (room mostTold)) ≤ records
+output-few true true rs d records h = h
+output-few true false rs d records h = omega arith
+output-few false c rs d records h = omega arith
+
+index-few : (w : Words) (space records : ℕ) (rs : List Record) (d : List ℕ) → filledAfter (withIndex w space records rs d) ≤ records
+index-few w space records rs d = go (leb (length rs) records) refl
   where
-    go : (a b : Bool) → leb (length rs) records ≡ a → filledAfter (cond a (cond b (done d rs) (room (length d))) (full (length rs))) ≤ records
-    go true true e = leb-true (length rs) records e
-    go true false e = omega arith
-    go false b e = omega arith
+    go : (a : Bool) → leb (length rs) records ≡ a → filledAfter (cond a (withOutput w space rs d) (full (length rs))) ≤ records
+    go true e = output-few (isTold w (length d)) (leb (length d) space) rs d records (leb-true (length rs) records e)
+    go false e = omega arith
 
-filled-few : (space records : ℕ) (rs : List Record) (a : Answer) → filledAfter (inIndex space records rs a) ≤ records
-filled-few space records rs (measured d) = index-few space records rs d
-filled-few space records rs (faulty place) = omega arith
-filled-few space records rs tooLong = omega arith
-filled-few space records rs (damaged place) = omega arith
-filled-few space records rs (manyWords place) = omega arith
-filled-few space records rs (noRoom needed) = omega arith
+filled-few : (w : Words) (space records : ℕ) (rs : List Record) (a : Answer) → filledAfter (inIndex w space records rs a) ≤ records
+filled-few w space records rs (measured d) = index-few w space records rs d
+filled-few w space records rs (faulty place) = omega arith
+filled-few w space records rs tooLong = omega arith
+filled-few w space records rs (damaged place) = omega arith
+filled-few w space records rs (manyWords place) = omega arith
+filled-few w space records rs (noRoom needed) = omega arith
+filled-few w space records rs (noWork needed) = omega arith
 
--- what measuring has found fits behind the greatest codes
-record Small (rs : List Record) (d : List ℕ) : Type 0 where
-  needed : 5 * 2 ^ 32 + length d < 2 ^ 64
-  pieces : 6 * 2 ^ 32 + length rs < 2 ^ 64
+pub told-few : (l : Limits) (block notes : List ℕ) (space records : ℕ) → filledAfter (indexing l block notes space records) ≤ records
+unfolding indexing
+told-few l block notes space records = filled-few (l .words) space records (indexUnder block notes (readBlock block)) (finding l block notes)
 
-index-fits : (space records : ℕ) (rs : List Record) (d : List ℕ) → Small rs d → toldNumber (told (withIndex space records rs d)) < 2 ^ 64
-index-fits space records rs d s = go (leb (length rs) records) (leb (length d) space)
+-- ---- what the answer tells
+
+-- N is the digest's length, or the number of pieces, if nothing was refused before
+output-value : (w : Words) (space : ℕ) (rs : List Record) (d : List ℕ) → valueOf (measuredAs w d) ≤ mostTold → value (withOutput w space rs d) ≤ mostTold
+output-value w space rs d h = go (isTold w (length d)) (leb (length d) space) h
   where
-    go : (a b : Bool) → toldNumber (told (cond a (cond b (done d rs) (room (length d))) (full (length rs)))) < 2 ^ 64
-    go true true = let h = s .needed in omega (arith, h)
-    go true false = s .needed
-    go false b = s .pieces
+    go : (b c : Bool) → valueOf (cond b (measured d) (noRoom mostTold)) ≤ mostTold → value (cond b (cond c (done d rs) (room (length d))) (room mostTold)) ≤ mostTold
+    go true true k = k
+    go true false k = k
+    go false c k = omega arith
 
-number-fits : (space records : ℕ) (rs : List Record) (a : Answer) → replyNumber (replied a) < 2 ^ 64 → ((d : List ℕ) → a ≡ measured d → Small rs d) → toldNumber (told (inIndex space records rs a)) < 2 ^ 64
-number-fits space records rs (measured d) h s = index-fits space records rs d (s d refl)
-number-fits space records rs (faulty place) h s = h
-number-fits space records rs tooLong h s = h
-number-fits space records rs (damaged place) h s = h
-number-fits space records rs (manyWords place) h s = h
-number-fits space records rs (noRoom needed) h s = h
-
--- a length that writing without any room would tell
-room-fits : (d : List ℕ) → replyNumber (replied (withDigest 0 d)) < 2 ^ 64 → 5 * 2 ^ 32 + length d < 2 ^ 64
-room-fits d h = go (leb (length d) 0) refl h
+index-value : (w : Words) (space records : ℕ) (rs : List Record) (d : List ℕ) → valueOf (measuredAs w d) ≤ mostTold → length rs ≤ mostTold → value (withIndex w space records rs d) ≤ mostTold
+index-value w space records rs d h k = go (leb (length rs) records)
   where
-    go : (b : Bool) → leb (length d) 0 ≡ b → replyNumber (replied (cond b (measured d) (noRoom (length d)))) < 2 ^ 64 → 5 * 2 ^ 32 + length d < 2 ^ 64
-    go true e k = let l = leb-true (length d) 0 e in omega (arith, l)
-    go false e k = k
+    go : (a : Bool) → value (cond a (withOutput w space rs d) (full (length rs))) ≤ mostTold
+    go true = output-value w space rs d h
+    go false = k
 
-module _ (block notes d : List ℕ) where
-  notes-few : (o : Opts) → withNotes measured o notes ≡ measured d → length notes ≤ 65536
-  notes-few o e = go (ltb mostBytes (length notes)) refl e
+module _ (l : Limits) (sound : Sound l) (block notes : List ℕ) where
+  notes-few : (d : List ℕ) (o : Opts) (b : Bool) → ltb (l .bytes) (length notes) ≡ b → elim b as (λ t. Answer) [ true ↦ tooLong | false ↦ withText (l .words) measured o notes (damageIn (o .keep) notes) ] ≡ measured d → length notes ≤ mostTold
+  notes-few d o true h k = absurd (let z = ap codeOf k in omega (arith, z))
+  notes-few d o false h k = let f = ltb-false (l .bytes) (length notes) h in omega (arith, f, sound .short)
+
+  records-few : (d : List ℕ) (b : Block) → withBlock l measured block notes b ≡ measured d → length (indexUnder block notes b) ≤ mostTold
+  records-few d (Fault place) e = omega arith
+  records-few d (Accepted o) e = let n = notes-few d (meant block o) (ltb (l .bytes) (length notes)) refl e in let f = few-records (meant block o) notes in omega (arith, n, f)
+
+  pub indexed-value : (space records : ℕ) → value (indexing l block notes space records) ≤ mostTold
+  unfolding indexing finding measuring
+  indexed-value space records = go (finding l block notes) refl
     where
-      go : (b : Bool) → ltb mostBytes (length notes) ≡ b → elim b as (λ t. Answer) [ true ↦ tooLong | false ↦ withText measured o notes (damageIn (o .keep) notes) ] ≡ measured d → length notes ≤ 65536
-      go true h k = absurd (let z = ap codeOf k in omega (arith, z))
-      go false h k = ltb-false mostBytes (length notes) h
+      go : (a : Answer) → finding l block notes ≡ a → value (inIndex (l .words) space records (indexUnder block notes (readBlock block)) a) ≤ mostTold
+      go (measured d) e = index-value (l .words) space records (indexUnder block notes (readBlock block)) d (found-told l sound block notes d e) (records-few d (readBlock block) e)
+      go (faulty place) e = found-value l sound block notes (faulty place) e (omega arith)
+      go tooLong e = omega arith
+      go (damaged place) e = found-value l sound block notes (damaged place) e (omega arith)
+      go (manyWords place) e = found-value l sound block notes (manyWords place) e (omega arith)
+      go (noRoom needed) e = found-value l sound block notes (noRoom needed) e (omega arith)
+      go (noWork needed) e = found-value l sound block notes (noWork needed) e (omega arith)
 
-  records-fit : (b : Block) → withBlock measured block notes b ≡ measured d → length (indexUnder block notes b) ≤ 65536
-  records-fit (Fault place) e = omega arith
-  records-fit (Accepted o) e = let n = notes-few (meant block o) e in let f = few-records (meant block o) notes in omega (arith, n, f)
+code-most : (a : Indexed) → code a ≤ 12
+code-most (done digest index) = omega arith
+code-most (options place) = omega arith
+code-most long = omega arith
+code-most (text place) = omega arith
+code-most (words place) = omega arith
+code-most (full pieces) = omega arith
+code-most (room needed) = omega arith
+code-most (work needed) = omega arith
 
-  small : measuring block notes ≡ measured d → Small (indexUnder block notes (readBlock block)) d
-  unfolding measuring writing
-  small e = record {
-    needed = room-fits d (rw e at (written-fits block notes 0));
-    pieces = let r = records-fit (readBlock block) e in omega (arith, r);
-  }
+pub told-fits : (block notes : List ℕ) (space records : ℕ) → toldNumber (told (indexing document01 block notes space records)) < 2 ^ 64
+unfolding numbered
+told-fits block notes space records =
+    let c = code-most (indexing document01 block notes space records) in
+    let v = indexed-value document01 document01-sound block notes space records in
+    rw told-number (omega (arith, c, v))
 
-pub told-fits : (block notes : List ℕ) (space records : ℕ) → toldNumber (told (indexing block notes space records)) < 2 ^ 64
-unfolding indexing
-told-fits block notes space records = number-fits space records (indexUnder block notes (readBlock block)) (measuring block notes) (measured-fits block notes) (small block notes)
-
-pub told-few : (block notes : List ℕ) (space records : ℕ) → filledAfter (indexing block notes space records) ≤ records
-unfolding indexing
-told-few block notes space records = filled-few space records (indexUnder block notes (readBlock block)) (measuring block notes)
+-- Code and value can be read back from the number, whatever the limits, the block, the notes, the room and the records.
+pub indexing-tells-code-and-value : (l : Limits) → Sound l → (block notes : List ℕ) (space records : ℕ)
+    → (numbered (indexing l block notes space records) / 2 ^ 32 ≡ code (indexing l block notes space records)) × (numbered (indexing l block notes space records) % 2 ^ 32 ≡ value (indexing l block notes space records))
+unfolding numbered
+indexing-tells-code-and-value l sound block notes space records = reads-back (code (indexing l block notes space records)) (value (indexing l block notes space records)) (indexed-value l sound block notes space records)

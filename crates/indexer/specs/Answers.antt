@@ -13,12 +13,14 @@ pub data Indexed : Type 0 where
   long : Indexed
   -- the place of the first damaged character's first byte
   text : ℕ → Indexed
-  -- the start of the first paragraph of over 1,024 words
+  -- the start of the first paragraph of too many words: of over 1,024
   words : ℕ → Indexed
   -- index full: the number of pieces
   full : ℕ → Indexed
   -- the length needed
   room : ℕ → Indexed
+  -- where working room is lent, in the place of `words`: the room needed
+  work : ℕ → Indexed
 
 -- the table: code and N
 abbrev pub code : Indexed → ℕ
@@ -29,6 +31,7 @@ code (text place) = 3
 code (words place) = 4
 code (full pieces) = 6
 code (room needed) = 5
+code (work needed) = 12
 
 abbrev pub value : Indexed → ℕ
 value (done digest index) = length digest
@@ -38,6 +41,7 @@ value (text place) = place
 value (words place) = place
 value (full pieces) = pieces
 value (room needed) = needed
+value (work needed) = needed
 
 -- the 64-bit number that the host gets
 unfoldable pub numbered : Indexed → ℕ
@@ -52,6 +56,7 @@ outputAfter (text place) output = output
 outputAfter (words place) output = replicate (length output) 0
 outputAfter (full pieces) output = replicate (length output) 0
 outputAfter (room needed) output = replicate (length output) 0
+outputAfter (work needed) output = output
 
 -- the records afterwards: the index and those behind it unchanged; on a refusal all unchanged
 unfoldable pub recordsAfter : Indexed → List Record → List Record
@@ -62,6 +67,7 @@ recordsAfter (text place) records = records
 recordsAfter (words place) records = records
 recordsAfter (full pieces) records = records
 recordsAfter (room needed) records = records
+recordsAfter (work needed) records = records
 
 -- the count of filled records: none on a refusal
 abbrev pub filledAfter : Indexed → ℕ
@@ -72,3 +78,4 @@ filledAfter (text place) = 0
 filledAfter (words place) = 0
 filledAfter (full pieces) = 0
 filledAfter (room needed) = 0
+filledAfter (work needed) = 0

@@ -9,30 +9,33 @@ use Rattle.options.specs.Opts.{meant}
 use Rattle.options.specs.OptionBlock.{readBlock}
 use Rattle.options.specs.declared.Block.{Block}
 use Rattle.options.specs.declared.Block.the-variants.{Accepted, Fault}
-use Rattle.formatter.specs.Answers.{Answer, done as measured, options as faulty, long as tooLong, text as damaged, words as manyWords, room as noRoom}
-use Rattle.formatter.specs.Format.{measuring}
+use Rattle.formatter.specs.Answers.{Answer, done as measured, options as faulty, long as tooLong, text as damaged, words as manyWords, room as noRoom, work as noWork}
+use Rattle.formatter.specs.Format.{Words, Limits, finding, mostTold, isTold}
 use Rattle.index.specs.declared.Record.{Record}
 use Rattle.indexer.specs.Index.{indexOf}
-use Rattle.indexer.specs.Answers.{Indexed, done, options, long, text, words, full, room}
+use Rattle.indexer.specs.Answers.{Indexed, done, options, long, text, words, full, room, work}
 
 -- with a digest and its index, an output slice of so many bytes and a list of so many records
-abbrev pub withIndex : ℕ → ℕ → List Record → List ℕ → Indexed
-withIndex space records index digest =
-    cond (leb (length index) records) (cond (leb (length digest) space) (done digest index) (room (length digest))) (full (length index))
+abbrev pub withOutput : Words → ℕ → List Record → List ℕ → Indexed
+withOutput w space index digest = cond (isTold w (length digest)) (cond (leb (length digest) space) (done digest index) (room (length digest))) (room mostTold)
 
-abbrev pub inIndex : ℕ → ℕ → List Record → Answer → Indexed
-inIndex space records index (measured digest) = withIndex space records index digest
-inIndex space records index (faulty place) = options place
-inIndex space records index tooLong = long
-inIndex space records index (damaged place) = text place
-inIndex space records index (manyWords place) = words place
--- (measuring does not answer so)
-inIndex space records index (noRoom needed) = room needed
+abbrev pub withIndex : Words → ℕ → ℕ → List Record → List ℕ → Indexed
+withIndex w space records index digest = cond (leb (length index) records) (withOutput w space index digest) (full (length index))
+
+abbrev pub inIndex : Words → ℕ → ℕ → List Record → Answer → Indexed
+inIndex w space records index (measured digest) = withIndex w space records index digest
+inIndex w space records index (faulty place) = options place
+inIndex w space records index tooLong = long
+inIndex w space records index (damaged place) = text place
+inIndex w space records index (manyWords place) = words place
+-- (nothing is found so)
+inIndex w space records index (noRoom needed) = room needed
+inIndex w space records index (noWork needed) = work needed
 
 -- the index under the options that a block means; of a faulty block none is asked
 abbrev pub indexUnder : List ℕ → List ℕ → Block → List Record
 indexUnder block notes (Fault place) = []
 indexUnder block notes (Accepted o) = indexOf (meant block o) notes
 
-unfoldable pub indexing : List ℕ → List ℕ → ℕ → ℕ → Indexed
-indexing block notes space records = inIndex space records (indexUnder block notes (readBlock block)) (measuring block notes)
+unfoldable pub indexing : Limits → List ℕ → List ℕ → ℕ → ℕ → Indexed
+indexing l block notes space records = inIndex (l .words) space records (indexUnder block notes (readBlock block)) (finding l block notes)

@@ -8,14 +8,17 @@ use paragraphs::Cursor;
 use paragraphs::Step;
 use pieces::Piece;
 ghost use mathlib.Core.Path.{_≡_};
-ghost use mathlib.Core.Bool.{true};
+ghost use mathlib.Core.Bool.{true, false};
 ghost use Prim.Native.Nat.{_^_, _≤_, _<_};
 ghost use lib.ListN.{length, replicate};
 ghost use Rattle.options.specs.Opts.{meant};
 ghost use Rattle.lines.specs.Lines.{linesOf};
+ghost use Rattle.paragraphs.specs.Contracts.Steps.{roomFor};
+ghost use Rattle.walk.specs.Digest.{mostWords};
 ghost use Rattle.walk.specs.Contracts.Course.{Admitted, CursorIn};
+ghost use Rattle.formatter.specs.Format.{document01};
 ghost use Rattle.indexer.specs.Indexing.{indexing};
-ghost use Rattle.indexer.specs.Contracts.Noting.{Ample, PieceStepped, Spells, Spelt, Noted, Indexes, Marked, refusedAs, leftOf, toldNumber, toldFilled};
+ghost use Rattle.indexer.specs.Contracts.Noting.{PieceStepped, Unmarked, Spells, Spelt, Noted, Indexes, Marked, refusedAs, leftOf, toldNumber, toldFilled};
 
 // What the call tells: its answer's number, and how many records the marks tell (none where it is refused).
 pub struct Told {
@@ -32,6 +35,7 @@ enum Filled {
     Words(usize),
     Full(usize),
     Room(usize),
+    Work(usize),
 }
 
 // What came of the pieces: the digest's length and their number, or the place of the first paragraph that has too many words.
@@ -50,7 +54,7 @@ pub fn write_marked(
     marks: &mut [u32],
 ) -> Told
     requires { ⌜ now marks ≡ replicate 4096 0 ⌝ }
-    ensures { λ t. ⌜ Marked (indexing (now (block .entry)) (now (notes .entry)) (length (now (out .entry))) records) records (now (out .entry)) (now (out .exit)) (now (filled .exit)) (now (marks .exit)) t ⌝ }
+    ensures { λ t. ⌜ Marked (indexing document01 (now (block .entry)) (now (notes .entry)) (length (now (out .entry))) records) records (now (out .entry)) (now (out .exit)) (now (filled .exit)) (now (marks .exit)) t ⌝ }
 {
     let r = write_pieces(block, notes, out, records, marks);
     let n = records_in(r);
@@ -70,7 +74,7 @@ fn write_pieces(
     gaps: &mut [u32],
 ) -> Filled
     requires { ⌜ now gaps ≡ replicate 4096 0 ⌝ }
-    ensures { λ r. ⌜ Indexes (indexing (now (block .entry)) (now (notes .entry)) (length (now (out .entry))) records) (now (out .entry)) r (now (out .exit)) (now (gaps .exit)) ⌝ }
+    ensures { λ r. ⌜ Indexes (indexing document01 (now (block .entry)) (now (notes .entry)) (length (now (out .entry))) records) (now (out .entry)) r (now (out .exit)) (now (gaps .exit)) ⌝ }
 {
     match formatter::admit(block, notes) {
         Admission::Refused(r) => refused(r),
@@ -89,10 +93,16 @@ fn refused(r: Reply) -> Filled
         Reply::Text(place) => Filled::Text(place),
         Reply::Words(place) => Filled::Words(place),
         Reply::Room(needed) => Filled::Room(needed),
+        Reply::Work(needed) => Filled::Work(needed),
     }
 }
 
-// Working storage for the most words that a paragraph may have; quick does without breaks.
+// The rooms, in numbers, for the most words that a paragraph may have: with quick seven a word, with Knuth-Plass fifteen.
+const QUICK_MOST: usize = 7168;
+
+const BEST_MOST: usize = 15360;
+
+// Working room for the most words that a paragraph may have.
 fn index_notes(
     o: Options,
     block: &[u8],
@@ -101,7 +111,7 @@ fn index_notes(
     records: usize,
     gaps: &mut [u32],
 ) -> Filled
-    requires { ⌜ Admitted (now block) (now notes) o × (now gaps ≡ replicate 4096 0) ⌝ }
+    requires { ⌜ Admitted (now block) (now notes) o × Unmarked (now notes) (now gaps) ⌝ }
     ensures { λ r. ⌜ Indexes (leftOf (meant (now (block .entry)) o) (now (notes .entry)) (length (now (out .entry))) records) (now (out .entry)) r (now (out .exit)) (now (gaps .exit)) ⌝ }
 {
     if o.quick {
@@ -118,27 +128,11 @@ fn index_quick(
     records: usize,
     gaps: &mut [u32],
 ) -> Filled
-    requires { ⌜ Admitted (now block) (now notes) o × (now gaps ≡ replicate 4096 0) × (o .quick ≡ true) ⌝ }
+    requires { ⌜ Admitted (now block) (now notes) o × Unmarked (now notes) (now gaps) × (o .quick ≡ true) ⌝ }
     ensures { λ r. ⌜ Indexes (leftOf (meant (now (block .entry)) o) (now (notes .entry)) (length (now (out .entry))) records) (now (out .entry)) r (now (out .exit)) (now (gaps .exit)) ⌝ }
 {
-    let mut table = [0u32; 7168];
-    let mut marks = [false; 1024];
-    let mut breaks = [0u32; 8];
-    let mut ratios = [0f32; 1];
-    let mut active = [0u32; 1];
-    index_with(
-        o,
-        block,
-        notes,
-        out,
-        records,
-        gaps,
-        &mut table,
-        &mut breaks,
-        &mut ratios,
-        &mut active,
-        &mut marks,
-    )
+    let mut work = [0u32; QUICK_MOST];
+    index_with(o, block, notes, out, records, gaps, &mut work)
 }
 
 fn index_best(
@@ -149,27 +143,11 @@ fn index_best(
     records: usize,
     gaps: &mut [u32],
 ) -> Filled
-    requires { ⌜ Admitted (now block) (now notes) o × (now gaps ≡ replicate 4096 0) ⌝ }
+    requires { ⌜ Admitted (now block) (now notes) o × Unmarked (now notes) (now gaps) × (o .quick ≡ false) ⌝ }
     ensures { λ r. ⌜ Indexes (leftOf (meant (now (block .entry)) o) (now (notes .entry)) (length (now (out .entry))) records) (now (out .entry)) r (now (out .exit)) (now (gaps .exit)) ⌝ }
 {
-    let mut table = [0u32; 7168];
-    let mut marks = [false; 1024];
-    let mut breaks = [0u32; 8192];
-    let mut ratios = [0f32; 1024];
-    let mut active = [0u32; 1024];
-    index_with(
-        o,
-        block,
-        notes,
-        out,
-        records,
-        gaps,
-        &mut table,
-        &mut breaks,
-        &mut ratios,
-        &mut active,
-        &mut marks,
-    )
+    let mut work = [0u32; BEST_MOST];
+    index_with(o, block, notes, out, records, gaps, &mut work)
 }
 
 // Writes the digest, and tells whether there is room for its records and for itself.
@@ -180,27 +158,12 @@ fn index_with(
     out: &mut [u8],
     records: usize,
     gaps: &mut [u32],
-    table: &mut [u32],
-    breaks: &mut [u32],
-    ratios: &mut [f32],
-    active: &mut [u32],
-    marks: &mut [bool],
+    work: &mut [u32],
 ) -> Filled
-    requires { ⌜ Admitted (now block) (now notes) o × (now gaps ≡ replicate 4096 0) × Ample o (now table) (now breaks) (now ratios) (now active) (now marks) ⌝ }
+    requires { ⌜ Admitted (now block) (now notes) o × Unmarked (now notes) (now gaps) × (roomFor (o .quick) (length (now work)) ≡ mostWords) ⌝ }
     ensures { λ r. ⌜ Indexes (leftOf (meant (now (block .entry)) o) (now (notes .entry)) (length (now (out .entry))) records) (now (out .entry)) r (now (out .exit)) (now (gaps .exit)) ⌝ }
 {
-    match note_pieces(
-        o,
-        block,
-        notes,
-        out,
-        gaps,
-        table,
-        breaks,
-        ratios,
-        active,
-        marks,
-    ) {
+    match note_pieces(o, block, notes, out, gaps, work) {
         Pieces::Stopped(place) => {
             walk::clear(out);
             Filled::Words(place)
@@ -229,13 +192,9 @@ fn note_pieces(
     notes: &[u8],
     out: &mut [u8],
     gaps: &mut [u32],
-    table: &mut [u32],
-    breaks: &mut [u32],
-    ratios: &mut [f32],
-    active: &mut [u32],
-    marks: &mut [bool],
+    work: &mut [u32],
 ) -> Pieces
-    requires { ⌜ Admitted (now block) (now notes) o × (now gaps ≡ replicate 4096 0) × Ample o (now table) (now breaks) (now ratios) (now active) (now marks) ⌝ }
+    requires { ⌜ Admitted (now block) (now notes) o × Unmarked (now notes) (now gaps) × (roomFor (o .quick) (length (now work)) ≡ mostWords) ⌝ }
     ensures { λ r. ⌜ Noted (meant (now (block .entry)) o) (now (notes .entry)) (now (out .entry)) (now (out .exit)) (now (gaps .exit)) r ⌝ }
 {
     let mut c = Cursor {
@@ -246,18 +205,7 @@ fn note_pieces(
     let mut k = 0;
     let mut line = 0;
     while c.at < notes.len() {
-        let Step::On(d) = put_piece(
-            o,
-            block,
-            notes,
-            c,
-            out,
-            table,
-            breaks,
-            ratios,
-            active,
-            marks,
-        ) else {
+        let Step::On(d) = put_piece(o, block, notes, c, out, work) else {
             return Pieces::Stopped(c.at);
         };
         line = spell(gaps, out, c, d, line);
@@ -295,13 +243,9 @@ fn put_piece(
     notes: &[u8],
     c: Cursor,
     out: &mut [u8],
-    table: &mut [u32],
-    breaks: &mut [u32],
-    ratios: &mut [f32],
-    active: &mut [u32],
-    marks: &mut [bool],
+    work: &mut [u32],
 ) -> Step
-    requires { ⌜ Admitted (now block) (now notes) o × CursorIn (now notes) c × (c .at < length (now notes)) × Ample o (now table) (now breaks) (now ratios) (now active) (now marks) ⌝ }
+    requires { ⌜ Admitted (now block) (now notes) o × CursorIn (now notes) c × (c .at < length (now notes)) × (roomFor (o .quick) (length (now work)) ≡ mostWords) ⌝ }
     ensures { λ r. ⌜ PieceStepped (meant (now (block .entry)) o) (now (notes .entry)) (now (out .entry)) c (now (out .exit)) r ⌝ }
 {
     let at = c.at;
@@ -316,19 +260,7 @@ fn put_piece(
             written: output::emit_line(notes, at, end, out, c.written),
             mail: false,
         }),
-        Piece::Text(p) => paragraphs::put_paragraph(
-            notes,
-            at,
-            o,
-            p,
-            out,
-            c.written,
-            table,
-            breaks,
-            ratios,
-            active,
-            marks,
-        ),
+        Piece::Text(p) => { paragraphs::put_paragraph(notes, at, o, p, out, c.written, work) }
     }
 }
 
@@ -365,6 +297,7 @@ fn number_of(r: Filled) -> u64
         Filled::Words(place) => 4 * UPPER + place as u64,
         Filled::Full(pieces) => 6 * UPPER + pieces as u64,
         Filled::Room(needed) => 5 * UPPER + needed as u64,
+        Filled::Work(needed) => 12 * UPPER + needed as u64,
     }
 }
 
@@ -383,5 +316,6 @@ fn records_in(r: Filled) -> u64
         Filled::Words(_) => 0,
         Filled::Full(_) => 0,
         Filled::Room(_) => 0,
+        Filled::Work(_) => 0,
     }
 }

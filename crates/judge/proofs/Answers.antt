@@ -15,9 +15,9 @@ use Rattle.options.specs.OptionBlock.{readBlock}
 use Rattle.options.specs.declared.Options.{Options}
 use Rattle.options.specs.declared.Block.{Block}
 use Rattle.pieces.specs.Pieces.{pieces}
-use Rattle.walk.specs.Digest.{longParagraph}
-use Rattle.formatter.specs.Answers.{Answer, done, options, long, text, words, room, code as codeOf}
-use Rattle.formatter.specs.Format.{mostBytes, withWords, withBlock, measuring}
+use Rattle.walk.specs.Digest.{mostWords, longParagraph}
+use Rattle.formatter.specs.Answers.{Answer, done, options, long, text, words, room, work, code as codeOf}
+use Rattle.formatter.specs.Format.{mostBytes, document01, withWords, withBlock, finding}
 use Rattle.formatter.specs.Contracts.Call.{Admits, told}
 use Rattle.formatter.specs.declared.Reply.{Reply}
 use Rattle.formatter.specs.declared.Admission.the-variants.{Refused, Passed}
@@ -84,7 +84,7 @@ module _ (o : Opts) (notes digest : List ℕ) (first : Matched) (r : Course) (w 
   unfolding verdict
   through-answer {m} e b q = let f = through e in q ∙ go (ltb mostBytes (length digest)) refl ∙ rw (f .0)
     where
-      go : (t : Bool) → ltb mostBytes (length digest) ≡ t → judgedBy (length digest) m ≡ withDigest (length digest) (verdict o notes digest)
+      go : (t : Bool) → ltb mostBytes (length digest) ≡ t → judgedBy (length digest) m ≡ withDigest mostBytes (length digest) (verdict o notes digest)
       go true t = rw t
       go false t =
           let f : matched digest m ≡ andThen (matched digest first) (matchPieces o (pieces o notes)) = through e .1 .is in
@@ -95,14 +95,14 @@ module _ (o : Opts) (notes digest : List ℕ) (first : Matched) (r : Course) (w 
 -- ---- what is told before
 
 module _ (block notes : List ℕ) where
-  pub checking-left : (digest : List ℕ) (o : Options) → Admits block notes (Passed o) → checking block notes digest ≡ leftOf (meant block o) notes digest
-  unfolding checking measuring
+  pub checking-left : (digest : List ℕ) (o : Options) → Admits document01 block notes (Passed o) → checking document01 block notes digest ≡ leftOf (meant block o) notes digest
+  unfolding checking finding
   checking-left digest o s =
-      ap (λ (b : Block). withNotes (withDigest (length digest) (verdictUnder block notes digest b)) (withBlock done block notes (readBlock block))) (s .0 .accepted)
-      ∙ ap (withNotes (withDigest (length digest) (verdict (meant block o) notes digest))) (s .1 done)
-      ∙ go (longParagraph (meant block o) 0 (pieces (meant block o) notes))
+      ap (λ (b : Block). withNotes (withDigest mostBytes (length digest) (verdictUnder block notes digest b)) (withBlock document01 done block notes (readBlock block))) (s .0 .accepted)
+      ∙ ap (withNotes (withDigest mostBytes (length digest) (verdict (meant block o) notes digest))) (s .1 done)
+      ∙ go (longParagraph mostWords (meant block o) 0 (pieces (meant block o) notes))
     where
-      go : (f : Found) → withNotes (withDigest (length digest) (verdict (meant block o) notes digest)) (withWords done (meant block o) notes f) ≡ wordsOr f (withDigest (length digest) (verdict (meant block o) notes digest))
+      go : (f : Found) → withNotes (withDigest mostBytes (length digest) (verdict (meant block o) notes digest)) (withWords done (meant block o) notes f) ≡ wordsOr f (withDigest mostBytes (length digest) (verdict (meant block o) notes digest))
       go (At place) = refl
       go Nowhere = refl
 
@@ -113,11 +113,12 @@ module _ (block notes : List ℕ) where
   refusal-is then (text place) h = refl
   refusal-is then (words place) h = refl
   refusal-is then (room needed) h = refl
+  refusal-is then (work needed) h = refl
 
-  pub refused-answer : (digest : List ℕ) {q : Reply} → Admits block notes (Refused q) → refusedAs q ≡ checking block notes digest
-  unfolding checking measuring
+  pub refused-answer : (digest : List ℕ) {q : Reply} → Admits document01 block notes (Refused q) → refusedAs q ≡ checking document01 block notes digest
+  unfolding checking finding
   refused-answer digest {q} s =
-      let then = withDigest (length digest) (verdictUnder block notes digest (readBlock block)) in
+      let then = withDigest mostBytes (length digest) (verdictUnder block notes digest (readBlock block)) in
       ap refusedAs (s .is)
-      ∙ refusal-is then (s .refusal) (a-refusal-is-no-digest block notes s)
+      ∙ refusal-is then (s .refusal) (a-refusal-is-no-digest document01 block notes s)
       ∙ ap (withNotes then) (sym (s .whole-is done))

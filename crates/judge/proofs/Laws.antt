@@ -11,6 +11,7 @@ use Rattle.text.specs.declared.Found.the-variants.{At}
 use Rattle.options.specs.Opts.{Opts, meant}
 use Rattle.options.specs.declared.Options.{Options}
 use Rattle.lines.specs.Lines.{linesOf}
+use Rattle.lines.specs.Contracts.Places.{mostLarge}
 use Rattle.pieces.specs.Pieces.{Kind, Piece, blankLine, plainLine, paragraph, pieces}
 use Rattle.pieces.specs.Contracts.Places.{pieceAt}
 use Rattle.pieces.specs.Contracts.Bounds.{AllBegin, MarginWithin, Bounded}
@@ -104,7 +105,7 @@ module _ (block notes : List ℕ) (o : Options) (c : Stand) (p : Paragraph) (rea
   margin-fits m w = let h = goes .bounds .within in record { order = w .order; end = omega (arith, w .high, h); more = w .more }
 
   -- what splitting it asks
-  pub text-splits : (c .at ≤ p .next) × (p .next ≤ length notes) × (length notes ≤ 65536) × (1 ≤ o .tab) × (o .tab ≤ 100) × (p .mail ≡ false → AllBegin (o .glue) (p .start) (p .later) (linesOf (slice (c .at) (p .next) notes)))
+  pub text-splits : (c .at ≤ p .next) × (p .next ≤ length notes) × (length notes ≤ mostLarge) × (1 ≤ o .tab) × (o .tab ≤ 100) × (p .mail ≡ false → AllBegin (o .glue) (p .start) (p .later) (linesOf (slice (c .at) (p .next) notes)))
   unfolding meant
   text-splits =
       let k = ready-kept block notes o ready in
@@ -159,7 +160,7 @@ pub record Going (o : Opts) (notes digest : List ℕ) (first : Matched) (c : Sta
   pub within : c .at ≤ length notes
   pub inside : MatchedIn digest (c .matched)
   pub left : andThen (matched digest (c .matched)) (matchPieces o (piecesFrom o (c .mail) notes (c .at))) ≡ andThen (matched digest first) (matchPieces o (pieces o notes))
-  pub long : longFrom o (c .mail) notes (c .at) ≡ longParagraph o 0 (pieces o notes)
+  pub long : longFrom o (c .mail) notes (c .at) ≡ longParagraph mostWords o 0 (pieces o notes)
 
 module _ (o : Opts) (notes digest : List ℕ) (first : Matched) where
   pub going-first : MatchedIn digest first → Going o notes digest first (record { at = 0; mail = true; matched = first })

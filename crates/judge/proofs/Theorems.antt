@@ -11,9 +11,9 @@ use Rattle.options.specs.Opts.{Opts, meant}
 use Rattle.options.specs.OptionBlock.{readBlock}
 use Rattle.options.specs.declared.Block.{Block}
 use Rattle.options.specs.declared.Block.the-variants.{Accepted as BlockAccepted, Fault}
-use Rattle.formatter.specs.Answers.{Answer, done, options, long, text, words, room, code as codeOf, numbered as numberOf}
-use Rattle.formatter.specs.Format.{mostBytes, withBlock, measuring}
-use Rattle.formatter.proofs.Together.{measuring-never-answers-five}
+use Rattle.formatter.specs.Answers.{Answer, done, options, long, text, words, room, work, code as codeOf, numbered as numberOf}
+use Rattle.formatter.specs.Format.{Limits, withBlock, finding, measuring}
+use Rattle.formatter.proofs.Together.{finding-never-answers-five, what-is-refused-is-measured-so}
 use Rattle.checker.specs.Acceptable.{Acceptable}
 use Rattle.checker.specs.Named.{Named}
 use Rattle.checker.specs.Matching.{Verdict, accepted, at, verdict}
@@ -24,7 +24,7 @@ use Rattle.judge.specs.Theorems.Looked.{Looked}
 use Rattle.judge.specs.declared.Judgement.{Judgement}
 use Rattle.judge.specs.declared.Judgement.the-variants.{Accepted, LongDigest, Line}
 
-module _ (block notes digest : List ℕ) where
+module _ (l : Limits) (block notes digest : List ℕ) where
   -- ---- what is told where none of 1 to 4 is due
 
   done-then : (then : Judgement) (a : Answer) → codeOf a ≡ 0 → withNotes then a ≡ then
@@ -34,26 +34,28 @@ module _ (block notes digest : List ℕ) where
   done-then then (text place) e = absurd (omega (arith, e))
   done-then then (words place) e = absurd (omega (arith, e))
   done-then then (room needed) e = absurd (omega (arith, e))
+  done-then then (work needed) e = absurd (omega (arith, e))
 
-  -- and the other way round, where it is not one of 1 to 4
-  then-done : (then : Judgement) (a : Answer) {r : Judgement} → withNotes then a ≡ r → (code r ≡ 1 → ⊥) → (code r ≡ 2 → ⊥) → (code r ≡ 3 → ⊥) → (code r ≡ 4 → ⊥) → codeOf a ≡ 0
-  then-done then (done d) e p q r s = refl
-  then-done then (options place) e p q r s = absurd (p (sym (ap code e)))
-  then-done then long e p q r s = absurd (q (sym (ap code e)))
-  then-done then (text place) e p q r s = absurd (r (sym (ap code e)))
-  then-done then (words place) e p q r s = absurd (s (sym (ap code e)))
-  then-done then (room needed) e p q r s = absurd (q (sym (ap code e)))
+  -- and the other way round, where it is not one of 1 to 4, nor 12
+  then-done : (then : Judgement) (a : Answer) {r : Judgement} → withNotes then a ≡ r → (code r ≡ 1 → ⊥) → (code r ≡ 2 → ⊥) → (code r ≡ 3 → ⊥) → (code r ≡ 4 → ⊥) → (code r ≡ 12 → ⊥) → codeOf a ≡ 0
+  then-done then (done d) e p q r s t = refl
+  then-done then (options place) e p q r s t = absurd (p (sym (ap code e)))
+  then-done then long e p q r s t = absurd (q (sym (ap code e)))
+  then-done then (text place) e p q r s t = absurd (r (sym (ap code e)))
+  then-done then (words place) e p q r s t = absurd (s (sym (ap code e)))
+  then-done then (room needed) e p q r s t = absurd (q (sym (ap code e)))
+  then-done then (work needed) e p q r s t = absurd (t (sym (ap code e)))
 
   -- a digest that is judged is within the limit
-  judged-short : (v : Verdict) {r : Judgement} → withDigest (length digest) v ≡ r → (code r ≡ 9 → ⊥) → (length digest ≤ mostBytes) × (withVerdict v ≡ r)
-  judged-short v {r} e n = go (ltb mostBytes (length digest)) refl e
+  judged-short : (v : Verdict) {r : Judgement} → withDigest (l .bytes) (length digest) v ≡ r → (code r ≡ 9 → ⊥) → (length digest ≤ l .bytes) × (withVerdict v ≡ r)
+  judged-short v {r} e n = go (ltb (l .bytes) (length digest)) refl e
     where
-      go : (t : Bool) → ltb mostBytes (length digest) ≡ t → cond t LongDigest (withVerdict v) ≡ r → (length digest ≤ mostBytes) × (withVerdict v ≡ r)
+      go : (t : Bool) → ltb (l .bytes) (length digest) ≡ t → cond t LongDigest (withVerdict v) ≡ r → (length digest ≤ l .bytes) × (withVerdict v ≡ r)
       go true t k = absurd (n (sym (ap code k)))
-      go false t k = (ltb-false mostBytes (length digest) t, k)
+      go false t k = (ltb-false (l .bytes) (length digest) t, k)
 
-  short-judged : (v : Verdict) → length digest ≤ mostBytes → withDigest (length digest) v ≡ withVerdict v
-  short-judged v h = rw (le-ltb mostBytes (length digest) h)
+  short-judged : (v : Verdict) → length digest ≤ l .bytes → withDigest (l .bytes) (length digest) v ≡ withVerdict v
+  short-judged v h = rw (le-ltb (l .bytes) (length digest) h)
 
   accepted-only : (v : Verdict) → withVerdict v ≡ Accepted → v ≡ accepted
   accepted-only accepted e = refl
@@ -64,63 +66,75 @@ module _ (block notes digest : List ℕ) where
   line-only (at m) n e = ap at (ap value e)
 
   -- under the options that the block means
-  looked : (Holds : Opts → Type 0) (v : Verdict) → ((o : Opts) → verdict o notes digest ≡ v → Holds o) → codeOf (measuring block notes) ≡ 0 → length digest ≤ mostBytes → verdictUnder block notes digest (readBlock block) ≡ v → Looked block notes digest Holds
-  unfolding measuring
+  looked : (Holds : Opts → Type 0) (v : Verdict) → ((o : Opts) → verdict o notes digest ≡ v → Holds o) → codeOf (finding l block notes) ≡ 0 → length digest ≤ l .bytes → verdictUnder block notes digest (readBlock block) ≡ v → Looked l block notes digest Holds
+  unfolding finding
   looked Holds v f passed short e = go (readBlock block) refl passed e
     where
-      go : (b : Block) → readBlock block ≡ b → codeOf (withBlock done block notes b) ≡ 0 → verdictUnder block notes digest b ≡ v → Looked block notes digest Holds
+      go : (b : Block) → readBlock block ≡ b → codeOf (withBlock l done block notes b) ≡ 0 → verdictUnder block notes digest b ≡ v → Looked l block notes digest Holds
       go (Fault place) q p k = absurd (omega (arith, p))
       go (BlockAccepted o) q p k = record { options = o; accepted = q; passed = passed; short = short; holds = f (meant block o) k }
 
-  judged-as : (Holds : Opts → Type 0) (v : Verdict) → ((o : Opts) → Holds o → verdict o notes digest ≡ v) → Looked block notes digest Holds → checking block notes digest ≡ withVerdict v
+  judged-as : (Holds : Opts → Type 0) (v : Verdict) → ((o : Opts) → Holds o → verdict o notes digest ≡ v) → Looked l block notes digest Holds → checking l block notes digest ≡ withVerdict v
   unfolding checking
-  judged-as Holds v f l =
-      done-then _ (measuring block notes) (l .passed)
-      ∙ short-judged (verdictUnder block notes digest (readBlock block)) (l .short)
-      ∙ ap (λ (b : Block). withVerdict (verdictUnder block notes digest b)) (l .accepted)
-      ∙ ap withVerdict (f (meant block (l .options)) (l .holds))
+  judged-as Holds v f k =
+      done-then _ (finding l block notes) (k .passed)
+      ∙ short-judged (verdictUnder block notes digest (readBlock block)) (k .short)
+      ∙ ap (λ (b : Block). withVerdict (verdictUnder block notes digest b)) (k .accepted)
+      ∙ ap withVerdict (f (meant block (k .options)) (k .holds))
 
   -- ---- the theorems
 
   -- The call accepts exactly the acceptable digests of notes that are not refused, within the limit.
-  pub what-the-call-accepts-is-acceptable : checking block notes digest ≡ Accepted → Looked block notes digest (λ o. Acceptable o notes digest)
+  pub what-the-call-accepts-is-acceptable : checking l block notes digest ≡ Accepted → Looked l block notes digest (λ o. Acceptable o notes digest)
   unfolding checking
   what-the-call-accepts-is-acceptable e =
-      let then = withDigest (length digest) (verdictUnder block notes digest (readBlock block)) in
-      let p = then-done then (measuring block notes) e (λ z. omega (arith, z)) (λ z. omega (arith, z)) (λ z. omega (arith, z)) (λ z. omega (arith, z)) in
-      let s = judged-short (verdictUnder block notes digest (readBlock block)) (sym (done-then then (measuring block notes) p) ∙ e) (λ z. omega (arith, z)) in
+      let then = withDigest (l .bytes) (length digest) (verdictUnder block notes digest (readBlock block)) in
+      let p = then-done then (finding l block notes) e (λ z. omega (arith, z)) (λ z. omega (arith, z)) (λ z. omega (arith, z)) (λ z. omega (arith, z)) (λ z. omega (arith, z)) in
+      let s = judged-short (verdictUnder block notes digest (readBlock block)) (sym (done-then then (finding l block notes) p) ∙ e) (λ z. omega (arith, z)) in
       looked (λ o. Acceptable o notes digest) accepted (λ o v. what-is-accepted-is-acceptable o notes digest v) p (s .0) (accepted-only _ (s .1))
 
-  pub what-is-acceptable-the-call-accepts : Looked block notes digest (λ o. Acceptable o notes digest) → checking block notes digest ≡ Accepted
+  pub what-is-acceptable-the-call-accepts : Looked l block notes digest (λ o. Acceptable o notes digest) → checking l block notes digest ≡ Accepted
   what-is-acceptable-the-call-accepts = judged-as (λ o. Acceptable o notes digest) accepted (λ o a. what-is-acceptable-is-accepted o notes digest a)
 
   -- Of every other such digest it tells the first line that cannot be continued to an acceptable one, whatever may follow; and no other.
-  pub the-line-that-the-call-tells-is-named : (n : ℕ) → checking block notes digest ≡ Line n → Looked block notes digest (λ o. Named (Acceptable o notes) digest n)
+  pub the-line-that-the-call-tells-is-named : (n : ℕ) → checking l block notes digest ≡ Line n → Looked l block notes digest (λ o. Named (Acceptable o notes) digest n)
   unfolding checking
   the-line-that-the-call-tells-is-named n e =
-      let then = withDigest (length digest) (verdictUnder block notes digest (readBlock block)) in
-      let p = then-done then (measuring block notes) e (λ z. omega (arith, z)) (λ z. omega (arith, z)) (λ z. omega (arith, z)) (λ z. omega (arith, z)) in
-      let s = judged-short (verdictUnder block notes digest (readBlock block)) (sym (done-then then (measuring block notes) p) ∙ e) (λ z. omega (arith, z)) in
+      let then = withDigest (l .bytes) (length digest) (verdictUnder block notes digest (readBlock block)) in
+      let p = then-done then (finding l block notes) e (λ z. omega (arith, z)) (λ z. omega (arith, z)) (λ z. omega (arith, z)) (λ z. omega (arith, z)) (λ z. omega (arith, z)) in
+      let s = judged-short (verdictUnder block notes digest (readBlock block)) (sym (done-then then (finding l block notes) p) ∙ e) (λ z. omega (arith, z)) in
       looked (λ o. Named (Acceptable o notes) digest n) (at n) (λ o v. the-line-told-is-the-line-named o notes digest n v) p (s .0) (line-only _ n (s .1))
 
-  pub the-line-that-is-named-the-call-tells : (n : ℕ) → Looked block notes digest (λ o. Named (Acceptable o notes) digest n) → checking block notes digest ≡ Line n
+  pub the-line-that-is-named-the-call-tells : (n : ℕ) → Looked l block notes digest (λ o. Named (Acceptable o notes) digest n) → checking l block notes digest ≡ Line n
   the-line-that-is-named-the-call-tells n = judged-as (λ o. Named (Acceptable o notes) digest n) (at n) (λ o a. the-line-named-is-the-line-told o notes digest n a)
 
-  -- 1 to 4 come first: for notes that measuring refuses, the call's number is measuring's, whatever the digest.
-  pub refused-notes-are-refused-as-by-measuring : (codeOf (measuring block notes) ≡ 0 → ⊥) → numbered (checking block notes digest) ≡ numberOf (measuring block notes)
+  -- 1 to 4 (or 12) come first: for notes that measuring refuses, the call's number is measuring's, whatever the digest.
+  pub refused-notes-are-refused-as-by-measuring : (codeOf (finding l block notes) ≡ 0 → ⊥) → numbered (checking l block notes digest) ≡ numberOf (measuring l block notes)
   unfolding checking numbered numberOf
-  refused-notes-are-refused-as-by-measuring n = go (measuring block notes) (measuring-never-answers-five block notes) n
+  refused-notes-are-refused-as-by-measuring n =
+      let m = what-is-refused-is-measured-so l block notes (some (finding l block notes) n) in
+      go (finding l block notes) (finding-never-answers-five l notes block) n ∙ ap numberOf (sym m)
     where
-      go : (a : Answer) → codeOf a ≤ 4 → (codeOf a ≡ 0 → ⊥)
-          → numbered (withNotes (withDigest (length digest) (verdictUnder block notes digest (readBlock block))) a) ≡ numberOf a
+      some : (a : Answer) → (codeOf a ≡ 0 → ⊥) → 1 ≤ codeOf a
+      some (done d) k = absurd (k refl)
+      some (options place) k = omega arith
+      some long k = omega arith
+      some (text place) k = omega arith
+      some (words place) k = omega arith
+      some (room needed) k = omega arith
+      some (work needed) k = omega arith
+
+      go : (a : Answer) → (codeOf a ≡ 5 → ⊥) → (codeOf a ≡ 0 → ⊥)
+          → numbered (withNotes (withDigest (l .bytes) (length digest) (verdictUnder block notes digest (readBlock block))) a) ≡ numberOf a
       go (done d) m k = absurd (k refl)
       go (options place) m k = refl
       go long m k = refl
       go (text place) m k = refl
       go (words place) m k = refl
-      go (room needed) m k = absurd (omega (arith, m))
+      go (room needed) m k = absurd (m refl)
+      go (work needed) m k = refl
 
   -- 9 comes next: for other notes, whatever the digest holds.
-  pub a-longer-digest-is-refused : codeOf (measuring block notes) ≡ 0 → mostBytes < length digest → checking block notes digest ≡ LongDigest
+  pub a-longer-digest-is-refused : codeOf (finding l block notes) ≡ 0 → l .bytes < length digest → checking l block notes digest ≡ LongDigest
   unfolding checking
-  a-longer-digest-is-refused p h = done-then _ (measuring block notes) p ∙ rw (lt-ltb mostBytes (length digest) h)
+  a-longer-digest-is-refused p h = done-then _ (finding l block notes) p ∙ rw (lt-ltb (l .bytes) (length digest) h)

@@ -1,4 +1,4 @@
--- What an answer tells is small: places of the notes and the block are, and a digest that is matched has at most 65,536 lines. So code and
+-- What an answer tells is small: places of the notes and the block are, and a digest that is matched has no more lines than bytes. So code and
 -- value can be read back from the number.
 use mathlib.Core.Path.{_≡_, refl, ap}
 use mathlib.Core.Bool.{Bool, true, false, cond}
@@ -12,9 +12,9 @@ use Rattle.options.specs.Opts.{meant}
 use Rattle.options.specs.OptionBlock.{readBlock}
 use Rattle.options.specs.declared.Block.{Block}
 use Rattle.options.specs.declared.Block.the-variants.{Accepted as BlockAccepted, Fault}
-use Rattle.formatter.specs.Answers.{Answer, done, options, long, text, words, room, value as valueOf}
-use Rattle.formatter.specs.Format.{mostBytes, measuring}
-use Rattle.formatter.proofs.Values.{measuring-tells-code-and-value}
+use Rattle.formatter.specs.Answers.{Answer, done, options, long, text, words, room, work, code as codeOf, value as valueOf}
+use Rattle.formatter.specs.Format.{Limits, document01, finding, mostTold}
+use Rattle.formatter.proofs.Values.{Sound, document01-sound, found-value, reads-back}
 use Rattle.checker.specs.Acceptable.{Acceptable}
 use Rattle.checker.specs.Named.{feeds, Named}
 use Rattle.checker.specs.Matching.{Verdict, accepted, at, verdict}
@@ -22,7 +22,7 @@ use Rattle.checker.proofs.Theorems.{the-line-told-is-the-line-named}
 use Rattle.judge.specs.Answers.{code, value, numbered}
 use Rattle.judge.specs.Checking.{withVerdict, withDigest, withNotes, verdictUnder, checking}
 use Rattle.judge.specs.declared.Judgement.{Judgement}
-use Rattle.judge.specs.declared.Judgement.the-variants.{Accepted, Options, Long, Text, Words, LongDigest, Line}
+use Rattle.judge.specs.declared.Judgement.the-variants.{Accepted, Options, Long, Text, Words, LongDigest, Line, Work}
 
 -- ---- the line named
 
@@ -48,30 +48,30 @@ verdict-few block notes digest (BlockAccepted o) = go (verdict (meant block o) n
     go accepted e = omega arith
     go (at n) e = named-few (Acceptable (meant block o) notes) digest n (the-line-told-is-the-line-named (meant block o) notes digest n e)
 
-digest-small : (block notes digest : List ℕ) (b : Block) → value (withDigest (length digest) (verdictUnder block notes digest b)) < 2 ^ 32
-digest-small block notes digest b = go (ltb mostBytes (length digest)) refl
-  where
-    go : (t : Bool) → ltb mostBytes (length digest) ≡ t → value (cond t LongDigest (withVerdict (verdictUnder block notes digest b))) < 2 ^ 32
-    go true e = omega arith
-    go false e = let f = verdict-few block notes digest b in omega (arith, f, ltb-false mostBytes (length digest) e)
+module _ (l : Limits) (sound : Sound l) (block notes digest : List ℕ) where
+  digest-small : (b : Block) → value (withDigest (l .bytes) (length digest) (verdictUnder block notes digest b)) ≤ mostTold
+  digest-small b = go (ltb (l .bytes) (length digest)) refl
+    where
+      go : (t : Bool) → ltb (l .bytes) (length digest) ≡ t → value (cond t LongDigest (withVerdict (verdictUnder block notes digest b))) ≤ mostTold
+      go true e = omega arith
+      go false e = let f = verdict-few block notes digest b in omega (arith, f, ltb-false (l .bytes) (length digest) e, sound .short)
 
--- ---- the answer
+  -- ---- the answer
 
-notes-small : (then : Judgement) (a : Answer) → value then < 2 ^ 32 → valueOf a < 2 ^ 32 → value (withNotes then a) < 2 ^ 32
-notes-small then (done digest) h k = h
-notes-small then (options place) h k = k
-notes-small then long h k = k
-notes-small then (text place) h k = k
-notes-small then (words place) h k = k
-notes-small then (room needed) h k = omega arith
+  notes-small : (then : Judgement) (a : Answer) → value then ≤ mostTold → (1 ≤ codeOf a → valueOf a ≤ mostTold) → value (withNotes then a) ≤ mostTold
+  notes-small then (done digest) h k = h
+  notes-small then (options place) h k = k (omega arith)
+  notes-small then long h k = omega arith
+  notes-small then (text place) h k = k (omega arith)
+  notes-small then (words place) h k = k (omega arith)
+  notes-small then (room needed) h k = omega arith
+  notes-small then (work needed) h k = k (omega arith)
 
-checking-small : (block notes digest : List ℕ) → value (checking block notes digest) < 2 ^ 32
-unfolding checking
-checking-small block notes digest =
-    let m = measuring-tells-code-and-value block notes in
-    notes-small _ (measuring block notes) (digest-small block notes digest (readBlock block)) (omega (arith, m .1))
+  pub checking-small : value (checking l block notes digest) ≤ mostTold
+  unfolding checking
+  checking-small = notes-small _ (finding l block notes) (digest-small (readBlock block)) (found-value l sound block notes (finding l block notes) refl)
 
-code-most : (a : Judgement) → code a ≤ 10
+code-most : (a : Judgement) → code a ≤ 12
 code-most Accepted = omega arith
 code-most (Options place) = omega arith
 code-most Long = omega arith
@@ -79,16 +79,17 @@ code-most (Text place) = omega arith
 code-most (Words place) = omega arith
 code-most LongDigest = omega arith
 code-most (Line line) = omega arith
+code-most (Work needed) = omega arith
 
-pub number-fits : (block notes digest : List ℕ) → numbered (checking block notes digest) < 2 ^ 64
+pub number-fits : (block notes digest : List ℕ) → numbered (checking document01 block notes digest) < 2 ^ 64
 unfolding numbered
-number-fits block notes digest = let s = checking-small block notes digest in let m = code-most (checking block notes digest) in omega (arith, s, m)
+number-fits block notes digest = let s = checking-small document01 document01-sound block notes digest in let m = code-most (checking document01 block notes digest) in omega (arith, s, m)
 
--- Code and value can be read back from the number, whatever the block, the notes and the digest.
-pub checking-tells-code-and-value : (block notes digest : List ℕ)
-    → (numbered (checking block notes digest) / 2 ^ 32 ≡ code (checking block notes digest)) × (numbered (checking block notes digest) % 2 ^ 32 ≡ value (checking block notes digest))
+-- Code and value can be read back from the number, whatever the limits, the block, the notes and the digest.
+pub checking-tells-code-and-value : (l : Limits) → Sound l → (block notes digest : List ℕ)
+    → (numbered (checking l block notes digest) / 2 ^ 32 ≡ code (checking l block notes digest)) × (numbered (checking l block notes digest) % 2 ^ 32 ≡ value (checking l block notes digest))
 unfolding numbered
-checking-tells-code-and-value block notes digest = let s = checking-small block notes digest in (omega (arith, s), omega (arith, s))
+checking-tells-code-and-value l sound block notes digest = reads-back (code (checking l block notes digest)) (value (checking l block notes digest)) (checking-small l sound block notes digest)
 
 -- the number of what an answer was found to be
 pub number-is : {a b : Judgement} → a ≡ b → numbered a ≡ code b * 2 ^ 32 + value b

@@ -16,6 +16,7 @@ ghost use Rattle.output.specs.Contracts.Writers.{marginOf};
 ghost use Rattle.walk.specs.Contracts.Course.{Admitted};
 ghost use Rattle.checker.specs.Matching.{andThen, matchLine, matchWords};
 ghost use Rattle.checker.specs.Contracts.Places.{matched, MatchedIn, Matches, MarginFits, Matchable};
+ghost use Rattle.formatter.specs.Format.{document01};
 ghost use Rattle.judge.specs.Answers.{numbered};
 ghost use Rattle.judge.specs.Checking.{checking};
 ghost use Rattle.judge.specs.Contracts.Judging.{begun, judgedBy, refusedAs, leftOf, Stepped, Walked};
@@ -29,6 +30,7 @@ pub enum Judgement {
     Words(usize),
     LongDigest,
     Line(usize),
+    Work(usize),
 }
 
 // Where the work stands: the place in the notes and next-mail, and what the digest has come to.
@@ -58,7 +60,7 @@ const MOST_WORDS: usize = 1024;
 
 // Checks a digest: 1, 2, 3, 4, 9 and 10 are the refusals, in this order.
 pub fn check(block: &[u8], notes: &[u8], digest: &[u8]) -> Judgement
-    ensures { λ r. ⌜ r ≡ checking (now (block .entry)) (now (notes .entry)) (now (digest .entry)) ⌝ }
+    ensures { λ r. ⌜ r ≡ checking document01 (now (block .entry)) (now (notes .entry)) (now (digest .entry)) ⌝ }
 {
     match formatter::admit(block, notes) {
         Admission::Refused(r) => refused(r),
@@ -77,6 +79,7 @@ fn refused(r: Reply) -> Judgement
         Reply::Text(place) => Judgement::Text(place),
         Reply::Words(place) => Judgement::Words(place),
         Reply::Room(_) => Judgement::Long,
+        Reply::Work(needed) => Judgement::Work(needed),
     }
 }
 
@@ -242,5 +245,6 @@ pub fn number_of(a: Judgement) -> u64
         Judgement::Words(place) => 4 * UPPER + place as u64,
         Judgement::LongDigest => 9 * UPPER,
         Judgement::Line(line) => 10 * UPPER + line as u64,
+        Judgement::Work(needed) => 12 * UPPER + needed as u64,
     }
 }

@@ -33,18 +33,18 @@ same-start : (before : Bool) (word : ℕ) → cond before word (word + 1) ≡ co
 same-start true word = refl
 same-start false word = add-one word
 
-module _ (t : Tables) (last at e : ℕ) (b : Record) (s : ℕ) (room : last < 1024) (leads : Leads t last) (some : 0 < at) (within : at ≤ last)
+module _ (t : Tables) (last at e : ℕ) (b : Record) (s : ℕ) (leads : Leads t last) (some : 0 < at) (within : at ≤ last)
     (is : b ≡ breakIn t at) (begins : s ≡ T.startOf b) where
   starts-there : s ≡ startOf (placeOf (breakIn t at))
   starts-there = begins ∙ rw is (same-start (breakIn t at .before) (breakIn t at .word))
 
   pub before-here : s ≡ e → b .before ≡ beforeAt e (pathTo t at)
   unfolding beforeAt
-  before-here q = rw (is, path-here t last at room leads some within, eq-eqb (startOf (placeOf (breakIn t at))) e (sym starts-there ∙ q))
+  before-here q = rw (is, path-here t last at leads some within, eq-eqb (startOf (placeOf (breakIn t at))) e (sym starts-there ∙ q))
 
   pub before-on : (s ≡ e → ⊥) → beforeAt e (pathTo t (b .previous)) ≡ beforeAt e (pathTo t at)
   unfolding beforeAt
-  before-on q = rw (is, path-here t last at room leads some within, ne-eqb (startOf (placeOf (breakIn t at))) e (λ r. q (starts-there ∙ r)))
+  before-on q = rw (is, path-here t last at leads some within, ne-eqb (startOf (placeOf (breakIn t at))) e (λ r. q (starts-there ∙ r)))
 
 pub before-none : (t : Tables) (at e : ℕ) → at ≤ 0 → false ≡ beforeAt e (pathTo t at)
 unfolding beforeAt

@@ -38,7 +38,7 @@ module _ (i n : ℕ) (t : Tables) (filled : Filled i n t) where
   pub filled-later : Filled (suc i) n t
   filled-later = record { sized = filled .sized; sound = λ m h. sound-later i (breakIn t m) (filled .sound m h); down = filled .down }
 
-  pub filled-more : (b : Record) → n < length (t .ratios) → Sound (suc i) b → b .previous < n → Filled (suc i) (suc n) (withBreak t n b)
+  pub filled-more : (b : Record) → n < length t → Sound (suc i) b → b .previous < n → Filled (suc i) (suc n) (withBreak t n b)
   filled-more b room sound before = record {
     sized = sized-with t n b (filled .sized);
     sound = λ m h. stored-holds t n b (withBreak t n b) (λ m c. Sound (suc i) c) (stored-with t n b room (filled .sized)) sound m (λ ne. sound-later i (breakIn t m) (filled .sound m (omega arith)));

@@ -1,4 +1,6 @@
 pub mod Table
+pub mod Ratios
+pub mod Work
 pub mod Path
 pub mod Ascends
 pub mod Marks

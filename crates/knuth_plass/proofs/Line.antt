@@ -19,7 +19,7 @@ use Rattle.knuth_plass.specs.declared.Best.{Best}
 use Rattle.records.specs.declared.Before.the-variants.{Absent}
 use Rattle.knuth_plass.specs.declared.Turn.{Turn}
 use Rattle.knuth_plass.specs.KnuthPlass.{Place, none, stretchOf, minimumOf, reached, offerOf}
-use Rattle.knuth_plass.specs.Contracts.Table.{Tables, pathTo, seen}
+use Rattle.knuth_plass.specs.Contracts.Table.{mostWords, ratioOf, Tables, pathTo, seen}
 use Rattle.knuth_plass.specs.Contracts.Round.{lineAt, nothing, bestFrom, better, offerIn, Floor, Offers, OfferedIs}
 use Rattle.knuth_plass.proofs.Offers.{better-stays, offer-some, offer-better, fits-better, lesser-none}
 
@@ -66,7 +66,7 @@ module _ (g : Setting) (turn : Turn) (n : ℕ) (b : Record) (best : Best) where
       → OfferedIs g turn n b best best
   offers-none e = record { is = λ notes t. rw (e notes (pathTo t n)) (sym (lesser-none (offerIn g (turn .number) t best))); fits = λ size h f. f }
 
-  offers-some : (d : ℕ) (r : Float) → turn .number < 1024 → d ≤ suc (turn .number) * mostCost → T (within 1 r)
+  offers-some : (d : ℕ) (r : Float) → turn .number < mostWords → d ≤ suc (turn .number) * mostCost → T (within 1 r)
       → ((notes : List ℕ) (t : Tables)
       → offerOf g (turn .last) (turn .number) (turn .space) (meaning notes (turn .word)) (seen (pathTo t n) b) ≡ offerIn g (turn .number) t (bestFrom n d r))
       → OfferedIs g turn n b best (better best n d r)
@@ -95,7 +95,7 @@ module _ (g : Setting) (turn : Turn) (n : ℕ) (b : Record) (best : Best) where
           (λ notes t. rw (offerOf, line-is g turn b notes (pathTo t n), ← o .is, le-leb x (g .width) (o .fits), le-leb (minimumOf g) x long, l, le-leb (b .demerits) 0 h)))
 
       full-offer : (d : ℕ) (r : Float) → turn .last ≡ false → r ≡ ratio (g .goal) x (stretchOf g)
-          → d ≡ cost (ratio (g .goal) x (stretchOf g)) (b .ratio) (stretchOf g) (turn .word .width) → d + b .demerits < nothing
+          → d ≡ cost (ratio (g .goal) x (stretchOf g)) (ratioOf (b .ratio)) (stretchOf g) (turn .word .width) → d + b .demerits < nothing
           → (notes : List ℕ) (t : Tables) → offerOf g (turn .last) (turn .number) (turn .space) (meaning notes (turn .word)) (seen (pathTo t n) b) ≡ offerIn g (turn .number) t (bestFrom n (d + b .demerits) r)
       unfolding offerOf seen meaning
       full-offer d r l e f few notes t =
@@ -103,7 +103,7 @@ module _ (g : Setting) (turn : Turn) (n : ℕ) (b : Record) (best : Best) where
           (sym (offer-some g (turn .number) t (bestFrom n (d + b .demerits) r) few))
 
       pub offered-full : (d : ℕ) (r : Float) → turn .last ≡ false → r ≡ ratio (g .goal) x (stretchOf g)
-          → d ≡ cost (ratio (g .goal) x (stretchOf g)) (b .ratio) (stretchOf g) (turn .word .width) → d ≤ mostCost → T (within 1 r)
+          → d ≡ cost (ratio (g .goal) x (stretchOf g)) (ratioOf (b .ratio)) (stretchOf g) (turn .word .width) → d ≤ mostCost → T (within 1 r)
           → OfferedIs g turn n b best (better best n (d + b .demerits) r)
       offered-full d r l e f k w =
           let s = o .sound .demerits in
@@ -114,8 +114,8 @@ module _ (g : Setting) (turn : Turn) (n : ℕ) (b : Record) (best : Best) where
       pub offered-beaten : (f : ℕ) (r : Float) → turn .last ≡ false → r ≡ ratio (g .goal) x (stretchOf g) → T (within 1 r) → Floor (turn .weight) f
           → best .total ≤ f + b .demerits → OfferedIs g turn n b best best
       offered-beaten f r l e w floor h =
-          let d = costWith r (b .ratio) (turn .weight) in
-          let k = floor-least r (b .ratio) (turn .weight) f floor in
-          let small : d ≤ mostCost = square-le-most (lineTerm r) (turn .weight) (ratioTerm r (b .ratio)) (line-le r w) (o .turns .light) (ratio-le r (b .ratio) w (o .sound .ratio)) in
-          let is : d ≡ cost (ratio (g .goal) x (stretchOf g)) (b .ratio) (stretchOf g) (turn .word .width) = rw (← e) (cost-with r (b .ratio) (stretchOf g) (turn .word .width) (turn .weight) (o .turns .weight)) in
+          let d = costWith r (ratioOf (b .ratio)) (turn .weight) in
+          let k = floor-least r (ratioOf (b .ratio)) (turn .weight) f floor in
+          let small : d ≤ mostCost = square-le-most (lineTerm r) (turn .weight) (ratioTerm r (ratioOf (b .ratio))) (line-le r w) (o .turns .light) (ratio-le r (ratioOf (b .ratio)) w (o .sound .ratio)) in
+          let is : d ≡ cost (ratio (g .goal) x (stretchOf g)) (ratioOf (b .ratio)) (stretchOf g) (turn .word .width) = rw (← e) (cost-with r (ratioOf (b .ratio)) (stretchOf g) (turn .word .width) (turn .weight) (o .turns .weight)) in
           subst (λ (z : Best). OfferedIs g turn n b best z) (better-stays best n (d + b .demerits) r (omega (arith, k, h))) (offered-full d r l e is small w)

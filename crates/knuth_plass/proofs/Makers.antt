@@ -25,7 +25,7 @@ use Rattle.knuth_plass.specs.declared.Tried.{Tried}
 use Rattle.knuth_plass.specs.declared.Tried.the-variants.{Other, Here}
 use Rattle.knuth_plass.specs.KnuthPlass.{Break, none, stretchOf, minimumOf, reduced, reached, staying, offerOf, bestOffer, restart}
 use Rattle.knuth_plass.specs.BestLines.{offering, chosenOf, forced, makerOf, maker}
-use Rattle.knuth_plass.specs.Contracts.Table.{Tables, breakIn, pathTo, seen, breakMeant}
+use Rattle.knuth_plass.specs.Contracts.Table.{ratioOf, Tables, breakIn, pathTo, seen, breakMeant}
 use Rattle.knuth_plass.specs.Contracts.Round.{Turns, lessened, nothing, breaksListed, Fit, Restarted, Done, Settled}
 use Rattle.knuth_plass.specs.Contracts.Makers.{triedOf, found, chosenIn, Kept, From, ForcedIs, MakerIs, ToldIs}
 use Rattle.knuth_plass.proofs.Ascends.{ascends-each}
@@ -61,10 +61,10 @@ module _ (g : Setting) (weight total kept : ℕ) (t : Tables) (a : List ℕ) whe
   abbrev pub chosenFrom : ℕ → Ending
   chosenFrom k = chosenIn g weight total (map (breakMeant t) (slice k kept a))
 
-  pub chosen-step : (k : ℕ) (b : Record) (r : Tried) → k < kept → kept ≤ length a → b ≡ breakIn t (getD a k 0) → r ≡ triedOf g weight total (b .columns) (b .ratio) (b .demerits)
+  pub chosen-step : (k n : ℕ) (b : Record) (r : Tried) → k < kept → kept ≤ length a → n ≡ getD a k 0 → b ≡ breakIn t n → r ≡ triedOf g weight total (b .columns) (ratioOf (b .ratio)) (b .demerits)
       → chosenFrom k ≡ found r (chosenFrom (k + 1))
   unfolding chosenIn breakMeant seen
-  chosen-step k b r h l e f = rw (slice-here a k kept 0 h l, f, e)
+  chosen-step k n b r h l at e f = rw (slice-here a k kept 0 h l, f, e, at)
 
   pub chosen-end : (k : ℕ) → kept ≤ k → Paragraph ≡ chosenFrom k
   unfolding chosenIn

@@ -41,21 +41,21 @@ answer g turn active notes = record {
   least = least active;
 }
 
-module _ (g : Setting) (turn : Turn) (st : Standing) (t : Tables) (a : List ℕ) (holds : turn .number < length (t .ratios)) (ready : RoundReady (turn .number) st t a) where
+module _ (g : Setting) (turn : Turn) (st : Standing) (t : Tables) (a : List ℕ) (holds : turn .number < length t) (ready : RoundReady (turn .number) st t a) (n : ℕ) (at : n ≡ getD a 0 0) where
   few : st .count ≤ length a
   few = let f = holds in let h = ready .few in let r = ready .room in let l = ready .active in omega arith
 
-  here : slice 0 (st .count) a ≡ getD a 0 0 ∷ slice 1 (st .count) a
-  here = slice-here a 0 (st .count) 0 (ready .some) few
+  here : slice 0 (st .count) a ≡ n ∷ slice 1 (st .count) a
+  here = rw at (slice-here a 0 (st .count) 0 (ready .some) few)
 
-  pub first-within : getD a 0 0 < st .size
-  first-within = ascends-first 0 (st .size) (getD a 0 0) (slice 1 (st .count) a) (rw here at (ready .ascends))
+  pub first-within : n < st .size
+  first-within = ascends-first 0 (st .size) (n) (slice 1 (st .count) a) (rw here at (ready .ascends))
 
-  pub first-room : getD a 0 0 < length (t .ratios)
+  pub first-room : n < length t
   first-room = let w = first-within in let f = holds in let h = ready .few in omega arith
 
-  module _ (r : Float) (b : Record) (is : b ≡ lessened (st .reduction) (breakIn t (getD a 0 0))) where
-    pub fit-first : Fit turn st 0 t a (begun (getD a 0 0) (b .demerits) r)
+  module _ (r : Float) (b : Record) (is : b ≡ lessened (st .reduction) (breakIn t (n))) where
+    pub fit-first : Fit turn st 0 t a (begun (n) (b .demerits) r)
     fit-first = record {
       filled = ready .filled;
       active = ready .active;
@@ -69,13 +69,13 @@ module _ (g : Setting) (turn : Turn) (st : Standing) (t : Tables) (a : List ℕ)
       best = λ h. absurd (omega arith);
     }
 
-    pub goes-first : (notes : List ℕ) → RoundGoes g turn st (answer g turn (map (reduced (st .reduction)) (breaksListed (st .count) t a)) notes) 0 t a (begun (getD a 0 0) (b .demerits) r)
+    pub goes-first : (notes : List ℕ) → RoundGoes g turn st (answer g turn (map (reduced (st .reduction)) (breaksListed (st .count) t a)) notes) 0 t a (begun (n) (b .demerits) r)
     unfolding lesser offerIn least reduced breakMeant seen
     goes-first notes = record {
       stayed = refl;
       best = refl;
-      so-far = seen (pathTo t (getD a 0 0)) b;
-      found = record { demerits = refl; again = λ z. ap (seen (pathTo t (getD a 0 0))) (sym is) };
+      so-far = seen (pathTo t (n)) b;
+      found = record { demerits = refl; again = λ z. ap (seen (pathTo t (n))) (sym is) };
       least = rw (is, here) (least-again _ _);
     }
 

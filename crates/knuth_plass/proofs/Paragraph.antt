@@ -7,7 +7,6 @@ use native.Mathlib.Numerals.{add-one}
 use native.Mathlib.Omega.{arith}
 use borrow.Author.Tests.{eqb-true, eqb-false}
 use lib.Dec.{eqb}
-use lib.Ieee.{Float}
 use lib.ListN.{length, set, take, drop, length-set}
 use lib.Seq.{take-suc-set}
 use Rattle.records.specs.Word.{Word, meaning}
@@ -22,7 +21,7 @@ use Rattle.knuth_plass.specs.declared.State.{State}
 use Rattle.knuth_plass.specs.declared.Standing.{Standing}
 use Rattle.knuth_plass.specs.declared.Turn.{Turn}
 use Rattle.knuth_plass.specs.KnuthPlass.{Break, Active, Offer, reduced, settled, withOffer, round, isLast, sentenceBehind, firstBreak, roundsFrom}
-use Rattle.knuth_plass.specs.Contracts.Table.{Tables, Sized, withBreak, seen, breakMeant, Sound}
+use Rattle.knuth_plass.specs.Contracts.Table.{ratioOf, Tables, Sized, withBreak, seen, breakMeant, Sound}
 use Rattle.knuth_plass.specs.Contracts.Round.{Limits, RoundReady, breaksListed, standing, Done, Settled, RoundIs, begin, RoundsAre}
 use Rattle.knuth_plass.proofs.Table.{sized-with, length-with, read-back}
 use Rattle.knuth_plass.proofs.Path.{path-start}
@@ -78,7 +77,7 @@ module _ (table : List ℕ) (n i : ℕ) (notes : List ℕ) where
     unfolding roundsFrom
     rounds-done h = rw (words-end notes n table i h)
 
-pub rounds-are : (g : Setting) (n i : ℕ) (table : List ℕ) (t : Tables) (a : List ℕ) (st : Standing) (sentence : Bool) → i ≤ n → n ≤ i → n ≤ length (t .ratios) → RoundReady i st t a
+pub rounds-are : (g : Setting) (n i : ℕ) (table : List ℕ) (t : Tables) (a : List ℕ) (st : Standing) (sentence : Bool) → i ≤ n → n ≤ i → n ≤ length t → RoundReady i st t a
     → ((notes : List ℕ) → roundsFrom g sentence i (standing st t a) (drop i (wordsIn notes n table)) ≡ roundsFrom g false 1 (begin g (meaning notes (wordIn table 0))) (drop 1 (wordsIn notes n table)))
     → RoundsAre g n table t a st
 rounds-are g n i table t a st sentence h k room ready is =
@@ -87,8 +86,8 @@ rounds-are g n i table t a st sentence h k room ready is =
 
 -- ---- the paragraph's start
 
-module _ (g : Setting) (w : WordRecord) (r : Float) (zero-ratio : r ≡ noRatio) (limits : Limits g) (small : w .width < 2 ^ 31)
-    (t : Tables) (a : List ℕ) (t₁ : Tables) (a₁ : List ℕ) (sized : Sized t) (active : length a ≡ length (t .ratios)) (some : 0 < length (t .ratios)) where
+module _ (g : Setting) (w : WordRecord) (r : ℕ) (zero-ratio : ratioOf r ≡ noRatio) (limits : Limits g) (small : w .width < 2 ^ 31)
+    (t : Tables) (a : List ℕ) (t₁ : Tables) (a₁ : List ℕ) (sized : Sized t) (active : length a ≡ length t) (some : 0 < length t) where
   abbrev start : Record
   start = record { previous = 0; word = 0; before = false; demerits = 0; ratio = r; columns = g .first + w .width; fresh = false }
 
@@ -99,7 +98,7 @@ module _ (g : Setting) (w : WordRecord) (r : Float) (zero-ratio : r ≡ noRatio)
   front put = rw put (take-suc-set a 0 0 (omega arith))
 
   sound : Sound 1 start
-  sound = let f = limits .first in rw zero-ratio (record { ratio = tt; columns = omega arith; demerits = omega arith; word = omega arith })
+  sound = let f = limits .first in record { ratio = rw zero-ratio tt; columns = omega arith; demerits = omega arith; word = omega arith }
 
   pub ready-first : t₁ ≡ withBreak t 0 start → a₁ ≡ set a 0 0 → RoundReady 1 one t₁ a₁
   ready-first stored put = record {

@@ -34,26 +34,27 @@ path-same (suc k) (suc m) f g n (suc i) h p q d s =
     let l = d (suc i) (omega arith) h in
     rw (a .place, a .previous) (ap (λ (r : List Place). placeOf (f (suc i)) ∷ r) (path-same k m f g n (f (suc i) .previous) (omega arith) (omega arith) (omega arith) d s))
 
-step : (k : ℕ) (f : ℕ → Record) (i : ℕ) → 0 < i → pathIn (suc k) f i ≡ placeOf (f i) ∷ pathIn k f (f i .previous)
+-- a record's place comes first, and then the path of the one before it
+path-next : (f : ℕ → Record) (rest : List Place) (i : ℕ) → 0 < i → ((k : ℕ) → suc k ≡ i → pathIn k f (f i .previous) ≡ rest) → pathIn i f i ≡ placeOf (f i) ∷ rest
 unfolding pathIn
-step k f zero h = absurd (omega arith)
-step k f (suc i) h = refl
+path-next f rest zero h e = absurd (omega arith)
+path-next f rest (suc i) h e = ap (λ (r : List Place). placeOf (f (suc i)) ∷ r) (e i refl)
 
 -- tables whose records below n are alike have the same paths
-module _ (t t₁ : Tables) (n : ℕ) (few : n ≤ 1024) (down : Down (breakIn t) n) (alike : (j : ℕ) → j < n → Alike (breakIn t₁ j) (breakIn t j)) where
+module _ (t t₁ : Tables) (n : ℕ) (down : Down (breakIn t) n) (alike : (j : ℕ) → j < n → Alike (breakIn t₁ j) (breakIn t j)) where
   kept : (j : ℕ) → j < n → pathTo t₁ j ≡ pathTo t j
   unfolding pathTo
-  kept j h = path-same 1024 1024 (breakIn t) (breakIn t₁) n j h (omega arith) (omega arith) down alike
+  kept j h = path-same j j (breakIn t) (breakIn t₁) n j h (omega arith) (omega arith) down alike
 
 -- a record is stored again, at the same place and leading where it led
-module _ (t : Tables) (i n : ℕ) (b : Record) (t₁ : Tables) (few : n ≤ 1024) (stored : Stored t i b t₁) (down : Down (breakIn t) n) (here : i < n)
+module _ (t : Tables) (i n : ℕ) (b : Record) (t₁ : Tables) (stored : Stored t i b t₁) (down : Down (breakIn t) n) (here : i < n)
     (same : Alike b (breakIn t i)) where
   alike-by : (j : ℕ) (x : Bool) → eqb j i ≡ x → Alike (breakIn t₁ j) (breakIn t j)
   alike-by j true e = rw (eqb-true j i e, stored .here) same
   alike-by j false e = rw (stored .others j (eqb-false j i e)) (record { place = refl; previous = refl })
 
   pub path-again : (j : ℕ) → j < n → pathTo t₁ j ≡ pathTo t j
-  path-again = kept t t₁ n few down (λ j h. alike-by j (eqb j i) refl)
+  path-again = kept t t₁ n down (λ j h. alike-by j (eqb j i) refl)
 
   pub meant-again : breakMeant t₁ i ≡ seen (pathTo t i) b
   unfolding breakMeant
@@ -64,10 +65,10 @@ module _ (t : Tables) (i n : ℕ) (b : Record) (t₁ : Tables) (few : n ≤ 1024
   meant-beside j h ne = rw (path-again j h, stored .others j ne)
 
 -- one record more, the n-th, leading to one before it
-module _ (t : Tables) (n : ℕ) (b : Record) (room : n < length (t .ratios)) (sized : Sized t) (down : Down (breakIn t) n) where
+module _ (t : Tables) (n : ℕ) (b : Record) (room : n < length t) (sized : Sized t) (down : Down (breakIn t) n) where
   pub path-before : (j : ℕ) → j < n → pathTo (withBreak t n b) j ≡ pathTo t j
   path-before =
-      kept t (withBreak t n b) n (let f = sized .few in omega arith) down (λ j h. rw (read-other t n b j (λ e. omega arith)) (record { place = refl; previous = refl }))
+      kept t (withBreak t n b) n down (λ j h. rw (read-other t n b j (λ e. omega arith)) (record { place = refl; previous = refl }))
 
   pub meant-before : (j : ℕ) → j < n → breakMeant (withBreak t n b) j ≡ breakMeant t j
   unfolding breakMeant
@@ -76,26 +77,25 @@ module _ (t : Tables) (n : ℕ) (b : Record) (room : n < length (t .ratios)) (si
   pub path-more : 0 < n → b .previous < n → pathTo (withBreak t n b) n ≡ placeOf b ∷ pathTo t (b .previous)
   unfolding pathTo
   path-more z h =
-      step 1023 (breakIn (withBreak t n b)) n z
+      path-next (breakIn (withBreak t n b)) (pathIn (b .previous) (breakIn t) (b .previous)) n z
+      (λ k e. rw (read-back t n b room sized)
+      (path-same k (b .previous) (breakIn t) (breakIn (withBreak t n b)) n (b .previous) h (omega arith) (omega arith) down
+      (λ j g. rw (read-other t n b j (λ q. omega arith)) (record { place = refl; previous = refl }))))
       ∙ rw (read-back t n b room sized)
-      (ap (λ (r : List Place). placeOf b ∷ r)
-      (path-same 1023 1024 (breakIn t) (breakIn (withBreak t n b)) n (b .previous) h (let f = sized .few in omega arith) (let f = sized .few in omega arith) down
-      (λ j g. rw (read-other t n b j (λ e. omega arith)) (record { place = refl; previous = refl }))))
 
   pub meant-more : 0 < n → b .previous < n → breakMeant (withBreak t n b) n ≡ seen (placeOf b ∷ pathTo t (b .previous)) b
   unfolding breakMeant
   meant-more z h = rw (path-more z h, read-back t n b room sized)
 
 -- the path of a record is its place and the path of the one before
-pub path-here : (t : Tables) (last at : ℕ) → last < 1024 → Leads t last → 0 < at → at ≤ last → pathTo t at ≡ placeOf (breakIn t at) ∷ pathTo t (breakIn t at .previous)
+pub path-here : (t : Tables) (last at : ℕ) → Leads t last → 0 < at → at ≤ last → pathTo t at ≡ placeOf (breakIn t at) ∷ pathTo t (breakIn t at .previous)
 unfolding pathTo
-path-here t last at room leads some within =
+path-here t last at leads some within =
     let l = leads at some within .0 in
-    step 1023 (breakIn t) at some
-    ∙ ap (λ (r : List Place). placeOf (breakIn t at) ∷ r)
-    (path-same 1023 1024 (breakIn t) (breakIn t) (suc last) (breakIn t at .previous) (omega arith) (omega arith) (omega arith)
-    (λ j h k. leads j h (omega arith) .0)
-    (λ j k. record { place = refl; previous = refl }))
+    path-next (breakIn t) (pathIn (breakIn t at .previous) (breakIn t) (breakIn t at .previous)) at some
+    (λ k e. path-same k (breakIn t at .previous) (breakIn t) (breakIn t) (suc last) (breakIn t at .previous) (omega arith) (omega arith) (omega arith)
+    (λ j h m. leads j h (omega arith) .0)
+    (λ j m. record { place = refl; previous = refl }))
 
 pub path-start : (t : Tables) (at : ℕ) → at ≤ 0 → pathTo t at ≡ []
 unfolding pathTo pathIn

@@ -14,9 +14,9 @@ use Rattle.knuth_plass.specs.declared.Turn.{Turn}
 use Rattle.knuth_plass.specs.declared.State.{State}
 use Rattle.knuth_plass.specs.declared.Standing.{Standing}
 use Rattle.knuth_plass.specs.KnuthPlass.{Break, Active, least, restart, settled}
-use Rattle.knuth_plass.specs.Contracts.Table.{Tables, breakIn, withBreak, placeOf, pathTo, seen, breakMeant, Sound, Ascends, Room, Fits}
+use Rattle.knuth_plass.specs.Contracts.Table.{mostWords, ratioOf, Tables, breakIn, withBreak, placeOf, pathTo, seen, breakMeant, Sound, Ascends, Fits}
 use Rattle.knuth_plass.specs.Contracts.Round.{Limits, Turns, lessened, nothing, LeastFound, Fit, RoundReady, breaksListed, Restarted, Settled}
-use Rattle.knuth_plass.proofs.Table.{has-room, length-with}
+use Rattle.knuth_plass.proofs.Table.{length-with}
 use Rattle.knuth_plass.proofs.Path.{meant-before, meant-more}
 use Rattle.knuth_plass.proofs.Ascends.{ascends-more, map-below}
 use Rattle.knuth_plass.proofs.Filled.{filled-later, filled-more}
@@ -36,19 +36,17 @@ module _ (g : Setting) (turn : Turn) (st : Standing) (t : Tables) (a : List ℕ)
   ascends : Ascends 0 (st .size) (take (s .kept) a)
   ascends = fit-all turn st t a (st .count) s (omega arith) fit
 
-  pub room : st .size < length (t .ratios)
+  pub room : st .size < length t
   room = let f = fit .holds in let h = fit .few in omega arith
 
-  pub kept-room : s .kept < length (t .ratios)
+  pub kept-room : s .kept < length t
   kept-room = let r = room in let h = fit .kept in let l = fit .room in omega arith
 
-  pub append-room : (st .size < 1024) × Room (st .size) t × (s .kept < length a)
+  pub append-room : (st .size < length t) × (s .kept < length t) × (st .size < mostWords)
   append-room =
       let f = turns .few in
       let h = fit .few in
-      let k = kept-room in
-      let l = fit .active in
-      (omega arith, has-room t (st .size) (fit .filled .sized) room, omega arith)
+      (room, kept-room, omega arith)
 
   -- the new break's numbers fit the table
   sound-fits : (b : Record) → Sound (suc (turn .number)) b → b .previous < st .size → Fits b
@@ -121,13 +119,13 @@ module _ (g : Setting) (turn : Turn) (st : Standing) (t : Tables) (a : List ℕ)
   }
 
   -- the best offer is one break more
-  module _ (limits : Limits g) (best : s .best .total < nothing) (t₁ : Tables) (a₁ : List ℕ) where
+  module _ (limits : Limits g) (best : s .best .total < nothing) (bits : ℕ) (same : ratioOf bits ≡ s .best .ratio) (t₁ : Tables) (a₁ : List ℕ) where
     abbrev offered : Record
     offered =
-        record { previous = s .best .previous; word = turn .number; before = false; demerits = s .best .total; ratio = s .best .ratio; columns = g .indent; fresh = true }
+        record { previous = s .best .previous; word = turn .number; before = false; demerits = s .best .total; ratio = bits; columns = g .indent; fresh = true }
 
     offer-sound : Sound (suc (turn .number)) offered
-    offer-sound = let i = limits .indent in let f = fit .best best in record { ratio = f .ratio; columns = omega arith; demerits = f .total; word = omega arith }
+    offer-sound = let i = limits .indent in let f = fit .best best in record { ratio = rw same (f .ratio); columns = omega arith; demerits = f .total; word = omega arith }
 
     pub offer-fits : Fits offered
     offer-fits = sound-fits offered offer-sound (fit .best best .previous)
@@ -139,7 +137,7 @@ module _ (g : Setting) (turn : Turn) (st : Standing) (t : Tables) (a : List ℕ)
         let f = fit .best best in
         record {
           ready = ready-more offered (s .least) t₁ a₁ offer-sound (f .previous) stored put;
-          is = λ notes active l. rw (offer-some g (turn .number) t (s .best) best)
+          is = λ notes active l. rw (offer-some g (turn .number) t (s .best) best, ← same)
               (settled-is notes active (breaksListed (s .kept + 1) t₁ a₁) (breaksListed (s .kept) t a ++ (seen (placeOf offered ∷ pathTo t (s .best .previous)) offered ∷ [])) l
               (breaks-more offered (s .least) t₁ a₁ offer-sound (f .previous) stored put)
               (simp length-append (omega arith)));

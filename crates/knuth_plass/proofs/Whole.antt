@@ -10,12 +10,15 @@ use lib.Seq.{slice}
 use Rattle.lists.proofs.Remaining.{slice-here, slice-none}
 use Rattle.records.specs.Word.{Word, meaning}
 use Rattle.records.specs.Contracts.Table.{wordIn, wordsIn}
+use Rattle.records.specs.Contracts.Marks.{marksIn, MarkedUpTo}
+use Rattle.records.proofs.Marks.{marks-length, marks-at}
 use Rattle.records.proofs.Table.{words-drop, words-length}
 use Rattle.spacing.specs.declared.Setting.{Setting}
 use Rattle.knuth_plass.specs.declared.Standing.{Standing}
 use Rattle.knuth_plass.specs.KnuthPlass.{Place, Break, Active, least, roundsFrom, pathOf, startsLine, marksFrom, bestBreaks}
-use Rattle.knuth_plass.specs.Contracts.Table.{Tables, pathTo, seen, breakMeant, Leads, MarkedUpTo}
-use Rattle.knuth_plass.specs.Contracts.Round.{begin, RoundsAre, Listed, LeastIs, BestAre}
+use Rattle.knuth_plass.specs.Contracts.Table.{Tables, pathTo, seen, breakMeant, Leads}
+use Rattle.knuth_plass.specs.Contracts.Round.{begin, RoundsAre, Listed, LeastIs, Worked, BestAre}
+use Rattle.knuth_plass.proofs.Work.{worked-word, worked-beyond}
 
 marks-are : (marks : List Bool) (n : ℕ) (path : List Place) (i : ℕ) (ws : List Word) → n ≤ length marks → length ws ≡ n - i
     → ((j : ℕ) → j < n → getD marks j false ≡ startsLine j path) → slice i n marks ≡ marksFrom path i ws
@@ -33,8 +36,11 @@ module _ (g : Setting) (n : ℕ) (table : List ℕ) (t : Tables) (a : List ℕ) 
       record { sized = r .filled .sized; size = omega arith; some = r .some; room = r .room; active = r .active; ascends = r .ascends }
 
   module _ (last : ℕ) (found : LeastIs st t a last) where
-    pub last-room : last < length (t .ratios)
+    pub last-room : last < length t
     last-room = let r = rounds .ready .few in let h = rounds .holds in let w = found .within in omega arith
+
+    pub last-below : last < n
+    last-below = let r = rounds .ready .few in let w = found .within in omega arith
 
     pub leads : Leads t last
     leads j p h =
@@ -50,15 +56,16 @@ module _ (g : Setting) (n : ℕ) (table : List ℕ) (t : Tables) (a : List ℕ) 
     unfolding breakMeant seen
     path-is notes = ap (λ (b : Break). b .places) (found .is ∙ ap (λ (b : Active). least (b .breaks)) (rounds .is notes))
 
-    pub best-are : (old marks : List Bool) → 1 ≤ n → n ≤ length old → MarkedUpTo n old marks (λ (j : ℕ). startsLine j (pathTo t last)) → BestAre g n table old t a marks
+    pub best-are : (work new : List ℕ) → 1 ≤ n → Worked n table work → MarkedUpTo n work new (λ (j : ℕ). startsLine j (pathTo t last)) → BestAre g n table new
     unfolding bestBreaks pathOf begin
-    best-are old marks some all m = record {
+    best-are work new some worked m = record {
       breaks = λ notes.
           let l = words-length notes n table in
-          let f = m .sized in
           rw (words-drop notes n table 0 some, ← path-is notes)
-          (marks-are marks n (pathTo t last) 1 (drop 1 (wordsIn notes n table)) (omega arith) (length-drop 1 (wordsIn notes n table) ∙ rw l) (m .within));
-      first = λ notes. rw (words-drop notes n table 0 some, ← path-is notes) (m .within 0 some);
-      beyond = m .beyond;
-      sized = m .sized;
+          (marks-are (marksIn n new) n (pathTo t last) 1 (drop 1 (wordsIn notes n table)) (rw (marks-length new n) (omega arith)) (length-drop 1 (wordsIn notes n table) ∙ rw l)
+          (λ j h. marks-at new n j false h ∙ m .marks j h));
+      first = λ notes. rw (words-drop notes n table 0 some, ← path-is notes) (m .marks 0 some);
+      words = λ j h. m .words j h ∙ worked-word n table work worked j h;
+      beyond = λ k h. m .beyond k (omega arith) ∙ worked-beyond n table work worked k h;
+      sized = m .sized ∙ worked .sized;
     }

@@ -6,25 +6,27 @@ use spacing::Setting;
 ghost use mathlib.Core.Path.{_≡_};
 ghost use mathlib.Core.List.{List, map};
 ghost use mathlib.Core.Bool.{cond, false, _||_};
+ghost use lib.Dec as D;
 ghost use lib.Dec.{eqb};
 ghost use Prim.Native.Nat.{ℕ, _+_, _-_, _*_, _<_, _≤_, _^_};
 ghost use lib.ListN.{length, drop, getD, set};
 ghost use Rattle.records.specs.Word.{meaning};
-ghost use Rattle.records.specs.Contracts.Table.{Holds, Room, wordIn, wordsIn};
-ghost use Rattle.demerits.specs.Contracts.Bounds.{mostWord};
+ghost use Rattle.records.specs.Contracts.Marks.{markIn, MarkedUpTo};
+ghost use Rattle.records.specs.Contracts.Table.{Holds, Small, wordIn, wordsIn};
+ghost use Rattle.demerits.specs.Contracts.Bounds.{within, mostWord};
 ghost use Rattle.knuth_plass.specs.KnuthPlass.{minimumOf, startsLine, reduced, sentenceBehind};
 ghost use Rattle.knuth_plass.specs.Contracts.Table as T;
 ghost use Rattle.knuth_plass.specs.Contracts.Round as R;
 ghost use Rattle.knuth_plass.specs.Contracts.Makers as W;
 
 // A break place: the number of the previous break, the word and whether it stands before or after it; its demerits and the ratio of
-// the line that it ends; the columns of the line that it begins, and whether nothing but the indent stands on that line.
+// the line that it ends, as bits; the columns of the line that it begins, and whether nothing but the indent stands on that line.
 pub struct Break {
     pub previous: usize,
     pub word: usize,
     pub demerits: u64,
     pub columns: usize,
-    pub ratio: f32,
+    pub ratio: u32,
     pub before: bool,
     pub fresh: bool,
 }
@@ -43,6 +45,27 @@ fn place(x: u32) -> usize
 {
     x as usize
 }
+
+// A ratio's bits, as they stand in a record.
+fn bits_of(ratio: f32) -> u32
+    requires { ⌜ D.T (within 1 ratio) ⌝ }
+    ensures { λ r. ⌜ T.ratioOf r ≡ ratio ⌝ }
+{
+    f32::to_bits(ratio)
+}
+
+// The ratio of a record's bits.
+fn ratio_of(bits: u32) -> f32
+    requires { ⌜ D.T (within 1 (T.ratioOf bits)) ⌝ }
+    ensures { λ r. ⌜ r ≡ T.ratioOf bits ⌝ }
+{
+    f32::from_bits(bits)
+}
+
+// A ratio of 1, and of -1, as bits.
+const RATIO_ONE: u32 = 0x3f80_0000;
+
+const RATIO_LESS_ONE: u32 = 0xbf80_0000;
 
 // Number j of record i.
 fn number(breaks: &[u32], i: usize, j: usize) -> usize
@@ -69,33 +92,50 @@ fn demerits_of(breaks: &[u32], i: usize) -> u64
     joined(breaks[high], breaks[low])
 }
 
-// The record at i, put together.
-fn get_break(breaks: &[u32], ratios: &[f32], i: usize) -> Break
-    requires { ⌜ T.Room i (T.tables (now breaks) (now ratios)) ⌝ }
-    ensures { λ r. ⌜ r ≡ T.breakIn (T.tables (now (breaks .entry)) (now (ratios .entry))) i ⌝ }
+// The record at i, put together. The word and whether the break stands before it are one number.
+fn get_break(breaks: &[u32], i: usize) -> Break
+    requires { ⌜ i < length (T.tableIn (now breaks)) ⌝ }
+    ensures { λ r. ⌜ r ≡ T.breakIn (T.tableIn (now (breaks .entry))) i ⌝ }
 {
+    let at = number(breaks, i, 1);
+    let k = i * 8 + 3;
     Break {
         previous: number(breaks, i, 0),
-        word: number(breaks, i, 1),
-        before: number(breaks, i, 2) == 1,
+        word: at / 2,
+        before: at % 2 == 1,
         demerits: demerits_of(breaks, i),
-        ratio: ratios[i],
+        ratio: breaks[k],
         columns: number(breaks, i, 6),
         fresh: number(breaks, i, 7) == 1,
     }
 }
 
+// The number of the k-th active break. It stands in record k, in the one place that is not the record's own.
+fn active(breaks: &[u32], k: usize) -> usize
+    requires { ⌜ k < length (T.activeIn (now breaks)) ⌝ }
+    ensures { λ r. ⌜ r ≡ getD (T.activeIn (now (breaks .entry))) k 0 ⌝ }
+{
+    number(breaks, k, 2)
+}
+
+// Break n is the k-th active one.
+fn put_active(breaks: &mut [u32], k: usize, n: usize)
+    requires { ⌜ (k * 8 + 8 ≤ length (now breaks)) × (n < 2 ^ 32) ⌝ }
+    ensures { λ _. ⌜ now (breaks .exit) ≡ T.withActive (now (breaks .entry)) k n ⌝ }
+{
+    let at = k * 8 + 2;
+    breaks[at] = n as u32;
+}
+
 // Where the break stands and where it comes from: of the record's numbers those that stay as they are.
 fn put_place(breaks: &mut [u32], i: usize, b: Break)
-    requires { ⌜ (i * 8 + 8 ≤ length (now breaks)) × (b .previous < 2 ^ 32) × (b .word < 2 ^ 32) ⌝ }
+    requires { ⌜ (i * 8 + 8 ≤ length (now breaks)) × (b .previous < 2 ^ 32) × (b .word < 2 ^ 31) ⌝ }
     ensures { λ _. ⌜ now (breaks .exit) ≡ T.withPlace (now (breaks .entry)) i b ⌝ }
 {
     let k = i * 8;
     let k1 = k + 1;
-    let k2 = k + 2;
     breaks[k] = b.previous as u32;
-    breaks[k1] = b.word as u32;
-    breaks[k2] = bit(b.before);
+    breaks[k1] = b.word as u32 * 2 + bit(b.before);
 }
 
 // The record of a break that stays active, taken apart again: of its numbers, its demerits and its line are new.
@@ -113,14 +153,15 @@ fn keep_break(breaks: &mut [u32], i: usize, b: Break)
     breaks[k3] = bit(b.fresh);
 }
 
-// The record taken apart into the tables at i.
-fn store_break(breaks: &mut [u32], ratios: &mut [f32], i: usize, b: Break)
-    requires { ⌜ T.Room i (T.tables (now breaks) (now ratios)) × T.Fits b ⌝ }
-    ensures { λ _. ⌜ T.tables (now (breaks .exit)) (now (ratios .exit)) ≡ T.withBreak (T.tables (now (breaks .entry)) (now (ratios .entry))) i b ⌝ }
+// The record taken apart into the table at i.
+fn store_break(breaks: &mut [u32], i: usize, b: Break)
+    requires { ⌜ (i * 8 + 8 ≤ length (now breaks)) × T.Fits b ⌝ }
+    ensures { λ _. ⌜ now (breaks .exit) ≡ T.withRecord (now (breaks .entry)) i b ⌝ }
 {
+    let k = i * 8 + 3;
     put_place(breaks, i, b);
     keep_break(breaks, i, b);
-    ratios[i] = b.ratio;
+    breaks[k] = b.ratio;
 }
 
 // ---- a round
@@ -136,7 +177,7 @@ pub struct Turn {
 }
 
 // A total that no offer reaches.
-const NOTHING: u64 = 0x100_0000_0000;
+const NOTHING: u64 = 0x4000_0000_0000_0000;
 
 // The best offer so far: its total, or NOTHING; the break it goes on from, and its ratio.
 pub struct Best {
@@ -316,26 +357,18 @@ fn offered(g: Setting, turn: Turn, n: usize, b: Break, t: usize, best: Best) -> 
     if best.total <= floor(stretch, turn.weight) + b.demerits {
         return best;
     }
-    let cost = demerits::cost(ratio, b.ratio, turn.weight);
+    let cost = demerits::cost(ratio, ratio_of(b.ratio), turn.weight);
     better(best, n, cost + b.demerits, ratio)
 }
 
 // Break n, which is b, stays active with the word on its line of t columns.
-fn keep(
-    breaks: &mut [u32],
-    active: &mut [u32],
-    n: usize,
-    b: Break,
-    t: usize,
-    s: State,
-    best: Best,
-) -> State
-    requires { ⌜ (n < 1024) × (n * 8 + 8 ≤ length (now breaks)) × (t < 2 ^ 32) × (s .kept < length (now active)) × (s .kept < 1024) ⌝ }
-    ensures { λ r. ⌜ (now (breaks .exit) ≡ T.withLine (now (breaks .entry)) n (R.extended t b)) × (now (active .exit) ≡ set (now (active .entry)) (s .kept) n) × (r ≡ R.stays s best) ⌝ }
+fn keep(breaks: &mut [u32], n: usize, b: Break, t: usize, s: State, best: Best) -> State
+    requires { ⌜ R.Keeps n t (s .kept) (now breaks) ⌝ }
+    ensures { λ r. ⌜ (now (breaks .exit) ≡ T.withActive (T.withLine (now (breaks .entry)) n (R.extended t b)) (s .kept) n) × (r ≡ R.stays s best) ⌝ }
 {
     let kept = s.kept;
     keep_break(breaks, n, extended(b, t));
-    active[kept] = n as u32;
+    put_active(breaks, kept, n);
     State {
         kept: kept + 1,
         from: s.from,
@@ -347,50 +380,34 @@ fn keep(
 // One turn of a round: the k-th active break loses the reduction and gets the word on its line. It stays active, and may offer, where
 // the line is no longer than the width.
 // In the original: `find_kp_breakpoints`.
-fn visit(
-    g: Setting,
-    turn: Turn,
-    st: Standing,
-    breaks: &mut [u32],
-    ratios: &[f32],
-    active: &mut [u32],
-    k: usize,
-    s: State,
-) -> State
-    requires { ⌜ R.Limits g × R.Turns g turn × R.Fit turn st k (T.tables (now breaks) (now ratios)) (now active) s × (k < st .count) ⌝ }
-    ensures { λ r. ⌜ R.Fit turn st (k + 1) (T.tables (now (breaks .exit)) (now (ratios .entry))) (now (active .exit)) r × ((z : R.Outcome) → R.RoundGoes g turn st z k (T.tables (now (breaks .entry)) (now (ratios .entry))) (now (active .entry)) s → R.RoundGoes g turn st z (k + 1) (T.tables (now (breaks .exit)) (now (ratios .entry))) (now (active .exit)) r) ⌝ }
+fn visit(g: Setting, turn: Turn, st: Standing, breaks: &mut [u32], k: usize, s: State) -> State
+    requires { ⌜ R.Limits g × R.Turns g turn × R.Fit turn st k (T.tableIn (now breaks)) (T.activeIn (now breaks)) s × (k < st .count) ⌝ }
+    ensures { λ r. ⌜ R.Fit turn st (k + 1) (T.tableIn (now (breaks .exit))) (T.activeIn (now (breaks .exit))) r × ((z : R.Outcome) → R.RoundGoes g turn st z k (T.tableIn (now (breaks .entry))) (T.activeIn (now (breaks .entry))) s → R.RoundGoes g turn st z (k + 1) (T.tableIn (now (breaks .exit))) (T.activeIn (now (breaks .exit))) r) ⌝ }
 {
-    let n = active[k] as usize;
-    let b = lessened(get_break(breaks, ratios, n), st.reduction);
+    let n = active(breaks, k);
+    let b = lessened(get_break(breaks, n), st.reduction);
     let t = reach(g, turn, b);
     let best = s.best;
     let seen = noted(s, n, b.demerits);
     // Most lines are too short to end here, so that this is asked first.
     if t < g.goal - (g.width - g.goal) {
-        return keep(breaks, active, n, b, t, seen, best);
+        return keep(breaks, n, b, t, seen, best);
     }
     if g.width < t {
         return seen;
     }
     let better = offered(g, turn, n, b, t, best);
-    keep(breaks, active, n, b, t, seen, better)
+    keep(breaks, n, b, t, seen, better)
 }
 
 // A round over all active breaks.
 // In the original: `find_kp_breakpoints`.
-fn advance(
-    g: Setting,
-    turn: Turn,
-    st: Standing,
-    breaks: &mut [u32],
-    ratios: &[f32],
-    active: &mut [u32],
-) -> State
-    requires { ⌜ R.Limits g × R.Turns g turn × (turn .number < length (now ratios)) × R.RoundReady (turn .number) st (T.tables (now breaks) (now ratios)) (now active) ⌝ }
-    ensures { λ r. ⌜ R.Fit turn st (st .count) (T.tables (now (breaks .exit)) (now (ratios .entry))) (now (active .exit)) r × ((notes : List ℕ) → R.Done g turn st (map (reduced (st .reduction)) (R.breaksListed (st .count) (T.tables (now (breaks .entry)) (now (ratios .entry))) (now (active .entry)))) (T.tables (now (breaks .exit)) (now (ratios .entry))) (now (active .exit)) r notes) ⌝ }
+fn advance(g: Setting, turn: Turn, st: Standing, breaks: &mut [u32]) -> State
+    requires { ⌜ R.Limits g × R.Turns g turn × (turn .number < length (T.tableIn (now breaks))) × R.RoundReady (turn .number) st (T.tableIn (now breaks)) (T.activeIn (now breaks)) ⌝ }
+    ensures { λ r. ⌜ R.Fit turn st (st .count) (T.tableIn (now (breaks .exit))) (T.activeIn (now (breaks .exit))) r × ((notes : List ℕ) → R.Done g turn st (map (reduced (st .reduction)) (R.breaksListed (st .count) (T.tableIn (now (breaks .entry))) (T.activeIn (now (breaks .entry))))) (T.tableIn (now (breaks .exit))) (T.activeIn (now (breaks .exit))) r notes) ⌝ }
 {
-    let first = active[0] as usize;
-    let b = lessened(get_break(breaks, ratios, first), st.reduction);
+    let first = active(breaks, 0);
+    let b = lessened(get_break(breaks, first), st.reduction);
     let best = Best {
         total: NOTHING,
         previous: 0,
@@ -405,26 +422,19 @@ fn advance(
     let count = st.count;
     let mut k = 0;
     while k < count {
-        s = visit(g, turn, st, breaks, ratios, active, k, s);
+        s = visit(g, turn, st, breaks, k, s);
         k += 1;
     }
     s
 }
 
 // One break more, active last.
-fn append(
-    breaks: &mut [u32],
-    ratios: &mut [f32],
-    active: &mut [u32],
-    size: usize,
-    kept: usize,
-    b: Break,
-)
-    requires { ⌜ (size < 1024) × T.Room size (T.tables (now breaks) (now ratios)) × (kept < length (now active)) × T.Fits b ⌝ }
-    ensures { λ _. ⌜ (T.tables (now (breaks .exit)) (now (ratios .exit)) ≡ T.withBreak (T.tables (now (breaks .entry)) (now (ratios .entry))) size b) × (now (active .exit) ≡ set (now (active .entry)) kept size) ⌝ }
+fn append(breaks: &mut [u32], size: usize, kept: usize, b: Break)
+    requires { ⌜ (size < length (T.tableIn (now breaks))) × (kept < length (T.tableIn (now breaks))) × (size < T.mostWords) × T.Fits b ⌝ }
+    ensures { λ _. ⌜ (T.tableIn (now (breaks .exit)) ≡ T.withBreak (T.tableIn (now (breaks .entry))) size b) × (T.activeIn (now (breaks .exit)) ≡ set (T.activeIn (now (breaks .entry))) kept size) ⌝ }
 {
-    store_break(breaks, ratios, size, b);
-    active[kept] = size as u32;
+    store_break(breaks, size, b);
+    put_active(breaks, kept, size);
 }
 
 // The break that begins again where nothing stays, from break n: before the word where that is the lesser evil, and never on a fresh line.
@@ -441,7 +451,7 @@ fn restarted(g: Setting, turn: Turn, n: usize, least: Break) -> Break
         word: turn.number,
         before: false,
         demerits: 0,
-        ratio: -1.0,
+        ratio: RATIO_LESS_ONE,
         columns: g.indent,
         fresh: true,
     };
@@ -456,7 +466,7 @@ fn restarted(g: Setting, turn: Turn, n: usize, least: Break) -> Break
         word: turn.number,
         before: true,
         demerits: 0,
-        ratio: 1.0,
+        ratio: RATIO_ONE,
         columns: g.indent + w.width,
         fresh: false,
     }
@@ -464,17 +474,9 @@ fn restarted(g: Setting, turn: Turn, n: usize, least: Break) -> Break
 
 // The end of a round: the best offer becomes one break more; where nothing stays, one break begins again.
 // In the original: `find_kp_breakpoints`.
-fn settle(
-    g: Setting,
-    turn: Turn,
-    st: Standing,
-    breaks: &mut [u32],
-    ratios: &mut [f32],
-    active: &mut [u32],
-    s: State,
-) -> Standing
-    requires { ⌜ R.Limits g × R.Turns g turn × R.Fit turn st (st .count) (T.tables (now breaks) (now ratios)) (now active) s ⌝ }
-    ensures { λ r. ⌜ R.Settled g turn st (T.tables (now (breaks .entry)) (now (ratios .entry))) (now (active .entry)) s (T.tables (now (breaks .exit)) (now (ratios .exit))) (now (active .exit)) r ⌝ }
+fn settle(g: Setting, turn: Turn, st: Standing, breaks: &mut [u32], s: State) -> Standing
+    requires { ⌜ R.Limits g × R.Turns g turn × R.Fit turn st (st .count) (T.tableIn (now breaks)) (T.activeIn (now breaks)) s ⌝ }
+    ensures { λ r. ⌜ R.Settled g turn st (T.tableIn (now (breaks .entry))) (T.activeIn (now (breaks .entry))) s (T.tableIn (now (breaks .exit))) (T.activeIn (now (breaks .exit))) r ⌝ }
 {
     let kept = s.kept;
     let best = s.best;
@@ -485,11 +487,11 @@ fn settle(
             word: turn.number,
             before: false,
             demerits: best.total,
-            ratio: best.ratio,
+            ratio: bits_of(best.ratio),
             columns: g.indent,
             fresh: true,
         };
-        append(breaks, ratios, active, size, kept, b);
+        append(breaks, size, kept, b);
         return Standing {
             count: kept + 1,
             size: size + 1,
@@ -504,15 +506,8 @@ fn settle(
         };
     }
     // Nothing was stored for a break that did not stay: the least one is as it was.
-    let least = lessened(get_break(breaks, ratios, s.from), st.reduction);
-    append(
-        breaks,
-        ratios,
-        active,
-        size,
-        0,
-        restarted(g, turn, s.from, least),
-    );
+    let least = lessened(get_break(breaks, s.from), st.reduction);
+    append(breaks, size, 0, restarted(g, turn, s.from, least));
     Standing {
         count: 1,
         size: size + 1,
@@ -524,19 +519,16 @@ fn settle(
 // In the original: `find_kp_breakpoints`.
 fn round(
     g: Setting,
-    table: &[u32],
+    word: Word,
     i: usize,
     last: bool,
     sentence: bool,
     st: Standing,
     breaks: &mut [u32],
-    ratios: &mut [f32],
-    active: &mut [u32],
 ) -> Standing
-    requires { ⌜ R.Limits g × (i < length (now ratios)) × Room i (now table) × R.Narrow i (now table) × R.RoundReady i st (T.tables (now breaks) (now ratios)) (now active) ⌝ }
-    ensures { λ r. ⌜ R.RoundIs g last sentence i (wordIn (now (table .entry)) i) st (T.tables (now (breaks .entry)) (now (ratios .entry))) (now (active .entry)) (T.tables (now (breaks .exit)) (now (ratios .exit))) (now (active .exit)) r ⌝ }
+    requires { ⌜ R.Limits g × (i < length (T.tableIn (now breaks))) × Small word × (word .width < 2 ^ 31) × R.RoundReady i st (T.tableIn (now breaks)) (T.activeIn (now breaks)) ⌝ }
+    ensures { λ r. ⌜ R.RoundIs g last sentence i word st (T.tableIn (now (breaks .entry))) (T.activeIn (now (breaks .entry))) (T.tableIn (now (breaks .exit))) (T.activeIn (now (breaks .exit))) r ⌝ }
 {
-    let word = records::get(table, i);
     // Not the spacing that is written later: the previous word's punctuation does not count here.
     let space = spacing::added_space(g.uniform, word.first, sentence, false);
     let turn = Turn {
@@ -546,14 +538,14 @@ fn round(
         weight: demerits::word_term(g.width - g.goal, word.width),
         last,
     };
-    let s = advance(g, turn, st, breaks, ratios, active);
-    settle(g, turn, st, breaks, ratios, active, s)
+    let s = advance(g, turn, st, breaks);
+    settle(g, turn, st, breaks, s)
 }
 
 // The sentence mark of the word behind word i, of n.
 // In the original: `find_kp_breakpoints`.
 fn sentence_behind(table: &[u32], n: usize, i: usize) -> bool
-    requires { ⌜ (i < n) × (n ≤ 1024) × Holds n (now table) ⌝ }
+    requires { ⌜ (i < n) × Holds n (now table) ⌝ }
     ensures { λ r. ⌜ ((notes : List ℕ) → r ≡ sentenceBehind (meaning notes (wordIn (now (table .entry)) i)) (drop (i + 1) (wordsIn notes n (now (table .entry))))) ⌝ }
 {
     let next = i + 1;
@@ -571,30 +563,27 @@ fn sentence_behind(table: &[u32], n: usize, i: usize) -> bool
     false
 }
 
+// ---- a paragraph in one lent slice: its n words, and behind them n break records
+
 // One round for each word behind the first.
 // In the original: `find_kp_breakpoints`.
-fn rounds(
-    g: Setting,
-    table: &[u32],
-    n: usize,
-    breaks: &mut [u32],
-    ratios: &mut [f32],
-    active: &mut [u32],
-) -> Standing
-    requires { ⌜ R.Limits g × (1 ≤ n) × (n ≤ length (now ratios)) × Holds n (now table) × R.AllNarrow n (now table) × T.Sized (T.tables (now breaks) (now ratios)) × (length (now active) ≡ length (now ratios)) ⌝ }
-    ensures { λ r. ⌜ R.RoundsAre g n (now (table .entry)) (T.tables (now (breaks .exit)) (now (ratios .exit))) (now (active .exit)) r ⌝ }
+fn rounds(g: Setting, work: &mut [u32], n: usize) -> Standing
+    requires { ⌜ R.Limits g × (1 ≤ n) × R.Lent n (now work) × R.AllNarrow n (now work) ⌝ }
+    ensures { λ r. ⌜ R.RoundsAre g n (now (work .entry)) (T.tableIn (T.recordsPart n (now (work .exit)))) (T.activeIn (T.recordsPart n (now (work .exit)))) r × R.Worked n (now (work .entry)) (now (work .exit)) ⌝ }
 {
-    let w = records::get(table, 0);
+    let base = n * 7;
+    let end = n * 15;
+    let w = records::get(work, 0);
     let first = Break {
         previous: 0,
         word: 0,
         before: false,
         demerits: 0,
-        ratio: 0.0,
+        ratio: 0,
         columns: g.first + w.width,
         fresh: false,
     };
-    append(breaks, ratios, active, 0, 0, first);
+    append(&mut work[base..end], 0, 0, first);
     let mut st = Standing {
         count: 1,
         size: 1,
@@ -603,18 +592,9 @@ fn rounds(
     let mut sentence = false;
     let mut i = 1;
     while i < n {
-        st = round(
-            g,
-            table,
-            i,
-            i + 1 == n,
-            sentence,
-            st,
-            breaks,
-            ratios,
-            active,
-        );
-        sentence = sentence_behind(table, n, i);
+        let word = records::get(work, i);
+        st = round(g, word, i, i + 1 == n, sentence, st, &mut work[base..end]);
+        sentence = sentence_behind(work, n, i);
         i += 1;
     }
     st
@@ -623,12 +603,12 @@ fn rounds(
 // ---- the least break
 
 // The one of two breaks with less demerits, the first where they are equal.
-fn lesser(breaks: &[u32], ratios: &[f32], m: usize, n: usize) -> usize
-    requires { ⌜ T.Room m (T.tables (now breaks) (now ratios)) × T.Room n (T.tables (now breaks) (now ratios)) ⌝ }
-    ensures { λ r. ⌜ r ≡ T.lesserIn (T.tables (now (breaks .entry)) (now (ratios .entry))) m n ⌝ }
+fn lesser(breaks: &[u32], m: usize, n: usize) -> usize
+    requires { ⌜ (m < length (T.tableIn (now breaks))) × (n < length (T.tableIn (now breaks))) ⌝ }
+    ensures { λ r. ⌜ r ≡ T.lesserIn (T.tableIn (now (breaks .entry))) m n ⌝ }
 {
-    let a = get_break(breaks, ratios, m);
-    let b = get_break(breaks, ratios, n);
+    let a = get_break(breaks, m);
+    let b = get_break(breaks, n);
     if b.demerits < a.demerits {
         return n;
     }
@@ -637,15 +617,15 @@ fn lesser(breaks: &[u32], ratios: &[f32], m: usize, n: usize) -> usize
 
 // The first active break of least demerits.
 // In the original: `build_best_path`.
-fn least(breaks: &[u32], ratios: &[f32], active: &[u32], st: Standing) -> usize
-    requires { ⌜ R.Listed st (T.tables (now breaks) (now ratios)) (now active) ⌝ }
-    ensures { λ r. ⌜ R.LeastIs st (T.tables (now (breaks .entry)) (now (ratios .entry))) (now (active .entry)) r ⌝ }
+fn least(breaks: &[u32], st: Standing) -> usize
+    requires { ⌜ R.Listed st (T.tableIn (now breaks)) (T.activeIn (now breaks)) ⌝ }
+    ensures { λ r. ⌜ R.LeastIs st (T.tableIn (now (breaks .entry))) (T.activeIn (now (breaks .entry))) r ⌝ }
 {
-    let mut found = active[0] as usize;
+    let mut found = active(breaks, 0);
     let mut k = 1;
     while k < st.count {
-        let n = active[k] as usize;
-        found = lesser(breaks, ratios, found, n);
+        let n = active(breaks, k);
+        found = lesser(breaks, found, n);
         k += 1;
     }
     found
@@ -655,7 +635,7 @@ fn least(breaks: &[u32], ratios: &[f32], active: &[u32], st: Standing) -> usize
 
 // The word that a break starts a line with.
 fn starts(b: Break) -> usize
-    requires { ⌜ b .word < 1024 ⌝ }
+    requires { ⌜ b .word < T.mostWords ⌝ }
     ensures { λ r. ⌜ r ≡ T.startOf b ⌝ }
 {
     if b.before {
@@ -664,60 +644,56 @@ fn starts(b: Break) -> usize
     b.word + 1
 }
 
-fn clear(marks: &mut [bool], n: usize)
-    requires { ⌜ n ≤ length (now marks) ⌝ }
-    ensures { λ _. ⌜ T.MarkedUpTo n (now (marks .entry)) (now (marks .exit)) (λ (j : ℕ). false) ⌝ }
+fn clear(work: &mut [u32], n: usize)
+    requires { ⌜ Holds n (now work) ⌝ }
+    ensures { λ _. ⌜ MarkedUpTo n (now (work .entry)) (now (work .exit)) (λ (j : ℕ). false) ⌝ }
 {
     let mut i = 0;
     while i < n {
-        marks[i] = false;
+        records::mark(work, i, false);
         i += 1;
     }
 }
 
 // A break behind the last word starts no line.
-fn mark(marks: &mut [bool], n: usize, at: usize)
-    requires { ⌜ n ≤ length (now marks) ⌝ }
-    ensures { λ _. ⌜ T.MarkedUpTo n (now (marks .entry)) (now (marks .exit)) (λ (j : ℕ). getD (now (marks .entry)) j false || eqb at j) ⌝ }
+fn mark(work: &mut [u32], n: usize, at: usize)
+    requires { ⌜ Holds n (now work) ⌝ }
+    ensures { λ _. ⌜ MarkedUpTo n (now (work .entry)) (now (work .exit)) (λ (j : ℕ). markIn (now (work .entry)) j || eqb at j) ⌝ }
 {
     if at < n {
-        marks[at] = true;
+        records::mark(work, at, true);
     }
 }
 
 // The marks of the path that ends at a record, from break to previous break.
 // In the original: `build_best_path`.
-fn mark_path(breaks: &[u32], ratios: &[f32], marks: &mut [bool], n: usize, last: usize)
-    requires { ⌜ (n ≤ length (now marks)) × (last < length (now ratios)) × T.Sized (T.tables (now breaks) (now ratios)) × T.Leads (T.tables (now breaks) (now ratios)) last ⌝ }
-    ensures { λ _. ⌜ T.MarkedUpTo n (now (marks .entry)) (now (marks .exit)) (λ (j : ℕ). getD (now (marks .entry)) j false || startsLine j (T.pathTo (T.tables (now (breaks .entry)) (now (ratios .entry))) last)) ⌝ }
+fn mark_path(work: &mut [u32], n: usize, last: usize)
+    requires { ⌜ R.Lent n (now work) × (last < n) × T.Leads (T.tableIn (T.recordsPart n (now work))) last ⌝ }
+    ensures { λ _. ⌜ MarkedUpTo n (now (work .entry)) (now (work .exit)) (λ (j : ℕ). markIn (now (work .entry)) j || startsLine j (T.pathTo (T.tableIn (T.recordsPart n (now (work .entry)))) last)) ⌝ }
 {
+    let base = n * 7;
+    let end = n * 15;
     let mut at = last;
     while 0 < at {
-        let b = get_break(breaks, ratios, at);
-        mark(marks, n, starts(b));
+        let b = get_break(&work[base..end], at);
+        mark(work, n, starts(b));
         at = b.previous;
     }
 }
 
-// The best breaks of a paragraph of n words, as marks by word: mark i says whether a new line starts with word i. The other tables are
-// lent to work in, and what they hold afterwards is left open.
+// The best breaks of a paragraph of n words, as marks of its words: that of word i says whether a new line starts with it. The words
+// stand in front; behind them is room for as many breaks, and what it holds afterwards is left open.
 // In the original: `break_knuth_plass`.
-pub fn best_breaks(
-    table: &[u32],
-    n: usize,
-    g: Setting,
-    breaks: &mut [u32],
-    ratios: &mut [f32],
-    active: &mut [u32],
-    marks: &mut [bool],
-)
-    requires { ⌜ R.Limits g × (1 ≤ n) × (n ≤ length (now ratios)) × Holds n (now table) × R.AllNarrow n (now table) × R.Lent (T.tables (now breaks) (now ratios)) (now active) (now marks) ⌝ }
-    ensures { λ _. ⌜ R.BestAre g n (now (table .entry)) (now (marks .entry)) (T.tables (now (breaks .exit)) (now (ratios .exit))) (now (active .exit)) (now (marks .exit)) ⌝ }
+pub fn best_breaks(work: &mut [u32], n: usize, g: Setting)
+    requires { ⌜ R.Limits g × (1 ≤ n) × R.Lent n (now work) × R.AllNarrow n (now work) ⌝ }
+    ensures { λ _. ⌜ R.BestAre g n (now (work .entry)) (now (work .exit)) ⌝ }
 {
-    let st = rounds(g, table, n, breaks, ratios, active);
-    let last = least(breaks, ratios, active, st);
-    clear(marks, n);
-    mark_path(breaks, ratios, marks, n, last);
+    let base = n * 7;
+    let end = n * 15;
+    let st = rounds(g, work, n);
+    let last = least(&work[base..end], st);
+    clear(work, n);
+    mark_path(work, n, last);
 }
 
 // ---- why a line ends
@@ -753,7 +729,7 @@ fn take_ending(first: bool, a: Ending, b: Ending) -> Ending
 // What a break that stays offers, with a word of this weight at the end of its line.
 fn try_break(g: Setting, weight: u16, b: Break, total: u64) -> Tried
     requires { ⌜ R.Limits g × W.Stays weight b ⌝ }
-    ensures { λ r. ⌜ r ≡ W.triedOf g weight total (b .columns) (b .ratio) (b .demerits) ⌝ }
+    ensures { λ r. ⌜ r ≡ W.triedOf g weight total (b .columns) (T.ratioOf (b .ratio)) (b .demerits) ⌝ }
 {
     let stretch = g.width - g.goal;
     if b.columns < g.goal - stretch {
@@ -763,13 +739,14 @@ fn try_break(g: Setting, weight: u16, b: Break, total: u64) -> Tried
         return Tried::Other;
     }
     let ratio = demerits::ratio(g.goal, b.columns, stretch);
-    let cost = demerits::cost(ratio, b.ratio, weight);
+    let old = ratio_of(b.ratio);
+    let cost = demerits::cost(ratio, old, weight);
     if cost + b.demerits == total {
         return Tried::Here(Ending::Chosen {
             columns: b.columns,
             line: demerits::line_term(ratio),
             word: weight,
-            ratio: demerits::ratio_term(ratio, b.ratio),
+            ratio: demerits::ratio_term(ratio, old),
             cost,
         });
     }
@@ -777,22 +754,14 @@ fn try_break(g: Setting, weight: u16, b: Break, total: u64) -> Tried
 }
 
 // The first of the breaks that stay whose offer has the least total: its offer became the break.
-fn chosen(
-    g: Setting,
-    weight: u16,
-    breaks: &[u32],
-    ratios: &[f32],
-    active: &[u32],
-    kept: usize,
-    total: u64,
-) -> Ending
-    requires { ⌜ R.Limits g × W.Kept weight kept (T.tables (now breaks) (now ratios)) (now active) ⌝ }
-    ensures { λ r. ⌜ r ≡ W.chosenIn g weight total (R.breaksListed kept (T.tables (now (breaks .entry)) (now (ratios .entry))) (now (active .entry))) ⌝ }
+fn chosen(g: Setting, weight: u16, breaks: &[u32], kept: usize, total: u64) -> Ending
+    requires { ⌜ R.Limits g × W.Kept weight kept (T.tableIn (now breaks)) (T.activeIn (now breaks)) ⌝ }
+    ensures { λ r. ⌜ r ≡ W.chosenIn g weight total (R.breaksListed kept (T.tableIn (now (breaks .entry))) (T.activeIn (now (breaks .entry)))) ⌝ }
 {
     let mut k = 0;
     while k < kept {
-        let n = active[k] as usize;
-        let b = get_break(breaks, ratios, n);
+        let n = active(breaks, k);
+        let b = get_break(breaks, n);
         k += 1;
         match try_break(g, weight, b, total) {
             Tried::Here(e) => {
@@ -805,18 +774,11 @@ fn chosen(
 }
 
 // The break that begins again where nothing stays is before the word or after it.
-fn forced(
-    g: Setting,
-    turn: Turn,
-    st: Standing,
-    breaks: &[u32],
-    ratios: &[f32],
-    from: usize,
-) -> Ending
-    requires { ⌜ R.Limits g × R.Turns g turn × W.From turn st from (T.tables (now breaks) (now ratios)) ⌝ }
-    ensures { λ r. ⌜ W.ForcedIs g turn (R.lessened (st .reduction) (T.breakIn (T.tables (now (breaks .entry)) (now (ratios .entry))) from)) r ⌝ }
+fn forced(g: Setting, turn: Turn, st: Standing, breaks: &[u32], from: usize) -> Ending
+    requires { ⌜ R.Limits g × R.Turns g turn × W.From turn st from (T.tableIn (now breaks)) ⌝ }
+    ensures { λ r. ⌜ W.ForcedIs g turn (R.lessened (st .reduction) (T.breakIn (T.tableIn (now (breaks .entry))) from)) r ⌝ }
 {
-    let least = lessened(get_break(breaks, ratios, from), st.reduction);
+    let least = lessened(get_break(breaks, from), st.reduction);
     let b = restarted(g, turn, from, least);
     if b.before {
         return Ending::Before;
@@ -825,46 +787,31 @@ fn forced(
 }
 
 // What makes the break of a round, when all active breaks have the word on their lines.
-fn maker(
-    g: Setting,
-    turn: Turn,
-    st: Standing,
-    breaks: &[u32],
-    ratios: &[f32],
-    active: &[u32],
-    s: State,
-) -> Ending
-    requires { ⌜ R.Limits g × R.Turns g turn × R.Fit turn st (st .count) (T.tables (now breaks) (now ratios)) (now active) s ⌝ }
-    ensures { λ r. ⌜ W.MakerIs g turn st (T.tables (now (breaks .entry)) (now (ratios .entry))) (now (active .entry)) s r ⌝ }
+fn maker(g: Setting, turn: Turn, st: Standing, breaks: &[u32], s: State) -> Ending
+    requires { ⌜ R.Limits g × R.Turns g turn × R.Fit turn st (st .count) (T.tableIn (now breaks)) (T.activeIn (now breaks)) s ⌝ }
+    ensures { λ r. ⌜ W.MakerIs g turn st (T.tableIn (now (breaks .entry))) (T.activeIn (now (breaks .entry))) s r ⌝ }
 {
     let best = s.best;
     if best.total < NOTHING {
         if turn.last {
             return Ending::Paragraph;
         }
-        return chosen(g, turn.weight, breaks, ratios, active, s.kept, best.total);
+        return chosen(g, turn.weight, breaks, s.kept, best.total);
     }
     if 0 < s.kept {
         return Ending::Paragraph;
     }
-    forced(g, turn, st, breaks, ratios, s.from)
+    forced(g, turn, st, breaks, s.from)
 }
 
 // The same as `advance`, for the rounds that are told. It is a function of its own so that the compiler has one place to put each of the
 // two, and formatting's stays in its loop.
-fn advance_again(
-    g: Setting,
-    turn: Turn,
-    st: Standing,
-    breaks: &mut [u32],
-    ratios: &[f32],
-    active: &mut [u32],
-) -> State
-    requires { ⌜ R.Limits g × R.Turns g turn × (turn .number < length (now ratios)) × R.RoundReady (turn .number) st (T.tables (now breaks) (now ratios)) (now active) ⌝ }
-    ensures { λ r. ⌜ R.Fit turn st (st .count) (T.tables (now (breaks .exit)) (now (ratios .entry))) (now (active .exit)) r × ((notes : List ℕ) → R.Done g turn st (map (reduced (st .reduction)) (R.breaksListed (st .count) (T.tables (now (breaks .entry)) (now (ratios .entry))) (now (active .entry)))) (T.tables (now (breaks .exit)) (now (ratios .entry))) (now (active .exit)) r notes) ⌝ }
+fn advance_again(g: Setting, turn: Turn, st: Standing, breaks: &mut [u32]) -> State
+    requires { ⌜ R.Limits g × R.Turns g turn × (turn .number < length (T.tableIn (now breaks))) × R.RoundReady (turn .number) st (T.tableIn (now breaks)) (T.activeIn (now breaks)) ⌝ }
+    ensures { λ r. ⌜ R.Fit turn st (st .count) (T.tableIn (now (breaks .exit))) (T.activeIn (now (breaks .exit))) r × ((notes : List ℕ) → R.Done g turn st (map (reduced (st .reduction)) (R.breaksListed (st .count) (T.tableIn (now (breaks .entry))) (T.activeIn (now (breaks .entry))))) (T.tableIn (now (breaks .exit))) (T.activeIn (now (breaks .exit))) r notes) ⌝ }
 {
-    let first = active[0] as usize;
-    let b = lessened(get_break(breaks, ratios, first), st.reduction);
+    let first = active(breaks, 0);
+    let b = lessened(get_break(breaks, first), st.reduction);
     let best = Best {
         total: NOTHING,
         previous: 0,
@@ -879,7 +826,7 @@ fn advance_again(
     let count = st.count;
     let mut k = 0;
     while k < count {
-        s = visit(g, turn, st, breaks, ratios, active, k, s);
+        s = visit(g, turn, st, breaks, k, s);
         k += 1;
     }
     s
@@ -888,19 +835,16 @@ fn advance_again(
 // The round of word i, and what makes its break.
 fn told_round(
     g: Setting,
-    table: &[u32],
+    word: Word,
     i: usize,
     last: bool,
     sentence: bool,
     st: Standing,
     breaks: &mut [u32],
-    ratios: &mut [f32],
-    active: &mut [u32],
 ) -> Told
-    requires { ⌜ R.Limits g × (i < length (now ratios)) × Room i (now table) × R.Narrow i (now table) × R.RoundReady i st (T.tables (now breaks) (now ratios)) (now active) ⌝ }
-    ensures { λ r. ⌜ W.ToldIs g last sentence i (wordIn (now (table .entry)) i) st (T.tables (now (breaks .entry)) (now (ratios .entry))) (now (active .entry)) (T.tables (now (breaks .exit)) (now (ratios .exit))) (now (active .exit)) r ⌝ }
+    requires { ⌜ R.Limits g × (i < length (T.tableIn (now breaks))) × Small word × (word .width < 2 ^ 31) × R.RoundReady i st (T.tableIn (now breaks)) (T.activeIn (now breaks)) ⌝ }
+    ensures { λ r. ⌜ W.ToldIs g last sentence i word st (T.tableIn (now (breaks .entry))) (T.activeIn (now (breaks .entry))) (T.tableIn (now (breaks .exit))) (T.activeIn (now (breaks .exit))) r ⌝ }
 {
-    let word = records::get(table, i);
     let space = spacing::added_space(g.uniform, word.first, sentence, false);
     let turn = Turn {
         word,
@@ -909,38 +853,32 @@ fn told_round(
         weight: demerits::word_term(g.width - g.goal, word.width),
         last,
     };
-    let s = advance_again(g, turn, st, breaks, ratios, active);
-    let ending = maker(g, turn, st, breaks, ratios, active, s);
+    let s = advance_again(g, turn, st, breaks);
+    let ending = maker(g, turn, st, breaks, s);
     Told {
-        st: settle(g, turn, st, breaks, ratios, active, s),
+        st: settle(g, turn, st, breaks, s),
         ending,
     }
 }
 
 // One round for each word behind the first, and what made the breaks of word e - 1 and of word e.
-fn all_told(
-    g: Setting,
-    table: &[u32],
-    n: usize,
-    e: usize,
-    breaks: &mut [u32],
-    ratios: &mut [f32],
-    active: &mut [u32],
-) -> AllTold
-    requires { ⌜ R.Limits g × (1 ≤ n) × (n ≤ length (now ratios)) × Holds n (now table) × R.AllNarrow n (now table) × T.Sized (T.tables (now breaks) (now ratios)) × (length (now active) ≡ length (now ratios)) × (1 ≤ e) ⌝ }
-    ensures { λ r. ⌜ W.AllToldIs g n e (now (table .entry)) (T.tables (now (breaks .exit)) (now (ratios .exit))) (now (active .exit)) r ⌝ }
+fn all_told(g: Setting, work: &mut [u32], n: usize, e: usize) -> AllTold
+    requires { ⌜ R.Limits g × (1 ≤ n) × R.Lent n (now work) × R.AllNarrow n (now work) × (1 ≤ e) ⌝ }
+    ensures { λ r. ⌜ W.AllToldIs g n e (now (work .entry)) (T.tableIn (T.recordsPart n (now (work .exit)))) (T.activeIn (T.recordsPart n (now (work .exit)))) r × R.Worked n (now (work .entry)) (now (work .exit)) ⌝ }
 {
-    let w = records::get(table, 0);
+    let base = n * 7;
+    let end = n * 15;
+    let w = records::get(work, 0);
     let start = Break {
         previous: 0,
         word: 0,
         before: false,
         demerits: 0,
-        ratio: 0.0,
+        ratio: 0,
         columns: g.first + w.width,
         fresh: false,
     };
-    append(breaks, ratios, active, 0, 0, start);
+    append(&mut work[base..end], 0, 0, start);
     let mut st = Standing {
         count: 1,
         size: 1,
@@ -951,35 +889,26 @@ fn all_told(
     let mut second = Ending::Paragraph;
     let mut i = 1;
     while i < n {
-        let told = told_round(
-            g,
-            table,
-            i,
-            i + 1 == n,
-            sentence,
-            st,
-            breaks,
-            ratios,
-            active,
-        );
+        let word = records::get(work, i);
+        let told = told_round(g, word, i, i + 1 == n, sentence, st, &mut work[base..end]);
         let ending = told.ending;
         st = told.st;
         first = take_ending(i + 1 == e, ending, first);
         second = take_ending(i == e, ending, second);
-        sentence = sentence_behind(table, n, i);
+        sentence = sentence_behind(work, n, i);
         i += 1;
     }
     AllTold { st, first, second }
 }
 
 // Whether the break of a path that starts a line with word e stands before it.
-fn stands_before(breaks: &[u32], ratios: &[f32], last: usize, e: usize) -> bool
-    requires { ⌜ (last < length (now ratios)) × T.Sized (T.tables (now breaks) (now ratios)) × T.Leads (T.tables (now breaks) (now ratios)) last ⌝ }
-    ensures { λ r. ⌜ r ≡ W.beforeAt e (T.pathTo (T.tables (now (breaks .entry)) (now (ratios .entry))) last) ⌝ }
+fn stands_before(breaks: &[u32], last: usize, e: usize) -> bool
+    requires { ⌜ (last < length (T.tableIn (now breaks))) × T.Sized (T.tableIn (now breaks)) × T.Leads (T.tableIn (now breaks)) last ⌝ }
+    ensures { λ r. ⌜ r ≡ W.beforeAt e (T.pathTo (T.tableIn (now (breaks .entry))) last) ⌝ }
 {
     let mut at = last;
     while 0 < at {
-        let b = get_break(breaks, ratios, at);
+        let b = get_break(breaks, at);
         if starts(b) == e {
             return b.before;
         }
@@ -988,22 +917,17 @@ fn stands_before(breaks: &[u32], ratios: &[f32], last: usize, e: usize) -> bool
     false
 }
 
-// What made the break that starts a line with word e, where one does: why the line before it ends. The tables are lent to work in.
-pub fn best_ending(
-    table: &[u32],
-    n: usize,
-    g: Setting,
-    e: usize,
-    breaks: &mut [u32],
-    ratios: &mut [f32],
-    active: &mut [u32],
-) -> Ending
-    requires { ⌜ R.Limits g × (1 ≤ n) × (n ≤ length (now ratios)) × Holds n (now table) × R.AllNarrow n (now table) × T.Sized (T.tables (now breaks) (now ratios)) × (length (now active) ≡ length (now ratios)) × (1 ≤ e) × (e < n) ⌝ }
-    ensures { λ r. ⌜ ((notes : List ℕ) → r ≡ W.endingBefore g e (wordsIn notes n (now (table .entry)))) ⌝ }
+// What made the break that starts a line with word e, where one does: why the line before it ends. The words stay as they are.
+pub fn best_ending(work: &mut [u32], n: usize, g: Setting, e: usize) -> Ending
+    requires { ⌜ R.Limits g × (1 ≤ n) × R.Lent n (now work) × R.AllNarrow n (now work) × (1 ≤ e) × (e < n) ⌝ }
+    ensures { λ r. ⌜ ((notes : List ℕ) → r ≡ W.endingBefore g e (wordsIn notes n (now (work .entry)))) × R.Worked n (now (work .entry)) (now (work .exit)) ⌝ }
 {
-    let told = all_told(g, table, n, e, breaks, ratios, active);
-    let last = least(breaks, ratios, active, told.st);
+    let base = n * 7;
+    let end = n * 15;
+    let told = all_told(g, work, n, e);
+    let breaks = &work[base..end];
+    let last = least(breaks, told.st);
     let first = told.first;
     let second = told.second;
-    take_ending(stands_before(breaks, ratios, last, e), second, first)
+    take_ending(stands_before(breaks, last, e), second, first)
 }

@@ -1,5 +1,6 @@
--- A text that ends in a line feed is a boundary of lines: its lines, and then the lines of what follows it.
-use mathlib.Core.Path.{_≡_, refl, ap}
+-- A text that ends in a line feed is a boundary of lines: its lines, and then the lines of what follows it. And a text may be cut where a
+-- line begins: the lines before the cut are those of their own bytes, and so are the lines behind it.
+use mathlib.Core.Path.{_≡_, refl, sym, ap}
 use mathlib.Core.Bool.{Bool, true, false, not}
 use mathlib.Core.List.{List, [], _∷_, _++_}
 use Prim.Native.Nat.{ℕ, zero, suc, _<_}
@@ -7,10 +8,12 @@ use native.Mathlib.Omega.{arith}
 use lib.ListN.{length, drop, length-append}
 use lib.Seq.{take-append-le}
 use borrow.Author.Tests.{eq-eqb, lt-ltb}
+use Rattle.lists.specs.Runs.{joined}
 use Rattle.lists.proofs.Runs.{while-more, while-end}
 use Rattle.lists.proofs.Parts.{while-append}
 use Rattle.lists.proofs.Extents.{each-append}
-use Rattle.lines.specs.Lines.{noFeed, body, firstLine, linesOf}
+use Rattle.lists.proofs.Cut.{each-cut}
+use Rattle.lines.specs.Lines.{Line, noFeed, body, firstLine, linesOf}
 use Rattle.lines.specs.Theorems.Closed.{Closed}
 
 -- the first line of a closed text is ended
@@ -23,7 +26,7 @@ ended x (y ∷ r) c = go (noFeed x) refl (ended y r c)
     go true e h = rw (while-more noFeed x (y ∷ r) e) (omega arith)
     go false e h = rw (while-end noFeed x (y ∷ r) e) (omega arith)
 
-closed-drop : (n : ℕ) (a : List ℕ) → Closed a → Closed (drop n a)
+pub closed-drop : (n : ℕ) (a : List ℕ) → Closed a → Closed (drop n a)
 closed-drop zero a c = c
 closed-drop (suc n) [] c = c
 closed-drop (suc n) (x ∷ []) c = closed-drop n [] tt
@@ -56,3 +59,23 @@ lines-append a b c = each-append (λ xs. length (body xs)) firstLine Closed b st
     stays (x ∷ r) k g =
         let e = ended x r k in
         (firstLine-append (x ∷ r) b e, ap length (body-append (x ∷ r) b e), e, closed-drop (suc (length (body (x ∷ r)))) (x ∷ r) k)
+
+-- ---- cut where a line begins
+
+-- a line that ends within the front of a text is ended there
+body-within : (a b : List ℕ) → length (body (a ++ b)) < length a → length (body a) < length a
+unfolding body
+body-within [] b h = absurd (omega arith)
+body-within (x ∷ a) b h = go (noFeed x) refl (body-within a b)
+  where
+    go : (t : Bool) → noFeed x ≡ t → (length (body (a ++ b)) < length a → length (body a) < length a) → length (body (x ∷ a)) < length (x ∷ a)
+    go true e ih = let n = ih (omega (arith, ap length (while-more noFeed x (a ++ b) e))) in rw (while-more noFeed x a e) (omega arith)
+    go false e ih = rw (while-end noFeed x a e) (omega arith)
+
+pub lines-cut : (xs : List ℕ) (before after : List Line) → linesOf xs ≡ before ++ after
+    → (linesOf (joined (λ (l : Line). l .raw) before) ≡ before) × (linesOf (joined (λ (l : Line). l .raw) after) ≡ after)
+unfolding linesOf firstLine
+lines-cut = each-cut (λ xs. length (body xs)) firstLine (λ (l : Line). l .raw) (λ xs h. refl) keeps
+  where
+    keeps : (a b : List ℕ) → length (body (a ++ b)) < length a → (firstLine a ≡ firstLine (a ++ b)) × (length (body a) ≡ length (body (a ++ b)))
+    keeps a b h = let n = body-within a b h in (sym (firstLine-append a b n), ap length (sym (body-append a b n)))

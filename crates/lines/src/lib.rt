@@ -11,7 +11,7 @@ ghost use Rattle.text.specs.Contracts.Places.{Ascii};
 ghost use Rattle.options.specs.Opts.{textOf, meant};
 ghost use Rattle.lines.specs.Lines.{body, withoutReturn, firstLine};
 ghost use Rattle.lines.specs.Classes.{nextStop, search, skipFound, somewhere, classify};
-ghost use Rattle.lines.specs.Contracts.Places.{lengthsOf, classedOf, bodyEnd, AsciiBody, Tabs, BehindTabs, Lies, Usable, Inside, classAt, Behind, BehindBlanks, BehindPlace, inkBefore, glyphsBehind, gluedAt};
+ghost use Rattle.lines.specs.Contracts.Places.{lengthsOf, classedOf, mostLarge, mostColumns, bodyEnd, AsciiBody, Tabs, BehindTabs, Lies, Usable, Inside, classAt, Behind, BehindBlanks, BehindPlace, inkBefore, glyphsBehind, gluedAt};
 use options::Options;
 use options::Part;
 use text::Char;
@@ -62,7 +62,7 @@ pub fn first_line(s: &[u8]) -> Extent
 // The same, with the class of its text. The pass for the line feed sees as well whether the line is ASCII, as most are.
 // In the original: `FileLines::next`.
 pub fn first_classed(s: &[u8], o: Options, block: &[u8]) -> ClassedExtent
-    requires { ⌜ Usable (now block) o × (length (now s) ≤ 65536) ⌝ }
+    requires { ⌜ Usable (now block) o × (length (now s) ≤ mostLarge) ⌝ }
     ensures { λ r. ⌜ r ≡ classedOf (meant (now (block .entry)) o) (firstLine (now (s .entry))) ⌝ }
 {
     let reached = ascii_body(s);
@@ -290,7 +290,7 @@ fn are_same(p: &[u8], s: &[u8], i: usize) -> bool
 // with only blanks behind it.
 // In the original: `FileLines::next`.
 fn classify(line: &[u8], ascii: bool, o: Options, block: &[u8]) -> Class
-    requires { ⌜ Usable (now block) o × (length (now line) ≤ 65536) × (ascii ≡ true → Ascii (now line) 0 (length (now line))) ⌝ }
+    requires { ⌜ Usable (now block) o × (length (now line) ≤ mostLarge) × (ascii ≡ true → Ascii (now line) 0 (length (now line))) ⌝ }
     ensures { λ r. ⌜ r ≡ classify (meant (now (block .entry)) o) (now (line .entry)) ⌝ }
 {
     let tab = o.tab;
@@ -405,7 +405,7 @@ fn wide(b: u8) -> u32
 // The class of a line by its prefix, which must be there with more than blanks behind it.
 // In the original: `FileLines::match_prefix`.
 fn behind_prefix(line: &[u8], p: &[u8], exact: bool, tab: usize, glue: bool) -> Class
-    requires { ⌜ (length (now line) ≤ 65536) × (1 ≤ tab) × (tab ≤ 100) ⌝ }
+    requires { ⌜ (length (now line) ≤ mostLarge) × (1 ≤ tab) × (tab ≤ 100) ⌝ }
     ensures { λ r. ⌜ r ≡ classAt tab (length (now (p .entry))) (glyphs glue (now (line .entry))) (search exact (now (p .entry)) (now (line .entry)) 0 (glyphs glue (now (line .entry)))) ⌝ }
 {
     let Found::At(place) = find(line, p, exact) else {
@@ -463,7 +463,7 @@ fn find(line: &[u8], p: &[u8], exact: bool) -> Found
 // On from the margin, which ends where the prefix does, over the blanks that stand there.
 // In the original: `FileLines::compute_indent`.
 fn behind_margin(line: &[u8], end: usize, margin: Spot, tab: usize, glue: bool) -> Spot
-    requires { ⌜ (end ≤ length (now line)) × Inside (now line) margin × (length (now line) ≤ 65536) × (1 ≤ tab) × (tab ≤ 100) ⌝ }
+    requires { ⌜ (end ≤ length (now line)) × Inside (now line) margin × (length (now line) ≤ mostLarge) × (1 ≤ tab) × (tab ≤ 100) ⌝ }
     ensures { λ r. ⌜ BehindBlanks tab (now (line .entry)) (glyphsBehind glue (now (line .entry)) end (margin .at)) margin r ⌝ }
 {
     if is_glued(line, end, margin.at, glue) {
@@ -522,7 +522,7 @@ fn has_ink_before(line: &[u8], place: usize) -> bool
 // On from a spot over the blanks that stand there; before ink U+00A0 is one whatever glue says. None stands at the line's end.
 // In the original: `FileLines::compute_indent`.
 fn over_blanks(line: &[u8], from: Spot, tab: usize) -> Spot
-    requires { ⌜ Inside (now line) from × (length (now line) ≤ 65536) × (1 ≤ tab) × (tab ≤ 100) ⌝ }
+    requires { ⌜ Inside (now line) from × (length (now line) ≤ mostLarge) × (1 ≤ tab) × (tab ≤ 100) ⌝ }
     ensures { λ r. ⌜ ((glue : Bool) → BehindBlanks tab (now (line .entry)) (glyphs glue (drop (from .at) (now (line .entry)))) from r) ⌝ }
 {
     let mut spot = from;
@@ -569,7 +569,7 @@ fn tabs_end(line: &[u8], from: usize) -> usize
 // The spot behind the characters that begin before a place.
 // In the original: `FileLines::compute_indent`.
 fn measure_to(line: &[u8], place: usize, tab: usize) -> Spot
-    requires { ⌜ (place ≤ length (now line)) × (length (now line) ≤ 65536) × (1 ≤ tab) × (tab ≤ 100) ⌝ }
+    requires { ⌜ (place ≤ length (now line)) × (length (now line) ≤ mostLarge) × (1 ≤ tab) × (tab ≤ 100) ⌝ }
     ensures { λ r. ⌜ Inside (now (line .entry)) r × BehindPlace tab (now (line .entry)) place r ⌝ }
 {
     let mut spot = Spot { at: 0, column: 0 };
@@ -582,7 +582,7 @@ fn measure_to(line: &[u8], place: usize, tab: usize) -> Spot
 // The spot behind the character at a spot. A damaged byte is one by itself.
 // In the original: `FileLines::compute_indent`.
 fn behind(line: &[u8], spot: Spot, tab: usize) -> Spot
-    requires { ⌜ Inside (now line) spot × (spot .at < length (now line)) × (length (now line) ≤ 65536) × (1 ≤ tab) × (tab ≤ 100) ⌝ }
+    requires { ⌜ Inside (now line) spot × (spot .at < length (now line)) × (length (now line) ≤ mostLarge) × (1 ≤ tab) × (tab ≤ 100) ⌝ }
     ensures { λ r. ⌜ Behind tab (now (line .entry)) spot r ⌝ }
 {
     let at = spot.at;
@@ -609,7 +609,7 @@ fn behind(line: &[u8], spot: Spot, tab: usize) -> Spot
 // The column behind a character: a tab goes to the next stop.
 // In the original: `FileLines::compute_indent`.
 fn column_behind(column: usize, code: u32, tab: usize) -> usize
-    requires { ⌜ (column ≤ 6553600) × (1 ≤ tab) × (tab ≤ 100) ⌝ }
+    requires { ⌜ (column ≤ mostColumns) × (1 ≤ tab) × (tab ≤ 100) ⌝ }
     ensures { λ r. ⌜ (r ≡ cond (eqb code 9) (nextStop tab column) (column + widthOf code)) × (r ≤ column + 100) ⌝ }
 {
     if code == 9 {

@@ -6,6 +6,7 @@ pub mod Slices
 pub mod Parts
 pub mod All
 pub mod Extents
+pub mod Cut
 pub mod RunsAt
 pub mod Fronts
 pub mod Stores

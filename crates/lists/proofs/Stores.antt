@@ -5,8 +5,8 @@ use Prim.Native.Nat.{ℕ, zero, suc, _+_, _≤_, _<_}
 use native.Mathlib.Omega.{arith}
 use native.Mathlib.Nat.{add-zero, add-suc, suc-add}
 use native.Mathlib.Numerals.{add-one, add-two, add-three, add-four, add-five, add-six}
-use lib.ListN.{length, getD, set, take, drop, replicate, length-set, length-append, drop-of-length-le}
-use lib.Seq.{sets, sets-eq, slice, getD-set-same, getD-set-other, length-take-le, take-at, drop-at}
+use lib.ListN.{length, getD, set, drop, replicate, length-set, drop-of-length-le}
+use lib.Seq.{sets, getD-set-same, getD-set-other}
 
 module _ {A : Type 0} (d : A) where
   pub sets-other : (l : List A) (k : ℕ) (vs : List A) (m : ℕ) → ((j : ℕ) → j < length vs → m ≡ k + j → ⊥) → getD (sets l k vs) m d ≡ getD l m d
@@ -27,12 +27,6 @@ pub sets-seven : {A : Type 0} (l : List A) (k : ℕ) (a b c d e f g : A)
     ≡ sets l k (a ∷ b ∷ c ∷ d ∷ e ∷ f ∷ g ∷ [])
 sets-seven l k a b c d e f g = rw (add-one k, add-two k, add-three k, add-four k, add-five k, add-six k)
 
--- the stored run, cut out again
-pub sets-slice : {A : Type 0} (l : List A) (k n : ℕ) (vs : List A) → k + length vs ≡ n → n ≤ length l → slice k n (sets l k vs) ≡ vs
-sets-slice l k n vs e h =
-    let t : length (take k l) ≡ k = length-take-le k l (omega arith) in
-    let a : length (take k l ++ vs) ≡ n = length-append (take k l) vs ∙ omega arith in
-    rw (sets-eq vs l k (omega arith), take-at (take k l ++ vs) (drop (k + length vs) l) n a) (drop-at (take k l) vs k t)
-
+-- a list filled to its end
 pub fill-all : {A : Type 0} (v : A) (i : ℕ) (o : List A) → i ≡ length o → replicate i v ++ drop i o ≡ replicate (length o) v
 fill-all v i o e = rw (drop-of-length-le o {i = i} (omega arith), e) (append-nil (replicate (length o) v))

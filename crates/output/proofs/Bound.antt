@@ -7,7 +7,7 @@ use native.Mathlib.Omega.{arith}
 use lib.ListN.{length, length-append, length-replicate}
 use Rattle.records.specs.Word.{Word}
 use Rattle.records.specs.Contracts.Table.{wordsIn}
-use Rattle.records.specs.Contracts.Marks.{breaksIn}
+use Rattle.records.specs.Contracts.Marks.{breaksOf}
 use Rattle.spacing.proofs.Laws.{added-most}
 use Rattle.output.specs.declared.Layout.{Layout}
 use Rattle.output.specs.Contracts.Bound.{bulk, longest, mostEmitted}
@@ -43,10 +43,10 @@ module _ (uniform : Bool) (indent : List ℕ) where
   emit-most first breaks (w ∷ ws) = let r = rest-most false breaks ws in rw (length-append, length-append, suc-mul) (omega arith)
 
 -- the same of what a table means
-pub emitted-most : (notes table : List ℕ) (n : ℕ) (marks : List Bool) (l : Layout) → length (emitted notes table n marks l) ≤ mostEmitted notes table n l
-emitted-most notes table n marks l = emit-most (l .uniform) (marginOf notes (l .indent)) (marginOf notes (l .first)) (breaksIn n marks) (wordsIn notes n table)
+pub emitted-most : (notes table : List ℕ) (n : ℕ) (l : Layout) → length (emitted notes table n l) ≤ mostEmitted notes table n l
+emitted-most notes table n l = emit-most (l .uniform) (marginOf notes (l .indent)) (marginOf notes (l .first)) (breaksOf n table) (wordsIn notes n table)
 
 -- so is the place behind it
-pub with-most : (notes table : List ℕ) (n : ℕ) (marks : List Bool) (l : Layout) {o o′ : List ℕ} {at r : ℕ} → Wrote o at (emitted notes table n marks l) o′ r
-    → Wrote o at (emitted notes table n marks l) o′ r × (r ≤ at + mostEmitted notes table n l)
-with-most notes table n marks l w = (w, omega (arith, w .count, emitted-most notes table n marks l))
+pub with-most : (notes table : List ℕ) (n : ℕ) (l : Layout) {o o′ : List ℕ} {at r : ℕ} → Wrote o at (emitted notes table n l) o′ r
+    → Wrote o at (emitted notes table n l) o′ r × (r ≤ at + mostEmitted notes table n l)
+with-most notes table n l w = (w, omega (arith, w .count, emitted-most notes table n l))

@@ -4,14 +4,15 @@ use mathlib.Core.Bool.{Bool, true, false}
 use mathlib.Core.List.{List, _∷_, _++_, append-assoc}
 use Prim.Native.Nat.{ℕ, _+_, _≤_, _<_, _^_}
 use native.Mathlib.Omega.{arith}
-use lib.ListN.{length, getD, drop, replicate, length-append, length-replicate}
+use lib.ListN.{length, drop, replicate, length-append, length-replicate}
 use lib.Seq.{slice, length-slice}
 use Rattle.lists.proofs.Joins.{slice-join}
 use Rattle.records.specs.declared.Word.{Word as Record}
 use Rattle.records.specs.Word.{Word, meaning}
 use Rattle.records.specs.Contracts.Table.{wordIn, wordsIn, Within, Got}
+use Rattle.records.specs.Contracts.Marks.{markIn}
 use Rattle.records.proofs.Table.{words-drop, words-end}
-use Rattle.records.proofs.Marks.{marks-here}
+use Rattle.records.proofs.Marks.{marks-from}
 use Rattle.spacing.specs.Spacing.{addedSpace}
 use Rattle.output.specs.declared.Layout.{Layout}
 use Rattle.output.specs.Emission.{lineFeed, spaceBefore, emitRest, emit}
@@ -58,7 +59,7 @@ unfolding emitRest placed spaceBefore
 rest-cons uniform indent punct b bs w ws = rw append-assoc
 
 -- record i of the table lies in the notes; it adds little enough for every sum; and what the words from it on give
-module _ {notes table : List ℕ} {n : ℕ} {marks : List Bool} {l : Layout} {i : ℕ} {w : Record} (laid : Laid notes table n marks l) (got : Got table i w) (more : i < n) where
+module _ {notes table : List ℕ} {n : ℕ} {l : Layout} {i : ℕ} {w : Record} (laid : Laid notes table n l) (got : Got table i w) (more : i < n) where
   pub turn-within : Within (length notes) w
   turn-within = rw (got .is) (laid .words i more)
 
@@ -73,28 +74,28 @@ module _ {notes table : List ℕ} {n : ℕ} {marks : List Bool} {l : Layout} {i 
       let e = q .count in
       omega arith
 
-  pub rest-turn : (punct : Bool) → emittedFrom notes table n marks l punct i
-      ≡ placed (getD marks i false) (addedSpace (l .uniform) (w .first) (w .sentence) punct) (marginOf notes (l .indent)) (meaning notes w)
-      ++ emittedFrom notes table n marks l (w .punct) (i + 1)
+  pub rest-turn : (punct : Bool) → emittedFrom notes table n l punct i
+      ≡ placed (markIn table i) (addedSpace (l .uniform) (w .first) (w .sentence) punct) (marginOf notes (l .indent)) (meaning notes w)
+      ++ emittedFrom notes table n l (w .punct) (i + 1)
   unfolding meaning
   rest-turn punct =
-      rw (marks-here marks i n more (laid .marked), words-drop notes n table i more, ← got .is)
+      rw (marks-from table n i more, words-drop notes n table i more, ← got .is)
       (rest-cons (l .uniform) (marginOf notes (l .indent)) punct _ _ (meaning notes w) _)
 
-module _ (notes table : List ℕ) (n : ℕ) (marks : List Bool) (l : Layout) where
-  pub rest-end : (punct : Bool) (i : ℕ) → n ≤ i → emittedFrom notes table n marks l punct i ≡ lineFeed
+module _ (notes table : List ℕ) (n : ℕ) (l : Layout) where
+  pub rest-end : (punct : Bool) (i : ℕ) → n ≤ i → emittedFrom notes table n l punct i ≡ lineFeed
   unfolding emitRest
   rest-end punct i h = rw (words-end notes n table i h)
 
   -- the first word, and the rest
   pub emit-first : (w : Record) → w ≡ wordIn table 0 → 0 < n
-      → emitted notes table n marks l ≡ marginOf notes (l .first) ++ (meaning notes w .text ++ emittedFrom notes table n marks l false 1)
+      → emitted notes table n l ≡ marginOf notes (l .first) ++ (meaning notes w .text ++ emittedFrom notes table n l false 1)
   unfolding emit
   emit-first w e h =
       let view : wordsIn notes n table ≡ meaning notes (wordIn table 0) ∷ drop 1 (wordsIn notes n table) = words-drop notes n table 0 h in
       rw (e, view)
 
-  pub first-most : (from to : ℕ) {o o′ : List ℕ} {r : ℕ} → Laid notes table n marks l → to ≤ length notes → Wrote o 0 (marginOf notes (l .first) ++ slice from to notes) o′ r → r ≤ 2 ^ 34
+  pub first-most : (from to : ℕ) {o o′ : List ℕ} {r : ℕ} → Laid notes table n l → to ≤ length notes → Wrote o 0 (marginOf notes (l .first) ++ slice from to notes) o′ r → r ≤ 2 ^ 34
   first-most from to laid h q =
       let m = margin-most notes (l .first) (laid .first) in
       let t = length-slice from to notes h in

@@ -12,6 +12,7 @@ use Rattle.lists.proofs.Slices.{slice-one}
 use Rattle.records.specs.declared.Word.{Word as Record}
 use Rattle.records.specs.Word.{meaning}
 use Rattle.records.specs.Contracts.Table.{Within, Got}
+use Rattle.records.specs.Contracts.Marks.{markIn}
 use Rattle.spacing.specs.Spacing.{addedSpace}
 use Rattle.output.specs.declared.Layout.{Layout}
 use Rattle.output.specs.declared.Run.{Run}
@@ -51,17 +52,17 @@ joins notes w added at within e s =
 
 -- ---- a run
 
-module _ {notes table : List ℕ} {n : ℕ} {marks : List Bool} {l : Layout} {at : ℕ} {punct : Bool} {i : ℕ} where
-  pub run-first : at ≤ length notes → i ≤ n → Runs notes table n marks l at punct i (record { next = i; end = at; punct = punct })
+module _ {notes table : List ℕ} {n : ℕ} {l : Layout} {at : ℕ} {punct : Bool} {i : ℕ} where
+  pub run-first : at ≤ length notes → i ≤ n → Runs notes table n l at punct i (record { next = i; end = at; punct = punct })
   run-first h k = record { on = omega arith; few = k; order = omega arith; within = h; is = rw slice-empty }
 
-  pub run-more : {r : Run} {w : Record} {added : ℕ} → Laid notes table n marks l → Runs notes table n marks l at punct i r → r .next < n → Got table (r .next) w
-      → added ≡ addedSpace (l .uniform) (w .first) (w .sentence) (r .punct) → getD marks (r .next) false ≡ false → Joins notes w false added (r .end)
-      → Runs notes table n marks l at punct i (record { next = r .next + 1; end = w .end; punct = w .punct })
+  pub run-more : {r : Run} {w : Record} {added : ℕ} → Laid notes table n l → Runs notes table n l at punct i r → r .next < n → Got table (r .next) w
+      → added ≡ addedSpace (l .uniform) (w .first) (w .sentence) (r .punct) → markIn table (r .next) ≡ false → Joins notes w false added (r .end)
+      → Runs notes table n l at punct i (record { next = r .next + 1; end = w .end; punct = w .punct })
   run-more {r} {w} {added} laid run more got a f j =
-      let behind = emittedFrom notes table n marks l (w .punct) (r .next + 1) in
+      let behind = emittedFrom notes table n l (w .punct) (r .next + 1) in
       let within = turn-within laid got more in
-      let here : placed (getD marks (r .next) false) (addedSpace (l .uniform) (w .first) (w .sentence) (r .punct)) (marginOf notes (l .indent)) (meaning notes w) ≡ slice (r .end) (w .end) notes = rw (f, ← a) (j .is (marginOf notes (l .indent))) in
+      let here : placed (markIn table (r .next)) (addedSpace (l .uniform) (w .first) (w .sentence) (r .punct)) (marginOf notes (l .indent)) (meaning notes w) ≡ slice (r .end) (w .end) notes = rw (f, ← a) (j .is (marginOf notes (l .indent))) in
       record {
         on = omega (arith, run .on);
         few = omega arith;
@@ -76,29 +77,29 @@ module _ {notes table : List ℕ} {n : ℕ} {marks : List Bool} {l : Layout} {at
 
 -- ---- a run written as one piece
 
-module _ {notes table : List ℕ} {n : ℕ} {marks : List Bool} {l : Layout} {i : ℕ} {w : Record} {r : Run} (laid : Laid notes table n marks l) (got : Got table i w) (more : i < n) where
+module _ {notes table : List ℕ} {n : ℕ} {l : Layout} {i : ℕ} {w : Record} {r : Run} (laid : Laid notes table n l) (got : Got table i w) (more : i < n) where
   -- a word that begins a run, and the run
-  run-turn : (punct : Bool) → Runs notes table n marks l (w .end) (w .punct) (i + 1) r → emittedFrom notes table n marks l punct i
-      ≡ (placed (getD marks i false) (addedSpace (l .uniform) (w .first) (w .sentence) punct) (marginOf notes (l .indent)) (meaning notes w) ++ slice (w .end) (r .end) notes)
-      ++ emittedFrom notes table n marks l (r .punct) (r .next)
+  run-turn : (punct : Bool) → Runs notes table n l (w .end) (w .punct) (i + 1) r → emittedFrom notes table n l punct i
+      ≡ (placed (markIn table i) (addedSpace (l .uniform) (w .first) (w .sentence) punct) (marginOf notes (l .indent)) (meaning notes w) ++ slice (w .end) (r .end) notes)
+      ++ emittedFrom notes table n l (r .punct) (r .next)
   run-turn punct run = rest-turn laid got more punct ∙ rw (append-assoc, run .is)
 
-  pub turn-left : (punct : Bool) (added : ℕ) {o₀ o o′ : List ℕ} {n₀ k k′ : ℕ} {d₀ : List ℕ} → added ≡ addedSpace (l .uniform) (w .first) (w .sentence) punct
-      → Runs notes table n marks l (w .end) (w .punct) (i + 1) r → Left o₀ n₀ d₀ o k (emittedFrom notes table n marks l punct i)
-      → Wrote o k (placed (getD marks i false) added (marginOf notes (l .indent)) (meaning notes w) ++ slice (w .end) (r .end) notes) o′ k′
-      → Left o₀ n₀ d₀ o′ k′ (emittedFrom notes table n marks l (r .punct) (r .next))
-  turn-left punct added a run p q = left-then (rw (run-turn punct run) at p) (rw a at q)
+  pub turn-left : (punct : Bool) (added : ℕ) {fresh : Bool} {o₀ o o′ : List ℕ} {n₀ k k′ : ℕ} {d₀ : List ℕ} → added ≡ addedSpace (l .uniform) (w .first) (w .sentence) punct → fresh ≡ markIn table i
+      → Runs notes table n l (w .end) (w .punct) (i + 1) r → Left o₀ n₀ d₀ o k (emittedFrom notes table n l punct i)
+      → Wrote o k (placed fresh added (marginOf notes (l .indent)) (meaning notes w) ++ slice (w .end) (r .end) notes) o′ k′
+      → Left o₀ n₀ d₀ o′ k′ (emittedFrom notes table n l (r .punct) (r .next))
+  turn-left punct added a f run p q = left-then (rw (run-turn punct run) at p) (rw (a, f) at q)
 
 -- the first word with its run, and the rest
-pub first-wrote : {notes table : List ℕ} {n : ℕ} {marks : List Bool} {l : Layout} {w : Record} {r : Run} {o o′ o″ : List ℕ} {at k r′ : ℕ} → Laid notes table n marks l → Got table 0 w
-    → Runs notes table n marks l (w .end) false 1 r → Wrote o at (marginOf notes (l .first) ++ slice (w .start) (r .end) notes) o′ k
-    → Wrote o′ k (emittedFrom notes table n marks l (r .punct) (r .next)) o″ r′ → Wrote o at (emitted notes table n marks l) o″ r′
+pub first-wrote : {notes table : List ℕ} {n : ℕ} {l : Layout} {w : Record} {r : Run} {o o′ o″ : List ℕ} {at k r′ : ℕ} → Laid notes table n l → Got table 0 w
+    → Runs notes table n l (w .end) false 1 r → Wrote o at (marginOf notes (l .first) ++ slice (w .start) (r .end) notes) o′ k
+    → Wrote o′ k (emittedFrom notes table n l (r .punct) (r .next)) o″ r′ → Wrote o at (emitted notes table n l) o″ r′
 unfolding meaning
-first-wrote {notes} {table} {n} {marks} {l} {w} {r} laid got run p q =
+first-wrote {notes} {table} {n} {l} {w} {r} laid got run p q =
     let within = turn-within laid got (laid .some) in
-    let behind = emittedFrom notes table n marks l (r .punct) (r .next) in
-    let e : emitted notes table n marks l ≡ (marginOf notes (l .first) ++ slice (w .start) (r .end) notes) ++ behind =
-    emit-first notes table n marks l w (got .is) (laid .some)
+    let behind = emittedFrom notes table n l (r .punct) (r .next) in
+    let e : emitted notes table n l ≡ (marginOf notes (l .first) ++ slice (w .start) (r .end) notes) ++ behind =
+    emit-first notes table n l w (got .is) (laid .some)
     ∙ ap (λ (x : List ℕ). marginOf notes (l .first) ++ x)
     (ap (λ (x : List ℕ). slice (w .start) (w .end) notes ++ x) (run .is)
     ∙ sym (append-assoc (slice (w .start) (w .end) notes) (slice (w .end) (r .end) notes) behind)

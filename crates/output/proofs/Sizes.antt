@@ -4,12 +4,13 @@ use mathlib.Core.Bool.{Bool, true, false, cond}
 use mathlib.Core.List.{List, _++_}
 use Prim.Native.Nat.{ℕ, _+_, _-_, _≤_, _<_, _^_}
 use native.Mathlib.Omega.{arith}
-use lib.ListN.{length, getD, length-append, length-replicate}
+use lib.ListN.{length, length-append, length-replicate}
 use lib.Seq.{slice, length-slice}
 use Rattle.pieces.specs.declared.Margin.{Margin}
 use Rattle.records.specs.declared.Word.{Word as Record}
 use Rattle.records.specs.Word.{meaning}
 use Rattle.records.specs.Contracts.Table.{Within, Got}
+use Rattle.records.specs.Contracts.Marks.{markIn}
 use Rattle.spacing.specs.Spacing.{addedSpace}
 use Rattle.output.specs.declared.Layout.{Layout}
 use Rattle.output.specs.Contracts.Sink.{Wrote}
@@ -32,7 +33,7 @@ placed-is notes w false added indent h =
     let e : length (placed false added indent (meaning notes w)) ≡ added + length (slice (w .from) (w .end) notes) = ap length (joined notes w added indent h) ∙ simp (length-append, length-replicate) in
     omega arith
 
-module _ {notes table : List ℕ} {n : ℕ} {marks : List Bool} {l : Layout} (laid : Laid notes table n marks l) where
+module _ {notes table : List ℕ} {n : ℕ} {l : Layout} (laid : Laid notes table n l) where
   pub margin-small : (m : Margin) → MarginIn (length notes) m → (m .start ≤ m .end) × (m .end < 2 ^ 32) × (m .more < 2 ^ 32)
   margin-small m h = (h .order, omega (arith, h .end, laid .small), h .more)
 
@@ -41,30 +42,30 @@ module _ {notes table : List ℕ} {n : ℕ} {marks : List Bool} {l : Layout} (la
     word-small = let h = turn-within laid got more in record { gap = h .gap; text = h .text; end = omega (arith, h .end, laid .small) }
 
     -- a word more is counted
-    pub size-turn : (punct : Bool) (k : ℕ) {r added indent total : ℕ} {fresh : Bool} → added ≡ addedSpace (l .uniform) (w .first) (w .sentence) punct → fresh ≡ getD marks i false
+    pub size-turn : (punct : Bool) (k : ℕ) {r added indent total : ℕ} {fresh : Bool} → added ≡ addedSpace (l .uniform) (w .first) (w .sentence) punct → fresh ≡ markIn table i
         → indent ≡ l .indent .end - l .indent .start + l .indent .more
         → r ≡ cond fresh (1 + indent + (w .end - w .start)) (added + (w .end - w .from))
-        → k + length (emittedFrom notes table n marks l punct i) ≡ total
-        → k + r + length (emittedFrom notes table n marks l (w .punct) (i + 1)) ≡ total
+        → k + length (emittedFrom notes table n l punct i) ≡ total
+        → k + r + length (emittedFrom notes table n l (w .punct) (i + 1)) ≡ total
     size-turn punct k {r} {added} {indent} {total} {fresh} a f m e h =
         let p : r ≡ length (placed fresh added (marginOf notes (l .indent)) (meaning notes w)) =
         e ∙ rw (m ∙ sym (margin-is notes (l .indent) (laid .indent))) (sym (placed-is notes w fresh added (marginOf notes (l .indent)) (turn-within laid got more))) in
-        let s : length (emittedFrom notes table n marks l punct i) ≡ length (placed fresh added (marginOf notes (l .indent)) (meaning notes w)) + length (emittedFrom notes table n marks l (w .punct) (i + 1)) =
-        rw (a, f) (ap length (rest-turn laid got more punct) ∙ length-append (placed (getD marks i false) (addedSpace (l .uniform) (w .first) (w .sentence) punct) (marginOf notes (l .indent)) (meaning notes w)) (emittedFrom notes table n marks l (w .punct) (i + 1))) in
+        let s : length (emittedFrom notes table n l punct i) ≡ length (placed fresh added (marginOf notes (l .indent)) (meaning notes w)) + length (emittedFrom notes table n l (w .punct) (i + 1)) =
+        rw (a, f) (ap length (rest-turn laid got more punct) ∙ length-append (placed (markIn table i) (addedSpace (l .uniform) (w .first) (w .sentence) punct) (marginOf notes (l .indent)) (meaning notes w)) (emittedFrom notes table n l (w .punct) (i + 1))) in
         omega (arith, p, s, h)
 
   -- the first word, bare behind the first indent
-  pub size-first : {w : Record} (k : ℕ) → Got table 0 w → k ≡ l .first .end - l .first .start + l .first .more → k + (w .end - w .start) + length (emittedFrom notes table n marks l false 1) ≡ length (emitted notes table n marks l)
+  pub size-first : {w : Record} (k : ℕ) → Got table 0 w → k ≡ l .first .end - l .first .start + l .first .more → k + (w .end - w .start) + length (emittedFrom notes table n l false 1) ≡ length (emitted notes table n l)
   unfolding meaning
   size-first {w} k got e =
       let m = margin-is notes (l .first) (laid .first) in
       let t : length (meaning notes w .text) ≡ w .end - w .start = length-slice (w .start) (w .end) notes (turn-within laid got (laid .some) .end) in
-      let s = ap length (emit-first notes table n marks l w (got .is) (laid .some)) ∙ length-three (marginOf notes (l .first)) (meaning notes w .text) (emittedFrom notes table n marks l false 1) in
+      let s = ap length (emit-first notes table n l w (got .is) (laid .some)) ∙ length-three (marginOf notes (l .first)) (meaning notes w .text) (emittedFrom notes table n l false 1) in
       omega (arith, m, t, e, s)
 
   -- the line feed at the end
-  pub size-last : (punct : Bool) (i k : ℕ) {total : ℕ} → n ≤ i → k + length (emittedFrom notes table n marks l punct i) ≡ total → k + 1 ≡ total
-  size-last punct i k h e = rw (rest-end notes table n marks l punct i h) at e
+  pub size-last : (punct : Bool) (i k : ℕ) {total : ℕ} → n ≤ i → k + length (emittedFrom notes table n l punct i) ≡ total → k + 1 ≡ total
+  size-last punct i k h e = rw (rest-end notes table n l punct i h) at e
 
 -- what is counted where there is no room is written there, as far as it fits
 pub counted-wrote : (out d : List ℕ) (at : ℕ) {r : ℕ} → length out ≤ at → r ≡ length d → Wrote out at d out (at + r)

@@ -343,14 +343,13 @@ fn run_from(
     notes: &[u8],
     table: &[u32],
     n: usize,
-    marks: &[bool],
     l: Layout,
     end: usize,
     punct: bool,
     i: usize,
 ) -> Run
-    requires { ⌜ Laid (now notes) (now table) n (now marks) l × (end ≤ length (now notes)) × (i ≤ n) ⌝ }
-    ensures { λ r. ⌜ Runs (now (notes .entry)) (now (table .entry)) n (now (marks .entry)) l end punct i r ⌝ }
+    requires { ⌜ Laid (now notes) (now table) n l × (end ≤ length (now notes)) × (i ≤ n) ⌝ }
+    ensures { λ r. ⌜ Runs (now (notes .entry)) (now (table .entry)) n l end punct i r ⌝ }
 {
     let mut r = Run {
         next: i,
@@ -359,7 +358,7 @@ fn run_from(
     };
     while r.next < n {
         let j = r.next;
-        if marks[j] {
+        if records::starts_line(table, j) {
             return r;
         }
         let w = records::get(table, j);
@@ -382,14 +381,13 @@ fn emit_rest(
     notes: &[u8],
     table: &[u32],
     n: usize,
-    marks: &[bool],
     l: Layout,
     first: Run,
     out: &mut [u8],
     at: usize,
 ) -> usize
-    requires { ⌜ Laid (now notes) (now table) n (now marks) l × (first .next ≤ n) × (at < 2 ^ 63) ⌝ }
-    ensures { λ r. ⌜ Wrote (now (out .entry)) at (emittedFrom (now (notes .entry)) (now (table .entry)) n (now (marks .entry)) l (first .punct) (first .next)) (now (out .exit)) r ⌝ }
+    requires { ⌜ Laid (now notes) (now table) n l × (first .next ≤ n) × (at < 2 ^ 63) ⌝ }
+    ensures { λ r. ⌜ Wrote (now (out .entry)) at (emittedFrom (now (notes .entry)) (now (table .entry)) n l (first .punct) (first .next)) (now (out .exit)) r ⌝ }
 {
     let indent = l.indent;
     let mut k = at;
@@ -398,8 +396,8 @@ fn emit_rest(
         let i = r.next;
         let w = records::get(table, i);
         let added = spacing::added_space(l.uniform, w.first, w.sentence, r.punct);
-        let fresh = marks[i];
-        r = run_from(notes, table, n, marks, l, w.end, w.punct, i + 1);
+        let fresh = records::starts_line(table, i);
+        r = run_from(notes, table, n, l, w.end, w.punct, i + 1);
         let place = lesser(k, out.len());
         k += put_word(notes, w, r.end, fresh, added, indent, &mut out[place..]);
     }
@@ -427,9 +425,9 @@ fn placed_size(w: Word, fresh: bool, added: usize, indent: usize) -> usize
 }
 
 // The bytes of a paragraph, where none of them is to be written: counted from the table, without a look at the notes.
-fn emitted_size(notes: &[u8], table: &[u32], n: usize, marks: &[bool], l: Layout) -> usize
-    requires { ⌜ Laid (now notes) (now table) n (now marks) l ⌝ }
-    ensures { λ r. ⌜ (r ≡ length (emitted (now (notes .entry)) (now (table .entry)) n (now (marks .entry)) l)) × (r < 2 ^ 62) ⌝ }
+fn emitted_size(notes: &[u8], table: &[u32], n: usize, l: Layout) -> usize
+    requires { ⌜ Laid (now notes) (now table) n l ⌝ }
+    ensures { λ r. ⌜ (r ≡ length (emitted (now (notes .entry)) (now (table .entry)) n l)) × (r < 2 ^ 62) ⌝ }
 {
     let head = records::get(table, 0);
     let first = l.first;
@@ -441,7 +439,7 @@ fn emitted_size(notes: &[u8], table: &[u32], n: usize, marks: &[bool], l: Layout
     while i < n {
         let w = records::get(table, i);
         let added = spacing::added_space(l.uniform, w.first, w.sentence, punct);
-        k += placed_size(w, marks[i], added, indent);
+        k += placed_size(w, records::starts_line(table, i), added, indent);
         punct = w.punct;
         i += 1;
     }
@@ -450,28 +448,20 @@ fn emitted_size(notes: &[u8], table: &[u32], n: usize, marks: &[bool], l: Layout
 
 // A paragraph of n words, broken where the marks say, written behind at bytes. Answers the written end, whether or not all of it fitted.
 // In the original: `break_knuth_plass`.
-pub fn emit(
-    notes: &[u8],
-    table: &[u32],
-    n: usize,
-    marks: &[bool],
-    l: Layout,
-    out: &mut [u8],
-    at: usize,
-) -> usize
-    requires { ⌜ Laid (now notes) (now table) n (now marks) l × (at < 2 ^ 62) ⌝ }
-    ensures { λ r. ⌜ Wrote (now (out .entry)) at (emitted (now (notes .entry)) (now (table .entry)) n (now (marks .entry)) l) (now (out .exit)) r × (r ≤ at + mostEmitted (now (notes .entry)) (now (table .entry)) n l) ⌝ }
+pub fn emit(notes: &[u8], table: &[u32], n: usize, l: Layout, out: &mut [u8], at: usize) -> usize
+    requires { ⌜ Laid (now notes) (now table) n l × (at < 2 ^ 62) ⌝ }
+    ensures { λ r. ⌜ Wrote (now (out .entry)) at (emitted (now (notes .entry)) (now (table .entry)) n l) (now (out .exit)) r × (r ≤ at + mostEmitted (now (notes .entry)) (now (table .entry)) n l) ⌝ }
 {
     if out.len() <= at {
-        return at + emitted_size(notes, table, n, marks, l);
+        return at + emitted_size(notes, table, n, l);
     }
     let w = records::get(table, 0);
     let first = l.first;
     // The first word's own punctuation does not count.
-    let run = run_from(notes, table, n, marks, l, w.end, false, 1);
+    let run = run_from(notes, table, n, l, w.end, false, 1);
     let place = lesser(at, out.len());
     let k = at + put_first(notes, w.start, run.end, first, &mut out[place..]);
-    emit_rest(notes, table, n, marks, l, run, out, k)
+    emit_rest(notes, table, n, l, run, out, k)
 }
 
 // A line of the notes as it is, and a line feed, written behind at bytes; a blank line has no bytes of its own.

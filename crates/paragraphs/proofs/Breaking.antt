@@ -1,7 +1,7 @@
 -- What splitting, breaking and emitting have done, in terms of the paragraph's own words.
 use mathlib.Core.Path.{_≡_, refl, sym, _∙_}
 use mathlib.Core.Bool.{Bool, true, false, cond}
-use mathlib.Core.List.{List}
+use mathlib.Core.List.{List, []}
 use Prim.Native.Nat.{ℕ, _+_, _≤_, _<_}
 use native.Mathlib.Omega.{arith}
 use lib.Dec.{leb}
@@ -9,11 +9,13 @@ use lib.ListN.{length}
 use borrow.Author.Tests.{leb-true, leb-false}
 use Rattle.options.specs.Opts.{meant}
 use Rattle.options.specs.declared.Options.{Options}
+use Rattle.lines.specs.Contracts.Places.{mostLarge}
 use Rattle.pieces.specs.declared.Margin.{Margin}
 use Rattle.pieces.specs.declared.Paragraph.{Paragraph as ParagraphAt}
 use Rattle.records.specs.Word.{Word}
 use Rattle.records.specs.Contracts.Table.{wordsIn}
-use Rattle.records.specs.Contracts.Marks.{breaksIn, Marked}
+use Rattle.records.specs.Contracts.Marks.{MarkedBy}
+use Rattle.records.proofs.Marks.{words-same}
 use Rattle.words.specs.Contracts.Places.{counted}
 use Rattle.words.specs.Contracts.Split.{Split}
 use Rattle.words.specs.declared.Count.{Count}
@@ -25,7 +27,6 @@ use Rattle.output.specs.Contracts.Sink.{Wrote}
 use Rattle.output.specs.Contracts.Writers.{marginOf, emitted}
 use Rattle.output.specs.declared.Layout.{Layout}
 use Rattle.quick.specs.Quick.{quickBreaks}
-use Rattle.knuth_plass.specs.Contracts.Table.{Tables}
 use Rattle.knuth_plass.specs.Contracts.Round.{Limits, AllNarrow, BestAre}
 use Rattle.paragraphs.specs.Breaks.{settingOf, breaksBy}
 use Rattle.paragraphs.specs.Contracts.Steps.{settingFor, Broken, Placed}
@@ -58,21 +59,21 @@ module _ {longest : ℕ} {notes t : List ℕ} {r : Count} {ws : List Word} {es :
   split-few n e = counted-few longest ws n (sym (s .count) ∙ e)
 
   -- no word is wider than the notes are long
-  pub split-narrow : (n : ℕ) → r ≡ Words n → length notes ≤ 65536 → AllNarrow n t
+  pub split-narrow : (n : ℕ) → r ≡ Words n → length notes ≤ mostLarge → AllNarrow n t
   split-narrow n e h i l = omega (arith, s .kept n e .narrow i l)
 
-module _ (fast : Bool) (g : Setting) (n : ℕ) (table : List ℕ) (marks marks′ : List Bool) where
-  pub broken-fast : fast ≡ true → ((notes : List ℕ) → Marked n marks (quickBreaks g (wordsIn notes n table)) marks′) → Broken fast g n table marks′
-  broken-fast e m = λ notes. rw e (m notes .says)
+module _ (fast : Bool) (g : Setting) (n : ℕ) (work work′ : List ℕ) where
+  pub broken-fast : fast ≡ true → ((notes : List ℕ) → MarkedBy n work (quickBreaks g (wordsIn notes n work)) work′) → Broken fast g n work work′
+  broken-fast e m = record { breaks = λ notes. rw e (m notes .says); words = λ j h. m [] .words j; sized = m [] .sized }
 
-  pub broken-best : (t : Tables) (active : List ℕ) → fast ≡ false → BestAre g n table marks t active marks′ → Broken fast g n table marks′
-  broken-best t active e b = λ notes. rw e (b .breaks notes)
+  pub broken-best : fast ≡ false → BestAre g n work work′ → Broken fast g n work work′
+  broken-best e m = record { breaks = λ notes. rw e (m .breaks notes); words = m .words; sized = m .sized }
 
 -- what was emitted is the paragraph, in terms of its own words
-pub emitted-is : (notes table : List ℕ) (n : ℕ) (marks : List Bool) (l : Layout) {uniform fast₀ fast : Bool} {first indent : Margin} {g₀ g : Setting} {ws : List Word}
-    → l .uniform ≡ uniform → l .first ≡ first → l .indent ≡ indent → wordsIn notes n table ≡ ws → breaksIn n marks ≡ breaksBy fast₀ g₀ (wordsIn notes n table) → fast₀ ≡ fast → g₀ ≡ g
-    → emitted notes table n marks l ≡ emit uniform (marginOf notes first) (marginOf notes indent) (breaksBy fast g ws) ws
-emitted-is notes table n marks l u f i w b k s = rw (u, f, i, b, w, k, s)
+pub emitted-is : (notes old work : List ℕ) (n : ℕ) (l : Layout) {uniform fast₀ fast : Bool} {first indent : Margin} {g₀ g : Setting} {ws : List Word}
+    → l .uniform ≡ uniform → l .first ≡ first → l .indent ≡ indent → wordsIn notes n old ≡ ws → Broken fast₀ g₀ n old work → fast₀ ≡ fast → g₀ ≡ g
+    → emitted notes work n l ≡ emit uniform (marginOf notes first) (marginOf notes indent) (breaksBy fast g ws) ws
+emitted-is notes old work n l u f i w b k s = rw (u, f, i, b .breaks notes, words-same notes n old work (b .words), w, k, s)
 
 -- and so is its bound
 pub most-as : (notes table : List ℕ) (n : ℕ) (l : Layout) (written : ℕ) {first indent : Margin} {ws : List Word} {r : ℕ} → l .first ≡ first → l .indent ≡ indent → wordsIn notes n table ≡ ws

@@ -5,13 +5,12 @@ use pieces::Paragraph;
 use spacing::Setting;
 use words::Count;
 ghost use mathlib.Core.Path.{_≡_};
-ghost use mathlib.Core.Bool.{cond, _||_};
+ghost use mathlib.Core.Bool.{_||_};
 ghost use mathlib.Core.List.{List};
 ghost use Prim.Native.Nat.{ℕ, _^_, _≤_, _<_};
 ghost use lib.ListN.{length};
-ghost use Rattle.records.specs.Contracts.Table.{Holds};
 ghost use Rattle.knuth_plass.specs.Contracts.Round.{Limits, AllNarrow};
-ghost use Rattle.paragraphs.specs.Contracts.Steps.{Scratch, settingFor, Broken, Placed, TextStepped};
+ghost use Rattle.paragraphs.specs.Contracts.Steps.{roomFor, Roomy, settingFor, Broken, Placed, TextStepped};
 
 // Where the work stands: the place in the notes, the length of the digest up to there, and next-mail.
 pub struct Cursor {
@@ -26,7 +25,22 @@ pub enum Step {
     Over,
 }
 
-// Writes a paragraph, unless it has more words than the tables have room for.
+// The numbers that a word takes of the room: its record and, with Knuth-Plass, that of the break behind it.
+const QUICK: usize = 7;
+
+const BEST: usize = 15;
+
+// How many words there is room for in so many numbers.
+pub fn room_for(quick: bool, size: usize) -> usize
+    ensures { λ r. ⌜ r ≡ roomFor quick size ⌝ }
+{
+    if quick {
+        return size / QUICK;
+    }
+    size / BEST
+}
+
+// Writes a paragraph, unless it has more words than there is room for.
 // In the original: `break_lines`.
 pub fn put_paragraph(
     notes: &[u8],
@@ -35,17 +49,12 @@ pub fn put_paragraph(
     p: Paragraph,
     out: &mut [u8],
     written: usize,
-    table: &mut [u32],
-    breaks: &mut [u32],
-    ratios: &mut [f32],
-    active: &mut [u32],
-    marks: &mut [bool],
+    work: &mut [u32],
 ) -> Step
-    requires { ⌜ Placed (now notes) at o p × Scratch (now table) (now breaks) (now ratios) (now active) (now marks) × (written < 2 ^ 62) ⌝ }
-    ensures { λ r. ⌜ ((block : List ℕ) → TextStepped (cond (o .quick || p .mail) (length (now (marks .entry))) (length (now (ratios .entry)))) (now (notes .entry)) at o p (now (out .entry)) written (now (out .exit)) r block) ⌝ }
+    requires { ⌜ Placed (now notes) at o p × (written < 2 ^ 62) ⌝ }
+    ensures { λ r. ⌜ ((block : List ℕ) → TextStepped (roomFor (o .quick) (length (now (work .entry)))) (now (notes .entry)) at o p (now (out .entry)) written (now (out .exit)) r block) ⌝ }
 {
-    let fast = either(o.quick, p.mail);
-    let most = pick(fast, marks.len(), ratios.len());
+    let most = room_for(o.quick, work.len());
     let Count::Words(n) = words::split_words(
         notes,
         at,
@@ -55,47 +64,29 @@ pub fn put_paragraph(
         p.later,
         o,
         most,
-        table,
+        work,
     ) else {
         return Step::Over;
     };
-    mark_breaks(
-        fast,
-        setting_of(o, p),
-        table,
-        n,
-        breaks,
-        ratios,
-        active,
-        marks,
-    );
+    mark_breaks(either(o.quick, p.mail), setting_of(o, p), work, n);
     Step::On(Cursor {
         at: p.next,
-        written: output::emit(notes, table, n, marks, layout_of(o, p), out, written),
+        written: output::emit(notes, work, n, layout_of(o, p), out, written),
         mail: p.mail,
     })
 }
 
-// Marks where lines of n words start. The other tables are lent to work in.
+// Marks where lines of n words start. What lies behind the words is room to work in.
 // In the original: `break_lines`.
-pub fn mark_breaks(
-    fast: bool,
-    g: Setting,
-    table: &[u32],
-    n: usize,
-    breaks: &mut [u32],
-    ratios: &mut [f32],
-    active: &mut [u32],
-    marks: &mut [bool],
-)
-    requires { ⌜ Limits g × (1 ≤ n) × (n ≤ cond fast (length (now marks)) (length (now ratios))) × Holds n (now table) × AllNarrow n (now table) × Scratch (now table) (now breaks) (now ratios) (now active) (now marks) ⌝ }
-    ensures { λ _. ⌜ Broken fast g n (now (table .entry)) (now (marks .exit)) ⌝ }
+pub fn mark_breaks(fast: bool, g: Setting, work: &mut [u32], n: usize)
+    requires { ⌜ Limits g × (1 ≤ n) × (n ≤ 2 ^ 20) × Roomy fast n (now work) × AllNarrow n (now work) ⌝ }
+    ensures { λ _. ⌜ Broken fast g n (now (work .entry)) (now (work .exit)) ⌝ }
 {
     if fast {
-        quick::quick_breaks(table, n, g, marks);
+        quick::quick_breaks(work, n, g);
         return;
     }
-    knuth_plass::best_breaks(table, n, g, breaks, ratios, active, marks);
+    knuth_plass::best_breaks(work, n, g);
 }
 
 // What a paragraph is broken with. Mail always counts as uniform.
@@ -126,15 +117,6 @@ fn layout_of(o: Options, p: Paragraph) -> Layout
         first,
         indent,
     }
-}
-
-fn pick(first: bool, a: usize, b: usize) -> usize
-    ensures { λ r. ⌜ r ≡ cond first a b ⌝ }
-{
-    if first {
-        return a;
-    }
-    b
 }
 
 fn either(a: bool, b: bool) -> bool

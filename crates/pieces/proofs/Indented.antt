@@ -10,7 +10,7 @@ use lib.Seq.{slice}
 use borrow.Author.Tests.{ltb-true, ltb-false}
 use Rattle.options.specs.Opts.{Opts}
 use Rattle.lines.specs.Lines.{Line, firstLine, linesOf}
-use Rattle.lines.specs.Contracts.Places.{lengthsOf}
+use Rattle.lines.specs.Contracts.Places.{mostLarge, lengthsOf}
 use Rattle.lines.specs.Classes.{classify}
 use Rattle.lines.specs.declared.Shape.{Shape}
 use Rattle.lines.specs.declared.Class.the-variants.{Formatted}
@@ -38,7 +38,7 @@ module _ (o : Opts) (notes : List ℕ) (at : ℕ) (inside : at < length notes) w
   abbrev rest : List Line
   rest = restAt notes at
 
-  module _ (least : 1 ≤ o .tab) (most : o .tab ≤ 100) (short : length notes ≤ 65536) (cleared : o .split ≡ true → (o .crown || o .tagged) ≡ false)
+  module _ (least : 1 ≤ o .tab) (most : o .tab ≤ 100) (short : length notes ≤ mostLarge) (cleared : o .split ≡ true → (o .crown || o .tagged) ≡ false)
       (s : Shape) (formed : classify o (line .text) ≡ Formatted s) where
     pub first-is : (mail : Bool) → MarginFound notes at (endOf o mail s notes at) (cond mail (spacesAt at 0) (marginAt at 0 s)) (firstIndent mail (line .text) s)
     unfolding firstIndent behindAt lineAt

@@ -13,6 +13,7 @@ use Rattle.lines.specs.Classes.{classify}
 use Rattle.lines.specs.declared.Shape.{Shape}
 use Rattle.lines.specs.declared.Class.{Class}
 use Rattle.lines.specs.declared.Class.the-variants.{Blank, Plain, Formatted}
+use Rattle.lines.specs.Contracts.Places.{mostColumns}
 use Rattle.pieces.specs.Pieces.{Indent, secondRule, alone, joins, secondAs, secondOf, indentOf, widened, noIndent}
 use Rattle.pieces.specs.Contracts.Places.{marginAt, spacesAt}
 use Rattle.pieces.specs.Contracts.Bounds.{MarginWithin}
@@ -36,7 +37,7 @@ widened-none i =
     rw (append-nil (i .bytes), c)
 
 module _ (notes : List ℕ) (at next : ℕ) where
-  pub margin-at : (a more : ℕ) (text : List ℕ) (s : Shape) → text ≡ slice a (a + length text) notes → s .«indent_end» ≤ length text → s .«indent_length» ≤ 6553600
+  pub margin-at : (a more : ℕ) (text : List ℕ) (s : Shape) → text ≡ slice a (a + length text) notes → s .«indent_end» ≤ length text → s .«indent_length» ≤ mostColumns
       → at ≤ a → a + length text ≤ next → more ≤ 4 → MarginFound notes at next (marginAt a more s) (widened (indentOf text s) more)
   unfolding indentOf
   margin-at a more text s e i c low high m =
@@ -47,7 +48,7 @@ module _ (notes : List ℕ) (at next : ℕ) where
         inside = record { low = low; order = omega arith; high = omega arith; more = m; columns = omega arith };
       }
 
-  pub margin-bare : (a : ℕ) (text : List ℕ) (s : Shape) → text ≡ slice a (a + length text) notes → s .«indent_end» ≤ length text → s .«indent_length» ≤ 6553600
+  pub margin-bare : (a : ℕ) (text : List ℕ) (s : Shape) → text ≡ slice a (a + length text) notes → s .«indent_end» ≤ length text → s .«indent_length» ≤ mostColumns
       → at ≤ a → a + length text ≤ next → MarginFound notes at next (marginAt a 0 s) (indentOf text s)
   margin-bare a text s e i c low high = rw widened-none at (margin-at a 0 text s e i c low high (omega arith))
 

@@ -6,6 +6,7 @@ pub mod Seconds
 pub mod Reach
 pub mod Boundary
 pub mod Extents
+pub mod Starts
 pub mod Paragraphs
 pub mod Next
 pub mod Fronts

@@ -11,7 +11,7 @@ use Rattle.lists.specs.Walk.{Stride}
 use Rattle.options.specs.Opts.{Opts, meant}
 use Rattle.options.specs.declared.Options.{Options}
 use Rattle.lines.specs.Lines.{Line, firstLine, linesOf}
-use Rattle.lines.specs.Contracts.Places.{Usable}
+use Rattle.lines.specs.Contracts.Places.{mostLarge, Usable}
 use Rattle.lines.specs.Classes.{classify}
 use Rattle.lines.specs.declared.Shape.{Shape}
 use Rattle.lines.specs.declared.Class.{Class}
@@ -111,7 +111,7 @@ module _ (o : Opts) (nextMail : Bool) (notes : List ℕ) (at : ℕ) (inside : at
 
   -- ---- a paragraph
 
-  module _ (least : 1 ≤ o .tab) (most : o .tab ≤ 100) (short : length notes ≤ 65536) (cleared : o .split ≡ true → (o .crown || o .tagged) ≡ false)
+  module _ (least : 1 ≤ o .tab) (most : o .tab ≤ 100) (short : length notes ≤ mostLarge) (cleared : o .split ≡ true → (o .crown || o .tagged) ≡ false)
       (s : Shape) (formed : classify o (line .text) ≡ Formatted s) where
     meant-by : Bool → Paragraph
     meant-by mail = record {
@@ -151,7 +151,7 @@ module _ (o : Opts) (nextMail : Bool) (notes : List ℕ) (at : ℕ) (inside : at
         }
 
 -- the piece that the code finds at a place of the notes
-module _ (o : Opts) (nextMail : Bool) (notes : List ℕ) (at : ℕ) (inside : at < length notes) (least : 1 ≤ o .tab) (most : o .tab ≤ 100) (short : length notes ≤ 65536)
+module _ (o : Opts) (nextMail : Bool) (notes : List ℕ) (at : ℕ) (inside : at < length notes) (least : 1 ≤ o .tab) (most : o .tab ≤ 100) (short : length notes ≤ mostLarge)
     (cleared : o .split ≡ true → (o .crown || o .tagged) ≡ false) where
   found-as : (k : Class) → classify o (firstLine (drop at notes) .text) ≡ k → Found o nextMail notes at (pieceFrom o nextMail at (firstLine (drop at notes)) (restAt notes at) k)
   unfolding lineAt behindAt
@@ -170,7 +170,7 @@ module _ (o : Opts) (nextMail : Bool) (notes : List ℕ) (at : ℕ) (inside : at
   bounded = found .bounds
 
 -- of the code's options: a piece that is the one at the place, with its bounds
-pub piece-bounded : (block notes : List ℕ) (o : Options) (nextMail : Bool) (at : ℕ) (r : PieceAt) → (at < length notes) × (length notes ≤ 65536) × Usable block o × Cleared o
+pub piece-bounded : (block notes : List ℕ) (o : Options) (nextMail : Bool) (at : ℕ) (r : PieceAt) → (at < length notes) × (length notes ≤ mostLarge) × Usable block o × Cleared o
     → r ≡ pieceAt (meant block o) nextMail notes at → (r ≡ pieceAt (meant block o) nextMail notes at) × Bounded (o .glue) notes at r
 unfolding meant
 piece-bounded block notes o nextMail at r h e = (e, subst⁻¹ (Bounded (o .glue) notes at) e (bounded (meant block o) nextMail notes at (h .0) (h .2 .least) (h .2 .most) (h .1) (h .3)))

@@ -11,7 +11,7 @@ use Rattle.options.specs.declared.Part.{Part}
 use Rattle.options.specs.declared.Part.the-variants.{Absent, Given}
 use Rattle.options.specs.declared.Options.{Options}
 use Rattle.lines.specs.Lines.{Line, firstLine, linesOf}
-use Rattle.lines.specs.Contracts.Places.{Usable}
+use Rattle.lines.specs.Contracts.Places.{mostLarge, Usable}
 use Rattle.lines.specs.declared.Shape.{Shape}
 use Rattle.lines.specs.declared.Class.the-variants.{Formatted}
 use Rattle.lines.proofs.Shapes.{known}
@@ -39,13 +39,13 @@ pub like-rule : (a : Shape) (p : Part) → passesRule (Like a) p ≡ agrees a
 like-rule a p = fun-ext (λ s. sym (like-is a s p))
 
 -- a line's shape lies in the notes
-pub line-shaped : (o : Opts) (notes : List ℕ) (at : ℕ) (line : Classed) (s : Shape) → LineIs o notes at line → line .class ≡ Formatted s → 1 ≤ o .tab → o .tab ≤ 100 → length notes ≤ 65536 → Shaped notes at s
+pub line-shaped : (o : Opts) (notes : List ℕ) (at : ℕ) (line : Classed) (s : Shape) → LineIs o notes at line → line .class ≡ Formatted s → 1 ≤ o .tab → o .tab ≤ 100 → length notes ≤ mostLarge → Shaped notes at s
 line-shaped o notes at line s h e lo hi short =
     let k = known o (firstLine (drop at notes) .text) s lo hi (sym (h .class) ∙ e) in
     let n = h .end in
     record { indent = omega (arith, k .indent, h .before, h .within); columns = omega (arith, k .columns, h .before, h .within) }
 
-pub joined-line : (block notes : List ℕ) (o : Options) (at : ℕ) (line : Classed) {s : Shape} → LineIs (meant block o) notes at line → line .class ≡ Formatted s → Usable block o → length notes ≤ 65536
+pub joined-line : (block notes : List ℕ) (o : Options) (at : ℕ) (line : Classed) {s : Shape} → LineIs (meant block o) notes at line → line .class ≡ Formatted s → Usable block o → length notes ≤ mostLarge
     → Joined notes at (line .next) s
 unfolding meant
 joined-line block notes o at line {s} l e u short =

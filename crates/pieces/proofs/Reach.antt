@@ -24,7 +24,7 @@ module _ (o : Opts) where
   pub plain-stops : (l : Line) → classify o (l .text) ≡ Plain → Stops l
   plain-stops l e s f = let z : _≡_ {A = ℕ} 0 1 = cc in omega arith
 
-  class-cases : (P : Type 0) (l : Line) → (Stops l → P) → ((s : Shape) → classify o (l .text) ≡ Formatted s → P) → P
+  pub class-cases : (P : Type 0) (l : Line) → (Stops l → P) → ((s : Shape) → classify o (l .text) ≡ Formatted s → P) → P
   class-cases P l stop more = go (classify o (l .text)) refl
     where
       go : (c : Class) → classify o (l .text) ≡ c → P
@@ -33,7 +33,7 @@ module _ (o : Opts) where
       go (Formatted s) e = more s e
 
   module _ (test : Shape → Bool) (l : Line) (ls : List Line) where
-    follow-stop : Stops l → follow o test (l ∷ ls) ≡ 0
+    pub follow-stop : Stops l → follow o test (l ∷ ls) ≡ 0
     unfolding follow
     follow-stop stops = go (classify o (l .text)) refl
       where
@@ -42,7 +42,7 @@ module _ (o : Opts) where
         go Plain e = rw (follow, e)
         go (Formatted s) e = absurd (stops s e)
 
-    follow-more : (s : Shape) → classify o (l .text) ≡ Formatted s → follow o test (l ∷ ls) ≡ cond (test s) (suc (follow o test ls)) 0
+    pub follow-more : (s : Shape) → classify o (l .text) ≡ Formatted s → follow o test (l ∷ ls) ≡ cond (test s) (suc (follow o test ls)) 0
     unfolding follow
     follow-more s e = go (test s) refl
       where

@@ -10,7 +10,7 @@ ghost use lib.ListN.{length, drop};
 ghost use Rattle.lists.specs.Runs.{while};
 ghost use Rattle.options.specs.Opts.{meant};
 ghost use Rattle.lines.specs.Lines.{linesOf};
-ghost use Rattle.lines.specs.Contracts.Places.{Usable};
+ghost use Rattle.lines.specs.Contracts.Places.{mostLarge, Usable};
 ghost use Rattle.pieces.specs.Pieces.{headerText, startsMail, agrees, secondRule};
 ghost use Rattle.pieces.specs.Contracts.Bounds.{Bounded};
 ghost use Rattle.pieces.specs.Contracts.Places.{passesRule, headerName, marginAt, reach, secondAt, paragraphWith, pieceAt, PieceReady, Shaped, Cleared, LineIs, SecondSound};
@@ -63,7 +63,7 @@ pub struct Classed {
 // The piece that begins at a line's start.
 // In the original: `ParagraphStream::next`.
 pub fn next_piece(notes: &[u8], at: usize, o: Options, block: &[u8], next_mail: bool) -> Piece
-    requires { ⌜ (at < length (now notes)) × (length (now notes) ≤ 65536) × Usable (now block) o × Cleared o ⌝ }
+    requires { ⌜ (at < length (now notes)) × (length (now notes) ≤ mostLarge) × Usable (now block) o × Cleared o ⌝ }
     ensures { λ r. ⌜ (r ≡ pieceAt (meant (now (block .entry)) o) «next_mail» (now (notes .entry)) at) × Bounded (o .glue) (now (notes .entry)) at r ⌝ }
 {
     let line = line_at(notes, at, o, block);

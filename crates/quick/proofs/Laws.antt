@@ -3,15 +3,14 @@ use mathlib.Core.Path.{_≡_, refl, sym, ap, _∙_}
 use mathlib.Core.Bool.{Bool, true, false, cond}
 use mathlib.Core.List.{List, [], _∷_}
 use Prim.Native.Nat.{ℕ, suc, _+_, _-_, _≤_, _<_, _^_}
-use native.Mathlib.Numerals.{add-one}
 use native.Mathlib.Omega.{arith}
 use borrow.Author.Tests.{ltb-false}
 use lib.Dec.{ltb}
-use lib.ListN.{length, drop, set, length-drop}
-use lib.Seq.{sets}
+use lib.ListN.{length, drop, length-drop}
 use Rattle.records.specs.declared.Word.{Word as Record}
 use Rattle.records.specs.Word.{Word, meaning}
 use Rattle.records.specs.Contracts.Table.{wordIn, wordsIn}
+use Rattle.records.specs.Contracts.Marks.{withMark, withMarks}
 use Rattle.records.proofs.Table.{words-drop, words-end, words-length}
 use Rattle.spacing.specs.Spacing.{gapAt, gapWidth, addedSpace}
 use Rattle.spacing.specs.declared.Setting.{Setting}
@@ -59,7 +58,7 @@ module _ (g : Setting) (notes table : List ℕ) (n : ℕ) where
   unfolding meaning
   breaks-turn column punct i w r e h is = rw (words-drop notes n table i h, ← e, is) (quick-cons g column punct (meaning notes w) _)
 
-  pub breaks-end : (column : ℕ) (punct : Bool) (i : ℕ) → n ≤ i → breaksFrom column punct i ≡ []
+  breaks-end : (column : ℕ) (punct : Bool) (i : ℕ) → n ≤ i → breaksFrom column punct i ≡ []
   unfolding quickFrom
   breaks-end column punct i h = rw (words-end notes n table i h)
 
@@ -75,10 +74,15 @@ column-most false width start reached e h k = let l = ltb-false width reached (s
 
 -- a turn stores the first of the breaks that are left
 module _ (g : Setting) (notes table : List ℕ) (n : ℕ) where
-  pub turn : (column : ℕ) (punct : Bool) (i : ℕ) (w : Record) (r column′ : ℕ) (marks whole : List Bool) → w ≡ wordIn table i → i < n
+  pub turn : (column : ℕ) (punct : Bool) (i : ℕ) (w : Record) (r column′ : ℕ) (now whole : List ℕ) → w ≡ wordIn table i → i < n
       → r ≡ column + gapWidth (g .tab) column (w .before) (w .after) + addedSpace (g .uniform) (w .first) (w .sentence) punct + w .width
       → column′ ≡ cond (ltb (g .width) r) (g .indent + w .width) r
-      → sets marks i (breaksFrom g notes table n column punct i) ≡ whole
-      → sets (set marks i (ltb (g .width) r)) (i + 1) (breaksFrom g notes table n column′ (w .punct) (i + 1)) ≡ whole
-  turn column punct i w r column′ marks whole e h is behind l =
-      rw (behind, add-one i) (rw (breaks-turn g notes table n column punct i w r e h is, add-one i) at l)
+      → withMarks now i (breaksFrom g notes table n column punct i) ≡ whole
+      → withMarks (withMark now i (ltb (g .width) r)) (i + 1) (breaksFrom g notes table n column′ (w .punct) (i + 1)) ≡ whole
+  unfolding withMarks
+  turn column punct i w r column′ now whole e h is behind l =
+      rw behind (rw (breaks-turn g notes table n column punct i w r e h is) at l)
+
+  pub last : (column : ℕ) (punct : Bool) (i : ℕ) (now whole : List ℕ) → n ≤ i → withMarks now i (breaksFrom g notes table n column punct i) ≡ whole → now ≡ whole
+  unfolding withMarks
+  last column punct i now whole h l = rw (breaks-end g notes table n column punct i h) at l

@@ -6,9 +6,9 @@ ghost use mathlib.Core.Path.{_≡_};
 ghost use mathlib.Core.Bool.{cond};
 ghost use mathlib.Core.List.{List};
 ghost use Prim.Native.Nat.{ℕ, _+_, _-_, _≤_, _<_, _^_};
-ghost use lib.ListN.{length, getD};
+ghost use lib.ListN.{getD};
 ghost use Rattle.records.specs.Contracts.Table.{Holds, wordsIn, Small};
-ghost use Rattle.records.specs.Contracts.Marks.{Marked};
+ghost use Rattle.records.specs.Contracts.Marks.{MarkedBy};
 ghost use Rattle.spacing.specs.Spacing.{gapWidth, addedSpace};
 ghost use Rattle.spacing.specs.Contracts.Bounds.{Fair};
 ghost use Rattle.endings.specs.Endings.{endings};
@@ -38,9 +38,9 @@ fn pick(first: bool, a: usize, b: usize) -> usize
 
 // Marks each word behind the first that no longer fits its line: a new line starts with it.
 // In the original: `break_simple`.
-pub fn quick_breaks(table: &[u32], n: usize, g: Setting, marks: &mut [bool])
-    requires { ⌜ (1 ≤ n) × (n ≤ 1024) × Holds n (now table) × (n ≤ length (now marks)) × Fair g ⌝ }
-    ensures { λ _. ⌜ ((notes : List ℕ) → Marked n (now (marks .entry)) (quickBreaks g (wordsIn notes n (now (table .entry)))) (now (marks .exit))) ⌝ }
+pub fn quick_breaks(table: &mut [u32], n: usize, g: Setting)
+    requires { ⌜ (1 ≤ n) × Holds n (now table) × Fair g ⌝ }
+    ensures { λ _. ⌜ ((notes : List ℕ) → MarkedBy n (now (table .entry)) (quickBreaks g (wordsIn notes n (now (table .entry)))) (now (table .exit))) ⌝ }
 {
     let head = records::get(table, 0);
     let mut column = g.first + head.width;
@@ -51,7 +51,7 @@ pub fn quick_breaks(table: &[u32], n: usize, g: Setting, marks: &mut [bool])
         let w = records::get(table, i);
         let reached = reach(g, column, punct, w);
         let fresh = reached > g.width;
-        marks[i] = fresh;
+        records::mark(table, i, fresh);
         column = pick(fresh, g.indent + w.width, reached);
         punct = w.punct;
         i += 1;
@@ -87,7 +87,7 @@ fn full(g: Setting, column: usize, punct: bool, w: Word) -> Ending
 
 // Why a line of a paragraph ends, counted from its first; behind its last line too it is the end of the paragraph.
 pub fn quick_ending(table: &[u32], n: usize, g: Setting, line: usize) -> Ending
-    requires { ⌜ (1 ≤ n) × (n ≤ 1024) × Holds n (now table) × Fair g ⌝ }
+    requires { ⌜ (1 ≤ n) × Holds n (now table) × Fair g ⌝ }
     ensures { λ r. ⌜ ((notes : List ℕ) → r ≡ getD (endings (quickLines g (wordsIn notes n (now (table .entry))))) line Paragraph) ⌝ }
 {
     let head = records::get(table, 0);

@@ -3,6 +3,7 @@ ghost use mathlib.Core.Path.{_≡_};
 ghost use mathlib.Core.Bool.{cond};
 ghost use Prim.Native.Nat.{_*_, _<_, _≤_, _^_};
 ghost use Rattle.records.specs.Contracts.Table.{numberIn, beforeNumber, beforeOf, withWord, stored, Room, Small, Got};
+ghost use Rattle.records.specs.Contracts.Marks.{markIn, withMark};
 
 // The count of blanks before a gap's first tab, which may be absent.
 pub enum Before {
@@ -129,4 +130,21 @@ fn put(t: &mut [u32], i: usize, n0: u32, n1: u32, n2: u32, n3: u32, n4: u32, n5:
     t[k4] = n4;
     t[k5] = n5;
     t[k6] = n6;
+}
+
+// Whether a new line starts with the word of record i: a bit beside the word's own marks.
+pub fn starts_line(t: &[u32], i: usize) -> bool
+    requires { ⌜ Room i (now t) ⌝ }
+    ensures { λ r. ⌜ r ≡ markIn (now (t .entry)) i ⌝ }
+{
+    read(t, i, 6) / 8 % 2 == 1
+}
+
+// Notes whether a new line starts with it. The word stays as it is.
+pub fn mark(t: &mut [u32], i: usize, starts: bool)
+    requires { ⌜ Room i (now t) ⌝ }
+    ensures { λ _. ⌜ now (t .exit) ≡ withMark (now (t .entry)) i starts ⌝ }
+{
+    let k = i * 7 + 6;
+    t[k] = t[k] % 8 + bit(starts, 8);
 }

@@ -24,31 +24,45 @@ use Rattle.pieces.specs.Pieces.{Piece, pieces}
 use Rattle.pieces.proofs.Boundary.{blankPiece, blank-stands}
 use Rattle.formatter.specs.Answers.{done}
 use Rattle.walk.specs.Digest.{outputOf, pieceOutput, digest, extentOf, tooMany, longParagraph}
-use Rattle.formatter.specs.Format.{mostBytes, damageIn, measuring}
+use Rattle.formatter.specs.Format.{Words, upTo, lent, Limits, damageIn, finding, isTold, measuring}
 use Rattle.rudignals.specs.Theorems.LineEnds.{LineEnd, feed, returnAndFeed, byFeed}
-use Rattle.formatter.proofs.Answers.{measured-done, done-measured}
+use Rattle.formatter.specs.Work.{mostWork, workFor, lending}
+use Rattle.formatter.proofs.Work.{work-append}
+use Rattle.formatter.proofs.Answers.{Enough, Done, measured-done, found-done, done-found, done-measured}
 use Rattle.rudignals.proofs.LineEnds.{line-of-bytes}
 use Rattle.rudignals.proofs.Undamaged.{damage-append, blank-sound, feed-sound, return-feed-sound}
 
 -- ---- long paragraphs
 
-abbrev Short : Opts → Piece → Type 0
-Short o q = tooMany o (q .kind) ≡ false
+abbrev Short : ℕ → Opts → Piece → Type 0
+Short most o q = tooMany most o (q .kind) ≡ false
 
-long-short : (o : Opts) (place : ℕ) (qs : List Piece) → longParagraph o place qs ≡ Nowhere → All (Short o) qs
+long-short : (most : ℕ) (o : Opts) (place : ℕ) (qs : List Piece) → longParagraph most o place qs ≡ Nowhere → All (Short most o) qs
 unfolding longParagraph
-long-short o place [] h = tt
-long-short o place (q ∷ qs) h = go (tooMany o (q .kind)) refl h (long-short o (place + length (extentOf q)) qs)
+long-short most o place [] h = tt
+long-short most o place (q ∷ qs) h = go (tooMany most o (q .kind)) refl h (long-short most o (place + length (extentOf q)) qs)
   where
-    go : (b : Bool) → tooMany o (q .kind) ≡ b → elim b as (λ t. Found) [ true ↦ At place | false ↦ longParagraph o (place + length (extentOf q)) qs ] ≡ Nowhere
-        → (longParagraph o (place + length (extentOf q)) qs ≡ Nowhere → All (Short o) qs) → All (Short o) (q ∷ qs)
+    go : (b : Bool) → tooMany most o (q .kind) ≡ b → elim b as (λ t. Found) [ true ↦ At place | false ↦ longParagraph most o (place + length (extentOf q)) qs ] ≡ Nowhere
+        → (longParagraph most o (place + length (extentOf q)) qs ≡ Nowhere → All (Short most o) qs) → All (Short most o) (q ∷ qs)
     go true e h ih = (cc, absurd (let z : _≡_ {A = ℕ} 0 1 = cc in omega arith))
     go false e h ih = (e, ih h)
 
-short-long : (o : Opts) (place : ℕ) (qs : List Piece) → All (Short o) qs → longParagraph o place qs ≡ Nowhere
+short-long : (most : ℕ) (o : Opts) (place : ℕ) (qs : List Piece) → All (Short most o) qs → longParagraph most o place qs ≡ Nowhere
 unfolding longParagraph
-short-long o place [] a = refl
-short-long o place (q ∷ qs) a = rw (longParagraph, a .0) (short-long o (place + length (extentOf q)) qs (a .1))
+short-long most o place [] a = refl
+short-long most o place (q ∷ qs) a = rw (longParagraph, a .0) (short-long most o (place + length (extentOf q)) qs (a .1))
+
+-- ---- working room
+
+-- what is enough for the pieces above a blank line and for those below it is enough for all. (A number of words is, for each paragraph by itself.)
+abbrev pub Joining : Words → Type 0
+Joining (upTo most) = Unit {0}
+Joining (lent lends need) = (o : Opts) (a b whole : List ℕ) (l : Line) → pieces o whole ≡ pieces o a ++ blankPiece l ∷ pieces o b → need o a ≤ lends → need o b ≤ lends → need o whole ≤ lends
+
+-- the room that paragraphs take is so, since each takes it for itself
+pub lending-joins : (lends : ℕ) → Joining (lending lends .words)
+unfolding workFor mostWork
+lending-joins lends o a b whole l e h g = let n = ap (mostWork o) e ∙ work-append o (pieces o a) (blankPiece l ∷ pieces o b) in omega (arith, n, h, g)
 
 -- ---- a blank line, in the notes' own bytes: above it a text that is empty or ends in a line feed, below it any
 
@@ -71,11 +85,12 @@ module _ (o : Opts) (a line end b : List ℕ) (closed : Closed a) (feedless : ev
       ∙ joined-append (pieceOutput o) (pieces o a) (blankPiece the-line ∷ pieces o b)
       ∙ ap (λ (l : List ℕ). joined (pieceOutput o) (pieces o a) ++ l) (joined-cons (pieceOutput o) (blankPiece the-line) (pieces o b))
 
-  -- no long paragraph above it and none below it: none in the notes
-  long-boundary : longParagraph o 0 (pieces o a) ≡ Nowhere → longParagraph o 0 (pieces o b) ≡ Nowhere → longParagraph o 0 (pieces o whole) ≡ Nowhere
-  long-boundary h g =
+  -- no long paragraph above it and none below it: none in the notes; likewise with room
+  enough-boundary : (w : Words) → Joining w → Enough w o a → Enough w o b → Enough w o whole
+  enough-boundary (upTo most) j h g =
       rw pieces-boundary
-      (short-long o 0 _ (all-append (Short o) (pieces o a) (blankPiece the-line ∷ pieces o b) (long-short o 0 (pieces o a) h) (refl, long-short o 0 (pieces o b) g)))
+      (short-long most o 0 _ (all-append (Short most o) (pieces o a) (blankPiece the-line ∷ pieces o b) (long-short most o 0 (pieces o a) h) (refl, long-short most o 0 (pieces o b) g)))
+  enough-boundary (lent lends need) j h g = j o a b whole the-line pieces-boundary h g
 
   end-sound : LineEnd line end → damage end ≡ Nowhere
   end-sound (feed e n) = rw e feed-sound
@@ -91,18 +106,20 @@ module _ (o : Opts) (a line end b : List ℕ) (closed : Closed a) (feedless : ev
 
 -- ---- measuring
 
-pub measuring-boundary : (block first line end second : List ℕ) (o : Options) (digest₁ digest₂ : List ℕ)
-    → readBlock block ≡ Accepted o → Closed first → every noFeed line ≡ true → LineEnd line end → classify (meant block o) line ≡ Blank
-    → measuring block first ≡ done digest₁ → measuring block second ≡ done digest₂
-    → length (first ++ (line ++ (end ++ second))) ≤ mostBytes
-    → measuring block (first ++ (line ++ (end ++ second))) ≡ done (digest₁ ++ 10 ∷ digest₂)
-measuring-boundary block first line end second o digest₁ digest₂ b c f e k h₁ h₂ n =
-    let m = meant block o in
-    let a₁ = measured-done block first o digest₁ b h₁ in
-    let a₂ = measured-done block second o digest₂ b h₂ in
-    done-measured block (first ++ (line ++ (end ++ second))) o (digest₁ ++ 10 ∷ digest₂) b n
-    (record {
-      sound = sound-boundary m first line end second c f e k (a₁ .sound) (a₂ .sound);
-      short = long-boundary m first line end second c f e k (a₁ .short) (a₂ .short);
-      bytes-are = rw (a₁ .bytes-are, a₂ .bytes-are) (sym (digest-boundary m first line end second c f e k));
-    })
+module _ (l : Limits) (joining : Joining (l .words)) (block first line end second : List ℕ) (o : Options) (digest₁ digest₂ : List ℕ)
+    (b : readBlock block ≡ Accepted o) (c : Closed first) (f : every noFeed line ≡ true) (e : LineEnd line end) (k : classify (meant block o) line ≡ Blank)
+    (n : length (first ++ (line ++ (end ++ second))) ≤ l .bytes) where
+  done-boundary : Done l (meant block o) first digest₁ → Done l (meant block o) second digest₂ → Done l (meant block o) (first ++ (line ++ (end ++ second))) (digest₁ ++ 10 ∷ digest₂)
+  done-boundary a₁ a₂ = let m = meant block o in record {
+    sound = sound-boundary m first line end second c f e k (a₁ .sound) (a₂ .sound);
+    enough = enough-boundary m first line end second c f e k (l .words) joining (a₁ .enough) (a₂ .enough);
+    bytes-are = rw (a₁ .bytes-are, a₂ .bytes-are) (sym (digest-boundary m first line end second c f e k));
+  }
+
+  pub finding-boundary : finding l block first ≡ done digest₁ → finding l block second ≡ done digest₂ → finding l block (first ++ (line ++ (end ++ second))) ≡ done (digest₁ ++ 10 ∷ digest₂)
+  finding-boundary h₁ h₂ = done-found l block (first ++ (line ++ (end ++ second))) o (digest₁ ++ 10 ∷ digest₂) b n (done-boundary (found-done l block first o digest₁ b h₁) (found-done l block second o digest₂ b h₂))
+
+  pub measuring-boundary : measuring l block first ≡ done digest₁ → measuring l block second ≡ done digest₂ → isTold (l .words) (length (digest₁ ++ 10 ∷ digest₂)) ≡ true
+      → measuring l block (first ++ (line ++ (end ++ second))) ≡ done (digest₁ ++ 10 ∷ digest₂)
+  measuring-boundary h₁ h₂ t =
+      done-measured l block (first ++ (line ++ (end ++ second))) o (digest₁ ++ 10 ∷ digest₂) b n (done-boundary (measured-done l block first o digest₁ b h₁) (measured-done l block second o digest₂ b h₂)) t

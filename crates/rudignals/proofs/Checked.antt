@@ -1,6 +1,6 @@
 -- What the formatter writes, the checker accepts: from the order of its words (Order). So does the call, within 65,536 bytes.
 use mathlib.Core.Path.{_≡_, refl, ap}
-use mathlib.Core.List.{List, [], _∷_, List·Memᴰ·head, List·Memᴰ·tail}
+use mathlib.Core.List.{List, [], _∷_}
 use Prim.Native.Nat.{ℕ, _≤_}
 use native.Mathlib.Omega.{arith}
 use lib.ListN.{length}
@@ -15,8 +15,8 @@ use Rattle.pieces.specs.Pieces.{Kind, Piece, blankLine, plainLine, paragraph, p
 use Rattle.words.specs.Words.{wordsOf}
 use Rattle.walk.specs.Digest.{formatted, outputOf, pieceOutput, digest}
 use Rattle.formatter.specs.Answers.{done, code}
-use Rattle.formatter.specs.Format.{mostBytes, withBlock, measuring}
-use Rattle.formatter.proofs.Answers.{measured-done}
+use Rattle.formatter.specs.Format.{Limits, withBlock, finding}
+use Rattle.formatter.proofs.Answers.{found-done}
 use Rattle.checker.specs.Acceptable.{PieceIn, PiecesIn, Acceptable}
 use Rattle.checker.specs.Matching.{accepted, verdict}
 use Rattle.checker.proofs.Lines.{order-carried}
@@ -24,12 +24,7 @@ use Rattle.checker.proofs.Theorems.{what-is-acceptable-is-accepted}
 use Rattle.judge.specs.Checking.{checking}
 use Rattle.judge.specs.declared.Judgement.the-variants.{Accepted}
 use Rattle.judge.proofs.Theorems.{what-is-acceptable-the-call-accepts}
-use Rattle.rudignals.proofs.Order.{paragraph-order}
-
--- what holds of each element of a list
-members-all : {A : Type 0} (P : A → Type 0) (xs : List A) → ((x : A) → x ∈ xs → P x) → All P xs
-members-all P [] f = tt
-members-all P (x ∷ xs) f = (f x (List·Memᴰ·head refl), members-all P xs (λ y m. f y (List·Memᴰ·tail m)))
+use Rattle.rudignals.proofs.Order.{members-all, paragraph-order}
 
 piece-in : (o : Opts) (notes : List ℕ) (q : Piece) → q ∈ pieces o notes → PieceIn o (q .kind) (pieceOutput o q)
 unfolding outputOf
@@ -51,17 +46,17 @@ what-is-written-is-acceptable o notes = pieces-in o (pieces o notes) (members-al
 pub what-is-written-is-accepted : (o : Opts) (notes : List ℕ) → verdict o notes (digest o notes) ≡ accepted
 what-is-written-is-accepted o notes = what-is-acceptable-is-accepted o notes (digest o notes) (what-is-written-is-acceptable o notes)
 
--- All that our formatter writes within 65,536 bytes is accepted with the notes it was written for.
-pub what-is-written-the-call-accepts : (block notes bytes : List ℕ) → measuring block notes ≡ done bytes → length bytes ≤ mostBytes → checking block notes bytes ≡ Accepted
-unfolding measuring
-what-is-written-the-call-accepts block notes bytes e h = go (readBlock block) refl e
+-- All that our formatter writes within the limit, 65,536 bytes in document 01, is accepted with the notes it was written for.
+pub what-is-written-the-call-accepts : (l : Limits) (block notes bytes : List ℕ) → finding l block notes ≡ done bytes → length bytes ≤ l .bytes → checking l block notes bytes ≡ Accepted
+unfolding finding
+what-is-written-the-call-accepts l block notes bytes e h = go (readBlock block) refl e
   where
-    go : (b : Block) → readBlock block ≡ b → withBlock done block notes b ≡ done bytes → checking block notes bytes ≡ Accepted
+    go : (b : Block) → readBlock block ≡ b → withBlock l done block notes b ≡ done bytes → checking l block notes bytes ≡ Accepted
     go (Fault place) q k = absurd (let z = ap code k in omega (arith, z))
-    go (BlockAccepted o) q k = what-is-acceptable-the-call-accepts block notes bytes (record {
+    go (BlockAccepted o) q k = what-is-acceptable-the-call-accepts l block notes bytes (record {
       options = o;
       accepted = q;
       passed = ap code e;
       short = h;
-      holds = rw (measured-done block notes o bytes q e .bytes-are) (what-is-written-is-acceptable (meant block o) notes);
+      holds = rw (found-done l block notes o bytes q e .bytes-are) (what-is-written-is-acceptable (meant block o) notes);
     })

@@ -1,15 +1,15 @@
 -- Demand 3, in the customer's sentences. Each statement is about the definitions of specs/ alone, no code, and is proved with nothing
--- assumed; where a proof is long it stands in the file cited. The words of the statements: `answer`, `measuring`,
+-- assumed; where a proof is long it stands in the file cited. The words of the statements: `document01`, `answer`, `measuring`,
 -- `writing` and `done` (specs/Format.antt and Answers.antt; `done bytes` is code 0 with those bytes), `LineEnd` and `LineIs` (specs/Theorems/LineEnds.antt), `Closed` (lines/specs),
 -- `Gap` (text/specs/Theorems/Blanks.antt), `InOrder` (output/specs/Theorems/Order.antt), `rowInk` (words/specs/Theorems/Ink.antt), `All` and `∈`
 -- (lists/specs/Theorems/All.antt), `joined` (lists/specs/Runs.antt).
-use mathlib.Core.Path.{_≡_, refl, sym, _∙_}
-use mathlib.Core.Bool.{Bool, true, false, _||_}
+use mathlib.Core.Path.{_≡_, refl, sym, ap, ap₂, _∙_}
+use mathlib.Core.Bool.{Bool, true, false, _||_, false≢true}
 use mathlib.Core.List.{List, [], _∷_, _++_, map}
 use mathlib.Core.Logic.{_⊎_}
-use Prim.Native.Nat.{ℕ, _+_, _≤_, _<_}
+use Prim.Native.Nat.{ℕ, _+_, _-_, _≤_, _<_}
 use native.Mathlib.Omega.{arith}
-use lib.ListN.{length, length-append}
+use lib.ListN.{length, take, drop, length-append}
 use Rattle.lists.specs.Walk.{walk}
 use Rattle.lists.specs.Runs.{every, joined}
 use Rattle.lists.specs.Theorems.All.{All, _∈_}
@@ -37,12 +37,13 @@ use Rattle.words.specs.Theorems.Standing.{Ascends, Stands, WordsStand}
 use Rattle.words.proofs.Order.{Whole, row-ink, paragraph-whole}
 use Rattle.output.specs.Theorems.Order.{InOrder}
 use Rattle.formatter.specs.Answers.{done, numbered}
-use Rattle.walk.specs.Digest.{pieceOutput, digest, extentOf}
-use Rattle.formatter.specs.Format.{mostBytes, answer, measuring, writing}
+use Rattle.walk.specs.Digest.{pieceOutput, digest, mostWords, extentOf}
+use Rattle.formatter.specs.Format.{Limits, limited, mostBytes, document01, answer, finding, isTold, measured, measuring, inRoom, writing}
 use Rattle.rudignals.specs.Theorems.LineEnds.{LineEnd, feed, LineIs}
+use Rattle.rudignals.specs.Theorems.Parts.{upToPiece, fromPiece, MayCut, ByParts, both, behindFirst, bothReasons}
 use Rattle.formatter.proofs.Together.{together-they-do-what-the-old-call-did, measured-room-suffices}
-use Rattle.formatter.proofs.Answers.{measured-done, answer-measured}
-use Rattle.rudignals.proofs.Boundary.{measuring-boundary}
+use Rattle.formatter.proofs.Answers.{measured-done, written-measured, answer-measured}
+use Rattle.rudignals.proofs.Boundary.{Joining, measuring-boundary}
 use Rattle.rudignals.proofs.Gaps.{BlankThere, gap-stands}
 use Rattle.rudignals.proofs.Order.{among, rows-of, paragraph-order}
 use Rattle.walk.specs.Standing.{wordsUnder, standingFrom, standingWords}
@@ -56,93 +57,117 @@ use Rattle.indexer.specs.Theorems.Follows.{Follows}
 use Rattle.indexer.proofs.Follows.{the-records-follow-without-a-gap as without-a-gap}
 use Rattle.rudignals.proofs.Indexed.{blankRecord, behindBlank, indexed-boundary}
 use Rattle.rudignals.proofs.LineEnds.{LineAt, line-of-bytes, line-at}
+use Rattle.checker.specs.Named.{feeds}
+use Rattle.explain.specs.Reasons.{lineEndings}
+use Rattle.explain.specs.Explain.{explaining}
+use Rattle.rudignals.proofs.Windows.{pieces-front}
+use Rattle.rudignals.proofs.PieceStarts.{parts-are, parts-pieces, digest-parts, index-parts, reasons-parts, measuring-parts, indexing-parts, explaining-parts}
 
 -- What measuring has found, and what a call that is done has written, is the digest of its notes, of which 2 to 4 speak, under the
--- options that its block means.
-pub what-is-measured-is-the-digest : (block notes : List ℕ) (o : Options) (bytes : List ℕ)
+-- options that its block means. So with document 01's limits (`document01`) and with any others.
+pub what-is-measured-is-the-digest : (l : Limits) (block notes : List ℕ) (o : Options) (bytes : List ℕ)
     → readBlock block ≡ Accepted o
-    → measuring block notes ≡ done bytes
+    → measuring l block notes ≡ done bytes
     → bytes ≡ digest (meant block o) notes
-what-is-measured-is-the-digest block notes o bytes b e = measured-done block notes o bytes b e .bytes-are
+what-is-measured-is-the-digest l block notes o bytes b e = measured-done l block notes o bytes b e .bytes-are
 
-pub what-is-done-is-the-digest : (block notes : List ℕ) (o : Options) (space : ℕ) (bytes : List ℕ)
+pub what-is-written-is-the-digest : (l : Limits) (block notes : List ℕ) (o : Options) (space : ℕ) (bytes : List ℕ)
     → readBlock block ≡ Accepted o
-    → answer block notes space ≡ done bytes
+    → writing l block notes space ≡ done bytes
     → bytes ≡ digest (meant block o) notes
-what-is-done-is-the-digest block notes o space bytes b e = what-is-measured-is-the-digest block notes o bytes b (answer-measured block notes space bytes e .0)
+what-is-written-is-the-digest l block notes o space bytes b e = what-is-measured-is-the-digest l block notes o bytes b (written-measured l block notes space bytes e .0)
+
+-- (The call that measures and writes in one is document 01's, with limits such as its own.)
+pub what-is-done-is-the-digest : (most words : ℕ) (block notes : List ℕ) (o : Options) (space : ℕ) (bytes : List ℕ)
+    → readBlock block ≡ Accepted o
+    → answer (limited most words) block notes space ≡ done bytes
+    → bytes ≡ digest (meant block o) notes
+what-is-done-is-the-digest most words block notes o space bytes b e = what-is-measured-is-the-digest (limited most words) block notes o bytes b (answer-measured most words block notes space bytes e .0)
 
 -- ---- 1. an empty line is a full boundary
 
 -- The option block is accepted. The first part is empty or ends in a line feed, and the second is any. Between them stands a blank line:
 -- its text, in which no line feed stands and which is blank by the definition (lines/specs/Classes), and its line end, a line feed or a
 -- carriage return and a line feed. The whole is within the input limit. Keep may be on or off.
-module _ (block first line end second : List ℕ) (o : Options) (digest₁ digest₂ : List ℕ)
+-- The limits may be any. Where working room is lent, what is enough for the parts must be enough for the whole (`Joining`: proofs/Boundary), and the
+-- whole's length must be one that can be told; both hold of themselves with limits such as document 01's.
+module _ (l : Limits) (joining : Joining (l .words)) (block first line end second : List ℕ) (o : Options) (digest₁ digest₂ : List ℕ)
     (block-accepted : readBlock block ≡ Accepted o)
     (first-ends : Closed first)
     (one-line : every noFeed line ≡ true)
     (line-ends : LineEnd line end)
     (blank : classify (meant block o) line ≡ Blank)
-    (within-limit : length (first ++ (line ++ (end ++ second))) ≤ mostBytes) where
+    (within-limit : length (first ++ (line ++ (end ++ second))) ≤ l .bytes)
+    (can-be-told : isTold (l .words) (length (digest₁ ++ 10 ∷ digest₂)) ≡ true) where
   -- Each part by itself is measured as done.
-  module _ (first-measured : measuring block first ≡ done digest₁) (second-measured : measuring block second ≡ done digest₂) where
+  module _ (first-measured : measuring l block first ≡ done digest₁) (second-measured : measuring l block second ≡ done digest₂) where
     -- Measuring the first part, the blank line and the second part finds the first's output, one line feed, and the second's output.
-    pub a-blank-line-is-a-full-boundary-for-measuring : measuring block (first ++ (line ++ (end ++ second))) ≡ done (digest₁ ++ 10 ∷ digest₂)
+    pub a-blank-line-is-a-full-boundary-for-measuring : measuring l block (first ++ (line ++ (end ++ second))) ≡ done (digest₁ ++ 10 ∷ digest₂)
     a-blank-line-is-a-full-boundary-for-measuring =
-        measuring-boundary block first line end second o digest₁ digest₂ block-accepted first-ends one-line line-ends blank first-measured second-measured within-limit
+        measuring-boundary l joining block first line end second o digest₁ digest₂ block-accepted first-ends one-line line-ends blank within-limit first-measured second-measured can-be-told
 
     -- So the number that the host gets is the sum of the two parts' numbers and one.
-    pub the-measured-counts-add-up : numbered (measuring block (first ++ (line ++ (end ++ second)))) ≡ numbered (measuring block first) + 1 + numbered (measuring block second)
+    pub the-measured-counts-add-up : numbered (measuring l block (first ++ (line ++ (end ++ second)))) ≡ numbered (measuring l block first) + 1 + numbered (measuring l block second)
     unfolding numbered
     the-measured-counts-add-up = rw (a-blank-line-is-a-full-boundary-for-measuring, first-measured, second-measured, length-append) (omega arith)
 
-  -- Each part by itself is done, whatever room it had, and there is room for the whole.
-  module _ (room₁ room₂ space : ℕ) (enough-room : length digest₁ + 1 + length digest₂ ≤ space) where
-    module _ (first-done : answer block first room₁ ≡ done digest₁) (second-done : answer block second room₂ ≡ done digest₂) where
-      -- Formatting the first part, the blank line and the second part gives the first's output, one line feed, and the second's output.
-      pub a-blank-line-is-a-full-boundary : answer block (first ++ (line ++ (end ++ second))) space ≡ done (digest₁ ++ 10 ∷ digest₂)
-      a-blank-line-is-a-full-boundary =
-          let m₁ = answer-measured block first room₁ digest₁ first-done in
-          let m₂ = answer-measured block second room₂ digest₂ second-done in
-          let l = length-append digest₁ (10 ∷ digest₂) in
-          let w = measured-room-suffices block (first ++ (line ++ (end ++ second))) space (digest₁ ++ 10 ∷ digest₂) (a-blank-line-is-a-full-boundary-for-measuring (m₁ .0) (m₂ .0)) (omega arith) in
-          sym (together-they-do-what-the-old-call-did block (first ++ (line ++ (end ++ second))) space) ∙ w
+  -- Each part by itself is written, whatever room it had, and there is room for the whole: writing likewise.
+  module _ (room₁ room₂ space : ℕ) (enough-room : length digest₁ + 1 + length digest₂ ≤ space)
+      (first-written : writing l block first room₁ ≡ done digest₁) (second-written : writing l block second room₂ ≡ done digest₂) where
+    pub a-blank-line-is-a-full-boundary-for-writing : writing l block (first ++ (line ++ (end ++ second))) space ≡ done (digest₁ ++ 10 ∷ digest₂)
+    a-blank-line-is-a-full-boundary-for-writing =
+        let m₁ = written-measured l block first room₁ digest₁ first-written in
+        let m₂ = written-measured l block second room₂ digest₂ second-written in
+        let n = length-append digest₁ (10 ∷ digest₂) in
+        measured-room-suffices l block (first ++ (line ++ (end ++ second))) space (digest₁ ++ 10 ∷ digest₂) (a-blank-line-is-a-full-boundary-for-measuring (m₁ .0) (m₂ .0)) (omega arith)
 
-      pub the-counts-of-the-parts-add-up : numbered (answer block (first ++ (line ++ (end ++ second))) space) ≡ numbered (answer block first room₁) + 1 + numbered (answer block second room₂)
-      unfolding numbered
-      the-counts-of-the-parts-add-up = rw (a-blank-line-is-a-full-boundary, first-done, second-done, length-append) (omega arith)
+-- The call that does both in one, with limits such as document 01's: nothing more is asked.
+module _ (most words : ℕ) (block first line end second : List ℕ) (o : Options) (digest₁ digest₂ : List ℕ)
+    (block-accepted : readBlock block ≡ Accepted o)
+    (first-ends : Closed first)
+    (one-line : every noFeed line ≡ true)
+    (line-ends : LineEnd line end)
+    (blank : classify (meant block o) line ≡ Blank)
+    (within-limit : length (first ++ (line ++ (end ++ second))) ≤ most)
+    (room₁ room₂ space : ℕ) (enough-room : length digest₁ + 1 + length digest₂ ≤ space)
+    (first-done : answer (limited most words) block first room₁ ≡ done digest₁) (second-done : answer (limited most words) block second room₂ ≡ done digest₂) where
+  -- Formatting the first part, the blank line and the second part gives the first's output, one line feed, and the second's output.
+  pub a-blank-line-is-a-full-boundary : answer (limited most words) block (first ++ (line ++ (end ++ second))) space ≡ done (digest₁ ++ 10 ∷ digest₂)
+  a-blank-line-is-a-full-boundary =
+      sym (together-they-do-what-the-old-call-did most words block (first ++ (line ++ (end ++ second))) space)
+      ∙ a-blank-line-is-a-full-boundary-for-writing (limited most words) tt block first line end second o digest₁ digest₂ block-accepted first-ends one-line line-ends blank within-limit refl room₁ room₂ space enough-room
+      (together-they-do-what-the-old-call-did most words block first room₁ ∙ first-done) (together-they-do-what-the-old-call-did most words block second room₂ ∙ second-done)
 
-    -- Writing likewise.
-    module _ (first-written : writing block first room₁ ≡ done digest₁) (second-written : writing block second room₂ ≡ done digest₂) where
-      pub a-blank-line-is-a-full-boundary-for-writing : writing block (first ++ (line ++ (end ++ second))) space ≡ done (digest₁ ++ 10 ∷ digest₂)
-      a-blank-line-is-a-full-boundary-for-writing =
-          together-they-do-what-the-old-call-did block (first ++ (line ++ (end ++ second))) space
-          ∙ a-blank-line-is-a-full-boundary (sym (together-they-do-what-the-old-call-did block first room₁) ∙ first-written) (sym (together-they-do-what-the-old-call-did block second room₂) ∙ second-written)
+  pub the-counts-of-the-parts-add-up : numbered (answer (limited most words) block (first ++ (line ++ (end ++ second))) space)
+      ≡ numbered (answer (limited most words) block first room₁) + 1 + numbered (answer (limited most words) block second room₂)
+  unfolding numbered
+  the-counts-of-the-parts-add-up = rw (a-blank-line-is-a-full-boundary, first-done, second-done, length-append) (omega arith)
 
--- The customer's sentence: the blank line is empty, a line feed alone.
+-- The customer's sentence: the blank line is empty, a line feed alone, and the limits are document 01's.
 module _ (block first second : List ℕ) (o : Options) (digest₁ digest₂ : List ℕ)
     (block-accepted : readBlock block ≡ Accepted o)
     (first-ends : Closed first)
     (within-limit : length (first ++ 10 ∷ second) ≤ mostBytes) where
-  module _ (first-measured : measuring block first ≡ done digest₁) (second-measured : measuring block second ≡ done digest₂) where
-    pub an-empty-line-is-a-full-boundary-for-measuring : measuring block (first ++ 10 ∷ second) ≡ done (digest₁ ++ 10 ∷ digest₂)
+  module _ (first-measured : measuring document01 block first ≡ done digest₁) (second-measured : measuring document01 block second ≡ done digest₂) where
+    pub an-empty-line-is-a-full-boundary-for-measuring : measuring document01 block (first ++ 10 ∷ second) ≡ done (digest₁ ++ 10 ∷ digest₂)
     an-empty-line-is-a-full-boundary-for-measuring =
-        a-blank-line-is-a-full-boundary-for-measuring block first [] (10 ∷ []) second o digest₁ digest₂ block-accepted first-ends (every-nil noFeed) (feed refl (λ z. z)) (empty-blank (meant block o)) within-limit first-measured second-measured
+        a-blank-line-is-a-full-boundary-for-measuring document01 tt block first [] (10 ∷ []) second o digest₁ digest₂ block-accepted first-ends (every-nil noFeed) (feed refl (λ z. z)) (empty-blank (meant block o)) within-limit refl first-measured second-measured
 
   module _ (room₁ room₂ space : ℕ) (enough-room : length digest₁ + 1 + length digest₂ ≤ space) where
-    module _ (first-done : answer block first room₁ ≡ done digest₁) (second-done : answer block second room₂ ≡ done digest₂) where
+    module _ (first-done : answer document01 block first room₁ ≡ done digest₁) (second-done : answer document01 block second room₂ ≡ done digest₂) where
       -- Formatting the first part, a line feed and the second part gives the first's output, one line feed, and the second's output.
-      pub an-empty-line-is-a-full-boundary : answer block (first ++ 10 ∷ second) space ≡ done (digest₁ ++ 10 ∷ digest₂)
+      pub an-empty-line-is-a-full-boundary : answer document01 block (first ++ 10 ∷ second) space ≡ done (digest₁ ++ 10 ∷ digest₂)
       an-empty-line-is-a-full-boundary =
-          a-blank-line-is-a-full-boundary block first [] (10 ∷ []) second o digest₁ digest₂ block-accepted first-ends (every-nil noFeed) (feed refl (λ z. z)) (empty-blank (meant block o)) within-limit room₁ room₂ space enough-room first-done second-done
+          a-blank-line-is-a-full-boundary mostBytes mostWords block first [] (10 ∷ []) second o digest₁ digest₂ block-accepted first-ends (every-nil noFeed) (feed refl (λ z. z)) (empty-blank (meant block o)) within-limit room₁ room₂ space enough-room first-done second-done
 
-      pub the-counts-add-up : numbered (answer block (first ++ 10 ∷ second) space) ≡ numbered (answer block first room₁) + 1 + numbered (answer block second room₂)
+      pub the-counts-add-up : numbered (answer document01 block (first ++ 10 ∷ second) space) ≡ numbered (answer document01 block first room₁) + 1 + numbered (answer document01 block second room₂)
       the-counts-add-up =
-          the-counts-of-the-parts-add-up block first [] (10 ∷ []) second o digest₁ digest₂ block-accepted first-ends (every-nil noFeed) (feed refl (λ z. z)) (empty-blank (meant block o)) within-limit room₁ room₂ space enough-room first-done second-done
+          the-counts-of-the-parts-add-up mostBytes mostWords block first [] (10 ∷ []) second o digest₁ digest₂ block-accepted first-ends (every-nil noFeed) (feed refl (λ z. z)) (empty-blank (meant block o)) within-limit room₁ room₂ space enough-room first-done second-done
 
-    module _ (first-written : writing block first room₁ ≡ done digest₁) (second-written : writing block second room₂ ≡ done digest₂) where
-      pub an-empty-line-is-a-full-boundary-for-writing : writing block (first ++ 10 ∷ second) space ≡ done (digest₁ ++ 10 ∷ digest₂)
+    module _ (first-written : writing document01 block first room₁ ≡ done digest₁) (second-written : writing document01 block second room₂ ≡ done digest₂) where
+      pub an-empty-line-is-a-full-boundary-for-writing : writing document01 block (first ++ 10 ∷ second) space ≡ done (digest₁ ++ 10 ∷ digest₂)
       an-empty-line-is-a-full-boundary-for-writing =
-          a-blank-line-is-a-full-boundary-for-writing block first [] (10 ∷ []) second o digest₁ digest₂ block-accepted first-ends (every-nil noFeed) (feed refl (λ z. z)) (empty-blank (meant block o)) within-limit room₁ room₂ space enough-room first-written second-written
+          a-blank-line-is-a-full-boundary-for-writing document01 tt block first [] (10 ∷ []) second o digest₁ digest₂ block-accepted first-ends (every-nil noFeed) (feed refl (λ z. z)) (empty-blank (meant block o)) within-limit refl room₁ room₂ space enough-room first-written second-written
 
 -- ---- 2. words stand once and in order
 
@@ -298,22 +323,139 @@ each-piece-has-its-place o notes before q after e = record {
 pub the-records-follow-without-a-gap : (o : Opts) (notes : List ℕ) → Follows 0 0 (indexOf o notes) (length notes) (length (linesOf (digest o notes)))
 the-records-follow-without-a-gap = without-a-gap
 
--- The parts are those of 1, a blank line between them. Each part by itself is done with an index, whatever room it had; and there is room
--- for both outputs and a byte, and for both indexes and a record.
-module _ (block first line end second : List ℕ) (o : Options) (digest₁ digest₂ : List ℕ) (index₁ index₂ : List Record)
+-- The parts are those of 1, a blank line between them, and so are the limits. Each part by itself is done with an index, whatever room it had; and
+-- there is room for both outputs and a byte, and for both indexes and a record.
+module _ (l : Limits) (joining : Joining (l .words)) (block first line end second : List ℕ) (o : Options) (digest₁ digest₂ : List ℕ) (index₁ index₂ : List Record)
     (block-accepted : readBlock block ≡ Accepted o)
     (first-ends : Closed first)
     (one-line : every noFeed line ≡ true)
     (line-ends : LineEnd line end)
     (blank : classify (meant block o) line ≡ Blank)
-    (within-limit : length (first ++ (line ++ (end ++ second))) ≤ mostBytes)
+    (within-limit : length (first ++ (line ++ (end ++ second))) ≤ l .bytes)
+    (can-be-told : isTold (l .words) (length (digest₁ ++ 10 ∷ digest₂)) ≡ true)
     (space₁ records₁ space₂ records₂ space records : ℕ)
-    (first-done : indexing block first space₁ records₁ ≡ indexed digest₁ index₁)
-    (second-done : indexing block second space₂ records₂ ≡ indexed digest₂ index₂)
+    (first-done : indexing l block first space₁ records₁ ≡ indexed digest₁ index₁)
+    (second-done : indexing l block second space₂ records₂ ≡ indexed digest₂ index₂)
     (enough-room : length digest₁ + 1 + length digest₂ ≤ space)
     (enough-records : length index₁ + 1 + length index₂ ≤ records) where
   -- The joined index is the first's records, one for the blank line, and the second's, moved on.
-  pub the-indexes-join : indexing block (first ++ (line ++ (end ++ second))) space records
+  pub the-indexes-join : indexing l block (first ++ (line ++ (end ++ second))) space records
       ≡ indexed (digest₁ ++ 10 ∷ digest₂) (index₁ ++ blankRecord (meant block o) first (line ++ end) ∷ behindBlank (meant block o) first (line ++ end) index₂)
   the-indexes-join =
-      indexed-boundary block first line end second o digest₁ digest₂ index₁ index₂ space₁ records₁ space₂ records₂ space records block-accepted first-ends one-line line-ends blank within-limit first-done second-done enough-room enough-records
+      indexed-boundary l joining block first line end second o digest₁ digest₂ index₁ index₂ space₁ records₁ space₂ records₂ space records block-accepted first-ends one-line line-ends blank within-limit first-done second-done can-be-told enough-room enough-records
+
+-- ---- 6. where a piece begins, notes may be cut
+
+-- Where a piece begins is seen without reading all of the notes: a front part of them, empty or ending in a line feed, has the notes' own
+-- pieces, but for its last, which may go on in what is behind it.
+pub a-front-part-shows-where-pieces-begin : (o : Opts) (front behind : List ℕ) (k : ℕ)
+    → Closed front
+    → k < length (pieces o front)
+    → take k (pieces o (front ++ behind)) ≡ take k (pieces o front)
+a-front-part-shows-where-pieces-begin o front behind k = pieces-front o k front behind
+
+-- The cuts: without mail, every start.
+pub without-mail-every-start-is-a-cut : (o : Opts) (k : ℕ) (notes : List ℕ) → o .mail ≡ false → MayCut o k notes
+without-mail-every-start-is-a-cut o k notes off on = absurd (false≢true (sym off ∙ on))
+
+-- The option block is accepted. For any k the notes are cut behind their first k pieces, where the next piece begins. Without mail nothing
+-- else is asked; with mail, that next-mail is true there. (`upToPiece`, `fromPiece` and `MayCut`: specs/Theorems/Parts.antt.)
+module _ (block notes : List ℕ) (o : Options) (k : ℕ)
+    (block-accepted : readBlock block ≡ Accepted o)
+    (may-cut : MayCut (meant block o) k notes) where
+  abbrev first-part : List ℕ
+  first-part = upToPiece (meant block o) k notes
+
+  abbrev second-part : List ℕ
+  second-part = fromPiece (meant block o) k notes
+
+  -- The two parts are the notes ..
+  pub the-parts-are-the-notes : notes ≡ first-part ++ second-part
+  the-parts-are-the-notes = parts-are block notes o k block-accepted may-cut
+
+  -- .. the pieces of the first part are the first k, those of the second part are the others ..
+  pub each-part-has-its-pieces : (pieces (meant block o) first-part ≡ take k (pieces (meant block o) notes)) × (pieces (meant block o) second-part ≡ drop k (pieces (meant block o) notes))
+  each-part-has-its-pieces = parts-pieces block notes o k block-accepted may-cut
+
+  -- .. and the digest is the first part's digest followed by the second's.
+  pub the-start-of-every-piece-is-a-full-boundary : digest (meant block o) notes ≡ digest (meant block o) first-part ++ digest (meant block o) second-part
+  the-start-of-every-piece-is-a-full-boundary = digest-parts block notes o k block-accepted may-cut
+
+  -- The index is the first part's records and the second's, moved on; the reasons are the first part's and the second's.
+  pub the-index-is-that-of-the-parts : indexOf (meant block o) notes ≡ indexOf (meant block o) first-part ++ behindFirst first-part (digest (meant block o) first-part) (indexOf (meant block o) second-part)
+  the-index-is-that-of-the-parts = index-parts block notes o k block-accepted may-cut
+
+  pub the-reasons-are-those-of-the-parts : lineEndings (meant block o) notes ≡ lineEndings (meant block o) first-part ++ lineEndings (meant block o) second-part
+  the-reasons-are-those-of-the-parts = reasons-parts block notes o k block-accepted may-cut
+
+  -- The notes are within the input limit. The limits may be any: where working room is lent, the notes must need the greater of what their parts need
+  -- (`ByParts`), as they do (`lending-is-by-parts`: proofs/PieceStarts); with limits such as document 01's nothing is asked.
+  module _ (l : Limits) (by-parts : ByParts (l .words)) (within-limit : length notes ≤ l .bytes) where
+    -- What measuring finds is found by the part: if both are done, the first's output and then the second's, if their length can be told; else what a
+    -- part is refused for. The lowest number wins, then the first place, and a place in the second part is counted from the notes' front; of working
+    -- room, which comes in the place of words, the greater. (`both`: specs/Theorems/Parts.antt.)
+    pub the-start-of-every-piece-is-a-full-boundary-for-measuring : measuring l block notes ≡ both (measured (l .words)) (length first-part) (measuring l block first-part) (measuring l block second-part)
+    the-start-of-every-piece-is-a-full-boundary-for-measuring = measuring-parts block notes o k block-accepted may-cut l by-parts within-limit
+
+    -- Writing asks for the room besides.
+    pub the-start-of-every-piece-is-a-full-boundary-for-writing : (space : ℕ)
+        → writing l block notes space ≡ inRoom space (both (measured (l .words)) (length first-part) (measuring l block first-part) (measuring l block second-part))
+    unfolding writing
+    the-start-of-every-piece-is-a-full-boundary-for-writing space = ap (inRoom space) the-start-of-every-piece-is-a-full-boundary-for-measuring
+
+    -- Each part by itself is written, whatever room it had, and there is room for both, and their length can be told: writing the notes gives the
+    -- first's output and then the second's.
+    pub what-is-written-of-the-parts-joins : (digest₁ digest₂ : List ℕ) (room₁ room₂ space : ℕ)
+        → writing l block first-part room₁ ≡ done digest₁
+        → writing l block second-part room₂ ≡ done digest₂
+        → isTold (l .words) (length (digest₁ ++ digest₂)) ≡ true
+        → length digest₁ + length digest₂ ≤ space
+        → writing l block notes space ≡ done (digest₁ ++ digest₂)
+    what-is-written-of-the-parts-joins digest₁ digest₂ room₁ room₂ space first-written second-written can-be-told enough-room =
+        let m₁ = written-measured l block first-part room₁ digest₁ first-written in
+        let m₂ = written-measured l block second-part room₂ digest₂ second-written in
+        let n = length-append digest₁ digest₂ in
+        let w : measuring l block notes ≡ measured (l .words) (digest₁ ++ digest₂) = the-start-of-every-piece-is-a-full-boundary-for-measuring ∙ ap₂ (both (measured (l .words)) (length first-part)) (m₁ .0) (m₂ .0) in
+        measured-room-suffices l block notes space (digest₁ ++ digest₂) (w ∙ rw can-be-told) (omega (arith, n, enough-room))
+
+    -- Each part by itself is done with an index, whatever room it had, and there is room for both: the joined index is the first's records
+    -- and the second's, moved on by the first part's bytes and the lines of its output.
+    pub the-indexes-of-the-parts-join : (digest₁ digest₂ : List ℕ) (index₁ index₂ : List Record) (space₁ records₁ space₂ records₂ space records : ℕ)
+        → indexing l block first-part space₁ records₁ ≡ indexed digest₁ index₁
+        → indexing l block second-part space₂ records₂ ≡ indexed digest₂ index₂
+        → isTold (l .words) (length (digest₁ ++ digest₂)) ≡ true
+        → length digest₁ + length digest₂ ≤ space
+        → length index₁ + length index₂ ≤ records
+        → indexing l block notes space records ≡ indexed (digest₁ ++ digest₂) (index₁ ++ behindFirst first-part digest₁ index₂)
+    the-indexes-of-the-parts-join = indexing-parts block notes o k block-accepted may-cut l by-parts within-limit
+
+    -- Nothing is refused of either part: a line of the first part's output has its reason there, and a line behind them the reason that it has in the
+    -- second part; behind all lines their number is told. (`finding`: formatter/specs/Format.antt; `feeds` counts line feeds: checker/specs/Named.antt.)
+    pub the-reasons-of-the-parts-join : (line : ℕ) (digest₁ digest₂ : List ℕ)
+        → finding l block first-part ≡ done digest₁
+        → finding l block second-part ≡ done digest₂
+        → explaining l block notes line ≡ bothReasons (explaining l block first-part line) (explaining l block second-part (line - feeds digest₁))
+    the-reasons-of-the-parts-join = explaining-parts block notes o k block-accepted may-cut l by-parts within-limit
+
+  -- The call that measures and writes in one, with limits such as document 01's.
+  module _ (most words : ℕ) (within-limit : length notes ≤ most) where
+    pub the-start-of-every-piece-is-a-full-boundary-for-formatting : (space : ℕ)
+        → answer (limited most words) block notes space ≡ inRoom space (both done (length first-part) (measuring (limited most words) block first-part) (measuring (limited most words) block second-part))
+    the-start-of-every-piece-is-a-full-boundary-for-formatting space =
+        sym (together-they-do-what-the-old-call-did most words block notes space) ∙ the-start-of-every-piece-is-a-full-boundary-for-writing (limited most words) tt within-limit space
+
+    -- Each part by itself is done, whatever room it had, and there is room for both: formatting the notes gives the first's output and then
+    -- the second's, and the number that the host gets is the sum of the two parts' numbers.
+    module _ (digest₁ digest₂ : List ℕ) (room₁ room₂ space : ℕ)
+        (first-done : answer (limited most words) block first-part room₁ ≡ done digest₁)
+        (second-done : answer (limited most words) block second-part room₂ ≡ done digest₂)
+        (enough-room : length digest₁ + length digest₂ ≤ space) where
+      pub the-outputs-of-the-parts-join : answer (limited most words) block notes space ≡ done (digest₁ ++ digest₂)
+      the-outputs-of-the-parts-join =
+          sym (together-they-do-what-the-old-call-did most words block notes space)
+          ∙ what-is-written-of-the-parts-joins (limited most words) tt within-limit digest₁ digest₂ room₁ room₂ space
+          (together-they-do-what-the-old-call-did most words block first-part room₁ ∙ first-done) (together-they-do-what-the-old-call-did most words block second-part room₂ ∙ second-done) refl enough-room
+
+      pub the-numbers-of-the-parts-add-up : numbered (answer (limited most words) block notes space) ≡ numbered (answer (limited most words) block first-part room₁) + numbered (answer (limited most words) block second-part room₂)
+      unfolding numbered
+      the-numbers-of-the-parts-add-up = rw (the-outputs-of-the-parts-join, first-done, second-done, length-append) (omega arith)

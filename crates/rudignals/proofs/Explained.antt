@@ -1,15 +1,21 @@
--- The digest has as many line feeds as there are reasons (document 02, P6): no line of it has one inside.
-use mathlib.Core.Path.{_≡_, ap, _∙_}
-use mathlib.Core.Bool.{Bool, true, false, _||_}
-use mathlib.Core.List.{List, [], _∷_, _++_}
-use Prim.Native.Nat.{ℕ}
+-- The digest has as many line feeds as there are reasons (document 02, P6), since no line of it has one inside; and up to the end of a line it ends
+-- where that line's reason says.
+use mathlib.Core.Path.{_≡_, refl, sym, ap, _∙_}
+use mathlib.Core.Bool.{Bool, true, false, cond, _||_}
+use mathlib.Core.List.{List, [], _∷_, _++_, append-assoc}
+use Prim.Native.Nat.{ℕ, zero, suc, _<_}
 use native.Mathlib.Omega.{arith}
-use lib.ListN.{length}
+use lib.Dec.{ltb}
+use lib.ListN.{length, getD, take}
+use borrow.Author.Tests.{ltb-true}
 use Rattle.lists.specs.Runs.{joined}
 use Rattle.lists.specs.Theorems.All.{All}
 use Rattle.lists.proofs.All.{all-append}
 use Rattle.lists.proofs.Parts.{every-nil, joined-nil, joined-cons}
-use Rattle.options.specs.Opts.{Opts}
+use Rattle.options.specs.Opts.{Opts, meant}
+use Rattle.options.specs.OptionBlock.{readBlock}
+use Rattle.options.specs.declared.Options.{Options}
+use Rattle.options.specs.declared.Block.the-variants.{Accepted}
 use Rattle.lines.specs.Lines.{Line, noFeed}
 use Rattle.pieces.specs.Pieces.{Piece, Kind, blankLine, plainLine, paragraph, pieces}
 use Rattle.pieces.proofs.Columns.{feedless-append}
@@ -19,13 +25,20 @@ use Rattle.words.specs.Words.{wordsOf}
 use Rattle.words.proofs.Order.{Whole, paragraph-whole}
 use Rattle.output.specs.Emission.{lineFeed, spaceBefore}
 use Rattle.walk.specs.Digest.{digest}
-use Rattle.checker.specs.Named.{feeds}
+use Rattle.formatter.specs.Answers.{Answer, done, options, long, text, words, room, work}
+use Rattle.formatter.specs.Format.{Limits, finding}
+use Rattle.checker.specs.Named.{feeds, firstLines}
 use Rattle.checker.proofs.Pieces.{PieceFits, KindFits}
 use Rattle.checker.proofs.Notes.{pieces-fit}
-use Rattle.checker.proofs.Feeds.{feeds-nil, feeds-feed, feeds-append, feedless-feeds}
+use Rattle.checker.proofs.Feeds.{feedless-cons, feeds-nil, feeds-feed, feeds-append, feedless-feeds}
+use Rattle.endings.specs.declared.Ending.{Ending}
+use Rattle.endings.specs.declared.Ending.the-variants.{Paragraph as OfParagraph}
 use Rattle.endings.specs.Endings.{Next, breaks}
 use Rattle.output.proofs.Indents.{Feedless}
 use Rattle.explain.specs.Reasons.{lineEndings}
+use Rattle.explain.specs.Explain.{because, noLine, lookUp, afterMeasuring, explaining}
+use Rattle.explain.specs.Theorems.Ends.{EndsThere}
+use Rattle.explain.proofs.Ends.{lines-end-there}
 use Rattle.explain.specs.Theorems.LineFeeds.{linesFrom, fed, textLines, kindLines, pieceLines, digestLines}
 use Rattle.explain.proofs.LineFeeds.{the-digest-is-its-lines, each-line-has-its-reason}
 use Rattle.indexer.proofs.Counts.{space-feed}
@@ -67,9 +80,61 @@ feeds-fed (l ∷ ls) a =
     let n = feeds-feed in
     rw (joined-cons (λ (m : List ℕ). m ++ lineFeed) l ls, feeds-append (l ++ lineFeed) (fed ls), feeds-append l lineFeed) (omega arith)
 
-pub as-many-line-feeds-as-reasons : (o : Opts) (notes : List ℕ) → feeds (digest o notes) ≡ length (lineEndings o notes)
+all-feedless : (o : Opts) (notes : List ℕ) → All Feedless (digestLines o notes)
 unfolding digestLines
+all-feedless o notes = pieces-feedless o (pieces o notes) (pieces-fit o notes) (pieces-rows o notes)
+
+pub as-many-line-feeds-as-reasons : (o : Opts) (notes : List ℕ) → feeds (digest o notes) ≡ length (lineEndings o notes)
 as-many-line-feeds-as-reasons o notes =
     ap feeds (the-digest-is-its-lines o notes)
-    ∙ feeds-fed (digestLines o notes) (pieces-feedless o (pieces o notes) (pieces-fit o notes) (pieces-rows o notes))
+    ∙ feeds-fed (digestLines o notes) (all-feedless o notes)
     ∙ each-line-has-its-reason o notes
+
+-- ---- and each line ends where its reason says
+
+first-fed : (k : ℕ) (l rest : List ℕ) → Feedless l → firstLines (suc k) (l ++ 10 ∷ rest) ≡ l ++ 10 ∷ firstLines k rest
+unfolding firstLines
+first-fed k [] rest f = refl
+first-fed k (x ∷ l) rest f = let h = feedless-cons x l f in rw (firstLines, h .0) (ap (λ (t : List ℕ). x ∷ t) (first-fed k l rest (h .1)))
+
+first-lines : (k : ℕ) (ls : List (List ℕ)) → All Feedless ls → firstLines k (fed ls) ≡ fed (take k ls)
+unfolding firstLines
+first-lines zero ls a = sym (joined-nil (λ (l : List ℕ). l ++ lineFeed))
+first-lines (suc k) [] a = ap (firstLines (suc k)) (joined-nil (λ (l : List ℕ). l ++ lineFeed)) ∙ sym (joined-nil (λ (l : List ℕ). l ++ lineFeed))
+first-lines (suc k) (l ∷ ls) a =
+    ap (firstLines (suc k)) (joined-cons (λ (m : List ℕ). m ++ lineFeed) l ls ∙ append-assoc l lineFeed (fed ls))
+    ∙ first-fed k l (fed ls) (a .0)
+    ∙ ap (λ (t : List ℕ). l ++ 10 ∷ t) (first-lines k ls (a .1))
+    ∙ sym (append-assoc l lineFeed (fed (take k ls)))
+    ∙ sym (joined-cons (λ (m : List ℕ). m ++ lineFeed) l (take k ls))
+
+-- The digest up to the end of line i, counted from 0, ends where reason i says, whatever its kind. (`EndsThere`: explain/specs/Theorems/Ends;
+-- `firstLines`: checker/specs/Named.)
+pub the-digest-ends-where-the-reason-says : (o : Opts) (notes : List ℕ) (i : ℕ) → i < length (lineEndings o notes)
+    → EndsThere o (pieces o notes) (getD (lineEndings o notes) i OfParagraph) (firstLines (suc i) (digest o notes))
+the-digest-ends-where-the-reason-says o notes i h = rw (the-digest-is-its-lines o notes, first-lines (suc i) (digestLines o notes) (all-feedless o notes)) (lines-end-there o notes i h)
+
+-- So it does for the call: what it tells of a line is where that line ends.
+pub a-line-ends-where-the-call-says : (l : Limits) (block notes : List ℕ) (o : Options) (i : ℕ) (e : Ending)
+    → readBlock block ≡ Accepted o
+    → explaining l block notes i ≡ because e
+    → EndsThere (meant block o) (pieces (meant block o) notes) e (firstLines (suc i) (digest (meant block o) notes))
+unfolding explaining
+a-line-ends-where-the-call-says l block notes o i e b h = go (finding l block notes) (rw b at h)
+  where
+    es : List Ending
+    es = lineEndings (meant block o) notes
+
+    found : (t : Bool) → ltb i (length es) ≡ t → cond t (because (getD es i OfParagraph)) (noLine (length es)) ≡ because e
+        → EndsThere (meant block o) (pieces (meant block o) notes) e (firstLines (suc i) (digest (meant block o) notes))
+    found true t k = let q : getD es i OfParagraph ≡ e = cc in rw (← q) (the-digest-ends-where-the-reason-says (meant block o) notes i (ltb-true i (length es) t))
+    found false t k = absurd (let z : _≡_ {A = ℕ} 0 1 = cc in omega arith)
+
+    go : (a : Answer) → afterMeasuring (lookUp i es) a ≡ because e → EndsThere (meant block o) (pieces (meant block o) notes) e (firstLines (suc i) (digest (meant block o) notes))
+    go (done d) k = found (ltb i (length es)) refl k
+    go (options place) k = absurd (let z : _≡_ {A = ℕ} 0 1 = cc in omega arith)
+    go long k = absurd (let z : _≡_ {A = ℕ} 0 1 = cc in omega arith)
+    go (text place) k = absurd (let z : _≡_ {A = ℕ} 0 1 = cc in omega arith)
+    go (words place) k = absurd (let z : _≡_ {A = ℕ} 0 1 = cc in omega arith)
+    go (room needed) k = absurd (let z : _≡_ {A = ℕ} 0 1 = cc in omega arith)
+    go (work needed) k = absurd (let z : _≡_ {A = ℕ} 0 1 = cc in omega arith)

@@ -20,16 +20,16 @@ use Rattle.lines.specs.declared.Class.the-variants.{Blank}
 use Rattle.lines.specs.Theorems.Closed.{Closed}
 use Rattle.pieces.proofs.Boundary.{blankPiece}
 use Rattle.walk.specs.Digest.{outputOf, digest, extentOf}
-use Rattle.formatter.specs.Answers.{Answer, done as measured, options as faulty, long as tooLong, text as damaged, words as manyWords, room as noRoom}
-use Rattle.formatter.specs.Format.{mostBytes, measuring}
+use Rattle.formatter.specs.Answers.{Answer, done as measured, options as faulty, long as tooLong, text as damaged, words as manyWords, room as noRoom, work as noWork}
+use Rattle.formatter.specs.Format.{Words, Limits, finding, mostTold, isTold}
 use Rattle.index.specs.declared.Record.{Record}
 use Rattle.indexer.specs.Index.{lineCount, indexOf}
-use Rattle.indexer.specs.Answers.{Indexed, done, options, long, text, words, full, room, code}
+use Rattle.indexer.specs.Answers.{Indexed, done, options, long, text, words, full, room, work, code}
 use Rattle.indexer.specs.Indexing.{inIndex, indexUnder, indexing}
 use Rattle.indexer.specs.Theorems.Follows.{shifted}
 use Rattle.indexer.proofs.Follows.{index-between}
 use Rattle.rudignals.specs.Theorems.LineEnds.{LineEnd}
-use Rattle.rudignals.proofs.Boundary.{pieces-boundary, measuring-boundary}
+use Rattle.rudignals.proofs.Boundary.{pieces-boundary, Joining, finding-boundary}
 
 -- ---- the index of two parts and a blank line between them
 
@@ -68,6 +68,7 @@ digestIn (text place) = []
 digestIn (words place) = []
 digestIn (full pieces) = []
 digestIn (room needed) = []
+digestIn (work needed) = []
 
 recordsIn : Indexed → List Record
 recordsIn (done d i) = i
@@ -77,54 +78,57 @@ recordsIn (text place) = []
 recordsIn (words place) = []
 recordsIn (full pieces) = []
 recordsIn (room needed) = []
+recordsIn (work needed) = []
 
 -- it was measured as done, and its records are the index
-record IsDone (rs : List Record) (a : Answer) (d : List ℕ) (i : List Record) : Type 0 where
-  is : a ≡ measured d
-  index : i ≡ rs
+pub record IsDone (rs : List Record) (a : Answer) (d : List ℕ) (i : List Record) : Type 0 where
+  pub is : a ≡ measured d
+  pub index : i ≡ rs
 
-in-done : (space records : ℕ) (rs : List Record) (a : Answer) (d : List ℕ) (i : List Record) → inIndex space records rs a ≡ done d i → IsDone rs a d i
+in-done : (w : Words) (space records : ℕ) (rs : List Record) (a : Answer) (d : List ℕ) (i : List Record) → inIndex w space records rs a ≡ done d i → IsDone rs a d i
 unfolding digestIn recordsIn
-in-done space records rs (measured e) d i h = go (leb (length rs) records) (leb (length e) space) h
+in-done w space records rs (measured e) d i h = go (leb (length rs) records) (isTold w (length e)) (leb (length e) space) h
   where
-    go : (a b : Bool) → cond a (cond b (done e rs) (room (length e))) (full (length rs)) ≡ done d i → IsDone rs (measured e) d i
-    go true true k = record { is = ap measured (ap digestIn k); index = sym (ap recordsIn k) }
-    go true false k = absurd (let z = ap code k in omega (arith, z))
-    go false b k = absurd (let z = ap code k in omega (arith, z))
-in-done space records rs (faulty place) d i h = absurd (let z = ap code h in omega (arith, z))
-in-done space records rs tooLong d i h = absurd (let z = ap code h in omega (arith, z))
-in-done space records rs (damaged place) d i h = absurd (let z = ap code h in omega (arith, z))
-in-done space records rs (manyWords place) d i h = absurd (let z = ap code h in omega (arith, z))
-in-done space records rs (noRoom needed) d i h = absurd (let z = ap code h in omega (arith, z))
+    go : (a t b : Bool) → cond a (cond t (cond b (done e rs) (room (length e))) (room mostTold)) (full (length rs)) ≡ done d i → IsDone rs (measured e) d i
+    go true true true k = record { is = ap measured (ap digestIn k); index = sym (ap recordsIn k) }
+    go true true false k = absurd (let z = ap code k in omega (arith, z))
+    go true false b k = absurd (let z = ap code k in omega (arith, z))
+    go false t b k = absurd (let z = ap code k in omega (arith, z))
+in-done w space records rs (faulty place) d i h = absurd (let z = ap code h in omega (arith, z))
+in-done w space records rs tooLong d i h = absurd (let z = ap code h in omega (arith, z))
+in-done w space records rs (damaged place) d i h = absurd (let z = ap code h in omega (arith, z))
+in-done w space records rs (manyWords place) d i h = absurd (let z = ap code h in omega (arith, z))
+in-done w space records rs (noRoom needed) d i h = absurd (let z = ap code h in omega (arith, z))
+in-done w space records rs (noWork needed) d i h = absurd (let z = ap code h in omega (arith, z))
 
-indexed-done : (block notes : List ℕ) (o : Options) (space records : ℕ) (d : List ℕ) (i : List Record) → readBlock block ≡ Accepted o → indexing block notes space records ≡ done d i
-    → IsDone (indexOf (meant block o) notes) (measuring block notes) d i
+pub indexed-done : (l : Limits) (block notes : List ℕ) (o : Options) (space records : ℕ) (d : List ℕ) (i : List Record) → readBlock block ≡ Accepted o → indexing l block notes space records ≡ done d i
+    → IsDone (indexOf (meant block o) notes) (finding l block notes) d i
 unfolding indexing
-indexed-done block notes o space records d i b h =
-    in-done space records (indexOf (meant block o) notes) (measuring block notes) d i (ap (λ (x : Block). inIndex space records (indexUnder block notes x) (measuring block notes)) (sym b) ∙ h)
+indexed-done l block notes o space records d i b h =
+    in-done (l .words) space records (indexOf (meant block o) notes) (finding l block notes) d i (ap (λ (x : Block). inIndex (l .words) space records (indexUnder block notes x) (finding l block notes)) (sym b) ∙ h)
 
-done-indexed : (block notes : List ℕ) (o : Options) (space records : ℕ) (d : List ℕ) → readBlock block ≡ Accepted o → measuring block notes ≡ measured d
-    → length d ≤ space → length (indexOf (meant block o) notes) ≤ records → indexing block notes space records ≡ done d (indexOf (meant block o) notes)
+pub done-indexed : (l : Limits) (block notes : List ℕ) (o : Options) (space records : ℕ) (d : List ℕ) → readBlock block ≡ Accepted o → finding l block notes ≡ measured d → isTold (l .words) (length d) ≡ true
+    → length d ≤ space → length (indexOf (meant block o) notes) ≤ records → indexing l block notes space records ≡ done d (indexOf (meant block o) notes)
 unfolding indexing
-done-indexed block notes o space records d b m r s =
-    ap (λ (x : Block). inIndex space records (indexUnder block notes x) (measuring block notes)) b ∙ ap (inIndex space records (indexOf (meant block o) notes)) m
-    ∙ rw (le-leb (length (indexOf (meant block o) notes)) records s, le-leb (length d) space r)
+done-indexed l block notes o space records d b m t r s =
+    ap (λ (x : Block). inIndex (l .words) space records (indexUnder block notes x) (finding l block notes)) b ∙ ap (inIndex (l .words) space records (indexOf (meant block o) notes)) m
+    ∙ rw (le-leb (length (indexOf (meant block o) notes)) records s, t, le-leb (length d) space r)
 
 -- the room that suffices for the three is that of the outputs and one byte, and that of the indexes and one record
-pub indexed-boundary : (block first line end second : List ℕ) (o : Options) (digest₁ digest₂ : List ℕ) (index₁ index₂ : List Record) (space₁ records₁ space₂ records₂ space records : ℕ)
+pub indexed-boundary : (l : Limits) → Joining (l .words) → (block first line end second : List ℕ) (o : Options) (digest₁ digest₂ : List ℕ) (index₁ index₂ : List Record) (space₁ records₁ space₂ records₂ space records : ℕ)
     → readBlock block ≡ Accepted o → Closed first → every noFeed line ≡ true → LineEnd line end → classify (meant block o) line ≡ Blank
-    → length (first ++ (line ++ (end ++ second))) ≤ mostBytes
-    → indexing block first space₁ records₁ ≡ done digest₁ index₁ → indexing block second space₂ records₂ ≡ done digest₂ index₂
-    → length digest₁ + 1 + length digest₂ ≤ space → length index₁ + 1 + length index₂ ≤ records
-    → indexing block (first ++ (line ++ (end ++ second))) space records
+    → length (first ++ (line ++ (end ++ second))) ≤ l .bytes
+    → indexing l block first space₁ records₁ ≡ done digest₁ index₁ → indexing l block second space₂ records₂ ≡ done digest₂ index₂
+    → isTold (l .words) (length (digest₁ ++ 10 ∷ digest₂)) ≡ true → length digest₁ + 1 + length digest₂ ≤ space → length index₁ + 1 + length index₂ ≤ records
+    → indexing l block (first ++ (line ++ (end ++ second))) space records
     ≡ done (digest₁ ++ 10 ∷ digest₂) (index₁ ++ blankRecord (meant block o) first (line ++ end) ∷ behindBlank (meant block o) first (line ++ end) index₂)
-indexed-boundary block first line end second o digest₁ digest₂ index₁ index₂ space₁ records₁ space₂ records₂ space records b c f e k n h₁ h₂ r s =
+indexed-boundary l joining block first line end second o digest₁ digest₂ index₁ index₂ space₁ records₁ space₂ records₂ space records b c f e k n h₁ h₂ t r s =
     let m = meant block o in
-    let a₁ = indexed-done block first o space₁ records₁ digest₁ index₁ b h₁ in
-    let a₂ = indexed-done block second o space₂ records₂ digest₂ index₂ b h₂ in
+    let a₁ = indexed-done l block first o space₁ records₁ digest₁ index₁ b h₁ in
+    let a₂ = indexed-done l block second o space₂ records₂ digest₂ index₂ b h₂ in
     let i : indexOf m (first ++ (line ++ (end ++ second))) ≡ index₁ ++ blankRecord m first (line ++ end) ∷ behindBlank m first (line ++ end) index₂ = rw (a₁ .index, a₂ .index) (index-boundary m first line end second c f e k) in
-    let l = length-append digest₁ (10 ∷ digest₂) in
+    let j = length-append digest₁ (10 ∷ digest₂) in
     let p = ap length i ∙ length-append index₁ (blankRecord m first (line ++ end) ∷ behindBlank m first (line ++ end) index₂) in
     let q = length-map index₂ (shifted (length first + length (line ++ end)) (length (linesOf (digest m first)) + 1)) in
-    done-indexed block (first ++ (line ++ (end ++ second))) o space records (digest₁ ++ 10 ∷ digest₂) b (measuring-boundary block first line end second o digest₁ digest₂ b c f e k (a₁ .is) (a₂ .is) n) (omega (arith, l, r)) (omega (arith, p, q, s))
+    done-indexed l block (first ++ (line ++ (end ++ second))) o space records (digest₁ ++ 10 ∷ digest₂) b (finding-boundary l joining block first line end second o digest₁ digest₂ b c f e k n (a₁ .is) (a₂ .is)) t (omega (arith, j, r)) (omega (arith, p, q, s))
     ∙ ap (done (digest₁ ++ 10 ∷ digest₂)) i

@@ -6,8 +6,13 @@ pub mod LineEnds
 pub mod Undamaged
 pub mod Gaps
 pub mod Indexed
+pub mod PieceStarts
+pub mod Windows
 pub mod Lent
 pub mod Mailed
+pub mod Numbers
+pub mod Mended
 pub mod Explained
 pub mod Demand3
 pub mod Unique
+mod Worked

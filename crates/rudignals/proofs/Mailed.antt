@@ -9,7 +9,8 @@ use borrow.Author.Tests.{le-ltb, le-leb}
 use Rattle.lists.specs.Runs.{joined}
 use Rattle.options.specs.Opts.{meant}
 use Rattle.pieces.specs.Pieces.{Piece, pieces}
-use Rattle.formatter.specs.Answers.{Answer, done, options, long, text, words, room, numbered, outputAfter}
+use Rattle.formatter.specs.Answers.{Answer, done, options, long, text, words, room, work, numbered, outputAfter}
+use Rattle.formatter.specs.Format.{Limits}
 use Rattle.unflow.specs.Unflow.{asLine, unflowed, done as read, unflow as reading}
 use Rattle.flow.specs.Flow.{mailed}
 use Rattle.flow.specs.Answers.{flow}
@@ -17,9 +18,9 @@ use Rattle.flow.specs.Theorems.ReadBack.{unquoted, cameBack}
 use Rattle.flow.proofs.Call.{ComesBack, what-the-call-wrote-comes-back}
 
 -- what `rudignals_flow` promises of its answer and its output
-pub record Mailed (block notes output : List ℕ) (r : ℕ) (output′ : List ℕ) : Type 0 where
-  pub number : r ≡ numbered (flow block notes (length output))
-  pub bytes : output′ ≡ outputAfter (flow block notes (length output)) output
+pub record Mailed (l : Limits) (block notes output : List ℕ) (r : ℕ) (output′ : List ℕ) : Type 0 where
+  pub number : r ≡ numbered (flow l block notes (length output))
+  pub bytes : output′ ≡ outputAfter (flow l block notes (length output)) output
 
 -- an answer below 2 ^ 32 tells that all was written: so many bytes
 written : (a : Answer) (output : List ℕ) (r : ℕ) → r ≡ numbered a → r < 2 ^ 32 → a ≡ done (take r (outputAfter a output))
@@ -32,12 +33,13 @@ written long output r e h = absurd (omega (arith, e, h))
 written (text place) output r e h = absurd (omega (arith, e, h))
 written (words place) output r e h = absurd (omega (arith, e, h))
 written (room needed) output r e h = absurd (omega (arith, e, h))
+written (work needed) output r e h = absurd (omega (arith, e, h))
 
-module _ (block notes output : List ℕ) (r : ℕ) (output′ : List ℕ) (m : Mailed block notes output r output′) (fine : r < 2 ^ 32) where
-  pub what-was-mailed-comes-back : ComesBack block notes (length output) (take r output′)
+module _ (l : Limits) (block notes output : List ℕ) (r : ℕ) (output′ : List ℕ) (m : Mailed l block notes output r output′) (fine : r < 2 ^ 32) where
+  pub what-was-mailed-comes-back : ComesBack l block notes (length output) (take r output′)
   what-was-mailed-comes-back =
-      what-the-call-wrote-comes-back block notes (length output) (take r output′)
-      (written (flow block notes (length output)) output r (m .number) fine ∙ ap (λ (l : List ℕ). done (take r l)) (sym (m .bytes)))
+      what-the-call-wrote-comes-back l block notes (length output) (take r output′)
+      (written (flow l block notes (length output)) output r (m .number) fine ∙ ap (λ (l : List ℕ). done (take r l)) (sym (m .bytes)))
 
   -- what the reader makes of it: a line for each piece, and one more for each line `--`
   abbrev pub readBack : List ℕ

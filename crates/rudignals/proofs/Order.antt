@@ -8,7 +8,7 @@ use native.Mathlib.Omega.{arith}
 use lib.Dec.{eqb}
 use lib.ListN.{replicate}
 use Rattle.lists.specs.Runs.{every}
-use Rattle.lists.specs.Theorems.All.{_∈_}
+use Rattle.lists.specs.Theorems.All.{All, _∈_}
 use Rattle.lists.proofs.All.{all-at, all-weaken}
 use Rattle.lists.proofs.Parts.{every-cons}
 use Rattle.text.specs.Theorems.Blanks.{Gap}
@@ -32,6 +32,11 @@ use Rattle.walk.specs.Digest.{formatted, outputOf, pieceOutput}
 pub among : {A : Type 0} (before : List A) (x : A) (after : List A) → x ∈ (before ++ x ∷ after)
 among [] x after = List·Memᴰ·head refl
 among (y ∷ before) x after = List·Memᴰ·tail (among before x after)
+
+-- what holds of each element of a list
+pub members-all : {A : Type 0} (P : A → Type 0) (xs : List A) → ((x : A) → x ∈ xs → P x) → All P xs
+members-all P [] f = tt
+members-all P (x ∷ xs) f = (f x (List·Memᴰ·head refl), members-all P xs (λ y m. f y (List·Memᴰ·tail m)))
 
 pub rows-of : (o : Opts) (notes : List ℕ) (q : Piece) (p : Paragraph) → q ∈ pieces o notes → q .kind ≡ paragraph p → Rows o (q .lines) p
 rows-of o notes q p m e = rw e at (all-at (OfPiece o) (pieces-rows o notes) m)

@@ -9,7 +9,8 @@
 --   pieces        is_header                                                                 an equation
 --   pieces        next_piece                                                                an equation, with bounds: `bounded-unique`
 --   records       get                                                                       records/proofs/Unique: `got-unique`
---   records       store                                                                     an equation for the table
+--   records       starts_line                                                               an equation
+--   records       store, mark                                                               an equation for the table
 --   words         split_words                                                               `words-unique`, by words/proofs/Unique (below)
 --   spacing       gap_width, added_space                                                    spacing/proofs/Unique: `gap-unique`, `added-unique`
 --   quick         quick_breaks                                                              `quick-unique`, by records/proofs/Unique: `marked-unique`
@@ -40,7 +41,7 @@
 --   checker       match_line, match_words                                                   checker/proofs/Unique: `matches-unique`
 --   judge         check, number_of                                                          an equation
 --   paragraphs    put_paragraph                                                             paragraphs/proofs/Unique: `step-unique`
---   paragraphs    setting_of                                                                an equation
+--   paragraphs    setting_of, room_for                                                      an equation
 --   paragraphs    mark_breaks                                                               an equation for the marks behind the first word's
 --   explain       explain                                                                   an equation
 --   explain       tell                                                                      an equation for the answer, one for the reason
@@ -58,13 +59,12 @@
 --
 -- What stays open is scratch that nobody reads afterwards: docs/PROMISES.md lists it.
 use mathlib.Core.Path.{_≡_, sym, ap, _∙_}
-use mathlib.Core.Bool.{Bool}
 use mathlib.Core.List.{List, []}
 use Prim.Native.Nat.{ℕ}
 use lib.ListN.{length, replicate, length-replicate}
 use Rattle.records.specs.Word.{Word}
 use Rattle.records.specs.Contracts.Table.{wordsIn}
-use Rattle.records.specs.Contracts.Marks.{Marked}
+use Rattle.records.specs.Contracts.Marks.{MarkedBy}
 use Rattle.records.proofs.Unique.{marked-unique}
 use Rattle.words.specs.Contracts.Split.{placesIn, Split}
 use Rattle.words.specs.declared.Count.{Count}
@@ -88,9 +88,9 @@ words-unique most notes ws ps t u r s a b =
     (count-unique most notes (ws []) ps t u r s (a []) (b []), λ n e. split-unique most notes (ws []) ps t u r s (a []) (b []) n e)
 
 -- every mark
-pub quick-unique : (g : Setting) (n : ℕ) (table : List ℕ) (marks a b : List Bool)
-    → ((notes : List ℕ) → Marked n marks (quickBreaks g (wordsIn notes n table)) a) → ((notes : List ℕ) → Marked n marks (quickBreaks g (wordsIn notes n table)) b) → a ≡ b
-quick-unique g n table marks a b h k = marked-unique n marks (quickBreaks g (wordsIn [] n table)) a b (h []) (k [])
+pub quick-unique : (g : Setting) (n : ℕ) (table a b : List ℕ)
+    → ((notes : List ℕ) → MarkedBy n table (quickBreaks g (wordsIn notes n table)) a) → ((notes : List ℕ) → MarkedBy n table (quickBreaks g (wordsIn notes n table)) b) → a ≡ b
+quick-unique g n table a b h k = marked-unique n table (quickBreaks g (wordsIn [] n table)) a b (h []) (k [])
 
 -- how many spaces
 pub spaces-unique : (x : List ℕ) (r s : ℕ) → replicate r 32 ≡ x → replicate s 32 ≡ x → r ≡ s

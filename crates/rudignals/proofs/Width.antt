@@ -15,7 +15,11 @@ use Rattle.lists.proofs.Joins.{append-inner}
 use Rattle.text.specs.Characters.{characters}
 use Rattle.text.proofs.Glyphs.{characters-past}
 use Rattle.text.specs.Theorems.Blanks.{Gap}
-use Rattle.options.specs.Opts.{Opts}
+use Rattle.options.specs.Opts.{Opts, meant}
+use Rattle.options.specs.OptionBlock.{readBlock}
+use Rattle.options.specs.declared.Options.{Options}
+use Rattle.options.specs.declared.Block.the-variants.{Accepted}
+use Rattle.options.proofs.Accepted.{accepted}
 use Rattle.lines.specs.Lines.{Line, noFeed}
 use Rattle.lines.specs.Classes.{columnsOf, classify}
 use Rattle.lines.specs.declared.Shape.{Shape}
@@ -38,9 +42,13 @@ use Rattle.output.specs.Theorems.Order.{laidOut}
 use Rattle.quick.specs.Quick.{quickFrom, quickBreaks}
 use Rattle.quick.proofs.Width.{reachedBy, goes}
 use Rattle.paragraphs.specs.Breaks.{settingOf}
-use Rattle.walk.specs.Digest.{formatted, outputOf, pieceOutput}
-use Rattle.rudignals.specs.Theorems.Width.{OutputLine, ended, wordsOn, KeepsToWidth, WithinWidth}
-use Rattle.rudignals.proofs.Order.{rows-of, space-separates}
+use Rattle.walk.specs.Digest.{formatted, outputOf, pieceOutput, digest}
+use Rattle.formatter.specs.Answers.{done}
+use Rattle.formatter.specs.Format.{Limits, limited, answer, writing}
+use Rattle.formatter.proofs.Together.{together-they-do-what-the-old-call-did}
+use Rattle.formatter.proofs.Answers.{measured-done, written-measured}
+use Rattle.rudignals.specs.Theorems.Width.{OutputLine, ended, wordsOn, KeepsToWidth, WithinWidth, PieceKeeps, KeptToWidth}
+use Rattle.rudignals.proofs.Order.{members-all, rows-of, space-separates}
 
 -- ---- what stands before a word on its line
 
@@ -289,3 +297,28 @@ quick-keeps-to-the-width o notes q p h quick m e n =
     both : (ws : List Word) → All (Counted o) ws → All (Whole (o .glue) (o .uniform)) ws → All (λ w. Counted o w × Whole (o .glue) (o .uniform) w) ws
     both [] a b = tt
     both (w ∷ ws) a b = ((a .0, b .0), both ws (a .1) (b .1))
+
+-- ---- the call
+
+-- What a call has written under an accepted option block with quick on keeps to the width, whatever the limits. Nothing else is assumed.
+pub what-is-written-keeps-to-the-width : (l : Limits) (block notes : List ℕ) (o : Options) (space : ℕ) (bytes : List ℕ)
+    → readBlock block ≡ Accepted o
+    → o .quick ≡ true
+    → writing l block notes space ≡ done bytes
+    → KeptToWidth (meant block o) notes bytes
+unfolding digest meant
+what-is-written-keeps-to-the-width l block notes o space bytes b quick h =
+    let m = meant block o in
+    record {
+      are = measured-done l block notes o bytes b (written-measured l block notes space bytes h .0) .bytes-are;
+      each = members-all (PieceKeeps m) (pieces m notes) (λ q i p e n. quick-keeps-to-the-width m notes q p (accepted block o b .tabLeast) quick i e n);
+    }
+
+-- (The call that measures and writes in one is document 01's, with limits such as its own.)
+pub what-is-done-keeps-to-the-width : (most words : ℕ) (block notes : List ℕ) (o : Options) (space : ℕ) (bytes : List ℕ)
+    → readBlock block ≡ Accepted o
+    → o .quick ≡ true
+    → answer (limited most words) block notes space ≡ done bytes
+    → KeptToWidth (meant block o) notes bytes
+what-is-done-keeps-to-the-width most words block notes o space bytes b quick h =
+    what-is-written-keeps-to-the-width (limited most words) block notes o space bytes b quick (together-they-do-what-the-old-call-did most words block notes space ∙ h)

@@ -4,3 +4,4 @@ pub mod MarkedTexts
 pub mod Indexes
 pub mod Reasons
 pub mod Checked
+pub mod Lent

@@ -1,5 +1,6 @@
 // The call of P6: why an output line ends where it does. The work is in the crate explain.
 ghost use mathlib.Core.Path.{_≡_};
+ghost use Rattle.formatter.specs.Format.{document01};
 ghost use Rattle.explain.specs.Explain.{explaining, explainedNumber, reasonAfter};
 
 // The answer's number, and the kind and its numbers as the answer leaves them: on a refusal they are unchanged.
@@ -10,7 +11,7 @@ pub extern "C" fn rudignals_explain(
     line: u64,
     reason: &mut [u64; 6],
 ) -> u64
-    ensures { λ r. ⌜ (r ≡ explainedNumber (explaining (now (options .entry)) (now (notes .entry)) line)) × (now (reason .exit) ≡ reasonAfter (explaining (now (options .entry)) (now (notes .entry)) line) (now (reason .entry))) ⌝ }
+    ensures { λ r. ⌜ (r ≡ explainedNumber (explaining document01 (now (options .entry)) (now (notes .entry)) line)) × (now (reason .exit) ≡ reasonAfter (explaining document01 (now (options .entry)) (now (notes .entry)) line) (now (reason .entry))) ⌝ }
 {
     explain::tell(explain::explain(options, notes, line), reason)
 }

@@ -4,6 +4,7 @@
 ghost use mathlib.Core.Path.{_≡_};
 ghost use lib.ListN.{length};
 ghost use Rattle.index.specs.Lookup.{lookup, answered, partAfter};
+ghost use Rattle.formatter.specs.Format.{document01};
 ghost use Rattle.indexer.specs.Answers.{numbered, outputAfter, recordsAfter, filledAfter};
 ghost use Rattle.indexer.specs.Indexing.{indexing};
 use index::Record;
@@ -18,7 +19,7 @@ pub extern "C" fn rudignals_write_indexed(
     index: &mut [Record],
     filled: &mut u64,
 ) -> u64
-    ensures { λ r. ⌜ (r ≡ numbered (indexing (now (options .entry)) (now (notes .entry)) (length (now (output .entry))) (length (now (index .entry))))) × (now (output .exit) ≡ outputAfter (indexing (now (options .entry)) (now (notes .entry)) (length (now (output .entry))) (length (now (index .entry)))) (now (output .entry))) × (now (index .exit) ≡ recordsAfter (indexing (now (options .entry)) (now (notes .entry)) (length (now (output .entry))) (length (now (index .entry)))) (now (index .entry))) × (now (filled .exit) ≡ filledAfter (indexing (now (options .entry)) (now (notes .entry)) (length (now (output .entry))) (length (now (index .entry))))) ⌝ }
+    ensures { λ r. ⌜ (r ≡ numbered (indexing document01 (now (options .entry)) (now (notes .entry)) (length (now (output .entry))) (length (now (index .entry))))) × (now (output .exit) ≡ outputAfter (indexing document01 (now (options .entry)) (now (notes .entry)) (length (now (output .entry))) (length (now (index .entry)))) (now (output .entry))) × (now (index .exit) ≡ recordsAfter (indexing document01 (now (options .entry)) (now (notes .entry)) (length (now (output .entry))) (length (now (index .entry)))) (now (index .entry))) × (now (filled .exit) ≡ filledAfter (indexing document01 (now (options .entry)) (now (notes .entry)) (length (now (output .entry))) (length (now (index .entry))))) ⌝ }
 {
     let mut marks = [0u32; 4096];
     let t = indexer::write_marked(options, notes, output, index.len(), filled, &mut marks);

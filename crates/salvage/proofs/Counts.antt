@@ -178,6 +178,12 @@ pub notes-first : (notes : List ℕ) → NotesLeft notes 0 0
 unfolding changes
 notes-first notes = record { within = omega arith; few = omega arith; count = zero-add _; mended = omega arith }
 
+pub high-few : (at : ℕ) (bs : List ℕ) → length (highBytes at bs) ≤ length bs
+high-few at [] = rw (high-nil at) (omega arith)
+high-few at (b ∷ bs) =
+    let e = high-few (at + 1) bs in
+    low-or-high b (λ h. rw (high-low at b bs h) (omega arith)) (λ h. rw (high-high at b bs h) (omega arith))
+
 pub notes-more : (notes : List ℕ) (n at end r : ℕ) → NotesLeft notes n at → LineAt notes at end → LineCounted (take (end - at) (drop at notes)) r → NotesLeft notes (n + r) end
 notes-more notes n at end r p l q =
     let line = take (end - at) (drop at notes) in
@@ -192,12 +198,6 @@ notes-more notes n at end r p l q =
       mended = omega (arith, p .mended, q .mended, l .on);
     }
   where
-    high-few : (at : ℕ) (bs : List ℕ) → length (highBytes at bs) ≤ length bs
-    high-few at [] = rw (high-nil at) (omega arith)
-    high-few at (b ∷ bs) =
-        let e = high-few (at + 1) bs in
-        low-or-high b (λ h. rw (high-low at b bs h) (omega arith)) (λ h. rw (high-high at b bs h) (omega arith))
-
     few : (line : List ℕ) (r : ℕ) → LineCounted line r → r ≤ length line
     few line r q =
         formed-or-not line

@@ -36,8 +36,7 @@ module _ (notes : List ℕ) (space entries : ℕ) (copy : List ℕ) (list : List
   pub every-line-is-well-formed : All (λ line. wellFormed line ≡ true) (linesOf copy)
   every-line-is-well-formed = let m = mend-means notes space entries copy list mends in rw (m .copy-is) (lines-formed notes bytes)
 
-  -- .. and so is the copy as a whole, read from its front. Once formatting accepts all of Unicode (P4), code 3 means that no character
-  -- of RFC 3629 begins at its place; then no mended copy gives it.
+  -- .. and so is the copy as a whole, read from its front. So formatting it never gives code 3: `rudignals/proofs/Mended`.
   pub the-copy-is-well-formed : wellFormed copy ≡ true
   the-copy-is-well-formed = let m = mend-means notes space entries copy list mends in rw (m .copy-is) (text-formed notes bytes)
 

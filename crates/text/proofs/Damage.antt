@@ -1,7 +1,7 @@
--- The damaged place of a text, from any place that it is read from; and what it says of the text's glyphs.
+-- The damaged place of a text, from any place that it is read from, and of two texts end to end; and what it says of the text's glyphs.
 use mathlib.Core.Path.{_≡_, refl, sym, ap, _∙_}
 use mathlib.Core.Bool.{Bool, true, false, cond}
-use mathlib.Core.List.{List, [], _∷_}
+use mathlib.Core.List.{List, [], _∷_, _++_}
 use Prim.Native.Nat.{ℕ, _+_, _-_, _≤_, _<_}
 use native.Mathlib.Omega.{arith}
 use lib.ListN.{length, drop, length-drop}
@@ -69,6 +69,39 @@ module _ (s : List ℕ) (at : ℕ) where
         e,
         ← damage-characters (drop next s),
       )
+
+-- ---- two texts end to end
+
+-- the first's place, or else the second's, counted from the first's front
+abbrev pub orLater : ℕ → Found → Found → Found
+orLater n (At place) f = At place
+orLater n Nowhere f = later n f
+
+damage-both : (gs hs : List Glyph) → damageOf (gs ++ hs) ≡ orLater (extent gs) (damageOf gs) (damageOf hs)
+unfolding extent
+damage-both [] hs = rw none-damaged (sym (later-zero (damageOf hs)))
+damage-both (g ∷ gs) hs = go (g .damaged) refl (damage-both gs hs)
+  where
+    moved : (f : Found) → later (length (g .bytes)) (orLater (extent gs) f (damageOf hs)) ≡ orLater (length (g .bytes) + extent gs) (later (length (g .bytes)) f) (damageOf hs)
+    moved (At place) = refl
+    moved Nowhere = later-later (length (g .bytes)) (extent gs) (damageOf hs)
+
+    go : (t : Bool) → g .damaged ≡ t → damageOf (gs ++ hs) ≡ orLater (extent gs) (damageOf gs) (damageOf hs)
+        → damageOf (g ∷ gs ++ hs) ≡ orLater (length (g .bytes) + extent gs) (damageOf (g ∷ gs)) (damageOf hs)
+    go true e ih = rw (first-damaged g (gs ++ hs) e, first-damaged g gs e)
+    go false e ih = rw (first-good g (gs ++ hs) e, first-good g gs e, ih) (moved (damageOf gs))
+
+characters-extent : (xs : List ℕ) → extent (characters xs) ≡ length xs
+unfolding extent
+characters-extent = characters-induct (λ ys gs. extent gs ≡ length ys) refl (λ ys b e. let d = length-drop (b .n) ys in let n = b .within in let c = b .count in omega arith)
+
+-- where the first text's last character ends with it
+pub damage-parts : (a b : List ℕ) → characters (a ++ b) ≡ characters a ++ characters b → damage (a ++ b) ≡ orLater (length a) (damage a) (damage b)
+damage-parts a b e =
+    rw (damage-characters (a ++ b), e, damage-characters a, damage-characters b, ← characters-extent a)
+    (damage-both (characters a) (characters b))
+
+-- ---- what it says of the glyphs
 
 -- no damaged place: every glyph is good, with glue and without
 pub damage-none : (glue : Bool) (xs : List ℕ) → damage xs ≡ Nowhere → every isGood (glyphs glue xs) ≡ true

@@ -131,7 +131,7 @@ module _ (o : Opts) (notes : List ℕ) (at : ℕ) (p : ParagraphAt) (q : Paragra
       let n = length-slice at (p .next) notes (within .within) in
       rw (t .rows .rows) (omega arith)
 
-  words-few : length (wordsOf o q) ≤ p .next - at
+  pub words-few : length (wordsOf o q) ≤ p .next - at
   words-few =
       let w = paragraph-whole o (linesOf (slice at (p .next) notes)) q (t .rows) in
       omega (arith, words-bulk, words-bytes (o .glue) (o .uniform || q .mail) (wordsOf o q) w)

@@ -1,4 +1,5 @@
 pub mod Extents
+pub mod Starts
 pub mod Standing
 pub mod Rows
 pub mod Meaning

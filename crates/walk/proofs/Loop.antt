@@ -16,7 +16,7 @@ use Rattle.lines.proofs.Lines.{lines-past}
 use Rattle.pieces.specs.Pieces.{Kind, nextPiece, pieces}
 use Rattle.pieces.specs.declared.Paragraph.{Paragraph}
 use Rattle.output.proofs.Sink.{length-written, wrote-nil, left-first, left-then, left-last}
-use Rattle.walk.specs.Digest.{outputOf, pieceOutput, digest, tooMany, longParagraph}
+use Rattle.walk.specs.Digest.{mostWords, outputOf, pieceOutput, digest, tooMany, longParagraph}
 use Rattle.walk.specs.Contracts.Course.{piecesFrom, outputFrom, longFrom, FirstPiece, Put, TooLong, CursorIn, Going, start, FinishedFrom, Finished, Reached, Coursed, Begun}
 use Rattle.paragraphs.specs.declared.Cursor.{Cursor}
 use Rattle.walk.specs.declared.Ahead.{Ahead}
@@ -33,7 +33,7 @@ module _ (o : Opts) where
   unfolding outputFrom piecesFrom digest pieces
   all-output notes = refl
 
-  pub all-long : (notes : List ℕ) → longFrom o true notes 0 ≡ longParagraph o 0 (pieces o notes)
+  pub all-long : (notes : List ℕ) → longFrom o true notes 0 ≡ longParagraph mostWords o 0 (pieces o notes)
   unfolding longFrom piecesFrom pieces
   all-long notes = refl
 
@@ -51,24 +51,24 @@ module _ (o : Opts) where
 
   pub long-none : (nextMail : Bool) (notes : List ℕ) (at : ℕ) → length notes ≤ at → longFrom o nextMail notes at ≡ Nowhere
   unfolding longFrom longParagraph
-  long-none nextMail notes at h = ap (longParagraph o at) (none-left nextMail notes at h)
+  long-none nextMail notes at h = ap (longParagraph mostWords o at) (none-left nextMail notes at h)
 
   module _ {nextMail : Bool} {notes : List ℕ} {at : ℕ} {kind : Kind} {state : Bool} {next : ℕ} (g : FirstPiece o nextMail notes at kind state next) where
     pub output-more : outputFrom o nextMail notes at ≡ outputOf o kind ++ outputFrom o state notes next
     unfolding outputFrom
     output-more = ap (joined (pieceOutput o)) (g .pieces) ∙ joined-cons (pieceOutput o) (g .piece) (piecesFrom o state notes next) ∙ ap (λ (k : Kind). outputOf o k ++ outputFrom o state notes next) (g .is)
 
-    long-as : (t : Bool) → tooMany o kind ≡ t → longFrom o nextMail notes at ≡ elim t as (λ x. Found) [ true ↦ At at | false ↦ longFrom o state notes next ]
+    long-as : (t : Bool) → tooMany mostWords o kind ≡ t → longFrom o nextMail notes at ≡ elim t as (λ x. Found) [ true ↦ At at | false ↦ longFrom o state notes next ]
     unfolding longFrom longParagraph
     long-as t e =
-        ap (longParagraph o at) (g .pieces)
-        ∙ ap (λ (n : ℕ). elim (tooMany o (g .piece .kind)) as (λ x. Found) [ true ↦ At at | false ↦ longParagraph o n (piecesFrom o state notes next) ]) (g .extent)
-        ∙ ap (λ (b : Bool). elim b as (λ x. Found) [ true ↦ At at | false ↦ longFrom o state notes next ]) (ap (tooMany o) (g .is) ∙ e)
+        ap (longParagraph mostWords o at) (g .pieces)
+        ∙ ap (λ (n : ℕ). elim (tooMany mostWords o (g .piece .kind)) as (λ x. Found) [ true ↦ At at | false ↦ longParagraph mostWords o n (piecesFrom o state notes next) ]) (g .extent)
+        ∙ ap (λ (b : Bool). elim b as (λ x. Found) [ true ↦ At at | false ↦ longFrom o state notes next ]) (ap (tooMany mostWords o) (g .is) ∙ e)
 
-    pub long-more : tooMany o kind ≡ false → longFrom o nextMail notes at ≡ longFrom o state notes next
+    pub long-more : tooMany mostWords o kind ≡ false → longFrom o nextMail notes at ≡ longFrom o state notes next
     long-more e = long-as false e
 
-    pub long-here : tooMany o kind ≡ true → longFrom o nextMail notes at ≡ At at
+    pub long-here : tooMany mostWords o kind ≡ true → longFrom o nextMail notes at ≡ At at
     long-here e = long-as true e
 
 -- ---- the work from a place on
@@ -126,16 +126,16 @@ module _ (block : List ℕ) (o : Options) (notes out₀ out : List ℕ) (c₀ : 
   pub reached-end : {n : ℕ} → r ≡ End n → Reached block o notes c₀ out₀ out (End n)
   reached-end e = rw e at s
 
--- by how far the tables reached
-module _ (w b : ℕ) (block : List ℕ) (o : Options) (notes out₀ out : List ℕ) (c₀ : Cursor) (r : Course) (s : Coursed w b block o notes c₀ out₀ out r) where
+-- by how far the room reached
+module _ (room : ℕ) (block : List ℕ) (o : Options) (notes out₀ out : List ℕ) (c₀ : Cursor) (r : Course) (s : Coursed room block o notes c₀ out₀ out r) where
   pub course-end : {n : ℕ} → r ≡ CourseEnd n → FinishedFrom (meant block o) notes c₀ out₀ out (All n)
   course-end e = rw e at s
 
-  pub course-short : {c : Cursor} {p : Paragraph} → r ≡ Short c p → Coursed w b block o notes c₀ out₀ out (Short c p)
+  pub course-short : {c : Cursor} {p : Paragraph} → r ≡ Short c p → Coursed room block o notes c₀ out₀ out (Short c p)
   course-short e = rw e at s
 
-module _ (w b : ℕ) (block : List ℕ) (o : Options) (notes out₀ out : List ℕ) (c₀ : Cursor) where
-  pub course-begun : (r : Course) → Coursed w b block o notes c₀ out₀ out r → Begun block o notes c₀ out₀ out r
+module _ (room : ℕ) (block : List ℕ) (o : Options) (notes out₀ out : List ℕ) (c₀ : Cursor) where
+  pub course-begun : (r : Course) → Coursed room block o notes c₀ out₀ out r → Begun block o notes c₀ out₀ out r
   course-begun (CourseEnd n) s = s
   course-begun (Short c p) s = (s .0, s .1)
 

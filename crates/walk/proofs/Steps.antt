@@ -1,6 +1,6 @@
 -- What a piece's writers have done, as the definition says it of the piece; and what they could ask.
 use mathlib.Core.Path.{_≡_, refl, sym, ap, _∙_}
-use mathlib.Core.Bool.{Bool, true, false, cond, _||_}
+use mathlib.Core.Bool.{Bool, true, false, _||_}
 use mathlib.Core.List.{List, [], _++_}
 use Prim.Native.Nat.{ℕ, _+_, _-_, _≤_, _<_}
 use native.Mathlib.Omega.{arith}
@@ -11,7 +11,7 @@ use Rattle.lists.proofs.Slices.{slice-is}
 use Rattle.options.specs.Opts.{Opts, meant}
 use Rattle.options.specs.declared.Options.{Options}
 use Rattle.options.proofs.Accepted.{Kept, accepted}
-use Rattle.lines.specs.Contracts.Places.{Usable}
+use Rattle.lines.specs.Contracts.Places.{mostLarge, Usable}
 use Rattle.lines.proofs.Usable.{usable}
 use Rattle.pieces.specs.Pieces.{Paragraph, blankLine, plainLine, paragraph}
 use Rattle.pieces.specs.Contracts.Places.{Cleared, pieceAt}
@@ -29,7 +29,7 @@ use Rattle.output.specs.Contracts.Sink.{Wrote}
 use Rattle.output.specs.Contracts.Writers.{marginOf, MarginIn}
 use Rattle.paragraphs.specs.Breaks.{breaksBy}
 use Rattle.walk.specs.Digest.{formatted, mostWords, outputOf}
-use Rattle.paragraphs.specs.Contracts.Steps.{settingFor, wordsFor, Placed, TextPut, TextStepped}
+use Rattle.paragraphs.specs.Contracts.Steps.{roomFor, settingFor, wordsFor, Placed, TextPut, TextStepped}
 use Rattle.walk.specs.Contracts.Course.{FirstPiece, Put, TooLong, Admitted, TextAhead, Going, FinishedFrom}
 use Rattle.paragraphs.specs.declared.Cursor.{Cursor}
 use Rattle.walk.specs.declared.Ended.the-variants.{Stopped}
@@ -37,13 +37,13 @@ use Rattle.paragraphs.specs.declared.Step.{Step}
 use Rattle.paragraphs.specs.declared.Step.the-variants.{On, Over}
 use Rattle.walk.proofs.Rows.{text-words}
 use Rattle.walk.proofs.Meaning.{TextGoes, PieceGoes, piece-goes}
-use Rattle.walk.proofs.Bound.{text-most}
+use Rattle.walk.proofs.Bound.{words-few, text-most}
 use Rattle.walk.proofs.Loop.{going-over}
 
 -- ---- what the block's options allow
 
 -- in notes that are not too long, under options that a block can give
-module _ (block notes : List ℕ) (o : Options) (kept : Kept block o) (short : length notes ≤ 65536) (nextMail : Bool) (at : ℕ) where
+module _ (block notes : List ℕ) (o : Options) (kept : Kept block o) (short : length notes ≤ mostLarge) (nextMail : Bool) (at : ℕ) where
   -- the piece that the code found at a place, with the bounds promised of it
   pub piece-found : (r s : PieceAt) → at < length notes → (r ≡ pieceAt (meant block o) nextMail notes at) × Bounded (o .glue) notes at r → r ≡ s → PieceGoes (meant block o) nextMail notes at s
   unfolding meant
@@ -69,6 +69,7 @@ module _ (block notes : List ℕ) (o : Options) (kept : Kept block o) (short : l
           begins = bounds .begins;
           block = block;
           some = rw (text-words (meant block o) notes at p q text) at s;
+          few = omega (arith, words-few (meant block o) notes at p q text bounds, ap length (text-words (meant block o) notes at p q text), bounds .within);
           first = margin-in (p .first) f;
           indent = margin-in (p .indent) i;
           firstSmall = omega (arith, f .columns);
@@ -131,14 +132,14 @@ module _ (block notes : List ℕ) (o : Options) (ready : Admitted block notes o)
   words-count : length (wordsOf (meant block o) q) ≡ length (wordsFor block notes at o p)
   words-count = ap length words-are
 
-  text-put : (out : List ℕ) (c d : Cursor) (out′ : List ℕ) → c .at ≡ at → c .mail ≡ nextMail → TextPut notes at o p out (c .written) out′ d block → Put (meant block o) notes out c d out′
+  text-put : (out : List ℕ) (c d : Cursor) (out′ : List ℕ) → c .at ≡ at → c .mail ≡ nextMail → length (wordsFor block notes at o p) ≤ mostWords → TextPut notes at o p out (c .written) out′ d block → Put (meant block o) notes out c d out′
   unfolding outputOf
-  text-put out c d out′ a m w = record {
+  text-put out c d out′ a m f w = record {
     kind = paragraph q;
     goes = rw (a, m, w .next, w .mail) (goes);
-    few = rw words-count (le-ltb mostWords (length (wordsFor block notes at o p)) (w .few));
+    few = rw words-count (le-ltb mostWords (length (wordsFor block notes at o p)) f);
     wrote = rw formatted-is (w .wrote);
-    bounded = rw (a, w .next) (omega (arith, w .bounded, most-is, text-most (meant block o) notes at p q text bounds (omega (arith, words-count, w .few))));
+    bounded = rw (a, w .next) (omega (arith, w .bounded, most-is, text-most (meant block o) notes at p q text bounds (omega (arith, words-count, f))));
   }
 
   text-long : (out : List ℕ) (c : Cursor) → c .at ≡ at → c .mail ≡ nextMail → mostWords < length (wordsFor block notes at o p) → TooLong (meant block o) notes out c out
@@ -158,11 +159,11 @@ module _ (block notes : List ℕ) (o : Options) (c : Cursor) (p : ParagraphAt) (
   pub begins-placed : Placed notes (c .at) o p
   begins-placed = let g = begins-goes in text-found block notes o (ready-kept block notes o ready) (ready .short) (c .mail) (c .at) p (g .paragraph-is) (g .text) (g .bounds)
 
-  pub begins-stepped : (longest : ℕ) (out out′ : List ℕ) (r : Step) (d : Cursor) → TextStepped longest notes (c .at) o p out (c .written) out′ r block → r ≡ On d → Put (meant block o) notes out c d out′
-  begins-stepped longest out out′ r d w e =
+  pub begins-stepped : (longest : ℕ) (out out′ : List ℕ) (r : Step) (d : Cursor) → longest ≤ mostWords → TextStepped longest notes (c .at) o p out (c .written) out′ r block → r ≡ On d → Put (meant block o) notes out c d out′
+  begins-stepped longest out out′ r d few w e =
       let g = begins-goes in
       let v : TextStepped longest notes (c .at) o p out (c .written) out′ (On d) block = rw e at w in
-      text-put block notes o ready (c .mail) (c .at) p (g .paragraph-is) (g .goes) (g .text) (g .bounds) out c d out′ refl refl (v .1)
+      text-put block notes o ready (c .mail) (c .at) p (g .paragraph-is) (g .goes) (g .text) (g .bounds) out c d out′ refl refl (omega (arith, v .0, few)) (v .1)
 
   pub begins-over : (longest : ℕ) (out out′ : List ℕ) (r : Step) → TextStepped longest notes (c .at) o p out (c .written) out′ r block → r ≡ Over → (longest < length (wordsFor block notes (c .at) o p)) × (out′ ≡ out)
   begins-over longest out out′ r w e = rw e at w
@@ -173,17 +174,21 @@ module _ (block notes : List ℕ) (o : Options) (c : Cursor) (p : ParagraphAt) (
       let g = begins-goes in
       going-over (meant block o) notes going (text-long block notes o ready (c .mail) (c .at) p (g .paragraph-is) (g .goes) (g .text) (g .bounds) out c refl refl h)
 
--- ---- the last tables
+-- ---- the rooms
 
--- at last there is room for 1,024 words either way, and with quick there need be none for breaks
-room-last : (f : Bool) (a b : ℕ) {n : ℕ} → a ≡ 1024 → b ≡ 1024 → cond f a b < n → 1024 < n
-room-last true a b p q h = omega (arith, p, h)
-room-last false a b p q h = omega (arith, q, h)
+-- none of them is for more words than a paragraph may have
+pub room-few : (quick : Bool) (size k : ℕ) → size ≡ k → (quick ≡ true → k ≤ 7168) → (quick ≡ false → k ≤ 15360) → roomFor quick size ≤ mostWords
+unfolding roomFor
+room-few true size k e a b = let h = a refl in omega arith
+room-few false size k e a b = let h = b refl in omega arith
 
-pub room-quick : (q m : Bool) (a b : ℕ) {n : ℕ} → q ≡ true → a ≡ 1024 → cond (q || m) a b < n → 1024 < n
-room-quick true m a b e p h = omega (arith, p, h)
-room-quick false m a b e p h = absurd (let z : _≡_ {A = ℕ} 0 1 = cc in omega arith)
+-- and the last ones are for as many
+pub room-last : (quick : Bool) (size n k : ℕ) → size ≡ k → roomFor quick size < n → (quick ≡ true → 7168 ≤ k) → (quick ≡ false → 15360 ≤ k) → mostWords < n
+unfolding roomFor
+room-last true size n k e h a b = let l = a refl in omega arith
+room-last false size n k e h a b = let l = b refl in omega arith
 
-pub begins-last : (block notes : List ℕ) (o : Options) (c : Cursor) (p : ParagraphAt) → Admitted block notes o → TextAhead block o notes c p → (c₀ : Cursor) (out₀ out : List ℕ) → Going (meant block o) notes c₀ out₀ c out
-    → (a b : ℕ) → a ≡ 1024 → b ≡ 1024 → cond (o .quick || p .mail) a b < length (wordsFor block notes (c .at) o p) → FinishedFrom (meant block o) notes c₀ out₀ out (Stopped (c .at))
-begins-last block notes o c p ready here c₀ out₀ out going a b e f h = begins-long block notes o c p ready here c₀ out₀ out going (room-last (o .quick || p .mail) a b e f h)
+pub room-full : (quick : Bool) (size : ℕ) → (quick ≡ true → size ≡ 7168) → (quick ≡ false → size ≡ 15360) → roomFor quick size ≡ mostWords
+unfolding roomFor
+room-full true size a b = let k = a refl in omega arith
+room-full false size a b = let k = b refl in omega arith

@@ -33,7 +33,7 @@ pieceOutput o piece = outputOf o (piece .kind)
 unfoldable pub digest : Opts → List ℕ → List ℕ
 digest o notes = joined (pieceOutput o) (pieces o notes)
 
--- ---- a paragraph of over 1,024 words
+-- ---- a paragraph of over so many words: in document 01 over 1,024
 
 -- the bytes of the notes that a piece takes
 unfoldable pub extentOf : Piece → List ℕ
@@ -42,12 +42,12 @@ extentOf piece = joined (λ (l : Line). l .raw) (piece .lines)
 abbrev pub mostWords : ℕ
 mostWords = 1024
 
-abbrev pub tooMany : Opts → Kind → Bool
-tooMany o blankLine = false
-tooMany o (plainLine line) = false
-tooMany o (paragraph p) = ltb mostWords (length (wordsOf o p))
+abbrev pub tooMany : ℕ → Opts → Kind → Bool
+tooMany most o blankLine = false
+tooMany most o (plainLine line) = false
+tooMany most o (paragraph p) = ltb most (length (wordsOf o p))
 
 -- the start of the first such paragraph's first line
-unfoldable pub longParagraph : Opts → ℕ → List Piece → Found
-longParagraph o place [] = Nowhere
-longParagraph o place (q ∷ qs) = elim (tooMany o (q .kind)) [ true ↦ At place | false ↦ longParagraph o (place + length (extentOf q)) qs ]
+unfoldable pub longParagraph : ℕ → Opts → ℕ → List Piece → Found
+longParagraph most o place [] = Nowhere
+longParagraph most o place (q ∷ qs) = elim (tooMany most o (q .kind)) [ true ↦ At place | false ↦ longParagraph most o (place + length (extentOf q)) qs ]

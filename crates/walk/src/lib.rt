@@ -5,10 +5,12 @@ use paragraphs::Step;
 use pieces::Paragraph;
 use pieces::Piece;
 ghost use mathlib.Core.Path.{_≡_};
-ghost use mathlib.Core.Bool.{true};
+ghost use mathlib.Core.Bool.{true, false};
+ghost use Prim.Native.Nat.{_≤_};
 ghost use lib.ListN.{length, replicate};
 ghost use Rattle.options.specs.Opts.{meant};
-ghost use Rattle.paragraphs.specs.Contracts.Steps.{Scratch};
+ghost use Rattle.paragraphs.specs.Contracts.Steps.{roomFor};
+ghost use Rattle.walk.specs.Digest.{mostWords};
 ghost use Rattle.walk.specs.Contracts.Course.{CursorIn, TextAhead, Reached, Admitted, Coursed, Begun, start, Finished, FinishedFrom};
 
 // What follows the lines behind a place: a paragraph, where the cursor stands, or the end of the notes.
@@ -91,7 +93,20 @@ fn put_lines(o: Options, block: &[u8], notes: &[u8], from: Cursor, out: &mut [u8
     Ahead::End(c.written)
 }
 
-// Writes everything from the first paragraph on. All working storage is declared in the functions that follow, each for longer paragraphs
+// The rooms, in numbers. With quick a word takes seven, with Knuth-Plass fifteen: 48, 512 and 1,024 words, and 40, 196 and 1,024.
+const QUICK_FEW: usize = 336;
+
+const QUICK_MORE: usize = 3584;
+
+const QUICK_MOST: usize = 7168;
+
+const BEST_FEW: usize = 600;
+
+const BEST_MORE: usize = 2940;
+
+const BEST_MOST: usize = 15360;
+
+// Writes everything from the first paragraph on. All working room is declared in the functions that follow, each for longer paragraphs
 // than the one before it, and lent from there on: a call has no more of it cleared than its paragraphs ask for, and notes without a
 // paragraph do without.
 fn put_from(
@@ -111,7 +126,7 @@ fn put_from(
     put_best(o, block, notes, c, p, out)
 }
 
-// Quick, for the words of a few lines. It needs none of Knuth-Plass's storage.
+// Quick, for the words of a few lines.
 fn put_quick(
     o: Options,
     block: &[u8],
@@ -123,24 +138,8 @@ fn put_quick(
     requires { ⌜ Admitted (now block) (now notes) o × CursorIn (now notes) c × TextAhead (now block) o (now notes) c p × (o .quick ≡ true) ⌝ }
     ensures { λ r. ⌜ FinishedFrom (meant (now (block .entry)) o) (now (notes .entry)) c (now (out .entry)) (now (out .exit)) r ⌝ }
 {
-    let mut table = [0u32; 336];
-    let mut marks = [false; 48];
-    let mut breaks = [0u32; 8];
-    let mut ratios = [0f32; 1];
-    let mut active = [0u32; 1];
-    match put_texts(
-        o,
-        block,
-        notes,
-        c,
-        p,
-        out,
-        &mut table,
-        &mut breaks,
-        &mut ratios,
-        &mut active,
-        &mut marks,
-    ) {
+    let mut work = [0u32; QUICK_FEW];
+    match put_texts(o, block, notes, c, p, out, &mut work) {
         Course::End(needed) => Ended::All(needed),
         Course::Short { c: d, p: q } => put_quick_longer(o, block, notes, d, q, out),
     }
@@ -179,24 +178,8 @@ fn put_quick_more(
     if c.at + 1024 < p.next {
         return Course::Short { c, p };
     }
-    let mut table = [0u32; 3584];
-    let mut marks = [false; 512];
-    let mut breaks = [0u32; 8];
-    let mut ratios = [0f32; 1];
-    let mut active = [0u32; 1];
-    put_texts(
-        o,
-        block,
-        notes,
-        c,
-        p,
-        out,
-        &mut table,
-        &mut breaks,
-        &mut ratios,
-        &mut active,
-        &mut marks,
-    )
+    let mut work = [0u32; QUICK_MORE];
+    put_texts(o, block, notes, c, p, out, &mut work)
 }
 
 // For the most words that a paragraph may have.
@@ -211,24 +194,8 @@ fn put_quick_long(
     requires { ⌜ Admitted (now block) (now notes) o × CursorIn (now notes) c × TextAhead (now block) o (now notes) c p × (o .quick ≡ true) ⌝ }
     ensures { λ r. ⌜ FinishedFrom (meant (now (block .entry)) o) (now (notes .entry)) c (now (out .entry)) (now (out .exit)) r ⌝ }
 {
-    let mut table = [0u32; 7168];
-    let mut marks = [false; 1024];
-    let mut breaks = [0u32; 8];
-    let mut ratios = [0f32; 1];
-    let mut active = [0u32; 1];
-    match put_texts(
-        o,
-        block,
-        notes,
-        c,
-        p,
-        out,
-        &mut table,
-        &mut breaks,
-        &mut ratios,
-        &mut active,
-        &mut marks,
-    ) {
+    let mut work = [0u32; QUICK_MOST];
+    match put_texts(o, block, notes, c, p, out, &mut work) {
         Course::End(needed) => Ended::All(needed),
         Course::Short { c: d, p: _ } => Ended::Stopped(d.at),
     }
@@ -243,27 +210,11 @@ fn put_best(
     p: Paragraph,
     out: &mut [u8],
 ) -> Ended
-    requires { ⌜ Admitted (now block) (now notes) o × CursorIn (now notes) c × TextAhead (now block) o (now notes) c p ⌝ }
+    requires { ⌜ Admitted (now block) (now notes) o × CursorIn (now notes) c × TextAhead (now block) o (now notes) c p × (o .quick ≡ false) ⌝ }
     ensures { λ r. ⌜ FinishedFrom (meant (now (block .entry)) o) (now (notes .entry)) c (now (out .entry)) (now (out .exit)) r ⌝ }
 {
-    let mut table = [0u32; 280];
-    let mut marks = [false; 40];
-    let mut breaks = [0u32; 320];
-    let mut ratios = [0f32; 40];
-    let mut active = [0u32; 40];
-    match put_texts(
-        o,
-        block,
-        notes,
-        c,
-        p,
-        out,
-        &mut table,
-        &mut breaks,
-        &mut ratios,
-        &mut active,
-        &mut marks,
-    ) {
+    let mut work = [0u32; BEST_FEW];
+    match put_texts(o, block, notes, c, p, out, &mut work) {
         Course::End(needed) => Ended::All(needed),
         Course::Short { c: d, p: q } => put_best_more(o, block, notes, d, q, out),
     }
@@ -278,27 +229,11 @@ fn put_best_more(
     p: Paragraph,
     out: &mut [u8],
 ) -> Ended
-    requires { ⌜ Admitted (now block) (now notes) o × CursorIn (now notes) c × TextAhead (now block) o (now notes) c p ⌝ }
+    requires { ⌜ Admitted (now block) (now notes) o × CursorIn (now notes) c × TextAhead (now block) o (now notes) c p × (o .quick ≡ false) ⌝ }
     ensures { λ r. ⌜ FinishedFrom (meant (now (block .entry)) o) (now (notes .entry)) c (now (out .entry)) (now (out .exit)) r ⌝ }
 {
-    let mut table = [0u32; 1372];
-    let mut marks = [false; 196];
-    let mut breaks = [0u32; 1568];
-    let mut ratios = [0f32; 196];
-    let mut active = [0u32; 196];
-    match put_texts(
-        o,
-        block,
-        notes,
-        c,
-        p,
-        out,
-        &mut table,
-        &mut breaks,
-        &mut ratios,
-        &mut active,
-        &mut marks,
-    ) {
+    let mut work = [0u32; BEST_MORE];
+    match put_texts(o, block, notes, c, p, out, &mut work) {
         Course::End(needed) => Ended::All(needed),
         Course::Short { c: d, p: q } => put_best_long(o, block, notes, d, q, out),
     }
@@ -313,27 +248,11 @@ fn put_best_long(
     p: Paragraph,
     out: &mut [u8],
 ) -> Ended
-    requires { ⌜ Admitted (now block) (now notes) o × CursorIn (now notes) c × TextAhead (now block) o (now notes) c p ⌝ }
+    requires { ⌜ Admitted (now block) (now notes) o × CursorIn (now notes) c × TextAhead (now block) o (now notes) c p × (o .quick ≡ false) ⌝ }
     ensures { λ r. ⌜ FinishedFrom (meant (now (block .entry)) o) (now (notes .entry)) c (now (out .entry)) (now (out .exit)) r ⌝ }
 {
-    let mut table = [0u32; 7168];
-    let mut marks = [false; 1024];
-    let mut breaks = [0u32; 8192];
-    let mut ratios = [0f32; 1024];
-    let mut active = [0u32; 1024];
-    match put_texts(
-        o,
-        block,
-        notes,
-        c,
-        p,
-        out,
-        &mut table,
-        &mut breaks,
-        &mut ratios,
-        &mut active,
-        &mut marks,
-    ) {
+    let mut work = [0u32; BEST_MOST];
+    match put_texts(o, block, notes, c, p, out, &mut work) {
         Course::End(needed) => Ended::All(needed),
         Course::Short { c: d, p: _ } => Ended::Stopped(d.at),
     }
@@ -348,31 +267,16 @@ fn put_texts(
     first: Cursor,
     head: Paragraph,
     out: &mut [u8],
-    table: &mut [u32],
-    breaks: &mut [u32],
-    ratios: &mut [f32],
-    active: &mut [u32],
-    marks: &mut [bool],
+    work: &mut [u32],
 ) -> Course
-    requires { ⌜ Admitted (now block) (now notes) o × CursorIn (now notes) first × TextAhead (now block) o (now notes) first head × Scratch (now table) (now breaks) (now ratios) (now active) (now marks) ⌝ }
-    ensures { λ r. ⌜ Coursed (length (now (marks .entry))) (length (now (ratios .entry))) (now (block .entry)) o (now (notes .entry)) first (now (out .entry)) (now (out .exit)) r ⌝ }
+    requires { ⌜ Admitted (now block) (now notes) o × CursorIn (now notes) first × TextAhead (now block) o (now notes) first head × (roomFor (o .quick) (length (now work)) ≤ mostWords) ⌝ }
+    ensures { λ r. ⌜ Coursed (roomFor (o .quick) (length (now (work .entry)))) (now (block .entry)) o (now (notes .entry)) first (now (out .entry)) (now (out .exit)) r ⌝ }
 {
     let mut c = first;
     let mut p = head;
     loop {
-        let Step::On(behind) = paragraphs::put_paragraph(
-            notes,
-            c.at,
-            o,
-            p,
-            out,
-            c.written,
-            table,
-            breaks,
-            ratios,
-            active,
-            marks,
-        ) else {
+        let Step::On(behind) = paragraphs::put_paragraph(notes, c.at, o, p, out, c.written, work)
+        else {
             return Course::Short { c, p };
         };
         match put_lines(o, block, notes, behind, out) {

@@ -23,6 +23,7 @@ use Rattle.text.proofs.Extents.{glyph-read}
 use Rattle.text.proofs.NoBreaks.{no-break-blank}
 use Rattle.text.proofs.Edges.{glyphs-past, ink-past, glyphs-first, ink-begins, blank-on}
 use Rattle.lines.specs.Classes.{nextStop}
+use Rattle.lines.specs.Contracts.Places.{mostColumns}
 use Rattle.records.specs.Contracts.Table.{beforeNumber}
 use Rattle.records.specs.declared.Before.{Before}
 use Rattle.records.specs.declared.Before.the-variants.{Absent, Count}
@@ -38,7 +39,7 @@ stop-near tab after =
     let e = add-mul (after / tab) 1 tab in
     omega arith
 
-pub stop-small : (tab after : ℕ) → tab ≤ 100 → after ≤ 6553600 → (after / tab + 1) * tab < 18446744073709551616
+pub stop-small : (tab after : ℕ) → tab ≤ 100 → after ≤ mostColumns → (after / tab + 1) * tab < 18446744073709551616
 stop-small tab after h k = let s = stop-near tab after in omega arith
 
 -- both counts grow by at most 100 with a blank

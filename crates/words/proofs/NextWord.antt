@@ -16,6 +16,7 @@ use Rattle.text.proofs.Glyphs.{bytes-of, characters-first}
 use Rattle.text.proofs.Glue.{settle-first}
 use Rattle.text.proofs.Edges.{ink-past}
 use Rattle.options.specs.Opts.{Opts}
+use Rattle.lines.specs.Contracts.Places.{mostLarge}
 use Rattle.records.specs.Word.{meaning}
 use Rattle.records.specs.Contracts.Table.{beforeNumber, Small, Within}
 use Rattle.records.specs.declared.Word.{Word as Record}
@@ -173,7 +174,7 @@ module _ (o : Opts) (newLine : Bool) (s : List ℕ) (at : ℕ) (b : Blanks) (ove
         pick-after false = over .after
 
 -- its numbers fit the table
-pub next-small : {o : Opts} {mail newLine previous : Bool} {s : List ℕ} {at : ℕ} {w : Record} → NextWord o mail newLine previous s at w → length s ≤ 65536 → Small w
+pub next-small : {o : Opts} {mail newLine previous : Bool} {s : List ℕ} {at : ℕ} {w : Record} → NextWord o mail newLine previous s at w → length s ≤ mostLarge → Small w
 next-small n h = record {
   from = omega (arith, n .within .gap, n .within .text, n .within .end);
   start = omega (arith, n .within .text, n .within .end);

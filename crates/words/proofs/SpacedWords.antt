@@ -15,7 +15,7 @@ use Rattle.text.proofs.Glyphs.{Here}
 use Rattle.text.proofs.Edges.{ink-on}
 use Rattle.options.specs.Opts.{Opts}
 use Rattle.lines.specs.Lines.{firstLine}
-use Rattle.lines.specs.Contracts.Places.{lengthsOf}
+use Rattle.lines.specs.Contracts.Places.{mostLarge, lengthsOf}
 use Rattle.records.specs.Word.{Word}
 use Rattle.records.specs.Contracts.Table.{Small, withWord, wordsIn}
 use Rattle.records.specs.declared.Word.{Word as Record}
@@ -152,7 +152,7 @@ module _ (o : Opts) (notes : List ℕ) (next at : ℕ) (first previous : Bool) (
     spaced-filling {end} line f = let word = spaced-word line in filling-more f end w (word .first) (word .place) more (word .within) (word .narrow)
 
     -- what is known of the word and of the table, and hangs on no end
-    pub spaced-step : at ≤ next → length notes ≤ 65536 → Small w × Kept most (length notes) (n + 1) (withWord t n w) × (at < w .end) × (w .end ≤ next)
+    pub spaced-step : at ≤ next → length notes ≤ mostLarge → Small w × Kept most (length notes) (n + 1) (withWord t n w) × (at < w .end) × (w .end ≤ next)
     spaced-step on short =
         let sized : length (take next notes) ≡ next = length-take-le next notes fits in
         let line = line-ends (take next notes) at (omega arith) _ refl .ends in

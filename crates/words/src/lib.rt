@@ -11,6 +11,7 @@ ghost use Rattle.text.specs.Characters.{characters, isBlank};
 ghost use Rattle.text.specs.Contracts.Places.{inkGlyphs};
 ghost use Rattle.options.specs.Opts.{meant};
 ghost use Rattle.lines.specs.Lines.{linesOf};
+ghost use Rattle.lines.specs.Contracts.Places.{mostLarge, mostColumns};
 ghost use Rattle.pieces.specs.Contracts.Bounds.{AllBegin};
 ghost use Rattle.records.specs.Contracts.Table.{Holds, wordsIn};
 ghost use Rattle.words.specs.Words.{hasTab, runs};
@@ -75,7 +76,7 @@ pub fn split_words(
     most: usize,
     table: &mut [u32],
 ) -> Count
-    requires { ⌜ (at ≤ next) × (next ≤ length (now notes)) × (length (now notes) ≤ 65536) × (1 ≤ o .tab) × (o .tab ≤ 100) × Holds most (now table) × (mail ≡ false → AllBegin (o .glue) start later (linesOf (slice at next (now notes)))) ⌝ }
+    requires { ⌜ (at ≤ next) × (next ≤ length (now notes)) × (length (now notes) ≤ mostLarge) × (1 ≤ o .tab) × (o .tab ≤ 100) × Holds most (now table) × (mail ≡ false → AllBegin (o .glue) start later (linesOf (slice at next (now notes)))) ⌝ }
     ensures { λ r. ⌜ ((block : List ℕ) → Split most (now (notes .entry)) (wordsAt (meant block o) mail start later (linesOf (slice at next (now (notes .entry))))) (placesAt (o .glue) mail at start later (linesOf (slice at next (now (notes .entry))))) (now (table .exit)) r) ⌝ }
 {
     let part = &notes[..next];
@@ -112,7 +113,7 @@ pub fn split_words(
 // Where the words of a line begin, of which mail's is taken whole.
 // In the original: `WordSplit::new`.
 fn begin(mail: bool, line: usize, start: usize) -> usize
-    requires { ⌜ (mail ≡ false → line + start ≤ 65536) ⌝ }
+    requires { ⌜ (mail ≡ false → line + start ≤ mostLarge) ⌝ }
     ensures { λ r. ⌜ r ≡ line + cond mail 0 start ⌝ }
 {
     if mail { line } else { line + start }
@@ -132,7 +133,7 @@ fn spaced_words(
     most: usize,
     table: &mut [u32],
 ) -> Spaced
-    requires { ⌜ (start ≤ next) × (next ≤ length (now notes)) × (length (now notes) ≤ 65536) × (o .tab ≤ 100) × Kept most (length (now notes)) n (now table) ⌝ }
+    requires { ⌜ (start ≤ next) × (next ≤ length (now notes)) × (length (now notes) ≤ mostLarge) × (o .tab ≤ 100) × Kept most (length (now notes)) n (now table) ⌝ }
     ensures { λ r. ⌜ Kept most (length (now (notes .entry))) (r .count) (now (table .exit)) × (start ≤ r .at) × (r .at ≤ next) × ((end : ℕ) → EndsAt (take next (now (notes .entry))) start end → SpacedTo (meant [] o) mail (now (notes .entry)) start end n (now (table .entry)) r (now (table .exit))) ⌝ }
 {
     let s = &notes[..next];
@@ -176,7 +177,7 @@ fn spaced_words(
 
 // No blank stands before the first word of a line, and one space before another.
 fn space_before(at: usize, first: bool) -> Blanks
-    requires { ⌜ at ≤ 65536 ⌝ }
+    requires { ⌜ at ≤ mostLarge ⌝ }
     ensures { λ r. ⌜ r ≡ spaceBefore at first ⌝ }
 {
     if first {
@@ -195,7 +196,7 @@ fn space_before(at: usize, first: bool) -> Blanks
 
 // The end of the plain word at a place, which is the first of its line or stands behind one space; 0 if there is none.
 fn plain_word(s: &[u8], at: usize, first: bool) -> usize
-    requires { ⌜ (at ≤ length (now s)) × (length (now s) ≤ 65536) ⌝ }
+    requires { ⌜ (at ≤ length (now s)) × (length (now s) ≤ mostLarge) ⌝ }
     ensures { λ r. ⌜ (0 < r → PlainBehind (now (s .entry)) at first r) ⌝ }
 {
     if first {
@@ -261,7 +262,7 @@ fn split_line(
     most: usize,
     table: &mut [u32],
 ) -> Count
-    requires { ⌜ (start ≤ end) × (end ≤ length (now notes)) × (length (now notes) ≤ 65536) × (1 ≤ o .tab) × (o .tab ≤ 100) × Kept most (length (now notes)) n (now table) × (head ≡ true → while isBlank (inkGlyphs (o .glue) (slice start end (now notes))) ≡ []) ⌝ }
+    requires { ⌜ (start ≤ end) × (end ≤ length (now notes)) × (length (now notes) ≤ mostLarge) × (1 ≤ o .tab) × (o .tab ≤ 100) × Kept most (length (now notes)) n (now table) × (head ≡ true → while isBlank (inkGlyphs (o .glue) (slice start end (now notes))) ≡ []) ⌝ }
     ensures { λ r. ⌜ WordsFilled most (now (notes .entry)) (wordsIn (now (notes .entry)) n (now (table .entry)) ++ wordsFrom (meant [] o) mail head punct (glyphsBehind (o .glue) head (slice start end (now (notes .entry))))) (placesIn n (now (table .entry)) ++ placesFrom start (runs (glyphsBehind (o .glue) head (slice start end (now (notes .entry)))))) (now (table .exit)) r ⌝ }
 {
     let s = &notes[..end];
@@ -287,7 +288,7 @@ fn split_line(
 // The next word from a place on; the first of a line begins at the place. Blanks at the end belong to no word.
 // In the original: `WordSplit::next`.
 fn next_word(s: &[u8], at: usize, mail: bool, first: bool, previous: bool, o: Options) -> Next
-    requires { ⌜ (at ≤ length (now s)) × (length (now s) ≤ 65536) × (1 ≤ o .tab) × (o .tab ≤ 100) × (first ≡ true → while isBlank (inkGlyphs (o .glue) (drop at (now s))) ≡ []) ⌝ }
+    requires { ⌜ (at ≤ length (now s)) × (length (now s) ≤ mostLarge) × (1 ≤ o .tab) × (o .tab ≤ 100) × (first ≡ true → while isBlank (inkGlyphs (o .glue) (drop at (now s))) ≡ []) ⌝ }
     ensures { λ r. ⌜ NextIs (meant [] o) mail first previous (now (s .entry)) at r ⌝ }
 {
     let b = blanks_at(s, at, o.tab, first);
@@ -391,7 +392,7 @@ fn mail_word(start: usize, end: usize) -> Word
 // The blanks before a word: none before the first of a line, which may begin with U+00A0 where glue is on and a prefix stands before it.
 // In the original: `WordSplit::new`.
 fn blanks_at(s: &[u8], at: usize, tab: usize, first: bool) -> Blanks
-    requires { ⌜ (at ≤ length (now s)) × (length (now s) ≤ 65536) × (1 ≤ tab) × (tab ≤ 100) ⌝ }
+    requires { ⌜ (at ≤ length (now s)) × (length (now s) ≤ mostLarge) × (1 ≤ tab) × (tab ≤ 100) ⌝ }
     ensures { λ r. ⌜ (first ≡ true → r ≡ noBlanks at) × (first ≡ false → (glue : Bool) → OverBlanks glue tab false (now (s .entry)) at r) ⌝ }
 {
     if first {
@@ -407,7 +408,7 @@ fn blanks_at(s: &[u8], at: usize, tab: usize, first: bool) -> Blanks
 // The blanks at a place behind which a word has ended. They are the same with glue and without: a U+00A0 among them is blank.
 // In the original: `WordSplit::analyze_tabs`.
 fn over_blanks(s: &[u8], at: usize, tab: usize) -> Blanks
-    requires { ⌜ (at ≤ length (now s)) × (length (now s) ≤ 65536) × (1 ≤ tab) × (tab ≤ 100) ⌝ }
+    requires { ⌜ (at ≤ length (now s)) × (length (now s) ≤ mostLarge) × (1 ≤ tab) × (tab ≤ 100) ⌝ }
     ensures { λ r. ⌜ ((glue : Bool) → OverBlanks glue tab false (now (s .entry)) at r) ⌝ }
 {
     // Between most words.
@@ -450,7 +451,7 @@ fn is_tab(s: &[u8], at: usize) -> bool
 
 // Whether a space stands at a place, and no blank behind it.
 fn is_one_space(s: &[u8], at: usize) -> bool
-    requires { ⌜ (at ≤ length (now s)) × (length (now s) ≤ 65536) ⌝ }
+    requires { ⌜ (at ≤ length (now s)) × (length (now s) ≤ mostLarge) ⌝ }
     ensures { λ r. ⌜ (r ≡ true → OneSpace (now (s .entry)) at) ⌝ }
 {
     let next = at + 1;
@@ -466,7 +467,7 @@ fn is_one_space(s: &[u8], at: usize) -> bool
 // Whether the bytes at a place show that no blank stands there. A blank is below 33, or begins with C2, E1, E2 or E3; behind E3 there is
 // only U+3000, with 80 in the middle.
 fn starts_ink(s: &[u8], at: usize) -> bool
-    requires { ⌜ (at ≤ length (now s)) × (length (now s) ≤ 65536) ⌝ }
+    requires { ⌜ (at ≤ length (now s)) × (length (now s) ≤ mostLarge) ⌝ }
     ensures { λ r. ⌜ (r ≡ true → InkBegins (now (s .entry)) at) ⌝ }
 {
     if s.len() <= at {
@@ -492,7 +493,7 @@ fn starts_ink(s: &[u8], at: usize) -> bool
 // Blanks with one more, which ends at next. The first tab parts the counts; a later one goes to the next stop.
 // In the original: `WordSplit::analyze_tabs`.
 fn behind_blank(b: Blanks, code: u32, next: usize, tab: usize) -> Blanks
-    requires { ⌜ (1 ≤ tab) × (tab ≤ 100) × (b .after ≤ 6553600) ⌝ }
+    requires { ⌜ (1 ≤ tab) × (tab ≤ 100) × (b .after ≤ mostColumns) ⌝ }
     ensures { λ r. ⌜ (r .end ≡ next) × (gapIn r ≡ gapBehind tab code (gapIn b)) ⌝ }
 {
     let before = b.before;
@@ -520,7 +521,7 @@ fn behind_blank(b: Blanks, code: u32, next: usize, tab: usize) -> Blanks
 // The ink at a place: all up to the next blank. With glue on, U+00A0 that have ink behind them too are part of it.
 // In the original: `WordSplit::next`.
 fn over_ink(s: &[u8], at: usize, glue: bool) -> Ink
-    requires { ⌜ (at ≤ length (now s)) × (length (now s) ≤ 65536) ⌝ }
+    requires { ⌜ (at ≤ length (now s)) × (length (now s) ≤ mostLarge) ⌝ }
     ensures { λ r. ⌜ OverInk glue (now (s .entry)) at r ⌝ }
 {
     let mut w = Ink {
@@ -616,7 +617,7 @@ fn ends_word(b: u8) -> bool
 
 // Ink with the plain characters behind it, of which there is one: ASCII from `!` on, each a character of one column.
 fn over_plain(s: &[u8], w: Ink) -> Ink
-    requires { ⌜ Plain (now s) (w .end) (w .end + 1) × (w .width ≤ w .end) × (length (now s) ≤ 65536) ⌝ }
+    requires { ⌜ Plain (now s) (w .end) (w .end + 1) × (w .width ≤ w .end) × (length (now s) ≤ mostLarge) ⌝ }
     ensures { λ r. ⌜ OverPlain (now (s .entry)) w r ⌝ }
 {
     let from = w.end;

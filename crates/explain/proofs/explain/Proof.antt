@@ -1,4 +1,5 @@
 -- `explain::explain` meets its contract.
+use Rattle.formatter.specs.Format.{document01}
 use Rattle.formatter.proofs.Replies.{passed-of}
 use Rattle.explain.proofs.Answers.{refused-told, passed-told}
 use borrow.Author.Needs.{needs}
@@ -15,7 +16,7 @@ enum-known-o : tie.Need-enum-known-o
 enum-known-o c = search needs
 
 explain-line-requires : tie.Need-explain-line-requires
-explain-line-requires c κs = passed-of _ _ _ (c .before .before .before .admit .ensures) (c .before .o .given .1) .0
+explain-line-requires c κs = passed-of document01 _ _ _ (c .before .before .before .admit .ensures) (c .before .o .given .1) .0
 
 returns : tie.Need-returns
 returns c = refused-told _ _ _ (c .before .before .before .admit .ensures) _ (c .before .r .given .1)

@@ -2,19 +2,18 @@
 use mathlib.Core.Path.{refl}
 use mathlib.Core.Bool.{_||_}
 use native.Mathlib.Omega.{arith}
-use lib.ListN.{length}
-use Rattle.paragraphs.proofs.Tables.{room-holds, room-over, room-under, scratch-same}
+use Rattle.paragraphs.proofs.Tables.{room-holds, roomy}
 use Rattle.paragraphs.proofs.Breaking.{limits-of, split-many, split-few, split-narrow}
 use Rattle.explain.proofs.Seeking.{passed-told, passed-as}
 use borrow.Author.Needs.{needs}
 use Rattle.explain.proofs.pass_paragraph.Statement.{statement}
 use Rattle.explain.proofs.pass_paragraph.Tie as tie
 
-pick-requires : tie.Need-pick-requires
-pick-requires c κs = search needs
+room-for-requires : tie.Need-room-for-requires
+room-for-requires c κs = search needs
 
 split-words-requires : tie.Need-split-words-requires
-split-words-requires c κs = let p = c .before .before .before .before .before .before .before .before .before .before .pre in let h = room-holds _ _ _ _ _ (p .1) (c .before .before .before .before .before .before .before .before .before .before .args .o .quick || c .before .before .before .before .before .before .before .before .before .before .args .p .mail) _ (c .before .pick .ensures) in (p .0 .order, p .0 .within, p .0 .short, p .0 .tabLeast, p .0 .tabMost, h .0, p .0 .begins)
+split-words-requires c κs = let p = c .before .before .before .before .pre in (p .0 .order, p .0 .within, p .0 .short, p .0 .tabLeast, p .0 .tabMost, room-holds _ _ _ (c .before .room-for .ensures), p .0 .begins)
 
 enum-known-n : tie.Need-enum-known-n
 enum-known-n c = search needs
@@ -26,7 +25,7 @@ same-length : tie.Need-same-length
 same-length c = search needs
 
 returns : tie.Need-returns
-returns c = λ block. room-over (length (c .before .before .before .before .before .before .before .before .before .before .before .before .before .before .before .args .marks .now)) (length (c .before .before .before .before .before .before .before .before .before .before .before .before .before .before .before .args .ratios .now)) {f = c .before .before .before .before .before .before .before .before .before .before .before .before .before .before .before .args .o .quick || c .before .before .before .before .before .before .before .before .before .before .before .before .before .before .before .args .p .mail} (c .before .before .before .before .before .before .pick .ensures) refl (split-many (c .before .before .before .before .split-words .ensures block) (c .enum-told .given .1))
+returns c = λ block. rw (← c .before .before .before .before .before .before .room-for .ensures) (split-many (c .before .before .before .before .split-words .ensures block) (c .enum-told .given .1))
 
 enum-known-asked : tie.Need-enum-known-asked
 enum-known-asked c = search needs
@@ -39,10 +38,8 @@ same-length-2 c = search needs
 
 returns-2 : tie.Need-returns-2
 returns-2 c = λ block.
-    let p = c .before .before .before .before .before .before .before .before .before .before .before .before .before .before .before .before .before .before .pre in
-    let h = room-holds _ _ _ _ _ (p .1) (c .before .before .before .before .before .before .before .before .before .before .before .before .before .before .before .before .before .before .args .o .quick || c .before .before .before .before .before .before .before .before .before .before .before .before .before .before .before .before .before .before .args .p .mail) _ (c .before .before .before .before .before .before .before .before .before .pick .ensures) in
     record {
-      few = omega (arith, split-few (c .before .before .before .before .before .before .before .split-words .ensures block) _ (c .before .before .before .n .given .1) .1, h .1);
+      few = omega (arith, split-few (c .before .before .before .before .before .before .before .split-words .ensures block) _ (c .before .before .before .n .given .1) .1, c .before .before .before .before .before .before .before .before .before .room-for .ensures, c .before .before .before .before .before .before .before .before .before .before .before .before .pre .1);
       next = refl;
       mail = refl;
       asked = rw (c .enum-told2 .given .1) (passed-told _ _);
@@ -53,52 +50,37 @@ setting-of-requires c κs = search needs
 
 ask-lines-requires : tie.Need-ask-lines-requires
 ask-lines-requires c κs =
-    let p = c .before .before .before .before .before .before .before .before .before .before .before .before .before .before .before .before .before .before .before .before .before .before .before .before .before .pre in
-    let s = c .before .before .before .before .before .before .before .before .before .before .before .before .before .before .split-words .ensures (p .0 .block) in
-    let w = c .before .before .before .before .before .before .before .before .before .before .n .given .1 in
+    let p = c .before .before .before .before .before .before .before .before .before .before .before .before .before .before .before .before .before .pre in
+    let s = c .before .before .before .before .before .before .before .before .before .before .before .before .split-words .ensures (p .0 .block) in
+    let w = c .before .before .before .before .before .before .before .before .n .given .1 in
     let n = split-few s _ w in
     let k = s .kept _ w in (
-      rw (c .before .before .before .before .before .setting-of .ensures (p .0 .block)) (limits-of _ _ _ _ (p .0) (p .0 .block)),
+      rw (c .before .setting-of .ensures (p .0 .block)) (limits-of _ _ _ _ (p .0) (p .0 .block)),
       omega (arith, n .0, p .0 .some),
-      room-under (c .before .before .before .before .before .before .before .before .before .before .before .before .before .before .before .before .before .before .before .before .before .before .before .before .before .args .o .quick || c .before .before .before .before .before .before .before .before .before .before .before .before .before .before .before .before .before .before .before .before .before .before .before .before .before .args .p .mail) (length (c .before .before .before .before .before .before .before .before .before .before .before .before .before .before .before .before .before .before .before .before .before .before .before .before .before .args .marks .now)) (length (c .before .before .before .before .before .before .before .before .before .before .before .before .before .before .before .before .before .before .before .before .before .before .before .before .before .args .ratios .now)) (c .before .before .before .before .before .before .before .before .before .before .before .before .before .before .before .before .pick .ensures) (k .few),
-      omega (arith, k .few, k .held),
+      omega (arith, n .0, p .0 .few, p .0 .short),
+      roomy (c .before .before .before .before .before .before .before .before .before .before .before .before .before .before .before .before .before .args .o .quick) (c .before .before .before .before .before .before .before .before .before .before .before .before .before .before .before .before .before .args .p .mail) (c .before .before .before .before .before .before .before .before .before .before .before .work .given) (c .before .before .before .before .before .before .before .before .before .before .before .before .before .before .room-for .ensures) (k .few) refl,
       split-narrow s _ w (p .0 .short),
-      scratch-same _ _ _ _ _ (p .1) _ _ _ _ _ (c .before .before .before .before .before .before .before .before .before .before .before .before .before .table .given) refl refl refl refl,
     )
 
 same-length-3 : tie.Need-same-length-3
-same-length-3 c = c .before .before .before .before .before .before .before .before .before .before .before .before .before .before .before .before .before .before .before .before .before .before .table .given
-
-same-length-4 : tie.Need-same-length-4
-same-length-4 c = search needs
-
-same-length-5 : tie.Need-same-length-5
-same-length-5 c = search needs
-
-same-length-6 : tie.Need-same-length-6
-same-length-6 c = search needs
-
-same-length-7 : tie.Need-same-length-7
-same-length-7 c = search needs
+same-length-3 c = search needs
 
 returns-3 : tie.Need-returns-3
 returns-3 c = λ block.
-    let p = c .before .before .before .before .before .before .before .before .before .before .before .before .before .before .before .before .before .before .before .before .before .before .before .before .before .before .before .before .before .before .before .before .before .before .pre in
-    let s = c .before .before .before .before .before .before .before .before .before .before .before .before .before .before .before .before .before .before .before .before .before .before .before .split-words .ensures block in
-    let w = c .before .before .before .before .before .before .before .before .before .before .before .before .before .before .before .before .before .before .before .n .given .1 in
-    let h = room-holds _ _ _ _ _ (p .1) (c .before .before .before .before .before .before .before .before .before .before .before .before .before .before .before .before .before .before .before .before .before .before .before .before .before .before .before .before .before .before .before .before .before .before .args .o .quick || c .before .before .before .before .before .before .before .before .before .before .before .before .before .before .before .before .before .before .before .before .before .before .before .before .before .before .before .before .before .before .before .before .before .before .args .p .mail) _ (c .before .before .before .before .before .before .before .before .before .before .before .before .before .before .before .before .before .before .before .before .before .before .before .before .before .pick .ensures) in
+    let s = c .before .before .before .before .before .before .before .before .before .before .before .before .before .before .before .split-words .ensures block in
+    let w = c .before .before .before .before .before .before .before .before .before .before .before .n .given .1 in
     record {
-      few = omega (arith, split-few s _ w .1, h .1);
+      few = omega (arith, split-few s _ w .1, c .before .before .before .before .before .before .before .before .before .before .before .before .before .before .before .before .before .room-for .ensures, c .before .before .before .before .before .before .before .before .before .before .before .before .before .before .before .before .before .before .before .before .pre .1);
       next = refl;
       mail = refl;
-      asked = passed-as (c .before .before .before .before .before .before .before .before .before .before .before .before .before .before .before .before .before .before .before .before .before .before .before .before .before .before .before .before .before .before .before .before .before .before .args .o .quick || c .before .before .before .before .before .before .before .before .before .before .before .before .before .before .before .before .before .before .before .before .before .before .before .before .before .before .before .before .before .before .before .before .before .before .args .p .mail) _ _ _ _ _ _ _ (c .before .before .before .before .before .before .before .before .ask-lines .ensures _) (c .before .before .before .before .before .before .before .before .before .before .before .before .before .before .before .before .asked .given .1) (c .before .before .before .before .before .before .before .before .before .before .before .before .before .before .setting-of .ensures block) (s .words _ w);
+      asked = passed-as (c .before .before .before .before .before .before .before .before .before .before .before .before .before .before .before .before .before .before .before .before .args .o .quick || c .before .before .before .before .before .before .before .before .before .before .before .before .before .before .before .before .before .before .before .before .args .p .mail) _ _ _ _ _ _ _ (c .before .before .ask-lines .ensures _) (c .before .before .before .before .before .before .before .before .asked .given .1) (c .before .before .before .before .setting-of .ensures block) (s .words _ w);
     }
 
 pub pass-paragraph-spec : {M : Type 1} → statement M
 pass-paragraph-spec =
     tie.close
     (tie.spec
-    pick-requires
+    room-for-requires
     split-words-requires
     enum-known-n
     enum-told
@@ -111,8 +93,4 @@ pass-paragraph-spec =
     setting-of-requires
     ask-lines-requires
     same-length-3
-    same-length-4
-    same-length-5
-    same-length-6
-    same-length-7
     returns-3)

@@ -1,14 +1,15 @@
 -- `explain::pass_piece` meets its contract.
-use lib.ListN.{length}
 use Rattle.paragraphs.specs.declared.Cursor.{Cursor}
 use Rattle.walk.proofs.Steps.{ready-usable, ready-cleared, found-goes, found-begins, begins-placed}
 use Rattle.explain.proofs.Seeking.{blank-behind, plain-behind, text-passed}
+use lib.ListN.{length}
 use borrow.Author.Needs.{needs}
+use Rattle.paragraphs.specs.Contracts.Steps.{roomFor}
 use Rattle.explain.proofs.pass_piece.Statement.{statement}
 use Rattle.explain.proofs.pass_piece.Tie as tie
 
 next-piece-requires : tie.Need-next-piece-requires
-next-piece-requires c κs = let p = c .before .before .before .before .before .before .before .pre in (p .1, p .0 .short, ready-usable _ _ _ (p .0), ready-cleared _ _ _ (p .0))
+next-piece-requires c κs = let p = c .before .before .before .pre in (p .1, p .0 .short, ready-usable _ _ _ (p .0), ready-cleared _ _ _ (p .0))
 
 enum-known-next : tie.Need-enum-known-next
 enum-known-next c = search needs
@@ -27,42 +28,30 @@ enum-known-p c = search needs
 
 pass-paragraph-requires : tie.Need-pass-paragraph-requires
 pass-paragraph-requires c κs =
-    let s = c .before .before .before .before .before .before .before .before .before .before .before .before .before .before .before .before in
+    let s = c .before .before .before .before .before .before .before .before in
     let cursor : Cursor = record { at = s .args .s .at; written = 0; mail = s .args .s .mail } in
-    (begins-placed _ _ _ cursor _ (s .pre .0) (found-begins _ _ _ cursor _ (s .pre .1) (c .before .before .before .before .before .before .before .before .next-piece .ensures) (c .before .before .before .before .before .before .p .given .1)), s .pre .2)
+    (begins-placed _ _ _ cursor _ (s .pre .0) (found-begins _ _ _ cursor _ (s .pre .1) (c .before .before .before .before .next-piece .ensures) (c .before .before .p .given .1)), s .pre .2)
 
 returns : tie.Need-returns
 returns c =
-    let p = c .before .before .before .before .before .before .before .before .before .before .before .before .pre in
+    let p = c .before .before .before .before .before .before .before .before .pre in
     let m = found-goes _ _ _ (p .0) _ _ _ _ (p .1) (c .before .before .before .before .next-piece .ensures) (c .before .before .next .given .1) in
     blank-behind _ _ _ _ _ m (c .pass-line .ensures)
 
 returns-2 : tie.Need-returns-2
 returns-2 c =
-    let p = c .before .before .before .before .before .before .before .before .before .before .before .before .pre in
+    let p = c .before .before .before .before .before .before .before .before .pre in
     let m = found-goes _ _ _ (p .0) _ _ _ _ (p .1) (c .before .before .before .before .next-piece .ensures) (c .before .before .next2 .given .1) in
     plain-behind _ _ _ _ _ (m .0) (c .pass-line2 .ensures)
 
 same-length : tie.Need-same-length
 same-length c = search needs
 
-same-length-2 : tie.Need-same-length-2
-same-length-2 c = search needs
-
-same-length-3 : tie.Need-same-length-3
-same-length-3 c = search needs
-
-same-length-4 : tie.Need-same-length-4
-same-length-4 c = search needs
-
-same-length-5 : tie.Need-same-length-5
-same-length-5 c = search needs
-
 returns-3 : tie.Need-returns-3
 returns-3 c =
-    let s = c .before .before .before .before .before .before .before .before .before .before .before .before .before .before .before .before .before .before .before .before .before .before .before .before .before .before .before in
-    let m = found-goes _ _ _ (s .pre .0) _ _ _ _ (s .pre .1) (c .before .before .before .before .before .before .before .before .before .before .before .before .before .before .before .before .before .before .before .next-piece .ensures) (c .before .before .before .before .before .before .before .before .before .before .before .before .before .before .before .before .before .p .given .1) in
-    text-passed (length (s .args .marks .now)) (length (s .args .ratios .now)) (s .args .block .now) (s .args .notes .now) (s .args .o) (s .args .s) _ m (c .before .before .before .before .before .before .before .before .before .before .pass-paragraph .result) (c .before .before .before .before .before .before .before .before .before .before .pass-paragraph .ensures (s .args .block .now))
+    let s = c .before .before .before .before .before .before .before .before .before .before .before in
+    let m = found-goes _ _ _ (s .pre .0) _ _ _ _ (s .pre .1) (c .before .before .before .before .before .before .before .next-piece .ensures) (c .before .before .before .before .before .p .given .1) in
+    text-passed (roomFor (s .args .o .quick) (length (s .args .work .now))) (s .args .block .now) (s .args .notes .now) (s .args .o) (s .args .s) _ m (c .before .before .pass-paragraph .result) (c .before .before .pass-paragraph .ensures (s .args .block .now))
 
 pub pass-piece-spec : {M : Type 1} → statement M
 pass-piece-spec =
@@ -78,8 +67,4 @@ pass-piece-spec =
     returns
     returns-2
     same-length
-    same-length-2
-    same-length-3
-    same-length-4
-    same-length-5
     returns-3)

@@ -1,9 +1,10 @@
 -- `explain::seek_quick_long` meets its contract: what the tables reach, or the paragraph of too many words.
 use mathlib.Core.Path.{refl, sym, _∙_}
+use mathlib.Core.Bool.{true≢false}
 use native.Mathlib.Omega.{arith}
 use Rattle.options.specs.Opts.{meant}
-use Rattle.paragraphs.proofs.Tables.{scratch-of}
-use Rattle.explain.proofs.Seeking.{seeking-stopped, room-quick, course-end, course-short}
+use Rattle.walk.proofs.Steps.{room-few, room-last}
+use Rattle.explain.proofs.Seeking.{seeking-stopped, course-end, course-short}
 use borrow.Author.Needs.{needs}
 use Rattle.explain.proofs.seek_quick_long.Statement.{statement}
 use Rattle.explain.proofs.seek_quick_long.Tie as tie
@@ -11,20 +12,8 @@ use Rattle.explain.proofs.seek_quick_long.Tie as tie
 slice-aggregate-seek-with : tie.Need-slice-aggregate-seek-with
 slice-aggregate-seek-with c = search needs
 
-slice-aggregate-seek-with-2 : tie.Need-slice-aggregate-seek-with-2
-slice-aggregate-seek-with-2 c = search needs
-
-slice-aggregate-seek-with-3 : tie.Need-slice-aggregate-seek-with-3
-slice-aggregate-seek-with-3 c = search needs
-
-slice-aggregate-seek-with-4 : tie.Need-slice-aggregate-seek-with-4
-slice-aggregate-seek-with-4 c = search needs
-
-slice-aggregate-seek-with-5 : tie.Need-slice-aggregate-seek-with-5
-slice-aggregate-seek-with-5 c = search needs
-
 seek-with-requires : tie.Need-seek-with-requires
-seek-with-requires c κs = let p = c .before .before .before .before .before .before .before .pre in (p .0, p .1, scratch-of 1024 1 refl refl refl refl refl (omega arith) (omega arith))
+seek-with-requires c κs = let p = c .before .before .before .pre in (p .0, p .1, room-few _ _ 7168 refl (λ e. omega arith) (λ e. omega arith))
 
 enum-known-a : tie.Need-enum-known-a
 enum-known-a c = search needs
@@ -33,21 +22,17 @@ enum-known-s : tie.Need-enum-known-s
 enum-known-s c = search needs
 
 returns : tie.Need-returns
-returns c = course-end _ _ _ _ _ _ (c .before .before .before .before .before .before .before .before .seek-with .ensures) (c .before .a .given .1)
+returns c = course-end _ _ _ _ _ (c .before .before .before .before .seek-with .ensures) (c .before .a .given .1)
 
 returns-2 : tie.Need-returns-2
 unfolding meant
-returns-2 c = let t = course-short _ _ _ _ _ _ (c .before .before .before .before .before .before .before .before .seek-with .ensures) (c .before .s .given .1) in seeking-stopped _ _ (t .0) (t .1) (λ q m n e. room-quick 1 q m n (sym e ∙ c .before .before .before .before .before .before .before .before .before .before .before .before .before .before .before .before .pre .2))
+returns-2 c = let t = course-short _ _ _ _ _ (c .before .before .before .before .seek-with .ensures) (c .before .s .given .1) in seeking-stopped _ _ (t .0) (t .1) (room-last _ _ _ 7168 refl (t .1 .many) (λ e. omega arith) (λ e. absurd (true≢false (sym (c .before .before .before .before .before .before .before .before .pre .2) ∙ e))))
 
 pub seek-quick-long-spec : {M : Type 1} → statement M
 seek-quick-long-spec =
     tie.close
     (tie.spec
     slice-aggregate-seek-with
-    slice-aggregate-seek-with-2
-    slice-aggregate-seek-with-3
-    slice-aggregate-seek-with-4
-    slice-aggregate-seek-with-5
     seek-with-requires
     enum-known-a
     enum-known-s

@@ -5,25 +5,22 @@ use native.Mathlib.Omega.{arith}
 use lib.ListN.{length}
 use borrow.Author.Needs.{needs}
 use Rattle.options.specs.Opts.{meant}
-use Rattle.paragraphs.proofs.Tables.{scratch-same}
 use Rattle.explain.specs.Contracts.Seeking.{Seeking}
 use Rattle.explain.proofs.Seeking.{seeking-first, seeking-on, seeking-last, piece-on, piece-over}
 use Rattle.explain.proofs.seek_with.Statement.{statement}
 use Rattle.explain.proofs.seek_with.Tie as tie
 
 abbrev Inv-loop : tie.InvT-loop
-Inv-loop o block notes table₀ breaks₀ ratios₀ active₀ marks₀ s₀ table breaks ratios active marks s =
-    Seeking (meant block o) notes s₀ s × (length table ≡ length table₀) × (length breaks ≡ length breaks₀) × (length ratios ≡ length ratios₀) × (length active ≡ length active₀) × (length marks ≡ length marks₀)
+Inv-loop o block notes work₀ s₀ work s = Seeking (meant block o) notes s₀ s × (length work ≡ length work₀)
 
 abbrev μ-loop : tie.MeasureT-loop
-μ-loop o block notes table₀ breaks₀ ratios₀ active₀ marks₀ s₀ table breaks ratios active marks s =
-    length notes - s .at
+μ-loop o block notes work₀ s₀ work s = length notes - s .at
 
 loop-holds : tie.Need-loop-holds Inv-loop μ-loop
-loop-holds c = (seeking-first _ _ _ (c .before .before .before .before .before .before .before .pre .1), refl, refl, refl, refl, refl)
+loop-holds c = (seeking-first _ _ _ (c .before .before .before .pre .1), refl)
 
 pass-piece-requires : tie.Need-pass-piece-requires Inv-loop μ-loop
-pass-piece-requires c κs = let p = c .before .before .before .before .before .before .before .before .before .before .before .before .before .before .before .pre in let i = c .before .before .before .before .before .before .before .loop .inv in (p .0, c .before .before .before .before .before .if1 .taken, scratch-same _ _ _ _ _ (p .2) _ _ _ _ _ (i .1) (i .2) (i .3) (i .4) (i .5))
+pass-piece-requires c κs = let p = c .before .before .before .before .before .before .before .pre in let i = c .before .before .before .loop .inv in (p .0, c .before .if1 .taken, rw (i .1) (p .2))
 
 enum-known-t : tie.Need-enum-known-t Inv-loop μ-loop
 enum-known-t c = search needs
@@ -32,54 +29,26 @@ enum-told : tie.Need-enum-told Inv-loop μ-loop
 enum-told c = search needs
 
 same-length : tie.Need-same-length Inv-loop μ-loop
-same-length c = c .before .before .before .before .before .before .before .before .before .before .before .table .given ∙ c .before .before .before .before .before .before .before .before .before .before .before .before .before .before .before .before .before .before .before .before .loop .inv .1
-
-same-length-2 : tie.Need-same-length-2 Inv-loop μ-loop
-same-length-2 c = c .before .before .before .before .before .before .before .before .before .breaks .given ∙ c .before .before .before .before .before .before .before .before .before .before .before .before .before .before .before .before .before .before .before .before .loop .inv .2
-
-same-length-3 : tie.Need-same-length-3 Inv-loop μ-loop
-same-length-3 c = c .before .before .before .before .before .before .before .ratios .given ∙ c .before .before .before .before .before .before .before .before .before .before .before .before .before .before .before .before .before .before .before .before .loop .inv .3
-
-same-length-4 : tie.Need-same-length-4 Inv-loop μ-loop
-same-length-4 c = c .before .before .before .before .before .active .given ∙ c .before .before .before .before .before .before .before .before .before .before .before .before .before .before .before .before .before .before .before .before .loop .inv .4
-
-same-length-5 : tie.Need-same-length-5 Inv-loop μ-loop
-same-length-5 c = c .before .before .before .marks .given ∙ c .before .before .before .before .before .before .before .before .before .before .before .before .before .before .before .before .before .before .before .before .loop .inv .5
+same-length c = c .before .before .before .work .given ∙ c .before .before .before .before .before .before .before .before .loop .inv .1
 
 returns : tie.Need-returns Inv-loop μ-loop
 returns c =
-    let i = c .before .before .before .before .before .before .before .before .before .before .before .before .before .before .before .before .before .before .before .before .loop .inv in
-    (i .0, rw (← i .5, ← i .3) (piece-over _ _ _ _ _ _ (c .before .before .before .before .before .before .before .before .before .before .before .before .pass-piece .ensures) (c .enum-told .given .1)))
+    let i = c .before .before .before .before .before .before .before .before .loop .inv in
+    (i .0, rw (← i .1) (piece-over _ _ _ _ _ (c .before .before .before .before .pass-piece .ensures) (c .enum-told .given .1)))
 
 loop-less : tie.Need-loop-less Inv-loop μ-loop
-loop-less c = let p = piece-on _ _ _ _ _ _ (c .before .before .before .before .before .before .before .before .before .before .before .before .before .pass-piece .ensures) (c .before .t .given .1) in omega (arith, p .goes .on, p .goes .within)
+loop-less c = let p = piece-on _ _ _ _ _ (c .before .before .before .before .before .pass-piece .ensures) (c .before .t .given .1) in omega (arith, p .goes .on, p .goes .within)
 
 loop-again : tie.Need-loop-again Inv-loop μ-loop
 loop-again c =
-    let p = piece-on _ _ _ _ _ _ (c .before .before .before .before .before .before .before .before .before .before .before .before .before .pass-piece .ensures) (c .before .t .given .1) in
-    let i = c .before .before .before .before .before .before .before .before .before .before .before .before .before .before .before .before .before .before .before .before .before .loop .inv in (
+    let p = piece-on _ _ _ _ _ (c .before .before .before .before .before .pass-piece .ensures) (c .before .t .given .1) in
+    let i = c .before .before .before .before .before .before .before .before .before .loop .inv in (
       seeking-on _ _ (i .0) p,
-      c .before .before .before .before .before .before .before .before .before .before .before .before .table .given ∙ i .1,
-      c .before .before .before .before .before .before .before .before .before .before .breaks .given ∙ i .2,
-      c .before .before .before .before .before .before .before .before .ratios .given ∙ i .3,
-      c .before .before .before .before .before .before .active .given ∙ i .4,
-      c .before .before .before .before .marks .given ∙ i .5,
+      c .before .before .before .before .work .given ∙ i .1,
     )
 
-same-length-6 : tie.Need-same-length-6 Inv-loop μ-loop
-same-length-6 c = c .before .before .loop .inv .1
-
-same-length-7 : tie.Need-same-length-7 Inv-loop μ-loop
-same-length-7 c = c .before .before .loop .inv .2
-
-same-length-8 : tie.Need-same-length-8 Inv-loop μ-loop
-same-length-8 c = c .before .before .loop .inv .3
-
-same-length-9 : tie.Need-same-length-9 Inv-loop μ-loop
-same-length-9 c = c .before .before .loop .inv .4
-
-same-length-10 : tie.Need-same-length-10 Inv-loop μ-loop
-same-length-10 c = c .before .before .loop .inv .5
+same-length-2 : tie.Need-same-length-2 Inv-loop μ-loop
+same-length-2 c = c .before .before .loop .inv .1
 
 returns-2 : tie.Need-returns-2 Inv-loop μ-loop
 returns-2 c = seeking-last _ _ (c .before .before .loop .inv .0) (omega (arith, c .if1 .left))
@@ -95,16 +64,8 @@ seek-with-spec =
     enum-known-t
     enum-told
     same-length
-    same-length-2
-    same-length-3
-    same-length-4
-    same-length-5
     returns
     loop-less
     loop-again
-    same-length-6
-    same-length-7
-    same-length-8
-    same-length-9
-    same-length-10
+    same-length-2
     returns-2)

@@ -1,6 +1,6 @@
 -- What the functions of the search answer for: the lines of the pieces from a place of the notes on, and the line that is asked for.
 use mathlib.Core.Path.{_≡_}
-use mathlib.Core.Bool.{Bool, false, cond, _||_}
+use mathlib.Core.Bool.{Bool, false, _||_}
 use mathlib.Core.List.{List}
 use Prim.Native.Nat.{ℕ, _+_, _-_, _*_, _^_, _≤_, _<_}
 use lib.ListN.{length}
@@ -15,7 +15,7 @@ use Rattle.words.specs.Words.{wordsOf}
 use Rattle.endings.specs.declared.Ending.{Ending}
 use Rattle.endings.specs.Endings.{numbersOf, endings}
 use Rattle.paragraphs.specs.Contracts.Steps.{settingFor, wordsFor}
-use Rattle.walk.specs.Digest.{tooMany, longParagraph}
+use Rattle.walk.specs.Digest.{mostWords, tooMany, longParagraph}
 use Rattle.walk.specs.Contracts.Course.{piecesFrom, longFrom, FirstPiece}
 use Rattle.formatter.specs.Answers.{words}
 use Rattle.formatter.specs.Contracts.Call.{told as replied, replyNumber}
@@ -43,10 +43,10 @@ pub record TextBehind (notes : List ℕ) (at : ℕ) (o : Options) (p : Paragraph
   pub mail : s .mail ≡ p .mail
   pub asked : s .asked ≡ passed (endings (linesBy (o .quick || p .mail) (settingFor block o p) (wordsFor block notes at o p))) a
 
--- or it has more words than there is room for: for w words, or for b where Knuth-Plass is to break them
-abbrev pub TextPassed : ℕ → ℕ → List ℕ → ℕ → Options → ParagraphAt → Asked → Passed → List ℕ → Type 0
-TextPassed w b notes at o p a (On s) block = TextBehind notes at o p a s block
-TextPassed w b notes at o p a Over block = cond (o .quick || p .mail) w b < length (wordsFor block notes at o p)
+-- or it has more words than there is room for
+abbrev pub TextPassed : ℕ → List ℕ → ℕ → Options → ParagraphAt → Asked → Passed → List ℕ → Type 0
+TextPassed room notes at o p a (On s) block = TextBehind notes at o p a s block
+TextPassed room notes at o p a Over block = room < length (wordsFor block notes at o p)
 
 -- ---- a piece
 
@@ -54,20 +54,20 @@ TextPassed w b notes at o p a Over block = cond (o .quick || p .mail) w b < leng
 pub record PieceBehind (o : Opts) (notes : List ℕ) (s t : Seek) : Type 0 where
   pub kind : Kind
   pub goes : FirstPiece o (s .mail) notes (s .at) kind (t .mail) (t .at)
-  pub few : tooMany o kind ≡ false
+  pub few : tooMany mostWords o kind ≡ false
   pub asked : t .asked ≡ passed (endingsOf o kind) (s .asked)
 
 -- or there is not enough room for it
-pub record NoRoom (w b : ℕ) (o : Opts) (notes : List ℕ) (s : Seek) : Type 0 where
+pub record NoRoom (room : ℕ) (o : Opts) (notes : List ℕ) (s : Seek) : Type 0 where
   pub text : Paragraph
   pub state : Bool
   pub next : ℕ
   pub goes : FirstPiece o (s .mail) notes (s .at) (paragraph text) state next
-  pub many : cond (o .quick || text .mail) w b < length (wordsOf o text)
+  pub many : room < length (wordsOf o text)
 
-abbrev pub PiecePassed : ℕ → ℕ → Opts → List ℕ → Seek → Passed → Type 0
-PiecePassed w b o notes s (On t) = PieceBehind o notes s t
-PiecePassed w b o notes s Over = NoRoom w b o notes s
+abbrev pub PiecePassed : ℕ → Opts → List ℕ → Seek → Passed → Type 0
+PiecePassed room o notes s (On t) = PieceBehind o notes s t
+PiecePassed room o notes s Over = NoRoom room o notes s
 
 -- ---- the notes
 
@@ -92,10 +92,10 @@ abbrev pub SoughtIs : Opts → List ℕ → Seek → Sought → Type 0
 SoughtIs o notes s (All a) = (longBehind o notes s ≡ Nowhere) × (a ≡ passedAll o notes s)
 SoughtIs o notes s (Stopped place) = longBehind o notes s ≡ At place
 
--- so far as the tables reach
-abbrev pub Coursed : ℕ → ℕ → Opts → List ℕ → Seek → Course → Type 0
-Coursed w b o notes s (End a) = SoughtIs o notes s (All a)
-Coursed w b o notes s (Short t) = Seeking o notes s t × NoRoom w b o notes t
+-- so far as the room reaches
+abbrev pub Coursed : ℕ → Opts → List ℕ → Seek → Course → Type 0
+Coursed room o notes s (End a) = SoughtIs o notes s (All a)
+Coursed room o notes s (Short t) = Seeking o notes s t × NoRoom room o notes t
 
 -- ---- the answer in code
 
@@ -130,4 +130,4 @@ wordsOr (At place) a = refused (words place)
 wordsOr Nowhere a = a
 
 abbrev pub leftOf : Opts → List ℕ → ℕ → Explanation
-leftOf o notes line = wordsOr (longParagraph o 0 (pieces o notes)) (lookUp line (lineEndings o notes))
+leftOf o notes line = wordsOr (longParagraph mostWords o 0 (pieces o notes)) (lookUp line (lineEndings o notes))

@@ -15,16 +15,16 @@ use Rattle.flow.proofs.emit_rest.Statement.{statement}
 use Rattle.flow.proofs.emit_rest.Tie as tie
 
 abbrev Inv-loop : tie.InvT-loop
-Inv-loop notes table n marks out₀ indent punct₀ t₀ i₀ out punct t i =
+Inv-loop notes table n out₀ indent punct₀ t₀ i₀ out punct t i =
     (1 ≤ i) × (i ≤ n) × (t .at ≤ t₀ .at + i * 2 ^ 34) × (t .dashes ≤ i) × (length out ≡ length out₀)
-    × Left out₀ (t₀ .at) (sentFrom notes table n marks indent (t₀ .dashed) false 1) out (t .at) (sentFrom notes table n marks indent (t .dashed) punct i)
-    × (t .dashes + dashesFrom notes table n marks indent (t .dashed) i ≡ dashesFrom notes table n marks indent (t₀ .dashed) 1)
+    × Left out₀ (t₀ .at) (sentFrom notes table n indent (t₀ .dashed) false 1) out (t .at) (sentFrom notes table n indent (t .dashed) punct i)
+    × (t .dashes + dashesFrom notes table n indent (t .dashed) i ≡ dashesFrom notes table n indent (t₀ .dashed) 1)
 
 abbrev μ-loop : tie.MeasureT-loop
-μ-loop notes table n marks out₀ indent punct₀ t₀ i₀ out punct t i = n - i
+μ-loop notes table n out₀ indent punct₀ t₀ i₀ out punct t i = n - i
 
 loop-holds : tie.Need-loop-holds Inv-loop μ-loop
-loop-holds c = (omega arith, c .before .before .before .before .before .pre .0 .some, omega (arith, c .before .before .before .before .before .pre .1), omega (arith, c .before .before .before .before .before .pre .2), refl, left-first _ _ _, omega (arith, c .before .before .before .before .before .pre .2))
+loop-holds c = (omega arith, c .before .before .before .before .pre .0 .some, omega (arith, c .before .before .before .before .pre .1), omega (arith, c .before .before .before .before .pre .2), refl, left-first _ _ _, omega (arith, c .before .before .before .before .pre .2))
 
 get-requires : tie.Need-get-requires Inv-loop μ-loop
 get-requires c κs = search needs
@@ -32,23 +32,23 @@ get-requires c κs = search needs
 added-space-requires : tie.Need-added-space-requires Inv-loop μ-loop
 added-space-requires c κs = search needs
 
-shared-slice-read-fresh : tie.Need-shared-slice-read-fresh Inv-loop μ-loop
-shared-slice-read-fresh c = omega (arith, c .before .before .before .before .before .before .before .before .before .before .pre .0 .marked, c .before .before .before .loop-test .taken)
+starts-line-requires : tie.Need-starts-line-requires Inv-loop μ-loop
+starts-line-requires c κs = search needs
 
 add-i : tie.Need-add-i Inv-loop μ-loop
 add-i c = search needs
 
 put-next-requires : tie.Need-put-next-requires Inv-loop μ-loop
-put-next-requires c κs = let p = c .before .before .before .before .before .before .before .before .before .before .before .pre .0 in let i = c .before .before .before .before .before .loop .inv in (turn-within p (c .before .before .before .get .ensures) (c .before .before .before .before .loop-test .taken), p .indent, p .small, c .before .before .added-space .ensures .most, omega (arith, i .2, i .1, p .few, c .before .before .before .before .before .before .before .before .before .before .before .pre .1), omega (arith, i .3, i .1, p .few))
+put-next-requires c κs = let p = c .before .before .before .before .before .before .before .before .before .before .pre .0 in let i = c .before .before .before .before .before .loop .inv in (turn-within p (c .before .before .before .get .ensures) (c .before .before .before .before .loop-test .taken), p .indent, p .small, c .before .before .added-space .ensures .most, omega (arith, i .2, i .1, p .few, c .before .before .before .before .before .before .before .before .before .before .pre .1), omega (arith, i .3, i .1, p .few))
 
 loop-less : tie.Need-loop-less Inv-loop μ-loop
 loop-less c = omega (arith, c .before .before .before .before .before .before .before .loop-test .taken)
 
 loop-again : tie.Need-loop-again Inv-loop μ-loop
 loop-again c =
-    let p = c .before .before .before .before .before .before .before .before .before .before .before .before .before .before .pre .0 in
+    let p = c .before .before .before .before .before .before .before .before .before .before .before .before .before .pre .0 in
     let i = c .before .before .before .before .before .before .before .before .loop .inv in
-    let q = c .before .before .put-next .ensures in (
+    let q = rw (c .before .before .before .before .starts-line .ensures) at (c .before .before .put-next .ensures) in (
       omega arith,
       omega (arith, c .before .before .before .before .before .before .before .loop-test .taken),
       omega (arith, i .2, q .few),
@@ -73,8 +73,8 @@ part-put-end-end c = search needs
 put-end-requires : tie.Need-put-end-requires Inv-loop μ-loop
 put-end-requires c κs = search needs
 
-add-t25 : tie.Need-add-t25 Inv-loop μ-loop
-add-t25 c = omega (arith, c .before .before .before .before .before .before .before .loop .inv .2, c .before .before .before .before .before .before .before .loop .inv .1, c .before .before .before .before .before .before .before .before .before .before .before .before .before .pre .0 .few, c .before .before .before .before .before .before .before .before .before .before .before .before .before .pre .1, end-count (c .before .before .before .put-end .ensures))
+add-t23 : tie.Need-add-t23 Inv-loop μ-loop
+add-t23 c = omega (arith, c .before .before .before .before .before .before .before .loop .inv .2, c .before .before .before .before .before .before .before .loop .inv .1, c .before .before .before .before .before .before .before .before .before .before .before .before .pre .0 .few, c .before .before .before .before .before .before .before .before .before .before .before .before .pre .1, end-count (c .before .before .before .put-end .ensures))
 
 same-length : tie.Need-same-length Inv-loop μ-loop
 same-length c = wrote-length (wrote-part _ (c .before .before .before .before .before .before .before .loop .t .at) _ _ _ _ (c .before .before .before .before .before .lesser .ensures) (c .before .before .before .put-end .ensures)) ∙ c .before .before .before .before .before .before .before .loop .inv .4
@@ -84,8 +84,8 @@ returns c =
     let i = c .before .before .before .before .before .before .before .loop .inv in
     let h = c .before .before .before .before .before .before .loop-test .left in
     record {
-      wrote = left-last (rw (sent-end _ _ _ _ _ _ _ _ h) at (i .5)) (wrote-part _ _ _ _ _ _ (c .before .before .before .before .before .lesser .ensures) (c .before .before .before .put-end .ensures));
-      dashes = omega (arith, i .6, dashes-end (now (c .before .before .before .before .before .before .before .before .before .before .before .before .before .args .notes)) (now (c .before .before .before .before .before .before .before .before .before .before .before .before .before .args .table)) (c .before .before .before .before .before .before .before .before .before .before .before .before .before .args .n) (now (c .before .before .before .before .before .before .before .before .before .before .before .before .before .args .marks)) (c .before .before .before .before .before .before .before .before .before .before .before .before .before .args .l .indent) (c .before .before .before .before .before .before .before .loop .t .dashed) (c .before .before .before .before .before .before .before .loop .i) h);
+      wrote = left-last (rw (sent-end _ _ _ _ _ _ _ h) at (i .5)) (wrote-part _ _ _ _ _ _ (c .before .before .before .before .before .lesser .ensures) (c .before .before .before .put-end .ensures));
+      dashes = omega (arith, i .6, dashes-end (now (c .before .before .before .before .before .before .before .before .before .before .before .before .args .notes)) (now (c .before .before .before .before .before .before .before .before .before .before .before .before .args .table)) (c .before .before .before .before .before .before .before .before .before .before .before .before .args .n) (c .before .before .before .before .before .before .before .before .before .before .before .before .args .l .indent) (c .before .before .before .before .before .before .before .loop .t .dashed) (c .before .before .before .before .before .before .before .loop .i) h);
       few = omega (arith, i .3, i .1);
     }
 
@@ -98,7 +98,7 @@ emit-rest-spec =
     loop-holds
     get-requires
     added-space-requires
-    shared-slice-read-fresh
+    starts-line-requires
     add-i
     put-next-requires
     loop-less
@@ -108,6 +108,6 @@ emit-rest-spec =
     part-put-end-start
     part-put-end-end
     put-end-requires
-    add-t25
+    add-t23
     same-length
     returns)

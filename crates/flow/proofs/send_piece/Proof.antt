@@ -6,20 +6,20 @@ use Rattle.flow.proofs.send_piece.Statement.{statement}
 use Rattle.flow.proofs.send_piece.Tie as tie
 
 next-piece-requires : tie.Need-next-piece-requires
-next-piece-requires c κs = let p = c .before .before .before .before .before .pre in (p .2, p .0 .admitted .short, ready-usable _ _ _ (p .0), ready-cleared _ _ _ (p .0))
+next-piece-requires c κs = let p = c .before .before .before .before .pre in (p .2, p .0 .admitted .short, ready-usable _ _ _ (p .0), ready-cleared _ _ _ (p .0))
 
 enum-known-next : tie.Need-enum-known-next
 enum-known-next c = search needs
 
 send-line-requires : tie.Need-send-line-requires
-send-line-requires c κs = let p = c .before .before .before .before .before .before .before .before .before .before .pre in (omega arith, p .1 .within, omega (arith, p .0 .admitted .short), omega (arith, p .0 .admitted .short, p .1 .within, p .1 .bounded))
+send-line-requires c κs = let p = c .before .before .before .before .before .before .before .before .before .pre in (omega arith, p .1 .within, omega (arith, p .0 .admitted .short), omega (arith, p .0 .admitted .short, p .1 .within, p .1 .bounded))
 
 enum-known-end : tie.Need-enum-known-end
 enum-known-end c = search needs
 
 send-line-requires-2 : tie.Need-send-line-requires-2
 send-line-requires-2 c κs =
-    let p = c .before .before .before .before .before .before .before .before .before .before .pre in
+    let p = c .before .before .before .before .before .before .before .before .before .pre in
     let m = found-goes _ _ _ (p .0) _ _ _ _ (p .2) (c .before .before .before .before .next-piece .ensures) (c .before .before .end .given .1) in
     (omega (arith, m .1), omega (arith, m .1, m .2, m .0 .within), omega (arith, p .0 .admitted .short), omega (arith, p .0 .admitted .short, p .1 .within, p .1 .bounded))
 
@@ -28,27 +28,27 @@ enum-known-p c = search needs
 
 send-text-requires : tie.Need-send-text-requires
 send-text-requires c κs =
-    let p = c .before .before .before .before .before .before .before .before .before .before .before .before .pre in
-    let g = found-goes _ _ _ (p .0) _ _ _ _ (p .2) (c .before .before .before .before .before .before .next-piece .ensures) (c .before .before .before .before .p .given .1) in
-    (text-placed _ _ _ (p .0) (c .before .before .before .before .before .before .before .before .before .before .before .before .args .c) g, p .3, omega (arith, p .0 .admitted .short, p .1 .within, p .1 .bounded), omega (arith, p .0 .admitted .short, p .1 .within, p .1 .few), ready-uniform _ _ _ (p .0))
+    let p = c .before .before .before .before .before .before .before .before .before .before .pre in
+    let g = found-goes _ _ _ (p .0) _ _ _ _ (p .2) (c .before .before .before .before .before .next-piece .ensures) (c .before .before .before .p .given .1) in
+    (text-placed _ _ _ (p .0) (c .before .before .before .before .before .before .before .before .before .before .args .c) g, p .3, omega (arith, p .0 .admitted .short, p .1 .within, p .1 .bounded), omega (arith, p .0 .admitted .short, p .1 .within, p .1 .few), ready-uniform _ _ _ (p .0))
 
 same-length : tie.Need-same-length
 same-length c = search needs
 
 returns : tie.Need-returns
 returns c =
-    let p = c .before .before .before .before .before .before .before .before .before .before .before .before .before .pre in
+    let p = c .before .before .before .before .before .before .before .before .before .before .before .before .pre in
     let m = found-goes _ _ _ (p .0) _ _ _ _ (p .2) (c .before .before .before .before .before .before .before .next-piece .ensures) (c .before .before .before .before .before .next .given .1) in
-    blank-put _ _ _ (c .before .before .before .before .before .before .before .before .before .before .before .before .before .args .c) _ _ _ m (c .before .before .send-line .ensures)
+    blank-put _ _ _ (c .before .before .before .before .before .before .before .before .before .before .before .before .args .c) _ _ _ m (c .before .before .send-line .ensures)
 
 same-length-2 : tie.Need-same-length-2
 same-length-2 c = search needs
 
 returns-2 : tie.Need-returns-2
 returns-2 c =
-    let p = c .before .before .before .before .before .before .before .before .before .before .before .before .before .pre in
+    let p = c .before .before .before .before .before .before .before .before .before .before .before .before .pre in
     let m = found-goes _ _ _ (p .0) _ _ _ _ (p .2) (c .before .before .before .before .before .before .before .next-piece .ensures) (c .before .before .before .before .before .end .given .1) in
-    plain-put _ _ _ (c .before .before .before .before .before .before .before .before .before .before .before .before .before .args .c) _ _ _ _ m (c .before .before .send-line2 .ensures)
+    plain-put _ _ _ (c .before .before .before .before .before .before .before .before .before .before .before .before .args .c) _ _ _ _ m (c .before .before .send-line2 .ensures)
 
 same-length-3 : tie.Need-same-length-3
 same-length-3 c = search needs
@@ -56,14 +56,11 @@ same-length-3 c = search needs
 same-length-4 : tie.Need-same-length-4
 same-length-4 c = search needs
 
-same-length-5 : tie.Need-same-length-5
-same-length-5 c = search needs
-
 returns-3 : tie.Need-returns-3
 returns-3 c =
-    let p = c .before .before .before .before .before .before .before .before .before .before .before .before .before .before .before .before .before .before .before .pre in
-    let g = found-goes _ _ _ (p .0) _ _ _ _ (p .2) (c .before .before .before .before .before .before .before .before .before .before .before .before .before .next-piece .ensures) (c .before .before .before .before .before .before .before .before .before .before .before .p .given .1) in
-    text-stepped _ _ _ (p .0) (c .before .before .before .before .before .before .before .before .before .before .before .before .before .before .before .before .before .before .before .args .c) g _ _ (c .before .before .before .before .before .before .send-text .result) (c .before .before .before .before .before .before .send-text .ensures _)
+    let p = c .before .before .before .before .before .before .before .before .before .before .before .before .before .before .before .pre in
+    let g = found-goes _ _ _ (p .0) _ _ _ _ (p .2) (c .before .before .before .before .before .before .before .before .before .before .next-piece .ensures) (c .before .before .before .before .before .before .before .before .p .given .1) in
+    text-stepped _ _ _ (p .0) (c .before .before .before .before .before .before .before .before .before .before .before .before .before .before .before .args .c) g _ _ (c .before .before .before .before .send-text .result) (c .before .before .before .before .send-text .ensures _)
 
 pub send-piece-spec : {M : Type 1} → statement M
 send-piece-spec =
@@ -82,5 +79,4 @@ send-piece-spec =
     returns-2
     same-length-3
     same-length-4
-    same-length-5
     returns-3)

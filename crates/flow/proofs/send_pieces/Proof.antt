@@ -1,31 +1,30 @@
 -- `flow::send_pieces` meets its contract. Invariant: what is left of the work from the first place on.
 use borrow.Author.Needs.{needs}
 use mathlib.Core.Path.{_≡_, refl, _∙_}
+use mathlib.Core.Bool.{true, true≢false}
 use native.Mathlib.Omega.{arith}
 use Prim.Native.Nat.{_-_}
 use lib.ListN.{length}
 use Rattle.options.specs.Opts.{meant}
+use Rattle.walk.proofs.Steps.{room-full}
 use Rattle.flow.proofs.Course.{Going, going-first, going-length, going-on, going-over, going-last, stepped-on, stepped-over}
 use Rattle.flow.proofs.send_pieces.Statement.{statement}
 use Rattle.flow.proofs.send_pieces.Tie as tie
 
 abbrev Inv-loop : tie.InvT-loop
-Inv-loop o block notes out₀ table₀ marks₀ c₀ out table marks c = Going (meant block o) notes out₀ c out × (length table ≡ 7168) × (length marks ≡ 1024)
+Inv-loop o block notes out₀ work₀ c₀ out work c = Going (meant block o) notes out₀ c out × (length work ≡ 7168)
 
 abbrev μ-loop : tie.MeasureT-loop
-μ-loop o block notes out₀ table₀ marks₀ c₀ out table marks c = length notes - c .at
+μ-loop o block notes out₀ work₀ c₀ out work c = length notes - c .at
 
 loop-holds : tie.Need-loop-holds Inv-loop μ-loop
-loop-holds c = (going-first _ _ _, refl, refl)
+loop-holds c = (going-first _ _ _, refl)
 
 slice-aggregate-send-piece : tie.Need-slice-aggregate-send-piece Inv-loop μ-loop
 slice-aggregate-send-piece c = search needs
 
-slice-aggregate-send-piece-2 : tie.Need-slice-aggregate-send-piece-2 Inv-loop μ-loop
-slice-aggregate-send-piece-2 c = search needs
-
 send-piece-requires : tie.Need-send-piece-requires Inv-loop μ-loop
-send-piece-requires c κs = let i = c .before .before .before .before .before .loop .inv in (c .before .before .before .before .before .before .before .before .before .pre, i .0 .stands, c .before .before .before .if1 .taken, record { words = omega (arith, i .1); marked = i .2 })
+send-piece-requires c κs = let i = c .before .before .before .before .loop .inv in (c .before .before .before .before .before .before .before .before .pre, i .0 .stands, c .before .before .if1 .taken, room-full true _ (λ e. i .1) (λ e. absurd (true≢false e)))
 
 enum-known-d : tie.Need-enum-known-d Inv-loop μ-loop
 enum-known-d c = search needs
@@ -34,16 +33,16 @@ enum-told : tie.Need-enum-told Inv-loop μ-loop
 enum-told c = search needs
 
 same-length : tie.Need-same-length Inv-loop μ-loop
-same-length c = c .before .before .before .before .before .out .given ∙ going-length _ _ (c .before .before .before .before .before .before .before .before .before .before .before .before .loop .inv .0)
+same-length c = c .before .before .before .before .out .given ∙ going-length _ _ (c .before .before .before .before .before .before .before .before .before .before .loop .inv .0)
 
 returns : tie.Need-returns Inv-loop μ-loop
-returns c = going-over _ _ (c .before .before .before .before .before .before .before .before .before .before .before .before .loop .inv .0) (stepped-over _ _ _ _ _ (c .before .before .before .before .before .before .send-piece .ensures) (c .enum-told .given .1))
+returns c = going-over _ _ (c .before .before .before .before .before .before .before .before .before .before .loop .inv .0) (stepped-over _ _ _ _ _ (c .before .before .before .before .before .send-piece .ensures) (c .enum-told .given .1))
 
 loop-less : tie.Need-loop-less Inv-loop μ-loop
-loop-less c = let p = stepped-on _ _ _ _ _ (c .before .before .before .before .before .before .before .send-piece .ensures) (c .before .d .given .1) in omega (arith, p .goes .on, p .goes .within)
+loop-less c = let p = stepped-on _ _ _ _ _ (c .before .before .before .before .before .before .send-piece .ensures) (c .before .d .given .1) in omega (arith, p .goes .on, p .goes .within)
 
 loop-again : tie.Need-loop-again Inv-loop μ-loop
-loop-again c = (going-on _ _ (c .before .before .before .before .before .before .before .before .before .before .before .before .before .loop .inv .0) (stepped-on _ _ _ _ _ (c .before .before .before .before .before .before .before .send-piece .ensures) (c .before .d .given .1)), c .before .before .before .before .table2 .given, c .before .before .before .marks2 .given)
+loop-again c = (going-on _ _ (c .before .before .before .before .before .before .before .before .before .before .before .loop .inv .0) (stepped-on _ _ _ _ _ (c .before .before .before .before .before .before .send-piece .ensures) (c .before .d .given .1)), c .before .before .before .work2 .given)
 
 same-length-2 : tie.Need-same-length-2 Inv-loop μ-loop
 same-length-2 c = going-length _ _ (c .before .before .loop .inv .0)
@@ -59,7 +58,6 @@ send-pieces-spec =
     μ-loop
     loop-holds
     slice-aggregate-send-piece
-    slice-aggregate-send-piece-2
     send-piece-requires
     enum-known-d
     enum-told

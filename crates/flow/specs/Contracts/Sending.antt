@@ -20,20 +20,21 @@ use Rattle.pieces.specs.declared.Margin.{Margin}
 use Rattle.pieces.specs.declared.Paragraph.{Paragraph}
 use Rattle.records.specs.declared.Word.{Word as Record}
 use Rattle.records.specs.Word.{meaning}
-use Rattle.records.specs.Contracts.Table.{Holds, wordsIn}
-use Rattle.records.specs.Contracts.Marks.{breaksIn}
+use Rattle.records.specs.Contracts.Table.{wordsIn}
+use Rattle.records.specs.Contracts.Marks.{marksIn, breaksOf}
 use Rattle.output.specs.declared.Layout.{Layout}
 use Rattle.output.specs.Contracts.Sink.{Wrote}
 use Rattle.output.specs.Contracts.Writers.{marginOf}
 use Rattle.quick.specs.Quick.{quickBreaks}
 use Rattle.paragraphs.specs.Contracts.Steps.{settingFor, wordsFor}
-use Rattle.walk.specs.Digest.{tooMany, longParagraph}
+use Rattle.walk.specs.Digest.{mostWords, tooMany, longParagraph}
 use Rattle.walk.specs.Contracts.Course.{Admitted, piecesFrom, longFrom, FirstPiece}
 use Rattle.formatter.specs.Answers.{Answer, outputAfter}
+use Rattle.formatter.specs.Format.{document01, within}
 use Rattle.formatter.specs.Contracts.Call.{told, replyNumber}
 use Rattle.unflow.specs.Flowed.{stuffing}
 use Rattle.flow.specs.Flow.{isDashed, sent, sentLines, flowed, pieceDashes, dashesIn}
-use Rattle.flow.specs.Answers.{isGiven, unfit, sentWords}
+use Rattle.flow.specs.Answers.{isGiven, unfit, sentIn}
 use Rattle.flow.specs.Contracts.Words.{spaceIf, nextSent, nextDashed, restSent, restDashes, wordsSent, wordsDashes}
 use Rattle.flow.specs.declared.Outcome.{Outcome}
 use Rattle.flow.specs.declared.Cursor.{Cursor}
@@ -102,27 +103,22 @@ pub record Turned (notes : List ℕ) (w : Record) (fresh : Bool) (added : ℕ) (
   pub few : r .at ≤ t .at + 2 ^ 34
 
 -- the words from i on
-abbrev pub sentFrom : List ℕ → List ℕ → ℕ → List Bool → Margin → Bool → Bool → ℕ → List ℕ
-sentFrom notes table n marks indent dashed punct i = restSent (marginOf notes indent) dashed punct (slice i n marks) (drop i (wordsIn notes n table))
+abbrev pub sentFrom : List ℕ → List ℕ → ℕ → Margin → Bool → Bool → ℕ → List ℕ
+sentFrom notes table n indent dashed punct i = restSent (marginOf notes indent) dashed punct (slice i n (marksIn n table)) (drop i (wordsIn notes n table))
 
-abbrev pub dashesFrom : List ℕ → List ℕ → ℕ → List Bool → Margin → Bool → ℕ → ℕ
-dashesFrom notes table n marks indent dashed i = restDashes (marginOf notes indent) dashed (slice i n marks) (drop i (wordsIn notes n table))
+abbrev pub dashesFrom : List ℕ → List ℕ → ℕ → Margin → Bool → ℕ → ℕ
+dashesFrom notes table n indent dashed i = restDashes (marginOf notes indent) dashed (slice i n (marksIn n table)) (drop i (wordsIn notes n table))
 
-pub record RestSent (notes table : List ℕ) (n : ℕ) (marks : List Bool) (indent : Margin) (out : List ℕ) (t : Turn) (out′ : List ℕ) (r : Turn) : Type 0 where
-  pub wrote : Wrote out (t .at) (sentFrom notes table n marks indent (t .dashed) false 1) out′ (r .at)
-  pub dashes : r .dashes ≡ dashesFrom notes table n marks indent (t .dashed) 1
+pub record RestSent (notes table : List ℕ) (n : ℕ) (indent : Margin) (out : List ℕ) (t : Turn) (out′ : List ℕ) (r : Turn) : Type 0 where
+  pub wrote : Wrote out (t .at) (sentFrom notes table n indent (t .dashed) false 1) out′ (r .at)
+  pub dashes : r .dashes ≡ dashesFrom notes table n indent (t .dashed) 1
   pub few : r .dashes ≤ n
 
 -- all of them
-pub record ParagraphSent (notes table : List ℕ) (n : ℕ) (marks : List Bool) (l : Layout) (out : List ℕ) (at : ℕ) (out′ : List ℕ) (r : Turn) : Type 0 where
-  pub wrote : Wrote out at (wordsSent (marginOf notes (l .first)) (marginOf notes (l .indent)) (breaksIn n marks) (wordsIn notes n table)) out′ (r .at)
-  pub dashes : r .dashes ≡ wordsDashes (marginOf notes (l .first)) (marginOf notes (l .indent)) (breaksIn n marks) (wordsIn notes n table)
+pub record ParagraphSent (notes table : List ℕ) (n : ℕ) (l : Layout) (out : List ℕ) (at : ℕ) (out′ : List ℕ) (r : Turn) : Type 0 where
+  pub wrote : Wrote out at (wordsSent (marginOf notes (l .first)) (marginOf notes (l .indent)) (breaksOf n table) (wordsIn notes n table)) out′ (r .at)
+  pub dashes : r .dashes ≡ wordsDashes (marginOf notes (l .first)) (marginOf notes (l .indent)) (breaksOf n table) (wordsIn notes n table)
   pub few : r .dashes ≤ n
-
--- tables for the most words that a paragraph may have
-pub record Tables (table : List ℕ) (marks : List Bool) : Type 0 where
-  pub words : Holds 1024 table
-  pub marked : length marks ≡ 1024
 
 -- a paragraph in places was written, or has too many words, and then the output is as it was
 pub record TextSent (notes : List ℕ) (c : Cursor) (o : Options) (p : Paragraph) (out out′ : List ℕ) (d : Cursor) (block : List ℕ) : Type 0 where
@@ -156,7 +152,7 @@ pub record CursorIn (notes : List ℕ) (c : Cursor) : Type 0 where
 pub record Put (o : Opts) (notes out : List ℕ) (c d : Cursor) (out′ : List ℕ) : Type 0 where
   pub kind : Kind
   pub goes : FirstPiece o (c .mail) notes (c .at) kind (d .mail) (d .at)
-  pub few : tooMany o kind ≡ false
+  pub few : tooMany mostWords o kind ≡ false
   pub wrote : Wrote out (c .written) (joined sent (sentLines o kind)) out′ (d .written)
   pub dashes : d .dashes ≡ c .dashes + pieceDashes o kind
   pub bounded : d .written + 3120 * c .at ≤ c .written + 3120 * d .at
@@ -169,8 +165,8 @@ PieceStepped o notes out c out′ Over = (longFrom o (c .mail) notes (c .at) ≡
 -- all were written; or the work stopped at a paragraph of too many words
 abbrev pub Finished : Opts → List ℕ → List ℕ → List ℕ → Ended → Type 0
 Finished o notes out out′ (All n k) =
-    (longParagraph o 0 (pieces o notes) ≡ Nowhere) × Wrote out 0 (flowed o notes) out′ n × (k ≡ dashesIn o (pieces o notes)) × (n ≤ 3120 * length notes)
-Finished o notes out out′ (Stopped place) = (longParagraph o 0 (pieces o notes) ≡ At place) × (length out′ ≡ length out) × (place ≤ length notes)
+    (longParagraph mostWords o 0 (pieces o notes) ≡ Nowhere) × Wrote out 0 (flowed o notes) out′ n × (k ≡ dashesIn o (pieces o notes)) × (n ≤ 3120 * length notes)
+Finished o notes out out′ (Stopped place) = (longParagraph mostWords o 0 (pieces o notes) ≡ At place) × (length out′ ≡ length out) × (place ≤ length notes)
 
 -- ---- the answer in code: without the bytes, which are in the output
 
@@ -182,11 +178,11 @@ pub record Sends (a : Answer) (dashes : ℕ) (out : List ℕ) (r : Outcome) (out
 
 -- what is left to be told where codes 1 to 3 are not due
 abbrev pub leftOf : Opts → List ℕ → ℕ → Answer
-leftOf o notes space = sentWords space o notes (longParagraph o 0 (pieces o notes))
+leftOf o notes space = within (document01 .words) (λ d. sentIn (document01 .words) space (flowed o notes)) o notes
 
 abbrev pub dashesLeft : Opts → List ℕ → ℕ → Found → ℕ
 dashesLeft o notes space (At place) = 0
 dashesLeft o notes space Nowhere = cond (leb (length (flowed o notes)) space) (dashesIn o (pieces o notes)) 0
 
 abbrev pub leftDashes : Opts → List ℕ → ℕ → ℕ
-leftDashes o notes space = dashesLeft o notes space (longParagraph o 0 (pieces o notes))
+leftDashes o notes space = dashesLeft o notes space (longParagraph mostWords o 0 (pieces o notes))

@@ -57,6 +57,15 @@ mul-result-5 c = search needs
 add-result-4 : tie.Need-add-result-4
 add-result-4 c = omega (arith, fits (c .before .a5 .given .1) (c .before .before .before .pre))
 
+enum-known-a-6 : tie.Need-enum-known-a-6
+enum-known-a-6 c = search needs
+
+mul-result-6 : tie.Need-mul-result-6
+mul-result-6 c = search needs
+
+add-result-5 : tie.Need-add-result-5
+add-result-5 c = omega (arith, fits (c .before .a6 .given .1) (c .before .before .before .pre))
+
 returns : tie.Need-returns
 returns c = search needs
 
@@ -74,6 +83,9 @@ returns-5 c = ap replyNumber (sym (c .before .a4 .given .1))
 
 returns-6 : tie.Need-returns-6
 returns-6 c = ap replyNumber (sym (c .before .a5 .given .1))
+
+returns-7 : tie.Need-returns-7
+returns-7 c = ap replyNumber (sym (c .before .a6 .given .1))
 
 pub number-of-spec : {M : Type 1} → statement M
 number-of-spec =
@@ -94,9 +106,13 @@ number-of-spec =
     enum-known-a-5
     mul-result-5
     add-result-4
+    enum-known-a-6
+    mul-result-6
+    add-result-5
     returns
     returns-2
     returns-3
     returns-4
     returns-5
-    returns-6)
+    returns-6
+    returns-7)

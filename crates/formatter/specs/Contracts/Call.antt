@@ -6,13 +6,11 @@ use lib.ListN.{length}
 use Rattle.options.specs.Opts.{Opts, meant}
 use Rattle.options.specs.OptionBlock.{readBlock}
 use Rattle.options.specs.declared.Options.{Options}
-use Rattle.pieces.specs.Pieces.{pieces}
-use Rattle.walk.specs.Digest.{longParagraph}
-use Rattle.formatter.specs.Format.{mostBytes, withWords, withNotes, withBlock}
+use Rattle.formatter.specs.Format.{Limits, within, withNotes, withBlock}
 use Rattle.walk.specs.Contracts.Course.{Admitted}
-use Rattle.formatter.specs.Answers.{Answer, done, options, long, text, words, room, outputAfter}
+use Rattle.formatter.specs.Answers.{Answer, done, options, long, text, words, room, work, code, outputAfter}
 use Rattle.formatter.specs.declared.Reply.{Reply}
-use Rattle.formatter.specs.declared.Reply.the-variants.{Done, Options as Faulty, Long, Text, Words, Room}
+use Rattle.formatter.specs.declared.Reply.the-variants.{Done, Options as Faulty, Long, Text, Words, Room, Work}
 use Rattle.formatter.specs.declared.Admission.{Admission}
 use Rattle.formatter.specs.declared.Admission.the-variants.{Refused, Passed}
 
@@ -25,6 +23,7 @@ told long = Long
 told (text place) = Text place
 told (words place) = Words place
 told (room needed) = Room needed
+told (work needed) = Work needed
 
 -- its number
 abbrev pub replyNumber : Reply → ℕ
@@ -34,6 +33,7 @@ replyNumber Long = 2 * 2 ^ 32
 replyNumber (Text place) = 3 * 2 ^ 32 + place
 replyNumber (Words place) = 4 * 2 ^ 32 + place
 replyNumber (Room needed) = 5 * 2 ^ 32 + needed
+replyNumber (Work needed) = 12 * 2 ^ 32 + needed
 
 -- what a function that gives the answer leaves behind: the answer as told, and the output after it
 pub record Answers (a : Answer) (out : List ℕ) (r : Reply) (out′ : List ℕ) : Type 0 where
@@ -48,15 +48,16 @@ pub record Refuses (whole : (List ℕ → Answer) → Answer) (r : Reply) : Type
   pub is : r ≡ told refusal
   pub whole-is : (then : List ℕ → Answer) → whole then ≡ refusal
   pub untouched : (out : List ℕ) → outputAfter refusal out ≡ out
+  pub early : code refusal ≤ 3
 
--- what is left to be told where none of them is due: code 4, or what becomes of the digest
-abbrev pub leftOf : Opts → List ℕ → (List ℕ → Answer) → Answer
-leftOf o notes then = withWords then o notes (longParagraph o 0 (pieces o notes))
+-- what is left to be told where none of them is due: code 4 or 12, or what becomes of the digest
+abbrev pub leftOf : Limits → Opts → List ℕ → (List ℕ → Answer) → Answer
+leftOf l o notes then = within (l .words) then o notes
 
-abbrev pub AdmitsNotes : List ℕ → Options → List ℕ → Admission → Type 0
-AdmitsNotes block o notes (Refused r) = Refuses (λ then. withNotes then (meant block o) notes) r
-AdmitsNotes block o notes (Passed p) = (p ≡ o) × (length notes ≤ mostBytes) × ((then : List ℕ → Answer) → withNotes then (meant block o) notes ≡ leftOf (meant block o) notes then)
+abbrev pub AdmitsNotes : Limits → List ℕ → Options → List ℕ → Admission → Type 0
+AdmitsNotes l block o notes (Refused r) = Refuses (λ then. withNotes l then (meant block o) notes) r
+AdmitsNotes l block o notes (Passed p) = (p ≡ o) × (length notes ≤ l .bytes) × ((then : List ℕ → Answer) → withNotes l then (meant block o) notes ≡ leftOf l (meant block o) notes then)
 
-abbrev pub Admits : List ℕ → List ℕ → Admission → Type 0
-Admits block notes (Refused r) = Refuses (λ then. withBlock then block notes (readBlock block)) r
-Admits block notes (Passed o) = Admitted block notes o × ((then : List ℕ → Answer) → withBlock then block notes (readBlock block) ≡ leftOf (meant block o) notes then)
+abbrev pub Admits : Limits → List ℕ → List ℕ → Admission → Type 0
+Admits l block notes (Refused r) = Refuses (λ then. withBlock l then block notes (readBlock block)) r
+Admits l block notes (Passed o) = Admitted block notes o × ((then : List ℕ → Answer) → withBlock l then block notes (readBlock block) ≡ leftOf l (meant block o) notes then) × (length notes ≤ l .bytes)

@@ -29,6 +29,12 @@ same-length-2 c = search needs
 same-length-3 : tie.Need-same-length-3
 same-length-3 c = search needs
 
+returns : tie.Need-returns
+returns c = full-answer _ _ _ _ _ _ _ _ (noted-as _ _ _ _ _ (c .before .before .before .before .before .before .before .before .before .before .before .before .before .before .note-pieces .ensures) (c .before .before .before .before .before .before .written .given .1)) _ (c .before .before .before .before .if1 .taken) (c .before .before .clear2 .ensures)
+
+clear-requires-3 : tie.Need-clear-requires-3
+clear-requires-3 c κs = search needs
+
 same-length-4 : tie.Need-same-length-4
 same-length-4 c = search needs
 
@@ -38,20 +44,20 @@ same-length-5 c = search needs
 same-length-6 : tie.Need-same-length-6
 same-length-6 c = search needs
 
+returns-2 : tie.Need-returns-2
+returns-2 c = room-answer _ _ _ _ _ _ _ _ (noted-as _ _ _ _ _ (c .before .before .before .before .before .before .before .before .before .before .before .before .before .before .before .note-pieces .ensures) (c .before .before .before .before .before .before .before .written .given .1)) _ (c .before .before .before .before .before .if1 .left) (omega (arith, c .before .before .before .before .if2 .taken, c .before .before .before .before .before .before .before .before .before .before .before .before .before .before .out .given)) (c .before .before .clear3 .ensures)
+
 same-length-7 : tie.Need-same-length-7
 same-length-7 c = search needs
-
-returns : tie.Need-returns
-returns c = full-answer _ _ _ _ _ _ _ _ (noted-as _ _ _ _ _ (c .before .before .before .before .before .before .before .before .before .before .before .before .before .before .before .before .before .before .before .before .before .before .note-pieces .ensures) (c .before .before .before .before .before .before .written .given .1)) _ (c .before .before .before .before .if1 .taken) (c .before .before .clear2 .ensures)
-
-clear-requires-3 : tie.Need-clear-requires-3
-clear-requires-3 c κs = search needs
 
 same-length-8 : tie.Need-same-length-8
 same-length-8 c = search needs
 
 same-length-9 : tie.Need-same-length-9
 same-length-9 c = search needs
+
+returns-3 : tie.Need-returns-3
+returns-3 c = let n = noted-as _ _ _ _ _ (c .before .before .before .before .before .before .before .before .before .before .before .before .before .note-pieces .ensures) (c .before .before .before .before .before .place .given .1) in words-answer _ _ _ _ _ _ _ _ (n .0) (n .1) (c .before .before .clear .ensures)
 
 same-length-10 : tie.Need-same-length-10
 same-length-10 c = search needs
@@ -62,62 +68,8 @@ same-length-11 c = search needs
 same-length-12 : tie.Need-same-length-12
 same-length-12 c = search needs
 
-same-length-13 : tie.Need-same-length-13
-same-length-13 c = search needs
-
-same-length-14 : tie.Need-same-length-14
-same-length-14 c = search needs
-
-returns-2 : tie.Need-returns-2
-returns-2 c = room-answer _ _ _ _ _ _ _ _ (noted-as _ _ _ _ _ (c .before .before .before .before .before .before .before .before .before .before .before .before .before .before .before .before .before .before .before .before .before .before .before .note-pieces .ensures) (c .before .before .before .before .before .before .before .written .given .1)) _ (c .before .before .before .before .before .if1 .left) (omega (arith, c .before .before .before .before .if2 .taken, c .before .before .before .before .before .before .before .before .before .before .before .before .before .before .before .before .before .before .before .before .before .before .out .given)) (c .before .before .clear3 .ensures)
-
-same-length-15 : tie.Need-same-length-15
-same-length-15 c = search needs
-
-same-length-16 : tie.Need-same-length-16
-same-length-16 c = search needs
-
-same-length-17 : tie.Need-same-length-17
-same-length-17 c = search needs
-
-same-length-18 : tie.Need-same-length-18
-same-length-18 c = search needs
-
-same-length-19 : tie.Need-same-length-19
-same-length-19 c = search needs
-
-same-length-20 : tie.Need-same-length-20
-same-length-20 c = search needs
-
-same-length-21 : tie.Need-same-length-21
-same-length-21 c = search needs
-
-returns-3 : tie.Need-returns-3
-returns-3 c = let n = noted-as _ _ _ _ _ (c .before .before .before .before .before .before .before .before .before .before .before .before .before .before .before .before .before .before .before .before .before .note-pieces .ensures) (c .before .before .before .before .before .place .given .1) in words-answer _ _ _ _ _ _ _ _ (n .0) (n .1) (c .before .before .clear .ensures)
-
-same-length-22 : tie.Need-same-length-22
-same-length-22 c = search needs
-
-same-length-23 : tie.Need-same-length-23
-same-length-23 c = search needs
-
-same-length-24 : tie.Need-same-length-24
-same-length-24 c = search needs
-
-same-length-25 : tie.Need-same-length-25
-same-length-25 c = search needs
-
-same-length-26 : tie.Need-same-length-26
-same-length-26 c = search needs
-
-same-length-27 : tie.Need-same-length-27
-same-length-27 c = search needs
-
-same-length-28 : tie.Need-same-length-28
-same-length-28 c = search needs
-
 returns-4 : tie.Need-returns-4
-returns-4 c = done-answer _ _ _ _ _ _ _ _ (noted-as _ _ _ _ _ (c .before .before .before .before .before .before .before .before .before .before .before .before .before .before .before .before .before .before .before .note-pieces .ensures) (c .before .before .before .written .given .1)) (c .before .if1 .left) (omega (arith, c .if2 .left, c .before .before .before .before .before .before .before .before .before .before .before .before .before .before .before .before .before .before .out .given))
+returns-4 c = done-answer _ _ _ _ _ _ _ _ (noted-as _ _ _ _ _ (c .before .before .before .before .before .before .before .before .before .before .before .note-pieces .ensures) (c .before .before .before .written .given .1)) (c .before .if1 .left) (omega (arith, c .if2 .left, c .before .before .before .before .before .before .before .before .before .before .out .given))
 
 pub index-with-spec : {M : Type 1} → statement M
 index-with-spec =
@@ -131,33 +83,17 @@ index-with-spec =
     same-length
     same-length-2
     same-length-3
+    returns
+    clear-requires-3
     same-length-4
     same-length-5
     same-length-6
+    returns-2
     same-length-7
-    returns
-    clear-requires-3
     same-length-8
     same-length-9
+    returns-3
     same-length-10
     same-length-11
     same-length-12
-    same-length-13
-    same-length-14
-    returns-2
-    same-length-15
-    same-length-16
-    same-length-17
-    same-length-18
-    same-length-19
-    same-length-20
-    same-length-21
-    returns-3
-    same-length-22
-    same-length-23
-    same-length-24
-    same-length-25
-    same-length-26
-    same-length-27
-    same-length-28
     returns-4)

@@ -7,27 +7,27 @@ use borrow.Author.Needs.{needs}
 use Rattle.options.specs.Opts.{meant}
 use Rattle.walk.specs.Contracts.Course.{Going, start}
 use Rattle.walk.proofs.Loop.{going-first, going-length, going-on, stands-first}
-use Rattle.indexer.proofs.Laws.{ample-same, stepped-on, stepped-over}
+use Rattle.indexer.proofs.Laws.{stepped-on, stepped-over}
 use Rattle.indexer.proofs.Marking.{Marking, marking-first, marking-spells, marking-on, noted-all, noted-stopped}
 use Rattle.indexer.proofs.note_pieces.Statement.{statement}
 use Rattle.indexer.proofs.note_pieces.Tie as tie
 
 abbrev Inv-loop : tie.InvT-loop
-Inv-loop o block notes out₀ gaps₀ table₀ breaks₀ ratios₀ active₀ marks₀ c₀ k₀ line₀ out gaps table breaks ratios active marks c k line =
+Inv-loop o block notes out₀ gaps₀ work₀ c₀ k₀ line₀ out gaps work c k line =
     Going (meant block o) notes start out₀ c out × Marking (meant block o) notes (length out₀) c k line gaps
-    × (length gaps ≡ length gaps₀) × (length table ≡ length table₀) × (length breaks ≡ length breaks₀) × (length ratios ≡ length ratios₀) × (length active ≡ length active₀) × (length marks ≡ length marks₀)
+    × (length gaps ≡ length gaps₀) × (length work ≡ length work₀)
 
 abbrev μ-loop : tie.MeasureT-loop
-μ-loop o block notes out₀ gaps₀ table₀ breaks₀ ratios₀ active₀ marks₀ c₀ k₀ line₀ out gaps table breaks ratios active marks c k line = length notes - c .at
+μ-loop o block notes out₀ gaps₀ work₀ c₀ k₀ line₀ out gaps work c k line = length notes - c .at
 
 loop-holds : tie.Need-loop-holds Inv-loop μ-loop
-loop-holds c = (going-first _ _ _ _ (stands-first _), marking-first _ _ _ _ (c .before .before .before .before .before .before .before .before .before .pre .1), refl, refl, refl, refl, refl, refl)
+loop-holds c = (going-first _ _ _ _ (stands-first _), marking-first _ _ _ _ (c .before .before .before .before .before .pre .1 .clear), refl, refl)
 
 put-piece-requires : tie.Need-put-piece-requires Inv-loop μ-loop
 put-piece-requires c κs =
-    let p = c .before .before .before .before .before .before .before .before .before .before .before .before .before .before .before .before .before .before .pre in
-    let i = c .before .before .before .before .before .before .before .before .loop .inv in
-    (p .0, i .0 .stands, c .before .before .before .before .before .before .if1 .taken, ample-same _ _ _ _ _ _ (p .2) _ _ _ _ _ (i .3) (i .4) (i .5) (i .6) (i .7))
+    let p = c .before .before .before .before .before .before .before .before .before .before .pre in
+    let i = c .before .before .before .before .loop .inv in
+    (p .0, i .0 .stands, c .before .before .if1 .taken, rw (i .3) (p .2))
 
 enum-known-d : tie.Need-enum-known-d Inv-loop μ-loop
 enum-known-d c = search needs
@@ -36,79 +36,51 @@ enum-told : tie.Need-enum-told Inv-loop μ-loop
 enum-told c = search needs
 
 same-length : tie.Need-same-length Inv-loop μ-loop
-same-length c = c .before .before .before .before .before .before .before .before .before .before .before .before .before .out .given ∙ going-length _ _ (c .before .before .before .before .before .before .before .before .before .before .before .before .before .before .before .before .before .before .before .before .before .before .before .loop .inv .0)
+same-length c = c .before .before .before .before .before .out .given ∙ going-length _ _ (c .before .before .before .before .before .before .before .before .before .before .before .loop .inv .0)
 
 same-length-2 : tie.Need-same-length-2 Inv-loop μ-loop
-same-length-2 c = c .before .before .before .before .before .before .before .before .before .before .before .before .before .before .before .before .before .before .before .before .before .before .before .loop .inv .2
+same-length-2 c = c .before .before .before .before .before .before .before .before .before .before .before .loop .inv .2
 
 same-length-3 : tie.Need-same-length-3 Inv-loop μ-loop
-same-length-3 c = c .before .before .before .before .before .before .before .before .before .before .before .table .given ∙ c .before .before .before .before .before .before .before .before .before .before .before .before .before .before .before .before .before .before .before .before .before .before .before .loop .inv .3
-
-same-length-4 : tie.Need-same-length-4 Inv-loop μ-loop
-same-length-4 c = c .before .before .before .before .before .before .before .before .before .breaks .given ∙ c .before .before .before .before .before .before .before .before .before .before .before .before .before .before .before .before .before .before .before .before .before .before .before .loop .inv .4
-
-same-length-5 : tie.Need-same-length-5 Inv-loop μ-loop
-same-length-5 c = c .before .before .before .before .before .before .before .ratios .given ∙ c .before .before .before .before .before .before .before .before .before .before .before .before .before .before .before .before .before .before .before .before .before .before .before .loop .inv .5
-
-same-length-6 : tie.Need-same-length-6 Inv-loop μ-loop
-same-length-6 c = c .before .before .before .before .before .active .given ∙ c .before .before .before .before .before .before .before .before .before .before .before .before .before .before .before .before .before .before .before .before .before .before .before .loop .inv .6
-
-same-length-7 : tie.Need-same-length-7 Inv-loop μ-loop
-same-length-7 c = c .before .before .before .marks .given ∙ c .before .before .before .before .before .before .before .before .before .before .before .before .before .before .before .before .before .before .before .before .before .before .before .loop .inv .7
+same-length-3 c = c .before .before .before .work .given ∙ c .before .before .before .before .before .before .before .before .before .before .before .loop .inv .3
 
 returns : tie.Need-returns Inv-loop μ-loop
-returns c = noted-stopped _ _ _ (c .before .before .before .before .before .before .before .before .before .before .before .before .before .before .before .before .before .before .before .before .before .before .before .loop .inv .0) (stepped-over _ _ _ _ _ (c .before .before .before .before .before .before .before .before .before .before .before .before .before .before .put-piece .ensures) (c .enum-told .given .1))
+returns c = noted-stopped _ _ _ (c .before .before .before .before .before .before .before .before .before .before .before .loop .inv .0) (stepped-over _ _ _ _ _ (c .before .before .before .before .before .before .put-piece .ensures) (c .enum-told .given .1))
 
 spell-requires : tie.Need-spell-requires Inv-loop μ-loop
 spell-requires c κs =
-    let p = stepped-on _ _ _ _ _ (c .before .before .before .before .before .before .before .before .before .before .before .before .before .before .before .before .before .put-piece .ensures) (c .before .before .before .d .given .1) in
-    let i = c .before .before .before .before .before .before .before .before .before .before .before .before .before .before .before .before .before .before .before .before .before .before .before .before .before .before .loop .inv in
-    marking-spells _ _ _ (i .1) p (c .before .before .before .before .before .before .before .before .before .before .before .before .before .before .before .before .before .before .before .before .before .before .before .before .before .before .before .before .before .before .before .before .before .before .before .before .pre .0 .short) (c .before .before .before .before .before .before .before .before .before .before .before .before .before .before .before .before .out .given ∙ going-length _ _ (i .0))
+    let p = stepped-on _ _ _ _ _ (c .before .before .before .before .before .before .before .before .before .put-piece .ensures) (c .before .before .before .d .given .1) in
+    let i = c .before .before .before .before .before .before .before .before .before .before .before .before .before .before .loop .inv in
+    marking-spells _ _ _ (i .1) p (c .before .before .before .before .before .before .before .before .before .before .before .before .before .before .before .before .before .before .before .before .pre .1 .enough) (c .before .before .before .before .before .before .before .before .out .given ∙ going-length _ _ (i .0))
 
 add-k : tie.Need-add-k Inv-loop μ-loop
 add-k c =
-    let i = c .before .before .before .before .before .before .before .before .before .before .before .before .before .before .before .before .before .before .before .before .before .before .before .before .before .before .before .before .before .loop .inv in
-    omega (arith, i .1 .few, i .0 .stands .within, c .before .before .before .before .before .before .before .before .before .before .before .before .before .before .before .before .before .before .before .before .before .before .before .before .before .before .before .before .before .before .before .before .before .before .before .before .before .before .before .pre .0 .short)
+    let i = c .before .before .before .before .before .before .before .before .before .before .before .before .before .before .before .before .before .loop .inv in
+    omega (arith, i .1 .few, i .0 .stands .within, c .before .before .before .before .before .before .before .before .before .before .before .before .before .before .before .before .before .before .before .before .before .before .before .pre .0 .short)
 
 loop-less : tie.Need-loop-less Inv-loop μ-loop
 loop-less c =
-    let p = stepped-on _ _ _ _ _ (c .before .before .before .before .before .before .before .before .before .before .before .before .before .before .before .before .before .before .before .before .put-piece .ensures) (c .before .before .before .before .before .before .d .given .1) in
+    let p = stepped-on _ _ _ _ _ (c .before .before .before .before .before .before .before .before .before .before .before .before .put-piece .ensures) (c .before .before .before .before .before .before .d .given .1) in
     omega (arith, p .goes .on, p .goes .within)
 
 loop-again : tie.Need-loop-again Inv-loop μ-loop
 loop-again c =
-    let p = stepped-on _ _ _ _ _ (c .before .before .before .before .before .before .before .before .before .before .before .before .before .before .before .before .before .before .before .before .put-piece .ensures) (c .before .before .before .before .before .before .d .given .1) in
-    let i = c .before .before .before .before .before .before .before .before .before .before .before .before .before .before .before .before .before .before .before .before .before .before .before .before .before .before .before .before .before .loop .inv in (
+    let p = stepped-on _ _ _ _ _ (c .before .before .before .before .before .before .before .before .before .before .before .before .put-piece .ensures) (c .before .before .before .before .before .before .d .given .1) in
+    let i = c .before .before .before .before .before .before .before .before .before .before .before .before .before .before .before .before .before .loop .inv in (
       going-on _ _ (i .0) p,
-      marking-on _ _ _ (i .1) p (c .before .before .before .before .before .before .before .before .before .before .before .before .before .before .before .before .before .before .before .before .before .before .before .before .before .before .before .before .before .before .before .before .before .before .before .before .before .before .before .pre .0 .short) (c .before .before .before .before .before .before .before .before .before .before .before .before .before .before .before .before .before .before .before .out .given ∙ going-length _ _ (i .0)) (c .before .before .spell .ensures),
+      marking-on _ _ _ (i .1) p (c .before .before .before .before .before .before .before .before .before .before .before .before .before .before .before .before .before .before .before .before .before .before .before .pre .1 .enough) (c .before .before .before .before .before .before .before .before .before .before .before .out .given ∙ going-length _ _ (i .0)) (c .before .before .spell .ensures),
       c .before .gaps .given ∙ i .2,
-      c .before .before .before .before .before .before .before .before .before .before .before .before .before .before .before .before .before .table .given ∙ i .3,
-      c .before .before .before .before .before .before .before .before .before .before .before .before .before .before .before .breaks .given ∙ i .4,
-      c .before .before .before .before .before .before .before .before .before .before .before .before .before .ratios .given ∙ i .5,
-      c .before .before .before .before .before .before .before .before .before .before .before .active .given ∙ i .6,
-      c .before .before .before .before .before .before .before .before .before .marks .given ∙ i .7,
+      c .before .before .before .before .before .before .before .before .before .work .given ∙ i .3,
     )
 
-same-length-8 : tie.Need-same-length-8 Inv-loop μ-loop
-same-length-8 c = going-length _ _ (c .before .before .loop .inv .0)
+same-length-4 : tie.Need-same-length-4 Inv-loop μ-loop
+same-length-4 c = going-length _ _ (c .before .before .loop .inv .0)
 
-same-length-9 : tie.Need-same-length-9 Inv-loop μ-loop
-same-length-9 c = c .before .before .loop .inv .2
+same-length-5 : tie.Need-same-length-5 Inv-loop μ-loop
+same-length-5 c = c .before .before .loop .inv .2
 
-same-length-10 : tie.Need-same-length-10 Inv-loop μ-loop
-same-length-10 c = c .before .before .loop .inv .3
-
-same-length-11 : tie.Need-same-length-11 Inv-loop μ-loop
-same-length-11 c = c .before .before .loop .inv .4
-
-same-length-12 : tie.Need-same-length-12 Inv-loop μ-loop
-same-length-12 c = c .before .before .loop .inv .5
-
-same-length-13 : tie.Need-same-length-13 Inv-loop μ-loop
-same-length-13 c = c .before .before .loop .inv .6
-
-same-length-14 : tie.Need-same-length-14 Inv-loop μ-loop
-same-length-14 c = c .before .before .loop .inv .7
+same-length-6 : tie.Need-same-length-6 Inv-loop μ-loop
+same-length-6 c = c .before .before .loop .inv .3
 
 returns-2 : tie.Need-returns-2 Inv-loop μ-loop
 returns-2 c = let i = c .before .before .loop .inv in noted-all _ _ _ (i .0) (i .1) (c .if1 .left)
@@ -126,20 +98,12 @@ note-pieces-spec =
     same-length
     same-length-2
     same-length-3
-    same-length-4
-    same-length-5
-    same-length-6
-    same-length-7
     returns
     spell-requires
     add-k
     loop-less
     loop-again
-    same-length-8
-    same-length-9
-    same-length-10
-    same-length-11
-    same-length-12
-    same-length-13
-    same-length-14
+    same-length-4
+    same-length-5
+    same-length-6
     returns-2)

@@ -66,6 +66,15 @@ mul-result-6 c = search needs
 add-result-5 : tie.Need-add-result-5
 add-result-5 c = omega (arith, fits (c .before .r6 .given .1) (c .before .before .before .pre))
 
+enum-known-r-7 : tie.Need-enum-known-r-7
+enum-known-r-7 c = search needs
+
+mul-result-7 : tie.Need-mul-result-7
+mul-result-7 c = search needs
+
+add-result-6 : tie.Need-add-result-6
+add-result-6 c = omega (arith, fits (c .before .r7 .given .1) (c .before .before .before .pre))
+
 returns : tie.Need-returns
 returns c = sym (ap toldNumber (c .before .r .given .1))
 
@@ -86,6 +95,9 @@ returns-6 c = sym (ap toldNumber (c .before .r5 .given .1))
 
 returns-7 : tie.Need-returns-7
 returns-7 c = sym (ap toldNumber (c .before .r6 .given .1))
+
+returns-8 : tie.Need-returns-8
+returns-8 c = sym (ap toldNumber (c .before .r7 .given .1))
 
 pub number-of-spec : {M : Type 1} → statement M
 number-of-spec =
@@ -109,10 +121,14 @@ number-of-spec =
     enum-known-r-6
     mul-result-6
     add-result-5
+    enum-known-r-7
+    mul-result-7
+    add-result-6
     returns
     returns-2
     returns-3
     returns-4
     returns-5
     returns-6
-    returns-7)
+    returns-7
+    returns-8)

@@ -8,14 +8,14 @@ use Rattle.indexer.proofs.put_piece.Statement.{statement}
 use Rattle.indexer.proofs.put_piece.Tie as tie
 
 next-piece-requires : tie.Need-next-piece-requires
-next-piece-requires c κs = let p = c .before .before .before .before .before .before .before .before .pre in (p .2, p .0 .short, ready-usable _ _ _ (p .0), ready-cleared _ _ _ (p .0))
+next-piece-requires c κs = let p = c .before .before .before .before .pre in (p .2, p .0 .short, ready-usable _ _ _ (p .0), ready-cleared _ _ _ (p .0))
 
 enum-known-next : tie.Need-enum-known-next
 enum-known-next c = search needs
 
 emit-line-requires : tie.Need-emit-line-requires
 emit-line-requires c κs =
-    let p = c .before .before .before .before .before .before .before .before .before .before .before .before .before .pre in
+    let p = c .before .before .before .before .before .before .before .before .before .pre in
     (omega arith, p .1 .within, omega (arith, p .0 .short), omega (arith, p .0 .short, p .1 .within, p .1 .bounded))
 
 enum-known-end : tie.Need-enum-known-end
@@ -23,7 +23,7 @@ enum-known-end c = search needs
 
 emit-line-requires-2 : tie.Need-emit-line-requires-2
 emit-line-requires-2 c κs =
-    let p = c .before .before .before .before .before .before .before .before .before .before .before .before .before .pre in
+    let p = c .before .before .before .before .before .before .before .before .before .pre in
     let m = found-goes _ _ _ (p .0) _ _ _ _ (p .2) (c .before .before .before .before .next-piece .ensures) (c .before .before .end .given .1) in
     (omega (arith, m .1), omega (arith, m .1, m .2, m .0 .within), omega (arith, p .0 .short), omega (arith, p .0 .short, p .1 .within, p .1 .bounded))
 
@@ -32,16 +32,16 @@ enum-known-p c = search needs
 
 put-paragraph-requires : tie.Need-put-paragraph-requires
 put-paragraph-requires c κs =
-    let p = c .before .before .before .before .before .before .before .before .before .before .before .before .before .before .before .before .before .before .pre in
-    let b = found-begins _ _ _ (c .before .before .before .before .before .before .before .before .before .before .before .before .before .before .before .before .before .before .args .c) _ (p .2) (c .before .before .before .before .before .before .before .before .before .next-piece .ensures) (c .before .before .before .before .before .before .before .p .given .1) in
-    (begins-placed _ _ _ _ _ (p .0) b, p .3 .tables, omega (arith, p .0 .short, p .1 .within, p .1 .bounded))
+    let p = c .before .before .before .before .before .before .before .before .before .before .pre in
+    let b = found-begins _ _ _ (c .before .before .before .before .before .before .before .before .before .before .args .c) _ (p .2) (c .before .before .before .before .before .next-piece .ensures) (c .before .before .before .p .given .1) in
+    (begins-placed _ _ _ _ _ (p .0) b, omega (arith, p .0 .short, p .1 .within, p .1 .bounded))
 
 same-length : tie.Need-same-length
 same-length c = search needs
 
 returns : tie.Need-returns
 returns c =
-    let p = c .before .before .before .before .before .before .before .before .before .before .before .before .before .before .before .before .pre in
+    let p = c .before .before .before .before .before .before .before .before .before .before .before .before .pre in
     let m = found-goes _ _ _ (p .0) _ _ _ _ (p .2) (c .before .before .before .before .before .before .before .next-piece .ensures) (c .before .before .before .before .before .next .given .1) in
     blank-put _ _ _ _ _ _ _ m (c .before .before .emit-line .ensures)
 
@@ -50,7 +50,7 @@ same-length-2 c = search needs
 
 returns-2 : tie.Need-returns-2
 returns-2 c =
-    let p = c .before .before .before .before .before .before .before .before .before .before .before .before .before .before .before .before .pre in
+    let p = c .before .before .before .before .before .before .before .before .before .before .before .before .pre in
     let m = found-goes _ _ _ (p .0) _ _ _ _ (p .2) (c .before .before .before .before .before .before .before .next-piece .ensures) (c .before .before .before .before .before .end .given .1) in
     plain-put _ _ _ _ _ _ _ _ m (c .before .before .emit-line2 .ensures) refl (omega arith)
 
@@ -60,23 +60,11 @@ same-length-3 c = search needs
 same-length-4 : tie.Need-same-length-4
 same-length-4 c = search needs
 
-same-length-5 : tie.Need-same-length-5
-same-length-5 c = search needs
-
-same-length-6 : tie.Need-same-length-6
-same-length-6 c = search needs
-
-same-length-7 : tie.Need-same-length-7
-same-length-7 c = search needs
-
-same-length-8 : tie.Need-same-length-8
-same-length-8 c = search needs
-
 returns-3 : tie.Need-returns-3
 returns-3 c =
-    let p = c .before .before .before .before .before .before .before .before .before .before .before .before .before .before .before .before .before .before .before .before .before .before .before .before .before .before .before .before .before .before .before .pre in
-    let b = found-begins _ _ _ (c .before .before .before .before .before .before .before .before .before .before .before .before .before .before .before .before .before .before .before .before .before .before .before .before .before .before .before .before .before .before .before .args .c) _ (p .2) (c .before .before .before .before .before .before .before .before .before .before .before .before .before .before .before .before .before .before .before .before .before .before .next-piece .ensures) (c .before .before .before .before .before .before .before .before .before .before .before .before .before .before .before .before .before .before .before .before .p .given .1) in
-    text-stepped _ _ _ _ _ _ (p .3) _ _ _ _ (p .0) (p .1) b _ _ (c .before .before .before .before .before .before .before .before .before .before .before .before .put-paragraph .result) (c .before .before .before .before .before .before .before .before .before .before .before .before .put-paragraph .ensures _)
+    let p = c .before .before .before .before .before .before .before .before .before .before .before .before .before .before .before .pre in
+    let b = found-begins _ _ _ (c .before .before .before .before .before .before .before .before .before .before .before .before .before .before .before .args .c) _ (p .2) (c .before .before .before .before .before .before .before .before .before .before .next-piece .ensures) (c .before .before .before .before .before .before .before .before .p .given .1) in
+    text-stepped _ _ (p .3) _ _ _ _ (p .0) (p .1) b _ _ (c .before .before .before .before .put-paragraph .result) (c .before .before .before .before .put-paragraph .ensures _)
 
 pub put-piece-spec : {M : Type 1} → statement M
 put-piece-spec =
@@ -95,8 +83,4 @@ put-piece-spec =
     returns-2
     same-length-3
     same-length-4
-    same-length-5
-    same-length-6
-    same-length-7
-    same-length-8
     returns-3)

@@ -41,7 +41,7 @@ same-length-2 c = search needs
 returns : tie.Need-returns
 returns c =
     let a = c .before .before .before .before .before .before .write-pieces .ensures in
-    marked a (told-few _ _ _ _) (c .before .records-in .ensures) (c .number-of .ensures)
+    marked a (told-few _ _ _ _ _) (c .before .records-in .ensures) (c .number-of .ensures)
 
 pub write-marked-spec : {M : Type 1} → statement M
 write-marked-spec =

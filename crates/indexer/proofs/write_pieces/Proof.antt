@@ -1,4 +1,6 @@
 -- `indexer::write_pieces` meets its contract.
+use native.Mathlib.Omega.{arith}
+use Rattle.formatter.specs.Format.{document01}
 use Rattle.formatter.proofs.Refusals.{passed, refused}
 use Rattle.indexer.proofs.Answers.{indexing-left, refused-answer}
 use borrow.Author.Needs.{needs}
@@ -18,10 +20,12 @@ enum-known-o : tie.Need-enum-known-o
 enum-known-o c = search needs
 
 index-notes-requires : tie.Need-index-notes-requires
-index-notes-requires c κs = (passed _ _ (c .before .before .before .before .before .admit .ensures) (c .before .before .before .o .given .1) .0, c .before .before .before .before .before .before .before .before .before .before .pre)
+index-notes-requires c κs =
+    let a = passed document01 _ _ (c .before .before .before .before .before .admit .ensures) (c .before .before .before .o .given .1) in
+    (a .0, record { clear = c .before .before .before .before .before .before .before .before .before .before .pre; enough = omega (arith, a .2) })
 
 returns : tie.Need-returns
-returns c = rw (c .refused .ensures) (refused-answer _ _ _ _ _ _ _ (refused _ _ (c .before .before .before .before .admit .ensures) (c .before .before .r .given .1)))
+returns c = rw (c .refused .ensures) (refused-answer _ _ _ _ _ _ _ (refused document01 _ _ (c .before .before .before .before .admit .ensures) (c .before .before .r .given .1)))
 
 same-length : tie.Need-same-length
 same-length c = search needs
@@ -30,7 +34,7 @@ same-length-2 : tie.Need-same-length-2
 same-length-2 c = search needs
 
 returns-2 : tie.Need-returns-2
-returns-2 c = rw (indexing-left _ _ _ _ _ (passed _ _ (c .before .before .before .before .before .before .before .before .before .before .admit .ensures) (c .before .before .before .before .before .before .before .before .o .given .1))) (c .before .before .before .before .index-notes .ensures)
+returns-2 c = rw (indexing-left _ _ _ _ _ (passed document01 _ _ (c .before .before .before .before .before .before .before .before .before .before .admit .ensures) (c .before .before .before .before .before .before .before .before .o .given .1))) (c .before .before .before .before .index-notes .ensures)
 
 pub write-pieces-spec : {M : Type 1} → statement M
 write-pieces-spec =

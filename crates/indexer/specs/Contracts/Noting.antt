@@ -1,46 +1,39 @@
 -- What the functions of the indexed call answer for: what is spelled of the pieces, the records that are read from it, and the code's
 -- answer.
 use mathlib.Core.Path.{_≡_}
-use mathlib.Core.Bool.{Bool, true, false}
+use mathlib.Core.Bool.{true, false}
 use mathlib.Core.List.{List, [], _∷_}
 use Prim.Native.Nat.{ℕ, _+_, _-_, _*_, _^_, _≤_, _<_}
-use lib.Ieee.{Float}
-use lib.ListN.{length, take, drop, getD, set}
+use lib.ListN.{length, take, drop, replicate, getD, set}
 use Rattle.text.specs.declared.Found.{Found}
 use Rattle.text.specs.declared.Found.the-variants.{At, Nowhere}
 use Rattle.options.specs.Opts.{Opts}
-use Rattle.options.specs.declared.Options.{Options}
 use Rattle.lines.specs.Lines.{linesOf}
+use Rattle.lines.specs.Contracts.Places.{mostLarge}
 use Rattle.pieces.specs.Pieces.{Piece, pieces}
 use Rattle.output.specs.Contracts.Sink.{Wrote}
-use Rattle.paragraphs.specs.Contracts.Steps.{Scratch}
 use Rattle.paragraphs.specs.declared.Cursor.{Cursor}
 use Rattle.paragraphs.specs.declared.Step.{Step}
 use Rattle.paragraphs.specs.declared.Step.the-variants.{On, Over}
-use Rattle.walk.specs.Digest.{digest, extentOf, longParagraph}
+use Rattle.walk.specs.Digest.{mostWords, digest, extentOf, longParagraph}
 use Rattle.walk.specs.Contracts.Course.{longFrom, Put}
+use Rattle.formatter.specs.Format.{document01}
 use Rattle.formatter.specs.declared.Reply.{Reply}
-use Rattle.formatter.specs.declared.Reply.the-variants.{Done as ReplyDone, Options as ReplyOptions, Long as ReplyLong, Text as ReplyText, Words as ReplyWords, Room as ReplyRoom}
+use Rattle.formatter.specs.declared.Reply.the-variants.{Done as ReplyDone, Options as ReplyOptions, Long as ReplyLong, Text as ReplyText, Words as ReplyWords, Room as ReplyRoom, Work as ReplyWork}
 use Rattle.marks.specs.Contracts.Marks.{marksIn}
 use Rattle.index.specs.declared.Record.{Record}
 use Rattle.index.specs.Contracts.Lists.{noRecord}
 use Rattle.index.specs.Contracts.Reading.{readFrom}
 use Rattle.indexer.specs.Index.{lineCount, indexOf}
-use Rattle.indexer.specs.Answers.{Indexed, done, options, long, text, words, full, room, numbered, outputAfter, filledAfter}
+use Rattle.indexer.specs.Answers.{Indexed, done, options, long, text, words, full, room, work, numbered, outputAfter, filledAfter}
 use Rattle.indexer.specs.Indexing.{withIndex}
 use Rattle.indexer.specs.declared.Told.{Told}
 use Rattle.indexer.specs.declared.Filled.{Filled}
-use Rattle.indexer.specs.declared.Filled.the-variants.{Done, Options as Faulty, Long, Text, Words, Full, Room}
+use Rattle.indexer.specs.declared.Filled.the-variants.{Done, Options as Faulty, Long, Text, Words, Full, Room, Work}
 use Rattle.indexer.specs.declared.Pieces.{Pieces}
 use Rattle.indexer.specs.declared.Pieces.the-variants.{All, Stopped}
 
 -- ---- a piece: written, or a paragraph of too many words, and then the output is as it was
-
--- working storage for the most words that a paragraph may have; quick does without breaks
-pub record Ample (o : Options) (table breaks : List ℕ) (ratios : List Float) (active : List ℕ) (marks : List Bool) : Type 0 where
-  pub tables : Scratch table breaks ratios active marks
-  pub words : length marks ≡ 1024
-  pub offers : o .quick ≡ false → length ratios ≡ 1024
 
 abbrev pub PieceStepped : Opts → List ℕ → List ℕ → Cursor → List ℕ → Step → Type 0
 PieceStepped o notes out c out′ (On d) = Put o notes out c d out′
@@ -56,10 +49,15 @@ gapsOf o (q ∷ qs) = length (extentOf q) ∷ lineCount o q ∷ gapsOf o qs
 abbrev pub linesPut : List ℕ → Cursor → Cursor → ℕ
 linesPut out c d = length (linesOf (take (d .written - c .written) (drop (c .written) out)))
 
+-- a table of bits, none of them set, with two for each byte of the notes
+pub record Unmarked (notes gaps : List ℕ) : Type 0 where
+  pub clear : gaps ≡ replicate 4096 0
+  pub enough : 2 * length notes ≤ 4096 * 32
+
 -- before a piece is spelled: where its output fits, neither of its two places is marked
 pub record Spells (gaps out : List ℕ) (c d : Cursor) (line : ℕ) : Type 0 where
   pub on : c .at < d .at
-  pub within : d .at ≤ 65536
+  pub within : d .at ≤ mostLarge
   pub few : line ≤ c .at
   pub behind : c .written ≤ d .written
   pub lines : d .written ≤ length out → linesPut out c d ≤ d .at
@@ -75,9 +73,9 @@ pub record Spelt (gaps out : List ℕ) (c d : Cursor) (line : ℕ) (gaps′ : Li
 -- all pieces were written, and if they fit, the gaps tell their records; or the work stopped at a paragraph of too many words
 abbrev pub Noted : Opts → List ℕ → List ℕ → List ℕ → List ℕ → Pieces → Type 0
 Noted o notes out out′ gaps′ (All n k) =
-    (longParagraph o 0 (pieces o notes) ≡ Nowhere) × Wrote out 0 (digest o notes) out′ n × (k ≡ length (indexOf o notes))
+    (longParagraph mostWords o 0 (pieces o notes) ≡ Nowhere) × Wrote out 0 (digest o notes) out′ n × (k ≡ length (indexOf o notes))
     × (n ≤ length out → readFrom (marksIn gaps′) k noRecord ≡ indexOf o notes)
-Noted o notes out out′ gaps′ (Stopped place) = (longParagraph o 0 (pieces o notes) ≡ At place) × (length out′ ≡ length out)
+Noted o notes out out′ gaps′ (Stopped place) = (longParagraph mostWords o 0 (pieces o notes) ≡ At place) × (length out′ ≡ length out)
 
 -- ---- the answer in code: without the digest's bytes, which stand in the output, and the records, which the gaps tell
 
@@ -89,6 +87,7 @@ told (text place) = Text place
 told (words place) = Words place
 told (full pieces) = Full pieces
 told (room needed) = Room needed
+told (work needed) = Work needed
 
 -- its number, and its count of filled records
 abbrev pub toldNumber : Filled → ℕ
@@ -99,6 +98,7 @@ toldNumber (Text place) = 3 * 2 ^ 32 + place
 toldNumber (Words place) = 4 * 2 ^ 32 + place
 toldNumber (Full pieces) = 6 * 2 ^ 32 + pieces
 toldNumber (Room needed) = 5 * 2 ^ 32 + needed
+toldNumber (Work needed) = 12 * 2 ^ 32 + needed
 
 abbrev pub toldFilled : Filled → ℕ
 toldFilled (Done n k) = k
@@ -108,6 +108,7 @@ toldFilled (Text place) = 0
 toldFilled (Words place) = 0
 toldFilled (Full pieces) = 0
 toldFilled (Room needed) = 0
+toldFilled (Work needed) = 0
 
 -- the records of an answer: none on a refusal
 abbrev pub recordsOf : Indexed → List Record
@@ -118,6 +119,7 @@ recordsOf (text place) = []
 recordsOf (words place) = []
 recordsOf (full pieces) = []
 recordsOf (room needed) = []
+recordsOf (work needed) = []
 
 -- what a function that gives the answer leaves behind
 pub record Indexes (a : Indexed) (out : List ℕ) (r : Filled) (out′ gaps′ : List ℕ) : Type 0 where
@@ -142,6 +144,7 @@ refusedAs ReplyLong = Long
 refusedAs (ReplyText place) = Text place
 refusedAs (ReplyWords place) = Words place
 refusedAs (ReplyRoom needed) = Room needed
+refusedAs (ReplyWork needed) = Work needed
 
 -- what is left to be told behind them
 abbrev pub wordsOr : Found → Indexed → Indexed
@@ -149,4 +152,4 @@ wordsOr (At place) a = words place
 wordsOr Nowhere a = a
 
 abbrev pub leftOf : Opts → List ℕ → ℕ → ℕ → Indexed
-leftOf o notes space records = wordsOr (longParagraph o 0 (pieces o notes)) (withIndex space records (indexOf o notes) (digest o notes))
+leftOf o notes space records = wordsOr (longParagraph mostWords o 0 (pieces o notes)) (withIndex (document01 .words) space records (indexOf o notes) (digest o notes))

@@ -56,6 +56,15 @@ mul-result-6 c = search needs
 add-result-4 : tie.Need-add-result-4
 add-result-4 c = omega (arith, number-is (c .before .a4 .given .1), c .before .before .before .pre)
 
+enum-known-a-5 : tie.Need-enum-known-a-5
+enum-known-a-5 c = search needs
+
+mul-result-7 : tie.Need-mul-result-7
+mul-result-7 c = search needs
+
+add-result-5 : tie.Need-add-result-5
+add-result-5 c = omega (arith, number-is (c .before .a5 .given .1), c .before .before .before .pre)
+
 returns : tie.Need-returns
 returns c = omega (arith, number-is (c .enum-told .given .1))
 
@@ -76,6 +85,9 @@ returns-6 c = omega (arith, number-is (c .enum-told3 .given .1))
 
 returns-7 : tie.Need-returns-7
 returns-7 c = omega (arith, number-is (c .before .a4 .given .1))
+
+returns-8 : tie.Need-returns-8
+returns-8 c = omega (arith, number-is (c .before .a5 .given .1))
 
 pub number-of-spec : {M : Type 1} → statement M
 number-of-spec =
@@ -98,10 +110,14 @@ number-of-spec =
     enum-known-a-4
     mul-result-6
     add-result-4
+    enum-known-a-5
+    mul-result-7
+    add-result-5
     returns
     returns-2
     returns-3
     returns-4
     returns-5
     returns-6
-    returns-7)
+    returns-7
+    returns-8)

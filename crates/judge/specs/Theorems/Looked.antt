@@ -9,11 +9,11 @@ use Rattle.options.specs.OptionBlock.{readBlock}
 use Rattle.options.specs.declared.Options.{Options}
 use Rattle.options.specs.declared.Block.the-variants.{Accepted}
 use Rattle.formatter.specs.Answers.{code}
-use Rattle.formatter.specs.Format.{mostBytes, measuring}
+use Rattle.formatter.specs.Format.{Limits, finding}
 
-pub record Looked (block notes digest : List ℕ) (Holds : Opts → Type 0) : Type 0 where
+pub record Looked (l : Limits) (block notes digest : List ℕ) (Holds : Opts → Type 0) : Type 0 where
   pub options : Options
   pub accepted : readBlock block ≡ Accepted options
-  pub passed : code (measuring block notes) ≡ 0
-  pub short : length digest ≤ mostBytes
+  pub passed : code (finding l block notes) ≡ 0
+  pub short : length digest ≤ l .bytes
   pub holds : Holds (meant block options)

@@ -1,41 +1,32 @@
 -- `knuth_plass::append` meets its contract. The record, and its number.
+use native.Mathlib.Omega.{arith}
+use Rattle.knuth_plass.proofs.Table.{has-room, table-more, active-more}
 use borrow.Author.Needs.{needs}
 use Rattle.knuth_plass.proofs.append.Statement.{statement}
 use Rattle.knuth_plass.proofs.append.Tie as tie
 
 store-break-requires : tie.Need-store-break-requires
-store-break-requires c κs = search needs
+store-break-requires c κs = let p = c .before .before .pre in (has-room (c .before .before .args .breaks .now) (c .before .before .args .size) (p .0), p .3)
 
-cast-active : tie.Need-cast-active
-cast-active c = search needs
-
-mul-active : tie.Need-mul-active
-mul-active c = search needs
-
-slice-write-active : tie.Need-slice-write-active
-slice-write-active c = search needs
+put-active-requires : tie.Need-put-active-requires
+put-active-requires c κs = let p = c .before .before .before .before .before .before .pre in let h = has-room (c .before .before .before .before .before .before .args .breaks .now) (c .before .before .before .before .before .before .args .kept) (p .1) in let f = p .2 in (omega (arith, h, c .before .before .breaks .given), omega arith)
 
 same-length : tie.Need-same-length
 same-length c = search needs
 
-same-length-2 : tie.Need-same-length-2
-same-length-2 c = search needs
-
-same-length-3 : tie.Need-same-length-3
-same-length-3 c = search needs
-
 returns : tie.Need-returns
-returns c = search needs
+returns c =
+    let a = c .before .before .before .before .before .before .before .before .before .args in
+    let p = c .before .before .before .before .before .before .before .before .before .pre in (
+      table-more (a .breaks .now) (a .size) (a .b) (a .kept) (a .size) _ _ (p .0) (c .before .before .before .before .before .before .store-break .ensures) (c .before .before .put-active .ensures),
+      active-more (a .breaks .now) (a .size) (a .b) (a .kept) (a .size) _ _ (p .1) (c .before .before .before .before .before .before .store-break .ensures) (c .before .before .put-active .ensures),
+    )
 
 pub append-spec : {M : Type 1} → statement M
 append-spec =
     tie.close
     (tie.spec
     store-break-requires
-    cast-active
-    mul-active
-    slice-write-active
+    put-active-requires
     same-length
-    same-length-2
-    same-length-3
     returns)

@@ -1,39 +1,50 @@
--- `knuth_plass::clear` meets its contract. Invariant: the marks so far are clear, and those from n on are as they were.
-use mathlib.Core.Path.{_≡_, refl, _∙_}
+-- `knuth_plass::clear` meets its contract. Invariant: the marks so far are clear, and all else is as it was.
+use mathlib.Core.Path.{_≡_}
 use mathlib.Core.Bool.{false}
 use Prim.Native.Nat.{ℕ, _≤_, _<_, _-_}
 use native.Mathlib.Omega.{arith}
-use lib.ListN.{length, getD, length-set}
-use Rattle.knuth_plass.proofs.Marks.{cleared, beyond-set}
+use Rattle.records.specs.Contracts.Marks.{markIn}
+use Rattle.records.proofs.Marks.{up-to-none}
+use Rattle.knuth_plass.proofs.Marks.{Marking, marking-set, cleared}
 use Rattle.knuth_plass.proofs.clear.Statement.{statement}
 use Rattle.knuth_plass.proofs.clear.Tie as tie
 
 abbrev Inv-loop : tie.InvT-loop
-Inv-loop marks₀ n i₀ marks i = (i ≤ n) × (length marks ≡ length marks₀) × ((j : ℕ) → j < i → getD marks j false ≡ false) × ((j : ℕ) → n ≤ j → getD marks j false ≡ getD marks₀ j false)
+Inv-loop work₀ n i₀ work i = (i ≤ n) × Marking n work₀ work × ((j : ℕ) → j < i → markIn work j ≡ false)
 
 abbrev μ-loop : tie.MeasureT-loop
-μ-loop marks₀ n i₀ marks i = n - i
+μ-loop work₀ n i₀ work i = n - i
 
 loop-holds : tie.Need-loop-holds Inv-loop μ-loop
-loop-holds c = (omega arith, refl, λ j h. absurd (omega arith), λ j h. refl)
+loop-holds c = (omega arith, up-to-none (c .before .args .n) (c .before .args .work .now), λ j h. absurd (omega arith))
 
-slice-write-marks : tie.Need-slice-write-marks Inv-loop μ-loop
-slice-write-marks c = omega arith
+mark-requires : tie.Need-mark-requires Inv-loop μ-loop
+mark-requires c κs = let s = c .before .before .loop .inv .1 .sized in let t = c .before .loop-test .taken in let p = c .before .before .before .before .pre in omega arith
 
 add-i : tie.Need-add-i Inv-loop μ-loop
-add-i c = omega arith
+add-i c = let t = c .before .before .before .before .loop-test .taken in omega arith
 
 loop-less : tie.Need-loop-less Inv-loop μ-loop
-loop-less c = omega arith
+loop-less c = let t = c .before .before .before .before .loop-test .taken in omega arith
 
 loop-again : tie.Need-loop-again Inv-loop μ-loop
-loop-again c = let v = c .before .loop .inv in (omega arith, simp length-set (v .1), cleared (c .before .loop .marks) (c .before .loop .i) (omega arith) (v .2), λ j h. beyond-set (c .before .loop .marks) (c .before .loop .i) j (c .before .before .args .n) false (c .loop-test .taken) h ∙ v .3 j h)
+loop-again c =
+    let v = c .before .before .before .before .before .loop .inv in
+    let l = c .before .before .before .before .before .loop in
+    let t = c .before .before .before .before .loop-test .taken in (
+      omega arith,
+      marking-set (c .before .before .before .before .before .before .before .args .n) (c .before .before .before .before .before .before .before .args .work .now) (l .work) _ (v .1) (l .i) false (c .before .before .before .before .before .before .before .pre) t (c .before .before .mark .ensures),
+      cleared (c .before .before .before .before .before .before .before .args .n) (c .before .before .before .before .before .before .before .args .work .now) (l .work) _ (v .1) (l .i) (c .before .before .before .before .before .before .before .pre) t (v .2) (c .before .before .mark .ensures),
+    )
 
 same-length : tie.Need-same-length Inv-loop μ-loop
-same-length c = c .before .loop .inv .1
+same-length c = c .before .loop .inv .1 .sized
 
 returns : tie.Need-returns Inv-loop μ-loop
-returns c = let v = c .before .loop .inv in record { sized = v .1; within = λ j h. v .2 j (omega arith); beyond = v .3 }
+returns c =
+    let v = c .before .loop .inv in
+    let e = c .loop-test .left in
+    record { sized = v .1 .sized; marks = λ j h. v .2 j (omega arith); words = v .1 .words; beyond = v .1 .beyond }
 
 pub clear-spec : {M : Type 1} → statement M
 clear-spec =
@@ -42,7 +53,7 @@ clear-spec =
     Inv-loop
     μ-loop
     loop-holds
-    slice-write-marks
+    mark-requires
     add-i
     loop-less
     loop-again

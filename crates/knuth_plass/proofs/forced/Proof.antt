@@ -1,34 +1,35 @@
 -- `knuth_plass::forced` meets its contract.
 use mathlib.Core.Path.{sym, ap, _∙_}
 use Rattle.knuth_plass.specs.Contracts.Round.{lessened}
-use Rattle.knuth_plass.specs.Contracts.Table.{tables}
-use Rattle.knuth_plass.proofs.Table.{has-room}
 use Rattle.knuth_plass.proofs.Makers.{forced-is}
 use borrow.Author.Needs.{needs}
 use Rattle.knuth_plass.proofs.forced.Statement.{statement}
 use Rattle.knuth_plass.proofs.forced.Tie as tie
 
 get-break-requires : tie.Need-get-break-requires
-get-break-requires c κs = let s = c .before .before in has-room (tables (s .args .breaks .now) (s .args .ratios .now)) _ (s .pre .2 .sized) (s .pre .2 .within)
+get-break-requires c κs = c .before .pre .2 .within
 
 lessened-requires : tie.Need-lessened-requires
 lessened-requires c κs = search needs
 
 restarted-requires : tie.Need-restarted-requires
 restarted-requires c κs =
-    let s = c .before .before .before .before in
-    (s .pre .0, s .pre .1, rw (c .lessened .ensures, c .before .get-break .ensures) (s .pre .2 .sound .columns))
+    (c .before .before .before .pre .0, c .before .before .before .pre .1, rw (c .lessened .ensures, c .before .get-break .ensures) (c .before .before .before .pre .2 .sound .columns))
 
 returns : tie.Need-returns
 returns c =
-    let s = c .before .before .before .before .before .before in
-    forced-is (s .args .g) (s .args .turn) _ _ _ _ _ (c .before .restarted .ensures) (c .before .before .lessened .ensures ∙ ap (lessened (s .args .st .reduction)) (c .before .before .before .get-break .ensures)) (sym (rw (c .if1 .taken)))
+    forced-is (c .before .before .before .before .before .args .g) (c .before .before .before .before .before .args .turn) _ _ _ _ _ (c .before .restarted .ensures) (c .before .before .lessened .ensures ∙ ap (lessened (c .before .before .before .before .before .args .st .reduction)) (c .before .before .before .get-break .ensures)) (sym (rw (c .if1 .taken)))
 
 returns-2 : tie.Need-returns-2
 returns-2 c =
-    let s = c .before .before .before .before .before .before in
-    forced-is (s .args .g) (s .args .turn) _ _ _ _ _ (c .before .restarted .ensures) (c .before .before .lessened .ensures ∙ ap (lessened (s .args .st .reduction)) (c .before .before .before .get-break .ensures)) (sym (rw (c .if1 .left)))
+    forced-is (c .before .before .before .before .before .args .g) (c .before .before .before .before .before .args .turn) _ _ _ _ _ (c .before .restarted .ensures) (c .before .before .lessened .ensures ∙ ap (lessened (c .before .before .before .before .before .args .st .reduction)) (c .before .before .before .get-break .ensures)) (sym (rw (c .if1 .left)))
 
 pub forced-spec : {M : Type 1} → statement M
 forced-spec =
-    tie.close (tie.spec get-break-requires lessened-requires restarted-requires returns returns-2)
+    tie.close
+    (tie.spec
+    get-break-requires
+    lessened-requires
+    restarted-requires
+    returns
+    returns-2)

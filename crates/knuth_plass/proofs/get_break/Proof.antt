@@ -1,47 +1,52 @@
 -- `knuth_plass::get_break` meets its contract. The record is put together from its numbers.
-use Rattle.knuth_plass.specs.Contracts.Table.{breakIn}
-use borrow.Author.Needs.{needs}
+use Rattle.knuth_plass.specs.Contracts.Table.{recordAt}
+use native.Mathlib.Omega.{arith}
+use Rattle.knuth_plass.proofs.Table.{has-room, table-at}
 use Rattle.knuth_plass.proofs.get_break.Statement.{statement}
 use Rattle.knuth_plass.proofs.get_break.Tie as tie
 
 number-requires : tie.Need-number-requires
-number-requires c κs = search needs
+number-requires c κs = (has-room (c .before .args .breaks .now) (c .before .args .i) (c .before .pre), omega arith)
+
+mul-k : tie.Need-mul-k
+mul-k c = let h = has-room (c .before .before .args .breaks .now) (c .before .before .args .i) (c .before .before .pre) in omega arith
+
+add-k : tie.Need-add-k
+add-k c = let h = has-room (c .before .before .args .breaks .now) (c .before .before .args .i) (c .before .before .pre) in omega arith
 
 number-requires-2 : tie.Need-number-requires-2
-number-requires-2 c κs = search needs
-
-number-requires-3 : tie.Need-number-requires-3
-number-requires-3 c κs = search needs
+number-requires-2 c κs = (has-room (c .before .before .args .breaks .now) (c .before .before .args .i) (c .before .before .pre), omega arith)
 
 demerits-of-requires : tie.Need-demerits-of-requires
-demerits-of-requires c κs = search needs
+demerits-of-requires c κs = has-room (c .before .before .before .args .breaks .now) (c .before .before .before .args .i) (c .before .before .before .pre)
 
-mul-t9 : tie.Need-mul-t9
-mul-t9 c = search needs
+mul-t10 : tie.Need-mul-t10
+mul-t10 c = let h = has-room (c .before .before .before .before .args .breaks .now) (c .before .before .before .before .args .i) (c .before .before .before .before .pre) in omega arith
 
-shared-slice-read-t11 : tie.Need-shared-slice-read-t11
-shared-slice-read-t11 c = search needs
+shared-slice-read-t12 : tie.Need-shared-slice-read-t12
+shared-slice-read-t12 c = let h = has-room (c .before .before .before .before .before .args .breaks .now) (c .before .before .before .before .before .args .i) (c .before .before .before .before .before .pre) in omega arith
+
+number-requires-3 : tie.Need-number-requires-3
+number-requires-3 c κs = (has-room (c .before .before .before .before .before .args .breaks .now) (c .before .before .before .before .before .args .i) (c .before .before .before .before .before .pre), omega arith)
 
 number-requires-4 : tie.Need-number-requires-4
-number-requires-4 c κs = search needs
-
-number-requires-5 : tie.Need-number-requires-5
-number-requires-5 c κs = search needs
+number-requires-4 c κs = (has-room (c .before .before .before .before .before .before .args .breaks .now) (c .before .before .before .before .before .before .args .i) (c .before .before .before .before .before .before .pre), omega arith)
 
 returns : tie.Need-returns
-unfolding breakIn
-returns c = cc
+unfolding recordAt
+returns c = rw (table-at (c .before .before .before .before .before .before .before .args .breaks .now) (c .before .before .before .before .before .before .before .args .i) (c .before .before .before .before .before .before .before .pre), c .before .before .before .before .before .number .ensures, c .before .before .before .before .number2 .ensures, c .before .number3 .ensures, c .number4 .ensures, c .before .before .before .demerits-of .ensures)
 
 pub get-break-spec : {M : Type 1} → statement M
 get-break-spec =
     tie.close
     (tie.spec
     number-requires
+    mul-k
+    add-k
     number-requires-2
-    number-requires-3
     demerits-of-requires
-    mul-t9
-    shared-slice-read-t11
+    mul-t10
+    shared-slice-read-t12
+    number-requires-3
     number-requires-4
-    number-requires-5
     returns)

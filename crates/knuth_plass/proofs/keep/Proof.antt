@@ -1,6 +1,6 @@
 -- `knuth_plass::keep` meets its contract. The record is taken apart again, and its number stands behind those that stay.
-use mathlib.Core.Path.{refl, ap, _∙_}
-use Rattle.knuth_plass.specs.Contracts.Table.{withLine}
+use mathlib.Core.Path.{refl}
+use native.Mathlib.Omega.{arith}
 use borrow.Author.Needs.{needs}
 use Rattle.knuth_plass.proofs.keep.Statement.{statement}
 use Rattle.knuth_plass.proofs.keep.Tie as tie
@@ -9,16 +9,10 @@ extended-requires : tie.Need-extended-requires
 extended-requires c κs = search needs
 
 keep-break-requires : tie.Need-keep-break-requires
-keep-break-requires c κs = let p = c .before .before .before .before .pre in (p .1, rw (c .extended .ensures) (p .2))
+keep-break-requires c κs = let p = c .before .before .before .pre in (p .here, rw (c .extended .ensures) (p .columns))
 
-cast-active : tie.Need-cast-active
-cast-active c = search needs
-
-mul-active : tie.Need-mul-active
-mul-active c = search needs
-
-slice-write-active : tie.Need-slice-write-active
-slice-write-active c = search needs
+put-active-requires : tie.Need-put-active-requires
+put-active-requires c κs = let p = c .before .before .before .before .before .before .before .pre in let n = p .number in (omega (arith, p .listed, c .before .before .breaks .given), omega arith)
 
 add-t14 : tie.Need-add-t14
 add-t14 c = search needs
@@ -26,11 +20,8 @@ add-t14 c = search needs
 same-length : tie.Need-same-length
 same-length c = search needs
 
-same-length-2 : tie.Need-same-length-2
-same-length-2 c = search needs
-
 returns : tie.Need-returns
-returns c = (c .before .before .keep-break .ensures ∙ ap (withLine (c .before .before .before .before .before .before .before .args .breaks .now) (c .before .before .before .before .before .before .before .args .n)) (c .before .before .before .extended .ensures), refl, refl)
+returns c = (rw (c .before .before .put-active .ensures, c .before .before .before .before .before .before .keep-break .ensures, c .before .before .before .before .before .before .before .extended .ensures), refl)
 
 pub keep-spec : {M : Type 1} → statement M
 keep-spec =
@@ -38,10 +29,7 @@ keep-spec =
     (tie.spec
     extended-requires
     keep-break-requires
-    cast-active
-    mul-active
-    slice-write-active
+    put-active-requires
     add-t14
     same-length
-    same-length-2
     returns)

@@ -1,5 +1,5 @@
 -- `knuth_plass::lesser` meets its contract. One law for each way through it.
-use Rattle.knuth_plass.specs.Contracts.Table.{tables}
+use Rattle.knuth_plass.specs.Contracts.Table.{tableIn}
 use Rattle.knuth_plass.proofs.Lowest.{lesser-second, lesser-first}
 use borrow.Author.Needs.{needs}
 use Rattle.knuth_plass.proofs.lesser.Statement.{statement}
@@ -12,10 +12,10 @@ get-break-requires-2 : tie.Need-get-break-requires-2
 get-break-requires-2 c κs = search needs
 
 returns : tie.Need-returns
-returns c = lesser-second (tables (c .before .before .before .before .before .before .before .args .breaks .now) (c .before .before .before .before .before .before .before .args .ratios .now)) _ _ _ _ (c .before .before .before .before .get-break .ensures) (c .before .before .before .get-break2 .ensures) (c .if1 .taken)
+returns c = lesser-second (tableIn (c .before .before .before .before .before .before .args .breaks .now)) _ _ _ _ (c .before .before .before .before .get-break .ensures) (c .before .before .before .get-break2 .ensures) (c .if1 .taken)
 
 returns-2 : tie.Need-returns-2
-returns-2 c = lesser-first (tables (c .before .before .before .before .before .before .before .args .breaks .now) (c .before .before .before .before .before .before .before .args .ratios .now)) _ _ _ _ (c .before .before .before .before .get-break .ensures) (c .before .before .before .get-break2 .ensures) (c .if1 .left)
+returns-2 c = lesser-first (tableIn (c .before .before .before .before .before .before .args .breaks .now)) _ _ _ _ (c .before .before .before .before .get-break .ensures) (c .before .before .before .get-break2 .ensures) (c .if1 .left)
 
 pub lesser-spec : {M : Type 1} → statement M
 lesser-spec =

@@ -1,5 +1,5 @@
 -- `knuth_plass::offered` meets its contract. One law for each way through it: the last word, beaten, and any other.
-use mathlib.Core.Path.{refl, ap, _∙_}
+use mathlib.Core.Path.{refl, ap₂, _∙_}
 use lib.Ieee.{Float, ofBits}
 use Rattle.demerits.specs.Demerits.{costWith}
 use Rattle.demerits.proofs.Terms.{cost-with}
@@ -40,8 +40,11 @@ returns-3 c =
     let r = c .before .before .before .before .ratio .ensures in
     offered-beaten (a .g) (a .turn) (a .n) (a .b) (a .best) (a .t) (p .0) (p .1) _ _ (c .before .before .before .before .before .before .if1 .left) (r .0) (r .1) (c .before .before .before .floor .ensures) (c .if3 .taken)
 
+ratio-of-requires : tie.Need-ratio-of-requires
+ratio-of-requires c κs = c .before .before .before .before .before .before .before .pre .0 .sound .ratio
+
 cost-requires : tie.Need-cost-requires
-cost-requires c κs = search needs
+cost-requires c κs = let p = c .before .before .before .before .before .before .before .before .pre .0 in (c .before .before .before .before .before .ratio .ensures .1, rw (c .ratio-of .ensures) (p .sound .ratio), p .turns .light)
 
 add-better : tie.Need-add-better
 add-better c = search needs
@@ -51,13 +54,13 @@ better-requires-2 c κs = search needs
 
 returns-4 : tie.Need-returns-4
 returns-4 c =
-    let a = c .before .before .before .before .before .before .before .before .before .before .args in
-    let p = c .before .before .before .before .before .before .before .before .before .before .pre in
-    let r = c .before .before .before .before .before .before .before .ratio .ensures in
+    let a = c .before .before .before .before .before .before .before .before .before .before .before .args in
+    let p = c .before .before .before .before .before .before .before .before .before .before .before .pre in
+    let r = c .before .before .before .before .before .before .before .before .ratio .ensures in
     let o = c .before .before .cost .ensures in
-    let cost-is = o .0 ∙ ap (λ (z : Float). costWith z (a .b .ratio) (a .turn .weight)) (r .0) ∙ cost-with _ _ _ _ _ (p .0 .turns .weight) in
+    let cost-is = o .0 ∙ ap₂ (λ (y z : Float). costWith y z (a .turn .weight)) (r .0) (c .before .before .before .ratio-of .ensures) ∙ cost-with _ _ _ _ _ (p .0 .turns .weight) in
     rw (c .better2 .ensures)
-    (offered-full (a .g) (a .turn) (a .n) (a .b) (a .best) (a .t) (p .0) (p .1) _ _ (c .before .before .before .before .before .before .before .before .before .if1 .left) (r .0) cost-is (o .1) (r .1))
+    (offered-full (a .g) (a .turn) (a .n) (a .b) (a .best) (a .t) (p .0) (p .1) _ _ (c .before .before .before .before .before .before .before .before .before .before .if1 .left) (r .0) cost-is (o .1) (r .1))
 
 pub offered-spec : {M : Type 1} → statement M
 offered-spec =
@@ -71,6 +74,7 @@ offered-spec =
     floor-requires
     add-if3
     returns-3
+    ratio-of-requires
     cost-requires
     add-better
     better-requires-2

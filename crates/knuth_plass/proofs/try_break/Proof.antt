@@ -27,29 +27,32 @@ ratio-requires c κs =
     let l = c .if2 .left in
     (omega arith, omega arith, omega arith)
 
+ratio-of-requires : tie.Need-ratio-of-requires
+ratio-of-requires c κs = c .before .before .before .before .before .before .before .before .pre .1 .ratio
+
 cost-requires : tie.Need-cost-requires
-cost-requires c κs = let p = c .before .before .before .before .before .before .before .before .pre .1 in (c .ratio .ensures .1, p .ratio, p .light)
+cost-requires c κs = let p = c .before .before .before .before .before .before .before .before .before .pre .1 in (c .before .ratio .ensures .1, rw (c .ratio-of .ensures) (p .ratio), p .light)
 
 add-if3 : tie.Need-add-if3
-add-if3 c = let p = c .before .before .before .before .before .before .before .before .before .before .pre .1 in let d = p .demerits in let k = c .before .cost .ensures .1 in omega arith
+add-if3 c = let p = c .before .before .before .before .before .before .before .before .before .before .before .pre .1 in let d = p .demerits in let k = c .before .cost .ensures .1 in omega arith
 
 line-term-requires : tie.Need-line-term-requires
-line-term-requires c κs = c .before .before .before .ratio .ensures .1
+line-term-requires c κs = c .before .before .before .before .ratio .ensures .1
 
 ratio-term-requires : tie.Need-ratio-term-requires
-ratio-term-requires c κs = (c .before .before .before .before .ratio .ensures .1, c .before .before .before .before .before .before .before .before .before .before .before .before .pre .1 .ratio)
+ratio-term-requires c κs = (c .before .before .before .before .before .ratio .ensures .1, rw (c .before .before .before .before .ratio-of .ensures) (c .before .before .before .before .before .before .before .before .before .before .before .before .before .pre .1 .ratio))
 
 returns-3 : tie.Need-returns-3
 returns-3 c =
-    let a = c .before .before .before .before .before .before .before .before .before .before .before .before .before .args in
-    let r = c .before .before .before .before .before .ratio .ensures in
-    tried-here (a .g) (a .weight) (a .total) _ _ _ (c .before .before .before .before .before .before .before .before .before .if1 .left) (c .before .before .before .before .before .before .if2 .left) _ _ (r .0) (c .before .before .before .before .cost .ensures .0) _ _ (c .before .before .if3 .taken) (c .before .line-term .ensures .0) (c .ratio-term .ensures .0)
+    let a = c .before .before .before .before .before .before .before .before .before .before .before .before .before .before .args in
+    let r = c .before .before .before .before .before .before .ratio .ensures in
+    tried-here (a .g) (a .weight) (a .total) _ _ _ (c .before .before .before .before .before .before .before .before .before .before .if1 .left) (c .before .before .before .before .before .before .before .if2 .left) _ _ (r .0) (rw (c .before .before .before .before .before .ratio-of .ensures) at (c .before .before .before .before .cost .ensures .0)) _ _ (c .before .before .if3 .taken) (c .before .line-term .ensures .0) (rw (c .before .before .before .before .before .ratio-of .ensures) at (c .ratio-term .ensures .0))
 
 returns-4 : tie.Need-returns-4
 returns-4 c =
-    let a = c .before .before .before .before .before .before .before .before .before .before .before .args in
-    let r = c .before .before .before .ratio .ensures in
-    tried-other (a .g) (a .weight) (a .total) _ _ _ (c .before .before .before .before .before .before .before .if1 .left) (c .before .before .before .before .if2 .left) _ _ (r .0) (c .before .before .cost .ensures .0) (c .if3 .left)
+    let a = c .before .before .before .before .before .before .before .before .before .before .before .before .args in
+    let r = c .before .before .before .before .ratio .ensures in
+    tried-other (a .g) (a .weight) (a .total) _ _ _ (c .before .before .before .before .before .before .before .before .if1 .left) (c .before .before .before .before .before .if2 .left) _ _ (r .0) (rw (c .before .before .before .ratio-of .ensures) at (c .before .before .cost .ensures .0)) (c .if3 .left)
 
 pub try-break-spec : {M : Type 1} → statement M
 try-break-spec =
@@ -60,6 +63,7 @@ try-break-spec =
     returns
     returns-2
     ratio-requires
+    ratio-of-requires
     cost-requires
     add-if3
     line-term-requires

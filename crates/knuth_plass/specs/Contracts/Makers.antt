@@ -24,15 +24,15 @@ use Rattle.knuth_plass.specs.declared.Told.{Told}
 use Rattle.knuth_plass.specs.declared.AllTold.{AllTold}
 use Rattle.knuth_plass.specs.KnuthPlass.{Place, Break, stretchOf, minimumOf, staying, bestOffer, restart, pathOf}
 use Rattle.knuth_plass.specs.BestLines.{makerOf, maker, forced, makersOf, startOf}
-use Rattle.knuth_plass.specs.Contracts.Table.{Tables, Sized, breakIn, seen, Sound}
+use Rattle.knuth_plass.specs.Contracts.Table.{mostWords, ratioOf, Tables, Sized, breakIn, seen, Sound}
 use Rattle.knuth_plass.specs.Contracts.Round.{RoundIs, RoundsAre, Done, standing}
 
 -- ---- an offer with the word on the line
 
 -- a break that stays, whose numbers can be summed
 pub record Stays (weight : ℕ) (b : Record) : Type 0 where
-  pub ratio : T (within 1 (b .ratio))
-  pub demerits : b .demerits ≤ 1024 * mostCost
+  pub ratio : T (within 1 (ratioOf (b .ratio)))
+  pub demerits : b .demerits ≤ mostWords * mostCost
   pub light : weight ≤ mostWord
 
 -- an offer of a total from a line of so many columns, with its terms
@@ -55,13 +55,13 @@ chosenIn g weight total (b ∷ bs) = found (triedOf g weight total (b .columns) 
 pub record Kept (weight kept : ℕ) (t : Tables) (a : List ℕ) : Type 0 where
   pub sized : Sized t
   pub listed : kept ≤ length a
-  pub within : (k : ℕ) → k < kept → getD a k 0 < length (t .ratios)
+  pub within : (k : ℕ) → k < kept → getD a k 0 < length t
   pub stays : (k : ℕ) → k < kept → Stays weight (breakIn t (getD a k 0))
 
 -- the break that a round begins again from
 pub record From (turn : Turn) (st : Standing) (from : ℕ) (t : Tables) : Type 0 where
   pub sized : Sized t
-  pub within : from < length (t .ratios)
+  pub within : from < length t
   pub sound : Sound (turn .number) (breakIn t from)
 
 abbrev pub ForcedIs : Setting → Turn → Record → Ending → Type 0

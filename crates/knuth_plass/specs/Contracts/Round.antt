@@ -9,7 +9,7 @@ use lib.ListN.{length, getD, take, drop}
 use lib.Seq.{slice}
 use Rattle.records.specs.Word.{Word, meaning}
 use Rattle.records.specs.Contracts.Table.{Small, wordIn, wordsIn}
-use Rattle.records.specs.Contracts.Marks.{breaksIn}
+use Rattle.records.specs.Contracts.Marks.{markIn, breaksOf}
 use Rattle.records.specs.declared.Word.{Word as WordRecord}
 use Rattle.spacing.specs.Spacing.{gapWidth}
 use Rattle.spacing.specs.declared.Setting.{Setting}
@@ -21,7 +21,7 @@ use Rattle.knuth_plass.specs.declared.Turn.{Turn}
 use Rattle.knuth_plass.specs.declared.State.{State}
 use Rattle.knuth_plass.specs.declared.Standing.{Standing}
 use Rattle.knuth_plass.specs.KnuthPlass.{stretchOf, Place, Break, Active, Offer, none, offer, after, reduced, staying, lesser, offerOf, bestOffer, leastFrom, least, restart, settled, withOffer, round, firstBreak, roundsFrom, pathOf, startsLine, bestBreaks}
-use Rattle.knuth_plass.specs.Contracts.Table.{Tables, Sized, breakIn, placeOf, pathTo, seen, breakMeant, Sound, Filled, Ascends}
+use Rattle.knuth_plass.specs.Contracts.Table.{mostWords, Tables, Sized, breakIn, placeOf, pathTo, seen, breakMeant, Sound, Filled, Ascends}
 
 -- ---- what can be asked of a caller
 
@@ -38,7 +38,7 @@ pub record Turns (g : Setting) (turn : Turn) : Type 0 where
   pub narrow : turn .word .width < 2 ^ 31
   pub small : Small (turn .word)
   pub space : turn .space ≤ 2
-  pub few : turn .number < 1024
+  pub few : turn .number < mostWords
   pub weight : turn .weight ≡ wordTerm (stretchOf g) (turn .word .width)
   pub light : turn .weight ≤ mostWord
 
@@ -78,11 +78,18 @@ noted s n d = cond (ltb d (s .least)) (record { kept = s .kept; from = n; least 
 abbrev pub stays : State → Best → State
 stays s best = record { kept = s .kept + 1; from = s .from; least = s .least; best = best }
 
+-- there is room for break n with a line of x columns, and for its number as the k-th active one
+pub record Keeps (n x k : ℕ) (numbers : List ℕ) : Type 0 where
+  pub here : n * 8 + 8 ≤ length numbers
+  pub number : n < mostWords
+  pub columns : x < 2 ^ 32
+  pub listed : k * 8 + 8 ≤ length numbers
+
 -- ---- the best offer so far
 
 -- a total that no offer reaches
 abbrev pub nothing : ℕ
-nothing = 2 ^ 40
+nothing = 2 ^ 62
 
 abbrev pub bestFrom : ℕ → ℕ → Float → Best
 bestFrom p d r = record { total = d; previous = p; ratio = r }
@@ -127,7 +134,7 @@ pub record OfferedIs (g : Setting) (turn : Turn) (n : ℕ) (b : Record) (best r 
 -- before a round: count of them, and size records in the tables
 pub record RoundReady (i : ℕ) (st : Standing) (t : Tables) (a : List ℕ) : Type 0 where
   pub filled : Filled i (st .size) t
-  pub active : length a ≡ length (t .ratios)
+  pub active : length a ≡ length t
   pub few : st .size ≤ i
   pub some : 0 < st .count
   pub room : st .count ≤ st .size
@@ -142,8 +149,8 @@ standing st t a = record { breaks = breaksListed (st .count) t a; reduction = st
 -- in a round: k of them are done, and those that stay are the first of the list
 pub record Fit (turn : Turn) (st : Standing) (k : ℕ) (t : Tables) (a : List ℕ) (s : State) : Type 0 where
   pub filled : Filled (turn .number) (st .size) t
-  pub active : length a ≡ length (t .ratios)
-  pub holds : turn .number < length (t .ratios)
+  pub active : length a ≡ length t
+  pub holds : turn .number < length t
   pub few : st .size ≤ turn .number
   pub room : st .count ≤ st .size
   pub kept : s .kept ≤ k
@@ -222,16 +229,16 @@ begin g w = record { breaks = firstBreak g w ∷ []; reduction = 0 }
 -- after the rounds of n words
 pub record RoundsAre (g : Setting) (n : ℕ) (table : List ℕ) (t : Tables) (a : List ℕ) (r : Standing) : Type 0 where
   pub ready : RoundReady n r t a
-  pub holds : n ≤ length (t .ratios)
+  pub holds : n ≤ length t
   pub is : (notes : List ℕ) → standing r t a ≡ roundsFrom g false 1 (begin g (meaning notes (wordIn table 0))) (drop 1 (wordsIn notes n table))
 
 -- active breaks, by number, of a table of st .size records
 pub record Listed (st : Standing) (t : Tables) (a : List ℕ) : Type 0 where
   pub sized : Sized t
-  pub size : st .size ≤ length (t .ratios)
+  pub size : st .size ≤ length t
   pub some : 0 < st .count
   pub room : st .count ≤ st .size
-  pub active : length a ≡ length (t .ratios)
+  pub active : length a ≡ length t
   pub ascends : Ascends 0 (st .size) (take (st .count) a)
 
 -- the number of the first least active break
@@ -239,15 +246,21 @@ pub record LeastIs (st : Standing) (t : Tables) (a : List ℕ) (r : ℕ) : Type 
   pub within : r < st .size
   pub is : breakMeant t r ≡ least (breaksListed (st .count) t a)
 
--- the tables that are lent have room for the same number of breaks, and marks for no less
-pub record Lent (t : Tables) (a : List ℕ) (marks : List Bool) : Type 0 where
-  pub tables : Sized t
-  pub active : length a ≡ length (t .ratios)
-  pub all : length (t .ratios) ≤ length marks
+-- a slice that has n words has room for as many breaks behind them
+pub record Lent (n : ℕ) (work : List ℕ) : Type 0 where
+  pub few : n ≤ mostWords
+  pub room : n * 15 ≤ length work
 
--- the marks are those of the definition, for whatever notes the words stand in, and those that belong to no word are as they were
-pub record BestAre (g : Setting) (n : ℕ) (table : List ℕ) (old : List Bool) (t : Tables) (a : List ℕ) (marks : List Bool) : Type 0 where
-  pub breaks : (notes : List ℕ) → breaksIn n marks ≡ bestBreaks g (wordsIn notes n table)
-  pub first : (notes : List ℕ) → getD marks 0 false ≡ startsLine 0 (pathOf g (wordsIn notes n table))
-  pub beyond : (j : ℕ) → n ≤ j → getD marks j false ≡ getD old j false
-  pub sized : length marks ≡ length old
+-- all but the break records of a slice is as it was
+pub record Worked (n : ℕ) (old new : List ℕ) : Type 0 where
+  pub sized : length new ≡ length old
+  pub words : take (n * 7) new ≡ take (n * 7) old
+  pub beyond : drop (n * 15) new ≡ drop (n * 15) old
+
+-- the marks are those of the definition, for whatever notes the words stand in; the words, and what lies behind the break records, are as they were
+pub record BestAre (g : Setting) (n : ℕ) (old new : List ℕ) : Type 0 where
+  pub breaks : (notes : List ℕ) → breaksOf n new ≡ bestBreaks g (wordsIn notes n old)
+  pub first : (notes : List ℕ) → markIn new 0 ≡ startsLine 0 (pathOf g (wordsIn notes n old))
+  pub words : (j : ℕ) → j < n → wordIn new j ≡ wordIn old j
+  pub beyond : (k : ℕ) → n * 15 ≤ k → getD new k 0 ≡ getD old k 0
+  pub sized : length new ≡ length old

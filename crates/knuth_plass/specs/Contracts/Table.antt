@@ -1,34 +1,26 @@
--- The break table: records of eight places each, one of them unused, and their ratios beside them. What a record's path is, and the break of document 01
--- that a record means.
-use mathlib.Core.Bool.{Bool, false, cond}
+-- The break table: one list of numbers, eight a record. The record's own seven, and the table's list of active breaks beside them, one
+-- number a record. What a record's path is, and the break of document 01 that a record means.
+use mathlib.Core.Bool.{false, cond}
 use mathlib.Core.List.{List, [], _∷_}
 use mathlib.Core.Path.{_≡_}
-use Prim.Native.Nat.{ℕ, zero, suc, _+_, _*_, _/_, _%_, _^_, _≤_, _<_}
+use Prim.Native.Nat.{ℕ, zero, suc, _+_, _-_, _*_, _/_, _%_, _^_, _≤_, _<_}
 use lib.Dec.{T, eqb, ltb}
-use lib.Ieee.{Float, nan}
-use lib.ListN.{length, getD, set}
+use lib.Ieee.{Float, binary32, ofBits}
+use lib.ListN.{length, getD, set, take, drop}
 use lib.Seq.{sets}
 use Rattle.demerits.specs.Contracts.Bounds.{within, mostCost}
 use Rattle.knuth_plass.specs.declared.Break.{Break as Record}
 use Rattle.knuth_plass.specs.KnuthPlass.{Place, Break}
 
--- the two tables
-pub record Tables : Type 0 where
-  pub numbers : List ℕ
-  pub ratios : List Float
+-- the most words of a paragraph, and so the most breaks: up to here every sum fits
+abbrev pub mostWords : ℕ
+mostWords = 2 ^ 20
 
-abbrev pub tables : List ℕ → List Float → Tables
-tables numbers ratios = record { numbers = numbers; ratios = ratios }
+-- the ratio that a record has as bits
+abbrev pub ratioOf : ℕ → Float
+ratioOf bits = ofBits binary32 bits
 
--- they have room for the same number of records, which is at most that of a paragraph's words
-pub record Sized (t : Tables) : Type 0 where
-  pub numbers : length (t .numbers) ≡ length (t .ratios) * 8
-  pub few : length (t .ratios) ≤ 1024
-
--- there is room for record i
-pub record Room (i : ℕ) (t : Tables) : Type 0 where
-  pub numbers : i * 8 + 8 ≤ length (t .numbers)
-  pub ratio : i < length (t .ratios)
+-- ---- the numbers
 
 -- number j of record i
 abbrev pub breakNumber : List ℕ → ℕ → ℕ → ℕ
@@ -38,21 +30,25 @@ breakNumber numbers i j = getD numbers (i * 8 + j) 0
 abbrev pub demeritsIn : List ℕ → ℕ → ℕ
 demeritsIn numbers i = breakNumber numbers i 5 * 2 ^ 32 + breakNumber numbers i 4
 
--- record i, put together
-unfoldable pub breakIn : Tables → ℕ → Record
-breakIn t i = record {
-  previous = breakNumber (t .numbers) i 0;
-  word = breakNumber (t .numbers) i 1;
-  before = eqb (breakNumber (t .numbers) i 2) 1;
-  demerits = demeritsIn (t .numbers) i;
-  ratio = getD (t .ratios) i nan;
-  columns = breakNumber (t .numbers) i 6;
-  fresh = eqb (breakNumber (t .numbers) i 7) 1;
+-- record i, put together; the word and whether the break stands before it are one number
+unfoldable pub recordAt : List ℕ → ℕ → Record
+recordAt numbers i = record {
+  previous = breakNumber numbers i 0;
+  word = breakNumber numbers i 1 / 2;
+  before = eqb (breakNumber numbers i 1 % 2) 1;
+  demerits = demeritsIn numbers i;
+  ratio = breakNumber numbers i 3;
+  columns = breakNumber numbers i 6;
+  fresh = eqb (breakNumber numbers i 7) 1;
 }
 
--- record i with the place of b and the break before it
+-- the number of the k-th active break stands in record k
+abbrev pub activeAt : List ℕ → ℕ → ℕ
+activeAt numbers k = breakNumber numbers k 2
+
+-- record i with the place of b, and the break before it
 abbrev pub placeNumbers : Record → List ℕ
-placeNumbers b = b .previous ∷ b .word ∷ cond (b .before) 1 0 ∷ []
+placeNumbers b = b .previous ∷ (b .word * 2 + cond (b .before) 1 0) ∷ []
 
 unfoldable pub withPlace : List ℕ → ℕ → Record → List ℕ
 withPlace numbers i b = sets numbers (i * 8) (placeNumbers b)
@@ -64,20 +60,57 @@ lineNumbers b = b .demerits % 2 ^ 32 ∷ b .demerits / 2 ^ 32 ∷ b .columns ∷
 unfoldable pub withLine : List ℕ → ℕ → Record → List ℕ
 withLine numbers i b = sets numbers (i * 8 + 4) (lineNumbers b)
 
--- the tables with b taken apart into record i
-unfoldable pub withBreak : Tables → ℕ → Record → Tables
-withBreak t i b = record { numbers = withLine (withPlace (t .numbers) i b) i b; ratios = set (t .ratios) i (b .ratio) }
+-- record i with all that b has
+unfoldable pub withRecord : List ℕ → ℕ → Record → List ℕ
+withRecord numbers i b = set (withLine (withPlace numbers i b) i b) (i * 8 + 3) (b .ratio)
+
+-- break n is the k-th active one
+unfoldable pub withActive : List ℕ → ℕ → ℕ → List ℕ
+withActive numbers k n = set numbers (k * 8 + 2) n
 
 -- a record whose numbers fit the table
 pub record Fits (b : Record) : Type 0 where
   pub previous : b .previous < 2 ^ 32
-  pub word : b .word < 2 ^ 32
+  pub word : b .word < 2 ^ 31
   pub columns : b .columns < 2 ^ 32
+
+-- the numbers of n break records behind n words of seven numbers each
+abbrev pub recordsPart : ℕ → List ℕ → List ℕ
+recordsPart n work = take (n * 15 - n * 7) (drop (n * 7) work)
+
+-- ---- the table and the active breaks that the numbers are
+
+-- what f gives at the numbers below n, in order
+unfoldable pub below : {A : Type 0} → ℕ → (ℕ → A) → List A
+below zero f = []
+below (suc n) f = f 0 ∷ below n (λ i. f (suc i))
+
+abbrev pub Tables : Type 0
+Tables = List Record
+
+unfoldable pub tableIn : List ℕ → Tables
+tableIn numbers = below (length numbers / 8) (recordAt numbers)
+
+unfoldable pub activeIn : List ℕ → List ℕ
+activeIn numbers = below (length numbers / 8) (activeAt numbers)
+
+-- there is room for no more records than a paragraph may have words
+pub record Sized (t : Tables) : Type 0 where
+  pub few : length t ≤ mostWords
+
+abbrev pub noRecord : Record
+noRecord = record { previous = 0; word = 0; before = false; demerits = 0; ratio = 0; columns = 0; fresh = false }
+
+unfoldable pub breakIn : Tables → ℕ → Record
+breakIn t i = getD t i noRecord
+
+unfoldable pub withBreak : Tables → ℕ → Record → Tables
+withBreak t i b = set t i b
 
 -- record i is b now, and the others are as they were
 pub record Stored (t : Tables) (i : ℕ) (b : Record) (t₁ : Tables) : Type 0 where
   pub sized : Sized t₁
-  pub length : length (t₁ .ratios) ≡ length (t .ratios)
+  pub length : length t₁ ≡ length t
   pub here : breakIn t₁ i ≡ b
   pub others : (j : ℕ) → (j ≡ i → ⊥) → breakIn t₁ j ≡ breakIn t j
 
@@ -91,20 +124,20 @@ pathIn zero f i = []
 pathIn (suc k) f zero = []
 pathIn (suc k) f (suc i) = placeOf (f (suc i)) ∷ pathIn k f (f (suc i) .previous)
 
--- 1,024 steps are enough for any record
+-- each record but the first leads to one before it, so that record i has no more than i steps
 unfoldable pub pathTo : Tables → ℕ → List Place
-pathTo t i = pathIn 1024 (breakIn t) i
+pathTo t i = pathIn i (breakIn t) i
 
 -- a record with its path is a break
 unfoldable pub seen : List Place → Record → Break
-seen path b = record { places = path; demerits = b .demerits; ratio = b .ratio; columns = b .columns; fresh = b .fresh }
+seen path b = record { places = path; demerits = b .demerits; ratio = ratioOf (b .ratio); columns = b .columns; fresh = b .fresh }
 
 unfoldable pub breakMeant : Tables → ℕ → Break
 breakMeant t i = seen (pathTo t i) (breakIn t i)
 
 -- what holds of each record before the round of word i: its ratio, its columns, its demerits and its word are bounded
 pub record Sound (i : ℕ) (b : Record) : Type 0 where
-  pub ratio : T (within 1 (b .ratio))
+  pub ratio : T (within 1 (ratioOf (b .ratio)))
   pub columns : b .columns < 2 ^ 32
   pub demerits : b .demerits ≤ i * mostCost
   pub word : b .word < i
@@ -122,7 +155,7 @@ Ascends lo hi (x ∷ xs) = (lo ≤ x) × Ascends (suc x) hi xs
 
 -- each record up to `last`, but the first, leads to one before it, and stands at a word that has a mark
 abbrev pub Leads : Tables → ℕ → Type 0
-Leads t last = (j : ℕ) → 0 < j → j ≤ last → (breakIn t j .previous < j) × (breakIn t j .word < 1024)
+Leads t last = (j : ℕ) → 0 < j → j ≤ last → (breakIn t j .previous < j) × (breakIn t j .word < mostWords)
 
 -- the word that a break starts a line with
 abbrev pub startOf : Record → ℕ
@@ -131,9 +164,3 @@ startOf b = cond (b .before) (b .word) (b .word + 1)
 -- the one of two records with less demerits, the first where they are equal
 abbrev pub lesserIn : Tables → ℕ → ℕ → ℕ
 lesserIn t m n = cond (ltb (breakIn t n .demerits) (breakIn t m .demerits)) n m
-
--- the marks of the first n words say something new, and the others are as they were
-pub record MarkedUpTo (n : ℕ) (old new : List Bool) (says : ℕ → Bool) : Type 0 where
-  pub sized : length new ≡ length old
-  pub within : (j : ℕ) → j < n → getD new j false ≡ says j
-  pub beyond : (j : ℕ) → n ≤ j → getD new j false ≡ getD old j false

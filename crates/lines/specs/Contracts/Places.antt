@@ -22,6 +22,13 @@ use Rattle.lines.specs.declared.Spot.{Spot}
 use Rattle.lines.specs.declared.Class.{Class}
 use Rattle.lines.specs.declared.Class.the-variants.{Plain, Formatted}
 
+-- what the code is proved for: notes of so many bytes, and the columns that they take where each byte is a tab of 100
+abbrev pub mostLarge : ℕ
+mostLarge = 1048576
+
+abbrev pub mostColumns : ℕ
+mostColumns = 104857600
+
 -- a line by its lengths: of its text, and with its line end
 unfoldable pub lengthsOf : Line → Extent
 lengthsOf l = record { text = length (l .text); whole = length (l .raw) }

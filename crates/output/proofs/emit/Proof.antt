@@ -10,20 +10,20 @@ use Rattle.output.proofs.emit.Statement.{statement}
 use Rattle.output.proofs.emit.Tie as tie
 
 emitted-size-requires : tie.Need-emitted-size-requires
-emitted-size-requires c κs = c .before .before .before .before .before .pre .0
+emitted-size-requires c κs = c .before .before .before .before .pre .0
 
 add-result : tie.Need-add-result
-add-result c = omega (arith, c .emitted-size .ensures .1, c .before .before .before .before .before .before .pre .1)
+add-result c = omega (arith, c .emitted-size .ensures .1, c .before .before .before .before .before .pre .1)
 
 returns : tie.Need-returns
-returns c = with-most _ _ _ _ (c .before .before .before .before .before .before .args .l) (counted-wrote _ _ _ (c .before .if1 .taken) (c .emitted-size .ensures .0))
+returns c = with-most _ _ _ (c .before .before .before .before .before .args .l) (counted-wrote _ _ _ (c .before .if1 .taken) (c .emitted-size .ensures .0))
 
 get-requires : tie.Need-get-requires
 get-requires c κs = search needs
 
 run-from-requires : tie.Need-run-from-requires
 run-from-requires c κs =
-    let p = c .before .before .before .before .before .before .before .pre .0 in
+    let p = c .before .before .before .before .before .before .pre .0 in
     (p, turn-within p (c .before .get .ensures) (p .some) .end, p .some)
 
 lesser-requires : tie.Need-lesser-requires
@@ -40,27 +40,27 @@ part-put-first-end c = search needs
 
 put-first-requires : tie.Need-put-first-requires
 put-first-requires c κs =
-    let p = c .before .before .before .before .before .before .before .before .before .before .pre .0 in
+    let p = c .before .before .before .before .before .before .before .before .before .pre .0 in
     let r = c .before .before .run-from .ensures in
     (omega (arith, turn-within p (c .before .before .before .before .get .ensures) (p .some) .text, r .order), r .within, p .first, p .small)
 
 add-k : tie.Need-add-k
-add-k c = omega (arith, first-most _ _ _ _ _ (c .before .before .before .before .before .before .before .get .result .start) _ (c .before .before .before .before .before .before .before .before .before .before .before .before .before .pre .0) (c .before .before .before .before .before .run-from .ensures .within) (c .before .before .put-first .ensures))
+add-k c = omega (arith, first-most _ _ _ _ (c .before .before .before .before .before .before .before .get .result .start) _ (c .before .before .before .before .before .before .before .before .before .before .before .before .pre .0) (c .before .before .before .before .before .run-from .ensures .within) (c .before .before .put-first .ensures))
 
 emit-rest-requires : tie.Need-emit-rest-requires
 emit-rest-requires c κs =
-    let p = c .before .before .before .before .before .before .before .before .before .before .before .before .before .before .pre in
+    let p = c .before .before .before .before .before .before .before .before .before .before .before .before .before .pre in
     let r = c .before .before .before .before .before .before .run-from .ensures in
-    (p .0, r .few, omega (arith, p .1, first-most _ _ _ _ _ (c .before .before .before .before .before .before .before .before .get .result .start) _ (p .0) (r .within) (c .before .before .before .put-first .ensures)))
+    (p .0, r .few, omega (arith, p .1, first-most _ _ _ _ (c .before .before .before .before .before .before .before .before .get .result .start) _ (p .0) (r .within) (c .before .before .before .put-first .ensures)))
 
 same-length : tie.Need-same-length
 same-length c = search needs
 
 returns-2 : tie.Need-returns-2
 returns-2 c =
-    with-most _ _ _ _ (c .before .before .before .before .before .before .before .before .before .before .before .before .before .before .before .before .before .args .l)
+    with-most _ _ _ (c .before .before .before .before .before .before .before .before .before .before .before .before .before .before .before .before .args .l)
     (first-wrote
-    (c .before .before .before .before .before .before .before .before .before .before .before .before .before .before .before .before .before .pre .0)
+    (c .before .before .before .before .before .before .before .before .before .before .before .before .before .before .before .before .pre .0)
     (c .before .before .before .before .before .before .before .before .before .before .before .get .ensures)
     (c .before .before .before .before .before .before .before .before .before .run-from .ensures)
     (wrote-part _ _ _ _ _ _ (c .before .before .before .before .before .before .before .before .lesser .ensures) (c .before .before .before .before .before .before .put-first .ensures))

@@ -13,17 +13,17 @@ use Rattle.output.proofs.emit_rest.Statement.{statement}
 use Rattle.output.proofs.emit_rest.Tie as tie
 
 abbrev Inv-loop : tie.InvT-loop
-Inv-loop notes table n marks l out₀ at indent k₀ r₀ out k r =
+Inv-loop notes table n l out₀ at indent k₀ r₀ out k r =
     (r .next ≤ n) × (k ≤ 2 ^ 63 + r .next * 2 ^ 34) × (length out ≡ length out₀)
-    × Left out₀ at (emittedFrom notes table n marks l (r₀ .punct) (r₀ .next)) out k (emittedFrom notes table n marks l (r .punct) (r .next))
+    × Left out₀ at (emittedFrom notes table n l (r₀ .punct) (r₀ .next)) out k (emittedFrom notes table n l (r .punct) (r .next))
 
 abbrev μ-loop : tie.MeasureT-loop
-μ-loop notes table n marks l out₀ at indent k₀ r₀ out k r = n - r .next
+μ-loop notes table n l out₀ at indent k₀ r₀ out k r = n - r .next
 
 -- what a turn adds
 most : (c : tie.After-slice-known2 Inv-loop μ-loop) → c .before .before .put-word .result ≤ 2 ^ 34
 most c =
-    turn-most (c .before .before .before .before .before .before .before .before .before .before .before .before .before .before .before .before .before .pre .0) (c .before .before .before .before .before .before .before .before .get .ensures) (c .before .before .before .before .before .before .before .before .before .if1 .taken) _ _ _ (c .before .before .before .before .before .before .before .added-space .ensures .most) (c .before .before .before .before .before .run-from .ensures .within) (c .before .before .put-word .ensures)
+    turn-most (c .before .before .before .before .before .before .before .before .before .before .before .before .before .before .before .before .pre .0) (c .before .before .before .before .before .before .before .before .get .ensures) (c .before .before .before .before .before .before .before .before .before .if1 .taken) _ _ _ (c .before .before .before .before .before .before .before .added-space .ensures .most) (c .before .before .before .before .before .run-from .ensures .within) (c .before .before .put-word .ensures)
 
 loop-holds : tie.Need-loop-holds Inv-loop μ-loop
 loop-holds c = (omega arith, omega arith, refl, left-first _ _ _)
@@ -34,15 +34,15 @@ get-requires c κs = search needs
 added-space-requires : tie.Need-added-space-requires Inv-loop μ-loop
 added-space-requires c κs = search needs
 
-shared-slice-read-fresh : tie.Need-shared-slice-read-fresh Inv-loop μ-loop
-shared-slice-read-fresh c = omega arith
+starts-line-requires : tie.Need-starts-line-requires Inv-loop μ-loop
+starts-line-requires c κs = omega arith
 
 add-run-from : tie.Need-add-run-from Inv-loop μ-loop
 add-run-from c = omega arith
 
 run-from-requires : tie.Need-run-from-requires Inv-loop μ-loop
 run-from-requires c κs =
-    let p = c .before .before .before .before .before .before .before .before .before .before .before .pre .0 in
+    let p = c .before .before .before .before .before .before .before .before .before .before .pre .0 in
     (p, turn-within p (c .before .before .get .ensures) (c .before .before .before .if1 .taken) .end, omega arith)
 
 lesser-requires : tie.Need-lesser-requires Inv-loop μ-loop
@@ -59,12 +59,12 @@ part-put-word-end c = omega arith
 
 put-word-requires : tie.Need-put-word-requires Inv-loop μ-loop
 put-word-requires c κs =
-    let p = c .before .before .before .before .before .before .before .before .before .before .before .before .before .before .pre .0 in
+    let p = c .before .before .before .before .before .before .before .before .before .before .before .before .before .pre .0 in
     let r = c .before .before .run-from .ensures in
     (turn-within p (c .before .before .before .before .before .get .ensures) (c .before .before .before .before .before .before .if1 .taken), p .indent, p .small, c .before .before .before .before .added-space .ensures .most, r .order, r .within)
 
 add-k : tie.Need-add-k Inv-loop μ-loop
-add-k c = omega (arith, most c, c .before .before .before .before .before .before .before .before .before .before .before .loop .inv .1, c .before .before .before .before .before .before .before .before .before .if1 .taken, c .before .before .before .before .before .before .before .before .before .before .before .before .before .before .before .before .before .pre .0 .few)
+add-k c = omega (arith, most c, c .before .before .before .before .before .before .before .before .before .before .before .loop .inv .1, c .before .before .before .before .before .before .before .before .before .if1 .taken, c .before .before .before .before .before .before .before .before .before .before .before .before .before .before .before .before .pre .0 .few)
 
 loop-less : tie.Need-loop-less Inv-loop μ-loop
 loop-less c = let r = c .before .before .before .before .before .run-from .ensures in omega (arith, r .on, r .few)
@@ -77,7 +77,7 @@ loop-again c =
       r .few,
       omega (arith, r .on),
       wrote-length (wrote-part _ (l .k) _ _ _ _ (c .before .before .before .before .lesser .ensures) (c .before .before .put-word .ensures)) ∙ l .inv .2,
-      turn-left (c .before .before .before .before .before .before .before .before .before .before .before .before .before .before .before .before .before .pre .0) (c .before .before .before .before .before .before .before .before .get .ensures) (c .before .before .before .before .before .before .before .before .before .if1 .taken) _ _ (c .before .before .before .before .before .before .before .added-space .ensures .is) r (l .inv .3)
+      turn-left (c .before .before .before .before .before .before .before .before .before .before .before .before .before .before .before .before .pre .0) (c .before .before .before .before .before .before .before .before .get .ensures) (c .before .before .before .before .before .before .before .before .before .if1 .taken) _ _ (c .before .before .before .before .before .before .before .added-space .ensures .is) (c .before .before .before .before .before .before .starts-line .ensures) r (l .inv .3)
           (wrote-part _ _ _ _ _ _ (c .before .before .before .before .lesser .ensures) (c .before .before .put-word .ensures)),
     )
 
@@ -108,7 +108,7 @@ returns : tie.Need-returns Inv-loop μ-loop
 returns c =
     let l = c .before .before .before .before .before .before .before .loop in
     left-last
-    (rw (rest-end _ _ _ _ _ _ _ (c .before .before .before .before .before .if1 .left)) at (l .inv .3))
+    (rw (rest-end _ _ _ _ _ _ (c .before .before .before .before .before .if1 .left)) at (l .inv .3))
     (wrote-part _ _ _ _ _ _ (c .before .before .before .before .lesser2 .ensures) (c .before .before .put-feed .ensures))
 
 pub emit-rest-spec : {M : Type 1} → statement M
@@ -120,7 +120,7 @@ emit-rest-spec =
     loop-holds
     get-requires
     added-space-requires
-    shared-slice-read-fresh
+    starts-line-requires
     add-run-from
     run-from-requires
     lesser-requires

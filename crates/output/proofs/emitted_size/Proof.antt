@@ -1,5 +1,5 @@
 -- `output::emitted_size` meets its contract. Invariant: the bytes counted, with those of the words that are left, are all; a word adds less than 2 ^ 34.
-use mathlib.Core.Path.{_≡_, refl}
+use mathlib.Core.Path.{_≡_}
 use Prim.Native.Nat.{_≤_, _+_, _-_, _*_, _^_}
 use native.Mathlib.Omega.{arith}
 use lib.ListN.{length}
@@ -11,51 +11,51 @@ use Rattle.output.proofs.emitted_size.Statement.{statement}
 use Rattle.output.proofs.emitted_size.Tie as tie
 
 abbrev Inv-loop : tie.InvT-loop
-Inv-loop notes table n marks l indent k₀ punct₀ i₀ k punct i =
-    (1 ≤ i) × (i ≤ n) × (k ≤ i * 2 ^ 34) × (k + length (emittedFrom notes table n marks l punct i) ≡ length (emitted notes table n marks l))
+Inv-loop notes table n l indent k₀ punct₀ i₀ k punct i =
+    (1 ≤ i) × (i ≤ n) × (k ≤ i * 2 ^ 34) × (k + length (emittedFrom notes table n l punct i) ≡ length (emitted notes table n l))
 
 abbrev μ-loop : tie.MeasureT-loop
-μ-loop notes table n marks l indent k₀ punct₀ i₀ k punct i = n - i
+μ-loop notes table n l indent k₀ punct₀ i₀ k punct i = n - i
 
 get-requires : tie.Need-get-requires Inv-loop μ-loop
-get-requires c κs = let p = c .before .before .before .pre in omega (arith, p .some, p .held)
+get-requires c κs = let p = c .before .before .pre in omega (arith, p .some, p .held)
 
 margin-size-requires : tie.Need-margin-size-requires Inv-loop μ-loop
-margin-size-requires c κs = let p = c .before .before .before .before .before .pre in margin-small p _ (p .indent)
+margin-size-requires c κs = let p = c .before .before .before .before .pre in margin-small p _ (p .indent)
 
 margin-size-requires-2 : tie.Need-margin-size-requires-2 Inv-loop μ-loop
-margin-size-requires-2 c κs = let p = c .before .before .before .before .before .before .pre in margin-small p _ (p .first)
+margin-size-requires-2 c κs = let p = c .before .before .before .before .before .pre in margin-small p _ (p .first)
 
 sub-k : tie.Need-sub-k Inv-loop μ-loop
-sub-k c = let p = c .before .before .before .before .before .before .before .before .pre in turn-within p (c .before .before .before .before .get .ensures) (p .some) .text
+sub-k c = let p = c .before .before .before .before .before .before .before .pre in turn-within p (c .before .before .before .before .get .ensures) (p .some) .text
 
 add-k : tie.Need-add-k Inv-loop μ-loop
-add-k c = let p = c .before .before .before .before .before .before .before .before .pre in omega (arith, c .before .margin-size2 .ensures .1, word-small p (c .before .before .before .before .get .ensures) (p .some) .end)
+add-k c = let p = c .before .before .before .before .before .before .before .pre in omega (arith, c .before .margin-size2 .ensures .1, word-small p (c .before .before .before .before .get .ensures) (p .some) .end)
 
 loop-holds : tie.Need-loop-holds Inv-loop μ-loop
 loop-holds c =
-    let p = c .before .before .before .before .before .before .before .before .pre in
+    let p = c .before .before .before .before .before .before .before .pre in
     let g = c .before .before .before .before .get .ensures in
     let m = c .before .margin-size2 .ensures in
     (omega arith, p .some, omega (arith, m .1, word-small p g (p .some) .end), size-first p _ g (m .0))
 
 get-requires-2 : tie.Need-get-requires-2 Inv-loop μ-loop
-get-requires-2 c κs = omega (arith, c .loop-test .taken, c .before .before .before .before .before .before .before .before .before .before .pre .held)
+get-requires-2 c κs = omega (arith, c .loop-test .taken, c .before .before .before .before .before .before .before .before .before .pre .held)
 
 added-space-requires : tie.Need-added-space-requires Inv-loop μ-loop
 added-space-requires c κs = search needs
 
-shared-slice-read-placed-size : tie.Need-shared-slice-read-placed-size Inv-loop μ-loop
-shared-slice-read-placed-size c = omega (arith, c .before .before .before .loop-test .taken, c .before .before .before .before .before .before .before .before .before .before .before .before .before .pre .marked)
+starts-line-requires : tie.Need-starts-line-requires Inv-loop μ-loop
+starts-line-requires c κs = omega arith
 
 placed-size-requires : tie.Need-placed-size-requires Inv-loop μ-loop
-placed-size-requires c κs = (word-small (c .before .before .before .before .before .before .before .before .before .before .before .before .before .pre) (c .before .before .get2 .ensures) (c .before .before .before .loop-test .taken), c .before .added-space .ensures .most, c .before .before .before .before .before .before .before .margin-size .ensures .1)
+placed-size-requires c κs = (word-small (c .before .before .before .before .before .before .before .before .before .before .before .before .pre) (c .before .before .get2 .ensures) (c .before .before .before .loop-test .taken), c .before .added-space .ensures .most, c .before .before .before .before .before .before .before .margin-size .ensures .1)
 
 add-k-2 : tie.Need-add-k-2 Inv-loop μ-loop
-add-k-2 c = omega (arith, c .placed-size .ensures .1, c .before .before .before .before .before .loop .inv .2, c .before .before .before .before .loop-test .taken, c .before .before .before .before .before .before .before .before .before .before .before .before .before .before .pre .few)
+add-k-2 c = omega (arith, c .placed-size .ensures .1, c .before .before .before .before .before .loop .inv .2, c .before .before .before .before .loop-test .taken, c .before .before .before .before .before .before .before .before .before .before .before .before .before .pre .few)
 
 add-i : tie.Need-add-i Inv-loop μ-loop
-add-i c = omega (arith, c .before .before .before .before .loop-test .taken, c .before .before .before .before .before .before .before .before .before .before .before .before .before .before .pre .few)
+add-i c = omega (arith, c .before .before .before .before .loop-test .taken, c .before .before .before .before .before .before .before .before .before .before .before .before .before .pre .few)
 
 loop-less : tie.Need-loop-less Inv-loop μ-loop
 loop-less c = omega (arith, c .before .before .before .before .loop-test .taken)
@@ -64,15 +64,15 @@ loop-again : tie.Need-loop-again Inv-loop μ-loop
 loop-again c =
     let i = c .before .before .before .before .before .loop .inv in
     let r = c .placed-size .ensures in
-    (omega (arith, i .0), omega (arith, c .before .before .before .before .loop-test .taken), omega (arith, i .2, r .1), size-turn (c .before .before .before .before .before .before .before .before .before .before .before .before .before .before .pre) (c .before .before .before .get2 .ensures) (c .before .before .before .before .loop-test .taken) _ _ (c .before .before .added-space .ensures .is) refl (c .before .before .before .before .before .before .before .before .margin-size .ensures .0) (r .0) (i .3))
+    (omega (arith, i .0), omega (arith, c .before .before .before .before .loop-test .taken), omega (arith, i .2, r .1), size-turn (c .before .before .before .before .before .before .before .before .before .before .before .before .before .pre) (c .before .before .before .get2 .ensures) (c .before .before .before .before .loop-test .taken) _ _ (c .before .before .added-space .ensures .is) (c .before .starts-line .ensures) (c .before .before .before .before .before .before .before .before .margin-size .ensures .0) (r .0) (i .3))
 
 add-result : tie.Need-add-result Inv-loop μ-loop
-add-result c = let i = c .before .loop .inv in omega (arith, i .1, i .2, c .before .before .before .before .before .before .before .before .before .before .pre .few)
+add-result c = let i = c .before .loop .inv in omega (arith, i .1, i .2, c .before .before .before .before .before .before .before .before .before .pre .few)
 
 returns : tie.Need-returns Inv-loop μ-loop
 returns c =
     let i = c .before .loop .inv in
-    (size-last (c .before .before .before .before .before .before .before .before .before .before .pre) _ _ _ (c .loop-test .left) (i .3), omega (arith, i .1, i .2, c .before .before .before .before .before .before .before .before .before .before .pre .few))
+    (size-last (c .before .before .before .before .before .before .before .before .before .pre) _ _ _ (c .loop-test .left) (i .3), omega (arith, i .1, i .2, c .before .before .before .before .before .before .before .before .before .pre .few))
 
 pub emitted-size-spec : {M : Type 1} → statement M
 emitted-size-spec =
@@ -88,7 +88,7 @@ emitted-size-spec =
     loop-holds
     get-requires-2
     added-space-requires
-    shared-slice-read-placed-size
+    starts-line-requires
     placed-size-requires
     add-k-2
     add-i

@@ -17,9 +17,9 @@ pub record Joins (notes : List ℕ) (w : Record) (fresh : Bool) (added at : ℕ)
   pub is : (indent : List ℕ) → placed fresh added indent (meaning notes w) ≡ slice at (w .end) notes
 
 -- the words from i on, up to where the run ends, are the notes from a place on
-pub record Runs (notes table : List ℕ) (n : ℕ) (marks : List Bool) (l : Layout) (at : ℕ) (punct : Bool) (i : ℕ) (r : Run) : Type 0 where
+pub record Runs (notes table : List ℕ) (n : ℕ) (l : Layout) (at : ℕ) (punct : Bool) (i : ℕ) (r : Run) : Type 0 where
   pub on : i ≤ r .next
   pub few : r .next ≤ n
   pub order : at ≤ r .end
   pub within : r .end ≤ length notes
-  pub is : emittedFrom notes table n marks l punct i ≡ slice at (r .end) notes ++ emittedFrom notes table n marks l (r .punct) (r .next)
+  pub is : emittedFrom notes table n l punct i ≡ slice at (r .end) notes ++ emittedFrom notes table n l (r .punct) (r .next)

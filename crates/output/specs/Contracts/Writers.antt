@@ -7,7 +7,7 @@ use lib.Seq.{slice}
 use Rattle.pieces.specs.declared.Margin.{Margin}
 use Rattle.records.specs.Word.{Word}
 use Rattle.records.specs.Contracts.Table.{Holds, wordsIn, AllWithin}
-use Rattle.records.specs.Contracts.Marks.{breaksIn}
+use Rattle.records.specs.Contracts.Marks.{marksIn, breaksOf}
 use Rattle.output.specs.declared.Four.{Four}
 use Rattle.output.specs.declared.Sixteen.{Sixteen}
 use Rattle.output.specs.declared.Layout.{Layout}
@@ -35,22 +35,21 @@ unfoldable pub placed : Bool → ℕ → List ℕ → Word → List ℕ
 placed fresh added indent w =
     elim fresh as (λ x. List ℕ) [ true ↦ lineFeed ++ indent | false ↦ replicate added 32 ++ w .blanks ] ++ w .text
 
--- what emission is handed: a table of n words and their marks, and the indents, with every place in the notes
-pub record Laid (notes : List ℕ) (table : List ℕ) (n : ℕ) (marks : List Bool) (l : Layout) : Type 0 where
+-- what emission is handed: a table of n words with their marks, and the indents, with every place in the notes
+pub record Laid (notes : List ℕ) (table : List ℕ) (n : ℕ) (l : Layout) : Type 0 where
   pub some : 1 ≤ n
-  pub few : n ≤ 1024
+  pub few : n ≤ 2 ^ 20
   pub words : AllWithin (length notes) n table
   pub held : Holds n table
-  pub marked : n ≤ length marks
   pub first : MarginIn (length notes) (l .first)
   pub indent : MarginIn (length notes) (l .indent)
   pub small : length notes < 2 ^ 32
 
 -- what is emitted: the paragraph, and the part of it from word i on
-abbrev pub emitted : List ℕ → List ℕ → ℕ → List Bool → Layout → List ℕ
-emitted notes table n marks l =
-    emit (l .uniform) (marginOf notes (l .first)) (marginOf notes (l .indent)) (breaksIn n marks) (wordsIn notes n table)
+abbrev pub emitted : List ℕ → List ℕ → ℕ → Layout → List ℕ
+emitted notes table n l =
+    emit (l .uniform) (marginOf notes (l .first)) (marginOf notes (l .indent)) (breaksOf n table) (wordsIn notes n table)
 
-abbrev pub emittedFrom : List ℕ → List ℕ → ℕ → List Bool → Layout → Bool → ℕ → List ℕ
-emittedFrom notes table n marks l punct i =
-    emitRest (l .uniform) (marginOf notes (l .indent)) punct (slice i n marks) (drop i (wordsIn notes n table))
+abbrev pub emittedFrom : List ℕ → List ℕ → ℕ → Layout → Bool → ℕ → List ℕ
+emittedFrom notes table n l punct i =
+    emitRest (l .uniform) (marginOf notes (l .indent)) punct (slice i n (marksIn n table)) (drop i (wordsIn notes n table))

@@ -7,45 +7,24 @@ use Rattle.paragraphs.proofs.mark_breaks.Tie as tie
 
 quick-breaks-requires : tie.Need-quick-breaks-requires
 quick-breaks-requires c κs =
-    let p = c .before .before .before .before .before .before .before .pre in
-    let n = rw (c .before .if1 .taken) at (p .2) in
+    let p = c .before .before .before .pre in
     let l = p .0 in
-    (p .1, omega (arith, n, p .5 .few), p .3, n, record { some = l .tab; tab = l .tabs; width = omega (arith, l .wide); first = omega (arith, l .first); indent = omega (arith, l .indent) })
+    (p .1, p .3 .held, record { some = l .tab; tab = l .tabs; width = omega (arith, l .wide); first = omega (arith, l .first); indent = omega (arith, l .indent) })
 
 same-length : tie.Need-same-length
 same-length c = search needs
 
 returns : tie.Need-returns
-returns c = broken-fast _ _ _ _ _ _ (c .before .before .before .before .if1 .taken) (c .before .before .quick-breaks .ensures)
+returns c = broken-fast _ _ _ _ _ (c .before .before .before .before .if1 .taken) (c .before .before .quick-breaks .ensures)
 
 best-breaks-requires : tie.Need-best-breaks-requires
-best-breaks-requires c κs = let p = c .before .before .before .before .before .before .before .before .before .before .pre in (p .0, p .1, rw (c .before .before .before .before .if1 .left) at (p .2), p .3, p .4, p .5 .lent)
+best-breaks-requires c κs = let p = c .before .before .before .pre in (p .0, p .1, record { few = p .2; room = p .3 .breaks (c .before .if1 .left) }, p .4)
 
 same-length-2 : tie.Need-same-length-2
 same-length-2 c = search needs
 
-same-length-3 : tie.Need-same-length-3
-same-length-3 c = search needs
-
-same-length-4 : tie.Need-same-length-4
-same-length-4 c = search needs
-
-same-length-5 : tie.Need-same-length-5
-same-length-5 c = search needs
-
 returns-2 : tie.Need-returns-2
-returns-2 c = broken-best _ _ _ _ _ _ _ _ (c .before .before .before .before .before .before .before .before .before .before .before .before .before .if1 .left) (c .before .before .before .before .before .before .before .before .best-breaks .ensures)
+returns-2 c = broken-best _ _ _ _ _ (c .before .before .before .before .if1 .left) (c .before .before .best-breaks .ensures)
 
 pub mark-breaks-spec : {M : Type 1} → statement M
-mark-breaks-spec =
-    tie.close
-    (tie.spec
-    quick-breaks-requires
-    same-length
-    returns
-    best-breaks-requires
-    same-length-2
-    same-length-3
-    same-length-4
-    same-length-5
-    returns-2)
+mark-breaks-spec = tie.close (tie.spec quick-breaks-requires same-length returns best-breaks-requires same-length-2 returns-2)

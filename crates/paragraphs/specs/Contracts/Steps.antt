@@ -1,45 +1,48 @@
 -- What the functions of a paragraph's work answer for: the storage lent to them, and a paragraph that was written or has too many words.
 use mathlib.Core.Path.{_≡_}
-use mathlib.Core.Bool.{Bool, false, _||_}
+use mathlib.Core.Bool.{Bool, false, cond, _||_}
 use mathlib.Core.List.{List}
-use Prim.Native.Nat.{ℕ, _+_, _*_, _^_, _≤_, _<_}
-use lib.Ieee.{Float}
+use Prim.Native.Nat.{ℕ, _+_, _*_, _/_, _^_, _≤_, _<_}
 use lib.ListN.{length}
 use lib.Seq.{slice}
 use Rattle.options.specs.Opts.{meant}
 use Rattle.options.specs.declared.Options.{Options}
 use Rattle.lines.specs.Lines.{linesOf}
+use Rattle.lines.specs.Contracts.Places.{mostLarge}
 use Rattle.pieces.specs.Contracts.Bounds.{AllBegin}
 use Rattle.pieces.specs.declared.Paragraph.{Paragraph}
 use Rattle.records.specs.Word.{Word}
-use Rattle.records.specs.Contracts.Table.{Holds, wordsIn}
-use Rattle.records.specs.Contracts.Marks.{breaksIn}
+use Rattle.records.specs.Contracts.Table.{Holds, wordIn, wordsIn}
+use Rattle.records.specs.Contracts.Marks.{breaksOf}
 use Rattle.words.specs.Contracts.Places.{wordsAt}
 use Rattle.spacing.specs.declared.Setting.{Setting}
 use Rattle.output.specs.Contracts.Bound.{longest}
 use Rattle.output.specs.Emission.{emit}
 use Rattle.output.specs.Contracts.Sink.{Wrote}
 use Rattle.output.specs.Contracts.Writers.{marginOf, MarginIn}
-use Rattle.knuth_plass.specs.Contracts.Table.{tables}
-use Rattle.knuth_plass.specs.Contracts.Round.{Lent}
 use Rattle.paragraphs.specs.Breaks.{settingOf, breaksBy}
 use Rattle.paragraphs.specs.declared.Cursor.{Cursor}
 use Rattle.paragraphs.specs.declared.Step.{Step}
 use Rattle.paragraphs.specs.declared.Step.the-variants.{On, Over}
 
--- ---- working storage
+-- ---- working room
 
--- tables for as many words as there are marks, and for as many breaks as there are ratios
-pub record Scratch (table breaks : List ℕ) (ratios : List Float) (active : List ℕ) (marks : List Bool) : Type 0 where
-  pub few : length marks ≤ 1024
-  pub held : Holds (length marks) table
-  pub lent : Lent (tables breaks ratios) active marks
+-- so many words there is room for in so many numbers: a word takes seven and, with Knuth-Plass, the break behind it eight
+unfoldable pub roomFor : Bool → ℕ → ℕ
+roomFor quick size = cond quick (size / 7) (size / 15)
+
+-- a room holds n words, and their breaks where they are not broken quick
+pub record Roomy (fast : Bool) (n : ℕ) (work : List ℕ) : Type 0 where
+  pub held : Holds n work
+  pub breaks : fast ≡ false → n * 15 ≤ length work
 
 -- ---- a paragraph
 
--- the marks say so of n words of a table, for whatever notes they stand in
-abbrev pub Broken : Bool → Setting → ℕ → List ℕ → List Bool → Type 0
-Broken fast g n table marks = (notes : List ℕ) → breaksIn n marks ≡ breaksBy fast g (wordsIn notes n table)
+-- the marks of n words say so, for whatever notes the words stand in; these are as they were
+pub record Broken (fast : Bool) (g : Setting) (n : ℕ) (work work′ : List ℕ) : Type 0 where
+  pub breaks : (notes : List ℕ) → breaksOf n work′ ≡ breaksBy fast g (wordsIn notes n work)
+  pub words : (j : ℕ) → j < n → wordIn work′ j ≡ wordIn work j
+  pub sized : length work′ ≡ length work
 
 -- what a paragraph in places is broken with, and its words
 abbrev pub settingFor : List ℕ → Options → Paragraph → Setting
@@ -52,10 +55,11 @@ wordsFor block notes at o p = wordsAt (meant block o) (p .mail) (p .start) (p .l
 pub record Placed (notes : List ℕ) (at : ℕ) (o : Options) (p : Paragraph) : Type 0 where
   pub order : at ≤ p .next
   pub within : p .next ≤ length notes
-  pub short : length notes ≤ 65536
+  pub short : length notes ≤ mostLarge
   pub begins : p .mail ≡ false → AllBegin (o .glue) (p .start) (p .later) (linesOf (slice at (p .next) notes))
   pub block : List ℕ
   pub some : 0 < length (wordsFor block notes at o p)
+  pub few : length (wordsFor block notes at o p) ≤ length notes
   pub first : MarginIn (length notes) (p .first)
   pub indent : MarginIn (length notes) (p .indent)
   pub firstSmall : p .first .columns < 2 ^ 31
@@ -68,7 +72,6 @@ pub record Placed (notes : List ℕ) (at : ℕ) (o : Options) (p : Paragraph) : 
 
 -- it was written
 pub record TextPut (notes : List ℕ) (at : ℕ) (o : Options) (p : Paragraph) (out : List ℕ) (written : ℕ) (out′ : List ℕ) (d : Cursor) (block : List ℕ) : Type 0 where
-  pub few : length (wordsFor block notes at o p) ≤ 1024
   pub next : d .at ≡ p .next
   pub mail : d .mail ≡ p .mail
   pub wrote : Wrote out written

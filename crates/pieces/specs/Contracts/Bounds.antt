@@ -3,7 +3,7 @@
 use mathlib.Core.Path.{_≡_}
 use mathlib.Core.Bool.{Bool, false}
 use mathlib.Core.List.{List, [], _∷_}
-use Prim.Native.Nat.{ℕ, _≤_, _<_}
+use Prim.Native.Nat.{ℕ, _+_, _≤_, _<_}
 use lib.ListN.{length, drop}
 use lib.Seq.{slice}
 use Rattle.lists.specs.Runs.{while}
@@ -11,6 +11,7 @@ use Rattle.text.specs.Characters.{glyphs, isBlank}
 use Rattle.text.specs.Contracts.Places.{inkGlyphs}
 use Rattle.lines.specs.Lines.{Line, linesOf}
 use Rattle.lines.specs.Classes.{glyphsFrom}
+use Rattle.lines.specs.Contracts.Places.{mostColumns}
 use Rattle.pieces.specs.declared.Margin.{Margin}
 use Rattle.pieces.specs.declared.Paragraph.{Paragraph}
 use Rattle.pieces.specs.declared.Piece.{Piece}
@@ -33,7 +34,7 @@ pub record MarginWithin (at next : ℕ) (m : Margin) : Type 0 where
   pub order : m .start ≤ m .end
   pub high : m .end ≤ next
   pub more : m .more ≤ 4
-  pub columns : m .columns ≤ 6553604
+  pub columns : m .columns ≤ mostColumns + 4
 
 pub record ParagraphWithin (glue : Bool) (notes : List ℕ) (at : ℕ) (p : Paragraph) : Type 0 where
   pub on : at < p .next

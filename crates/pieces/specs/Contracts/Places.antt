@@ -9,7 +9,7 @@ use lib.Dec.{ltb}
 use Rattle.lists.specs.Runs.{joined}
 use Rattle.options.specs.Opts.{Opts}
 use Rattle.lines.specs.Lines.{Line, firstLine, linesOf}
-use Rattle.lines.specs.Contracts.Places.{Usable}
+use Rattle.lines.specs.Contracts.Places.{mostLarge, mostColumns, Usable}
 use Rattle.options.specs.declared.Options.{Options}
 use Rattle.lines.specs.Classes.{classify}
 use Rattle.lines.specs.declared.Shape.{Shape}
@@ -105,7 +105,7 @@ secondAt o s notes at = secondPlace (at + length (firstLine (drop at notes) .raw
 
 -- what the functions ask: the notes are short, the options are those that a block gives, a place lies in the notes
 pub record PieceReady (notes block : List ℕ) (o : Options) (at : ℕ) : Type 0 where
-  pub short : length notes ≤ 65536
+  pub short : length notes ≤ mostLarge
   pub usable : Usable block o
   pub place : at ≤ length notes
 
@@ -123,7 +123,7 @@ pub record LineIs (o : Opts) (notes : List ℕ) (at : ℕ) (r : Classed) : Type 
 -- a shape of a line that begins at a place
 pub record Shaped (notes : List ℕ) (at : ℕ) (s : Shape) : Type 0 where
   pub indent : at + s .«indent_end» ≤ length notes
-  pub columns : s .«indent_length» ≤ 6553600
+  pub columns : s .«indent_length» ≤ mostColumns
 
 -- a second line that joins: the line behind it begins at next, and it has the shape s
 pub record Joined (notes : List ℕ) (at next : ℕ) (s : Shape) : Type 0 where

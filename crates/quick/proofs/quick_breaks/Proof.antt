@@ -1,26 +1,26 @@
--- `quick::quick_breaks` meets its contract. Invariant: the marks, with the breaks still to come stored from i on, are the marks with all breaks stored.
+-- `quick::quick_breaks` meets its contract. Invariant: the words are as they were, and the table with the breaks still to come marked from i on is the table with all breaks marked.
 use mathlib.Core.List.{List}
-use mathlib.Core.Path.{_≡_, refl, sym, ap}
+use mathlib.Core.Path.{_≡_, refl, sym, ap, _∙_}
 use Prim.Native.Nat.{ℕ, _≤_, _<_, _-_, _^_}
 use native.Mathlib.Omega.{arith}
 use borrow.Author.Needs.{needs}
 use denote.Ref.{now}
-use lib.ListN.{length, length-set}
-use lib.Seq.{sets}
-use Rattle.records.specs.Contracts.Table.{wordsIn}
-use Rattle.records.proofs.Marks.{marked}
+use lib.ListN.{length}
+use Rattle.records.specs.Contracts.Table.{wordIn, wordsIn}
+use Rattle.records.specs.Contracts.Marks.{withMarks}
+use Rattle.records.proofs.Marks.{mark-word, marked-by}
 use Rattle.quick.specs.Quick.{quickBreaks}
-use Rattle.quick.proofs.Laws.{breaksFrom, breaks-first, breaks-end, breaks-length, column-most, turn}
+use Rattle.quick.proofs.Laws.{breaksFrom, breaks-first, breaks-length, column-most, turn, last}
 use Rattle.quick.proofs.quick_breaks.Statement.{statement}
 use Rattle.quick.proofs.quick_breaks.Tie as tie
 
 abbrev Inv-loop : tie.InvT-loop
-Inv-loop table n g marks₀ column₀ punct₀ i₀ marks column punct i =
-    (i ≤ n) × (column < 2 ^ 34) × (length marks ≡ length marks₀)
-    × ((notes : List ℕ) → sets marks i (breaksFrom g notes table n column punct i) ≡ sets marks₀ 1 (quickBreaks g (wordsIn notes n table)))
+Inv-loop table₀ n g column₀ punct₀ i₀ table column punct i =
+    (i ≤ n) × (column < 2 ^ 34) × (length table ≡ length table₀) × ((j : ℕ) → wordIn table j ≡ wordIn table₀ j)
+    × ((notes : List ℕ) → withMarks table i (breaksFrom g notes table₀ n column punct i) ≡ withMarks table₀ 1 (quickBreaks g (wordsIn notes n table₀)))
 
 abbrev μ-loop : tie.MeasureT-loop
-μ-loop table n g marks₀ column₀ punct₀ i₀ marks column punct i = n - i
+μ-loop table₀ n g column₀ punct₀ i₀ table column punct i = n - i
 
 get-requires : tie.Need-get-requires Inv-loop μ-loop
 get-requires c κs = search needs
@@ -31,40 +31,43 @@ add-column c = omega arith
 loop-holds : tie.Need-loop-holds Inv-loop μ-loop
 loop-holds c =
     let s = c .before .before .before .before .before in
-    (s .pre .0, omega arith, refl, λ notes. ap (sets (s .args .marks .now) 1) (sym (breaks-first _ _ _ _ _ (c .before .before .get .ensures .is) (s .pre .0))))
+    (s .pre .0, omega arith, refl, λ j. refl, λ notes. ap (withMarks (now (s .args .table)) 1) (sym (breaks-first _ _ _ _ _ (c .before .before .get .ensures .is) (s .pre .0))))
 
 get-requires-2 : tie.Need-get-requires-2 Inv-loop μ-loop
-get-requires-2 c κs = search needs
+get-requires-2 c κs = omega (arith, c .before .before .loop .inv .2)
 
 reach-requires : tie.Need-reach-requires Inv-loop μ-loop
-reach-requires c κs = (c .before .before .before .before .before .before .before .before .pre .4, c .get2 .ensures .small, c .before .before .loop .inv .1)
+reach-requires c κs = (c .before .before .before .before .before .before .before .before .before .pre .2, c .get2 .ensures .small, c .before .before .before .loop .inv .1)
 
-slice-write-marks : tie.Need-slice-write-marks Inv-loop μ-loop
-slice-write-marks c = omega arith
+mark-requires : tie.Need-mark-requires Inv-loop μ-loop
+mark-requires c κs = omega (arith, c .before .before .before .before .before .before .loop .inv .2)
 
 add-pick : tie.Need-add-pick Inv-loop μ-loop
-add-pick c = omega (arith, c .before .before .before .before .before .before .before .before .before .before .before .before .pre .4 .indent, c .before .before .before .before .get2 .ensures .small .width)
+add-pick c = omega (arith, c .before .before .before .before .before .before .before .before .before .before .before .before .before .before .before .before .before .pre .2 .indent, c .before .before .before .before .before .before .before .before .get2 .ensures .small .width)
 
 pick-requires : tie.Need-pick-requires Inv-loop μ-loop
 pick-requires c κs = search needs
 
 add-i : tie.Need-add-i Inv-loop μ-loop
-add-i c = omega (arith, c .before .before .before .before .before .before .before .before .before .before .before .before .before .pre .1, c .before .before .before .before .before .before .loop-test .taken)
+add-i c = omega (arith, c .before .before .before .before .before .before .before .before .before .before .before .before .before .before .before .before .before .before .fits .n .fits, c .before .before .before .before .before .before .before .before .before .before .before .loop-test .taken)
 
 loop-less : tie.Need-loop-less Inv-loop μ-loop
 loop-less c = omega arith
 
 loop-again : tie.Need-loop-again Inv-loop μ-loop
 loop-again c =
-    let r = c .before .before .before .before .reach in
-    let w = c .before .before .before .before .before .get2 in
-    let l = c .before .before .before .before .before .before .before .loop in
-    let s = c .before .before .before .before .before .before .before .before .before .before .before .before .before in
+    let r = c .before .before .before .before .before .before .before .before .reach in
+    let w = c .before .before .before .before .before .before .before .before .before .get2 in
+    let l = c .before .before .before .before .before .before .before .before .before .before .before .before .loop in
+    let s = c .before .before .before .before .before .before .before .before .before .before .before .before .before .before .before .before .before .before in
+    let t = c .before .before .before .before .before .before .before .before .before .before .before .loop-test .taken in
+    let m = c .before .before .before .before .before .mark .ensures in
     let g = s .args .g in (
       omega arith,
-      rw (c .pick .ensures) (column-most _ (g .width) _ (r .result) refl (s .pre .4 .width) (omega arith)),
-      simp length-set (l .inv .2),
-      λ notes. turn g notes (now (s .args .table)) (s .args .n) _ _ _ _ (r .result) _ _ _ (w .ensures .is) (c .before .before .before .before .before .before .loop-test .taken) (r .ensures .0) (c .pick .ensures) (l .inv .3 notes),
+      rw (c .pick .ensures) (column-most _ (g .width) _ (r .result) refl (s .pre .2 .width) (omega arith)),
+      c .before .before .before .before .table .given ∙ l .inv .2,
+      λ j. rw m (mark-word (l .table) (l .i) _ (omega (arith, l .inv .2)) j ∙ l .inv .3 j),
+      λ notes. rw m (turn g notes (now (s .args .table)) (s .args .n) _ _ _ _ (r .result) _ _ _ (w .ensures .is ∙ l .inv .3 _) t (r .ensures .0) (c .pick .ensures) (l .inv .4 notes)),
     )
 
 same-length : tie.Need-same-length Inv-loop μ-loop
@@ -73,8 +76,8 @@ same-length c = c .before .loop .inv .2
 returns : tie.Need-returns Inv-loop μ-loop
 returns c =
     let s = c .before .before .before .before .before .before .before in
-    λ notes. marked _ _ _ _ (s .pre .0) (s .pre .3) (breaks-length _ notes _ _ (s .pre .0))
-    (rw (breaks-end _ _ _ _ _ _ _ (c .loop-test .left)) at (c .before .loop .inv .3 notes))
+    λ notes. marked-by _ _ _ _ (s .pre .0) (s .pre .1) (breaks-length _ notes _ _ (s .pre .0))
+    (last _ notes _ _ _ _ _ _ _ (c .loop-test .left) (c .before .loop .inv .4 notes))
 
 pub quick-breaks-spec : {M : Type 1} → statement M
 quick-breaks-spec =
@@ -87,7 +90,7 @@ quick-breaks-spec =
     loop-holds
     get-requires-2
     reach-requires
-    slice-write-marks
+    mark-requires
     add-pick
     pick-requires
     add-i

@@ -40,10 +40,10 @@ get-requires-2 : tie.Need-get-requires-2 Inv-loop μ-loop
 get-requires-2 c κs = search needs
 
 reach-requires : tie.Need-reach-requires Inv-loop μ-loop
-reach-requires c κs = (c .before .before .before .before .before .before .before .pre .3, c .get2 .ensures .small, c .before .before .loop .inv .1)
+reach-requires c κs = (c .before .before .before .before .before .before .before .pre .2, c .get2 .ensures .small, c .before .before .loop .inv .1)
 
 full-requires : tie.Need-full-requires Inv-loop μ-loop
-full-requires c κs = (c .before .before .before .before .before .before .before .before .before .before .pre .3, c .before .before .before .get2 .ensures .small, c .before .before .before .before .before .loop .inv .1)
+full-requires c κs = (c .before .before .before .before .before .before .before .before .before .before .pre .2, c .before .before .before .get2 .ensures .small, c .before .before .before .before .before .loop .inv .1)
 
 returns : tie.Need-returns Inv-loop μ-loop
 returns c =
@@ -60,13 +60,13 @@ pick-requires : tie.Need-pick-requires Inv-loop μ-loop
 pick-requires c κs = search needs
 
 add-pick : tie.Need-add-pick Inv-loop μ-loop
-add-pick c = omega (arith, c .before .before .before .before .before .before .before .before .before .before .before .before .before .before .pre .3 .indent, c .before .before .before .before .before .before .before .get2 .ensures .small .width)
+add-pick c = omega (arith, c .before .before .before .before .before .before .before .before .before .before .before .before .before .before .pre .2 .indent, c .before .before .before .before .before .before .before .get2 .ensures .small .width)
 
 pick-requires-2 : tie.Need-pick-requires-2 Inv-loop μ-loop
 pick-requires-2 c κs = search needs
 
 add-i : tie.Need-add-i Inv-loop μ-loop
-add-i c = omega (arith, c .before .before .before .before .before .before .before .before .before .before .before .before .before .before .before .pre .1, c .before .before .before .before .before .before .before .before .before .loop-test .taken)
+add-i c = omega (arith, c .before .before .before .before .before .before .before .before .before .before .before .before .before .before .before .fits .n .fits, c .before .before .before .before .before .before .before .before .before .loop-test .taken)
 
 loop-less : tie.Need-loop-less Inv-loop μ-loop
 loop-less c = omega arith
@@ -81,7 +81,7 @@ loop-again c =
     let t = c .before .before .before .before .before .before .before .before .before .loop-test .taken in
     let fewer = c .before .before .before .pick .ensures ∙ ap (λ (m : ℕ). cond (ltb (g .width) (r .result)) m (l .left)) (c .before .before .before .before .less .ensures) in (
       omega arith,
-      rw (c .pick2 .ensures) (column-most _ (g .width) _ (r .result) refl (s .pre .3 .width) (omega arith)),
+      rw (c .pick2 .ensures) (column-most _ (g .width) _ (r .result) refl (s .pre .2 .width) (omega arith)),
       λ notes. ending-on g notes (now (s .args .table)) (s .args .n) (l .column) (l .punct) (l .i) (l .left) (w .result) (r .result) _ _ (w .ensures .is) t (r .ensures .0) (c .before .before .before .before .before .if1 .left) (c .pick2 .ensures) fewer ∙ l .inv .2 notes,
     )
 

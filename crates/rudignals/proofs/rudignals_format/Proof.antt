@@ -3,7 +3,9 @@ use mathlib.Core.Path.{ap, _∙_}
 use lib.ListN.{length}
 use borrow.Author.Needs.{needs}
 use denote.Ref.{now}
+use Rattle.walk.specs.Digest.{mostWords}
 use Rattle.formatter.specs.Answers.{Answer, numbered, outputAfter}
+use Rattle.formatter.specs.Format.{mostBytes}
 use Rattle.formatter.proofs.Together.{together-they-do-what-the-old-call-did}
 use Rattle.rudignals.proofs.rudignals_format.Statement.{statement}
 use Rattle.rudignals.proofs.rudignals_format.Tie as tie
@@ -21,7 +23,7 @@ returns : tie.Need-returns
 returns c =
     let w = c .before .before .rudignals-write .ensures in
     let out = now (c .before .before .before .before .before .before .before .before .args .output) in
-    let t = together-they-do-what-the-old-call-did (now (c .before .before .before .before .before .before .before .before .args .options)) (now (c .before .before .before .before .before .before .before .before .args .notes)) (length out) in
+    let t = together-they-do-what-the-old-call-did mostBytes mostWords (now (c .before .before .before .before .before .before .before .before .args .options)) (now (c .before .before .before .before .before .before .before .before .args .notes)) (length out) in
     (w .0 ∙ ap numbered t, w .1 ∙ ap (λ (a : Answer). outputAfter a out) t)
 
 pub rudignals-format-spec : {M : Type 1} → statement M

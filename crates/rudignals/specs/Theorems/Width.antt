@@ -1,6 +1,6 @@
 -- Document 02, P9: what the theorem of proofs/Width says of a paragraph's output.
 use mathlib.Core.Path.{_≡_}
-use mathlib.Core.Bool.{true}
+use mathlib.Core.Bool.{true, false}
 use mathlib.Core.List.{List, _++_}
 use mathlib.Core.Logic.{_⊎_}
 use Prim.Native.Nat.{ℕ, _<_}
@@ -12,12 +12,13 @@ use Rattle.text.specs.Theorems.Blanks.{Gap}
 use Rattle.options.specs.Opts.{Opts}
 use Rattle.lines.specs.Lines.{noFeed}
 use Rattle.lines.specs.Classes.{columnsOf}
-use Rattle.pieces.specs.Pieces.{Paragraph}
+use Rattle.pieces.specs.Pieces.{Paragraph, Piece, paragraph, pieces}
 use Rattle.records.specs.Word.{Word}
 use Rattle.words.specs.Words.{wordsOf}
 use Rattle.words.specs.Theorems.PlainGap.{plainGap}
 use Rattle.output.specs.Emission.{lineFeed}
 use Rattle.output.specs.Theorems.Order.{InOrder}
+use Rattle.walk.specs.Digest.{pieceOutput}
 
 -- the columns of a line of the digest, counted afresh from its bytes: from column 0, by the tab width and the characters' widths
 abbrev pub columnsIn : ℕ → List ℕ → ℕ
@@ -50,3 +51,11 @@ pub record WithinWidth (o : Opts) (p : Paragraph) (output : List ℕ) : Type 0 w
   pub are : output ≡ joined ended lines
   pub holds : joined wordsOn lines ≡ wordsOf o p
   pub each : All (KeepsToWidth o p) lines
+
+-- A piece that is a paragraph and no mail is so; and what was written is the outputs of all pieces, joined in order, each of them so.
+abbrev pub PieceKeeps : Opts → Piece → Type 0
+PieceKeeps o q = (p : Paragraph) → q .kind ≡ paragraph p → p .mail ≡ false → WithinWidth o p (pieceOutput o q)
+
+pub record KeptToWidth (o : Opts) (notes bytes : List ℕ) : Type 0 where
+  pub are : bytes ≡ joined (pieceOutput o) (pieces o notes)
+  pub each : All (PieceKeeps o) (pieces o notes)

@@ -22,8 +22,8 @@ use Rattle.knuth_plass.specs.KnuthPlass.{firstBreak, reduced, reached, staying,
 use Rattle.formatter.specs.Answers.{numbered, outputAfter}
 use Rattle.paragraphs.specs.Breaks.{settingOf}
 use Rattle.walk.specs.Digest.{formatted, outputOf, digest, extentOf, longParagraph}
-use Rattle.formatter.specs.Format.{answer, measuring, writing}
+use Rattle.formatter.specs.Format.{answer, finding, measuring, writing}
 
 unfoldable pub everything : Unit {0}
-unfolding mul div sub ofInt walkUpTo walk piece each while behind every begins joined scalar encode spelled decode widthIn table widthOf whiteSpace glyph characters inkAhead glued glyphs extent damage meant number tagOf sizeOf valueOf nextField fields allowed wellFormed firstFault partOf fits optionsOf readBlock body withoutReturn firstLine linesOf glyphsBefore glyphsFrom nextStop columnBehind columnsOf search shapeAt classify fromWord headerText startsMail continues agrees secondRule follow secondOf further indentOf firstIndent indentFor rowOf paragraphAt nextPiece pieces runOf runs bytesOf widthSum gapFrom gapOf punctAtEnd counting wideGap wordOf lineWords mailWord mailWords rowWords wordsOf gapWidth addedSpace spaceBefore emitRest emit quickFrom quickBreaks term ratio wordTerm cost firstBreak reduced reached staying offerOf lesser bestOffer leastFrom least restart round roundsFrom pathOf startsLine marksFrom bestBreaks numbered outputAfter settingOf formatted outputOf digest extentOf longParagraph answer measuring writing
+unfolding mul div sub ofInt walkUpTo walk piece each while behind every begins joined scalar encode spelled decode widthIn table widthOf whiteSpace glyph characters inkAhead glued glyphs extent damage meant number tagOf sizeOf valueOf nextField fields allowed wellFormed firstFault partOf fits optionsOf readBlock body withoutReturn firstLine linesOf glyphsBefore glyphsFrom nextStop columnBehind columnsOf search shapeAt classify fromWord headerText startsMail continues agrees secondRule follow secondOf further indentOf firstIndent indentFor rowOf paragraphAt nextPiece pieces runOf runs bytesOf widthSum gapFrom gapOf punctAtEnd counting wideGap wordOf lineWords mailWord mailWords rowWords wordsOf gapWidth addedSpace spaceBefore emitRest emit quickFrom quickBreaks term ratio wordTerm cost firstBreak reduced reached staying offerOf lesser bestOffer leastFrom least restart round roundsFrom pathOf startsLine marksFrom bestBreaks numbered outputAfter settingOf formatted outputOf digest extentOf longParagraph answer finding measuring writing
 everything = tt

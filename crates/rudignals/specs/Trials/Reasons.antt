@@ -14,6 +14,7 @@ use Rattle.endings.specs.Endings.{numbersOf, breaks, endings}
 use Rattle.quick.specs.QuickLines.{linesFrom, quickLines}
 use Rattle.knuth_plass.specs.BestLines.{offering, chosenOf, maker, makersFrom, makersOf, nextAt, nextsFrom, bestLines}
 use Rattle.explain.specs.Reasons.{paragraphEndings, endingsOf, lineEndings}
+use Rattle.formatter.specs.Format.{document01}
 use Rattle.explain.specs.Explain.{explaining, explainedNumber}
 use Rattle.rudignals.specs.Trials.Computing.{everything}
 use Rattle.rudignals.specs.Trials.MarkedTexts.{none, flags, width10}
@@ -50,6 +51,6 @@ pub forced-after : told width10 "aa bbbbbbbb c\n" ≡ 6 ∷ 0 ∷ 0 ∷ 0 ∷ 0 
 unfolding everything reasons
 forced-after = refl
 
-pub no-line : explainedNumber (explaining none (bytes "a\n") 1) ≡ 8 * 2 ^ 32 + 1
+pub no-line : explainedNumber (explaining document01 none (bytes "a\n") 1) ≡ 8 * 2 ^ 32 + 1
 unfolding everything reasons
 no-line = refl

@@ -13,7 +13,7 @@ returns : tie.Need-returns
 returns c = search needs
 
 put-best-requires : tie.Need-put-best-requires
-put-best-requires c κs = c .before .before .before .before .before .pre
+put-best-requires c κs = let p = c .before .before .before .before .before .pre in (p .0, p .1, p .2, c .before .if1 .left)
 
 same-length-2 : tie.Need-same-length-2
 same-length-2 c = search needs

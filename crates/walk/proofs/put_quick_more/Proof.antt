@@ -3,7 +3,7 @@ use mathlib.Core.Path.{refl}
 use native.Mathlib.Omega.{arith}
 use borrow.Author.Needs.{needs}
 use Rattle.walk.proofs.Loop.{course-begun, going-first}
-use Rattle.paragraphs.proofs.Tables.{scratch-of}
+use Rattle.walk.proofs.Steps.{room-few}
 use Rattle.walk.proofs.put_quick_more.Statement.{statement}
 use Rattle.walk.proofs.put_quick_more.Tie as tie
 
@@ -16,26 +16,14 @@ returns c = let p = c .before .before .before .before .before .before .pre in (g
 slice-aggregate-put-texts : tie.Need-slice-aggregate-put-texts
 slice-aggregate-put-texts c = search needs
 
-slice-aggregate-put-texts-2 : tie.Need-slice-aggregate-put-texts-2
-slice-aggregate-put-texts-2 c = search needs
-
-slice-aggregate-put-texts-3 : tie.Need-slice-aggregate-put-texts-3
-slice-aggregate-put-texts-3 c = search needs
-
-slice-aggregate-put-texts-4 : tie.Need-slice-aggregate-put-texts-4
-slice-aggregate-put-texts-4 c = search needs
-
-slice-aggregate-put-texts-5 : tie.Need-slice-aggregate-put-texts-5
-slice-aggregate-put-texts-5 c = search needs
-
 put-texts-requires : tie.Need-put-texts-requires
-put-texts-requires c κs = let p = c .before .before .before .before .before .before .before .before .before .before .before .before .pre in (p .0, p .1, p .2, scratch-of 512 1 refl refl refl refl refl (omega arith) (omega arith))
+put-texts-requires c κs = let p = c .before .before .before .before .before .before .before .before .pre in (p .0, p .1, p .2, room-few _ _ 3584 refl (λ e. omega arith) (λ e. omega arith))
 
 same-length : tie.Need-same-length
 same-length c = search needs
 
 returns-2 : tie.Need-returns-2
-returns-2 c = course-begun _ _ _ _ _ _ _ _ (c .before .before .before .before .before .before .before .put-texts .result) (c .before .before .before .before .before .before .before .put-texts .ensures)
+returns-2 c = course-begun _ _ _ _ _ _ _ (c .before .before .before .put-texts .result) (c .before .before .before .put-texts .ensures)
 
 pub put-quick-more-spec : {M : Type 1} → statement M
 put-quick-more-spec =
@@ -44,10 +32,6 @@ put-quick-more-spec =
     add-if1
     returns
     slice-aggregate-put-texts
-    slice-aggregate-put-texts-2
-    slice-aggregate-put-texts-3
-    slice-aggregate-put-texts-4
-    slice-aggregate-put-texts-5
     put-texts-requires
     same-length
     returns-2)

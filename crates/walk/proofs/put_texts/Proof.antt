@@ -11,27 +11,26 @@ use Rattle.options.specs.Opts.{meant}
 use Rattle.walk.specs.Contracts.Course.{Going, TextAhead}
 use Rattle.walk.specs.declared.Ended.the-variants.{All}
 use Rattle.walk.proofs.Loop.{going-first, going-length, going-on, going-further, going-finished, reached-text, reached-end}
-use Rattle.paragraphs.proofs.Tables.{scratch-same}
 use Rattle.walk.proofs.Steps.{begins-placed, begins-stepped, begins-over}
 use Rattle.walk.proofs.put_texts.Statement.{statement}
 use Rattle.walk.proofs.put_texts.Tie as tie
 
 abbrev Inv-loop : tie.InvT-loop
-Inv-loop o block notes out₀ table₀ breaks₀ ratios₀ active₀ marks₀ first head out table breaks ratios active marks c p =
+Inv-loop o block notes out₀ work₀ first head out work c p =
     Going (meant block o) notes first out₀ c out × TextAhead block o notes c p
-    × (length table ≡ length table₀) × (length breaks ≡ length breaks₀) × (length ratios ≡ length ratios₀) × (length active ≡ length active₀) × (length marks ≡ length marks₀)
+    × (length work ≡ length work₀)
 
 abbrev μ-loop : tie.MeasureT-loop
-μ-loop o block notes out₀ table₀ breaks₀ ratios₀ active₀ marks₀ first head out table breaks ratios active marks c p = length notes - c .at
+μ-loop o block notes out₀ work₀ first head out work c p = length notes - c .at
 
 loop-holds : tie.Need-loop-holds Inv-loop μ-loop
-loop-holds c = let p = c .before .before .before .before .before .before .before .before .pre in (going-first _ _ _ _ (p .1), p .2, refl, refl, refl, refl, refl)
+loop-holds c = let p = c .before .before .before .before .pre in (going-first _ _ _ _ (p .1), p .2, refl)
 
 put-paragraph-requires : tie.Need-put-paragraph-requires Inv-loop μ-loop
 put-paragraph-requires c κs =
-    let p = c .before .before .before .before .before .before .before .before .before .before .before .before .before .before .before .pre in
-    let i = c .before .before .before .before .before .before .loop .inv in
-    (begins-placed _ _ _ _ _ (p .0) (i .1), scratch-same _ _ _ _ _ (p .3) _ _ _ _ _ (i .2) (i .3) (i .4) (i .5) (i .6), omega (arith, p .0 .short, i .0 .stands .bounded, i .0 .stands .within))
+    let p = c .before .before .before .before .before .before .before .pre in
+    let i = c .before .before .loop .inv in
+    (begins-placed _ _ _ _ _ (p .0) (i .1), omega (arith, p .0 .short, i .0 .stands .bounded, i .0 .stands .within))
 
 enum-known-behind : tie.Need-enum-known-behind Inv-loop μ-loop
 enum-known-behind c = search needs
@@ -41,65 +40,41 @@ enum-told c = search needs
 
 same-length : tie.Need-same-length Inv-loop μ-loop
 same-length c =
-    let i = c .before .before .before .before .before .before .before .before .before .before .before .before .before .before .before .before .before .before .before .before .before .loop .inv in
-    let b = begins-over _ _ _ _ _ (c .before .before .before .before .before .before .before .before .before .before .before .before .before .before .before .before .before .before .before .before .before .before .before .before .before .before .before .before .before .before .pre .0) (i .1) _ _ _ (c .before .before .before .before .before .before .before .before .before .before .before .before .before .before .put-paragraph .result) (c .before .before .before .before .before .before .before .before .before .before .before .before .before .before .put-paragraph .ensures (now (c .before .before .before .before .before .before .before .before .before .before .before .before .before .before .before .before .before .before .before .before .before .before .before .before .before .before .before .before .before .before .args .block))) (c .enum-told .given .1) in
+    let i = c .before .before .before .before .before .before .before .before .before .loop .inv in
+    let b = begins-over _ _ _ _ _ (c .before .before .before .before .before .before .before .before .before .before .before .before .before .before .pre .0) (i .1) _ _ _ (c .before .before .before .before .before .before .put-paragraph .result) (c .before .before .before .before .before .before .put-paragraph .ensures (now (c .before .before .before .before .before .before .before .before .before .before .before .before .before .before .args .block))) (c .enum-told .given .1) in
     ap length (b .1) ∙ going-length _ _ (i .0)
 
 same-length-2 : tie.Need-same-length-2 Inv-loop μ-loop
-same-length-2 c = c .before .before .before .before .before .before .before .before .before .before .before .table .given ∙ c .before .before .before .before .before .before .before .before .before .before .before .before .before .before .before .before .before .before .before .before .before .loop .inv .2
-
-same-length-3 : tie.Need-same-length-3 Inv-loop μ-loop
-same-length-3 c = c .before .before .before .before .before .before .before .before .before .breaks .given ∙ c .before .before .before .before .before .before .before .before .before .before .before .before .before .before .before .before .before .before .before .before .before .loop .inv .3
-
-same-length-4 : tie.Need-same-length-4 Inv-loop μ-loop
-same-length-4 c = c .before .before .before .before .before .before .before .ratios .given ∙ c .before .before .before .before .before .before .before .before .before .before .before .before .before .before .before .before .before .before .before .before .before .loop .inv .4
-
-same-length-5 : tie.Need-same-length-5 Inv-loop μ-loop
-same-length-5 c = c .before .before .before .before .before .active .given ∙ c .before .before .before .before .before .before .before .before .before .before .before .before .before .before .before .before .before .before .before .before .before .loop .inv .5
-
-same-length-6 : tie.Need-same-length-6 Inv-loop μ-loop
-same-length-6 c = c .before .before .before .marks .given ∙ c .before .before .before .before .before .before .before .before .before .before .before .before .before .before .before .before .before .before .before .before .before .loop .inv .6
+same-length-2 c = c .before .before .before .work .given ∙ c .before .before .before .before .before .before .before .before .before .loop .inv .2
 
 returns : tie.Need-returns Inv-loop μ-loop
 returns c =
-    let i = c .before .before .before .before .before .before .before .before .before .before .before .before .before .before .before .before .before .before .before .before .before .loop .inv in
-    let b = begins-over _ _ _ _ _ (c .before .before .before .before .before .before .before .before .before .before .before .before .before .before .before .before .before .before .before .before .before .before .before .before .before .before .before .before .before .before .pre .0) (i .1) _ _ _ (c .before .before .before .before .before .before .before .before .before .before .before .before .before .before .put-paragraph .result) (c .before .before .before .before .before .before .before .before .before .before .before .before .before .before .put-paragraph .ensures (now (c .before .before .before .before .before .before .before .before .before .before .before .before .before .before .before .before .before .before .before .before .before .before .before .before .before .before .before .before .before .before .args .block))) (c .enum-told .given .1) in
-    (rw (b .1) (i .0), i .1, rw (i .6, i .4) at (b .0))
+    let i = c .before .before .before .before .before .before .before .before .before .loop .inv in
+    let b = begins-over _ _ _ _ _ (c .before .before .before .before .before .before .before .before .before .before .before .before .before .before .pre .0) (i .1) _ _ _ (c .before .before .before .before .before .before .put-paragraph .result) (c .before .before .before .before .before .before .put-paragraph .ensures (now (c .before .before .before .before .before .before .before .before .before .before .before .before .before .before .args .block))) (c .enum-told .given .1) in
+    (rw (b .1) (i .0), i .1, rw (i .2) at (b .0))
 
 put-lines-requires : tie.Need-put-lines-requires Inv-loop μ-loop
 put-lines-requires c κs =
-    let i = c .before .before .before .before .before .before .before .before .before .before .before .before .before .before .before .before .before .before .before .before .before .before .before .loop .inv in
-    let s = begins-stepped _ _ _ _ _ (c .before .before .before .before .before .before .before .before .before .before .before .before .before .before .before .before .before .before .before .before .before .before .before .before .before .before .before .before .before .before .before .before .pre .0) (i .1) _ _ _ (c .before .before .before .before .before .before .before .before .before .before .before .before .before .before .before .before .put-paragraph .result) _ (c .before .before .before .before .before .before .before .before .before .before .before .before .before .before .before .before .put-paragraph .ensures (now (c .before .before .before .before .before .before .before .before .before .before .before .before .before .before .before .before .before .before .before .before .before .before .before .before .before .before .before .before .before .before .before .before .args .block))) (c .before .before .behind .given .1) in
-    (c .before .before .before .before .before .before .before .before .before .before .before .before .before .before .before .before .before .before .before .before .before .before .before .before .before .before .before .before .before .before .before .before .pre .0, going-on _ _ (i .0) s .stands)
+    let i = c .before .before .before .before .before .before .before .before .before .before .before .loop .inv in
+    let s = begins-stepped _ _ _ _ _ (c .before .before .before .before .before .before .before .before .before .before .before .before .before .before .before .before .pre .0) (i .1) _ _ _ (c .before .before .before .before .before .before .before .before .put-paragraph .result) _ (rw (i .2) (c .before .before .before .before .before .before .before .before .before .before .before .before .before .before .before .before .pre .3)) (c .before .before .before .before .before .before .before .before .put-paragraph .ensures (now (c .before .before .before .before .before .before .before .before .before .before .before .before .before .before .before .before .args .block))) (c .before .before .behind .given .1) in
+    (c .before .before .before .before .before .before .before .before .before .before .before .before .before .before .before .before .pre .0, going-on _ _ (i .0) s .stands)
 
 enum-known-needed : tie.Need-enum-known-needed Inv-loop μ-loop
 enum-known-needed c = search needs
 
-same-length-7 : tie.Need-same-length-7 Inv-loop μ-loop
-same-length-7 c =
-    let i = c .before .before .before .before .before .before .before .before .before .before .before .before .before .before .before .before .before .before .before .before .before .before .before .before .before .before .before .before .before .loop .inv in
-    let s = begins-stepped _ _ _ _ _ (c .before .before .before .before .before .before .before .before .before .before .before .before .before .before .before .before .before .before .before .before .before .before .before .before .before .before .before .before .before .before .before .before .before .before .before .before .before .before .pre .0) (i .1) _ _ _ (c .before .before .before .before .before .before .before .before .before .before .before .before .before .before .before .before .before .before .before .before .before .before .put-paragraph .result) _ (c .before .before .before .before .before .before .before .before .before .before .before .before .before .before .before .before .before .before .before .before .before .before .put-paragraph .ensures (now (c .before .before .before .before .before .before .before .before .before .before .before .before .before .before .before .before .before .before .before .before .before .before .before .before .before .before .before .before .before .before .before .before .before .before .before .before .before .before .args .block))) (c .before .before .before .before .before .before .before .before .behind .given .1) in
+same-length-3 : tie.Need-same-length-3 Inv-loop μ-loop
+same-length-3 c =
+    let i = c .before .before .before .before .before .before .before .before .before .before .before .before .before .before .before .before .before .loop .inv in
+    let s = begins-stepped _ _ _ _ _ (c .before .before .before .before .before .before .before .before .before .before .before .before .before .before .before .before .before .before .before .before .before .before .pre .0) (i .1) _ _ _ (c .before .before .before .before .before .before .before .before .before .before .before .before .before .before .put-paragraph .result) _ (rw (i .2) (c .before .before .before .before .before .before .before .before .before .before .before .before .before .before .before .before .before .before .before .before .before .before .pre .3)) (c .before .before .before .before .before .before .before .before .before .before .before .before .before .before .put-paragraph .ensures (now (c .before .before .before .before .before .before .before .before .before .before .before .before .before .before .before .before .before .before .before .before .before .before .args .block))) (c .before .before .before .before .before .before .before .before .behind .given .1) in
     wrote-length (going-finished _ _ (going-on _ _ (i .0) s) _ (All _) (reached-end _ _ _ _ _ _ (c .before .before .before .before .before .put-lines .result) (c .before .before .before .before .before .put-lines .ensures) (c .before .needed .given .1)) .1)
 
-same-length-8 : tie.Need-same-length-8 Inv-loop μ-loop
-same-length-8 c = c .before .before .before .before .before .before .before .before .before .before .before .before .before .before .before .before .before .before .before .table .given ∙ c .before .before .before .before .before .before .before .before .before .before .before .before .before .before .before .before .before .before .before .before .before .before .before .before .before .before .before .before .before .loop .inv .2
-
-same-length-9 : tie.Need-same-length-9 Inv-loop μ-loop
-same-length-9 c = c .before .before .before .before .before .before .before .before .before .before .before .before .before .before .before .before .before .breaks .given ∙ c .before .before .before .before .before .before .before .before .before .before .before .before .before .before .before .before .before .before .before .before .before .before .before .before .before .before .before .before .before .loop .inv .3
-
-same-length-10 : tie.Need-same-length-10 Inv-loop μ-loop
-same-length-10 c = c .before .before .before .before .before .before .before .before .before .before .before .before .before .before .before .ratios .given ∙ c .before .before .before .before .before .before .before .before .before .before .before .before .before .before .before .before .before .before .before .before .before .before .before .before .before .before .before .before .before .loop .inv .4
-
-same-length-11 : tie.Need-same-length-11 Inv-loop μ-loop
-same-length-11 c = c .before .before .before .before .before .before .before .before .before .before .before .before .before .active .given ∙ c .before .before .before .before .before .before .before .before .before .before .before .before .before .before .before .before .before .before .before .before .before .before .before .before .before .before .before .before .before .loop .inv .5
-
-same-length-12 : tie.Need-same-length-12 Inv-loop μ-loop
-same-length-12 c = c .before .before .before .before .before .before .before .before .before .before .before .marks .given ∙ c .before .before .before .before .before .before .before .before .before .before .before .before .before .before .before .before .before .before .before .before .before .before .before .before .before .before .before .before .before .loop .inv .6
+same-length-4 : tie.Need-same-length-4 Inv-loop μ-loop
+same-length-4 c = c .before .before .before .before .before .before .before .before .before .before .before .work .given ∙ c .before .before .before .before .before .before .before .before .before .before .before .before .before .before .before .before .before .loop .inv .2
 
 returns-2 : tie.Need-returns-2 Inv-loop μ-loop
 returns-2 c =
-    let i = c .before .before .before .before .before .before .before .before .before .before .before .before .before .before .before .before .before .before .before .before .before .before .before .before .before .before .before .before .before .loop .inv in
-    let s = begins-stepped _ _ _ _ _ (c .before .before .before .before .before .before .before .before .before .before .before .before .before .before .before .before .before .before .before .before .before .before .before .before .before .before .before .before .before .before .before .before .before .before .before .before .before .before .pre .0) (i .1) _ _ _ (c .before .before .before .before .before .before .before .before .before .before .before .before .before .before .before .before .before .before .before .before .before .before .put-paragraph .result) _ (c .before .before .before .before .before .before .before .before .before .before .before .before .before .before .before .before .before .before .before .before .before .before .put-paragraph .ensures (now (c .before .before .before .before .before .before .before .before .before .before .before .before .before .before .before .before .before .before .before .before .before .before .before .before .before .before .before .before .before .before .before .before .before .before .before .before .before .before .args .block))) (c .before .before .before .before .before .before .before .before .behind .given .1) in
+    let i = c .before .before .before .before .before .before .before .before .before .before .before .before .before .before .before .before .before .loop .inv in
+    let s = begins-stepped _ _ _ _ _ (c .before .before .before .before .before .before .before .before .before .before .before .before .before .before .before .before .before .before .before .before .before .before .pre .0) (i .1) _ _ _ (c .before .before .before .before .before .before .before .before .before .before .before .before .before .before .put-paragraph .result) _ (rw (i .2) (c .before .before .before .before .before .before .before .before .before .before .before .before .before .before .before .before .before .before .before .before .before .before .pre .3)) (c .before .before .before .before .before .before .before .before .before .before .before .before .before .before .put-paragraph .ensures (now (c .before .before .before .before .before .before .before .before .before .before .before .before .before .before .before .before .before .before .before .before .before .before .args .block))) (c .before .before .before .before .before .before .before .before .behind .given .1) in
     going-finished _ _ (going-on _ _ (i .0) s) _ (All _) (reached-end _ _ _ _ _ _ (c .before .before .before .before .before .put-lines .result) (c .before .before .before .before .before .put-lines .ensures) (c .before .needed .given .1))
 
 enum-known-d : tie.Need-enum-known-d Inv-loop μ-loop
@@ -107,17 +82,17 @@ enum-known-d c = search needs
 
 loop-less : tie.Need-loop-less Inv-loop μ-loop
 loop-less c =
-    let i = c .before .before .before .before .before .before .before .before .before .before .before .before .before .before .before .before .before .before .before .before .before .before .before .before .before .before .before .before .before .loop .inv in
-    let s = begins-stepped _ _ _ _ _ (c .before .before .before .before .before .before .before .before .before .before .before .before .before .before .before .before .before .before .before .before .before .before .before .before .before .before .before .before .before .before .before .before .before .before .before .before .before .before .pre .0) (i .1) _ _ _ (c .before .before .before .before .before .before .before .before .before .before .before .before .before .before .before .before .before .before .before .before .before .before .put-paragraph .result) _ (c .before .before .before .before .before .before .before .before .before .before .before .before .before .before .before .before .before .before .before .before .before .before .put-paragraph .ensures (now (c .before .before .before .before .before .before .before .before .before .before .before .before .before .before .before .before .before .before .before .before .before .before .before .before .before .before .before .before .before .before .before .before .before .before .before .before .before .before .args .block))) (c .before .before .before .before .before .before .before .before .behind .given .1) in
+    let i = c .before .before .before .before .before .before .before .before .before .before .before .before .before .before .before .before .before .loop .inv in
+    let s = begins-stepped _ _ _ _ _ (c .before .before .before .before .before .before .before .before .before .before .before .before .before .before .before .before .before .before .before .before .before .before .pre .0) (i .1) _ _ _ (c .before .before .before .before .before .before .before .before .before .before .before .before .before .before .put-paragraph .result) _ (rw (i .2) (c .before .before .before .before .before .before .before .before .before .before .before .before .before .before .before .before .before .before .before .before .before .before .pre .3)) (c .before .before .before .before .before .before .before .before .before .before .before .before .before .before .put-paragraph .ensures (now (c .before .before .before .before .before .before .before .before .before .before .before .before .before .before .before .before .before .before .before .before .before .before .args .block))) (c .before .before .before .before .before .before .before .before .behind .given .1) in
     let t = reached-text _ _ _ _ _ _ (c .before .before .before .before .before .put-lines .result) (c .before .before .before .before .before .put-lines .ensures) (c .before .d .given .1) in
     omega (arith, s .goes .on, t .2, t .0 .stands .within)
 
 loop-again : tie.Need-loop-again Inv-loop μ-loop
 loop-again c =
-    let i = c .before .before .before .before .before .before .before .before .before .before .before .before .before .before .before .before .before .before .before .before .before .before .before .before .before .before .before .before .before .loop .inv in
-    let s = begins-stepped _ _ _ _ _ (c .before .before .before .before .before .before .before .before .before .before .before .before .before .before .before .before .before .before .before .before .before .before .before .before .before .before .before .before .before .before .before .before .before .before .before .before .before .before .pre .0) (i .1) _ _ _ (c .before .before .before .before .before .before .before .before .before .before .before .before .before .before .before .before .before .before .before .before .before .before .put-paragraph .result) _ (c .before .before .before .before .before .before .before .before .before .before .before .before .before .before .before .before .before .before .before .before .before .before .put-paragraph .ensures (now (c .before .before .before .before .before .before .before .before .before .before .before .before .before .before .before .before .before .before .before .before .before .before .before .before .before .before .before .before .before .before .before .before .before .before .before .before .before .before .args .block))) (c .before .before .before .before .before .before .before .before .behind .given .1) in
+    let i = c .before .before .before .before .before .before .before .before .before .before .before .before .before .before .before .before .before .loop .inv in
+    let s = begins-stepped _ _ _ _ _ (c .before .before .before .before .before .before .before .before .before .before .before .before .before .before .before .before .before .before .before .before .before .before .pre .0) (i .1) _ _ _ (c .before .before .before .before .before .before .before .before .before .before .before .before .before .before .put-paragraph .result) _ (rw (i .2) (c .before .before .before .before .before .before .before .before .before .before .before .before .before .before .before .before .before .before .before .before .before .before .pre .3)) (c .before .before .before .before .before .before .before .before .before .before .before .before .before .before .put-paragraph .ensures (now (c .before .before .before .before .before .before .before .before .before .before .before .before .before .before .before .before .before .before .before .before .before .before .args .block))) (c .before .before .before .before .before .before .before .before .behind .given .1) in
     let t = reached-text _ _ _ _ _ _ (c .before .before .before .before .before .put-lines .result) (c .before .before .before .before .before .put-lines .ensures) (c .before .d .given .1) in
-    (going-further _ _ (going-on _ _ (i .0) s) (t .0), t .1, c .before .before .before .before .before .before .before .before .before .before .before .before .before .before .before .before .before .before .before .table .given ∙ i .2, c .before .before .before .before .before .before .before .before .before .before .before .before .before .before .before .before .before .breaks .given ∙ i .3, c .before .before .before .before .before .before .before .before .before .before .before .before .before .before .before .ratios .given ∙ i .4, c .before .before .before .before .before .before .before .before .before .before .before .before .before .active .given ∙ i .5, c .before .before .before .before .before .before .before .before .before .before .before .marks .given ∙ i .6)
+    (going-further _ _ (going-on _ _ (i .0) s) (t .0), t .1, c .before .before .before .before .before .before .before .before .before .before .before .work .given ∙ i .2)
 
 pub put-texts-spec : {M : Type 1} → statement M
 put-texts-spec =
@@ -131,19 +106,11 @@ put-texts-spec =
     enum-told
     same-length
     same-length-2
-    same-length-3
-    same-length-4
-    same-length-5
-    same-length-6
     returns
     put-lines-requires
     enum-known-needed
-    same-length-7
-    same-length-8
-    same-length-9
-    same-length-10
-    same-length-11
-    same-length-12
+    same-length-3
+    same-length-4
     returns-2
     enum-known-d
     loop-less

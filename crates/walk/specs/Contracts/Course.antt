@@ -1,6 +1,6 @@
 -- What the functions of the walk answer for: the pieces from a place of the notes on, and what has become of them and of the output.
 use mathlib.Core.Path.{_≡_}
-use mathlib.Core.Bool.{Bool, true, false, cond, _||_}
+use mathlib.Core.Bool.{Bool, true, false}
 use mathlib.Core.List.{List, _∷_}
 use Prim.Native.Nat.{ℕ, _+_, _*_, _≤_, _<_}
 use lib.ListN.{length, drop, replicate}
@@ -13,6 +13,7 @@ use Rattle.options.specs.OptionBlock.{readBlock}
 use Rattle.options.specs.declared.Options.{Options}
 use Rattle.options.specs.declared.Block.the-variants.{Accepted}
 use Rattle.lines.specs.Lines.{linesOf}
+use Rattle.lines.specs.Contracts.Places.{mostLarge}
 use Rattle.pieces.specs.Pieces.{Piece, Kind, nextPiece, pieces}
 use Rattle.pieces.specs.Contracts.Places.{pieceAt}
 use Rattle.pieces.specs.Contracts.Bounds.{Bounded}
@@ -21,7 +22,7 @@ use Rattle.pieces.specs.declared.Piece.the-variants.{Text as TextAt}
 use Rattle.output.specs.Contracts.Sink.{Wrote, Left}
 use Rattle.paragraphs.specs.Contracts.Steps.{wordsFor}
 use Rattle.paragraphs.specs.declared.Cursor.{Cursor}
-use Rattle.walk.specs.Digest.{outputOf, pieceOutput, digest, extentOf, tooMany, longParagraph}
+use Rattle.walk.specs.Digest.{mostWords, outputOf, pieceOutput, digest, extentOf, tooMany, longParagraph}
 use Rattle.walk.specs.declared.Ahead.{Ahead}
 use Rattle.walk.specs.declared.Ahead.the-variants.{Text as AheadText, End}
 use Rattle.walk.specs.declared.Course.{Course}
@@ -32,7 +33,7 @@ use Rattle.walk.specs.declared.Ended.the-variants.{All, Stopped}
 -- the options of an accepted block, and notes within the limit
 pub record Admitted (block notes : List ℕ) (o : Options) : Type 0 where
   pub accepted : readBlock block ≡ Accepted o
-  pub short : length notes ≤ 65536
+  pub short : length notes ≤ mostLarge
 
 -- ---- pieces
 
@@ -45,7 +46,7 @@ unfoldable pub outputFrom : Opts → Bool → List ℕ → ℕ → List ℕ
 outputFrom o nextMail notes at = joined (pieceOutput o) (piecesFrom o nextMail notes at)
 
 unfoldable pub longFrom : Opts → Bool → List ℕ → ℕ → Found
-longFrom o nextMail notes at = longParagraph o at (piecesFrom o nextMail notes at)
+longFrom o nextMail notes at = longParagraph mostWords o at (piecesFrom o nextMail notes at)
 
 -- the first of them is of a kind and stands from at up to next; the others stand behind it
 pub record FirstPiece (o : Opts) (nextMail : Bool) (notes : List ℕ) (at : ℕ) (kind : Kind) (state : Bool) (next : ℕ) : Type 0 where
@@ -60,7 +61,7 @@ pub record FirstPiece (o : Opts) (nextMail : Bool) (notes : List ℕ) (at : ℕ)
 pub record Put (o : Opts) (notes out : List ℕ) (c d : Cursor) (out′ : List ℕ) : Type 0 where
   pub kind : Kind
   pub goes : FirstPiece o (c .mail) notes (c .at) kind (d .mail) (d .at)
-  pub few : tooMany o kind ≡ false
+  pub few : tooMany mostWords o kind ≡ false
   pub wrote : Wrote out (c .written) (outputOf o kind) out′ (d .written)
   pub bounded : d .written + 1040 * c .at ≤ c .written + 1040 * d .at
 
@@ -70,7 +71,7 @@ pub record TooLong (o : Opts) (notes out : List ℕ) (c : Cursor) (out′ : List
   pub state : Bool
   pub next : ℕ
   pub goes : FirstPiece o (c .mail) notes (c .at) kind state next
-  pub many : tooMany o kind ≡ true
+  pub many : tooMany mostWords o kind ≡ true
   pub same : out′ ≡ out
 
 -- ---- the notes
@@ -97,11 +98,11 @@ abbrev pub FinishedFrom : Opts → List ℕ → Cursor → List ℕ → List ℕ
 FinishedFrom o notes c out out′ (All n) = (longFrom o (c .mail) notes (c .at) ≡ Nowhere) × Wrote out (c .written) (outputFrom o (c .mail) notes (c .at)) out′ n
 FinishedFrom o notes c out out′ (Stopped place) = (longFrom o (c .mail) notes (c .at) ≡ At place) × (length out′ ≡ length out)
 
--- so far as the tables reach, which have room for so many words and breaks: to the end, or to a paragraph of more words
-abbrev pub Coursed : ℕ → ℕ → List ℕ → Options → List ℕ → Cursor → List ℕ → List ℕ → Course → Type 0
-Coursed w b block o notes c₀ out₀ out (CourseEnd n) = FinishedFrom (meant block o) notes c₀ out₀ out (All n)
-Coursed w b block o notes c₀ out₀ out (Short c p) =
-    Going (meant block o) notes c₀ out₀ c out × TextAhead block o notes c p × (cond (o .quick || p .mail) w b < length (wordsFor block notes (c .at) o p))
+-- so far as the room reaches, which is for so many words: to the end, or to a paragraph of more words
+abbrev pub Coursed : ℕ → List ℕ → Options → List ℕ → Cursor → List ℕ → List ℕ → Course → Type 0
+Coursed room block o notes c₀ out₀ out (CourseEnd n) = FinishedFrom (meant block o) notes c₀ out₀ out (All n)
+Coursed room block o notes c₀ out₀ out (Short c p) =
+    Going (meant block o) notes c₀ out₀ c out × TextAhead block o notes c p × (room < length (wordsFor block notes (c .at) o p))
 
 -- the same, whatever the paragraph before which the work stopped
 abbrev pub Begun : List ℕ → Options → List ℕ → Cursor → List ℕ → List ℕ → Course → Type 0
@@ -118,5 +119,5 @@ abbrev pub start : Cursor
 start = record { at = 0; written = 0; mail = true }
 
 abbrev pub Finished : Opts → List ℕ → List ℕ → List ℕ → Ended → Type 0
-Finished o notes out out′ (All n) = (longParagraph o 0 (pieces o notes) ≡ Nowhere) × Wrote out 0 (digest o notes) out′ n
-Finished o notes out out′ (Stopped place) = (longParagraph o 0 (pieces o notes) ≡ At place) × (out′ ≡ replicate (length out) 0)
+Finished o notes out out′ (All n) = (longParagraph mostWords o 0 (pieces o notes) ≡ Nowhere) × Wrote out 0 (digest o notes) out′ n
+Finished o notes out out′ (Stopped place) = (longParagraph mostWords o 0 (pieces o notes) ≡ At place) × (out′ ≡ replicate (length out) 0)

@@ -33,7 +33,8 @@ use Rattle.index.proofs.store_records.Symbol as store-records-def
 use Rattle.index.proofs.store_records.Symbol.{name as #index·store-records}
 use Rattle.index.proofs.store_records.Met as store-records-thm
 use Rattle.indexer.specs.declared.Told.{Told}
-use Rattle.indexer.specs.Answers.{Indexed, done as answered, options, long, text, words, full, room, numbered, outputAfter, recordsAfter, filledAfter}
+use Rattle.indexer.specs.Answers.{Indexed, done as answered, options, long, text, words, full, room, work, numbered, outputAfter, recordsAfter, filledAfter}
+use Rattle.formatter.specs.Format.{document01}
 use Rattle.indexer.specs.Indexing.{indexing}
 use Rattle.indexer.specs.Contracts.Noting.{Marked, recordsOf}
 use Rattle.indexer.proofs.Told as Tol
@@ -58,6 +59,7 @@ records-left (text place) xs = refl
 records-left (words place) xs = refl
 records-left (full pieces) xs = refl
 records-left (room needed) xs = refl
+records-left (work needed) xs = refl
 
 -- the slots of the options and of the notes, of which nothing is said at exit
 abbrev options-slot : Slot 5
@@ -135,7 +137,7 @@ module _ {M : Type 1} (𝓤 : URA M) (H : Heap 𝓤) (A : Atoms 𝓤) (W : Given
 
   -- the answer, what `write_marked` ensures of it, and what is said at exit
   abbrev answer : Indexed
-  answer = indexing (options .now) (notes .now) (length (output .now)) (length (index .now))
+  answer = indexing document01 (options .now) (notes .now) (length (output .now)) (length (index .now))
 
   abbrev Noted : List ℕ → ℕ → List ℕ → Told → Type 0
   Noted out′ filled′ ms t = Marked answer (length (index .now)) (output .now) out′ filled′ ms t

@@ -1,0 +1,62 @@
+-- What the writer's answer tells has no more than 32 bits, so code and value can be read back from its number.
+use mathlib.Core.Path.{_≡_, refl}
+use mathlib.Core.Bool.{Bool, true, false, cond, _||_}
+use mathlib.Core.List.{List}
+use Prim.Native.Nat.{ℕ, _/_, _%_, _^_, _≤_}
+use native.Mathlib.Omega.{arith}
+use lib.Dec.{leb}
+use lib.ListN.{length}
+use borrow.Author.Tests.{leb-true}
+use Rattle.options.specs.Opts.{Opts, meant}
+use Rattle.options.specs.OptionBlock.{readBlock}
+use Rattle.options.specs.declared.Options.{Options}
+use Rattle.options.specs.declared.Block.{Block}
+use Rattle.options.specs.declared.Block.the-variants.{Accepted, Fault}
+use Rattle.options.proofs.Accepted.{accepted}
+use Rattle.pieces.specs.Pieces.{pieces}
+use Rattle.walk.specs.Digest.{mostWords}
+use Rattle.formatter.specs.Answers.{Answer, done, options, room, code, value, numbered}
+use Rattle.formatter.specs.Format.{Words, upTo, lent, Limits, mostTold}
+use Rattle.formatter.proofs.Answers.{Enough}
+use Rattle.formatter.proofs.Faults.{fault-small, accepted-small}
+use Rattle.formatter.proofs.Values.{Modest, Sound, long-fewer, notes-value, reads-back}
+use Rattle.flow.specs.Flow.{mailed, flowed}
+use Rattle.flow.specs.Answers.{unfit, sentIn, sentNotes, sentBlock, flow}
+use Rattle.flow.proofs.Bound.{flowed-most}
+
+module _ (l : Limits) (sound : Sound l) (block notes : List ℕ) (space : ℕ) where
+  room-value : (t : List ℕ) (b : Bool) → length t ≤ mostTold → value (cond b (done t) (room (length t))) ≤ mostTold
+  room-value t true h = h
+  room-value t false h = h
+
+  told-value : (t : List ℕ) (b : Bool) → leb (length t) mostTold ≡ b → value (cond b (cond (leb (length t) space) (done t) (room (length t))) (room mostTold)) ≤ mostTold
+  told-value t true e = room-value t (leb (length t) space) (leb-true (length t) mostTold e)
+  told-value t false e = omega arith
+
+  sent-value : (o : Opts) → 1 ≤ o .tab → o .tab ≤ 100 → (o .split ≡ true → (o .crown || o .tagged) ≡ false) → length notes ≤ l .bytes
+      → (w : Words) → Modest w (l .bytes) → Enough w o notes → value (sentIn w space (flowed o notes)) ≤ mostTold
+  sent-value o least most cleared short (upTo more) m e =
+      let f = flowed-most o notes least most (omega (arith, short, sound .short)) cleared (long-fewer more mostWords o 0 (pieces o notes) m e) in
+      room-value (flowed o notes) (leb (length (flowed o notes)) space) (omega (arith, f, short, sound .short))
+  sent-value o least most cleared short (lent lends need) m e = told-value (flowed o notes) (leb (length (flowed o notes)) mostTold) refl
+
+  pub flow-value : value (flow l block notes space) ≤ mostTold
+  unfolding flow mailed meant
+  flow-value = go (readBlock block) refl
+    where
+      fit : (o : Options) → readBlock block ≡ Accepted o → (b : Bool) → value (elim b as (λ t. Answer) [ true ↦ options (length block) | false ↦ sentNotes l space (mailed (meant block o)) notes ]) ≤ mostTold
+      fit o e true = omega (arith, accepted-small block o e)
+      fit o e false =
+          let k = accepted block o e in
+          notes-value l sound (mailed (meant block o)) notes (λ d. sentIn (l .words) space (flowed (mailed (meant block o)) notes))
+          (λ short enough. sent-value (mailed (meant block o)) (k .tabLeast) (k .tabMost) (k .splitClears) short (l .words) (sound .modest) enough)
+
+      go : (b : Block) → readBlock block ≡ b → value (sentBlock l space block notes b) ≤ mostTold
+      go (Fault place) e = omega (arith, fault-small block place e)
+      go (Accepted o) e = fit o e (unfit block)
+
+-- Code and value can be read back from the number, whatever the limits, the block, the notes and the room.
+pub flow-tells-code-and-value : (l : Limits) → Sound l → (block notes : List ℕ) (space : ℕ)
+    → (numbered (flow l block notes space) / 2 ^ 32 ≡ code (flow l block notes space)) × (numbered (flow l block notes space) % 2 ^ 32 ≡ value (flow l block notes space))
+unfolding numbered
+flow-tells-code-and-value l sound block notes space = reads-back (code (flow l block notes space)) (value (flow l block notes space)) (flow-value l sound block notes space)

@@ -1,0 +1,2 @@
+-- Words that the theorems of rudignals/proofs/Demand3 use.
+pub mod NextMail
