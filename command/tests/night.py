@@ -279,4 +279,31 @@ def units(folder):
     expect("nightly: cron's line", subprocess.run(["sh", "-c", cron], env=path).returncode, 0)
 
 
-ALL = [units, files, refusals, mails, flow_mime, handed_on, wrong_calls, strangers, killed, full_disk, two_at_once, by_a_server]
+def read_by_others(folder):
+    """The mail as NeoMutt shows it and as munpack takes it apart (Debian's neomutt and mpack), where these are at hand."""
+    (folder / "notes").write_bytes(NOTES)
+    night(folder, "--to", "out", "--mail-from", "Kryo W\u00e4chter <k@example.org>", "--mail-subject", "Nacht \u6f22", "notes")
+    mail = read(folder, "out/notes/digest.eml")
+    if shutil.which("munpack"):
+        (folder / "parts").mkdir()
+        subprocess.run(["munpack", "-q", "-C", folder / "parts"], input=mail, stdout=subprocess.DEVNULL)
+        expect("night: munpack finds the notes", read(folder, "parts/notes"), NOTES)
+    if shutil.which("neomutt") is None or shutil.which("script") is None:
+        return
+    (folder / "box").write_bytes(b"From k@example.org Mon Nov 16 16:00:00 2026\n" + mail.replace(b"\r\n", b"\n") + b"\n")
+    (folder / "rc").write_text('set folder="."\nset pipe_decode=yes\nset wait_key=no\nset quit=yes\nset charset=utf-8\npush "<pipe-message>cat>seen<enter><quit>"\n')
+    env = {**os.environ, "HOME": str(folder), "LC_ALL": "C.UTF-8", "TERM": "xterm"}
+    child = subprocess.Popen(["script", "-qc", "neomutt -n -F rc -R -f box", "/dev/null"], stdin=subprocess.PIPE, stdout=subprocess.DEVNULL, stderr=subprocess.DEVNULL, cwd=folder, env=env)
+    try:
+        child.wait(30)
+    except subprocess.TimeoutExpired:
+        child.kill()
+    finally:
+        child.stdin.close()
+    seen = read(folder, "seen").decode() if (folder / "seen").exists() else ""
+    head, _, text = seen.partition("\n\n")
+    expect("night: NeoMutt shows who it is from and the subject", [line for line in head.split("\n") if line.startswith(("From: ", "Subject: "))], ["From: Kryo W\u00e4chter <k@example.org>", "Subject: Nacht \u6f22: 3 lines"])
+    expect("night: NeoMutt shows each word once and in order", text.split(), NOTES.decode().split())
+
+
+ALL = [units, files, refusals, mails, flow_mime, handed_on, wrong_calls, strangers, killed, full_disk, two_at_once, by_a_server, read_by_others]
