@@ -89,9 +89,10 @@ enum rudignals_flag {
 
 /* The calls. Each answers code * 2^32 + N as in the table above.
  *
- * There is no precondition: every block, every text and every output length has an answer. A null pointer with length 0 is an empty part.
- * The output overlaps neither of the other two. A call keeps no state, takes no memory from a heap and calls nothing back; it may run on
- * several threads at once.
+ * Every content of every part and every length has an answer. A null pointer with length 0 is an empty part. In C one thing is asked, of
+ * every call: its pointers point to as many elements as it is told, and what it writes (output, index, filled, copy, places, bytes, notes of
+ * restoring, dashes, reason, part, cells) overlaps no other part of the same call. A call keeps no state, takes no memory from a heap and
+ * calls nothing back; it may run on several threads at once.
  *
  * Its working storage is on the stack: of the next three at most 75,600 bytes of tables, and no more than the paragraphs ask for. The most
  * that was measured for any call as a whole on x86-64 (tests/stack/run, under an emulator): 89,455 bytes; docs/FIGURES.md has each.
