@@ -8,7 +8,7 @@ from .calls import RUDIGNALS, expect, run
 
 NAMES = ["format", "panel", "index", "explain", "page", "salvage", "restore", "flow", "unflow", "check", "audit", "night", "help", "completion"]
 FORMATTING = "-c -t -m -s -u -p -P -x -X -w -g -q -T --keep --glue --sentence-characters".split()
-# the options that each takes, by the issue and the manual; -h and -V apart
+# the options that each takes, by the manual; -h and -V apart
 TAKES = {
     "format": ["--skip-refused", "-o", *FORMATTING, "--salvage"],
     "index": ["--line", "--json", "-o", *FORMATTING],
