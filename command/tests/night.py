@@ -224,10 +224,14 @@ def full_disk(folder):
 
 
 def two_at_once(folder):
+    """The first run has made its night and waits for its mail to be taken; the second is told so."""
     (folder / "notes").write_bytes(NOTES)
-    first = subprocess.Popen([RUDIGNALS, "night", "--to", "out", "--sendmail", "sleep 2; cat >/dev/null", "notes"], cwd=folder)
-    time.sleep(0.7)
+    first = subprocess.Popen([RUDIGNALS, "night", "--to", "out", "--sendmail", "while [ ! -e go ]; do sleep 0.05; done; cat >/dev/null", "notes"], cwd=folder)
+    until = time.monotonic() + 30
+    while not (folder / "out/notes").exists() and time.monotonic() < until:
+        time.sleep(0.02)
     expect("night: a second run beside the first is told", night(folder, "--to", "out", "notes"), (1, b"", "rudignals: out: another run makes a night there\n"))
+    (folder / "go").write_bytes(b"")
     expect("night: the first ends well", first.wait(), 0)
 
 
