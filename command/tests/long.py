@@ -62,7 +62,9 @@ def by_hand(folder):
     (folder / "bad").write_bytes(MANY_LINES + b"\xb0")
     expect("a long file", run(["good"], cwd=folder), (0, MANY_LINES, ""))
     words = f"fmt: bad: line 60001, column 1: byte B0 {DAMAGED}"
-    expect("refused whole, the others formatted", run(["good", "bad", "good"], cwd=folder), (1, 2 * MANY_LINES, words))
+    expect("refused whole, and none written", run(["good", "bad", "good"], cwd=folder), (1, b"", words))
+    skipped = MANY_LINES + b"REFUSED: " + words[5:].encode() + MANY_LINES
+    expect("refused whole, the others written, a line in its place", run(["--skip-refused", "good", "bad", "good"], cwd=folder), (1, skipped, words))
 
 
 def against_the_rust(folder):
