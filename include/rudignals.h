@@ -95,7 +95,7 @@ enum rudignals_flag {
  * calls nothing back; it may run on several threads at once.
  *
  * Its working storage is on the stack: of the next three at most 75,600 bytes of tables, and no more than the paragraphs ask for. The most
- * that was measured for any call as a whole on x86-64 (tests/stack/run, under an emulator): 89,455 bytes; docs/FIGURES.md has each.
+ * that was measured for any call as a whole on x86-64 (tests/stack/run): 79,511 bytes; docs/FIGURES.md has each.
  * In a dynamically linked program the first call also resolves `memset`, which took 2,128 bytes more at an earlier state. Give a thread
  * 256 KiB: the tests fail above that. */
 
