@@ -18,7 +18,7 @@ pub fn mark(table: &mut [u32], at: usize)
 
 // How far it is from a place to the next mark: 1 if the place itself has one, 0 if there is none.
 pub fn gap(table: &[u32], from: usize) -> usize
-    requires { ⌜ length (now table) ≤ 2 ^ 15 ⌝ }
+    requires { ⌜ length (now table) ≤ 2 ^ 16 ⌝ }
     ensures { λ r. ⌜ r ≡ toMark (drop from (marksIn (now (table .entry)))) ⌝ }
 {
     let k = from / 32;
@@ -38,7 +38,7 @@ pub fn gap(table: &[u32], from: usize) -> usize
 
 // The same from a word's lowest place: word by word, since most have no mark.
 fn gap_from_word(table: &[u32], k: usize) -> usize
-    requires { ⌜ (k ≤ length (now table)) × (length (now table) ≤ 2 ^ 15) ⌝ }
+    requires { ⌜ (k ≤ length (now table)) × (length (now table) ≤ 2 ^ 16) ⌝ }
     ensures { λ r. ⌜ r ≡ toMark (marksIn (drop k (now (table .entry)))) ⌝ }
 {
     let mut i = k;
