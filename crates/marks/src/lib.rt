@@ -4,8 +4,19 @@ ghost use mathlib.Core.Path.{_≡_};
 ghost use mathlib.Core.Bool.{true, false};
 ghost use Prim.Native.Nat.{suc, _*_, _^_, _≤_};
 ghost use lib.Count.{trailingZeros};
-ghost use lib.ListN.{length, getD, set, drop};
+ghost use lib.ListN.{length, getD, set, drop, replicate};
 ghost use Rattle.marks.specs.Contracts.Marks.{marksIn, toMark};
+
+// Takes all marks away.
+pub fn clear(table: &mut [u32])
+    ensures { λ _. ⌜ now (table .exit) ≡ replicate (length (now (table .entry))) 0 ⌝ }
+{
+    let mut i = 0;
+    while i < table.len() {
+        table[i] = 0;
+        i += 1;
+    }
+}
 
 // Marks a place that has no mark yet.
 pub fn mark(table: &mut [u32], at: usize)
