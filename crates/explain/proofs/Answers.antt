@@ -2,9 +2,9 @@
 use mathlib.Core.Path.{_≡_, refl, sym, ap, _∙_}
 use mathlib.Core.Bool.{Bool, true, false, cond}
 use mathlib.Core.List.{List}
-use Prim.Native.Nat.{ℕ, _-_, _≤_}
+use Prim.Native.Nat.{ℕ, _-_, _≤_, _<_, max}
 use native.Mathlib.Omega.{arith}
-use borrow.Author.Tests.{ltb-false}
+use borrow.Author.Tests.{ltb-false, le-ltb, lt-ltb}
 use lib.Dec.{ltb}
 use lib.ListN.{length, getD}
 use Rattle.text.specs.declared.Found.{Found}
@@ -16,13 +16,17 @@ use Rattle.options.specs.declared.Block.{Block}
 use Rattle.pieces.specs.Pieces.{pieces}
 use Rattle.endings.specs.declared.Ending.{Ending}
 use Rattle.endings.specs.declared.Ending.the-variants.{Paragraph}
+use Rattle.paragraphs.specs.Contracts.Steps.{roomFor}
 use Rattle.walk.specs.Digest.{longParagraph}
+use Rattle.walk.specs.Work.{workFor}
 use Rattle.walk.proofs.Loop.{all-pieces}
+use Rattle.walk.proofs.Lent.{fits, over}
 use Rattle.formatter.specs.Answers.{Answer, done, options, long, text, words, room, work, code}
 use Rattle.formatter.specs.Format.{Limits, limited, withWords, withBlock, finding}
+use Rattle.formatter.specs.Work.{lending}
 use Rattle.formatter.specs.Contracts.Call.{Admits}
 use Rattle.formatter.specs.declared.Reply.{Reply}
-use Rattle.formatter.specs.declared.Reply.the-variants.{Words}
+use Rattle.formatter.specs.declared.Reply.the-variants.{Words, Work}
 use Rattle.formatter.specs.declared.Admission.{Admission}
 use Rattle.formatter.specs.declared.Admission.the-variants.{Refused as NotAdmitted, Passed as Admitted}
 use Rattle.formatter.proofs.Refusals.{a-refusal-is-no-digest}
@@ -30,6 +34,8 @@ use Rattle.formatter.proofs.Replies.{refused-of, passed-of}
 use Rattle.explain.specs.declared.Asked.{Asked}
 use Rattle.explain.specs.declared.Asked.the-variants.{Told, Behind}
 use Rattle.explain.specs.declared.Seek.{Seek}
+use Rattle.explain.specs.declared.Course.{Course}
+use Rattle.explain.specs.declared.Course.the-variants.{End, Short}
 use Rattle.explain.specs.declared.Sought.{Sought}
 use Rattle.explain.specs.declared.Sought.the-variants.{All, Stopped}
 use Rattle.explain.specs.declared.Explained.{Explained}
@@ -37,8 +43,8 @@ use Rattle.explain.specs.declared.Explained.the-variants.{Refused}
 use Rattle.explain.specs.Reasons.{lineEndings}
 use Rattle.explain.specs.Explain.{Explanation, because, refused, noLine, lookUp, lookUpIn, afterMeasuring, explaining}
 use Rattle.explain.specs.Contracts.Asking.{passed}
-use Rattle.explain.specs.Contracts.Seeking.{longBehind, SoughtIs, linesAhead, asking, told, leftOf}
-use Rattle.explain.proofs.Seeking.{all-endings}
+use Rattle.explain.specs.Contracts.Seeking.{begin, longBehind, SoughtIs, Coursed, linesAhead, asking, told, leftOf}
+use Rattle.explain.proofs.Seeking.{all-endings, seeking-stopped, course-end, course-short}
 
 -- ---- at the end of the notes
 
@@ -54,19 +60,16 @@ all-passed es line = go (ltb line (length es)) refl
     go false t = let h = ltb-false line (length es) t in (ap noLine (omega arith), omega arith)
 
 module _ (most : ℕ) (o : Opts) (notes : List ℕ) (line : ℕ) where
-  abbrev begin : Seek
-  begin = record { at = 0; mail = true; asked = Behind line }
-
-  all-long : longBehind most o notes begin ≡ longParagraph most o 0 (pieces o notes)
+  all-long : longBehind most o notes (begin line) ≡ longParagraph most o 0 (pieces o notes)
   all-long = ap (longParagraph most o 0) (all-pieces o notes)
 
-  module _ (r : Sought) (s : SoughtIs most o notes begin r) where
+  module _ (r : Sought) (s : SoughtIs most o notes (begin line) r) where
     pub stopped-of : {place : ℕ} → r ≡ Stopped place → longParagraph most o 0 (pieces o notes) ≡ At place
-    stopped-of {place} e = let k : SoughtIs most o notes begin (Stopped place) = rw e at s in sym all-long ∙ k
+    stopped-of {place} e = let k : SoughtIs most o notes (begin line) (Stopped place) = rw e at s in sym all-long ∙ k
 
     pub all-of : {a : Asked} → r ≡ All a → (longParagraph most o 0 (pieces o notes) ≡ Nowhere) × (a ≡ passed (lineEndings o notes) (Behind line))
     all-of {a} e =
-        let k : SoughtIs most o notes begin (All a) = rw e at s in
+        let k : SoughtIs most o notes (begin line) (All a) = rw e at s in
         (sym all-long ∙ k .0, k .1 ∙ ap (λ (es : List Ending). passed es (Behind line)) (all-endings o notes))
 
     pub all-ahead : {a : Asked} → r ≡ All a → linesAhead a ≤ line
@@ -82,6 +85,30 @@ module _ (most : ℕ) (o : Opts) (notes : List ℕ) (line : ℕ) where
 
       pub all-told : {a : Asked} {x : Explained} → r ≡ All a → x ≡ told (asking line a) → x ≡ told (leftOf (limited bytes most) o notes line)
       all-told e h = all-asked e h ∙ ap (λ (f : Found). told (afterMeasuring (lookUp line (lineEndings o notes)) (withWords done o notes f))) (sym (all-of e .0))
+
+-- where room is lent: it does not reach, and what the notes need is told; or it does
+module _ (lends : ℕ) (o : Opts) (notes : List ℕ) (line : ℕ) (r : Course) (c : Coursed (roomFor (o .quick) lends) o notes (begin line) r) where
+  abbrev room-is : ℕ
+  room-is = roomFor (o .quick) lends
+
+  pub short-told : {t : Seek} {n : ℕ} → r ≡ Short t → n ≡ max lends (workFor o notes) → Refused (Work n) ≡ told (leftOf (lending lends) o notes line)
+  short-told {t} {n} e k =
+      let s = course-short room-is room-is o notes (begin line) r (omega arith) c e in
+      let h : lends < workFor o notes = over o lends notes (stopped-of room-is o notes line (Stopped (t .at)) (seeking-stopped room-is o notes (s .0) (s .1) (s .1 .many)) refl) in
+      let m : n ≡ workFor o notes = omega (arith, h, k) in
+      rw (lt-ltb lends (workFor o notes) h, m)
+
+  module _ {a : Asked} (e : r ≡ End a) where
+    sought : SoughtIs room-is o notes (begin line) (All a)
+    sought = course-end room-is room-is o notes (begin line) r (omega arith) c e
+
+    pub lent-ahead : linesAhead a ≤ line
+    lent-ahead = all-ahead room-is o notes line (All a) sought refl
+
+    pub lent-told : {x : Explained} → x ≡ told (asking line a) → x ≡ told (leftOf (lending lends) o notes line)
+    lent-told h =
+        let f = fits o lends notes (all-of room-is o notes line (All a) sought refl .0) in
+        all-asked room-is o notes line (All a) sought refl h ∙ rw (le-ltb lends (workFor o notes) f)
 
 -- ---- before any piece is looked at
 

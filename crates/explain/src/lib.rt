@@ -23,10 +23,11 @@ ghost use Rattle.walk.specs.Digest.{mostWords};
 ghost use Rattle.walk.specs.Contracts.Course.{Admitted};
 ghost use Rattle.explain.specs.Reasons.{linesBy};
 ghost use Rattle.formatter.specs.Format.{document01};
+ghost use Rattle.formatter.specs.Work.{lending};
 ghost use Rattle.explain.specs.Explain.{explaining};
 ghost use Rattle.explain.specs.declared.Asked.the-variants.{Behind};
 ghost use Rattle.explain.specs.Contracts.Asking.{EndsSo, passed};
-ghost use Rattle.explain.specs.Contracts.Seeking.{TextPassed, PiecePassed, Coursed, SoughtIs, linesAhead, asking, told, toldNumber, toldReason, leftOf};
+ghost use Rattle.explain.specs.Contracts.Seeking.{TextPassed, PiecePassed, begin, Coursed, SoughtIs, linesAhead, asking, told, toldNumber, toldReason, leftOf};
 
 // What the call replies: why the line ends; a refusal of measuring's; or how many lines there are, where there is no such line.
 pub enum Explained {
@@ -76,6 +77,16 @@ pub fn explain(block: &[u8], notes: &[u8], line: u64) -> Explained
     }
 }
 
+// The same in working room that is lent: 12 in the place of 4.
+pub fn explain_large(block: &[u8], notes: &[u8], line: u64, work: &mut [u32]) -> Explained
+    ensures { λ r. ⌜ r ≡ told (explaining (lending (length (now (work .entry)))) (now (block .entry)) (now (notes .entry)) line) ⌝ }
+{
+    match formatter::admit_large(block, notes) {
+        Admission::Refused(r) => Explained::Refused(r),
+        Admission::Passed(o) => explain_lent(o, block, notes, line as usize, work),
+    }
+}
+
 // The answer's code stands in the upper 32 bits of its number, what it tells in the lower.
 const UPPER: u64 = 4294967296;
 
@@ -99,14 +110,42 @@ fn explain_line(o: Options, block: &[u8], notes: &[u8], line: usize) -> Explaine
     requires { ⌜ Admitted (now block) (now notes) o ⌝ }
     ensures { λ r. ⌜ r ≡ told (leftOf document01 (meant (now (block .entry)) o) (now (notes .entry)) line) ⌝ }
 {
-    let start = Seek {
+    match seek_line(o, block, notes, start(line)) {
+        Sought::Stopped(place) => Explained::Refused(Reply::Words(place)),
+        Sought::All(a) => found(line, a),
+    }
+}
+
+// The line sought in the room that is lent. Nothing is written before it is found: only where the room does not reach is counted what would.
+fn explain_lent(
+    o: Options,
+    block: &[u8],
+    notes: &[u8],
+    line: usize,
+    work: &mut [u32],
+) -> Explained
+    requires { ⌜ Admitted (now block) (now notes) o ⌝ }
+    ensures { λ r. ⌜ r ≡ told (leftOf (lending (length (now (work .entry)))) (meant (now (block .entry)) o) (now (notes .entry)) line) ⌝ }
+{
+    match seek_with(o, block, notes, start(line), work) {
+        Course::Short(_) => Explained::Refused(Reply::Work(walk::work_over(
+            o,
+            block,
+            notes,
+            work.len(),
+        ))),
+        Course::End(a) => found(line, a),
+    }
+}
+
+// Where the search begins.
+fn start(line: usize) -> Seek
+    ensures { λ s. ⌜ s ≡ begin line ⌝ }
+{
+    Seek {
         at: 0,
         mail: true,
         asked: Asked::Behind(line),
-    };
-    match seek_line(o, block, notes, start) {
-        Sought::Stopped(place) => Explained::Refused(Reply::Words(place)),
-        Sought::All(a) => found(line, a),
     }
 }
 

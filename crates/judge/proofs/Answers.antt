@@ -2,7 +2,7 @@
 use mathlib.Core.Path.{_≡_, refl, sym, ap, _∙_}
 use mathlib.Core.Bool.{Bool, true, false, cond}
 use mathlib.Core.List.{List}
-use Prim.Native.Nat.{ℕ, _≤_, _<_}
+use Prim.Native.Nat.{ℕ, _≤_, _<_, max}
 use native.Mathlib.Omega.{arith}
 use lib.Dec.{ltb}
 use lib.ListN.{length, drop}
@@ -15,9 +15,13 @@ use Rattle.options.specs.OptionBlock.{readBlock}
 use Rattle.options.specs.declared.Options.{Options}
 use Rattle.options.specs.declared.Block.{Block}
 use Rattle.pieces.specs.Pieces.{pieces}
+use Rattle.paragraphs.specs.Contracts.Steps.{roomFor}
 use Rattle.walk.specs.Digest.{longParagraph}
+use Rattle.walk.specs.Work.{workFor}
+use Rattle.walk.proofs.Lent.{fits, over}
 use Rattle.formatter.specs.Answers.{Answer, done, options, long, text, words, room, work, code as codeOf}
 use Rattle.formatter.specs.Format.{Limits, limited, withWords, withBlock, finding}
+use Rattle.formatter.specs.Work.{mostLent, lending}
 use Rattle.formatter.specs.Contracts.Call.{Admits, told}
 use Rattle.formatter.specs.declared.Reply.{Reply}
 use Rattle.formatter.specs.declared.Admission.the-variants.{Refused, Passed}
@@ -30,7 +34,7 @@ use Rattle.checker.specs.declared.Matched.the-variants.{On, Fault}
 use Rattle.judge.specs.Checking.{withVerdict, withDigest, withNotes, verdictUnder, checking}
 use Rattle.judge.specs.Contracts.Judging.{Walked, begun, toldOf, judgedBy, refusedAs, leftOf}
 use Rattle.judge.specs.declared.Judgement.{Judgement}
-use Rattle.judge.specs.declared.Judgement.the-variants.{Accepted, Words, LongDigest, Line}
+use Rattle.judge.specs.declared.Judgement.the-variants.{Accepted, Words, LongDigest, Line, Work}
 use Rattle.judge.specs.declared.Course.{Course}
 use Rattle.judge.specs.declared.Course.the-variants.{Through, Stopped}
 
@@ -99,6 +103,22 @@ module _ (bytes most : ℕ) (o : Opts) (notes digest : List ℕ) (first : Matche
 
   pub through-answer : {m : Matched} → r ≡ Through m → first ≡ begun bytes (length digest) → {a : Judgement} → a ≡ judgedBy bytes (length digest) m → a ≡ leftOf (limited bytes most) o notes digest
   through-answer e b q = q ∙ through-judged e b ∙ ap (λ (f : Found). withNotes (withDigest bytes (length digest) (verdict o notes digest)) (withWords done o notes f)) (sym (through e .0))
+
+-- where room is lent, for so many words: it does not reach, and what the notes need is told; or it does
+module _ (lends : ℕ) (o : Opts) (notes digest : List ℕ) (first : Matched) (most : ℕ) (is : most ≡ roomFor (o .quick) lends) (r : Course) (w : Walked most o notes digest first r) where
+  walked : Walked (roomFor (o .quick) lends) o notes digest first r
+  walked = rw (← is) w
+
+  pub short-answer : {place n : ℕ} → r ≡ Stopped place → n ≡ max lends (workFor o notes) → Work n ≡ leftOf (lending lends) o notes digest
+  short-answer {place} {n} e k =
+      let h : lends < workFor o notes = over o lends notes (stopped mostLent (roomFor (o .quick) lends) o notes digest first r walked e) in
+      let m : n ≡ workFor o notes = omega (arith, h, k) in
+      rw (lt-ltb lends (workFor o notes) h, m)
+
+  pub lent-answer : {m : Matched} → r ≡ Through m → first ≡ begun mostLent (length digest) → {a : Judgement} → a ≡ judgedBy mostLent (length digest) m → a ≡ leftOf (lending lends) o notes digest
+  lent-answer e b q =
+      let f = fits o lends notes (through mostLent (roomFor (o .quick) lends) o notes digest first r walked e .0) in
+      q ∙ through-judged mostLent (roomFor (o .quick) lends) o notes digest first r walked e b ∙ rw (le-ltb lends (workFor o notes) f)
 
 -- ---- what is told before
 

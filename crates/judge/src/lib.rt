@@ -17,6 +17,7 @@ ghost use Rattle.walk.specs.Contracts.Course.{Admitted};
 ghost use Rattle.checker.specs.Matching.{andThen, matchLine, matchWords};
 ghost use Rattle.checker.specs.Contracts.Places.{matched, MatchedIn, Matches, MarginFits, Matchable};
 ghost use Rattle.formatter.specs.Format.{document01};
+ghost use Rattle.formatter.specs.Work.{lending};
 ghost use Rattle.judge.specs.Answers.{numbered};
 ghost use Rattle.judge.specs.Checking.{checking};
 ghost use Rattle.judge.specs.Contracts.Judging.{begun, judgedBy, refusedAs, leftOf, Stepped, Walked};
@@ -70,6 +71,16 @@ pub fn check(block: &[u8], notes: &[u8], digest: &[u8]) -> Judgement
     }
 }
 
+// The same in working room that is lent: 12 in the place of 4.
+pub fn check_large(block: &[u8], notes: &[u8], digest: &[u8], work: &mut [u32]) -> Judgement
+    ensures { λ r. ⌜ r ≡ checking (lending (length (now (work .entry)))) (now (block .entry)) (now (notes .entry)) (now (digest .entry)) ⌝ }
+{
+    match formatter::admit_large(block, notes) {
+        Admission::Refused(r) => refused(r),
+        Admission::Passed(o) => check_lent(o, block, notes, digest, work),
+    }
+}
+
 // Refusals that are told before any piece is looked at. (They are neither `Done` nor `Room`.)
 fn refused(r: Reply) -> Judgement
     ensures { λ f. ⌜ f ≡ refusedAs r ⌝ }
@@ -102,6 +113,35 @@ fn check_notes(o: Options, block: &[u8], notes: &[u8], digest: &[u8]) -> Judgeme
     ) {
         Course::Stopped(place) => Judgement::Words(place),
         Course::Through(m) => judge(MOST_BYTES, digest.len(), m),
+    }
+}
+
+// Where room is lent notes and digests are refused if they are longer.
+const MOST_LARGE: usize = 1048576;
+
+// In the room that is lent. Only where it does not reach is counted what would.
+fn check_lent(
+    o: Options,
+    block: &[u8],
+    notes: &[u8],
+    digest: &[u8],
+    work: &mut [u32],
+) -> Judgement
+    requires { ⌜ Admitted (now block) (now notes) o ⌝ }
+    ensures { λ r. ⌜ r ≡ leftOf (lending (length (now (work .entry)))) (meant (now (block .entry)) o) (now (notes .entry)) (now (digest .entry)) ⌝ }
+{
+    let most = paragraphs::room_for(o.quick, work.len());
+    match match_pieces(
+        o,
+        block,
+        notes,
+        digest,
+        begin(MOST_LARGE, digest.len()),
+        most,
+        work,
+    ) {
+        Course::Stopped(_) => Judgement::Work(walk::work_over(o, block, notes, work.len())),
+        Course::Through(m) => judge(MOST_LARGE, digest.len(), m),
     }
 }
 

@@ -1,6 +1,6 @@
 -- What the functions of the search answer for: the lines of the pieces from a place of the notes on, and the line that is asked for.
 use mathlib.Core.Path.{_≡_}
-use mathlib.Core.Bool.{Bool, false, _||_}
+use mathlib.Core.Bool.{Bool, true, false, _||_}
 use mathlib.Core.List.{List}
 use Prim.Native.Nat.{ℕ, _+_, _-_, _*_, _^_, _≤_, _<_}
 use lib.ListN.{length}
@@ -71,6 +71,10 @@ PiecePassed room o notes s (On t) = PieceBehind room o notes s t
 PiecePassed room o notes s Over = NoRoom room o notes s
 
 -- ---- the notes
+
+-- where the search for a line begins
+abbrev pub begin : ℕ → Seek
+begin line = record { at = 0; mail = true; asked = Ahead line }
 
 -- the lines from a place on, each with the way it ended
 unfoldable pub endingsFrom : Opts → Bool → List ℕ → ℕ → List Ending
