@@ -2,7 +2,7 @@
 use mathlib.Core.Path.{_≡_, refl, sym, ap, _∙_}
 use mathlib.Core.Bool.{Bool, true, false, cond}
 use mathlib.Core.List.{List, [], _∷_, _++_, map}
-use Prim.Native.Nat.{ℕ, zero, suc, _+_, _*_, _≤_, _<_, min, max}
+use Prim.Native.Nat.{ℕ, zero, suc, _+_, _*_, _/_, _≤_, _<_, min, max}
 use native.Mathlib.Nat.{le-max-left, le-max-right, max-le, zero-max, mul-le-mul}
 use native.Mathlib.Omega.{arith}
 use lib.ListN.{length, drop, length-append, length-take, length-drop}
@@ -172,24 +172,30 @@ module _ (o : Opts) where
   unfolding wordsOf
   paragraph-half ls p r t = rw (r .rows) (rows-half o (p .mail) ls t)
 
-  each-work : (b : Bool) (n : ℕ) → cond b 7 15 * n ≤ 15 * n
-  each-work true n = omega arith
-  each-work false n = omega arith
+  -- words that are no more than half of the bytes and one
+  each-work : (quick : Bool) (words bytes : ℕ) → 2 * words ≤ bytes + 1 → cond quick 7 15 * words ≤ cond quick 7 15 * ((bytes + 1) / 2)
+  each-work true words bytes h = omega arith
+  each-work false words bytes h = omega arith
 
-  kind-work : (q : Piece) (k : Kind) → OfKind o (q .lines) k → Trails (q .lines) → workOf o k ≤ 8 * (length (extentOf q) + 1)
+  more-bytes : (quick : Bool) (n bytes more : ℕ) → n ≤ cond quick 7 15 * ((bytes + 1) / 2) → bytes ≤ more → n ≤ cond quick 7 15 * ((more + 1) / 2)
+  more-bytes true n bytes more h k = omega arith
+  more-bytes false n bytes more h k = omega arith
+
+  kind-work : (q : Piece) (k : Kind) → OfKind o (q .lines) k → Trails (q .lines) → workOf o k ≤ cond (o .quick) 7 15 * ((length (extentOf q) + 1) / 2)
   unfolding extentOf
   kind-work q blankLine r t = omega arith
   kind-work q (plainLine line) r t = omega arith
-  kind-work q (paragraph p) r t = let h = paragraph-half (q .lines) p r t in let e = each-work (o .quick) (length (wordsOf o p)) in omega (arith, h, e)
+  kind-work q (paragraph p) r t = each-work (o .quick) (length (wordsOf o p)) (length (joined (λ (l : Line). l .raw) (q .lines))) (paragraph-half (q .lines) p r t)
 
-  pieces-work : (qs : List Piece) → All (OfPiece o) qs → Trails (joined linesIn qs) → mostWork o qs ≤ 8 * (length (joined extentOf qs) + 1)
+  pieces-work : (qs : List Piece) → All (OfPiece o) qs → Trails (joined linesIn qs) → mostWork o qs ≤ cond (o .quick) 7 15 * ((length (joined extentOf qs) + 1) / 2)
   unfolding mostWork
   pieces-work [] a t = omega arith
   pieces-work (q ∷ qs) a t =
       let c : Trails (q .lines ++ joined linesIn qs) = rw (joined-cons linesIn q qs) at t in
       let k = kind-work q (q .kind) (a .0) (trails-front (q .lines) (joined linesIn qs) c) in
       let r = pieces-work qs (a .1) (trails-back (q .lines) (joined linesIn qs) c) in
-      rw (joined-cons extentOf q qs, length-append) (max-le (omega (arith, k)) (omega (arith, r)))
+      let n = length (extentOf q) + length (joined extentOf qs) in
+      rw (joined-cons extentOf q qs, length-append) (max-le (more-bytes (o .quick) _ (length (extentOf q)) n k (omega arith)) (more-bytes (o .quick) _ (length (joined extentOf qs)) n r (omega arith)))
 
   -- a piece has no more words than bytes
   pieces-few : (qs : List Piece) → All (OfPiece o) qs → All (λ (q : Piece). 0 < length (extentOf q)) qs → Trails (joined linesIn qs) → All (λ (q : Piece). length (wordsUnder o (q .kind)) ≤ length (extentOf q)) qs
@@ -211,12 +217,20 @@ module _ (o : Opts) where
   pub words-are-few : (notes : List ℕ) → All (λ (q : Piece). length (wordsUnder o (q .kind)) ≤ length (extentOf q)) (pieces o notes)
   words-are-few notes = pieces-few (pieces o notes) (pieces-rows o notes) (extents-some o notes) (rw (pieces-lines o notes) (trail-upto (length notes) notes (omega arith)))
 
-  -- Never more than 8 numbers for each byte of the notes and one.
-  pub work-most : (notes : List ℕ) → workFor o notes ≤ 8 * (length notes + 1)
+  -- Never more than the words take that so many bytes can have ..
+  pub work-half : (notes : List ℕ) → workFor o notes ≤ cond (o .quick) 7 15 * ((length notes + 1) / 2)
   unfolding workFor
-  work-most notes =
+  work-half notes =
       let t : Trails (joined linesIn (pieces o notes)) = rw (pieces-lines o notes) (trail-upto (length notes) notes (omega arith)) in
       rw (extents-are-notes o notes) at (pieces-work (pieces o notes) (pieces-rows o notes) t)
+
+  -- .. nor than 8 numbers for each byte of the notes and one.
+  pub work-most : (notes : List ℕ) → workFor o notes ≤ 8 * (length notes + 1)
+  work-most notes = go (o .quick) (work-half notes)
+    where
+      go : (quick : Bool) → workFor o notes ≤ cond quick 7 15 * ((length notes + 1) / 2) → workFor o notes ≤ 8 * (length notes + 1)
+      go true h = omega arith
+      go false h = omega arith
 
   -- No paragraph needs more than the notes ..
   pub work-of-each : (qs : List Piece) → All (λ (q : Piece). workOf o (q .kind) ≤ mostWork o qs) qs

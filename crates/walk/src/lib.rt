@@ -85,11 +85,14 @@ fn put_lent(
     }
 }
 
-// The room that the notes need, if it is more than so much.
+// The room that the notes need, if it is more than so much. Their bytes may show that it is not: between two words stands a blank.
 pub fn work_over(o: Options, block: &[u8], notes: &[u8], lent: usize) -> usize
     requires { ⌜ Admitted (now block) (now notes) o ⌝ }
     ensures { λ r. ⌜ r ≡ max lent (workFor (meant (now (block .entry)) o) (now (notes .entry))) ⌝ }
 {
+    if paragraphs::numbers_for(o.quick, (notes.len() + 1) / 2) <= lent {
+        return lent;
+    }
     let mut most = lent;
     let mut at = 0;
     let mut mail = true;
@@ -113,7 +116,7 @@ pub fn work_over(o: Options, block: &[u8], notes: &[u8], lent: usize) -> usize
     most
 }
 
-// The same of a paragraph. Its words are counted only where its bytes do not show that so much is enough: between two words stands a blank.
+// The same of a paragraph, whose words are counted only where its bytes do not show it.
 fn with_paragraph(o: Options, notes: &[u8], at: usize, p: Paragraph, most: usize) -> usize
     requires { ⌜ Placed (now notes) at o p × ((block : List ℕ) → 2 * length (wordsFor block (now notes) at o p) ≤ p .next - at + 1) ⌝ }
     ensures { λ r. ⌜ ((block : List ℕ) → r ≡ max most (cond (o .quick) 7 15 * length (wordsFor block (now (notes .entry)) at o p))) ⌝ }
