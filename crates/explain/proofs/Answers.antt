@@ -20,7 +20,6 @@ use Rattle.paragraphs.specs.Contracts.Steps.{roomFor}
 use Rattle.walk.specs.Digest.{longParagraph}
 use Rattle.walk.specs.Work.{workFor}
 use Rattle.walk.proofs.Loop.{all-pieces}
-use Rattle.walk.proofs.Lent.{fits, over}
 use Rattle.formatter.specs.Answers.{Answer, done, options, long, text, words, room, work, code}
 use Rattle.formatter.specs.Format.{Limits, limited, withWords, withBlock, finding}
 use Rattle.formatter.specs.Work.{lending}
@@ -29,6 +28,7 @@ use Rattle.formatter.specs.declared.Reply.{Reply}
 use Rattle.formatter.specs.declared.Reply.the-variants.{Words, Work}
 use Rattle.formatter.specs.declared.Admission.{Admission}
 use Rattle.formatter.specs.declared.Admission.the-variants.{Refused as NotAdmitted, Passed as Admitted}
+use Rattle.formatter.proofs.Lent.{fits, over}
 use Rattle.formatter.proofs.Refusals.{a-refusal-is-no-digest}
 use Rattle.formatter.proofs.Replies.{refused-of, passed-of}
 use Rattle.explain.specs.declared.Asked.{Asked}

@@ -81,7 +81,7 @@ pub fn explain(block: &[u8], notes: &[u8], line: u64) -> Explained
 pub fn explain_large(block: &[u8], notes: &[u8], line: u64, work: &mut [u32]) -> Explained
     ensures { λ r. ⌜ r ≡ told (explaining (lending (length (now (work .entry)))) (now (block .entry)) (now (notes .entry)) line) ⌝ }
 {
-    match formatter::admit_large(block, notes) {
+    match formatter::admit_within(block, notes, formatter::MOST_LARGE) {
         Admission::Refused(r) => Explained::Refused(r),
         Admission::Passed(o) => explain_lent(o, block, notes, line as usize, work),
     }

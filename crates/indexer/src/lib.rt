@@ -112,7 +112,7 @@ fn write_lent(
 ) -> Filled
     ensures { λ r. ⌜ Indexes (indexing (indexLending (length (now (work .entry)))) (now (block .entry)) (now (notes .entry)) (length (now (out .entry))) records) (now (out .entry)) r (now (out .exit)) (now (work .exit)) ⌝ }
 {
-    match formatter::admit_large(block, notes) {
+    match formatter::admit_within(block, notes, formatter::MOST_LARGE) {
         Admission::Refused(r) => refused(r),
         Admission::Passed(o) => index_lent(o, block, notes, out, records, work),
     }

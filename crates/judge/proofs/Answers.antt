@@ -18,13 +18,13 @@ use Rattle.pieces.specs.Pieces.{pieces}
 use Rattle.paragraphs.specs.Contracts.Steps.{roomFor}
 use Rattle.walk.specs.Digest.{longParagraph}
 use Rattle.walk.specs.Work.{workFor}
-use Rattle.walk.proofs.Lent.{fits, over}
 use Rattle.formatter.specs.Answers.{Answer, done, options, long, text, words, room, work, code as codeOf}
 use Rattle.formatter.specs.Format.{Limits, limited, withWords, withBlock, finding}
 use Rattle.formatter.specs.Work.{mostLent, lending}
 use Rattle.formatter.specs.Contracts.Call.{Admits, told}
 use Rattle.formatter.specs.declared.Reply.{Reply}
 use Rattle.formatter.specs.declared.Admission.the-variants.{Refused, Passed}
+use Rattle.formatter.proofs.Lent.{fits, over}
 use Rattle.formatter.proofs.Refusals.{a-refusal-is-no-digest}
 use Rattle.checker.specs.Matching.{Match, on, andThen, matchPieces, verdictOf, verdict}
 use Rattle.checker.specs.Contracts.Places.{matched, MatchedIn}

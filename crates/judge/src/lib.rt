@@ -75,7 +75,7 @@ pub fn check(block: &[u8], notes: &[u8], digest: &[u8]) -> Judgement
 pub fn check_large(block: &[u8], notes: &[u8], digest: &[u8], work: &mut [u32]) -> Judgement
     ensures { λ r. ⌜ r ≡ checking (lending (length (now (work .entry)))) (now (block .entry)) (now (notes .entry)) (now (digest .entry)) ⌝ }
 {
-    match formatter::admit_large(block, notes) {
+    match formatter::admit_within(block, notes, formatter::MOST_LARGE) {
         Admission::Refused(r) => refused(r),
         Admission::Passed(o) => check_lent(o, block, notes, digest, work),
     }
@@ -116,9 +116,6 @@ fn check_notes(o: Options, block: &[u8], notes: &[u8], digest: &[u8]) -> Judgeme
     }
 }
 
-// Where room is lent notes and digests are refused if they are longer.
-const MOST_LARGE: usize = 1048576;
-
 // In the room that is lent. Only where it does not reach is counted what would.
 fn check_lent(
     o: Options,
@@ -136,12 +133,12 @@ fn check_lent(
         block,
         notes,
         digest,
-        begin(MOST_LARGE, digest.len()),
+        begin(formatter::MOST_LARGE, digest.len()),
         most,
         work,
     ) {
         Course::Stopped(_) => Judgement::Work(walk::work_over(o, block, notes, work.len())),
-        Course::Through(m) => judge(MOST_LARGE, digest.len(), m),
+        Course::Through(m) => judge(formatter::MOST_LARGE, digest.len(), m),
     }
 }
 
