@@ -17,7 +17,7 @@ use Rattle.pieces.specs.Pieces.{pieces}
 use Rattle.endings.specs.declared.Ending.{Ending}
 use Rattle.endings.specs.declared.Ending.the-variants.{Paragraph}
 use Rattle.paragraphs.specs.Contracts.Steps.{roomFor}
-use Rattle.walk.specs.Digest.{longParagraph}
+use Rattle.walk.specs.Digest.{longParagraph, digest}
 use Rattle.walk.specs.Work.{workFor}
 use Rattle.walk.proofs.Loop.{all-pieces}
 use Rattle.formatter.specs.Answers.{Answer, done, options, long, text, words, room, work, code}
@@ -96,7 +96,7 @@ module _ (lends : ℕ) (o : Opts) (notes : List ℕ) (line : ℕ) (r : Course) (
       let s = course-short room-is room-is o notes (begin line) r (omega arith) c e in
       let h : lends < workFor o notes = over o lends notes (stopped-of room-is o notes line (Stopped (t .at)) (seeking-stopped room-is o notes (s .0) (s .1) (s .1 .many)) refl) in
       let m : n ≡ workFor o notes = omega (arith, h, k) in
-      rw (lt-ltb lends (workFor o notes) h, m)
+      ap (λ (k : ℕ). Refused (Work k)) m ∙ ap (λ (b : Bool). told (afterMeasuring (lookUp line (lineEndings o notes)) (elim b as (λ t. Answer) [ true ↦ work (workFor o notes) | false ↦ done (digest o notes) ]))) (sym (lt-ltb lends (workFor o notes) h))
 
   module _ {a : Asked} (e : r ≡ End a) where
     sought : SoughtIs room-is o notes (begin line) (All a)
@@ -108,7 +108,8 @@ module _ (lends : ℕ) (o : Opts) (notes : List ℕ) (line : ℕ) (r : Course) (
     pub lent-told : {x : Explained} → x ≡ told (asking line a) → x ≡ told (leftOf (lending lends) o notes line)
     lent-told h =
         let f = fits o lends notes (all-of room-is o notes line (All a) sought refl .0) in
-        all-asked room-is o notes line (All a) sought refl h ∙ rw (le-ltb lends (workFor o notes) f)
+        all-asked room-is o notes line (All a) sought refl h
+        ∙ ap (λ (b : Bool). told (afterMeasuring (lookUp line (lineEndings o notes)) (elim b as (λ t. Answer) [ true ↦ work (workFor o notes) | false ↦ done (digest o notes) ]))) (sym (le-ltb lends (workFor o notes) f))
 
 -- ---- before any piece is looked at
 

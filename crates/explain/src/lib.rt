@@ -27,7 +27,7 @@ ghost use Rattle.formatter.specs.Work.{lending};
 ghost use Rattle.explain.specs.Explain.{explaining};
 ghost use Rattle.explain.specs.declared.Asked.the-variants.{Behind};
 ghost use Rattle.explain.specs.Contracts.Asking.{EndsSo, passed};
-ghost use Rattle.explain.specs.Contracts.Seeking.{TextPassed, PiecePassed, begin, Coursed, SoughtIs, linesAhead, asking, told, toldNumber, toldReason, leftOf};
+ghost use Rattle.explain.specs.Contracts.Seeking.{TextPassed, PiecePassed, Coursed, SoughtIs, linesAhead, asking, told, toldNumber, toldReason, leftOf};
 
 // What the call replies: why the line ends; a refusal of measuring's; or how many lines there are, where there is no such line.
 pub enum Explained {
@@ -110,7 +110,12 @@ fn explain_line(o: Options, block: &[u8], notes: &[u8], line: usize) -> Explaine
     requires { ⌜ Admitted (now block) (now notes) o ⌝ }
     ensures { λ r. ⌜ r ≡ told (leftOf document01 (meant (now (block .entry)) o) (now (notes .entry)) line) ⌝ }
 {
-    match seek_line(o, block, notes, start(line)) {
+    let start = Seek {
+        at: 0,
+        mail: true,
+        asked: Asked::Behind(line),
+    };
+    match seek_line(o, block, notes, start) {
         Sought::Stopped(place) => Explained::Refused(Reply::Words(place)),
         Sought::All(a) => found(line, a),
     }
@@ -127,7 +132,12 @@ fn explain_lent(
     requires { ⌜ Admitted (now block) (now notes) o ⌝ }
     ensures { λ r. ⌜ r ≡ told (leftOf (lending (length (now (work .entry)))) (meant (now (block .entry)) o) (now (notes .entry)) line) ⌝ }
 {
-    match seek_with(o, block, notes, start(line), work) {
+    let start = Seek {
+        at: 0,
+        mail: true,
+        asked: Asked::Behind(line),
+    };
+    match seek_with(o, block, notes, start, work) {
         Course::Short(_) => Explained::Refused(Reply::Work(walk::work_over(
             o,
             block,
@@ -138,16 +148,6 @@ fn explain_lent(
     }
 }
 
-// Where the search begins.
-fn start(line: usize) -> Seek
-    ensures { λ s. ⌜ s ≡ begin line ⌝ }
-{
-    Seek {
-        at: 0,
-        mail: true,
-        asked: Asked::Behind(line),
-    }
-}
 
 // What is told of the line at the end of the notes: lines that were passed are all there are.
 fn found(line: usize, a: Asked) -> Explained

@@ -16,7 +16,7 @@ use Rattle.options.specs.declared.Options.{Options}
 use Rattle.options.specs.declared.Block.{Block}
 use Rattle.pieces.specs.Pieces.{pieces}
 use Rattle.paragraphs.specs.Contracts.Steps.{roomFor}
-use Rattle.walk.specs.Digest.{longParagraph}
+use Rattle.walk.specs.Digest.{longParagraph, digest as digestOf}
 use Rattle.walk.specs.Work.{workFor}
 use Rattle.formatter.specs.Answers.{Answer, done, options, long, text, words, room, work, code as codeOf}
 use Rattle.formatter.specs.Format.{Limits, limited, withWords, withBlock, finding}
@@ -113,12 +113,13 @@ module _ (lends : ℕ) (o : Opts) (notes digest : List ℕ) (first : Matched) (m
   short-answer {place} {n} e k =
       let h : lends < workFor o notes = over o lends notes (stopped mostLent (roomFor (o .quick) lends) o notes digest first r walked e) in
       let m : n ≡ workFor o notes = omega (arith, h, k) in
-      rw (lt-ltb lends (workFor o notes) h, m)
+      ap Work m ∙ ap (λ (b : Bool). withNotes (withDigest mostLent (length digest) (verdict o notes digest)) (elim b as (λ t. Answer) [ true ↦ work (workFor o notes) | false ↦ done (digestOf o notes) ])) (sym (lt-ltb lends (workFor o notes) h))
 
   pub lent-answer : {m : Matched} → r ≡ Through m → first ≡ begun mostLent (length digest) → {a : Judgement} → a ≡ judgedBy mostLent (length digest) m → a ≡ leftOf (lending lends) o notes digest
   lent-answer e b q =
       let f = fits o lends notes (through mostLent (roomFor (o .quick) lends) o notes digest first r walked e .0) in
-      q ∙ through-judged mostLent (roomFor (o .quick) lends) o notes digest first r walked e b ∙ rw (le-ltb lends (workFor o notes) f)
+      q ∙ through-judged mostLent (roomFor (o .quick) lends) o notes digest first r walked e b
+      ∙ ap (λ (t : Bool). withNotes (withDigest mostLent (length digest) (verdict o notes digest)) (elim t as (λ x. Answer) [ true ↦ work (workFor o notes) | false ↦ done (digestOf o notes) ])) (sym (le-ltb lends (workFor o notes) f))
 
 -- ---- what is told before
 
