@@ -18,13 +18,13 @@ use Rattle.output.specs.Contracts.Sink.{Wrote}
 use Rattle.output.proofs.Sink.{written-fits, wrote-length}
 use Rattle.formatter.specs.Answers.{Answer, done, options, long, text, room, work, outputAfter}
 use Rattle.walk.specs.Digest.{mostWords, digest, longParagraph}
-use Rattle.formatter.specs.Format.{Limits, document01, within, withWork, withText, damageIn, withNotes, withBlock, withDigest, mostTold, measured, measuring, inRoom, writing}
+use Rattle.formatter.specs.Format.{Words, Limits, document01, within, withWork, withText, damageIn, withNotes, withBlock, withDigest, mostTold, measured, measuring, inRoom, writing}
 use Rattle.formatter.specs.Work.{mostLent, lending}
 use Rattle.walk.specs.Work.{workFor}
 use Rattle.walk.specs.Contracts.Course.{Finished}
 use Rattle.formatter.specs.Contracts.Call.{told, Answers, Refuses, leftOf, AdmitsNotes, Admits, AdmitsWithin, AdmitsWork, AdmitsLent}
 use Rattle.formatter.specs.declared.Reply.{Reply}
-use Rattle.formatter.specs.declared.Reply.the-variants.{Done, Options as Faulty, Long, Text, Words, Room, Work}
+use Rattle.formatter.specs.declared.Reply.the-variants.{Done, Options as Faulty, Long, Text, Words as Many, Room, Work}
 use Rattle.formatter.specs.declared.Admission.{Admission}
 use Rattle.formatter.specs.declared.Admission.the-variants.{Refused, Passed}
 use Rattle.walk.specs.declared.Ended.{Ended}
@@ -41,7 +41,7 @@ module _ (o : Opts) (notes out out′ : List ℕ) (r : Ended) (f : Finished most
   stopped-of e = rw e at f
 
   -- too many words: all zero
-  pub words-answer : {place : ℕ} → r ≡ Stopped place → Answers (leftOf document01 o notes (withDigest (length out))) out (Words place) out′
+  pub words-answer : {place : ℕ} → r ≡ Stopped place → Answers (leftOf document01 o notes (withDigest (length out))) out (Many place) out′
   unfolding outputAfter
   words-answer e = let s = stopped-of e in rw (s .0) (record { is = refl; output = s .1 })
 
@@ -67,7 +67,7 @@ module _ (o : Opts) (notes out out′ : List ℕ) (r : Ended) (f : Finished most
       rw (w .0, lt-leb (length (digest o notes)) (length out) over) (record { is = ap Room c; output = z ∙ ap (λ (k : ℕ). replicate k 0) l })
 
   -- measured: the same without an output
-  pub words-measured : {place : ℕ} → r ≡ Stopped place → Words place ≡ told (leftOf document01 o notes done)
+  pub words-measured : {place : ℕ} → r ≡ Stopped place → Many place ≡ told (leftOf document01 o notes done)
   words-measured e = rw (stopped-of e .0)
 
   pub done-measured : {n : ℕ} → r ≡ All n → Done n ≡ told (leftOf document01 o notes done)
@@ -77,6 +77,10 @@ module _ (o : Opts) (notes out out′ : List ℕ) (r : Ended) (f : Finished most
       rw (w .0) (ap Done c)
 
 -- ---- with the options of an accepted block
+
+-- up to so many bytes, however many words a paragraph may have
+abbrev pub limits : ℕ → Words → Limits
+limits bytes w = record { bytes = bytes; words = w }
 
 module _ (l : Limits) (block notes : List ℕ) (o : Options) where
   notes-are : (then : List ℕ → Answer) (f : Found) → length notes ≤ l .bytes → f ≡ damageIn (o .keep) notes → withNotes l then (meant block o) notes ≡ withText (l .words) then (meant block o) notes f
