@@ -12,7 +12,7 @@ use Rattle.flow.proofs.send_pieces.Statement.{statement}
 use Rattle.flow.proofs.send_pieces.Tie as tie
 
 abbrev Inv-loop : tie.InvT-loop
-Inv-loop o block notes out₀ work₀ c₀ out work c = Going (meant block o) notes out₀ c out × (length work ≡ 7168)
+Inv-loop o block notes out₀ work₀ c₀ out work c = Going (meant block o) notes (roomFor true (length work₀)) out₀ c out × (length work ≡ length work₀)
 
 abbrev μ-loop : tie.MeasureT-loop
 μ-loop o block notes out₀ work₀ c₀ out work c = length notes - c .at
