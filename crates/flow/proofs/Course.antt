@@ -85,8 +85,12 @@ module _ (block notes : List ℕ) (o : Options) (ready : Ready block notes o) wh
   pub ready-uniform : o .uniform ≡ true
   ready-uniform = rw (ready .is)
 
-  pub ready-quick : o .quick ≡ true
+  ready-quick : o .quick ≡ true
   ready-quick = rw (ready .is)
+
+  pub mailed-quick : meant block o .quick ≡ true
+  unfolding meant
+  mailed-quick = ready-quick
 
   pub found-goes : (nextMail : Bool) (at : ℕ) (r s : PieceAt) → at < length notes → (r ≡ pieceAt (meant block o) nextMail notes at) × Bounded (o .glue) notes at r → r ≡ s → PieceGoes (meant block o) nextMail notes at s
   found-goes nextMail at r s h p q = piece-found block notes o ready-kept (ready .admitted .short) nextMail at r s h p q
