@@ -1,7 +1,7 @@
 /* Made by tools/page from page/page.css and page/page.js: change those, and make it anew. */
 #include "page.h"
 
-const char PAGE_STYLE_HASH[] = "bJ+yJQ8IbWNXOa1TT0U2lEiNSSqLT2Kf/eUF8Lqb6K4=";
+const char PAGE_STYLE_HASH[] = "NGTVvTDuMLzwLtd5z3Z84PEQ5cotD3yHUGrxyeJICrw=";
 
 const char *const PAGE_STYLE[] = {
     ":root {\n",
@@ -125,8 +125,9 @@ const char *const PAGE_STYLE[] = {
     "header.bar a { color: inherit; }\n",
     "#wall { display: none; }\n",
     "#wall:target { position: fixed; z-index: 9; inset: 0; display: grid; align-content: center; justify-content: center; gap: .5rem; overflow: auto; background: #303840; color: #b8c4d0; }\n",
-    "#wall pre { padding: .1em .35em; font: min(1.95vw, 3.25vh)/1.18 var(--mono); font-variant-ligatures: none; direction: ltr; background: #0c1014; color: #f0f0f0; }\n",
+    "#wall pre { padding: .1em 1.5ch; font: min(1.95vw, 3.25vh)/1.18 var(--mono); font-variant-ligatures: none; direction: ltr; background: #0c1014; color: #f0f0f0; }\n",
     "#wall pre span { display: block; width: 80ch; height: 1.18em; overflow: clip; }\n",
+    "#wall pre .g { box-shadow: -.6ch 0 #0c1014, -1ch 0 #ffb000; }\n",
     "#wall .o { background: #ffb000; color: #000; font-weight: bold; }\n",
     "#wall .d { background: #d01818; color: #fff; font-weight: bold; }\n",
     "#wall .o, #wall .d { line-height: 1.18; }\n",

@@ -5,6 +5,8 @@
  * as its number in hex; markup is escaped. */
 #include "page.h"
 
+#include "damage.h"
+
 #include <string.h>
 
 /* ---- what a text consists of */
@@ -25,22 +27,6 @@ struct reader {
     struct sign sign; /* the one before `at`, if it is not ended */
     bool ended;
 };
-
-/* The first damaged byte from a place on. A call looks at no more than its limit; a character that is cut off there is looked at again. */
-static size_t find_damage(const uint8_t *bytes, size_t length, size_t at) {
-    while (at < length) {
-        size_t part = length - at < RUDIGNALS_MOST_NOTES ? length - at : RUDIGNALS_MOST_NOTES;
-        uint64_t answer = rudignals_measure(NULL, 0, bytes + at, part);
-        size_t place = rudignals_number_of(answer);
-        if (rudignals_code_of(answer) != RUDIGNALS_TEXT)
-            at += part;
-        else if (at + part == length || place + 4 <= part)
-            return at + place;
-        else
-            at += place;
-    }
-    return length;
-}
 
 /* The length of a well-formed character, by its first byte. */
 static size_t length_from(uint8_t first) { return first < 0x80 ? 1 : first < 0xE0 ? 2 : first < 0xF0 ? 3 : 4; }
@@ -74,7 +60,7 @@ static void read_damaged(struct reader *reader) {
     struct sign *sign = &reader->sign;
     *sign = (struct sign){reader->bytes + reader->at, 1, reader->bytes[reader->at], 1, true};
     reader->at++;
-    reader->damage = find_damage(reader->bytes, reader->length, reader->at);
+    reader->damage = first_damage(reader->bytes, reader->length, reader->at);
 }
 
 static void step(struct reader *reader) {
@@ -95,7 +81,7 @@ static void step(struct reader *reader) {
 }
 
 static struct reader reader_of(const uint8_t *bytes, size_t length) {
-    struct reader reader = {.bytes = bytes, .length = length, .damage = find_damage(bytes, length, 0)};
+    struct reader reader = {.bytes = bytes, .length = length, .damage = first_damage(bytes, length, 0)};
     step(&reader);
     return reader;
 }
