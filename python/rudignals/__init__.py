@@ -1,7 +1,8 @@
 """Rudignals: a paragraph formatter for operators' notes, in which every function is proved.
 
 >>> import rudignals
->>> print(rudignals.format("22:40 Pump 2 tripped on low pressure. Restarted by hand.\\n", width=30), end="")
+>>> notes = "22:40 Pump 2 tripped on low pressure. Restarted by hand.\\n"
+>>> print(rudignals.format(notes, width=30), end="")
 22:40 Pump 2 tripped on low
 pressure. Restarted by hand.
 

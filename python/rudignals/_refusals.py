@@ -14,10 +14,11 @@ class Refused(ValueError):
     from 0, and `line` and `column` are its line and its column in characters, from 1; elsewhere they are None. The message is the one that
     the command gives.
 
-    >>> rudignals.format(b"Valve at 40\\xb0, bled.\\n")
-    Traceback (most recent call last):
-        ...
-    rudignals.Refused: line 1, column 12: byte B0 begins no UTF-8 character; --keep leaves such a line as it is
+    >>> try:
+    ...     rudignals.format(b"Valve at 40\\xb0, bled.\\n")
+    ... except rudignals.Refused as refused:
+    ...     print(refused.code.name, refused.place, refused.line, refused.column)
+    TEXT 11 1 12
     """
 
     def __init__(self, words: str, code: Code, number: int = 0, place: int | None = None, line: int | None = None, column: int | None = None) -> None:

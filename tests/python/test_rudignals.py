@@ -179,7 +179,7 @@ class AgainstModels(unittest.TestCase):
         want += [(at, notes[at:])] if at < len(notes) or not notes else []
         self.assertEqual(list(_parts._cut(notes, most, _parts._blank_cut)), want)
 
-    @given(ANY, st.integers(1, 12))
+    @given(st.one_of(ANY, st.lists(st.sampled_from([b"a \r\n", b"b\r\n", b"> c \n", b"d\n", b"-- \r\n", b" "]), max_size=20).map(b"".join)), st.integers(1, 12))
     def test_cut_mail(self, mail, most):
         """Mail cut after fixed lines is read as the whole, and no part but one that cannot be cut is too long."""
         parts = [part for _, part in _parts._cut(mail, most, _parts._fixed_cut)]
@@ -242,7 +242,8 @@ class LongNotes(unittest.TestCase):
     def test_format_and_index(self):
         self.assertEqual(rudignals.format(self.notes, width=30), by_command("format", self.notes, {"width": 30})[1])
         self.assertEqual(rudignals.flow(self.notes, width=30), by_command("flow", self.notes, {"width": 30})[1])
-        self.assertEqual(len(rudignals.index(self.notes)), 4000)
+        lines = "".join(f'{{"place":{r.place},"length":{r.length},"first":{r.first + 1},"count":{r.count}}}\n' for r in rudignals.index(self.notes, width=30))
+        self.assertEqual(lines.encode(), by_command("index", self.notes, {"width": 30}, "--json")[1])
 
     def test_refused_far_in(self):
         with self.assertRaises(rudignals.Refused) as caught:
