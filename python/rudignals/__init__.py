@@ -21,7 +21,7 @@ import typing
 
 __all__ = ["Code", "Kind", "Mended", "Options", "Reason", "Record", "Refused", "check", "explain", "flow", "fold", "format", "index", "lookup", "measure", "mend", "panel",
            "restore", "unflow", "version"]
-__version__ = "1.0.0"
+__version__ = "1.1.0"
 
 Text = typing.TypeVar("Text", str, bytes)
 
@@ -32,7 +32,7 @@ PANEL_ROWS, PANEL_COLUMNS = 24, 80
 class Code(enum.IntEnum):
     """What a call answers."""
 
-    DONE, OPTIONS, LONG, TEXT, WORDS, ROOM, INDEX_FULL, LIST_FULL, NO_LINE, LONG_DIGEST, NOT_ACCEPTED, LIST, WORK = range(13)
+    DONE, OPTIONS, LONG, TEXT, WORDS, ROOM, INDEX_FULL, LIST_FULL, NO_LINE, LONG_DIGEST, NOT_ACCEPTED, LIST, WORK_ROOM = range(13)
 
 
 class Kind(enum.IntEnum):
