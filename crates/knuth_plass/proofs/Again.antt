@@ -10,14 +10,13 @@ use lib.Dec.{ltb, eqb}
 use lib.IntN.{pos}
 use lib.Ieee.{Float, fin}
 use Rattle.records.specs.Word.{Word, meaning}
-use Rattle.records.specs.declared.Word.{Word as WordRecord}
 use Rattle.spacing.specs.declared.Setting.{Setting}
 use Rattle.knuth_plass.specs.declared.Break.{Break as Record}
 use Rattle.knuth_plass.specs.declared.Turn.{Turn}
 use Rattle.knuth_plass.specs.declared.interval.Interval.{Interval}
-use Rattle.knuth_plass.specs.KnuthPlass.{Break, Place, beforeWord, minimumOf, restart, least}
-use Rattle.knuth_plass.specs.Contracts.Table.{ratioOf, Tables, breakIn, placeOf, pathIn, pathTo, seen, breakMeant, Sound}
-use Rattle.knuth_plass.specs.Contracts.Round.{Limits, Turns, extended, Restarted}
+use Rattle.knuth_plass.specs.KnuthPlass.{Break, Place, beforeWord, minimumOf, restart}
+use Rattle.knuth_plass.specs.Contracts.Table.{ratioOf, Tables, breakIn, placeOf, pathIn, pathTo, seen, breakMeant}
+use Rattle.knuth_plass.specs.Contracts.Round.{Limits, extended, Restarted}
 use Rattle.knuth_plass.specs.Contracts.Interval.{freshAt, view, Good, reachOf, entryAfter, entryRestart, FirstLeast, isFresh, viewOf, activeOf, Leaves, AgainIs}
 use Rattle.knuth_plass.proofs.Bases.{least-all, restart-view}
 

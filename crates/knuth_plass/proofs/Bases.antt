@@ -1,24 +1,21 @@
 -- Where no gap has a tab, an active break is a base and nothing of it changes from round to round; bases ascend, so breaks leave at the head alone.
 use mathlib.Core.Path.{_≡_, refl, sym, _∙_, ap}
 use mathlib.Core.Bool.{Bool, true, false, cond, not, _&&_}
-use mathlib.Core.List.{List, [], _∷_, _++_, map, map-append, append-nil}
+use mathlib.Core.List.{List, [], _∷_, _++_, map, map-append}
 use Prim.Native.Nat.{ℕ, suc, _+_, _-_, _≤_, _<_}
 use native.Mathlib.Omega.{arith}
-use borrow.Author.Tests.{ltb-true, ltb-false, lt-ltb, le-ltb, leb-true, leb-false, le-leb, lt-leb, eq-eqb, ne-eqb}
-use lib.Dec.{leb, ltb, eqb}
+use borrow.Author.Tests.{leb-true, leb-false, le-leb, lt-leb, eq-eqb, ne-eqb}
+use lib.Dec.{leb, ltb}
 use lib.IntN.{pos}
-use lib.ListN.{length, drop, length-append, length-drop}
-use lib.Seq.{drop-drop, drop-append-seam, drop-append-le}
 use lib.Ieee.{Float, fin}
 use Rattle.lists.specs.Theorems.All.{All}
-use Rattle.lists.proofs.All.{all-append, all-back, all-weaken}
+use Rattle.lists.proofs.All.{all-append, all-weaken}
 use Rattle.records.specs.Word.{Word}
-use Rattle.records.specs.declared.Before.{Before}
-use Rattle.records.specs.declared.Before.the-variants.{Absent, Count}
+use Rattle.records.specs.declared.Before.the-variants.{Absent}
 use Rattle.spacing.specs.Spacing.{addedSpace, gapWidth}
 use Rattle.spacing.specs.declared.Setting.{Setting}
-use Rattle.demerits.specs.Demerits.{noRatio, ratio, cost}
-use Rattle.knuth_plass.specs.KnuthPlass.{Break, Place, Offer, none, offer, after, beforeWord, stretchOf, minimumOf, firstBreak, reached, staying, offerOf, lesser, bestOffer, withOffer, leastFrom, least, restart, isLast, sentenceBehind, pathOf, marksFrom, bestBreaks}
+use Rattle.demerits.specs.Demerits.{noRatio, ratio}
+use Rattle.knuth_plass.specs.KnuthPlass.{Break, Place, Offer, none, offer, after, beforeWord, minimumOf, firstBreak, reached, staying, offerOf, lesser, bestOffer, withOffer, leastFrom, least, restart, isLast, sentenceBehind, pathOf}
 use Rattle.knuth_plass.specs.Contracts.Interval.{freshAt, view, BaseIs, MadeBelow, Good, lineTo, reachOf, pops, near, entryAfter, entryOffer, bestEntry, nearOffer, entryRestart, entrySettled, intervalRound, Some, Above, Rising, Ready, gapBehind}
 use Rattle.knuth_plass.proofs.Absolute.{plainOffer, plainSettled, plainRound, plainFrom, path-plain}
 
@@ -266,10 +263,6 @@ rising-append m (c ∷ cs) e r n q =
     let h = n .0 in
     (all-append (λ (d : Break). c .columns ≤ d .columns) cs (e ∷ []) (r .0) (omega arith, tt), rising-append m cs e (r .1) (n .1) q)
 
-some-append : (es : List Break) (e : Break) → Some (es ++ e ∷ [])
-some-append [] e = tt
-some-append (c ∷ cs) e = tt
-
 lesser-is : (P : Break → Type 0) (a b : Offer) → OfferIs P a → OfferIs P b → OfferIs P (lesser a b)
 unfolding lesser
 lesser-is P none b h k = k
@@ -396,13 +389,6 @@ path-interval g w ws h c =
     ∙ ap (λ (b : Break). least (plainFrom g false 1 (b ∷ []) ws) .places) (first-view g w)
     ∙ rounds-view g false 1 (g .first + w .width) (firstEntry g ∷ []) ws h c (first-ready g (g .first + w .width) (gapBehind ws))
 
--- the code's test looks at the last base alone
-pub last-above : (m : ℕ) (es : List Break) (e : Break) → Rising (es ++ e ∷ []) → e .columns ≤ m → NotPast m (es ++ e ∷ [])
-last-above m [] e r h = (h, tt)
-last-above m (c ∷ cs) e r h =
-    let k = all-back (λ (d : Break). c .columns ≤ d .columns) cs (e ∷ []) (r .0) .0 in
-    (omega arith, last-above m cs e (r .1) h)
-
 -- ---- (3) where no base falls
 
 climbs-low : (m : ℕ) (ns : List Break) (o : Offer) → NotPast m ns → Climbs m ns o
@@ -497,81 +483,6 @@ lone-never g sentence i p e (w ∷ ws) f h =
 
 pub indent-never : (g : Setting) (w : Word) (ws : List Word) → g .indent ≤ minimumOf g → NeverFalls g false 1 (g .first + w .width) (firstEntry g ∷ []) ws
 indent-never g w ws h = lone-never g false 1 (g .first + w .width) (firstEntry g) ws refl h
-
--- ---- the list is an interval: the table from a head on, and the table only grows at its end
-
-unfoldable pub popped : Setting → ℕ → List Break → ℕ
-popped g x [] = 0
-popped g x (e ∷ es) = elim (leb (reachOf g x e) (g .width)) [ true ↦ 0 | false ↦ suc (popped g x es) ]
-
-popped-one : (g : Setting) (x : ℕ) (e : Break) (es : List Break) (y : Bool) → leb (reachOf g x e) (g .width) ≡ y → (pops g x es ≡ drop (popped g x es) es) × (popped g x es ≤ length es)
-    → (pops g x (e ∷ es) ≡ drop (popped g x (e ∷ es)) (e ∷ es)) × (popped g x (e ∷ es) ≤ length (e ∷ es))
-unfolding pops popped
-popped-one g x e es true z r = (rw (pops, popped, z), rw (popped, z) (omega arith))
-popped-one g x e es false z r = let k = r .1 in (rw (pops, popped, z) (r .0), rw (popped, z) (omega arith))
-
-pub pops-drop : (g : Setting) (x : ℕ) (es : List Break) → (pops g x es ≡ drop (popped g x es) es) × (popped g x es ≤ length es)
-unfolding pops popped
-pops-drop g x [] = (refl, omega arith)
-pops-drop g x (e ∷ es) = popped-one g x e es (leb (reachOf g x e) (g .width)) refl (pops-drop g x es)
-
--- the next list: the table with at most one entry more, from a head that does not go back
-pub record Slid (table : List Break) (head : ℕ) (next : List Break) : Type 0 where
-  pub new : List Break
-  pub to : ℕ
-  pub few : length new ≤ 1
-  pub on : head ≤ to
-  pub within : to ≤ length (table ++ new)
-  pub is : next ≡ drop to (table ++ new)
-
-module _ (g : Setting) (i p x gap : ℕ) (w : Word) (table : List Break) (head : ℕ) where
-  slid-by : (o : Offer) (es ns : List Break) (to : ℕ) → head ≤ to → to ≤ length table → ns ≡ drop to table → Slid table head (entrySettled g i p x gap w es (withOffer ns o))
-  slid-by none es [] to h l e = record {
-    new = entryRestart g i p x gap w (least es) ∷ [];
-    to = length table;
-    few = omega arith;
-    on = omega arith;
-    within = rw (length-append table (entryRestart g i p x gap w (least es) ∷ [])) (omega arith);
-    is = sym (drop-append-seam table (entryRestart g i p x gap w (least es) ∷ []));
-  }
-  slid-by none es (n ∷ ns) to h l e = record { new = []; to = to; few = omega arith; on = h; within = rw (append-nil table) l; is = rw (append-nil table) e }
-  slid-by (offer b) es [] to h l e = record {
-    new = b ∷ [];
-    to = to;
-    few = omega arith;
-    on = h;
-    within = rw (length-append table (b ∷ [])) (omega arith);
-    is = ap (λ (l : List Break). l ++ b ∷ []) e ∙ sym (drop-append-le to table (b ∷ []) l);
-  }
-  slid-by (offer b) es (n ∷ ns) to h l e = record {
-    new = b ∷ [];
-    to = to;
-    few = omega arith;
-    on = h;
-    within = rw (length-append table (b ∷ [])) (omega arith);
-    is = ap (λ (l : List Break). l ++ b ∷ []) e ∙ sym (drop-append-le to table (b ∷ []) l);
-  }
-
-  pub round-slides : (lastWord : Bool) → head ≤ length table → Slid table head (intervalRound g lastWord i p x gap w (drop head table))
-  unfolding intervalRound
-  round-slides lastWord h =
-      let es = drop head table in
-      let k = pops-drop g x es in
-      let m : length (drop head table) ≡ length table - head = length-drop head table in
-      let j : popped g x (drop head table) ≤ length (drop head table) = k .1 in
-      slid-by (nearOffer g lastWord i x gap w (pops g x es)) es (pops g x es) (head + popped g x es) (omega arith) (omega arith)
-      (k .0 ∙ drop-drop (popped g x es) head table)
-
--- ---- the breaks
-
-pub breaks-interval : (g : Setting) (w : Word) (ws : List Word) → All Tabless ws → NeverFalls g false 1 (g .first + w .width) (firstEntry g ∷ []) ws
-    → bestBreaks g (w ∷ ws) ≡ marksFrom (least (intervalFrom g false 1 (g .first + w .width) (firstEntry g ∷ []) ws) .places) 1 ws
-unfolding bestBreaks
-breaks-interval g w ws h c = ap (λ (path : List Place). marksFrom path 1 ws) (path-interval g w ws h c)
-
-pub breaks-indent : (g : Setting) (w : Word) (ws : List Word) → All Tabless ws → g .indent ≤ minimumOf g
-    → bestBreaks g (w ∷ ws) ≡ marksFrom (least (intervalFrom g false 1 (g .first + w .width) (firstEntry g ∷ []) ws) .places) 1 ws
-breaks-indent g w ws h l = breaks-interval g w ws h (indent-never g w ws l)
 
 -- every entry reaches no less than the indent, so that no subtraction is cut off
 pub reach-exact : (g : Setting) (i p s : ℕ) (w : Word) (e : Break) → Good g i p (w .after) e → e .columns ≤ lineTo p s w + g .indent

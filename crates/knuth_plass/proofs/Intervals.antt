@@ -1,12 +1,12 @@
 -- A paragraph's rounds on the interval: one after the other, from the paragraph's start to the path.
 use mathlib.Core.Path.{_≡_, refl, sym, subst, _∙_, ap}
 use mathlib.Core.Bool.{Bool, true, false, cond}
-use mathlib.Core.List.{List, [], _∷_, _++_, map}
-use mathlib.Core.Logic.{_⊎_, ⊎-elim}
-use Prim.Native.Nat.{ℕ, zero, suc, _+_, _-_, _*_, _^_, _≤_, _<_}
+use mathlib.Core.List.{List, [], _∷_}
+use mathlib.Core.Logic.{⊎-elim}
+use Prim.Native.Nat.{ℕ, zero, suc, _+_, _^_, _≤_, _<_}
 use native.Mathlib.Numerals.{add-one}
 use native.Mathlib.Omega.{arith}
-use borrow.Author.Tests.{lt-ltb, le-ltb, ltb-true, ltb-false, eqb-true, eqb-false}
+use borrow.Author.Tests.{ltb-true, ltb-false, eqb-true, eqb-false}
 use lib.Dec.{eqb, ltb}
 use lib.ListN.{length, drop}
 use Rattle.lists.specs.Theorems.All.{All}
@@ -21,10 +21,10 @@ use Rattle.spacing.specs.declared.Setting.{Setting}
 use Rattle.demerits.specs.Demerits.{noRatio}
 use Rattle.knuth_plass.specs.declared.Break.{Break as Record}
 use Rattle.knuth_plass.specs.declared.interval.Interval.{Interval}
-use Rattle.knuth_plass.specs.KnuthPlass.{Break, isLast, sentenceBehind, least, pathOf, minimumOf}
+use Rattle.knuth_plass.specs.KnuthPlass.{Break, isLast, sentenceBehind, least}
 use Rattle.knuth_plass.specs.Contracts.Table.{ratioOf, Tables, Sized, withBreak, seen, breakMeant, Sound, Filled}
 use Rattle.knuth_plass.specs.Contracts.Round.{Limits, Worked, PathIs}
-use Rattle.knuth_plass.specs.Contracts.Interval.{lineTo, intervalRound, Ready, gapBehind, span, FirstLeast, activeOf, Between, IntervalIs, gapAfter, IntervalsAre, lineRoom, OneLine, Regular}
+use Rattle.knuth_plass.specs.Contracts.Interval.{lineTo, intervalRound, Ready, gapBehind, FirstLeast, activeOf, Between, IntervalIs, gapAfter, IntervalsAre, lineRoom, OneLine, Regular}
 use Rattle.knuth_plass.proofs.Table.{sized-with, read-back}
 use Rattle.knuth_plass.proofs.Filled.{filled-leads}
 use Rattle.knuth_plass.proofs.Path.{path-start}

@@ -1,6 +1,6 @@
 -- A round on the interval in the code's table: nothing stays and one begins again; none is offered; or the best offer is one entry more.
 use mathlib.Core.Path.{_≡_, refl, sym, _∙_, ap}
-use mathlib.Core.Bool.{Bool, true, false, cond, _&&_, true≢false}
+use mathlib.Core.Bool.{Bool, true, false, cond, true≢false}
 use mathlib.Core.List.{List, [], _∷_, _++_}
 use Prim.Native.Nat.{ℕ, suc, _+_, _-_, _^_, _≤_, _<_}
 use native.Mathlib.Numerals.{add-one}
@@ -15,12 +15,11 @@ use Rattle.spacing.specs.Spacing.{addedSpace}
 use Rattle.spacing.specs.declared.Setting.{Setting}
 use Rattle.knuth_plass.specs.declared.Break.{Break as Record}
 use Rattle.knuth_plass.specs.declared.Best.{Best}
-use Rattle.knuth_plass.specs.declared.Turn.{Turn}
 use Rattle.knuth_plass.specs.declared.interval.Interval.{Interval}
-use Rattle.knuth_plass.specs.KnuthPlass.{Break, Offer, none, offer, minimumOf, lesser, withOffer, least}
-use Rattle.knuth_plass.specs.Contracts.Table.{mostWords, ratioOf, Tables, breakIn, withBreak, placeOf, pathTo, seen, breakMeant, Sound, Filled, Fits}
-use Rattle.knuth_plass.specs.Contracts.Round.{Limits, Turns, turnOf, Turnable, BestFits, nothing, offerMade}
-use Rattle.knuth_plass.specs.Contracts.Interval.{Good, reachOf, lineTo, pops, near, entryOffer, bestEntry, nearOffer, entryRestart, entrySettled, intervalRound, span, PassIs, Stay, BestOffered, activeOf, Between, Leaves, AgainIs, MadeIs, Plain, IntervalIs}
+use Rattle.knuth_plass.specs.KnuthPlass.{Break, Offer, none, offer, minimumOf, lesser}
+use Rattle.knuth_plass.specs.Contracts.Table.{Tables, breakIn, withBreak, placeOf, pathTo, seen, breakMeant, Sound, Filled, Fits}
+use Rattle.knuth_plass.specs.Contracts.Round.{Limits, Turns, turnOf, Turnable, nothing, offerMade}
+use Rattle.knuth_plass.specs.Contracts.Interval.{Good, reachOf, pops, near, entryOffer, bestEntry, nearOffer, intervalRound, span, PassIs, Stay, BestOffered, activeOf, Between, Leaves, AgainIs, MadeIs, Plain, IntervalIs}
 use Rattle.knuth_plass.proofs.Filled.{filled-later, filled-more}
 use Rattle.knuth_plass.proofs.Offers.{offer-some, offer-none}
 use Rattle.knuth_plass.proofs.Bases.{fitting, fitting-pops, reach-exact}

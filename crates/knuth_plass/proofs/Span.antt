@@ -6,7 +6,7 @@ use Prim.Native.Nat.{ℕ, zero, suc, _+_, _-_, _≤_, _<_}
 use native.Mathlib.Numerals.{add-one}
 use native.Mathlib.Omega.{arith}
 use borrow.Author.Tests.{le-leb, lt-leb, eqb-true, eqb-false}
-use lib.Dec.{leb, eqb}
+use lib.Dec.{eqb}
 use lib.ListN.{length}
 use Rattle.lists.specs.Theorems.All.{All}
 use Rattle.records.specs.Word.{Word, meaning}
@@ -15,7 +15,7 @@ use Rattle.spacing.specs.declared.Setting.{Setting}
 use Rattle.knuth_plass.specs.declared.Break.{Break as Record}
 use Rattle.knuth_plass.specs.declared.Best.{Best}
 use Rattle.knuth_plass.specs.declared.Turn.{Turn}
-use Rattle.knuth_plass.specs.KnuthPlass.{Break, Offer, none, offer, minimumOf, lesser, leastFrom, least}
+use Rattle.knuth_plass.specs.KnuthPlass.{Break, Offer, minimumOf, lesser, leastFrom, least}
 use Rattle.knuth_plass.specs.Contracts.Table.{Tables, tableIn, breakNumber, recordAt, Sized, withBreak, breakIn, placeOf, pathTo, seen, breakMeant, lesserIn}
 use Rattle.knuth_plass.specs.Contracts.Round.{nothing, offerMade, offerAt, OfferedIs}
 use Rattle.knuth_plass.proofs.Table.{table-at}

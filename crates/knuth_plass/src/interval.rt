@@ -1,14 +1,14 @@
 // Knuth-Plass where no gap has a tab: the active breaks are an interval of the table, and a round changes none of its records. A record's
 // columns are its base: the column of one endless line at which its own line begins, less the indent.
-use records::Before;
-use records::Word;
-use spacing::Setting;
 use super::Best;
 use super::Break;
 use super::Turn;
+use records::Before;
+use records::Word;
+use spacing::Setting;
 ghost use mathlib.Core.Path.{_≡_};
 ghost use mathlib.Core.Bool.{cond, true, false};
-ghost use Prim.Native.Nat.{ℕ, _+_, _-_, _*_, _<_, _≤_, _^_};
+ghost use Prim.Native.Nat.{_+_, _-_, _*_, _<_, _≤_, _^_};
 ghost use lib.Dec as D;
 ghost use lib.ListN.{length};
 ghost use Rattle.records.specs.declared.Before.the-variants.{Absent};
@@ -308,7 +308,16 @@ fn rounds(g: Setting, work: &mut [u32], n: usize) -> Interval
     while i < n {
         let word = records::get(work, i);
         let gap = gap_behind(work, n, i);
-        s = round(g, word, gap, i, i + 1 == n, sentence, s, &mut work[base..end]);
+        s = round(
+            g,
+            word,
+            gap,
+            i,
+            i + 1 == n,
+            sentence,
+            s,
+            &mut work[base..end],
+        );
         sentence = super::sentence_behind(work, n, i);
         i += 1;
     }

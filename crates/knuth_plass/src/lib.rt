@@ -1,5 +1,6 @@
 // Knuth-Plass: the best breaks of a paragraph, one round for each word over the active breaks.
 mod interval;
+
 use endings::Ending;
 use records::Before;
 use records::Word;

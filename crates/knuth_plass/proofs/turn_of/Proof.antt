@@ -1,7 +1,6 @@
 -- `knuth_plass::turn_of` meets its contract. The weight is the word's.
 use mathlib.Core.Path.{refl}
 use native.Mathlib.Omega.{arith}
-use Rattle.knuth_plass.specs.Contracts.Round.{Turns}
 use borrow.Author.Needs.{needs}
 use Rattle.knuth_plass.proofs.turn_of.Statement.{statement}
 use Rattle.knuth_plass.proofs.turn_of.Tie as tie

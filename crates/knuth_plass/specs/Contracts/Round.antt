@@ -20,7 +20,7 @@ use Rattle.knuth_plass.specs.declared.Best.{Best}
 use Rattle.knuth_plass.specs.declared.Turn.{Turn}
 use Rattle.knuth_plass.specs.declared.State.{State}
 use Rattle.knuth_plass.specs.declared.Standing.{Standing}
-use Rattle.knuth_plass.specs.KnuthPlass.{stretchOf, minimumOf, Place, Break, Active, Offer, none, offer, after, reduced, staying, lesser, offerOf, bestOffer, leastFrom, least, restart, settled, withOffer, round, firstBreak, roundsFrom, pathOf, startsLine, bestBreaks}
+use Rattle.knuth_plass.specs.KnuthPlass.{stretchOf, minimumOf, Place, Break, Active, Offer, none, offer, after, reduced, staying, lesser, bestOffer, leastFrom, least, restart, settled, withOffer, round, firstBreak, roundsFrom, pathOf, startsLine, bestBreaks}
 use Rattle.knuth_plass.specs.Contracts.Table.{mostWords, Tables, Sized, breakIn, placeOf, pathTo, seen, breakMeant, Sound, Filled, Leads, Ascends}
 
 -- ---- what can be asked of a caller

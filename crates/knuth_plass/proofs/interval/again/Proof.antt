@@ -1,8 +1,6 @@
 -- `knuth_plass::interval::again` meets its contract. The least entry, seen as an active break, begins again; its base is put in.
 use native.Mathlib.Omega.{arith}
-use mathlib.Core.Path.{_∙_, ap}
-use Rattle.knuth_plass.specs.Contracts.Interval.{viewOf}
-use Rattle.knuth_plass.specs.Contracts.Table.{tableIn, breakIn}
+use Rattle.knuth_plass.specs.Contracts.Table.{tableIn}
 use Rattle.knuth_plass.proofs.Again.{again-from, view-small}
 use borrow.Author.Needs.{needs}
 use Rattle.knuth_plass.proofs.interval.again.Statement.{statement}

@@ -1,12 +1,12 @@
 -- `knuth_plass::interval::best_offer` meets its contract. Invariant: the best so far and the best of those left are the best of all.
-use mathlib.Core.Path.{_≡_, refl, sym, ap, _∙_}
+use mathlib.Core.Path.{_≡_, sym, _∙_}
 use mathlib.Core.Bool.{false}
 use mathlib.Core.List.{List}
 use Prim.Native.Nat.{ℕ, _+_, _-_, _≤_, _<_}
 use native.Mathlib.Omega.{arith}
 use Rattle.records.specs.Word.{meaning}
-use Rattle.knuth_plass.specs.KnuthPlass.{Offer, lesser}
-use Rattle.knuth_plass.specs.Contracts.Table.{tableIn, breakIn, breakMeant, seen}
+use Rattle.knuth_plass.specs.KnuthPlass.{lesser}
+use Rattle.knuth_plass.specs.Contracts.Table.{tableIn}
 use Rattle.knuth_plass.specs.Contracts.Round.{BestFits, nothing, offerMade}
 use Rattle.knuth_plass.specs.Contracts.Interval.{near, bestEntry, span}
 use Rattle.knuth_plass.proofs.Span.{offers-begin, offers-stop, offers-next, offers-end, columns-meant}

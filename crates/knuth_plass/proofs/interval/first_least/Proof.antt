@@ -1,6 +1,6 @@
 -- `knuth_plass::interval::first_least` meets its contract. Invariant: the least of the one found and the rest is the least of all.
 use mathlib.Core.Path.{_≡_, _∙_, sym}
-use Prim.Native.Nat.{_+_, _-_, _≤_, _<_}
+use Prim.Native.Nat.{_-_, _≤_, _<_}
 use native.Mathlib.Omega.{arith}
 use Rattle.knuth_plass.specs.KnuthPlass.{leastFrom, least}
 use Rattle.knuth_plass.specs.Contracts.Table.{tableIn, breakMeant}

@@ -1,5 +1,5 @@
 -- `knuth_plass::interval::fits_one_line` meets its contract. Invariant: the words so far have no tab, and take so much of the line.
-use mathlib.Core.Path.{_≡_, refl, sym, _∙_}
+use mathlib.Core.Path.{_≡_}
 use mathlib.Core.Bool.{false≢true}
 use Prim.Native.Nat.{ℕ, _+_, _-_, _*_, _^_, _≤_, _<_}
 use native.Mathlib.Omega.{arith}

@@ -1,6 +1,5 @@
 -- `knuth_plass::interval::is_regular` meets its contract.
 use mathlib.Core.Bool.{false≢true}
-use borrow.Author.Needs.{needs}
 use Rattle.knuth_plass.proofs.interval.is_regular.Statement.{statement}
 use Rattle.knuth_plass.proofs.interval.is_regular.Tie as tie
 

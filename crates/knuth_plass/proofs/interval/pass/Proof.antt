@@ -1,8 +1,8 @@
 -- `knuth_plass::interval::pass` meets its contract. Invariant: what stays of those from here is what stays of all.
-use mathlib.Core.Path.{_≡_, refl, sym, _∙_}
-use Prim.Native.Nat.{_+_, _-_, _≤_, _<_}
+use mathlib.Core.Path.{_≡_, refl, _∙_}
+use Prim.Native.Nat.{_-_, _≤_}
 use native.Mathlib.Omega.{arith}
-use Rattle.knuth_plass.specs.Contracts.Table.{tableIn, breakMeant}
+use Rattle.knuth_plass.specs.Contracts.Table.{tableIn}
 use Rattle.knuth_plass.specs.Contracts.Interval.{pops, span}
 use Rattle.knuth_plass.proofs.Table.{has-room}
 use Rattle.knuth_plass.proofs.Span.{columns-at, pass-stops, pass-goes, pass-ends}

@@ -1,5 +1,5 @@
 -- `knuth_plass::interval::rounds` meets its contract. Invariant: the rounds still to do come to what all rounds come to from the start.
-use mathlib.Core.Path.{_≡_, refl, sym, ap, _∙_}
+use mathlib.Core.Path.{refl, sym, ap, _∙_}
 use Prim.Native.Nat.{_≤_, _-_}
 use native.Mathlib.Omega.{arith}
 use lib.Ieee.{ofBits}
@@ -70,7 +70,7 @@ loop-holds c =
       worked-lent (a .n) (a .work .now) _ worked (p .2),
       worked-none (a .n) _,
       along-start (a .g) (a .n) _ (p .0) (regular-then (a .n) (a .work .now) _ worked (a .g) (p .4)) (p .1) 0 refl (tableIn (recordsPart (a .n) (a .work .now))) (part-sized (a .n) (a .work .now) (p .2)) (rw room (omega arith)) _ _
-      (c .before .before .before .before .before .before .get .ensures .is ∙ sym (worked-word (a .n) (a .work .now) _ worked 0 (p .1))) stored,
+          (c .before .before .before .before .before .before .get .ensures .is ∙ sym (worked-word (a .n) (a .work .now) _ worked 0 (p .1))) stored,
     )
 
 get-requires-2 : tie.Need-get-requires-2 Inv-loop μ-loop
@@ -151,8 +151,8 @@ loop-again c =
       worked-lent (a .n) (l .work) _ next (v .2),
       worked-then (a .n) _ (l .work) (v .3) _ next,
       along-next (a .g) (a .n) _ (l .i) (l .sentence) (l .s) (tableIn (recordsPart (a .n) (l .work))) (v .4) t _ _ _
-      (rw (home, ← word, ← gap) (c .before .before .before .before .round .ensures))
-      (λ notes. behind-home (a .n) _ (l .work) _ _ (v .3) next home (l .i) t _ (got .is) notes _ (c .sentence-behind .ensures notes)),
+          (rw (home, ← word, ← gap) (c .before .before .before .before .round .ensures))
+          (λ notes. behind-home (a .n) _ (l .work) _ _ (v .3) next home (l .i) t _ (got .is) notes _ (c .sentence-behind .ensures notes)),
     )
 
 same-length : tie.Need-same-length Inv-loop μ-loop
