@@ -120,7 +120,7 @@ module _ (l : Limits) (block notes : List ℕ) where
   as-written out w e h = rw (written-at-once l block notes (length out) ∙ e) h
 
   module _ {most : ℕ} {r : Reply} where
-    refusal-measured : Refuses most (λ then. withBlock l then block notes (readBlock block)) r → r ≡ told (measuring l block notes)
+    pub refusal-measured : Refuses most (λ then. withBlock l then block notes (readBlock block)) r → r ≡ told (measuring l block notes)
     unfolding measuring
     refusal-measured f = f .is ∙ ap told (sym (f .whole-is (measured (l .words))))
 

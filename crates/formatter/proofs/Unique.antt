@@ -21,7 +21,7 @@ use Rattle.formatter.specs.declared.Admission.{Admission}
 use Rattle.formatter.specs.declared.Admission.the-variants.{Refused, Passed}
 
 -- where none of codes 1 to 3 is due, what is answered hangs on the digest or has a later code: it is no refusal of theirs
-later : (w : Words) (o : Opts) (notes : List ℕ) → 4 ≤ code (within w (λ d. words 0) o notes)
+pub later : (w : Words) (o : Opts) (notes : List ℕ) → 4 ≤ code (within w (λ d. words 0) o notes)
 later (upTo most) o notes = go (longParagraph most o 0 (pieces o notes))
   where
     go : (f : Found) → 4 ≤ code (withWords (λ d. words 0) o notes f)
@@ -33,7 +33,7 @@ later (lent lends need) o notes = go (ltb lends (need o notes))
     go true = omega arith
     go false = omega arith
 
-hangs : (l : Limits) (refusal : Answer) (o : Opts) (notes : List ℕ) → code refusal ≤ 3 → ((then : List ℕ → Answer) → refusal ≡ leftOf l o notes then) → {A : Type 0} → A
+pub hangs : (l : Limits) (refusal : Answer) (o : Opts) (notes : List ℕ) → code refusal ≤ 3 → ((then : List ℕ → Answer) → refusal ≡ leftOf l o notes then) → {A : Type 0} → A
 hangs l refusal o notes u h = absurd (let k = later (l .words) o notes in let e = ap code (h (λ d. words 0)) in omega (arith, k, e, u))
 
 pub admission-unique : (l : Limits) (block notes : List ℕ) (a b : Admission) → Admits l block notes a → Admits l block notes b → a ≡ b

@@ -17,6 +17,7 @@ use Rattle.options.specs.declared.Options.{Options}
 use Rattle.lines.specs.Lines.{linesOf}
 use Rattle.lines.proofs.Extents.{lines-extents}
 use Rattle.pieces.specs.Pieces.{Piece, Kind, blankLine, plainLine, paragraph, pieces}
+use Rattle.pieces.specs.Contracts.Bounds.{AllBegin}
 use Rattle.pieces.specs.declared.Paragraph.{Paragraph as ParagraphAt}
 use Rattle.words.specs.Words.{wordsOf}
 use Rattle.words.proofs.Rows.{words-same}
@@ -83,6 +84,11 @@ module _ (o : Opts) (notes : List ℕ) where
   work-line most nextMail at z g = work-on most nextMail at (omega (arith, z)) g
 
 -- ---- a paragraph
+
+-- its lines' words begin where the code was told
+pub text-begins : (block notes : List ℕ) (o : Options) (nextMail : Bool) (at : ℕ) (p : ParagraphAt) → TextGoes (meant block o) nextMail notes at p → p .mail ≡ false → AllBegin (o .glue) (p .start) (p .later) (linesOf (slice at (p .next) notes))
+unfolding meant
+text-begins block notes o nextMail at p g = g .bounds .begins
 
 -- it has a byte for each word and one between two
 pub text-half : (block notes : List ℕ) (o : Options) (nextMail : Bool) (at : ℕ) (p : ParagraphAt) → TextGoes (meant block o) nextMail notes at p → (other : List ℕ) → 2 * length (wordsFor other notes at o p) ≤ p .next - at + 1

@@ -42,14 +42,18 @@ use Rattle.walk.proofs.Loop.{going-over}
 
 -- ---- what the block's options allow
 
+-- the piece that the code found at a place, with the bounds promised of it
+pub usable-goes : (block notes : List ℕ) (o : Options) → Usable block o → Cleared o → length notes ≤ mostLarge → (nextMail : Bool) (at : ℕ) (r s : PieceAt) → at < length notes
+    → (r ≡ pieceAt (meant block o) nextMail notes at) × Bounded (o .glue) notes at r → r ≡ s → PieceGoes (meant block o) nextMail notes at s
+unfolding meant
+usable-goes block notes o u cleared short nextMail at r s h p q =
+    let m = means (meant block o) nextMail notes at h (u .least) (u .most) short cleared in
+    piece-goes (meant block o) nextMail notes at s (rw (sym q ∙ p .0) m) (rw q at (p .1))
+
 -- in notes that are not too long, under options that a block can give
 module _ (block notes : List ℕ) (o : Options) (kept : Kept block o) (short : length notes ≤ mostLarge) (nextMail : Bool) (at : ℕ) where
-  -- the piece that the code found at a place, with the bounds promised of it
   pub piece-found : (r s : PieceAt) → at < length notes → (r ≡ pieceAt (meant block o) nextMail notes at) × Bounded (o .glue) notes at r → r ≡ s → PieceGoes (meant block o) nextMail notes at s
-  unfolding meant
-  piece-found r s h p q =
-      let m = means (meant block o) nextMail notes at h (kept .tabLeast) (kept .tabMost) short (kept .splitClears) in
-      piece-goes (meant block o) nextMail notes at s (rw (sym q ∙ p .0) m) (rw q at (p .1))
+  piece-found r s h p q = usable-goes block notes o (usable block o kept) (kept .splitClears) short nextMail at r s h p q
 
   -- a paragraph lies in the notes, with limits that keep all sums small
   module _ (p : ParagraphAt) (q : Paragraph) (text : TextIs (meant block o) notes at p q) (bounds : ParagraphWithin (meant block o .glue) notes at p) where

@@ -9,10 +9,15 @@ ghost use mathlib.Core.Bool.{true, false, cond};
 ghost use mathlib.Core.List.{List};
 ghost use Prim.Native.Nat.{ℕ, _+_, _-_, _*_, _≤_, max};
 ghost use lib.ListN.{length, replicate};
+ghost use lib.Seq.{slice};
 ghost use Rattle.text.specs.declared.Found.the-variants.{Nowhere};
 ghost use Rattle.options.specs.Opts.{meant};
+ghost use Rattle.lines.specs.Lines.{linesOf};
+ghost use Rattle.lines.specs.Contracts.Places.{mostLarge, Usable};
+ghost use Rattle.pieces.specs.Contracts.Places.{Cleared};
+ghost use Rattle.pieces.specs.Contracts.Bounds.{AllBegin};
 ghost use Rattle.output.specs.Contracts.Sink.{Wrote};
-ghost use Rattle.paragraphs.specs.Contracts.Steps.{roomFor, wordsFor, Placed};
+ghost use Rattle.paragraphs.specs.Contracts.Steps.{roomFor, wordsFor};
 ghost use Rattle.walk.specs.Digest.{mostWords, digest};
 ghost use Rattle.walk.specs.Work.{workFor};
 ghost use Rattle.walk.specs.Contracts.Course.{CursorIn, TextAhead, Reached, Admitted, outputFrom, longFrom, Coursed, Begun, start, Finished, FinishedFrom};
@@ -90,6 +95,14 @@ pub fn work_over(o: Options, block: &[u8], notes: &[u8], lent: usize) -> usize
     requires { ⌜ Admitted (now block) (now notes) o ⌝ }
     ensures { λ r. ⌜ r ≡ max lent (workFor (meant (now (block .entry)) o) (now (notes .entry))) ⌝ }
 {
+    work_with(o, block, notes, lent)
+}
+
+// The same with options of which some may have been turned on since the block was read.
+pub fn work_with(o: Options, block: &[u8], notes: &[u8], lent: usize) -> usize
+    requires { ⌜ (length (now notes) ≤ mostLarge) × Usable (now block) o × Cleared o ⌝ }
+    ensures { λ r. ⌜ r ≡ max lent (workFor (meant (now (block .entry)) o) (now (notes .entry))) ⌝ }
+{
     if paragraphs::numbers_for(o.quick, (notes.len() + 1) / 2) <= lent {
         return lent;
     }
@@ -118,7 +131,7 @@ pub fn work_over(o: Options, block: &[u8], notes: &[u8], lent: usize) -> usize
 
 // The same of a paragraph, whose words are counted only where its bytes do not show it.
 fn with_paragraph(o: Options, notes: &[u8], at: usize, p: Paragraph, most: usize) -> usize
-    requires { ⌜ Placed (now notes) at o p × ((block : List ℕ) → 2 * length (wordsFor block (now notes) at o p) ≤ p .next - at + 1) ⌝ }
+    requires { ⌜ (at ≤ p .next) × (p .next ≤ length (now notes)) × (length (now notes) ≤ mostLarge) × (1 ≤ o .tab) × (o .tab ≤ 100) × (p .mail ≡ false → AllBegin (o .glue) (p .start) (p .later) (linesOf (slice at (p .next) (now notes)))) × ((block : List ℕ) → 2 * length (wordsFor block (now notes) at o p) ≤ p .next - at + 1) ⌝ }
     ensures { λ r. ⌜ ((block : List ℕ) → r ≡ max most (cond (o .quick) 7 15 * length (wordsFor block (now (notes .entry)) at o p))) ⌝ }
 {
     if paragraphs::numbers_for(o.quick, (p.next - at + 1) / 2) <= most {
