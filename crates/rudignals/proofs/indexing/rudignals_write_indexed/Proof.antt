@@ -136,7 +136,7 @@ module _ {M : Type 1} (𝓤 : URA M) (H : Heap 𝓤) (A : Atoms 𝓤) (W : Given
 
     write-marked-goes : ent 𝓤 (⋆ 𝓤 H A ToWrite) (WriteMarked 𝓤 H A mem run .pre to-write-marked)
     write-marked-goes =
-        qed W ToWrite ∵ says ! (length-replicate 19456 0) $ nothing ! $ move ! (1 ∷ 2 ∷ 3 ∷ 4 ∷ 5 ∷ 0 ∷ []) $ group ! 6 $ frame ! $
+        qed W ToWrite ∵ says ! (length-replicate {A = ℕ} 19456 0) $ nothing ! $ move ! (1 ∷ 2 ∷ 3 ∷ 4 ∷ 5 ∷ 0 ∷ []) $ group ! 6 $ frame ! $
         nothing ! $ move ! (5 ∷ 0 ∷ []) $ fjoin ! $ move ! (4 ∷ 0 ∷ []) $ fjoin ! $ owned ! usize (Is usize) (uint-makes 𝓤 H A W w64) (length (index .now)) _ (refl, index-room .0) $ fjoin ! $
         move ! (3 ∷ 0 ∷ []) $ fjoin ! $ move ! (2 ∷ 0 ∷ []) $ fjoin ! $ move ! (1 ∷ 0 ∷ []) $ fjoin ! $ done !
 
