@@ -102,7 +102,6 @@ module _ {M : Type 1} (𝓤 : URA M) (H : Heap 𝓤) (A : Atoms 𝓤) (W : Given
   abbrev Noted : List ℕ → ℕ → List ℕ → Told → Type 0
   Noted out′ filled′ ms t = Marked answer (length (index .now)) (output .now) out′ filled′ ms t
 
-
   -- what is had at exit
   abbrev Has : List ℕ → List Record → ℕ → List (Item 𝓤)
   Has out′ index′ filled′ = ‵ (flft κ₀ q₀) ∷ ‵ (flft κ₁ q₁) ∷ ‵ (flft κ₂ q₂) ∷ ‵ (flft κ₃ q₃) ∷ ‵ (flft κ₄ q₄) ∷ ‵ (finally u8 (output .name) out′) ∷ ‵ (finally R (index .name) index′) ∷ ‵ (fres (filled .name) (u64 .coded .code filled′)) ∷ []
