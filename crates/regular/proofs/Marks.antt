@@ -18,7 +18,7 @@ use Rattle.output.proofs.Sink.{left-first}
 use Rattle.regular.specs.declared.State.{State}
 use Rattle.regular.specs.declared.Reached.{Reached}
 use Rattle.regular.specs.Contracts.Regular.{notSpace, isRegular, stretchWords, lastly, freshPunct, quickRest}
-use Rattle.regular.specs.Contracts.Places.{NoSpace, FirstSpace, Inked, Joined, RegularTo, AllRegular, Went}
+use Rattle.regular.specs.Contracts.Places.{NoSpace, FirstSpace, Inked, Joined, EachRegular, RegularTo, AllRegular, Went}
 use Rattle.regular.proofs.Searches.{up}
 use Rattle.regular.proofs.Fresh.{no-words}
 use Rattle.regular.proofs.Parts.{part-at, part-ink, part-spaced}
@@ -31,6 +31,13 @@ regular-below b h = rw (lt-leb 32 b h)
 
 pub regular-above : (b : ℕ) → 127 < b → isRegular b ≡ false
 regular-above b h = let l : 128 ≤ b = omega arith in let k : 32 ≤ b = omega arith in rw (le-leb 32 b k, le-ltb b 128 l)
+
+pub each-more : (s : List ℕ) (from i to : ℕ) → EachRegular s from i → EachRegular s i to → EachRegular s from to
+each-more s from i to a b j h k = pick (ltb j i) refl
+  where
+    pick : (t : Bool) → ltb j i ≡ t → isRegular (getD s j 0) ≡ true
+    pick true l = a j h (ltb-true j i l)
+    pick false l = b j (ltb-false j i l) k
 
 -- ---- regular bytes and line feeds
 

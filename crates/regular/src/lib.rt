@@ -18,7 +18,7 @@ ghost use Rattle.output.specs.Emission.{lineFeed};
 ghost use Rattle.output.specs.Contracts.Sink.{Wrote};
 ghost use Rattle.output.specs.Contracts.Writers.{marginOf, MarginIn};
 ghost use Rattle.regular.specs.Contracts.Regular.{isRegular, freshPunct, added};
-ghost use Rattle.regular.specs.Contracts.Places.{LastSpace, FirstSpace, OverSpaces, BeforeSpaces, Inked, CutIs, Filled, Joined, RegularTo, AllRegular, RowIs, Went, Gone, PutIs};
+ghost use Rattle.regular.specs.Contracts.Places.{LastSpace, FirstSpace, OverSpaces, BeforeSpaces, Inked, CutIs, Filled, Joined, EachRegular, RegularTo, AllRegular, RowIs, Went, Gone, PutIs};
 
 // A paragraph's work so far: the written end, and the column.
 struct State {
@@ -305,7 +305,7 @@ fn regular_end(s: &[u8], from: usize, end: usize) -> usize
     requires { ⌜ (from ≤ end) × (end ≤ length (now s)) ⌝ }
     ensures { λ r. ⌜ RegularTo (now (s .entry)) from end r ⌝ }
 {
-    let mut i = from;
+    let mut i = regular_eights(s, from, end);
     while i < end {
         let b = s[i];
         if b < 32 {
@@ -317,6 +317,44 @@ fn regular_end(s: &[u8], from: usize, end: usize) -> usize
         i += 1;
     }
     i
+}
+
+// On over regular bytes, as long as the next eight are.
+fn regular_eights(s: &[u8], from: usize, end: usize) -> usize
+    requires { ⌜ (from ≤ end) × (end ≤ length (now s)) ⌝ }
+    ensures { λ r. ⌜ (from ≤ r) × (r ≤ end) × EachRegular (now (s .entry)) from r ⌝ }
+{
+    let mut i = from;
+    while 8 <= end - i {
+        if are_regular(s, i) {
+            i += 8;
+        } else {
+            return i;
+        }
+    }
+    i
+}
+
+// Whether the eight bytes at a place are regular: without a branch between them the tests are as quick as one.
+fn are_regular(s: &[u8], i: usize) -> bool
+    requires { ⌜ (i ≤ length (now s)) × (8 ≤ length (now s) - i) ⌝ }
+    ensures { λ r. ⌜ (r ≡ true → EachRegular (now (s .entry)) i (i + 8)) ⌝ }
+{
+    let b = i + 1;
+    let c = i + 2;
+    let d = i + 3;
+    let e = i + 4;
+    let f = i + 5;
+    let g = i + 6;
+    let h = i + 7;
+    ((32 <= s[i]) & (s[i] < 128))
+        & ((32 <= s[b]) & (s[b] < 128))
+        & ((32 <= s[c]) & (s[c] < 128))
+        & ((32 <= s[d]) & (s[d] < 128))
+        & ((32 <= s[e]) & (s[e] < 128))
+        & ((32 <= s[f]) & (s[f] < 128))
+        & ((32 <= s[g]) & (s[g] < 128))
+        & ((32 <= s[h]) & (s[h] < 128))
 }
 
 // Whether regular bytes and line feeds alone stand between two places.

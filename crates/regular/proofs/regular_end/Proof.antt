@@ -4,6 +4,7 @@ use mathlib.Core.Bool.{true}
 use Prim.Native.Nat.{ℕ, _-_, _≤_, _<_}
 use native.Mathlib.Omega.{arith}
 use denote.Ref.{now}
+use borrow.Author.Needs.{needs}
 use lib.ListN.{getD}
 use Rattle.regular.specs.Contracts.Regular.{isRegular}
 use Rattle.regular.proofs.Searches.{up}
@@ -17,8 +18,11 @@ Inv-loop s from end i₀ i = (from ≤ i) × (i ≤ end) × ((j : ℕ) → from 
 abbrev μ-loop : tie.MeasureT-loop
 μ-loop s from end i₀ i = end - i
 
+regular-eights-requires : tie.Need-regular-eights-requires Inv-loop μ-loop
+regular-eights-requires c κs = search needs
+
 loop-holds : tie.Need-loop-holds Inv-loop μ-loop
-loop-holds c = (omega arith, omega arith, λ j h k. absurd (omega arith))
+loop-holds c = c .regular-eights .ensures
 
 shared-slice-read-b : tie.Need-shared-slice-read-b Inv-loop μ-loop
 shared-slice-read-b c = omega arith
@@ -36,7 +40,7 @@ loop-less : tie.Need-loop-less Inv-loop μ-loop
 loop-less c = omega arith
 
 loop-again : tie.Need-loop-again Inv-loop μ-loop
-loop-again c = (omega arith, omega arith, up (λ j. isRegular (getD (now (c .before .before .before .before .before .args .s)) j 0) ≡ true) _ _ (c .before .before .before .before .loop .inv .2) (regular-by _ (c .before .if1 .left) (c .if2 .left)))
+loop-again c = (omega arith, omega arith, up (λ j. isRegular (getD (now (c .before .before .before .before .before .before .before .args .s)) j 0) ≡ true) _ _ (c .before .before .before .before .loop .inv .2) (regular-by _ (c .before .if1 .left) (c .if2 .left)))
 
 returns-3 : tie.Need-returns-3 Inv-loop μ-loop
 returns-3 c = let l = c .before .loop .inv in record { on = l .0; most = l .1; all = l .2; stop = λ h. absurd (omega arith) }
@@ -47,6 +51,7 @@ regular-end-spec =
     (tie.spec
     Inv-loop
     μ-loop
+    regular-eights-requires
     loop-holds
     shared-slice-read-b
     returns

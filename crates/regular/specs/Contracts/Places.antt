@@ -110,11 +110,15 @@ pub record Joined (s : List ℕ) (p e : ℕ) (punct : Bool) (g : Setting) (inden
 
 -- ---- a paragraph's lines, which stand in the notes up to next
 
+-- regular bytes stand between two places
+abbrev pub EachRegular : List ℕ → ℕ → ℕ → Type 0
+EachRegular s from end = (i : ℕ) → from ≤ i → i < end → isRegular (getD s i 0) ≡ true
+
 -- r is the end of the regular bytes at a place, or another place that they reach to
 pub record RegularTo (s : List ℕ) (from end r : ℕ) : Type 0 where
   pub on : from ≤ r
   pub most : r ≤ end
-  pub all : (i : ℕ) → from ≤ i → i < r → isRegular (getD s i 0) ≡ true
+  pub all : EachRegular s from r
   pub stop : r < end → isRegular (getD s r 0) ≡ false
 
 -- regular bytes and line feeds alone stand between two places
