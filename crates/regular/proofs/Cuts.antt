@@ -1,14 +1,13 @@
 -- The cut of a stretch, from what the searches found.
-use mathlib.Core.Path.{_≡_, refl, sym, _∙_}
+use mathlib.Core.Path.{_≡_, refl}
 use mathlib.Core.Bool.{Bool, true, false}
-use mathlib.Core.Logic.{_⊎_, inl, inr}
+use mathlib.Core.Logic.{inl, inr}
 use mathlib.Core.List.{List}
 use Prim.Native.Nat.{ℕ, _+_, _-_, _≤_, _<_}
 use native.Mathlib.Omega.{arith}
 use lib.Dec.{ltb}
-use lib.ListN.{length, getD}
+use lib.ListN.{getD}
 use borrow.Author.Tests.{ltb-true, ltb-false}
-use Rattle.regular.specs.declared.Cut.{Cut}
 use Rattle.regular.specs.Contracts.Places.{NoSpace, LastSpace, FirstSpace, OverSpaces, BeforeSpaces, Inked, CutAt, CutIs}
 use Rattle.regular.proofs.Searches.{down}
 

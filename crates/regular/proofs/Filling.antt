@@ -1,25 +1,21 @@
 -- Writing a stretch on fresh lines: at first, a line of output more, and at last.
 use mathlib.Core.Path.{_≡_, refl, sym, ap, _∙_}
-use mathlib.Core.Bool.{Bool, true, false, not, _&&_, _||_, or-true}
-use mathlib.Core.Logic.{_⊎_, inl, inr}
-use mathlib.Core.List.{List, [], _∷_, _++_}
-use Prim.Native.Nat.{ℕ, zero, suc, _+_, _-_, _*_, _≤_, _<_, _^_}
+use mathlib.Core.Bool.{Bool, true, false, not, or-true}
+use mathlib.Core.Logic.{_⊎_}
+use mathlib.Core.List.{List, _++_}
+use Prim.Native.Nat.{ℕ, _+_, _-_, _*_, _≤_, _<_, _^_}
 use native.Mathlib.Omega.{arith}
-use lib.ListN.{length, getD, take}
-use lib.Seq.{slice, length-slice, getD-take, getD-drop}
+use lib.ListN.{length}
+use lib.Seq.{slice, length-slice}
 use Rattle.lists.specs.Runs.{every}
-use Rattle.lists.proofs.Runs.{every-end}
-use Rattle.lists.proofs.Parts.{every-cons}
 use Rattle.lists.proofs.Joins.{slice-join, append-inner}
-use Rattle.options.specs.Opts.{Opts}
-use Rattle.records.specs.Word.{Word}
 use Rattle.spacing.specs.declared.Setting.{Setting}
 use Rattle.output.specs.Emission.{lineFeed}
-use Rattle.output.specs.Contracts.Sink.{Wrote, Left}
+use Rattle.output.specs.Contracts.Sink.{Wrote}
 use Rattle.output.proofs.Sink.{left-first, left-then}
 use Rattle.regular.specs.declared.Cut.{Cut}
 use Rattle.regular.specs.declared.State.{State}
-use Rattle.regular.specs.Contracts.Regular.{notSpace, stretchWords, lastly, freshPunct, quickRest, quickFresh}
+use Rattle.regular.specs.Contracts.Regular.{notSpace, lastly, freshPunct}
 use Rattle.regular.specs.Contracts.Places.{NoSpace, Inked, CutAt, Along, Filled}
 use Rattle.regular.proofs.Fronts.{lastly-append, lastly-some}
 use Rattle.regular.proofs.Parts.{part-spaced}

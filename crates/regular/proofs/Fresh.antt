@@ -1,9 +1,9 @@
 -- A line of output on a regular stretch: what goes on it, and that the next word breaks.
-use mathlib.Core.Path.{_≡_, refl, sym, ap, _∙_}
-use mathlib.Core.Bool.{Bool, true, false, not, _&&_, _||_, or-true, or-false}
-use mathlib.Core.Logic.{_⊎_, inl, inr, ⊎-elim}
+use mathlib.Core.Path.{_≡_, sym, ap, _∙_}
+use mathlib.Core.Bool.{Bool, true, false, not, _&&_, or-true, or-false}
+use mathlib.Core.Logic.{_⊎_, ⊎-elim}
 use mathlib.Core.List.{List, [], _∷_, _++_, append-assoc, append-nil}
-use Prim.Native.Nat.{ℕ, zero, suc, _+_, _≤_, _<_}
+use Prim.Native.Nat.{ℕ, _+_, _≤_, _<_}
 use native.Mathlib.Omega.{arith}
 use lib.ListN.{length, replicate, length-append}
 use Rattle.lists.specs.Runs.{every}
@@ -12,13 +12,13 @@ use Rattle.lists.proofs.Parts.{every-append, every-nil}
 use Rattle.options.specs.Opts.{Opts}
 use Rattle.records.specs.Word.{Word}
 use Rattle.spacing.specs.declared.Setting.{Setting}
-use Rattle.words.specs.Words.{runs, lineWords, counting}
+use Rattle.words.specs.Words.{lineWords}
 use Rattle.words.proofs.WordRuns.{runs-nil}
 use Rattle.output.specs.Emission.{lineFeed}
-use Rattle.regular.specs.Contracts.Regular.{isSpace, notSpace, stretchWords, lastly, closed, opens, freshPunct, plainWord, added, quickRest, quickFresh}
+use Rattle.regular.specs.Contracts.Regular.{isSpace, notSpace, stretchWords, lastly, closed, opens, freshPunct, added, quickRest, quickFresh}
 use Rattle.regular.proofs.Stretch.{and-true, word-first}
 use Rattle.regular.proofs.Rest.{plain-breaks, next-stays, next-breaks}
-use Rattle.regular.proofs.Fronts.{InkFront, ink-front, lastly-append, lastly-some, opens-append, no-rest}
+use Rattle.regular.proofs.Fronts.{InkFront, ink-front, lastly-append, opens-append, no-rest}
 use Rattle.regular.proofs.Stay.{stays}
 
 pub no-words : (o : Opts) (newLine previous : Bool) → stretchWords o newLine previous [] ≡ []

@@ -1,18 +1,16 @@
 -- The glyphs of regular bytes: each byte is one, glue or not, behind ink or not. So the words of a regular line are those of its bytes.
 use mathlib.Core.Path.{_≡_, refl, sym, ap, _∙_}
-use mathlib.Core.Bool.{Bool, true, false, not, _&&_, false≢true}
-use mathlib.Core.List.{List, [], _∷_, map}
-use Prim.Native.Nat.{ℕ, _+_, _≤_, _<_}
+use mathlib.Core.Bool.{Bool, true, false, not}
+use mathlib.Core.List.{List, [], _∷_}
+use Prim.Native.Nat.{ℕ, _≤_, _<_}
 use native.Mathlib.Omega.{arith}
-use lib.Dec.{ltb, leb, eqb}
-use lib.ListN.{length, drop, take}
-use borrow.Author.Tests.{ltb-true, ltb-false, leb-true, eqb-true, eqb-false, ne-eqb}
+use lib.Dec.{eqb}
+use lib.ListN.{length}
+use borrow.Author.Tests.{ltb-true, leb-true, eqb-true, eqb-false, ne-eqb}
 use Rattle.widths.specs.WhiteSpace.{whiteSpace}
-use Rattle.widths.specs.Widths.{widthOf}
 use Rattle.widths.proofs.Laws.{one-before-300}
 use Rattle.lists.specs.Runs.{every}
 use Rattle.lists.proofs.Parts.{every-cons}
-use Rattle.text.specs.Rfc3629.{decode}
 use Rattle.text.specs.Characters.{Glyph, glyph, characters, glyphs, noBreak}
 use Rattle.text.specs.Contracts.Places.{settle, inkGlyphs}
 use Rattle.text.proofs.Forms.{ascii}

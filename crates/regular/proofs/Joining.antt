@@ -1,7 +1,7 @@
 -- Writing the next line's stretch behind a line of output that has begun.
 use mathlib.Core.Path.{_≡_, refl, sym, ap, _∙_}
 use mathlib.Core.Bool.{Bool, true, false}
-use mathlib.Core.List.{List, [], _∷_, _++_}
+use mathlib.Core.List.{List, _++_}
 use Prim.Native.Nat.{ℕ, _+_, _-_, _*_, _≤_, _<_, _^_}
 use native.Mathlib.Omega.{arith}
 use lib.Dec.{ltb}
@@ -27,14 +27,11 @@ use Rattle.regular.proofs.Filling.{fresh-counts}
 pub left-on : {o₀ o o′ : List ℕ} {n₀ n n′ : ℕ} {d₀ d d′ : List ℕ} → Left o₀ n₀ d₀ o n d → Left o n d o′ n′ d′ → Left o₀ n₀ d₀ o′ n′ d′
 left-on p q = record { count = q .count ∙ p .count; bytes = q .bytes ∙ p .bytes }
 
-module _ (s : List ℕ) (p e : ℕ) (punct : Bool) (g : Setting) (indent : List ℕ) (column : ℕ) (out : List ℕ) (k : ℕ) (even : g .uniform ≡ false) (inked : Inked s p e) where
-  added-few : added punct ≤ 2
-  added-few = go punct
-    where
-      go : (t : Bool) → added t ≤ 2
-      go true = omega arith
-      go false = omega arith
+added-few : (punct : Bool) → added punct ≤ 2
+added-few true = omega arith
+added-few false = omega arith
 
+module _ (s : List ℕ) (p e : ℕ) (punct : Bool) (g : Setting) (indent : List ℕ) (column : ℕ) (out : List ℕ) (k : ℕ) (even : g .uniform ≡ false) (inked : Inked s p e) where
   -- all of it stays
   pub join-all : column + added punct + (e - p) ≤ g .width → length s ≤ 2 ^ 20
       → (out′ out″ : List ℕ) (k′ : ℕ) (r : State) → Wrote out k (replicate (added punct) 32) out′ k′ → Wrote out′ k′ (slice p e s) out″ (r .written) → r .column ≡ column + added punct + (e - p)
@@ -44,7 +41,7 @@ module _ (s : List ℕ) (p e : ℕ) (punct : Bool) (g : Setting) (indent : List 
       let b = inked .on in
       let n = length-slice p e s w in
       let m = length-replicate {A = ℕ} (added punct) 32 in
-      let few = added-few in
+      let few = added-few punct in
       let c = wrote .count in
       let d = spaces .count in
       record {

@@ -1,12 +1,12 @@
 -- By places: a stretch that begins a line of output, cut at the last space up to the width, or at its first word; and one that stays whole.
-use mathlib.Core.Path.{_≡_, refl, sym, ap, _∙_}
+use mathlib.Core.Path.{_≡_, refl, ap, _∙_}
 use mathlib.Core.Bool.{Bool, true, false}
 use mathlib.Core.Logic.{_⊎_, inl, inr, ⊎-elim}
-use mathlib.Core.List.{List, [], _++_, append-nil}
+use mathlib.Core.List.{List, [], _++_}
 use Prim.Native.Nat.{ℕ, _+_, _-_, _≤_, _<_}
 use native.Mathlib.Omega.{arith}
 use lib.Dec.{ltb}
-use lib.ListN.{length, getD, replicate}
+use lib.ListN.{length, replicate}
 use borrow.Author.Tests.{ltb-true, ltb-false}
 use lib.Seq.{slice, length-slice, slice-empty}
 use Rattle.lists.specs.Runs.{while, behind, every}
@@ -17,7 +17,7 @@ use Rattle.records.specs.Word.{Word}
 use Rattle.spacing.specs.declared.Setting.{Setting}
 use Rattle.output.specs.Emission.{lineFeed}
 use Rattle.regular.specs.declared.Cut.{Cut}
-use Rattle.regular.specs.Contracts.Regular.{isSpace, notSpace, stretchWords, lastly, closed, opens, freshPunct, added, quickRest, quickFresh}
+use Rattle.regular.specs.Contracts.Regular.{isSpace, notSpace, stretchWords, lastly, opens, freshPunct, added, quickRest, quickFresh}
 use Rattle.regular.specs.Contracts.Places.{NoSpace, Inked, CutAt}
 use Rattle.regular.proofs.Fresh.{no-words, fresh-same, fresh-stays, breaks, next-stays-on, next-breaks-off}
 use Rattle.regular.proofs.Parts.{behind-opens, part-spaces, part-ink, part-opens, part-closed, part-first-space, part-least}

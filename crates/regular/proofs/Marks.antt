@@ -1,27 +1,24 @@
 -- The mark behind a line's stretch, and the stretch of a paragraph's next line.
-use mathlib.Core.Path.{_≡_, refl, sym, ap, _∙_}
-use mathlib.Core.Bool.{Bool, true, false, not, _&&_, _||_, or-true}
-use mathlib.Core.List.{List, [], _∷_, _++_}
-use Prim.Native.Nat.{ℕ, zero, suc, _+_, _-_, _*_, _≤_, _<_, _^_}
+use mathlib.Core.Path.{_≡_, refl, sym, _∙_}
+use mathlib.Core.Bool.{Bool, true, false}
+use mathlib.Core.List.{List, [], _∷_}
+use Prim.Native.Nat.{ℕ, zero, suc, _+_, _-_, _≤_, _<_, _^_}
 use native.Mathlib.Omega.{arith}
-use lib.Dec.{ltb, leb, eqb}
+use lib.Dec.{ltb}
 use lib.ListN.{length, getD}
 use lib.Seq.{slice, length-slice, slice-empty}
-use borrow.Author.Tests.{le-leb, lt-ltb, lt-leb, le-ltb, ltb-true, ltb-false, eqb-true, eq-eqb}
-use Rattle.lists.specs.Runs.{every}
+use borrow.Author.Tests.{le-leb, lt-ltb, lt-leb, le-ltb, ltb-true, ltb-false}
 use Rattle.options.specs.Opts.{Opts}
-use Rattle.records.specs.Word.{Word}
 use Rattle.spacing.specs.declared.Setting.{Setting}
 use Rattle.words.specs.Contracts.Scan.{punctCode}
-use Rattle.output.specs.Contracts.Sink.{Left}
 use Rattle.output.proofs.Sink.{left-first}
 use Rattle.regular.specs.declared.State.{State}
 use Rattle.regular.specs.declared.Reached.{Reached}
-use Rattle.regular.specs.Contracts.Regular.{notSpace, isRegular, stretchWords, lastly, freshPunct, quickRest}
-use Rattle.regular.specs.Contracts.Places.{NoSpace, FirstSpace, Inked, Joined, EachRegular, RegularTo, AllRegular, Went}
-use Rattle.regular.proofs.Searches.{up}
+use Rattle.regular.specs.Contracts.Regular.{isRegular, lastly, freshPunct}
+use Rattle.regular.specs.Contracts.Places.{FirstSpace, Inked, Joined, EachRegular, Went, WordsPut}
 use Rattle.regular.proofs.Fresh.{no-words}
-use Rattle.regular.proofs.Parts.{part-at, part-ink, part-spaced}
+use Rattle.regular.proofs.Glyphs.{regular-words}
+use Rattle.regular.proofs.Parts.{part-at, part-ink, part-spaced, part-all}
 
 pub regular-by : (b : ℕ) → 32 ≤ b → b ≤ 127 → isRegular b ≡ true
 regular-by b h k = let l : b < 128 = omega arith in rw (le-leb 32 b h, lt-ltb b 128 l)
@@ -38,31 +35,6 @@ each-more s from i to a b j h k = pick (ltb j i) refl
     pick : (t : Bool) → ltb j i ≡ t → isRegular (getD s j 0) ≡ true
     pick true l = a j h (ltb-true j i l)
     pick false l = b j (ltb-false j i l) k
-
--- ---- regular bytes and line feeds
-
-feed-only : (b : ℕ) → (eqb b 10 || isRegular b) ≡ true → isRegular b ≡ false → b ≡ 10
-feed-only b h r = eqb-true b 10 (sym (or-false (eqb b 10)) ∙ rw r at h)
-  where
-    or-false : (t : Bool) → (t || false) ≡ t
-    or-false true = refl
-    or-false false = refl
-
-module _ (s : List ℕ) (from end : ℕ) (all : AllRegular s from end) where
-  pub feed-at : (j : ℕ) → from ≤ j → j < end → isRegular (getD s j 0) ≡ false → getD s j 0 ≡ 10
-  feed-at j a b r = feed-only (getD s j 0) (all j a b) r
-
--- a run of regular bytes more, and the line feed behind it
-module _ (s : List ℕ) (from i end r : ℕ) (all : AllRegular s from i) (run : RegularTo s i end r) where
-  pub run-regular : AllRegular s from r
-  run-regular j a b = pick (ltb j i) refl
-    where
-      pick : (t : Bool) → ltb j i ≡ t → (eqb (getD s j 0) 10 || isRegular (getD s j 0)) ≡ true
-      pick true l = all j a (ltb-true j i l)
-      pick false l = rw (run .all j (ltb-false j i l) b) (or-true (eqb (getD s j 0) 10))
-
-  pub line-regular : getD s r 0 ≡ 10 → AllRegular s from (r + 1)
-  line-regular q = up (λ j. (eqb (getD s j 0) 10 || isRegular (getD s j 0)) ≡ true) from r run-regular (rw (eq-eqb (getD s r 0) 10 q))
 
 -- ---- marks
 
@@ -108,3 +80,12 @@ module _ (s : List ℕ) (from e : ℕ) (g : Setting) (indent : List ℕ) (out : 
     most = j .most;
     reach = let h = j .reach in let w = inked .within in omega arith;
   }
+
+-- the words of a regular line are those of its stretch
+pub went-words : (s : List ℕ) (from e : ℕ) (g : Setting) (indent : List ℕ) (out : List ℕ) (t : Reached) (out′ : List ℕ) (r : Reached) (o : Opts) → o .uniform ≡ false → e ≤ length s → EachRegular s from e
+    → Went s from e g indent out t out′ r → WordsPut o s true false g indent from e out t out′ r
+went-words s from e g indent out t out′ r o kept within each went = record {
+  left = λ more. rw (regular-words o true false true (slice from e s) (part-all s from e within isRegular each)) (went .left o more kept);
+  most = went .most;
+  reach = went .reach;
+}

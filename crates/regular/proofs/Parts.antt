@@ -1,16 +1,15 @@
 -- Parts of the notes as lists: what holds of their bytes by places.
-use mathlib.Core.Path.{_≡_, refl, sym, ap, _∙_}
+use mathlib.Core.Path.{_≡_, refl, ap, _∙_}
 use mathlib.Core.Bool.{Bool, true, false, not, _&&_}
-use mathlib.Core.List.{List, [], _∷_, _++_}
+use mathlib.Core.List.{List, [], _∷_}
 use Prim.Native.Nat.{ℕ, zero, suc, _+_, _-_, _≤_, _<_}
 use native.Mathlib.Omega.{arith}
-use native.Mathlib.Numerals.{add-one}
 use lib.Dec.{eqb}
-use lib.ListN.{length, getD, drop, take}
+use lib.ListN.{length, getD, take}
 use lib.Seq.{slice, length-slice, getD-take, getD-drop}
 use borrow.Author.Tests.{eq-eqb, ne-eqb}
 use Rattle.lists.specs.Runs.{while, behind, every}
-use Rattle.lists.proofs.Runs.{while-more, while-end, behind-more, behind-end, every-end}
+use Rattle.lists.proofs.Runs.{while-more, behind-more, behind-end, every-end}
 use Rattle.lists.proofs.Parts.{every-nil, every-cons}
 use Rattle.regular.specs.Contracts.Regular.{isSpace, notSpace, closed, opens}
 use Rattle.regular.specs.Contracts.Places.{NoSpace}

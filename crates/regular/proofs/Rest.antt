@@ -1,14 +1,14 @@
 -- Quick's output one word at a time: a word that fits stays behind its spacing, and any other begins a fresh line.
-use mathlib.Core.Path.{_≡_, refl, sym, ap, _∙_}
-use mathlib.Core.Bool.{Bool, true, false, cond, _&&_, _||_, or-true}
-use mathlib.Core.List.{List, [], _∷_, _++_, append-assoc, append-nil}
+use mathlib.Core.Path.{_≡_, _∙_}
+use mathlib.Core.Bool.{Bool, true, false, cond, or-true}
+use mathlib.Core.List.{List, [], _∷_, _++_, append-nil}
 use Prim.Native.Nat.{ℕ, _+_, _≤_, _<_}
 use native.Mathlib.Omega.{arith}
 use lib.Dec.{ltb}
 use lib.ListN.{length, replicate}
 use borrow.Author.Tests.{lt-ltb, le-ltb}
 use Rattle.records.specs.Word.{Word}
-use Rattle.spacing.specs.Spacing.{gapWidth, gapAt, addedSpace}
+use Rattle.spacing.specs.Spacing.{gapWidth, addedSpace}
 use Rattle.spacing.specs.declared.Setting.{Setting}
 use Rattle.output.specs.Emission.{lineFeed, spaceBefore, emitRest}
 use Rattle.quick.specs.Quick.{quickFrom}

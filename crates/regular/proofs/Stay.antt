@@ -1,7 +1,7 @@
 -- On a regular stretch every word that ends by the width stays, and what is written for those words is the stretch's bytes as they stand.
-use mathlib.Core.Path.{_≡_, refl, sym, ap, _∙_}
-use mathlib.Core.Bool.{Bool, true, false, _&&_}
-use mathlib.Core.List.{List, [], _∷_, _++_, append-assoc}
+use mathlib.Core.Path.{_≡_, ap, _∙_}
+use mathlib.Core.Bool.{Bool, true, false}
+use mathlib.Core.List.{List, [], _∷_, _++_}
 use Prim.Native.Nat.{ℕ, zero, suc, _+_, _≤_, _<_}
 use native.Mathlib.Omega.{arith}
 use lib.ListN.{length, length-append}
@@ -10,10 +10,10 @@ use Rattle.lists.proofs.Joins.{append-inner}
 use Rattle.options.specs.Opts.{Opts}
 use Rattle.records.specs.Word.{Word}
 use Rattle.spacing.specs.declared.Setting.{Setting}
-use Rattle.regular.specs.Contracts.Regular.{isSpace, notSpace, stretchWords, lastly, closed, opens, plainWord, quickRest, quickFresh}
+use Rattle.regular.specs.Contracts.Regular.{isSpace, notSpace, stretchWords, lastly, closed, opens, quickRest}
 use Rattle.regular.proofs.Stretch.{word-first}
-use Rattle.regular.proofs.Rest.{plain-stays, plain-breaks}
-use Rattle.regular.proofs.Fronts.{Front, front, lastly-append, lastly-some, closed-some, opens-append}
+use Rattle.regular.proofs.Rest.{plain-stays}
+use Rattle.regular.proofs.Fronts.{front, lastly-append, lastly-some, closed-some, opens-append}
 
 module _ (o : Opts) (g : Setting) (indent : List ℕ) (kept : o .uniform ≡ false) (even : g .uniform ≡ false) (more : List Word) where
   -- the punctuation behind a word and what follows it

@@ -1,24 +1,23 @@
 -- The words of regular bytes, one at a time.
 use mathlib.Core.Path.{_≡_, refl, sym, ap, _∙_}
-use mathlib.Core.Bool.{Bool, true, false, cond, not, _&&_, true≢false, false≢true}
+use mathlib.Core.Bool.{Bool, true, false, cond, not, _&&_, false≢true}
 use mathlib.Core.List.{List, [], _∷_, _++_, map, append-assoc}
-use Prim.Native.Nat.{ℕ, zero, suc, _+_, _-_, _≤_, _<_}
+use Prim.Native.Nat.{ℕ, suc, _+_, _-_, _<_}
 use native.Mathlib.Omega.{arith}
-use lib.Dec.{ltb, leb, eqb}
 use lib.ListN.{length, drop, length-append}
 use lib.Seq.{drop-at}
-use borrow.Author.Tests.{eqb-true, eqb-false}
+use borrow.Author.Tests.{eqb-true}
 use Rattle.lists.specs.Runs.{while, behind, every, joined}
 use Rattle.lists.proofs.Runs.{while-more, while-end, behind-more, behind-end, every-map}
-use Rattle.lists.proofs.Parts.{while-nil, behind-nil, every-cons}
+use Rattle.lists.proofs.Parts.{while-nil, every-cons}
 use Rattle.lists.proofs.Walk.{each-step}
-use Rattle.text.specs.Characters.{Glyph, isBlank, isTab}
+use Rattle.text.specs.Characters.{Glyph, isBlank}
 use Rattle.options.specs.Opts.{Opts}
 use Rattle.records.specs.Word.{Word}
 use Rattle.records.specs.declared.Before.the-variants.{Absent}
-use Rattle.words.specs.Words.{Run, isInk, runOf, runs, bytesOf, widthSum, Gap, gapFrom, gapOf, noGap, punctAtEnd, counting, wideGap, wordOf, lineWords}
+use Rattle.words.specs.Words.{Run, isInk, runOf, runs, bytesOf, widthSum, gapFrom, gapOf, punctAtEnd, counting, wideGap, wordOf, lineWords}
 use Rattle.words.specs.Contracts.Scan.{punctCode}
-use Rattle.regular.specs.Contracts.Regular.{isSpace, notSpace, isRegular, regularGlyph, stretchWords, lastly, closed, opens, plainWord}
+use Rattle.regular.specs.Contracts.Regular.{isSpace, notSpace, regularGlyph, stretchWords, lastly, opens, plainWord}
 
 -- ---- leading runs of a list that goes on
 

@@ -2,23 +2,29 @@
 // is looked for.
 use options::Options;
 use pieces::Margin;
+use records::Word;
 use spacing::Setting;
+use words::Next;
 ghost use mathlib.Core.Path.{_≡_};
 ghost use mathlib.Core.Bool.{true, false};
-ghost use mathlib.Core.List.{List, _++_};
-ghost use Prim.Native.Nat.{ℕ, _+_, _-_, _*_, _≤_, _<_, _^_, min};
-ghost use lib.ListN.{length, replicate};
+ghost use mathlib.Core.List.{[], _++_};
+ghost use Prim.Native.Nat.{_+_, _-_, _≤_, _<_, _^_, min};
+ghost use lib.ListN.{length, getD, replicate};
 ghost use lib.Seq.{slice};
-ghost use Rattle.lists.specs.Runs.{every};
-ghost use Rattle.options.specs.Opts.{meant};
+ghost use Rattle.lists.specs.Runs.{while};
+ghost use Rattle.text.specs.Characters.{isBlank};
+ghost use Rattle.text.specs.Contracts.Places.{inkGlyphs};
+ghost use Rattle.options.specs.Opts.{Opts, meant};
 ghost use Rattle.lines.specs.Lines.{linesOf};
 ghost use Rattle.pieces.specs.Contracts.Bounds.{AllBegin};
+ghost use Rattle.records.specs.Contracts.Table.{Small, Within};
+ghost use Rattle.spacing.specs.Contracts.Bounds.{Fair};
 ghost use Rattle.words.specs.Contracts.Scan.{punctCode};
 ghost use Rattle.output.specs.Emission.{lineFeed};
 ghost use Rattle.output.specs.Contracts.Sink.{Wrote};
 ghost use Rattle.output.specs.Contracts.Writers.{marginOf, MarginIn};
-ghost use Rattle.regular.specs.Contracts.Regular.{isRegular, freshPunct, added};
-ghost use Rattle.regular.specs.Contracts.Places.{LastSpace, FirstSpace, OverSpaces, BeforeSpaces, Inked, CutIs, Filled, Joined, EachRegular, RegularTo, AllRegular, RowIs, Went, Gone, PutIs};
+ghost use Rattle.regular.specs.Contracts.Regular.{freshPunct, added};
+ghost use Rattle.regular.specs.Contracts.Places.{LastSpace, FirstSpace, OverSpaces, BeforeSpaces, Inked, CutIs, Filled, Joined, EachRegular, RegularTo, RowIn, RowIs, Went, WordPut, WordsPut, BegunIs, Gone, PutIs};
 
 // A paragraph's work so far: the written end, and the column.
 struct State {
@@ -26,11 +32,12 @@ struct State {
     column: usize,
 }
 
-// The stretch of a line's words, and the line behind it.
+// The stretch of a line's words, the line behind it, and whether its bytes are regular.
 struct Row {
     from: usize,
     end: usize,
     next: usize,
+    regular: bool,
 }
 
 // Where a paragraph stands behind a word: the written end, the column, and the mark of the word.
@@ -38,6 +45,12 @@ struct Reached {
     written: usize,
     column: usize,
     punct: bool,
+}
+
+// Where a paragraph stands behind its first line; or that has no word, and nothing is written.
+enum Begun {
+    At(Reached),
+    Bare,
 }
 
 // A paragraph was written up to a place, or nothing was written, and it is left to other code.
@@ -357,23 +370,15 @@ fn are_regular(s: &[u8], i: usize) -> bool
         & ((32 <= s[h]) & (s[h] < 128))
 }
 
-// Whether regular bytes and line feeds alone stand between two places.
-fn is_regular(s: &[u8], from: usize, end: usize) -> bool
-    requires { ⌜ (from ≤ end) × (end ≤ length (now s)) ⌝ }
-    ensures { λ r. ⌜ (r ≡ true → AllRegular (now (s .entry)) from end) ⌝ }
+// Whether a line ends at a place: its line feed stands there, or the paragraph ends.
+fn ends_line(s: &[u8], at: usize, next: usize) -> bool
+    requires { ⌜ (at ≤ next) × (next ≤ length (now s)) ⌝ }
+    ensures { λ r. ⌜ (r ≡ true → at < next → getD (now (s .entry)) at 0 ≡ 10) ⌝ }
 {
-    let mut i = from;
-    while i < end {
-        let e = regular_end(s, i, end);
-        if e == end {
-            return true;
-        }
-        if s[e] != 10 {
-            return false;
-        }
-        i = e + 1;
+    if at == next {
+        return true;
     }
-    true
+    s[at] == 10
 }
 
 // The place behind a line that ends at a place: behind its line feed, unless the paragraph ends there.
@@ -387,17 +392,27 @@ fn behind_line(end: usize, next: usize) -> usize
     end
 }
 
-// The line at a place of a paragraph whose bytes are regular.
+// The line at a place of a paragraph.
 fn row_at(s: &[u8], i: usize, next: usize, skip: usize, later: usize, o: Options) -> Row
-    requires { ⌜ (i < next) × (next ≤ length (now s)) × (length (now s) ≤ 2 ^ 20) × (o .uniform ≡ false) × AllBegin (o .glue) skip later (linesOf (slice i next (now s))) × AllRegular (now s) i next ⌝ }
-    ensures { λ r. ⌜ ((block : List ℕ) → RowIs (meant block o) skip later (now (s .entry)) next i r) ⌝ }
+    requires { ⌜ (i < next) × (next ≤ length (now s)) × (length (now s) ≤ 2 ^ 20) × (o .uniform ≡ false) × AllBegin (o .glue) skip later (linesOf (slice i next (now s))) ⌝ }
+    ensures { λ r. ⌜ RowIs (meant [] o) skip later (now (s .entry)) next i r ⌝ }
 {
     let from = i + skip;
     let end = regular_end(s, from, next);
+    if ends_line(s, end, next) {
+        return Row {
+            from,
+            end: before_spaces(s, from, end),
+            next: behind_line(end, next),
+            regular: true,
+        };
+    }
+    let line = lines::first_line(&s[i..next]);
     Row {
         from,
-        end: before_spaces(s, from, end),
-        next: behind_line(end, next),
+        end: i + line.text,
+        next: i + line.whole,
+        regular: false,
     }
 }
 
@@ -447,16 +462,81 @@ fn next_row(
     }
 }
 
-// The mark that counts behind a paragraph's first line.
-fn head_punct(s: &[u8], from: usize, e: usize) -> bool
-    requires { ⌜ Inked (now s) from e ⌝ }
-    ensures { λ r. ⌜ r ≡ freshPunct false (slice from e (now (s .entry))) ⌝ }
+// A word of any kind, behind a line of output that has begun.
+// In the original: `accum_words_simple`.
+fn put_word(s: &[u8], w: Word, g: Setting, indent: Margin, t: Reached, out: &mut [u8]) -> Reached
+    requires { ⌜ Within (length (now s)) w × Small w × (w .width ≤ length (now s)) × Fair g × MarginIn (length (now s)) indent × (length (now s) ≤ 2 ^ 20) × (t .written < 2 ^ 62 + 2 ^ 59) × (t .column ≤ 2 ^ 33) × (g .indent < 2 ^ 31) × (g .width < 2 ^ 31) ⌝ }
+    ensures { λ r. ⌜ WordPut (now (s .entry)) w g (marginOf (now (s .entry)) indent) (now (out .entry)) t (now (out .exit)) r ⌝ }
 {
-    let last = e - 1;
-    if first_space(s, from, e) == e {
-        return false;
+    let reached = quick::reach(g, t.column, t.punct, w);
+    if g.width < reached {
+        let j = break_at(s, indent, out, t.written);
+        return Reached {
+            written: put_at(s, w.start, w.end, out, j),
+            column: g.indent + w.width,
+            punct: w.punct,
+        };
     }
-    is_punct(s[last])
+    let added = spacing::added_space(g.uniform, w.first, w.sentence, t.punct);
+    let j = spaces_at(added, out, t.written);
+    Reached {
+        written: put_at(s, w.from, w.end, out, j),
+        column: reached,
+        punct: w.punct,
+    }
+}
+
+// The words of a line from start up to end, one by one. If the first of its line is still to come, it begins at start; if not, punct is the
+// mark of the word before.
+// In the original: `break_simple`.
+fn put_words(
+    s: &[u8],
+    start: usize,
+    end: usize,
+    head: bool,
+    punct: bool,
+    o: Options,
+    g: Setting,
+    indent: Margin,
+    t: Reached,
+    out: &mut [u8],
+) -> Reached
+    requires { ⌜ (start ≤ end) × (end ≤ length (now s)) × (length (now s) ≤ 2 ^ 20) × (1 ≤ o .tab) × (o .tab ≤ 100) × (head ≡ true → while isBlank (inkGlyphs (o .glue) (slice start end (now s))) ≡ []) × Fair g × MarginIn (length (now s)) indent × (t .written < 2 ^ 62 + 2 ^ 58) × (t .column ≤ 2 ^ 33) × (g .indent < 2 ^ 31) × (g .width < 2 ^ 31) ⌝ }
+    ensures { λ r. ⌜ WordsPut (meant [] o) (now (s .entry)) head punct g (marginOf (now (s .entry)) indent) start end (now (out .entry)) t (now (out .exit)) r ⌝ }
+{
+    let part = &s[..end];
+    let mut at = start;
+    let mut first = head;
+    let mut previous = punct;
+    let mut v = t;
+    loop {
+        let Next::One(w) = words::next_word(part, at, false, first, previous, o) else {
+            return v;
+        };
+        v = put_word(s, w, g, indent, v, out);
+        at = w.end;
+        first = false;
+        previous = w.punct;
+    }
+}
+
+// A paragraph's next line.
+fn put_row(
+    s: &[u8],
+    row: Row,
+    o: Options,
+    g: Setting,
+    indent: Margin,
+    t: Reached,
+    out: &mut [u8],
+) -> Reached
+    requires { ⌜ RowIn (meant [] o) (now s) row × (length (now s) ≤ 2 ^ 20) × (1 ≤ o .tab) × (o .tab ≤ 100) × (o .uniform ≡ false) × (g .uniform ≡ false) × Fair g × MarginIn (length (now s)) indent × (t .written < 2 ^ 62 + 2 ^ 58) × (t .column ≤ 2 ^ 33) × (g .indent < 2 ^ 31) × (g .width < 2 ^ 31) ⌝ }
+    ensures { λ r. ⌜ WordsPut (meant [] o) (now (s .entry)) true false g (marginOf (now (s .entry)) indent) (row .from) (row .end) (now (out .entry)) t (now (out .exit)) r ⌝ }
+{
+    if row.regular {
+        return next_row(s, row.from, row.end, g, indent, t, out);
+    }
+    put_words(s, row.from, row.end, true, false, o, g, indent, t, out)
 }
 
 // A paragraph's lines behind its first.
@@ -471,14 +551,14 @@ fn rows_from(
     t: Reached,
     out: &mut [u8],
 ) -> Reached
-    requires { ⌜ (at ≤ next) × (next ≤ length (now s)) × (length (now s) ≤ 2 ^ 20) × (o .uniform ≡ false) × AllBegin (o .glue) later later (linesOf (slice at next (now s))) × AllRegular (now s) at next × (g .uniform ≡ false) × MarginIn (length (now s)) indent × (t .written < 2 ^ 62 + 2 ^ 58) × (t .column ≤ 2 ^ 33) × (g .indent < 2 ^ 31) × (g .width < 2 ^ 31) ⌝ }
+    requires { ⌜ (at ≤ next) × (next ≤ length (now s)) × (length (now s) ≤ 2 ^ 20) × (1 ≤ o .tab) × (o .tab ≤ 100) × (o .uniform ≡ false) × AllBegin (o .glue) later later (linesOf (slice at next (now s))) × (g .uniform ≡ false) × Fair g × MarginIn (length (now s)) indent × (t .written < 2 ^ 62 + 2 ^ 57) × (t .column ≤ 2 ^ 33) × (g .indent < 2 ^ 31) × (g .width < 2 ^ 31) ⌝ }
     ensures { λ r. ⌜ Gone (now (s .entry)) at next later o g (marginOf (now (s .entry)) indent) (now (out .entry)) t (now (out .exit)) next r ⌝ }
 {
     let mut i = at;
     let mut v = t;
     while i < next {
         let row = row_at(s, i, next, later, later, o);
-        v = next_row(s, row.from, row.end, g, indent, v, out);
+        v = put_row(s, row, o, g, indent, v, out);
         i = row.next;
     }
     v
@@ -502,7 +582,106 @@ fn feed_at(out: &mut [u8], k: usize) -> usize
     k + output::put_feed(&mut out[place..])
 }
 
-// A paragraph by quick where its gaps are kept, without a table of words. One that has other than regular bytes is left as it is.
+// The mark that counts behind a paragraph's first line.
+fn head_punct(s: &[u8], from: usize, e: usize) -> bool
+    requires { ⌜ Inked (now s) from e ⌝ }
+    ensures { λ r. ⌜ r ≡ freshPunct false (slice from e (now (s .entry))) ⌝ }
+{
+    let last = e - 1;
+    if first_space(s, from, e) == e {
+        return false;
+    }
+    is_punct(s[last])
+}
+
+// A paragraph's first line, behind its first indent: its stretch, if it is regular.
+fn begin_stretch(
+    s: &[u8],
+    from: usize,
+    e: usize,
+    g: Setting,
+    first: Margin,
+    indent: Margin,
+    out: &mut [u8],
+    written: usize,
+) -> Begun
+    requires { ⌜ (from ≤ e) × (e ≤ length (now s)) × (from < e → Inked (now s) from e) × EachRegular (now s) from e × (g .uniform ≡ false) × MarginIn (length (now s)) first × MarginIn (length (now s)) indent × (length (now s) ≤ 2 ^ 20) × (written < 2 ^ 62) × (g .first < 2 ^ 31) × (g .indent < 2 ^ 31) ⌝ }
+    ensures { λ r. ⌜ ((o : Opts) → o .uniform ≡ false → BegunIs o (now (s .entry)) from e g (marginOf (now (s .entry)) first) (marginOf (now (s .entry)) indent) (now (out .entry)) written (now (out .exit)) r) ⌝ }
+{
+    if from == e {
+        return Begun::Bare;
+    }
+    let k = margin_at(s, first, out, written);
+    let st = fill(
+        s,
+        from,
+        e,
+        false,
+        g,
+        indent,
+        State {
+            written: k,
+            column: g.first,
+        },
+        out,
+    );
+    Begun::At(Reached {
+        written: st.written,
+        column: st.column,
+        punct: head_punct(s, from, e),
+    })
+}
+
+// The same word by word. The first word's own punctuation does not count.
+// In the original: `break_simple`.
+fn begin_words(
+    s: &[u8],
+    from: usize,
+    e: usize,
+    o: Options,
+    g: Setting,
+    first: Margin,
+    indent: Margin,
+    out: &mut [u8],
+    written: usize,
+) -> Begun
+    requires { ⌜ (from ≤ e) × (e ≤ length (now s)) × (length (now s) ≤ 2 ^ 20) × (1 ≤ o .tab) × (o .tab ≤ 100) × (while isBlank (inkGlyphs (o .glue) (slice from e (now s))) ≡ []) × (g .uniform ≡ false) × Fair g × MarginIn (length (now s)) first × MarginIn (length (now s)) indent × (written < 2 ^ 62) × (g .first < 2 ^ 31) × (g .indent < 2 ^ 31) × (g .width < 2 ^ 31) ⌝ }
+    ensures { λ r. ⌜ BegunIs (meant [] o) (now (s .entry)) from e g (marginOf (now (s .entry)) first) (marginOf (now (s .entry)) indent) (now (out .entry)) written (now (out .exit)) r ⌝ }
+{
+    let part = &s[..e];
+    let Next::One(w) = words::next_word(part, from, false, true, false, o) else {
+        return Begun::Bare;
+    };
+    let k = margin_at(s, first, out, written);
+    let t = Reached {
+        written: put_at(s, w.start, w.end, out, k),
+        column: g.first + w.width,
+        punct: false,
+    };
+    Begun::At(put_words(s, w.end, e, false, w.punct, o, g, indent, t, out))
+}
+
+// A paragraph's first line.
+fn begin(
+    s: &[u8],
+    head: Row,
+    o: Options,
+    g: Setting,
+    first: Margin,
+    indent: Margin,
+    out: &mut [u8],
+    written: usize,
+) -> Begun
+    requires { ⌜ RowIn (meant [] o) (now s) head × (length (now s) ≤ 2 ^ 20) × (1 ≤ o .tab) × (o .tab ≤ 100) × (o .uniform ≡ false) × (g .uniform ≡ false) × Fair g × MarginIn (length (now s)) first × MarginIn (length (now s)) indent × (written < 2 ^ 62) × (g .first < 2 ^ 31) × (g .indent < 2 ^ 31) × (g .width < 2 ^ 31) ⌝ }
+    ensures { λ r. ⌜ BegunIs (meant [] o) (now (s .entry)) (head .from) (head .end) g (marginOf (now (s .entry)) first) (marginOf (now (s .entry)) indent) (now (out .entry)) written (now (out .exit)) r ⌝ }
+{
+    if head.regular {
+        return begin_stretch(s, head.from, head.end, g, first, indent, out, written);
+    }
+    begin_words(s, head.from, head.end, o, g, first, indent, out, written)
+}
+
+// A paragraph by quick where its gaps are kept, without a table of words; unless its first line has no word.
 // In the original: `break_simple`.
 pub fn put_quick(
     s: &[u8],
@@ -517,36 +696,12 @@ pub fn put_quick(
     out: &mut [u8],
     written: usize,
 ) -> Put
-    requires { ⌜ (at < next) × (next ≤ length (now s)) × (length (now s) ≤ 2 ^ 20) × (o .uniform ≡ false) × AllBegin (o .glue) start later (linesOf (slice at next (now s))) × (g .uniform ≡ false) × MarginIn (length (now s)) first × MarginIn (length (now s)) indent × (written < 2 ^ 62) × (g .first < 2 ^ 31) × (g .indent < 2 ^ 31) × (g .width < 2 ^ 31) ⌝ }
+    requires { ⌜ (at < next) × (next ≤ length (now s)) × (length (now s) ≤ 2 ^ 20) × (1 ≤ o .tab) × (o .tab ≤ 100) × (o .uniform ≡ false) × AllBegin (o .glue) start later (linesOf (slice at next (now s))) × (g .uniform ≡ false) × Fair g × MarginIn (length (now s)) first × MarginIn (length (now s)) indent × (written < 2 ^ 62) × (g .first < 2 ^ 31) × (g .indent < 2 ^ 31) × (g .width < 2 ^ 31) ⌝ }
     ensures { λ r. ⌜ PutIs (now (s .entry)) at next start later o g (marginOf (now (s .entry)) first) (marginOf (now (s .entry)) indent) (now (out .entry)) written (now (out .exit)) r ⌝ }
 {
-    if !is_regular(s, at, next) {
-        return Put::Other;
-    }
     let head = row_at(s, at, next, start, later, o);
-    let p = head.from;
-    let e = head.end;
-    if p == e {
+    let Begun::At(t) = begin(s, head, o, g, first, indent, out, written) else {
         return Put::Other;
-    }
-    let k = margin_at(s, first, out, written);
-    let st = fill(
-        s,
-        p,
-        e,
-        false,
-        g,
-        indent,
-        State {
-            written: k,
-            column: g.first,
-        },
-        out,
-    );
-    let t = Reached {
-        written: st.written,
-        column: st.column,
-        punct: head_punct(s, p, e),
     };
     let r = rows_from(s, head.next, next, later, o, g, indent, t, out);
     Put::Done(feed_at(out, r.written))

@@ -8,16 +8,15 @@ use lib.ListN.{length, drop, length-append, length-drop}
 use Rattle.lists.specs.Runs.{joined}
 use Rattle.lists.specs.Theorems.All.{All}
 use Rattle.lists.proofs.Parts.{joined-cons}
-use Rattle.lists.proofs.RunsAt.{while-within}
 use Rattle.lists.proofs.Walk.{each-nil, each-step}
 use Rattle.text.specs.Characters.{Glyph, glyphs}
 use Rattle.text.proofs.Extents.{Sound as SoundGlyph, glyphs-sound}
 use Rattle.text.proofs.Edges.{glyphs-joined}
 use Rattle.options.specs.Opts.{Opts}
-use Rattle.lines.specs.Lines.{noFeed, body, firstLine, linesOf}
+use Rattle.lines.specs.Lines.{body, firstLine, linesOf}
 use Rattle.lines.specs.Classes.{glyphsBefore, glyphsFrom}
 use Rattle.lines.specs.Contracts.Places.{lengthsOf}
-use Rattle.lines.proofs.Lines.{text-in-body}
+use Rattle.lines.proofs.Lines.{text-in-body, body-within}
 use Rattle.lines.proofs.Ink.{upTo-from}
 use Rattle.pieces.specs.Pieces.{Row}
 use Rattle.words.specs.Words.{Run, counting, punctAtEnd, lineWords, mailWords, glyphBytes, runs, rowWords}
@@ -108,10 +107,6 @@ unfolding lengthsOf
 line-half o mail start xs =
     let t : length (firstLine xs .text) ≤ length (body xs) = text-in-body xs (lengthsOf (firstLine xs)) refl in
     omega (arith, row-half o mail (record { text = firstLine xs .text; start = start }), t)
-
-body-within : (xs : List ℕ) → length (body xs) ≤ length xs
-unfolding body
-body-within xs = while-within noFeed xs
 
 lines-upto : (o : Opts) (mail : Bool) (k : ℕ) (xs : List ℕ) → length xs ≤ k → (start later : ℕ) → (2 * length (wordsAt o mail start later (linesOf xs)) ≤ length xs + 1) × (length xs ≡ 0 → length (wordsAt o mail start later (linesOf xs)) ≡ 0)
 unfolding linesOf

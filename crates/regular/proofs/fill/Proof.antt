@@ -1,10 +1,9 @@
 -- `regular::fill` meets its contract. Invariant: what is left of the output is that of the words from p on, on a fresh line, and of those that follow.
 use mathlib.Core.Path.{_≡_, refl, _∙_}
 use mathlib.Core.Logic.{inl, inr}
-use Prim.Native.Nat.{_+_, _-_, _*_, _≤_, _<_, _^_}
+use Prim.Native.Nat.{_+_, _-_, _*_, _≤_, _^_}
 use native.Mathlib.Omega.{arith}
 use borrow.Author.Needs.{needs}
-use denote.Ref.{now}
 use lib.ListN.{length}
 use Rattle.output.specs.Contracts.Writers.{marginOf}
 use Rattle.output.proofs.Sink.{wrote-length}

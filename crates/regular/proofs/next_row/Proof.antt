@@ -1,10 +1,6 @@
 -- `regular::next_row` meets its contract.
-use mathlib.Core.Path.{_≡_, refl}
-use mathlib.Core.Bool.{true, false, false≢true}
-use Prim.Native.Nat.{ℕ, _+_, _-_, _≤_, _<_}
+use Prim.Native.Nat.{_-_}
 use native.Mathlib.Omega.{arith}
-use denote.Ref.{now}
-use lib.ListN.{length, getD}
 use Rattle.regular.proofs.Marks.{went-none, went-some}
 use borrow.Author.Needs.{needs}
 use Rattle.regular.proofs.next_row.Statement.{statement}
