@@ -1,15 +1,15 @@
 -- `paragraphs::put_paragraph` meets its contract.
-use mathlib.Core.Path.{_≡_, refl, sym, ap, _∙_}
+use mathlib.Core.Path.{_≡_}
 use mathlib.Core.Bool.{true, false}
-use mathlib.Core.List.{List, []}
-use Prim.Native.Nat.{ℕ, _-_, _*_, _≤_}
+use mathlib.Core.List.{[]}
+use Prim.Native.Nat.{_-_, _*_, _≤_}
 use native.Mathlib.Omega.{arith}
 use denote.Ref.{now}
 use borrow.Author.Needs.{needs}
 use borrow.Author.Tests.{not-false}
 use Rattle.options.specs.Opts.{meant}
 use Rattle.paragraphs.specs.Breaks.{settingOf}
-use Rattle.paragraphs.proofs.Streaming.{some-line, even, streamed}
+use Rattle.paragraphs.proofs.Streaming.{some-line, even, fair, streamed}
 use Rattle.paragraphs.proofs.put_paragraph.Statement.{statement}
 use Rattle.paragraphs.proofs.put_paragraph.Tie as tie
 
@@ -48,7 +48,7 @@ put-quick-requires c κs =
     let l = q .0 in
     let k = kind (c .before .before .before .before) in
     let e = c .before .setting-of .ensures [] in
-    (some-line _ _ _ _ l, l .within, omega (arith, l .short), k .1, l .begins (k .2), even _ _ _ _ l (k .0) (k .1) (k .2) _ e, l .first, l .indent, q .1, rw e (l .firstSmall), rw e (l .indentSmall), rw e (omega (arith, l .width)))
+    (some-line _ _ _ _ l, l .within, omega (arith, l .short), l .tabLeast, l .tabMost, k .1, l .begins (k .2), even _ _ _ _ l (k .0) (k .1) (k .2) _ e, fair _ _ _ _ l (k .0) (k .1) (k .2) _ e, l .first, l .indent, q .1, rw e (l .firstSmall), rw e (l .indentSmall), rw e (omega (arith, l .width)))
 
 enum-known-end : tie.Need-enum-known-end
 enum-known-end c = search needs
