@@ -72,6 +72,8 @@ def measure(text: str | bytes, **options: typing.Unpack[Options]) -> int:
 
 def _measured(options: Options, block: bytes, notes: bytes, at: int, part: bytes) -> int:
     code, number = call_for(part, "measure", *slice_of(block), *slice_of(part))
+    if code == Code.ROOM:  # of large notes: no answer could say how long it is
+        raise Refused("the digest has more than 4294967295 bytes", code, number)
     if code != Code.DONE:
         raise _refused(code, number, options, block, notes, at)
     return number
