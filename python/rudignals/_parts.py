@@ -3,7 +3,7 @@ from __future__ import annotations
 
 import typing
 
-from ._library import MOST_COPY, MOST_NOTES
+from ._library import MOST_COPY, MOST_LARGE, MOST_NOTES
 
 Parts = typing.Iterator[tuple[int, bytes]]
 
@@ -54,7 +54,7 @@ def _cut(text: bytes, most: int, cut: typing.Callable[[bytes, int, int], int]) -
 
 
 def parts_of_notes(notes: bytes) -> Parts:
-    return _cut(notes, MOST_NOTES, _blank_cut)
+    return _cut(notes, MOST_LARGE, _blank_cut)
 
 
 def parts_of_mail(mail: bytes) -> Parts:
