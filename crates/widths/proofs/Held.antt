@@ -1,0 +1,35 @@
+-- A character that lies in a range of the table, or before one that is the first from d on.
+use mathlib.Core.Path.{_≡_, refl}
+use mathlib.Core.List.{List, _∷_}
+use Prim.Native.Nat.{ℕ, _≤_, _<_}
+use native.Mathlib.Omega.{arith}
+use borrow.Author.Tests.{le-leb, lt-ltb, le-ltb}
+use Rattle.widths.specs.Ranges.{Range, span, widthIn}
+use Rattle.widths.specs.Table.{table}
+use Rattle.widths.specs.Widths.{widthOf, table-ascends}
+use Rattle.widths.proofs.Ranges.{past, past-same}
+
+module _ (d a b w : ℕ) (rs : List Range) (c : ℕ) (e : past d table ≡ span a b w ∷ rs) (h : d ≤ c) where
+  seen : widthIn (span a b w ∷ rs) c ≡ widthOf c
+  unfolding widthOf
+  seen = rw (← e) (past-same 0 d table c table-ascends h)
+
+  pub within : a ≤ c → c ≤ b → w ≡ widthOf c
+  unfolding widthIn
+  within f g = rw (le-ltb c a f, widthIn, le-leb c b g) at seen
+
+  pub before : c < a → 1 ≡ widthOf c
+  unfolding widthIn
+  before f = rw (lt-ltb c a f, widthIn) at seen
+
+pub ideographs : (c : ℕ) → 0x4E00 ≤ c → c < 0xA000 → 2 ≡ widthOf c
+unfolding past table
+ideographs c h l = within 0x4E00 _ _ _ _ _ refl h h (omega arith)
+
+pub emoji-form : (c : ℕ) → c ≡ 0xFE0F → 0 ≡ widthOf c
+unfolding past table
+emoji-form c e = within 0xFE0F _ _ _ _ _ refl (omega arith) (omega arith) (omega arith)
+
+pub dashes : (c : ℕ) → 0x2010 ≤ c → c < 0x2028 → 1 ≡ widthOf c
+unfolding past table
+dashes c h l = before 0x2010 _ _ _ _ _ refl h (omega arith)
