@@ -12,7 +12,7 @@ use Rattle.widths.specs.Ranges.{Range, span, widthIn, ascending}
 use Rattle.widths.specs.Table.{table}
 use Rattle.widths.specs.Widths.{widthOf, table-ascends}
 use Rattle.widths.specs.Contracts.Forms.{LeftOut, behind}
-use Rattle.widths.specs.Contracts.Starts.{nearStarts, farStarts}
+use Rattle.widths.specs.Contracts.Starts.{nearStarts, nextStarts, farStarts}
 use Rattle.widths.proofs.Ranges.{left, right, from, some, rest, head-past}
 
 -- the last character of the range k
@@ -75,9 +75,13 @@ clears-at n d (s ∷ ss) (suc i) e t h =
     let z : d + suc i * n ≡ d + n + i * n = omega arith in
     rw z (clears-at n (d + n) ss i e (right (clear s d) _ t) (omega arith))
 
-near-clears : T (clears 64 0 nearStarts)
+near-clears : T (clears 32 0 nearStarts)
 unfolding clears clear endOf table nearStarts
 near-clears = tt
+
+next-clears : T (clears 64 0x2000 nextStarts)
+unfolding clears clear endOf table nextStarts
+next-clears = tt
 
 far-clears : T (clears 256 0xA000 farStarts)
 unfolding clears clear endOf table farStarts
@@ -87,13 +91,23 @@ near-size : length nearStarts ≡ 256
 unfolding nearStarts
 near-size = refl
 
+next-size : length nextStarts ≡ 128
+unfolding nextStarts
+next-size = refl
+
 far-size : length farStarts ≡ 352
 unfolding farStarts
 far-size = refl
 
-pub near-begins : (c : ℕ) → c < 0x4000 → LeftOut (getD nearStarts (c / 64) behind) c
+pub near-begins : (c : ℕ) → c < 0x2000 → LeftOut (getD nearStarts (c / 32) behind) c
 near-begins c h =
-    left-out (getD nearStarts (c / 64) behind) (0 + c / 64 * 64) c (clears-at 64 0 nearStarts (c / 64) behind near-clears (rw near-size (omega arith))) (omega arith)
+    left-out (getD nearStarts (c / 32) behind) (0 + c / 32 * 32) c (clears-at 32 0 nearStarts (c / 32) behind near-clears (rw near-size (omega arith))) (omega arith)
+
+pub next-begins : (c : ℕ) → 0x2000 ≤ c → c < 0x4000 → LeftOut (getD nextStarts (c / 64 - 128) behind) c
+next-begins c h l =
+    left-out (getD nextStarts (c / 64 - 128) behind) (0x2000 + (c / 64 - 128) * 64) c
+    (clears-at 64 0x2000 nextStarts (c / 64 - 128) behind next-clears (rw next-size (omega arith)))
+    (omega arith)
 
 pub few-begin : (c : ℕ) → 0x4000 ≤ c → LeftOut 226 c
 unfolding clear endOf table

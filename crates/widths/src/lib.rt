@@ -20,6 +20,10 @@ pub fn width(c: u32) -> usize
     if 0xE01F0 <= c {
         return 1;
     }
+    // Letters of Arabic.
+    if (0x61D <= c) & (c < 0x64B) {
+        return 1;
+    }
     search(start(c), c)
 }
 
@@ -27,8 +31,11 @@ pub fn width(c: u32) -> usize
 fn start(c: u32) -> usize
     ensures { λ r. ⌜ LeftOut r c ⌝ }
 {
+    if c < 0x2000 {
+        return table::near(c / 32);
+    }
     if c < 0x4000 {
-        return table::near(c / 64);
+        return table::next(c / 64 - 128);
     }
     // Ideographs but for a few stand in one range.
     if c < 0xA000 {
@@ -60,13 +67,13 @@ fn search(from: usize, c: u32) -> usize
 pub fn ink_width(c: u32) -> usize
     ensures { λ r. ⌜ r ≡ inkWidth c ⌝ }
 {
+    if 0x3000 < c {
+        return late(c);
+    }
     if c < 0x1680 {
         return early(c);
     }
-    if c <= 0x3000 {
-        return middle(c);
-    }
-    late(c)
+    middle(c)
 }
 
 // Before U+1680 white space is before U+0300.
@@ -86,6 +93,22 @@ fn early(c: u32) -> usize
     }
     if (0xE3B <= c) & (c < 0xE47) {
         return 1;
+    }
+    // Signs of both.
+    if (0x93D <= c) & (c < 0x941) {
+        return 1;
+    }
+    if (0x941 <= c) & (c <= 0x948) {
+        return 0;
+    }
+    if c == 0x94D {
+        return 0;
+    }
+    if (0xE34 <= c) & (c <= 0xE3A) {
+        return 0;
+    }
+    if (0xE47 <= c) & (c <= 0xE4E) {
+        return 0;
     }
     width(c)
 }
