@@ -15,3 +15,4 @@ pub mod Order
 pub mod Places
 pub mod Columns
 pub mod Unique
+mod Worked
