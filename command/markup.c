@@ -342,8 +342,23 @@ static void put_cell(FILE *out, struct cell cell, bool wide) {
     fputs(wide ? "</b>" : *CLASS[cell.kind] != '\0' || !is_simple(cell.character) ? "</i>" : "", out);
 }
 
+/* A browser orders and shapes the letters of a run, in the box of their cells. */
+static void put_cell_run(FILE *out, const struct panel *panel, int row, int column, int length, bool from_right) {
+    int end = column + length;
+    fprintf(out, from_right ? "<i class='w%d r'>" : "<i class=w%d>", length);
+    for (; column < end; column++)
+        put_escaped(out, cell_at(panel, row, column).character);
+    fputs("</i>", out);
+}
+
 void put_row(FILE *out, const struct panel *panel, int row) {
-    int column;
-    for (column = 0; column < COLUMNS; column++)
-        put_cell(out, cell_at(panel, row, column), column + 1 < COLUMNS && cell_at(panel, row, column + 1).character == FILLER);
+    enum script script;
+    int column, length;
+    for (column = 0; column < COLUMNS; column += length) {
+        length = run_length(panel, row, column, &script);
+        if (length > 1)
+            put_cell_run(out, panel, row, column, length, script == FROM_RIGHT);
+        else
+            put_cell(out, cell_at(panel, row, column), column + 1 < COLUMNS && cell_at(panel, row, column + 1).character == FILLER);
+    }
 }

@@ -148,11 +148,12 @@ void free_page(struct page *page) {
 
 /* A page that says why there is no digest: an empty one would look like a quiet night. */
 void draw_found(FILE *out, struct page *page, enum outcome outcome, const char *reason) {
+    struct buffer notes = {(uint8_t *)page->notes, page->notes_len, page->notes_len};
     if (outcome == MADE) {
         put_page(out, page);
         return;
     }
-    put_failure(&page->panel, &page->facts, outcome, reason, NULL, 8, false);
+    put_failure(&page->panel, &page->facts, outcome, reason, &notes, page->options == NULL ? 8 : tab_of(page->options), false);
     put_failed_page(out, page, outcome, reason);
 }
 

@@ -106,9 +106,9 @@ def bounds(folder):
     flow, written = 1024 * 30001 + 1024 * 3 - 1 + 1024, 1024 * 30002
     room = 30000 + 2 * 1024
     status, output, words = run([], b"", link(folder, "bounds", str(source)))
-    expect("the header's room", (status, output.decode().split("\n")[:2], words), (0, [f"flow 0 {flow} of {3120 * room}", f"digest 0 {written} of {1040 * room}"], ""))
-    # six quote marks and one line end; or stuffed lines
-    expect("of what is read", output.decode().split("\n")[2].split(" of ")[1] == "24" and output.decode().split("\n")[2].startswith("unflow 0 "), True)
+    *told, read = (output.decode().split("\n") + [""] * 3)[:3]
+    expect("the header's room", (status, told, words), (0, [f"flow 0 {flow} of {3120 * room}", f"digest 0 {written} of {1040 * room}"], ""))
+    expect("of what is read", (read[:9], read[-6:]), ("unflow 0 ", " of 24"))
 
 
 ALL = [digest, digest_streams, digest_usage, example, bounds]

@@ -12,7 +12,7 @@ ATTRIBUTES = {  # of each element that a page may have: the attributes, and what
     "section": {"id": f"n{NUMBER}|seen|wall", "aria-label": "Not to be missed|The wall panel"}, "aside": {"id": "notes", "aria-label": ".*", "tabindex": "-1"},
     "p": {"id": f"r{NUMBER}|cut|calm", "class": "hint|bar|e", "role": "alert"}, "pre": {"tabindex": "0"}, "ol": {"start": NUMBER}, "li": {"class": "[donm]|at"},
     "a": {"id": NUMBER, "class": "[do]", "href": f"#(n?{NUMBER}|digest|notes|wall|top)"}, "span": {"class": "name|k|goal|width|ruler|bar|g|mouse|touch"},
-    "i": {"class": r"w\d+|w1 [do]", "id": "end"}, "u": {"class": r"[cd] w\d+|[cdeqzt]", "data-x": r"[0-9A-F \n]+"},
+    "i": {"class": r"w\d+( r)?|w1 [do]", "id": "end"}, "u": {"class": r"[cd] w\d+|[cdeqzt]", "data-x": r"[0-9A-F \n]+"},
 }
 VOID = {"meta", "br"}
 CLOSED_BY = {"li": {"li"}, "p": {"p", "h3", "div", "section"}}  # elements whose end is left out
