@@ -1,26 +1,18 @@
--- Written by tools/widths: `words::leaf` meets its contract. Whichever arm the word came by, it is the list's.
-use borrow.Author.Needs.{needs}
+-- Written by tools/widths: `table::near` meets its contract. Whichever arm it came by, it is the list's.
 use mathlib.Core.Path.{_≡_, _∙_}
 use mathlib.Core.Logic.{⊎-elim}
 use lib.ListN.{getD}
-use Rattle.widths.specs.Contracts.Packed.{leaves}
+use Rattle.widths.specs.Contracts.Forms.{behind}
+use Rattle.widths.specs.Contracts.Starts.{nearStarts}
 use Rattle.widths.proofs.Arms.{outside}
-use Rattle.widths.proofs.words.leaf.Statement.{statement}
-use Rattle.widths.proofs.words.leaf.Tie as tie
+use Rattle.widths.proofs.table.near.Statement.{statement}
+use Rattle.widths.proofs.table.near.Tie as tie
+use Rattle.widths.proofs.table.near.Reads as reads
+use Rattle.widths.proofs.table.near.Lts as lts
 
-mul-result : tie.Need-mul-result
-mul-result c = search needs
-
-cast-result : tie.Need-cast-result
-cast-result c = search needs
-
-shr-result : tie.Need-shr-result
-shr-result c = search needs
-
-returns : tie.Need-returns
-unfolding leaves
-returns c =
-    let e : c .before .match .w ≡ getD leaves (c .before .before .args .n) 0 = (
+held : (c : lts.After-row-known reads.Pre reads.Post) → c .before .match .k ≡ getD nearStarts (c .before .before .args .n) behind
+unfolding nearStarts
+held c = (
     ⊎-elim (λ a. rw (a .0 .keys1) (a .1)) (
     ⊎-elim (λ a. rw (a .0 .keys2) (a .1)) (
     ⊎-elim (λ a. rw (a .0 .keys3) (a .1)) (
@@ -267,8 +259,20 @@ returns c =
     ⊎-elim (λ a. rw (a .0 .keys244) (a .1)) (
     ⊎-elim (λ a. rw (a .0 .keys245) (a .1)) (
     ⊎-elim (λ a. rw (a .0 .keys246) (a .1)) (
-    λ a. a .1 ∙ outside leaves 246 _ tt (a .0 .rest)))))))))))))))))))))))))))))))))))))))))))))))))))))))))))))))))))))))))))))))))))))))))))))))))))))))))))))))))))))))))))))))))))))))))))))))))))))))))))))))))))))))))))))))))))))))))))))))))))))))))))))))))))))))))))))))))))))))))))))))))))))))) (c .before .match .came) in
-    rw e
+    ⊎-elim (λ a. rw (a .0 .keys247) (a .1)) (
+    ⊎-elim (λ a. rw (a .0 .keys248) (a .1)) (
+    ⊎-elim (λ a. rw (a .0 .keys249) (a .1)) (
+    ⊎-elim (λ a. rw (a .0 .keys250) (a .1)) (
+    ⊎-elim (λ a. rw (a .0 .keys251) (a .1)) (
+    ⊎-elim (λ a. rw (a .0 .keys252) (a .1)) (
+    ⊎-elim (λ a. rw (a .0 .keys253) (a .1)) (
+    ⊎-elim (λ a. rw (a .0 .keys254) (a .1)) (
+    ⊎-elim (λ a. rw (a .0 .keys255) (a .1)) (
+    ⊎-elim (λ a. rw (a .0 .keys256) (a .1)) (
+    λ a. a .1 ∙ outside nearStarts behind 256 _ tt (a .0 .rest)))))))))))))))))))))))))))))))))))))))))))))))))))))))))))))))))))))))))))))))))))))))))))))))))))))))))))))))))))))))))))))))))))))))))))))))))))))))))))))))))))))))))))))))))))))))))))))))))))))))))))))))))))))))))))))))))))))))))))))))))))))))))))))))))) (c .before .match .came)
 
-pub leaf-spec : {M : Type 1} → statement M
-leaf-spec = tie.close (tie.spec mul-result cast-result shr-result returns)
+returns : tie.Need-returns
+returns c = rw (held c)
+
+pub near-spec : {M : Type 1} → statement M
+near-spec = tie.close (tie.spec returns)

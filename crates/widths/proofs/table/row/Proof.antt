@@ -1,26 +1,20 @@
--- Written by tools/widths: `near::leaf` meets its contract. Whichever arm the word came by, it is the list's.
+-- Written by tools/widths: `table::row` meets its contract. Whichever arm it came by, it is the list's.
 use borrow.Author.Needs.{needs}
-use mathlib.Core.Path.{_≡_, _∙_}
+use mathlib.Core.Path.{_≡_, ap, _∙_}
 use mathlib.Core.Logic.{⊎-elim}
 use lib.ListN.{getD}
-use Rattle.widths.specs.Contracts.Near.{nearLeaves}
+use Rattle.widths.specs.Table.{table}
+use Rattle.widths.specs.Contracts.Forms.{beyond, rowNumber}
+use Rattle.widths.proofs.Numbers.{read-back}
 use Rattle.widths.proofs.Arms.{outside}
-use Rattle.widths.proofs.near.leaf.Statement.{statement}
-use Rattle.widths.proofs.near.leaf.Tie as tie
+use Rattle.widths.proofs.table.row.Statement.{statement}
+use Rattle.widths.proofs.table.row.Tie as tie
+use Rattle.widths.proofs.table.row.Reads as reads
+use Rattle.widths.proofs.table.row.Lts as lts
 
-mul-result : tie.Need-mul-result
-mul-result c = search needs
-
-cast-result : tie.Need-cast-result
-cast-result c = search needs
-
-shr-result : tie.Need-shr-result
-shr-result c = search needs
-
-returns : tie.Need-returns
-unfolding nearLeaves
-returns c =
-    let e : c .before .match .w ≡ getD nearLeaves (c .before .before .args .n) 0 = (
+held : (c : lts.After-row-known reads.Pre reads.Post) → c .before .match .w ≡ rowNumber (getD table (c .before .before .args .k) beyond)
+unfolding table
+held c = (
     ⊎-elim (λ a. rw (a .0 .keys1) (a .1)) (
     ⊎-elim (λ a. rw (a .0 .keys2) (a .1)) (
     ⊎-elim (λ a. rw (a .0 .keys3) (a .1)) (
@@ -277,8 +271,239 @@ returns c =
     ⊎-elim (λ a. rw (a .0 .keys254) (a .1)) (
     ⊎-elim (λ a. rw (a .0 .keys255) (a .1)) (
     ⊎-elim (λ a. rw (a .0 .keys256) (a .1)) (
-    λ a. a .1 ∙ outside nearLeaves 256 _ tt (a .0 .rest)))))))))))))))))))))))))))))))))))))))))))))))))))))))))))))))))))))))))))))))))))))))))))))))))))))))))))))))))))))))))))))))))))))))))))))))))))))))))))))))))))))))))))))))))))))))))))))))))))))))))))))))))))))))))))))))))))))))))))))))))))))))))))))))))) (c .before .match .came) in
-    rw e
+    ⊎-elim (λ a. rw (a .0 .keys257) (a .1)) (
+    ⊎-elim (λ a. rw (a .0 .keys258) (a .1)) (
+    ⊎-elim (λ a. rw (a .0 .keys259) (a .1)) (
+    ⊎-elim (λ a. rw (a .0 .keys260) (a .1)) (
+    ⊎-elim (λ a. rw (a .0 .keys261) (a .1)) (
+    ⊎-elim (λ a. rw (a .0 .keys262) (a .1)) (
+    ⊎-elim (λ a. rw (a .0 .keys263) (a .1)) (
+    ⊎-elim (λ a. rw (a .0 .keys264) (a .1)) (
+    ⊎-elim (λ a. rw (a .0 .keys265) (a .1)) (
+    ⊎-elim (λ a. rw (a .0 .keys266) (a .1)) (
+    ⊎-elim (λ a. rw (a .0 .keys267) (a .1)) (
+    ⊎-elim (λ a. rw (a .0 .keys268) (a .1)) (
+    ⊎-elim (λ a. rw (a .0 .keys269) (a .1)) (
+    ⊎-elim (λ a. rw (a .0 .keys270) (a .1)) (
+    ⊎-elim (λ a. rw (a .0 .keys271) (a .1)) (
+    ⊎-elim (λ a. rw (a .0 .keys272) (a .1)) (
+    ⊎-elim (λ a. rw (a .0 .keys273) (a .1)) (
+    ⊎-elim (λ a. rw (a .0 .keys274) (a .1)) (
+    ⊎-elim (λ a. rw (a .0 .keys275) (a .1)) (
+    ⊎-elim (λ a. rw (a .0 .keys276) (a .1)) (
+    ⊎-elim (λ a. rw (a .0 .keys277) (a .1)) (
+    ⊎-elim (λ a. rw (a .0 .keys278) (a .1)) (
+    ⊎-elim (λ a. rw (a .0 .keys279) (a .1)) (
+    ⊎-elim (λ a. rw (a .0 .keys280) (a .1)) (
+    ⊎-elim (λ a. rw (a .0 .keys281) (a .1)) (
+    ⊎-elim (λ a. rw (a .0 .keys282) (a .1)) (
+    ⊎-elim (λ a. rw (a .0 .keys283) (a .1)) (
+    ⊎-elim (λ a. rw (a .0 .keys284) (a .1)) (
+    ⊎-elim (λ a. rw (a .0 .keys285) (a .1)) (
+    ⊎-elim (λ a. rw (a .0 .keys286) (a .1)) (
+    ⊎-elim (λ a. rw (a .0 .keys287) (a .1)) (
+    ⊎-elim (λ a. rw (a .0 .keys288) (a .1)) (
+    ⊎-elim (λ a. rw (a .0 .keys289) (a .1)) (
+    ⊎-elim (λ a. rw (a .0 .keys290) (a .1)) (
+    ⊎-elim (λ a. rw (a .0 .keys291) (a .1)) (
+    ⊎-elim (λ a. rw (a .0 .keys292) (a .1)) (
+    ⊎-elim (λ a. rw (a .0 .keys293) (a .1)) (
+    ⊎-elim (λ a. rw (a .0 .keys294) (a .1)) (
+    ⊎-elim (λ a. rw (a .0 .keys295) (a .1)) (
+    ⊎-elim (λ a. rw (a .0 .keys296) (a .1)) (
+    ⊎-elim (λ a. rw (a .0 .keys297) (a .1)) (
+    ⊎-elim (λ a. rw (a .0 .keys298) (a .1)) (
+    ⊎-elim (λ a. rw (a .0 .keys299) (a .1)) (
+    ⊎-elim (λ a. rw (a .0 .keys300) (a .1)) (
+    ⊎-elim (λ a. rw (a .0 .keys301) (a .1)) (
+    ⊎-elim (λ a. rw (a .0 .keys302) (a .1)) (
+    ⊎-elim (λ a. rw (a .0 .keys303) (a .1)) (
+    ⊎-elim (λ a. rw (a .0 .keys304) (a .1)) (
+    ⊎-elim (λ a. rw (a .0 .keys305) (a .1)) (
+    ⊎-elim (λ a. rw (a .0 .keys306) (a .1)) (
+    ⊎-elim (λ a. rw (a .0 .keys307) (a .1)) (
+    ⊎-elim (λ a. rw (a .0 .keys308) (a .1)) (
+    ⊎-elim (λ a. rw (a .0 .keys309) (a .1)) (
+    ⊎-elim (λ a. rw (a .0 .keys310) (a .1)) (
+    ⊎-elim (λ a. rw (a .0 .keys311) (a .1)) (
+    ⊎-elim (λ a. rw (a .0 .keys312) (a .1)) (
+    ⊎-elim (λ a. rw (a .0 .keys313) (a .1)) (
+    ⊎-elim (λ a. rw (a .0 .keys314) (a .1)) (
+    ⊎-elim (λ a. rw (a .0 .keys315) (a .1)) (
+    ⊎-elim (λ a. rw (a .0 .keys316) (a .1)) (
+    ⊎-elim (λ a. rw (a .0 .keys317) (a .1)) (
+    ⊎-elim (λ a. rw (a .0 .keys318) (a .1)) (
+    ⊎-elim (λ a. rw (a .0 .keys319) (a .1)) (
+    ⊎-elim (λ a. rw (a .0 .keys320) (a .1)) (
+    ⊎-elim (λ a. rw (a .0 .keys321) (a .1)) (
+    ⊎-elim (λ a. rw (a .0 .keys322) (a .1)) (
+    ⊎-elim (λ a. rw (a .0 .keys323) (a .1)) (
+    ⊎-elim (λ a. rw (a .0 .keys324) (a .1)) (
+    ⊎-elim (λ a. rw (a .0 .keys325) (a .1)) (
+    ⊎-elim (λ a. rw (a .0 .keys326) (a .1)) (
+    ⊎-elim (λ a. rw (a .0 .keys327) (a .1)) (
+    ⊎-elim (λ a. rw (a .0 .keys328) (a .1)) (
+    ⊎-elim (λ a. rw (a .0 .keys329) (a .1)) (
+    ⊎-elim (λ a. rw (a .0 .keys330) (a .1)) (
+    ⊎-elim (λ a. rw (a .0 .keys331) (a .1)) (
+    ⊎-elim (λ a. rw (a .0 .keys332) (a .1)) (
+    ⊎-elim (λ a. rw (a .0 .keys333) (a .1)) (
+    ⊎-elim (λ a. rw (a .0 .keys334) (a .1)) (
+    ⊎-elim (λ a. rw (a .0 .keys335) (a .1)) (
+    ⊎-elim (λ a. rw (a .0 .keys336) (a .1)) (
+    ⊎-elim (λ a. rw (a .0 .keys337) (a .1)) (
+    ⊎-elim (λ a. rw (a .0 .keys338) (a .1)) (
+    ⊎-elim (λ a. rw (a .0 .keys339) (a .1)) (
+    ⊎-elim (λ a. rw (a .0 .keys340) (a .1)) (
+    ⊎-elim (λ a. rw (a .0 .keys341) (a .1)) (
+    ⊎-elim (λ a. rw (a .0 .keys342) (a .1)) (
+    ⊎-elim (λ a. rw (a .0 .keys343) (a .1)) (
+    ⊎-elim (λ a. rw (a .0 .keys344) (a .1)) (
+    ⊎-elim (λ a. rw (a .0 .keys345) (a .1)) (
+    ⊎-elim (λ a. rw (a .0 .keys346) (a .1)) (
+    ⊎-elim (λ a. rw (a .0 .keys347) (a .1)) (
+    ⊎-elim (λ a. rw (a .0 .keys348) (a .1)) (
+    ⊎-elim (λ a. rw (a .0 .keys349) (a .1)) (
+    ⊎-elim (λ a. rw (a .0 .keys350) (a .1)) (
+    ⊎-elim (λ a. rw (a .0 .keys351) (a .1)) (
+    ⊎-elim (λ a. rw (a .0 .keys352) (a .1)) (
+    ⊎-elim (λ a. rw (a .0 .keys353) (a .1)) (
+    ⊎-elim (λ a. rw (a .0 .keys354) (a .1)) (
+    ⊎-elim (λ a. rw (a .0 .keys355) (a .1)) (
+    ⊎-elim (λ a. rw (a .0 .keys356) (a .1)) (
+    ⊎-elim (λ a. rw (a .0 .keys357) (a .1)) (
+    ⊎-elim (λ a. rw (a .0 .keys358) (a .1)) (
+    ⊎-elim (λ a. rw (a .0 .keys359) (a .1)) (
+    ⊎-elim (λ a. rw (a .0 .keys360) (a .1)) (
+    ⊎-elim (λ a. rw (a .0 .keys361) (a .1)) (
+    ⊎-elim (λ a. rw (a .0 .keys362) (a .1)) (
+    ⊎-elim (λ a. rw (a .0 .keys363) (a .1)) (
+    ⊎-elim (λ a. rw (a .0 .keys364) (a .1)) (
+    ⊎-elim (λ a. rw (a .0 .keys365) (a .1)) (
+    ⊎-elim (λ a. rw (a .0 .keys366) (a .1)) (
+    ⊎-elim (λ a. rw (a .0 .keys367) (a .1)) (
+    ⊎-elim (λ a. rw (a .0 .keys368) (a .1)) (
+    ⊎-elim (λ a. rw (a .0 .keys369) (a .1)) (
+    ⊎-elim (λ a. rw (a .0 .keys370) (a .1)) (
+    ⊎-elim (λ a. rw (a .0 .keys371) (a .1)) (
+    ⊎-elim (λ a. rw (a .0 .keys372) (a .1)) (
+    ⊎-elim (λ a. rw (a .0 .keys373) (a .1)) (
+    ⊎-elim (λ a. rw (a .0 .keys374) (a .1)) (
+    ⊎-elim (λ a. rw (a .0 .keys375) (a .1)) (
+    ⊎-elim (λ a. rw (a .0 .keys376) (a .1)) (
+    ⊎-elim (λ a. rw (a .0 .keys377) (a .1)) (
+    ⊎-elim (λ a. rw (a .0 .keys378) (a .1)) (
+    ⊎-elim (λ a. rw (a .0 .keys379) (a .1)) (
+    ⊎-elim (λ a. rw (a .0 .keys380) (a .1)) (
+    ⊎-elim (λ a. rw (a .0 .keys381) (a .1)) (
+    ⊎-elim (λ a. rw (a .0 .keys382) (a .1)) (
+    ⊎-elim (λ a. rw (a .0 .keys383) (a .1)) (
+    ⊎-elim (λ a. rw (a .0 .keys384) (a .1)) (
+    ⊎-elim (λ a. rw (a .0 .keys385) (a .1)) (
+    ⊎-elim (λ a. rw (a .0 .keys386) (a .1)) (
+    ⊎-elim (λ a. rw (a .0 .keys387) (a .1)) (
+    ⊎-elim (λ a. rw (a .0 .keys388) (a .1)) (
+    ⊎-elim (λ a. rw (a .0 .keys389) (a .1)) (
+    ⊎-elim (λ a. rw (a .0 .keys390) (a .1)) (
+    ⊎-elim (λ a. rw (a .0 .keys391) (a .1)) (
+    ⊎-elim (λ a. rw (a .0 .keys392) (a .1)) (
+    ⊎-elim (λ a. rw (a .0 .keys393) (a .1)) (
+    ⊎-elim (λ a. rw (a .0 .keys394) (a .1)) (
+    ⊎-elim (λ a. rw (a .0 .keys395) (a .1)) (
+    ⊎-elim (λ a. rw (a .0 .keys396) (a .1)) (
+    ⊎-elim (λ a. rw (a .0 .keys397) (a .1)) (
+    ⊎-elim (λ a. rw (a .0 .keys398) (a .1)) (
+    ⊎-elim (λ a. rw (a .0 .keys399) (a .1)) (
+    ⊎-elim (λ a. rw (a .0 .keys400) (a .1)) (
+    ⊎-elim (λ a. rw (a .0 .keys401) (a .1)) (
+    ⊎-elim (λ a. rw (a .0 .keys402) (a .1)) (
+    ⊎-elim (λ a. rw (a .0 .keys403) (a .1)) (
+    ⊎-elim (λ a. rw (a .0 .keys404) (a .1)) (
+    ⊎-elim (λ a. rw (a .0 .keys405) (a .1)) (
+    ⊎-elim (λ a. rw (a .0 .keys406) (a .1)) (
+    ⊎-elim (λ a. rw (a .0 .keys407) (a .1)) (
+    ⊎-elim (λ a. rw (a .0 .keys408) (a .1)) (
+    ⊎-elim (λ a. rw (a .0 .keys409) (a .1)) (
+    ⊎-elim (λ a. rw (a .0 .keys410) (a .1)) (
+    ⊎-elim (λ a. rw (a .0 .keys411) (a .1)) (
+    ⊎-elim (λ a. rw (a .0 .keys412) (a .1)) (
+    ⊎-elim (λ a. rw (a .0 .keys413) (a .1)) (
+    ⊎-elim (λ a. rw (a .0 .keys414) (a .1)) (
+    ⊎-elim (λ a. rw (a .0 .keys415) (a .1)) (
+    ⊎-elim (λ a. rw (a .0 .keys416) (a .1)) (
+    ⊎-elim (λ a. rw (a .0 .keys417) (a .1)) (
+    ⊎-elim (λ a. rw (a .0 .keys418) (a .1)) (
+    ⊎-elim (λ a. rw (a .0 .keys419) (a .1)) (
+    ⊎-elim (λ a. rw (a .0 .keys420) (a .1)) (
+    ⊎-elim (λ a. rw (a .0 .keys421) (a .1)) (
+    ⊎-elim (λ a. rw (a .0 .keys422) (a .1)) (
+    ⊎-elim (λ a. rw (a .0 .keys423) (a .1)) (
+    ⊎-elim (λ a. rw (a .0 .keys424) (a .1)) (
+    ⊎-elim (λ a. rw (a .0 .keys425) (a .1)) (
+    ⊎-elim (λ a. rw (a .0 .keys426) (a .1)) (
+    ⊎-elim (λ a. rw (a .0 .keys427) (a .1)) (
+    ⊎-elim (λ a. rw (a .0 .keys428) (a .1)) (
+    ⊎-elim (λ a. rw (a .0 .keys429) (a .1)) (
+    ⊎-elim (λ a. rw (a .0 .keys430) (a .1)) (
+    ⊎-elim (λ a. rw (a .0 .keys431) (a .1)) (
+    ⊎-elim (λ a. rw (a .0 .keys432) (a .1)) (
+    ⊎-elim (λ a. rw (a .0 .keys433) (a .1)) (
+    ⊎-elim (λ a. rw (a .0 .keys434) (a .1)) (
+    ⊎-elim (λ a. rw (a .0 .keys435) (a .1)) (
+    ⊎-elim (λ a. rw (a .0 .keys436) (a .1)) (
+    ⊎-elim (λ a. rw (a .0 .keys437) (a .1)) (
+    ⊎-elim (λ a. rw (a .0 .keys438) (a .1)) (
+    ⊎-elim (λ a. rw (a .0 .keys439) (a .1)) (
+    ⊎-elim (λ a. rw (a .0 .keys440) (a .1)) (
+    ⊎-elim (λ a. rw (a .0 .keys441) (a .1)) (
+    ⊎-elim (λ a. rw (a .0 .keys442) (a .1)) (
+    ⊎-elim (λ a. rw (a .0 .keys443) (a .1)) (
+    ⊎-elim (λ a. rw (a .0 .keys444) (a .1)) (
+    ⊎-elim (λ a. rw (a .0 .keys445) (a .1)) (
+    ⊎-elim (λ a. rw (a .0 .keys446) (a .1)) (
+    ⊎-elim (λ a. rw (a .0 .keys447) (a .1)) (
+    ⊎-elim (λ a. rw (a .0 .keys448) (a .1)) (
+    ⊎-elim (λ a. rw (a .0 .keys449) (a .1)) (
+    ⊎-elim (λ a. rw (a .0 .keys450) (a .1)) (
+    ⊎-elim (λ a. rw (a .0 .keys451) (a .1)) (
+    ⊎-elim (λ a. rw (a .0 .keys452) (a .1)) (
+    ⊎-elim (λ a. rw (a .0 .keys453) (a .1)) (
+    ⊎-elim (λ a. rw (a .0 .keys454) (a .1)) (
+    ⊎-elim (λ a. rw (a .0 .keys455) (a .1)) (
+    ⊎-elim (λ a. rw (a .0 .keys456) (a .1)) (
+    ⊎-elim (λ a. rw (a .0 .keys457) (a .1)) (
+    ⊎-elim (λ a. rw (a .0 .keys458) (a .1)) (
+    ⊎-elim (λ a. rw (a .0 .keys459) (a .1)) (
+    ⊎-elim (λ a. rw (a .0 .keys460) (a .1)) (
+    ⊎-elim (λ a. rw (a .0 .keys461) (a .1)) (
+    ⊎-elim (λ a. rw (a .0 .keys462) (a .1)) (
+    ⊎-elim (λ a. rw (a .0 .keys463) (a .1)) (
+    ⊎-elim (λ a. rw (a .0 .keys464) (a .1)) (
+    ⊎-elim (λ a. rw (a .0 .keys465) (a .1)) (
+    ⊎-elim (λ a. rw (a .0 .keys466) (a .1)) (
+    ⊎-elim (λ a. rw (a .0 .keys467) (a .1)) (
+    ⊎-elim (λ a. rw (a .0 .keys468) (a .1)) (
+    ⊎-elim (λ a. rw (a .0 .keys469) (a .1)) (
+    ⊎-elim (λ a. rw (a .0 .keys470) (a .1)) (
+    ⊎-elim (λ a. rw (a .0 .keys471) (a .1)) (
+    ⊎-elim (λ a. rw (a .0 .keys472) (a .1)) (
+    ⊎-elim (λ a. rw (a .0 .keys473) (a .1)) (
+    ⊎-elim (λ a. rw (a .0 .keys474) (a .1)) (
+    ⊎-elim (λ a. rw (a .0 .keys475) (a .1)) (
+    ⊎-elim (λ a. rw (a .0 .keys476) (a .1)) (
+    ⊎-elim (λ a. rw (a .0 .keys477) (a .1)) (
+    ⊎-elim (λ a. rw (a .0 .keys478) (a .1)) (
+    ⊎-elim (λ a. rw (a .0 .keys479) (a .1)) (
+    λ a. a .1 ∙ ap rowNumber (outside table beyond 479 _ tt (a .0 .rest)))))))))))))))))))))))))))))))))))))))))))))))))))))))))))))))))))))))))))))))))))))))))))))))))))))))))))))))))))))))))))))))))))))))))))))))))))))))))))))))))))))))))))))))))))))))))))))))))))))))))))))))))))))))))))))))))))))))))))))))))))))))))))))))))))))))))))))))))))))))))))))))))))))))))))))))))))))))))))))))))))))))))))))))))))))))))))))))))))))))))))))))))))))))))))))))))))))))))))))))))))))))))))))))))))))))))))))))))))))))))))))))))))))))))))))))))))))))))))))))))) (c .before .match .came)
 
-pub leaf-spec : {M : Type 1} → statement M
-leaf-spec = tie.close (tie.spec mul-result cast-result shr-result returns)
+cast-t5 : tie.Need-cast-t5
+cast-t5 c = search needs
+
+cast-t8 : tie.Need-cast-t8
+cast-t8 c = search needs
+
+returns : tie.Need-returns
+returns c = read-back (c .before .before .args .k) (c .before .match .w) (held c)
+
+pub row-spec : {M : Type 1} → statement M
+row-spec = tie.close (tie.spec cast-t5 cast-t8 returns)

@@ -1,29 +1,18 @@
--- Written by tools/widths: `near::row` meets its contract. Whichever arm the word came by, it is the list's.
-use borrow.Author.Needs.{needs}
+-- Written by tools/widths: `table::next` meets its contract. Whichever arm it came by, it is the list's.
 use mathlib.Core.Path.{_≡_, _∙_}
 use mathlib.Core.Logic.{⊎-elim}
 use lib.ListN.{getD}
-use Rattle.widths.specs.Contracts.Near.{nearRows}
+use Rattle.widths.specs.Contracts.Forms.{behind}
+use Rattle.widths.specs.Contracts.Starts.{nextStarts}
 use Rattle.widths.proofs.Arms.{outside}
-use Rattle.widths.proofs.near.row.Statement.{statement}
-use Rattle.widths.proofs.near.row.Tie as tie
+use Rattle.widths.proofs.table.next.Statement.{statement}
+use Rattle.widths.proofs.table.next.Tie as tie
+use Rattle.widths.proofs.table.next.Reads as reads
+use Rattle.widths.proofs.table.next.Lts as lts
 
-mul-result : tie.Need-mul-result
-mul-result c = search needs
-
-cast-result : tie.Need-cast-result
-cast-result c = search needs
-
-shr-result : tie.Need-shr-result
-shr-result c = search needs
-
-cast-result-2 : tie.Need-cast-result-2
-cast-result-2 c = search needs
-
-returns : tie.Need-returns
-unfolding nearRows
-returns c =
-    let e : c .before .match .w ≡ getD nearRows (c .before .before .args .n) 0 = (
+held : (c : lts.After-row-known reads.Pre reads.Post) → c .before .match .k ≡ getD nextStarts (c .before .before .args .n) behind
+unfolding nextStarts
+held c = (
     ⊎-elim (λ a. rw (a .0 .keys1) (a .1)) (
     ⊎-elim (λ a. rw (a .0 .keys2) (a .1)) (
     ⊎-elim (λ a. rw (a .0 .keys3) (a .1)) (
@@ -152,8 +141,10 @@ returns c =
     ⊎-elim (λ a. rw (a .0 .keys126) (a .1)) (
     ⊎-elim (λ a. rw (a .0 .keys127) (a .1)) (
     ⊎-elim (λ a. rw (a .0 .keys128) (a .1)) (
-    λ a. a .1 ∙ outside nearRows 128 _ tt (a .0 .rest)))))))))))))))))))))))))))))))))))))))))))))))))))))))))))))))))))))))))))))))))))))))))))))))))))))))))))))))))))))))))))))))))) (c .before .match .came) in
-    rw e
+    λ a. a .1 ∙ outside nextStarts behind 128 _ tt (a .0 .rest)))))))))))))))))))))))))))))))))))))))))))))))))))))))))))))))))))))))))))))))))))))))))))))))))))))))))))))))))))))))))))))))))) (c .before .match .came)
 
-pub row-spec : {M : Type 1} → statement M
-row-spec = tie.close (tie.spec mul-result cast-result shr-result cast-result-2 returns)
+returns : tie.Need-returns
+returns c = rw (held c)
+
+pub next-spec : {M : Type 1} → statement M
+next-spec = tie.close (tie.spec returns)
