@@ -32,31 +32,26 @@ static bool add_piece(struct page *page, const struct rudignals_record *record, 
 }
 
 /* A part of the notes: its digest is written where it stands already, for the index beside it. */
-static bool index_part(struct page *page, size_t at, size_t length, size_t *digest_at) {
-    struct rudignals_record *index = malloc((length + 1) * sizeof *index);
-    uint64_t filled, i, answer;
-    bool well = index != NULL;
-    if (!well)
-        return false;
-    answer = rudignals_write_indexed(page->options->block, page->options->block_len, page->notes + at, length, page->digest->text.bytes + *digest_at,
-                                     page->digest->text.length - *digest_at, index, length, &filled);
-    well = rudignals_code_of(answer) == RUDIGNALS_DONE;
-    for (i = 0; well && i < filled; i++)
-        well = add_piece(page, &index[i], at, length);
+static bool add_pieces(struct page *page, const struct part *part, struct index *index, size_t *digest_at) {
+    const struct buffer *text = &page->digest->text;
+    uint64_t answer = index_part(page->options, part, text->bytes + *digest_at, text->length - *digest_at, index), i;
+    bool well = rudignals_code_of(answer) == RUDIGNALS_DONE;
+    for (i = 0; well && i < index->filled; i++)
+        well = add_piece(page, &index->records[i], part->bytes_before, part->length);
     *digest_at += rudignals_number_of(answer);
-    free(index);
     return well;
 }
 
 /* The parts are those that were formatted: the index of one joins on to the next (the theorem `the-indexes-join`). */
 static bool find_pieces(struct page *page) {
-    size_t at = 0, digest_at = 0, length;
-    for (; at < page->notes_len; at += length) {
-        length = first_part(page->notes + at, page->notes_len - at, true);
-        if (length == 0 || !index_part(page, at, length, &digest_at))
-            return false;
-    }
-    return true;
+    struct part part = {0};
+    struct index index = {0};
+    size_t digest_at = 0;
+    bool well = true;
+    while (well && next_part_of(&own_work, block_of(page->options), (struct bytes){page->notes, page->notes_len}, MOST_PART, &part) == PART)
+        well = add_pieces(page, &part, &index, &digest_at);
+    free_index(&index);
+    return well;
 }
 
 static void find_lines(struct page *page) {
@@ -84,7 +79,7 @@ static void explain_stretch(struct page *page, const struct piece *from, const s
     size_t length = to->place + to->length - from->place, count = to->first + to->count - from->first, i;
     for (i = 0; i < count && length <= MOST_ASKED / count; i++) {
         struct line *line = &page->lines[from->first + i];
-        uint64_t answer = rudignals_explain(page->options->block, page->options->block_len, page->notes + from->place, length, i, line->reason);
+        uint64_t answer = lent_explain(&own_work, block_of(page->options), (struct bytes){page->notes + from->place, length}, i, line->reason);
         line->asked = rudignals_code_of(answer) == RUDIGNALS_DONE;
     }
 }
@@ -256,8 +251,8 @@ const struct subcommand page_subcommand = {
               "digest, because FILE is refused or cannot be read, the page says so, and shows\n"
               "the notes and the place in them.\n"
               "\n"
-              "Limits: no more than 65536 bytes without an empty line, 1024 words in a\n"
-              "paragraph, and 65536 lines or 4 MiB of digest.\n",
+              LIMIT
+              "A page shows at most 65536 lines or 4 MiB of digest.\n",
     .statuses = "0 the page shows a digest; 1 something was refused, not read or\n"
                 "not written; 2 a wrong call",
     .draws = true,
