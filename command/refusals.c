@@ -64,7 +64,7 @@ bool options_accepted(const struct options *options) {
 void say_refusal(const char *name, const struct refusal *at) {
     switch (at->code) {
     case RUDIGNALS_LONG:
-        say(AT "the paragraph that begins here has more than %u bytes; part it by an empty line", name, at->line, at->column, (unsigned)MOST_LARGE);
+        say(AT "more than %u bytes from here on are one paragraph or one line; part them by an empty line", name, at->line, at->column, (unsigned)MOST_LARGE);
         break;
     case RUDIGNALS_TEXT:
         say(AT "byte %02X begins no UTF-8 character; --keep leaves such a line as it is", name, at->line, at->column,
