@@ -193,7 +193,7 @@ const struct subcommand night_subcommand = {
               "flow.\n"
               "\n"
               LIMIT
-              "A page shows at most 65536 lines or 4 MiB of digest.\n",
+              "Of a digest of more than 65536 lines or 4 MiB the page shows the last.\n",
     .statuses = "0 every night was made; " STATUSES,
     .run = run_night,
 };
