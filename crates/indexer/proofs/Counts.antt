@@ -37,7 +37,7 @@ use Rattle.output.proofs.Indents.{Feedless as Feed, indent-for-feedless}
 use Rattle.walk.specs.Digest.{formatted, outputOf, extentOf}
 use Rattle.walk.specs.Contracts.Course.{piecesFrom}
 use Rattle.walk.proofs.Bound.{Shorter, lines-shorter}
-use Rattle.formatter.proofs.Work.{bytes-many}
+use Rattle.walk.proofs.Work.{bytes-many}
 use Rattle.indexer.specs.Index.{lineCount}
 
 -- ---- the lines of a text, counted

@@ -5,10 +5,11 @@ use pieces::Paragraph;
 use spacing::Setting;
 use words::Count;
 ghost use mathlib.Core.Path.{_≡_};
-ghost use mathlib.Core.Bool.{_||_};
+ghost use mathlib.Core.Bool.{cond, _||_};
 ghost use mathlib.Core.List.{List};
-ghost use Prim.Native.Nat.{ℕ, _^_, _≤_, _<_};
+ghost use Prim.Native.Nat.{ℕ, _*_, _^_, _≤_, _<_};
 ghost use lib.ListN.{length};
+ghost use Rattle.lines.specs.Contracts.Places.{mostLarge};
 ghost use Rattle.knuth_plass.specs.Contracts.Round.{Limits, AllNarrow};
 ghost use Rattle.paragraphs.specs.Contracts.Steps.{roomFor, Roomy, settingFor, Broken, Placed, TextStepped};
 
@@ -38,6 +39,17 @@ pub fn room_for(quick: bool, size: usize) -> usize
         return size / QUICK;
     }
     size / BEST
+}
+
+// How many numbers so many words take.
+pub fn numbers_for(quick: bool, words: usize) -> usize
+    requires { ⌜ words ≤ mostLarge ⌝ }
+    ensures { λ r. ⌜ r ≡ cond quick 7 15 * words ⌝ }
+{
+    if quick {
+        return QUICK * words;
+    }
+    BEST * words
 }
 
 // Writes a paragraph, unless it has more words than there is room for.
