@@ -158,7 +158,7 @@ enum found next_part_of(struct work *work, struct bytes block, struct bytes note
 
 /* ---- a part */
 
-/* As mail: without room the call tells how much it needs. */
+/* As mail: without room the call tells how much it needs, unless that is more than it can tell. */
 uint64_t measure_part(const struct options *options, bool mail, const struct part *part) {
     uint8_t room[RUDIGNALS_MOST_BLOCK];
     struct bytes block = block_of_part(block_of(options), part, room), notes = {part->bytes, part->length};
@@ -166,7 +166,7 @@ uint64_t measure_part(const struct options *options, bool mail, const struct par
     if (!mail)
         return lent_measure(&own_work, block, notes);
     answer = lent_flow(&own_work, block, notes, NULL, 0, &dashes);
-    return rudignals_code_of(answer) == RUDIGNALS_ROOM ? rudignals_number_of(answer) : answer;
+    return rudignals_code_of(answer) == RUDIGNALS_ROOM && rudignals_number_of(answer) < UINT32_MAX ? rudignals_number_of(answer) : answer;
 }
 
 uint64_t write_part(const struct options *options, bool mail, const struct part *part, uint8_t *output, size_t length, uint64_t *dashes) {
