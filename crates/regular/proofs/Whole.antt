@@ -2,7 +2,7 @@
 use mathlib.Core.Path.{_≡_, refl}
 use mathlib.Core.Bool.{Bool, true, false}
 use mathlib.Core.List.{List, [], _∷_, _++_}
-use Prim.Native.Nat.{ℕ, _+_, _-_, _≤_, _<_, _^_}
+use Prim.Native.Nat.{ℕ, _+_, _≤_, _<_, _^_}
 use native.Mathlib.Omega.{arith}
 use lib.ListN.{length, take}
 use lib.Seq.{slice, length-slice, length-take-le}
@@ -64,8 +64,8 @@ module _ (s : List ℕ) (from e : ℕ) (inked : Inked s from e) (each : EachRegu
       let a = filled .most in
       let b = filled .reach in (
         λ more.
-        rw (regular-words o true false true (slice from e s) (part-all s from e w isRegular each), emit-fresh s from e inked o kept g even first indent more)
-        (left-on (left-then (left-first out k _) begun) (rw (← mark) at (filled .left o true false more kept))),
+            rw (regular-words o true false true (slice from e s) (part-all s from e w isRegular each), emit-fresh s from e inked o kept g even first indent more)
+            (left-on (left-then (left-first out k _) begun) (rw (← mark) at (filled .left o true false more kept))),
         omega arith,
         omega arith,
       )
@@ -84,8 +84,8 @@ module _ (s : List ℕ) (from e : ℕ) (within : e ≤ length s) (o : Opts) (g :
       let i = next .within .end in
       let j = next .on in (
         λ more.
-        rw (words-next o true false s from e w next, emit-cons g first indent (meaning s w) (wordsOf o false (w .punct) s (w .end) e ++ more) even)
-        (left-on (left-then (left-then (left-first out k _) begun) wrote) (put .left more)),
+            rw (words-next o true false s from e w next, emit-cons g first indent (meaning s w) (wordsOf o false (w .punct) s (w .end) e ++ more) even)
+            (left-on (left-then (left-then (left-first out k _) begun) wrote) (put .left more)),
         omega arith,
         put .reach,
       )

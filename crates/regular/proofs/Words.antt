@@ -2,7 +2,7 @@
 use mathlib.Core.Path.{_≡_, sym, ap, _∙_}
 use mathlib.Core.Bool.{Bool, true, false, false≢true}
 use mathlib.Core.List.{List, [], _∷_, _++_, append-assoc}
-use Prim.Native.Nat.{ℕ, _+_, _-_, _≤_, _<_, _^_}
+use Prim.Native.Nat.{ℕ, _+_, _≤_, _<_, _^_}
 use native.Mathlib.Omega.{arith}
 use lib.ListN.{length, take, replicate}
 use lib.Seq.{slice, length-slice, length-take-le}
@@ -68,8 +68,13 @@ module _ (s : List ℕ) (w : Record) (g : Setting) (indent : List ℕ) (out : Li
       stays : (more : List Word) → quickRest g indent (t .column) (t .punct) (meaning s w ∷ more) ≡ replicate count 32 ++ (slice (w .from) (w .end) s ++ quickRest g indent reached (w .punct) more)
       stays more =
           word-stays g indent (t .column) (t .punct) (meaning s w) more (rw reaches (le-ltb _ _ fits))
-          ∙ rw (reaches, ← counts, append-assoc (replicate count 32) (slice (w .from) (w .start) s) (slice (w .start) (w .end) s ++ quickRest g indent reached (w .punct) more),
-            ← append-assoc (slice (w .from) (w .start) s) (slice (w .start) (w .end) s) (quickRest g indent reached (w .punct) more), slice-join (w .from) (w .start) (w .end) s (lies .gap) (lies .text) (lies .end))
+          ∙ rw (
+            reaches,
+            ← counts,
+            append-assoc (replicate count 32) (slice (w .from) (w .start) s) (slice (w .start) (w .end) s ++ quickRest g indent reached (w .punct) more),
+            ← append-assoc (slice (w .from) (w .start) s) (slice (w .start) (w .end) s) (quickRest g indent reached (w .punct) more),
+            slice-join (w .from) (w .start) (w .end) s (lies .gap) (lies .text) (lies .end),
+          )
 
 -- ---- the words of a line's part
 

@@ -9,7 +9,6 @@ use Rattle.lists.proofs.All.{all-at}
 use Rattle.options.specs.Opts.{Opts}
 use Rattle.lines.specs.Lines.{Line}
 use Rattle.pieces.specs.Pieces.{Paragraph}
-use Rattle.records.specs.Word.{Word}
 use Rattle.records.specs.declared.Before.the-variants.{Absent}
 use Rattle.words.specs.Words.{wordsOf}
 use Rattle.words.specs.Places.{Standing, wordsStanding}

@@ -1,5 +1,5 @@
 -- `regular::begin_words` meets its contract.
-use mathlib.Core.Path.{_≡_, refl, sym}
+use mathlib.Core.Path.{refl, sym}
 use mathlib.Core.Bool.{true, false, false≢true}
 use mathlib.Core.List.{[]}
 use native.Mathlib.Omega.{arith}

@@ -1,12 +1,7 @@
 -- `regular::put_quick` meets its contract.
-use mathlib.Core.List.{[]}
 use native.Mathlib.Omega.{arith}
-use denote.Ref.{now}
 use borrow.Author.Needs.{needs}
 use Rattle.options.specs.Opts.{meant}
-use Rattle.output.specs.Contracts.Writers.{marginOf}
-use Rattle.regular.specs.Contracts.Places.{BegunIs}
-use Rattle.regular.specs.declared.Begun.the-variants.{At}
 use Rattle.regular.proofs.Whole.{whole}
 use Rattle.regular.proofs.put_quick.Statement.{statement}
 use Rattle.regular.proofs.put_quick.Tie as tie
