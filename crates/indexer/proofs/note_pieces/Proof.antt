@@ -5,7 +5,6 @@ use native.Mathlib.Omega.{arith}
 use lib.ListN.{length}
 use borrow.Author.Needs.{needs}
 use Rattle.options.specs.Opts.{meant}
-use Rattle.walk.specs.Digest.{mostWords}
 use Rattle.walk.specs.Contracts.Course.{Going, start}
 use Rattle.walk.proofs.Loop.{going-first, going-length, going-on, stands-first}
 use Rattle.indexer.proofs.Laws.{stepped-on, stepped-over}
@@ -15,14 +14,14 @@ use Rattle.indexer.proofs.note_pieces.Tie as tie
 
 abbrev Inv-loop : tie.InvT-loop
 Inv-loop o block notes out₀ gaps₀ work₀ c₀ k₀ line₀ out gaps work c k line =
-    Going mostWords (meant block o) notes start out₀ c out × Marking (meant block o) notes (length out₀) c k line gaps
+    Going (meant block o) notes start out₀ c out × Marking (meant block o) notes (length out₀) c k line gaps
     × (length gaps ≡ length gaps₀) × (length work ≡ length work₀)
 
 abbrev μ-loop : tie.MeasureT-loop
 μ-loop o block notes out₀ gaps₀ work₀ c₀ k₀ line₀ out gaps work c k line = length notes - c .at
 
 loop-holds : tie.Need-loop-holds Inv-loop μ-loop
-loop-holds c = (going-first _ _ _ _ _ (stands-first _), marking-first _ _ _ _ (c .before .before .before .before .before .pre .1 .clear), refl, refl)
+loop-holds c = (going-first _ _ _ _ (stands-first _), marking-first _ _ _ _ (c .before .before .before .before .before .pre .1 .clear), refl, refl)
 
 put-piece-requires : tie.Need-put-piece-requires Inv-loop μ-loop
 put-piece-requires c κs =
@@ -37,7 +36,7 @@ enum-told : tie.Need-enum-told Inv-loop μ-loop
 enum-told c = search needs
 
 same-length : tie.Need-same-length Inv-loop μ-loop
-same-length c = c .before .before .before .before .before .out .given ∙ going-length _ _ _ (c .before .before .before .before .before .before .before .before .before .before .before .loop .inv .0)
+same-length c = c .before .before .before .before .before .out .given ∙ going-length _ _ (c .before .before .before .before .before .before .before .before .before .before .before .loop .inv .0)
 
 same-length-2 : tie.Need-same-length-2 Inv-loop μ-loop
 same-length-2 c = c .before .before .before .before .before .before .before .before .before .before .before .loop .inv .2
@@ -52,7 +51,7 @@ spell-requires : tie.Need-spell-requires Inv-loop μ-loop
 spell-requires c κs =
     let p = stepped-on _ _ _ _ _ (c .before .before .before .before .before .before .before .before .before .put-piece .ensures) (c .before .before .before .d .given .1) in
     let i = c .before .before .before .before .before .before .before .before .before .before .before .before .before .before .loop .inv in
-    marking-spells _ _ _ (i .1) p (c .before .before .before .before .before .before .before .before .before .before .before .before .before .before .before .before .before .before .before .before .pre .1 .enough) (c .before .before .before .before .before .before .before .before .out .given ∙ going-length _ _ _ (i .0))
+    marking-spells _ _ _ (i .1) p (c .before .before .before .before .before .before .before .before .before .before .before .before .before .before .before .before .before .before .before .before .pre .1 .enough) (c .before .before .before .before .before .before .before .before .out .given ∙ going-length _ _ (i .0))
 
 add-k : tie.Need-add-k Inv-loop μ-loop
 add-k c =
@@ -68,14 +67,14 @@ loop-again : tie.Need-loop-again Inv-loop μ-loop
 loop-again c =
     let p = stepped-on _ _ _ _ _ (c .before .before .before .before .before .before .before .before .before .before .before .before .put-piece .ensures) (c .before .before .before .before .before .before .d .given .1) in
     let i = c .before .before .before .before .before .before .before .before .before .before .before .before .before .before .before .before .before .loop .inv in (
-      going-on _ _ _ (i .0) p,
-      marking-on _ _ _ (i .1) p (c .before .before .before .before .before .before .before .before .before .before .before .before .before .before .before .before .before .before .before .before .before .before .before .pre .1 .enough) (c .before .before .before .before .before .before .before .before .before .before .before .out .given ∙ going-length _ _ _ (i .0)) (c .before .before .spell .ensures),
+      going-on _ _ (i .0) p,
+      marking-on _ _ _ (i .1) p (c .before .before .before .before .before .before .before .before .before .before .before .before .before .before .before .before .before .before .before .before .before .before .before .pre .1 .enough) (c .before .before .before .before .before .before .before .before .before .before .before .out .given ∙ going-length _ _ (i .0)) (c .before .before .spell .ensures),
       c .before .gaps .given ∙ i .2,
       c .before .before .before .before .before .before .before .before .before .work .given ∙ i .3,
     )
 
 same-length-4 : tie.Need-same-length-4 Inv-loop μ-loop
-same-length-4 c = going-length _ _ _ (c .before .before .loop .inv .0)
+same-length-4 c = going-length _ _ (c .before .before .loop .inv .0)
 
 same-length-5 : tie.Need-same-length-5 Inv-loop μ-loop
 same-length-5 c = c .before .before .loop .inv .2
