@@ -69,3 +69,7 @@ thai-signs c h l = within 0xE34 _ _ _ _ _ refl h h l
 pub thai-tones : (c : ℕ) → 0xE47 ≤ c → c ≤ 0xE4E → 0 ≡ widthOf c
 unfolding past table
 thai-tones c h l = within 0xE47 _ _ _ _ _ refl h h l
+
+pub joiner : (c : ℕ) → c ≡ 0x200D → 0 ≡ widthOf c
+unfolding past table
+joiner c e = within 0x200D _ _ _ _ _ refl (omega arith) (omega arith) (omega arith)

@@ -136,6 +136,10 @@ fn middle(c: u32) -> usize
     if is_white_space(c) {
         return 3;
     }
+    // What joins emoji.
+    if c == 0x200D {
+        return 0;
+    }
     width(c)
 }
 

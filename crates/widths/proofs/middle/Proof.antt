@@ -3,7 +3,7 @@ use borrow.Author.Needs.{needs}
 use mathlib.Core.Path.{sym, _∙_}
 use mathlib.Core.Bool.{and-eq-true-iff}
 use borrow.Author.Tests.{leb-true, ltb-true}
-use Rattle.widths.proofs.Held.{dashes}
+use Rattle.widths.proofs.Held.{dashes, joiner}
 use Rattle.widths.proofs.Inks.{inked, blank, dash}
 use Rattle.widths.proofs.middle.Statement.{statement}
 use Rattle.widths.proofs.middle.Tie as tie
@@ -21,11 +21,14 @@ is-white-space-requires c κs = search needs
 returns-2 : tie.Need-returns-2
 returns-2 c = blank _ (sym (c .before .is-white-space .ensures) ∙ c .if2 .taken)
 
+returns-3 : tie.Need-returns-3
+returns-3 c = inked _ _ (sym (c .before .before .is-white-space .ensures) ∙ c .before .if2 .left) (joiner _ (c .if3 .taken))
+
 width-requires : tie.Need-width-requires
 width-requires c κs = search needs
 
-returns-3 : tie.Need-returns-3
-returns-3 c = inked _ _ (sym (c .before .before .is-white-space .ensures) ∙ c .before .if2 .left) (c .width .ensures)
+returns-4 : tie.Need-returns-4
+returns-4 c = inked _ _ (sym (c .before .before .before .is-white-space .ensures) ∙ c .before .before .if2 .left) (c .width .ensures)
 
 pub middle-spec : {M : Type 1} → statement M
-middle-spec = tie.close (tie.spec returns is-white-space-requires returns-2 width-requires returns-3)
+middle-spec = tie.close (tie.spec returns is-white-space-requires returns-2 returns-3 width-requires returns-4)
