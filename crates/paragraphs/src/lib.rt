@@ -86,6 +86,8 @@ pub fn put_paragraph(
         indent,
         out,
         written,
+        most,
+        work,
     ) else {
         return put_by_table(notes, at, o, p, out, written, work);
     };
