@@ -122,13 +122,7 @@ fn explain_line(o: Options, block: &[u8], notes: &[u8], line: usize) -> Explaine
 }
 
 // The line sought in the room that is lent. Nothing is written before it is found: only where the room does not reach is counted what would.
-fn explain_lent(
-    o: Options,
-    block: &[u8],
-    notes: &[u8],
-    line: usize,
-    work: &mut [u32],
-) -> Explained
+fn explain_lent(o: Options, block: &[u8], notes: &[u8], line: usize, work: &mut [u32]) -> Explained
     requires { ⌜ Admitted (now block) (now notes) o ⌝ }
     ensures { λ r. ⌜ r ≡ told (leftOf (lending (length (now (work .entry)))) (meant (now (block .entry)) o) (now (notes .entry)) line) ⌝ }
 {
@@ -147,7 +141,6 @@ fn explain_lent(
         Course::End(a) => found(line, a),
     }
 }
-
 
 // What is told of the line at the end of the notes: lines that were passed are all there are.
 fn found(line: usize, a: Asked) -> Explained

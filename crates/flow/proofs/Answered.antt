@@ -223,7 +223,7 @@ module _ (lends : ℕ) (o : Opts) (notes out : List ℕ) where
         let g : Finished room-is o notes out out′ (Stopped place) = rw e at f in
         let k : longParagraph (roomFor true lends) o 0 (pieces o notes) ≡ At place = rw is at (g .0) in
         let n : longParagraph (roomFor true lends) o 0 (pieces o notes) ≡ Nowhere =
-            ap (λ (q : Bool). longParagraph (roomFor q lends) o 0 (pieces o notes)) (sym quick) ∙ (sym (all-long (roomFor (o .quick) lends) o notes) ∙ enough o lends notes fits) in
+        ap (λ (q : Bool). longParagraph (roomFor q lends) o 0 (pieces o notes)) (sym quick) ∙ (sym (all-long (roomFor (o .quick) lends) o notes) ∙ enough o lends notes fits) in
         nowhere-else n k
 
     all-sent : {n k : ℕ} → r ≡ All n k → Finished room-is o notes out out′ (All n k)

@@ -209,13 +209,7 @@ fn send_notes(o: Options, block: &[u8], notes: &[u8], out: &mut [u8]) -> Outcome
 }
 
 // The same with lent room. The need is counted before a byte is written.
-fn send_large(
-    o: Options,
-    block: &[u8],
-    notes: &[u8],
-    out: &mut [u8],
-    work: &mut [u32],
-) -> Outcome
+fn send_large(o: Options, block: &[u8], notes: &[u8], out: &mut [u8], work: &mut [u32]) -> Outcome
     requires { ⌜ Ready (now block) (now notes) o ⌝ }
     ensures { λ r. ⌜ Sends (leftOf (lending (length (now (work .entry)))) (meant (now (block .entry)) o) (now (notes .entry)) (length (now (out .entry)))) (leftDashes (lending (length (now (work .entry)))) (meant (now (block .entry)) o) (now (notes .entry)) (length (now (out .entry)))) (now (out .entry)) r (now (out .exit)) ⌝ }
 {
@@ -234,13 +228,7 @@ fn send_large(
 const MOST_TOLD: usize = 4294967295;
 
 // With room for every paragraph.
-fn send_enough(
-    o: Options,
-    block: &[u8],
-    notes: &[u8],
-    out: &mut [u8],
-    work: &mut [u32],
-) -> Outcome
+fn send_enough(o: Options, block: &[u8], notes: &[u8], out: &mut [u8], work: &mut [u32]) -> Outcome
     requires { ⌜ Ready (now block) (now notes) o × (workFor (meant (now block) o) (now notes) ≤ length (now work)) ⌝ }
     ensures { λ r. ⌜ Sends (sentIn (lending (length (now (work .entry))) .words) (length (now (out .entry))) (flowed (meant (now (block .entry)) o) (now (notes .entry)))) (ifDone (sentIn (lending (length (now (work .entry))) .words) (length (now (out .entry))) (flowed (meant (now (block .entry)) o) (now (notes .entry)))) (dashesIn (meant (now (block .entry)) o) (pieces (meant (now (block .entry)) o) (now (notes .entry))))) (now (out .entry)) r (now (out .exit)) ⌝ }
 {
@@ -274,13 +262,7 @@ fn send_enough(
 }
 
 // Piece by piece. The work goes on when no room is left: too many words, found later, take precedence.
-fn send_pieces(
-    o: Options,
-    block: &[u8],
-    notes: &[u8],
-    out: &mut [u8],
-    work: &mut [u32],
-) -> Ended
+fn send_pieces(o: Options, block: &[u8], notes: &[u8], out: &mut [u8], work: &mut [u32]) -> Ended
     requires { ⌜ Ready (now block) (now notes) o ⌝ }
     ensures { λ r. ⌜ Finished (roomFor true (length (now (work .entry)))) (meant (now (block .entry)) o) (now (notes .entry)) (now (out .entry)) (now (out .exit)) r ⌝ }
 {

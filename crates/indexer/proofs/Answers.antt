@@ -1,8 +1,8 @@
 -- What the call answers, where the pieces came to an end or did not.
 use mathlib.Core.Path.{_≡_, refl, sym, ap, subst, _∙_}
-use mathlib.Core.Bool.{cond}
+use mathlib.Core.Bool.{Bool, true, false, cond}
 use mathlib.Core.List.{List}
-use Prim.Native.Nat.{ℕ, _≤_, _<_}
+use Prim.Native.Nat.{ℕ, _+_, _-_, _*_, _^_, _≤_, _<_, max}
 use native.Mathlib.Omega.{arith}
 use lib.ListN.{length, replicate}
 use lib.Dec.{leb}
@@ -13,12 +13,18 @@ use Rattle.options.specs.Opts.{Opts, meant}
 use Rattle.options.specs.OptionBlock.{readBlock}
 use Rattle.options.specs.declared.Options.{Options}
 use Rattle.options.specs.declared.Block.{Block}
+use Rattle.lines.specs.Contracts.Places.{mostLarge}
 use Rattle.pieces.specs.Pieces.{pieces}
 use Rattle.output.proofs.Sink.{written-fits, wrote-length}
 use Rattle.walk.specs.Digest.{mostWords, digest, longParagraph}
 use Rattle.formatter.specs.Answers.{Answer, done as measured, options as faulty, long as tooLong, text as damaged, words as manyWords, room as noRoom, work as noWork, code as codeOf, outputAfter as outputLeft}
 use Rattle.walk.specs.Contracts.Course.{Admitted}
+use Rattle.walk.specs.Work.{workFor}
+use Rattle.walk.proofs.Loop.{all-long}
+use Rattle.walk.proofs.Lent.{enough}
+use Rattle.walk.proofs.Work.{work-most}
 use Rattle.walk.proofs.Steps.{ready-kept}
+use Rattle.paragraphs.specs.Contracts.Steps.{roomFor}
 use Rattle.formatter.specs.Format.{Limits, mostBytes, document01, withWords, withBlock, finding, mostTold}
 use Rattle.formatter.specs.Contracts.Call.{Admits, told as replied}
 use Rattle.formatter.specs.declared.Reply.{Reply}
@@ -31,7 +37,8 @@ use Rattle.index.specs.Contracts.Lists.{noRecord}
 use Rattle.index.specs.Contracts.Reading.{front, readFrom}
 use Rattle.indexer.specs.Index.{indexOf}
 use Rattle.indexer.specs.Answers.{done, full, room, work, outputAfter}
-use Rattle.indexer.specs.Indexing.{withIndex, inIndex, indexWork, indexLending, indexUnder, indexing}
+use Rattle.indexer.specs.Indexing.{withIndex, inIndex, marksFor, indexWork, indexLending, indexUnder, indexing}
+use Rattle.indexer.specs.declared.Filled.{Filled}
 use Rattle.indexer.specs.Contracts.Noting.{Noted, Indexes, refusedAs, leftOf, numbering, foundOf}
 use Rattle.indexer.specs.declared.Filled.the-variants.{Done, Words, Full, Room, Work}
 use Rattle.indexer.specs.declared.Pieces.{Pieces}
@@ -118,13 +125,51 @@ module _ (block notes : List ℕ) (o : Options) (ready : Admitted block notes o)
 -- where room is lent there is enough for every paragraph, or the call is refused
 module _ (o : Opts) (notes : List ℕ) (space records lends : ℕ) where
   pub found-lent : (most : ℕ) → longParagraph most o 0 (pieces o notes) ≡ Nowhere → indexWork o notes ≤ lends → foundOf most o notes space records ≡ leftOf (indexLending lends) o notes space records
-  found-lent most e h = rw (e, le-ltb lends (indexWork o notes) h)
+  found-lent most e h =
+      ap (λ (f : Found). inIndex numbering space records (indexOf o notes) (withWords measured o notes f)) e
+      ∙ ap (λ (b : Bool). inIndex (indexLending lends .words) space records (indexOf o notes) (elim b as (λ t. Answer) [ true ↦ noWork (indexWork o notes) | false ↦ measured (digest o notes) ])) (sym (le-ltb lends (indexWork o notes) h))
 
-  pub work-answer : (out work : List ℕ) (needed : ℕ) → needed ≡ indexWork o notes → lends < needed → Indexes (leftOf (indexLending lends) o notes space records) out (Work needed) out work
+  pub work-answer : (out table : List ℕ) (needed : ℕ) → needed ≡ indexWork o notes → lends < needed → Indexes (leftOf (indexLending lends) o notes space records) out (Work needed) out table
   unfolding outputAfter readFrom
-  work-answer out work needed e h =
-      let a : leftOf (indexLending lends) o notes space records ≡ work needed = rw (lt-ltb lends (indexWork o notes) (omega (arith, e, h)), ← e) in
+  work-answer out table needed e h =
+      let a : leftOf (indexLending lends) o notes space records ≡ work needed =
+      ap (λ (b : Bool). inIndex (indexLending lends .words) space records (indexOf o notes) (elim b as (λ t. Answer) [ true ↦ noWork (indexWork o notes) | false ↦ measured (digest o notes) ])) (lt-ltb lends (indexWork o notes) (omega (arith, e, h))) ∙ ap work (sym e) in
       record { is = rw a; output = rw a; read = rw a }
+
+-- ---- the rooms
+
+-- for the most words of a paragraph
+pub few-numbers : (quick : Bool) {n : ℕ} → n ≡ cond quick 7 15 * 1024 → n ≤ 15360
+few-numbers true e = omega (arith, e)
+few-numbers false e = omega (arith, e)
+
+pub small-room : (quick : Bool) (marks n : ℕ) → n ≡ cond quick 7 15 * 1024 → roomFor quick (marks + n - marks) ≡ mostWords
+unfolding roomFor
+small-room true marks n e = omega (arith, e)
+small-room false marks n e = omega (arith, e)
+
+pub small-indexes : (block notes : List ℕ) (o : Options) → Admitted block notes o → length notes ≤ mostBytes → (space records : ℕ) {most : ℕ} {out out′ table : List ℕ} {r : Filled} → most ≡ mostWords
+    → Indexes (foundOf most (meant block o) notes space records) out r out′ table → Indexes (leftOf document01 (meant block o) notes space records) out r out′ table
+small-indexes block notes o ready short space records e i = rw (← found-document01 block notes o ready short space records) (rw e at i)
+
+-- the greater of two, where it is more than the first
+pub need-is : (least most n : ℕ) → n ≡ max least most → least < n → n ≡ most
+need-is least most n e h = omega (arith, e, h)
+
+pub lent-fits : (o : Opts) (notes : List ℕ) {marks n : ℕ} → marks ≡ marksFor (length notes) → n ≡ workFor o notes → length notes ≤ mostLarge → marks + n < 2 ^ 64
+lent-fits o notes is need h = let w = work-most o notes in omega (arith, is, need, h, w)
+
+-- what is lent: so many numbers are for marks, and what is left of it is for words
+module _ (o : Opts) (notes : List ℕ) (space records lends marks n : ℕ) (is : marks ≡ marksFor (length notes)) where
+  pub lent-refused : (out table : List ℕ) → n ≡ workFor o notes → lends < marks + n → Indexes (leftOf (indexLending lends) o notes space records) out (Work (marks + n)) out table
+  unfolding indexWork
+  lent-refused out table need h = work-answer o notes space records lends out table (marks + n) (omega (arith, is, need)) h
+
+  pub lent-indexes : {out out′ table : List ℕ} {r : Filled} → marks ≤ lends → n ≡ max (lends - marks) (workFor o notes) → n ≤ lends - marks → Indexes (foundOf (roomFor (o .quick) (lends - marks)) o notes space records) out r out′ table → Indexes (leftOf (indexLending lends) o notes space records) out r out′ table
+  unfolding indexWork
+  lent-indexes order need h i =
+      let e = sym (all-long (roomFor (o .quick) (lends - marks)) o notes) ∙ enough o (lends - marks) notes (omega (arith, need, h)) in
+      rw (← found-lent o notes space records lends (roomFor (o .quick) (lends - marks)) e (omega (arith, is, need, h, order))) i
 
 -- ---- what is told before
 
@@ -136,21 +181,21 @@ module _ (l : Limits) (block notes : List ℕ) where
       ∙ ap (inIndex (l .words) space records (indexOf (meant block o) notes)) (s .1 measured)
 
   -- what is left of a refusal that is told before any piece is looked at
-  refusal-answer : (space records : ℕ) (rs : List Record) (out work : List ℕ) (a : Answer) → (codeOf a ≡ 0 → ⊥) → ((xs : List ℕ) → outputLeft a xs ≡ xs)
-      → Indexes (inIndex (l .words) space records rs a) out (refusedAs (replied a)) out work
+  refusal-answer : (space records : ℕ) (rs : List Record) (out table : List ℕ) (a : Answer) → (codeOf a ≡ 0 → ⊥) → ((xs : List ℕ) → outputLeft a xs ≡ xs)
+      → Indexes (inIndex (l .words) space records rs a) out (refusedAs (replied a)) out table
   unfolding outputAfter readFrom outputLeft
-  refusal-answer space records rs out work (measured d) n u = absurd (n refl)
-  refusal-answer space records rs out work (faulty place) n u = record { is = refl; output = refl; read = refl }
-  refusal-answer space records rs out work tooLong n u = record { is = refl; output = refl; read = refl }
-  refusal-answer space records rs out work (damaged place) n u = record { is = refl; output = refl; read = refl }
-  refusal-answer space records rs out work (manyWords place) n u = record { is = refl; output = sym (u out); read = refl }
-  refusal-answer space records rs out work (noRoom needed) n u = record { is = refl; output = sym (u out); read = refl }
-  refusal-answer space records rs out work (noWork needed) n u = record { is = refl; output = refl; read = refl }
+  refusal-answer space records rs out table (measured d) n u = absurd (n refl)
+  refusal-answer space records rs out table (faulty place) n u = record { is = refl; output = refl; read = refl }
+  refusal-answer space records rs out table tooLong n u = record { is = refl; output = refl; read = refl }
+  refusal-answer space records rs out table (damaged place) n u = record { is = refl; output = refl; read = refl }
+  refusal-answer space records rs out table (manyWords place) n u = record { is = refl; output = sym (u out); read = refl }
+  refusal-answer space records rs out table (noRoom needed) n u = record { is = refl; output = sym (u out); read = refl }
+  refusal-answer space records rs out table (noWork needed) n u = record { is = refl; output = refl; read = refl }
 
-  pub refused-answer : (q : Reply) (space records : ℕ) (out work : List ℕ) → Admits l block notes (Refused q) → Indexes (indexing l block notes space records) out (refusedAs q) out work
+  pub refused-answer : (q : Reply) (space records : ℕ) (out table : List ℕ) → Admits l block notes (Refused q) → Indexes (indexing l block notes space records) out (refusedAs q) out table
   unfolding indexing finding
-  refused-answer q space records out work s =
+  refused-answer q space records out table s =
       let some = a-refusal-is-no-digest l block notes s in
-      subst (λ (a : Answer). Indexes (inIndex (l .words) space records (indexUnder block notes (readBlock block)) a) out (refusedAs q) out work) (sym (s .whole-is measured))
-      (subst (λ (p : Reply). Indexes (inIndex (l .words) space records (indexUnder block notes (readBlock block)) (s .refusal)) out (refusedAs p) out work) (sym (s .is))
-      (refusal-answer space records (indexUnder block notes (readBlock block)) out work (s .refusal) (λ z. omega (arith, some, z)) (s .untouched)))
+      subst (λ (a : Answer). Indexes (inIndex (l .words) space records (indexUnder block notes (readBlock block)) a) out (refusedAs q) out table) (sym (s .whole-is measured))
+      (subst (λ (p : Reply). Indexes (inIndex (l .words) space records (indexUnder block notes (readBlock block)) (s .refusal)) out (refusedAs p) out table) (sym (s .is))
+      (refusal-answer space records (indexUnder block notes (readBlock block)) out table (s .refusal) (λ z. omega (arith, some, z)) (s .untouched)))

@@ -34,12 +34,13 @@ module _ (o : Options) (room : ℕ) where
       let v = begins-over block notes o c p ready b room out out′ Over w refl in
       (begins-long block notes o c p ready b room c out out (going-first room (meant block o) notes c out s) (v .0) .0, v .1)
 
-module _ (most : ℕ) (o : Opts) (notes out : List ℕ) (c : Cursor) (out′ : List ℕ) {r : Step} (s : PieceStepped most o notes out c out′ r) where
+-- in room for so many words
+module _ {room most : ℕ} (is : room ≡ most) (o : Opts) (notes out : List ℕ) (c : Cursor) (out′ : List ℕ) (r : Step) (s : PieceStepped room o notes out c out′ r) where
   pub stepped-on : {d : Cursor} → r ≡ On d → Put most o notes out c d out′
-  stepped-on e = rw e at s
+  stepped-on {d} e = let p : PieceStepped room o notes out c out′ (On d) = rw e at s in rw (← is) p
 
   pub stepped-over : r ≡ Over → (longFrom most o (c .mail) notes (c .at) ≡ At (c .at)) × (out′ ≡ out)
-  stepped-over e = rw e at s
+  stepped-over e = let p : PieceStepped room o notes out c out′ Over = rw e at s in rw (← is) p
 
 -- ---- the number of records
 

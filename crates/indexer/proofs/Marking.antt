@@ -5,16 +5,17 @@ use mathlib.Core.List.{List, [], _∷_, _++_, append-assoc, append-nil}
 use Prim.Native.Nat.{ℕ, _+_, _-_, _*_, _≤_}
 use native.Mathlib.Omega.{arith}
 use lib.Dec.{leb}
-use lib.ListN.{length, take, drop, getD, set, replicate, length-append, take-append-drop}
+use lib.ListN.{length, take, drop, getD, set, replicate, length-append, length-drop, length-replicate, take-append-drop}
 use lib.Seq.{take-at, take-take, drop-at, length-take-le}
 use borrow.Author.Tests.{leb-true, leb-false}
-use borrow.Rule.Slice.PartMut.{putMid, postOf, take-put}
+use borrow.Rule.Slice.PartMut.{midOf, putMid, mid-len, take-put}
 use Rattle.text.specs.declared.Found.the-variants.{At}
 use Rattle.options.specs.Opts.{Opts}
 use Rattle.lines.specs.Lines.{linesOf}
 use Rattle.pieces.specs.Pieces.{Piece, Kind, pieces}
 use Rattle.output.specs.Contracts.Sink.{Wrote}
 use Rattle.output.proofs.Sink.{written-fits, wrote-length}
+use Rattle.paragraphs.specs.Contracts.Steps.{roomFor}
 use Rattle.paragraphs.specs.declared.Cursor.{Cursor}
 use Rattle.walk.specs.Digest.{outputOf, extentOf, longParagraph}
 use Rattle.walk.specs.Contracts.Course.{piecesFrom, longFrom, Put, Going, start}
@@ -103,7 +104,7 @@ pub record Marking (o : Opts) (notes : List ℕ) (size marks : ℕ) (c : Cursor)
 module _ (o : Opts) (notes : List ℕ) (size marks : ℕ) where
   pub marking-first : (gaps : List ℕ) → gaps ≡ replicate marks 0 → Marking o notes size marks start 0 0 gaps
   unfolding gapsOf sum spelled
-  marking-first gaps e = record {
+  marking-first gaps e = let n : 32 * marks ≡ 32 * marks - 0 = omega arith in record {
     before = [];
     all = all-pieces o notes;
     count = refl;
@@ -111,7 +112,7 @@ module _ (o : Opts) (notes : List ℕ) (size marks : ℕ) where
     few = omega arith;
     lines = omega arith;
     upto = λ _. refl;
-    spelt = λ _. ap marksIn e ∙ marks-none marks;
+    spelt = λ _. ap marksIn e ∙ marks-none marks ∙ ap (λ (k : ℕ). replicate k false) n;
   }
 
   module _ {c : Cursor} {k line : ℕ} {gaps : List ℕ} (m : Marking o notes size marks c k line gaps) where
@@ -208,8 +209,8 @@ front-marks marks work few =
     ∙ marks-append (take marks work) (drop marks (front work))
 
 module _ (most : ℕ) (o : Opts) (notes out₀ : List ℕ) {c : Cursor} {out : List ℕ} (w : Going most o notes start out₀ c out) where
-  pub noted-all : {marks k line : ℕ} {work : List ℕ} → marks ≤ 65536 → Marking o notes (length out₀) marks c k line (take marks work) → length notes ≤ c .at → Noted most o notes out₀ out work (All (c .written) k)
-  noted-all {marks} {k} {line} {work} few m h =
+  pub noted-all : {marks k line : ℕ} (work : List ℕ) → marks ≤ 65536 → Marking o notes (length out₀) marks c k line (take marks work) → length notes ≤ c .at → Noted most o notes out₀ out work (All (c .written) k)
+  noted-all {marks} {k} {line} work few m h =
       let f = going-last most o notes w h in (
         sym (all-long most o notes) ∙ f .0,
         rw (all-output o notes) at (f .1),
@@ -222,10 +223,23 @@ module _ (most : ℕ) (o : Opts) (notes out₀ : List ℕ) {c : Cursor} {out : L
 
 -- ---- the room, of which a part is lent and comes home
 
+-- the part has as many words as its bounds say
+pub part-room : (quick : Bool) (marks end : ℕ) (work : List ℕ) → marks ≤ end → end ≤ length work → roomFor quick (length (midOf marks (end - marks) work)) ≡ roomFor quick (end - marks)
+part-room quick marks end work h k = ap (roomFor quick) (mid-len marks end work k)
+
+-- the room after its front was cleared
+pub front-cleared : (marks : ℕ) (work cleared : List ℕ) → marks ≤ length work → cleared ≡ replicate (length (take marks work)) 0 → (cleared ≡ replicate marks 0) × (length (cleared ++ drop marks work) ≡ length work)
+front-cleared marks work cleared h e =
+    let l = length-take-le marks work h in
+    let n = ap length e ∙ length-replicate (length (take marks work)) 0 in
+    let a = length-append cleared (drop marks work) in
+    let d = length-drop marks work in
+    (e ∙ ap (λ (k : ℕ). replicate k 0) l, omega (arith, l, n, a, d, h))
+
 -- what stands in front of the part is as it was
 pub front-kept : (marks k : ℕ) (work part : List ℕ) → marks ≤ length work → take marks (putMid marks k work part) ≡ take marks work
 front-kept marks k work part h = take-put marks k work part h
 
 -- and the front that was lent is what it came home as
-pub front-home : (marks : ℕ) (work part : List ℕ) → length part ≡ marks → take marks (putMid 0 marks work part) ≡ part
-front-home marks work part e = take-at part (postOf 0 marks work) marks e
+pub front-home : (marks : ℕ) (work part : List ℕ) → length part ≡ marks → marks ≤ length work → (take marks (part ++ drop marks work) ≡ part) × (length (part ++ drop marks work) ≡ length work)
+front-home marks work part e h = let a = length-append part (drop marks work) in let d = length-drop marks work in (take-at part (drop marks work) marks e, omega (arith, a, d, e, h))

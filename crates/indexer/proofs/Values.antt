@@ -1,8 +1,8 @@
 -- The number and the count of records that a reply tells, and that the number fits.
-use mathlib.Core.Path.{_≡_, refl, ap}
+use mathlib.Core.Path.{_≡_, refl, ap, _∙_}
 use mathlib.Core.Bool.{Bool, true, false, cond}
 use mathlib.Core.List.{List}
-use Prim.Native.Nat.{ℕ, _/_, _%_, _^_, _≤_, _<_}
+use Prim.Native.Nat.{ℕ, _+_, _*_, _/_, _%_, _^_, _≤_, _<_}
 use native.Mathlib.Omega.{arith}
 use lib.Dec.{leb, ltb}
 use lib.ListN.{length}
@@ -12,12 +12,15 @@ use Rattle.options.specs.OptionBlock.{readBlock}
 use Rattle.options.specs.declared.Block.{Block}
 use Rattle.options.specs.declared.Block.the-variants.{Accepted, Fault}
 use Rattle.formatter.specs.Answers.{Answer, done as measured, options as faulty, long as tooLong, text as damaged, words as manyWords, room as noRoom, work as noWork, code as codeOf, value as valueOf}
-use Rattle.formatter.specs.Format.{Words, Limits, document01, damageIn, withText, withBlock, finding, mostTold, isTold, measured as measuredAs, measuring}
-use Rattle.formatter.proofs.Values.{Sound, document01-sound, found-value, found-told, reads-back}
+use Rattle.formatter.specs.Format.{Words, Limits, damageIn, withText, withBlock, finding, mostTold, isTold, measured as measuredAs, measuring}
+use Rattle.walk.proofs.Work.{work-half}
+use Rattle.formatter.proofs.Values.{Sound, found-value, found-told, reads-back}
 use Rattle.index.specs.declared.Record.{Record}
 use Rattle.indexer.specs.Answers.{Indexed, done, options, long, text, words, full, room, work, code, value, numbered, filledAfter}
-use Rattle.indexer.specs.Indexing.{withOutput, withIndex, inIndex, indexUnder, indexing}
-use Rattle.indexer.specs.Contracts.Noting.{told, toldNumber, toldFilled}
+use Rattle.indexer.specs.Indexing.{withOutput, withIndex, inIndex, indexWork, indexLending, indexUnder, indexing}
+use Rattle.indexer.specs.Contracts.Noting.{told, toldNumber, toldFilled, Indexes, Marked}
+use Rattle.indexer.specs.declared.Filled.{Filled}
+use Rattle.indexer.specs.declared.Told.{Told}
 use Rattle.indexer.proofs.Laws.{few-records}
 
 pub told-number : (a : Indexed) → toldNumber (told a) ≡ numbered a
@@ -117,11 +120,11 @@ code-most (full pieces) = omega arith
 code-most (room needed) = omega arith
 code-most (work needed) = omega arith
 
-pub told-fits : (block notes : List ℕ) (space records : ℕ) → toldNumber (told (indexing document01 block notes space records)) < 2 ^ 64
+pub told-fits : (l : Limits) → Sound l → (block notes : List ℕ) (space records : ℕ) → toldNumber (told (indexing l block notes space records)) < 2 ^ 64
 unfolding numbered
-told-fits block notes space records =
-    let c = code-most (indexing document01 block notes space records) in
-    let v = indexed-value document01 document01-sound block notes space records in
+told-fits l sound block notes space records =
+    let c = code-most (indexing l block notes space records) in
+    let v = indexed-value l sound block notes space records in
     rw told-number (omega (arith, c, v))
 
 -- Code and value can be read back from the number, whatever the limits, the block, the notes, the room and the records.
@@ -129,3 +132,33 @@ pub indexing-tells-code-and-value : (l : Limits) → Sound l → (block notes : 
     → (numbered (indexing l block notes space records) / 2 ^ 32 ≡ code (indexing l block notes space records)) × (numbered (indexing l block notes space records) % 2 ^ 32 ≡ value (indexing l block notes space records))
 unfolding numbered
 indexing-tells-code-and-value l sound block notes space records = reads-back (code (indexing l block notes space records)) (value (indexing l block notes space records)) (indexed-value l sound block notes space records)
+
+-- ---- lent room
+
+-- Never more than 8 numbers for each byte of the notes and one ..
+pub index-work-most : (o : Opts) (notes : List ℕ) → indexWork o notes ≤ 8 * (length notes + 1)
+unfolding indexWork
+index-work-most o notes = go (o .quick) (work-half o notes)
+  where
+    go : (b : Bool) → {w : ℕ} → w ≤ cond b 7 15 * ((length notes + 1) / 2) → (length notes + 15) / 16 + w ≤ 8 * (length notes + 1)
+    go true h = omega (arith, h)
+    go false h = omega (arith, h)
+
+-- .. so N can be told.
+pub index-lending-sound : (lends : ℕ) → Sound (indexLending lends)
+index-lending-sound lends = record { short = omega arith; modest = λ o notes h. let w = index-work-most o notes in omega (arith, w, h) }
+
+-- ---- what is told of an answer
+
+pub marked : {a : Indexed} {out out′ table : List ℕ} {records filled′ : ℕ} {r : Filled} {t : Told} → Indexes a out r out′ table → filledAfter a ≤ records
+    → (t .answer ≡ toldNumber r) × (t .records ≡ toldFilled r) × (filled′ ≡ toldFilled r) → Marked a records out out′ filled′ table t
+marked {a} i h e =
+    let count = e .1 ∙ ap toldFilled (i .is) ∙ told-filled a in
+    record {
+      answer = e .0 ∙ ap toldNumber (i .is) ∙ told-number a;
+      output = i .output;
+      filled = e .2 ∙ ap toldFilled (i .is) ∙ told-filled a;
+      count = count;
+      few = rw count h;
+      read = rw count (i .read);
+    }

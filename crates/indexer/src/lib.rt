@@ -174,22 +174,16 @@ fn index_lent(
     ensures { λ r. ⌜ Indexes (leftOf (indexLending (length (now (work .entry)))) (meant (now (block .entry)) o) (now (notes .entry)) (length (now (out .entry))) records) (now (out .entry)) r (now (out .exit)) (now (work .exit)) ⌝ }
 {
     let marks = marks_for(notes.len());
-    let needed = marks + walk::work_over(o, block, notes, behind(work.len(), marks));
-    if work.len() < needed {
-        return Filled::Work(needed);
+    if work.len() < marks {
+        return Filled::Work(marks + walk::work_over(o, block, notes, 0));
+    }
+    let rest = work.len() - marks;
+    let needed = walk::work_over(o, block, notes, rest);
+    if rest < needed {
+        return Filled::Work(marks + needed);
     }
     let end = work.len();
     index_with(o, block, notes, out, records, work, marks, end)
-}
-
-// What is left of a room behind so many numbers.
-fn behind(size: usize, marks: usize) -> usize
-    ensures { λ r. ⌜ r ≡ size - marks ⌝ }
-{
-    if size < marks {
-        return 0;
-    }
-    size - marks
 }
 
 // N has room for no more.

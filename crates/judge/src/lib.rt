@@ -117,13 +117,7 @@ fn check_notes(o: Options, block: &[u8], notes: &[u8], digest: &[u8]) -> Judgeme
 }
 
 // In the room that is lent. Only where it does not reach is counted what would.
-fn check_lent(
-    o: Options,
-    block: &[u8],
-    notes: &[u8],
-    digest: &[u8],
-    work: &mut [u32],
-) -> Judgement
+fn check_lent(o: Options, block: &[u8], notes: &[u8], digest: &[u8], work: &mut [u32]) -> Judgement
     requires { ⌜ Admitted (now block) (now notes) o ⌝ }
     ensures { λ r. ⌜ r ≡ leftOf (lending (length (now (work .entry)))) (meant (now (block .entry)) o) (now (notes .entry)) (now (digest .entry)) ⌝ }
 {

@@ -247,4 +247,3 @@ module _ (o : Opts) where
   unfolding mostWork
   work-append [] back = sym (zero-max (mostWork o back))
   work-append (q ∷ front) back = ap (max (workOf o (q .kind))) (work-append front back) ∙ omega arith
-

@@ -55,7 +55,13 @@ pub fn put_all(o: Options, block: &[u8], notes: &[u8], out: &mut [u8]) -> Ended
 }
 
 // The same in room that is lent, of which there is enough for every paragraph.
-pub fn put_all_lent(o: Options, block: &[u8], notes: &[u8], out: &mut [u8], work: &mut [u32]) -> usize
+pub fn put_all_lent(
+    o: Options,
+    block: &[u8],
+    notes: &[u8],
+    out: &mut [u8],
+    work: &mut [u32],
+) -> usize
     requires { ⌜ Admitted (now block) (now notes) o × (workFor (meant (now block) o) (now notes) ≤ length (now work)) ⌝ }
     ensures { λ r. ⌜ Wrote (now (out .entry)) 0 (digest (meant (now (block .entry)) o) (now (notes .entry))) (now (out .exit)) r ⌝ }
 {

@@ -1,12 +1,12 @@
 -- `indexer::index_with` meets its contract.
 use native.Mathlib.Omega.{arith}
+use Rattle.indexer.proofs.Answers.{noted-as, words-answer, full-answer, untold-answer, room-answer, done-answer}
 use borrow.Author.Needs.{needs}
-use Rattle.indexer.proofs.Answers.{noted-as, words-answer, full-answer, room-answer, done-answer}
 use Rattle.indexer.proofs.index_with.Statement.{statement}
 use Rattle.indexer.proofs.index_with.Tie as tie
 
 note-pieces-requires : tie.Need-note-pieces-requires
-note-pieces-requires c κs = search needs
+note-pieces-requires c κs = c .before .before .before .before .before .before .pre
 
 enum-known-place : tie.Need-enum-known-place
 enum-known-place c = search needs
@@ -26,17 +26,23 @@ same-length c = search needs
 same-length-2 : tie.Need-same-length-2
 same-length-2 c = search needs
 
-same-length-3 : tie.Need-same-length-3
-same-length-3 c = search needs
-
 returns : tie.Need-returns
-returns c = full-answer _ _ _ _ _ _ _ _ (noted-as _ _ _ _ _ (c .before .before .before .before .before .before .before .before .before .before .before .before .before .before .note-pieces .ensures) (c .before .before .before .before .before .before .written .given .1)) _ (c .before .before .before .before .if1 .taken) (c .before .before .clear2 .ensures)
+returns c = full-answer _ _ _ _ _ _ _ _ _ (noted-as _ _ _ _ _ _ (c .before .before .before .before .before .before .before .before .before .before .before .before .note-pieces .ensures) (c .before .before .before .before .before .before .written .given .1)) _ (c .before .before .before .before .if1 .taken) (c .before .before .clear2 .ensures)
 
 clear-requires-3 : tie.Need-clear-requires-3
 clear-requires-3 c κs = search needs
 
+same-length-3 : tie.Need-same-length-3
+same-length-3 c = search needs
+
 same-length-4 : tie.Need-same-length-4
 same-length-4 c = search needs
+
+returns-2 : tie.Need-returns-2
+returns-2 c = untold-answer _ _ _ _ _ _ _ _ _ (noted-as _ _ _ _ _ _ (c .before .before .before .before .before .before .before .before .before .before .before .before .before .note-pieces .ensures) (c .before .before .before .before .before .before .before .written .given .1)) _ (c .before .before .before .before .before .if1 .left) (c .before .before .before .before .if2 .taken) (c .before .before .clear3 .ensures)
+
+clear-requires-4 : tie.Need-clear-requires-4
+clear-requires-4 c κs = search needs
 
 same-length-5 : tie.Need-same-length-5
 same-length-5 c = search needs
@@ -44,8 +50,8 @@ same-length-5 c = search needs
 same-length-6 : tie.Need-same-length-6
 same-length-6 c = search needs
 
-returns-2 : tie.Need-returns-2
-returns-2 c = room-answer _ _ _ _ _ _ _ _ (noted-as _ _ _ _ _ (c .before .before .before .before .before .before .before .before .before .before .before .before .before .before .before .note-pieces .ensures) (c .before .before .before .before .before .before .before .written .given .1)) _ (c .before .before .before .before .before .if1 .left) (omega (arith, c .before .before .before .before .if2 .taken, c .before .before .before .before .before .before .before .before .before .before .before .before .before .before .out .given)) (c .before .before .clear3 .ensures)
+returns-3 : tie.Need-returns-3
+returns-3 c = room-answer _ _ _ _ _ _ _ _ _ (noted-as _ _ _ _ _ _ (c .before .before .before .before .before .before .before .before .before .before .before .before .before .before .note-pieces .ensures) (c .before .before .before .before .before .before .before .before .written .given .1)) (c .before .before .before .before .before .before .if1 .left) (c .before .before .before .before .before .if2 .left) _ (omega (arith, c .before .before .before .before .if3 .taken, c .before .before .before .before .before .before .before .before .before .before .before .before .before .out .given)) (c .before .before .clear4 .ensures)
 
 same-length-7 : tie.Need-same-length-7
 same-length-7 c = search needs
@@ -53,23 +59,17 @@ same-length-7 c = search needs
 same-length-8 : tie.Need-same-length-8
 same-length-8 c = search needs
 
+returns-4 : tie.Need-returns-4
+returns-4 c = let n = (noted-as _ _ _ _ _ _ (c .before .before .before .before .before .before .before .before .before .before .before .note-pieces .ensures) (c .before .before .before .before .before .place .given .1)) in words-answer _ _ _ _ _ _ _ _ _ (n .0) (n .1) (c .before .before .clear .ensures)
+
 same-length-9 : tie.Need-same-length-9
 same-length-9 c = search needs
-
-returns-3 : tie.Need-returns-3
-returns-3 c = let n = noted-as _ _ _ _ _ (c .before .before .before .before .before .before .before .before .before .before .before .before .before .note-pieces .ensures) (c .before .before .before .before .before .place .given .1) in words-answer _ _ _ _ _ _ _ _ (n .0) (n .1) (c .before .before .clear .ensures)
 
 same-length-10 : tie.Need-same-length-10
 same-length-10 c = search needs
 
-same-length-11 : tie.Need-same-length-11
-same-length-11 c = search needs
-
-same-length-12 : tie.Need-same-length-12
-same-length-12 c = search needs
-
-returns-4 : tie.Need-returns-4
-returns-4 c = done-answer _ _ _ _ _ _ _ _ (noted-as _ _ _ _ _ (c .before .before .before .before .before .before .before .before .before .before .before .note-pieces .ensures) (c .before .before .before .written .given .1)) (c .before .if1 .left) (omega (arith, c .if2 .left, c .before .before .before .before .before .before .before .before .before .before .out .given))
+returns-5 : tie.Need-returns-5
+returns-5 c = done-answer _ _ _ _ _ _ _ _ _ (noted-as _ _ _ _ _ _ (c .before .before .before .before .before .before .before .before .before .before .note-pieces .ensures) (c .before .before .before .before .written .given .1)) (c .before .before .if1 .left) (c .before .if2 .left) (omega (arith, c .if3 .left, c .before .before .before .before .before .before .before .before .before .out .given))
 
 pub index-with-spec : {M : Type 1} → statement M
 index-with-spec =
@@ -82,18 +82,18 @@ index-with-spec =
     clear-requires-2
     same-length
     same-length-2
-    same-length-3
     returns
     clear-requires-3
+    same-length-3
     same-length-4
+    returns-2
+    clear-requires-4
     same-length-5
     same-length-6
-    returns-2
+    returns-3
     same-length-7
     same-length-8
+    returns-4
     same-length-9
-    returns-3
     same-length-10
-    same-length-11
-    same-length-12
-    returns-4)
+    returns-5)

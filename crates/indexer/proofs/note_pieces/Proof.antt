@@ -1,33 +1,58 @@
 -- `indexer::note_pieces` meets its contract. Invariant: what is left of the digest from the cursor on, and what is spelled up to it.
-use mathlib.Core.Path.{_≡_, refl, _∙_}
-use Prim.Native.Nat.{_-_}
+use mathlib.Core.Path.{_≡_, refl, sym, ap, _∙_}
+use Prim.Native.Nat.{ℕ, _-_, _≤_}
 use native.Mathlib.Omega.{arith}
-use lib.ListN.{length}
+use lib.ListN.{length, take, drop, length-replicate}
+use lib.Seq.{take-at, length-take-le}
+use borrow.Rule.Slice.PartMut.{putMid, same-len-mid}
 use borrow.Author.Needs.{needs}
 use Rattle.options.specs.Opts.{meant}
+use Rattle.paragraphs.specs.Contracts.Steps.{roomFor}
 use Rattle.walk.specs.Contracts.Course.{Going, start}
 use Rattle.walk.proofs.Loop.{going-first, going-length, going-on, stands-first}
 use Rattle.indexer.proofs.Laws.{stepped-on, stepped-over}
-use Rattle.indexer.proofs.Marking.{Marking, marking-first, marking-spells, marking-on, noted-all, noted-stopped}
+use Rattle.indexer.proofs.Marking.{Marking, marking-first, marking-spells, marking-on, noted-all, noted-stopped, part-room, front-cleared, front-kept, front-home}
 use Rattle.indexer.proofs.note_pieces.Statement.{statement}
 use Rattle.indexer.proofs.note_pieces.Tie as tie
 
 abbrev Inv-loop : tie.InvT-loop
-Inv-loop o block notes out₀ gaps₀ work₀ c₀ k₀ line₀ out gaps work c k line =
-    Going (meant block o) notes start out₀ c out × Marking (meant block o) notes (length out₀) c k line gaps
-    × (length gaps ≡ length gaps₀) × (length work ≡ length work₀)
+Inv-loop o block notes out₀ work₀ marks end c₀ k₀ line₀ out work c k line =
+    Going (roomFor (o .quick) (end - marks)) (meant block o) notes start out₀ c out × Marking (meant block o) notes (length out₀) marks c k line (take marks work)
+    × (length work ≡ length work₀)
 
 abbrev μ-loop : tie.MeasureT-loop
-μ-loop o block notes out₀ gaps₀ work₀ c₀ k₀ line₀ out gaps work c k line = length notes - c .at
+μ-loop o block notes out₀ work₀ marks end c₀ k₀ line₀ out work c k line = length notes - c .at
+
+slice-relend-prefix-clear : tie.Need-slice-relend-prefix-clear Inv-loop μ-loop
+slice-relend-prefix-clear c = let p = c .before .before .before .before .pre in omega (arith, p .1 .order, p .1 .within)
+
+slice-aggregate-clear : tie.Need-slice-aggregate-clear Inv-loop μ-loop
+slice-aggregate-clear c = let p = c .before .before .before .before .before .pre in sym (length-take-le _ _ (omega (arith, p .1 .order, p .1 .within)))
+
+clear-requires : tie.Need-clear-requires Inv-loop μ-loop
+clear-requires c κs = search needs
 
 loop-holds : tie.Need-loop-holds Inv-loop μ-loop
-loop-holds c = (going-first _ _ _ _ (stands-first _), marking-first _ _ _ _ (c .before .before .before .before .before .pre .1 .clear), refl, refl)
+loop-holds c =
+    let s = c .before .before .before .before .before .before .before .before in
+    let fits : s .args .marks ≤ length (s .args .work .now) = omega (arith, s .pre .1 .order, s .pre .1 .within) in
+    let clear = front-cleared (s .args .marks) (s .args .work .now) (c .before .before .clear .last .0) fits (c .before .before .clear .ensures) in
+    (going-first _ _ _ _ _ (stands-first _), marking-first _ _ _ _ _ (take-at (c .before .before .clear .last .0) (drop (s .args .marks) (s .args .work .now)) (s .args .marks) (ap length (clear .0) ∙ length-replicate {A = ℕ} (s .args .marks) 0) ∙ clear .0), refl)
+
+mul-put-piece : tie.Need-mul-put-piece Inv-loop μ-loop
+mul-put-piece c = search needs
+
+sub-put-piece : tie.Need-sub-put-piece Inv-loop μ-loop
+sub-put-piece c = c .before .before .before .before .before .before .before .before .before .before .before .before .pre .1 .order
+
+part-put-piece-start : tie.Need-part-put-piece-start Inv-loop μ-loop
+part-put-piece-start c = let p = c .before .before .before .before .before .before .before .before .before .before .before .before .pre in omega (arith, p .1 .order, p .1 .within, c .before .before .before .loop .inv .2)
+
+part-put-piece-end : tie.Need-part-put-piece-end Inv-loop μ-loop
+part-put-piece-end c = let p = c .before .before .before .before .before .before .before .before .before .before .before .before .pre in omega (arith, p .1 .order, p .1 .within, c .before .before .before .loop .inv .2)
 
 put-piece-requires : tie.Need-put-piece-requires Inv-loop μ-loop
-put-piece-requires c κs =
-    let p = c .before .before .before .before .before .before .before .before .before .before .pre in
-    let i = c .before .before .before .before .loop .inv in
-    (p .0, i .0 .stands, c .before .before .if1 .taken, rw (i .3) (p .2))
+put-piece-requires c κs = (c .before .before .before .before .before .before .before .before .before .before .before .before .before .pre .0, c .before .before .before .before .loop .inv .0 .stands, c .before .before .if1 .taken)
 
 enum-known-d : tie.Need-enum-known-d Inv-loop μ-loop
 enum-known-d c = search needs
@@ -36,54 +61,125 @@ enum-told : tie.Need-enum-told Inv-loop μ-loop
 enum-told c = search needs
 
 same-length : tie.Need-same-length Inv-loop μ-loop
-same-length c = c .before .before .before .before .before .out .given ∙ going-length _ _ (c .before .before .before .before .before .before .before .before .before .before .before .loop .inv .0)
+same-length c = c .before .before .before .before .before .out .given ∙ going-length _ _ _ (c .before .before .before .before .before .before .before .before .before .before .before .loop .inv .0)
 
 same-length-2 : tie.Need-same-length-2 Inv-loop μ-loop
-same-length-2 c = c .before .before .before .before .before .before .before .before .before .before .before .loop .inv .2
-
-same-length-3 : tie.Need-same-length-3 Inv-loop μ-loop
-same-length-3 c = c .before .before .before .work .given ∙ c .before .before .before .before .before .before .before .before .before .before .before .loop .inv .3
+same-length-2 c =
+    let s = c .before .before .before .before .before .before .before .before .before .before .before .before .before .before .before .before .before .before .before .before in
+    let fits : s .args .marks ≤ length (s .args .work .now) = omega (arith, s .pre .1 .order, s .pre .1 .within) in
+    let clear = front-cleared (s .args .marks) (s .args .work .now) (c .before .before .before .before .before .before .before .before .before .before .before .before .before .before .clear .last .0) fits (c .before .before .before .before .before .before .before .before .before .before .before .before .before .before .clear .ensures) in
+    let l = c .before .before .before .before .before .before .before .before .before .before .before .loop in
+    let room = l .inv .2 ∙ clear .1 in
+    let within : s .args .end ≤ length (l .work) = omega (arith, s .pre .1 .within, room) in
+    let part = c .before .before .before .before .before .before .put-piece .last .1 .1 .1 .1 .1 .0 in
+    let home = same-len-mid (s .args .marks) (s .args .end - s .args .marks) (l .work) part (c .before .before .before .work2 .given .0) in
+    let is = part-room (s .args .o .quick) (s .args .marks) (s .args .end) (l .work) (s .pre .1 .order) within in
+    home ∙ room
 
 returns : tie.Need-returns Inv-loop μ-loop
-returns c = noted-stopped _ _ _ (c .before .before .before .before .before .before .before .before .before .before .before .loop .inv .0) (stepped-over _ _ _ _ _ (c .before .before .before .before .before .before .put-piece .ensures) (c .enum-told .given .1))
+returns c =
+    let s = c .before .before .before .before .before .before .before .before .before .before .before .before .before .before .before .before .before .before .before .before in
+    let fits : s .args .marks ≤ length (s .args .work .now) = omega (arith, s .pre .1 .order, s .pre .1 .within) in
+    let clear = front-cleared (s .args .marks) (s .args .work .now) (c .before .before .before .before .before .before .before .before .before .before .before .before .before .before .clear .last .0) fits (c .before .before .before .before .before .before .before .before .before .before .before .before .before .before .clear .ensures) in
+    let l = c .before .before .before .before .before .before .before .before .before .before .before .loop in
+    let room = l .inv .2 ∙ clear .1 in
+    let within : s .args .end ≤ length (l .work) = omega (arith, s .pre .1 .within, room) in
+    let part = c .before .before .before .before .before .before .put-piece .last .1 .1 .1 .1 .1 .0 in
+    let home = same-len-mid (s .args .marks) (s .args .end - s .args .marks) (l .work) part (c .before .before .before .work2 .given .0) in
+    let is = part-room (s .args .o .quick) (s .args .marks) (s .args .end) (l .work) (s .pre .1 .order) within in
+    noted-stopped _ _ _ _ (l .inv .0) (stepped-over is _ _ _ _ _ (c .before .before .before .before .before .before .put-piece .result) (c .before .before .before .before .before .before .put-piece .ensures) (c .enum-told .given .1))
+
+slice-relend-prefix-spell : tie.Need-slice-relend-prefix-spell Inv-loop μ-loop
+slice-relend-prefix-spell c =
+    let s = c .before .before .before .before .before .before .before .before .before .before .before .before .before .before .before .before .before .before .before .before .before in
+    let fits : s .args .marks ≤ length (s .args .work .now) = omega (arith, s .pre .1 .order, s .pre .1 .within) in
+    let clear = front-cleared (s .args .marks) (s .args .work .now) (c .before .before .before .before .before .before .before .before .before .before .before .before .before .before .before .clear .last .0) fits (c .before .before .before .before .before .before .before .before .before .before .before .before .before .before .before .clear .ensures) in
+    let l = c .before .before .before .before .before .before .before .before .before .before .before .before .loop in
+    let room = l .inv .2 ∙ clear .1 in
+    let within : s .args .end ≤ length (l .work) = omega (arith, s .pre .1 .within, room) in
+    let part = c .before .before .before .before .before .before .before .put-piece .last .1 .1 .1 .1 .1 .0 in
+    let home = same-len-mid (s .args .marks) (s .args .end - s .args .marks) (l .work) part (c .before .before .before .before .work2 .given .0) in
+    let is = part-room (s .args .o .quick) (s .args .marks) (s .args .end) (l .work) (s .pre .1 .order) within in
+    omega (arith, home, room, fits)
+
+slice-aggregate-spell : tie.Need-slice-aggregate-spell Inv-loop μ-loop
+slice-aggregate-spell c =
+    let s = c .before .before .before .before .before .before .before .before .before .before .before .before .before .before .before .before .before .before .before .before .before .before in
+    let fits : s .args .marks ≤ length (s .args .work .now) = omega (arith, s .pre .1 .order, s .pre .1 .within) in
+    let clear = front-cleared (s .args .marks) (s .args .work .now) (c .before .before .before .before .before .before .before .before .before .before .before .before .before .before .before .before .clear .last .0) fits (c .before .before .before .before .before .before .before .before .before .before .before .before .before .before .before .before .clear .ensures) in
+    let l = c .before .before .before .before .before .before .before .before .before .before .before .before .before .loop in
+    let room = l .inv .2 ∙ clear .1 in
+    let within : s .args .end ≤ length (l .work) = omega (arith, s .pre .1 .within, room) in
+    let part = c .before .before .before .before .before .before .before .before .put-piece .last .1 .1 .1 .1 .1 .0 in
+    let home = same-len-mid (s .args .marks) (s .args .end - s .args .marks) (l .work) part (c .before .before .before .before .before .work2 .given .0) in
+    let is = part-room (s .args .o .quick) (s .args .marks) (s .args .end) (l .work) (s .pre .1 .order) within in
+    sym (length-take-le _ _ (omega (arith, home, room, fits)))
 
 spell-requires : tie.Need-spell-requires Inv-loop μ-loop
 spell-requires c κs =
-    let p = stepped-on _ _ _ _ _ (c .before .before .before .before .before .before .before .before .before .put-piece .ensures) (c .before .before .before .d .given .1) in
-    let i = c .before .before .before .before .before .before .before .before .before .before .before .before .before .before .loop .inv in
-    marking-spells _ _ _ (i .1) p (c .before .before .before .before .before .before .before .before .before .before .before .before .before .before .before .before .before .before .before .before .pre .1 .enough) (c .before .before .before .before .before .before .before .before .out .given ∙ going-length _ _ (i .0))
+    let s = c .before .before .before .before .before .before .before .before .before .before .before .before .before .before .before .before .before .before .before .before .before .before .before in
+    let fits : s .args .marks ≤ length (s .args .work .now) = omega (arith, s .pre .1 .order, s .pre .1 .within) in
+    let clear = front-cleared (s .args .marks) (s .args .work .now) (c .before .before .before .before .before .before .before .before .before .before .before .before .before .before .before .before .before .clear .last .0) fits (c .before .before .before .before .before .before .before .before .before .before .before .before .before .before .before .before .before .clear .ensures) in
+    let l = c .before .before .before .before .before .before .before .before .before .before .before .before .before .before .loop in
+    let room = l .inv .2 ∙ clear .1 in
+    let within : s .args .end ≤ length (l .work) = omega (arith, s .pre .1 .within, room) in
+    let part = c .before .before .before .before .before .before .before .before .before .put-piece .last .1 .1 .1 .1 .1 .0 in
+    let home = same-len-mid (s .args .marks) (s .args .end - s .args .marks) (l .work) part (c .before .before .before .before .before .before .work2 .given .0) in
+    let is = part-room (s .args .o .quick) (s .args .marks) (s .args .end) (l .work) (s .pre .1 .order) within in
+    let p = stepped-on is _ _ _ _ _ (c .before .before .before .before .before .before .before .before .before .put-piece .result) (c .before .before .before .before .before .before .before .before .before .put-piece .ensures) (c .before .before .before .d .given .1) in
+    rw (front-kept (s .args .marks) (s .args .end - s .args .marks) (l .work) part (omega (arith, room, fits))) (marking-spells _ _ _ _ (l .inv .1) p (s .pre .1 .enough) (s .pre .1 .few) (c .before .before .before .before .before .before .before .before .out .given ∙ going-length _ _ _ (l .inv .0)))
 
 add-k : tie.Need-add-k Inv-loop μ-loop
-add-k c =
-    let i = c .before .before .before .before .before .before .before .before .before .before .before .before .before .before .before .before .before .loop .inv in
-    omega (arith, i .1 .few, i .0 .stands .within, c .before .before .before .before .before .before .before .before .before .before .before .before .before .before .before .before .before .before .before .before .before .before .before .pre .0 .short)
+add-k c = let i = c .before .before .before .before .before .before .before .before .before .before .before .before .before .before .before .before .before .loop .inv in record { fits = omega (arith, i .1 .few, i .0 .stands .within, c .before .before .before .before .before .before .before .before .before .before .before .before .before .before .before .before .before .before .before .before .before .before .before .before .before .before .pre .0 .short) }
 
 loop-less : tie.Need-loop-less Inv-loop μ-loop
 loop-less c =
-    let p = stepped-on _ _ _ _ _ (c .before .before .before .before .before .before .before .before .before .before .before .before .put-piece .ensures) (c .before .before .before .before .before .before .d .given .1) in
+    let s = c .before .before .before .before .before .before .before .before .before .before .before .before .before .before .before .before .before .before .before .before .before .before .before .before .before .before in
+    let fits : s .args .marks ≤ length (s .args .work .now) = omega (arith, s .pre .1 .order, s .pre .1 .within) in
+    let clear = front-cleared (s .args .marks) (s .args .work .now) (c .before .before .before .before .before .before .before .before .before .before .before .before .before .before .before .before .before .before .before .before .clear .last .0) fits (c .before .before .before .before .before .before .before .before .before .before .before .before .before .before .before .before .before .before .before .before .clear .ensures) in
+    let l = c .before .before .before .before .before .before .before .before .before .before .before .before .before .before .before .before .before .loop in
+    let room = l .inv .2 ∙ clear .1 in
+    let within : s .args .end ≤ length (l .work) = omega (arith, s .pre .1 .within, room) in
+    let part = c .before .before .before .before .before .before .before .before .before .before .before .before .put-piece .last .1 .1 .1 .1 .1 .0 in
+    let home = same-len-mid (s .args .marks) (s .args .end - s .args .marks) (l .work) part (c .before .before .before .before .before .before .before .before .before .work2 .given .0) in
+    let is = part-room (s .args .o .quick) (s .args .marks) (s .args .end) (l .work) (s .pre .1 .order) within in
+    let p = stepped-on is _ _ _ _ _ (c .before .before .before .before .before .before .before .before .before .before .before .before .put-piece .result) (c .before .before .before .before .before .before .before .before .before .before .before .before .put-piece .ensures) (c .before .before .before .before .before .before .d .given .1) in
     omega (arith, p .goes .on, p .goes .within)
 
 loop-again : tie.Need-loop-again Inv-loop μ-loop
 loop-again c =
-    let p = stepped-on _ _ _ _ _ (c .before .before .before .before .before .before .before .before .before .before .before .before .put-piece .ensures) (c .before .before .before .before .before .before .d .given .1) in
-    let i = c .before .before .before .before .before .before .before .before .before .before .before .before .before .before .before .before .before .loop .inv in (
-      going-on _ _ (i .0) p,
-      marking-on _ _ _ (i .1) p (c .before .before .before .before .before .before .before .before .before .before .before .before .before .before .before .before .before .before .before .before .before .before .before .pre .1 .enough) (c .before .before .before .before .before .before .before .before .before .before .before .out .given ∙ going-length _ _ (i .0)) (c .before .before .spell .ensures),
-      c .before .gaps .given ∙ i .2,
-      c .before .before .before .before .before .before .before .before .before .work .given ∙ i .3,
+    let s = c .before .before .before .before .before .before .before .before .before .before .before .before .before .before .before .before .before .before .before .before .before .before .before .before .before .before in
+    let fits : s .args .marks ≤ length (s .args .work .now) = omega (arith, s .pre .1 .order, s .pre .1 .within) in
+    let clear = front-cleared (s .args .marks) (s .args .work .now) (c .before .before .before .before .before .before .before .before .before .before .before .before .before .before .before .before .before .before .before .before .clear .last .0) fits (c .before .before .before .before .before .before .before .before .before .before .before .before .before .before .before .before .before .before .before .before .clear .ensures) in
+    let l = c .before .before .before .before .before .before .before .before .before .before .before .before .before .before .before .before .before .loop in
+    let room = l .inv .2 ∙ clear .1 in
+    let within : s .args .end ≤ length (l .work) = omega (arith, s .pre .1 .within, room) in
+    let part = c .before .before .before .before .before .before .before .before .before .before .before .before .put-piece .last .1 .1 .1 .1 .1 .0 in
+    let home = same-len-mid (s .args .marks) (s .args .end - s .args .marks) (l .work) part (c .before .before .before .before .before .before .before .before .before .work2 .given .0) in
+    let is = part-room (s .args .o .quick) (s .args .marks) (s .args .end) (l .work) (s .pre .1 .order) within in
+    let p = stepped-on is _ _ _ _ _ (c .before .before .before .before .before .before .before .before .before .before .before .before .put-piece .result) (c .before .before .before .before .before .before .before .before .before .before .before .before .put-piece .ensures) (c .before .before .before .before .before .before .d .given .1) in
+    let kept = front-kept (s .args .marks) (s .args .end - s .args .marks) (l .work) part (omega (arith, room, fits)) in
+    let back = front-home (s .args .marks) (putMid (s .args .marks) (s .args .end - s .args .marks) (l .work) part) (c .before .before .spell .last .0) (c .before .work3 .given .0 ∙ length-take-le (s .args .marks) (putMid (s .args .marks) (s .args .end - s .args .marks) (l .work) part) (omega (arith, home, room, fits))) (omega (arith, home, room, fits)) in (
+      going-on _ _ _ (l .inv .0) p,
+      rw (back .0) (marking-on _ _ _ _ (l .inv .1) p (s .pre .1 .enough) (s .pre .1 .few) (c .before .before .before .before .before .before .before .before .before .before .before .out .given ∙ going-length _ _ _ (l .inv .0)) (rw kept at (c .before .before .spell .ensures))),
+      back .1 ∙ home ∙ l .inv .2,
     )
 
+same-length-3 : tie.Need-same-length-3 Inv-loop μ-loop
+same-length-3 c = going-length _ _ _ (c .before .before .loop .inv .0)
+
 same-length-4 : tie.Need-same-length-4 Inv-loop μ-loop
-same-length-4 c = going-length _ _ (c .before .before .loop .inv .0)
-
-same-length-5 : tie.Need-same-length-5 Inv-loop μ-loop
-same-length-5 c = c .before .before .loop .inv .2
-
-same-length-6 : tie.Need-same-length-6 Inv-loop μ-loop
-same-length-6 c = c .before .before .loop .inv .3
+same-length-4 c =
+    let s = c .before .before .before .before .before .before .before .before .before .before .before in
+    let fits : s .args .marks ≤ length (s .args .work .now) = omega (arith, s .pre .1 .order, s .pre .1 .within) in
+    let clear = front-cleared (s .args .marks) (s .args .work .now) (c .before .before .before .before .before .clear .last .0) fits (c .before .before .before .before .before .clear .ensures) in
+    let l = c .before .before .loop in
+    let room = l .inv .2 ∙ clear .1 in
+    let within : s .args .end ≤ length (l .work) = omega (arith, s .pre .1 .within, room) in
+    room
 
 returns-2 : tie.Need-returns-2 Inv-loop μ-loop
-returns-2 c = let i = c .before .before .loop .inv in noted-all _ _ _ (i .0) (i .1) (c .if1 .left)
+returns-2 c = let i = c .before .before .loop .inv in noted-all _ _ _ _ (i .0) _ (c .before .before .before .before .before .before .before .before .before .before .before .pre .1 .few) (i .1) (c .if1 .left)
 
 pub note-pieces-spec : {M : Type 1} → statement M
 note-pieces-spec =
@@ -91,19 +187,26 @@ note-pieces-spec =
     (tie.spec
     Inv-loop
     μ-loop
+    slice-relend-prefix-clear
+    slice-aggregate-clear
+    clear-requires
     loop-holds
+    mul-put-piece
+    sub-put-piece
+    part-put-piece-start
+    part-put-piece-end
     put-piece-requires
     enum-known-d
     enum-told
     same-length
     same-length-2
-    same-length-3
     returns
+    slice-relend-prefix-spell
+    slice-aggregate-spell
     spell-requires
     add-k
     loop-less
     loop-again
+    same-length-3
     same-length-4
-    same-length-5
-    same-length-6
     returns-2)

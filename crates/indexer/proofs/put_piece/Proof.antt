@@ -43,7 +43,7 @@ returns : tie.Need-returns
 returns c =
     let p = c .before .before .before .before .before .before .before .before .before .before .before .before .pre in
     let m = found-goes _ _ _ (p .0) _ _ _ _ (p .2) (c .before .before .before .before .before .before .before .next-piece .ensures) (c .before .before .before .before .before .next .given .1) in
-    blank-put _ _ _ _ _ _ _ m (c .before .before .emit-line .ensures)
+    blank-put _ _ _ _ _ _ _ _ m (c .before .before .emit-line .ensures)
 
 same-length-2 : tie.Need-same-length-2
 same-length-2 c = search needs
@@ -52,7 +52,7 @@ returns-2 : tie.Need-returns-2
 returns-2 c =
     let p = c .before .before .before .before .before .before .before .before .before .before .before .before .pre in
     let m = found-goes _ _ _ (p .0) _ _ _ _ (p .2) (c .before .before .before .before .before .before .before .next-piece .ensures) (c .before .before .before .before .before .end .given .1) in
-    plain-put _ _ _ _ _ _ _ _ m (c .before .before .emit-line2 .ensures) refl (omega arith)
+    plain-put _ _ _ _ _ _ _ _ _ m (c .before .before .emit-line2 .ensures) refl (omega arith)
 
 same-length-3 : tie.Need-same-length-3
 same-length-3 c = search needs
@@ -64,7 +64,7 @@ returns-3 : tie.Need-returns-3
 returns-3 c =
     let p = c .before .before .before .before .before .before .before .before .before .before .before .before .before .before .before .pre in
     let b = found-begins _ _ _ (c .before .before .before .before .before .before .before .before .before .before .before .before .before .before .before .args .c) _ (p .2) (c .before .before .before .before .before .before .before .before .before .before .next-piece .ensures) (c .before .before .before .before .before .before .before .before .p .given .1) in
-    text-stepped _ _ (p .3) _ _ _ _ (p .0) (p .1) b _ _ (c .before .before .before .before .put-paragraph .result) (c .before .before .before .before .put-paragraph .ensures _)
+    text-stepped _ _ _ _ _ _ (p .0) (p .1) b _ _ (c .before .before .before .before .put-paragraph .result) (c .before .before .before .before .put-paragraph .ensures _)
 
 pub put-piece-spec : {M : Type 1} → statement M
 put-piece-spec =

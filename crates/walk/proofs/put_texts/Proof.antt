@@ -94,9 +94,9 @@ loop-again c =
     let i = c .before .before .before .before .before .before .before .before .before .before .before .before .before .before .before .before .before .loop .inv in
     let t = reached-text 0 _ _ _ _ _ _ (c .before .before .before .before .before .put-lines .result) (c .before .before .before .before .before .put-lines .ensures 0) (c .before .d .given .1) in (
       λ most few.
-        let s = begins-stepped _ _ _ _ _ (c .before .before .before .before .before .before .before .before .before .before .before .before .before .before .before .before .before .before .before .before .before .before .pre .0) (i .1) most _ _ _ (c .before .before .before .before .before .before .before .before .before .before .before .before .before .before .put-paragraph .result) _ (rw (i .2) few) (c .before .before .before .before .before .before .before .before .before .before .before .before .before .before .put-paragraph .ensures (now (c .before .before .before .before .before .before .before .before .before .before .before .before .before .before .before .before .before .before .before .before .before .before .args .block))) (c .before .before .before .before .before .before .before .before .behind .given .1) in
-        let u = reached-text most _ _ _ _ _ _ (c .before .before .before .before .before .put-lines .result) (c .before .before .before .before .before .put-lines .ensures most) (c .before .d .given .1) in
-        going-further _ _ _ (going-on _ _ _ (i .0 most few) s) (u .0),
+          let s = begins-stepped _ _ _ _ _ (c .before .before .before .before .before .before .before .before .before .before .before .before .before .before .before .before .before .before .before .before .before .before .pre .0) (i .1) most _ _ _ (c .before .before .before .before .before .before .before .before .before .before .before .before .before .before .put-paragraph .result) _ (rw (i .2) few) (c .before .before .before .before .before .before .before .before .before .before .before .before .before .before .put-paragraph .ensures (now (c .before .before .before .before .before .before .before .before .before .before .before .before .before .before .before .before .before .before .before .before .before .before .args .block))) (c .before .before .before .before .before .before .before .before .behind .given .1) in
+          let u = reached-text most _ _ _ _ _ _ (c .before .before .before .before .before .put-lines .result) (c .before .before .before .before .before .put-lines .ensures most) (c .before .d .given .1) in
+          going-further _ _ _ (going-on _ _ _ (i .0 most few) s) (u .0),
       t .1,
       c .before .before .before .before .before .before .before .before .before .before .before .work .given ∙ i .2,
     )

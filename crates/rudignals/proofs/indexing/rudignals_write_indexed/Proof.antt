@@ -102,7 +102,6 @@ module _ {M : Type 1} (𝓤 : URA M) (H : Heap 𝓤) (A : Atoms 𝓤) (W : Given
   abbrev Noted : List ℕ → ℕ → List ℕ → Told → Type 0
   Noted out′ filled′ ms t = Marked answer (length (index .now)) (output .now) out′ filled′ ms t
 
-
   -- what is had at exit
   abbrev Has : List ℕ → List Record → ℕ → List (Item 𝓤)
   Has out′ index′ filled′ = ‵ (flft κ₀ q₀) ∷ ‵ (flft κ₁ q₁) ∷ ‵ (flft κ₂ q₂) ∷ ‵ (flft κ₃ q₃) ∷ ‵ (flft κ₄ q₄) ∷ ‵ (finally u8 (output .name) out′) ∷ ‵ (finally R (index .name) index′) ∷ ‵ (fres (filled .name) (u64 .coded .code filled′)) ∷ []
@@ -136,7 +135,7 @@ module _ {M : Type 1} (𝓤 : URA M) (H : Heap 𝓤) (A : Atoms 𝓤) (W : Given
 
     write-marked-goes : ent 𝓤 (⋆ 𝓤 H A ToWrite) (WriteMarked 𝓤 H A mem run .pre to-write-marked)
     write-marked-goes =
-        qed W ToWrite ∵ says ! (length-replicate 19456 0) $ nothing ! $ move ! (1 ∷ 2 ∷ 3 ∷ 4 ∷ 5 ∷ 0 ∷ []) $ group ! 6 $ frame ! $
+        qed W ToWrite ∵ says ! (length-replicate {A = ℕ} 19456 0) $ nothing ! $ move ! (1 ∷ 2 ∷ 3 ∷ 4 ∷ 5 ∷ 0 ∷ []) $ group ! 6 $ frame ! $
         nothing ! $ move ! (5 ∷ 0 ∷ []) $ fjoin ! $ move ! (4 ∷ 0 ∷ []) $ fjoin ! $ owned ! usize (Is usize) (uint-makes 𝓤 H A W w64) (length (index .now)) _ (refl, index-room .0) $ fjoin ! $
         move ! (3 ∷ 0 ∷ []) $ fjoin ! $ move ! (2 ∷ 0 ∷ []) $ fjoin ! $ move ! (1 ∷ 0 ∷ []) $ fjoin ! $ done !
 

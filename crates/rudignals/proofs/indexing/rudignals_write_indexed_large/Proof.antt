@@ -1,6 +1,6 @@
 -- `rudignals::indexing::rudignals_write_indexed_large` meets its contract: a walk of its MIR, by hand, since it is lent a slice of structs. The
 -- working room is the host's. It is lent on to `write_marked_large` for a lifetime of that call, comes back with the marks that the call leaves in
--- it, and is lent to `store_records` for another, to be read; of what it holds at the end nothing is said. The rest goes as in the walk of
+-- it, and is lent to `store_records` for another, to be read. The rest goes as in the walk of
 -- `rudignals_write_indexed`.
 use mathlib.Core.List.{_++_}
 use lib.ListN.{drop as drop-list}
@@ -13,16 +13,15 @@ use types.Tokens.{lft-new, lft-end}
 use denote.Builtin.{u8, unit}
 use denote.Plain.{nothing-lawful}
 use denote.Ref.{MutRef, ptr-vals, mut-tells}
-use denote.Signature.{Slot, shrSliceOf, mutSliceOf}
-use denote.Exit.{no}
+use denote.Signature.{Slot, shrSliceOf}
 use denote.Slice.{finally}
 use denote.Struct.Laws as LL
 use denote.Triple.Entry.{Args}
-use denote.Triple.Walked.{stay-dropped, gave-slice, gave-ref, goes-dropped, goes-gave-slice, goes-gave-ref, goes-spent-slice}
+use denote.Triple.Walked.{stay-dropped, gave-slice, gave-ref, goes-dropped, goes-gave-slice, goes-gave-ref}
 use borrow.Rule.Slice.Lend.{keptF, sl-relend, sl-relent-backˡ}
 use borrow.Rule.Slice.Reshare.{keptS, sl-reshare, sl-reshare-back}
 use borrow.Table.Owned as Owned
-use Rattle.index.proofs.Walk.{_≡_, refl, sym, ap, ℕ, _^_, _≤_, _<_, List, [], _∷_, length, URA, fullShare, named, w64, Val, vint, vptr, SProp, ent, emp, via, fst∗, id⊢, Lft, GName, Share, Fml, ftrue, fat, flft, fres, Memory, Routine, Heap, Calls, Loops, WpFn, Tables, Atoms, Fun, fact, givenOf, tables, Given, Item, ‵, raw, later, some, _⊛_, ⋆, _$_, _∵_, !, qed, by, move, drop, use1, use2, split, pick, await, rewrite, fsplit, fjoin, feqI, suffices, join, frame, done, agg, whole, sub, look-in, look, init, forget, stop, hop, fld, from, load, of-opd, and-then, no-more, addr, assigns, land, returns, enter, alloc1, alloc0, params1, pass1, pass0, free1, free0, fmOf, owns, Is, shows, uint-makes, usize, u64, u32, RefT, sliceVal, MutSlice, ShrSlice, Room, slice-vals, mut-slice-tells, shr-slice-tells, plain, only, owned, facts, heard, nothing, Vals, onEntry, Meets, tripleOf, Contract, Triple, calls-at, ensured, lasts, entered, cited, says, Stays, walkOf, ends-at, yes, R, typed, meets-by}
+use Rattle.index.proofs.Walk.{_≡_, refl, sym, ap, ℕ, _^_, _≤_, _<_, List, [], _∷_, length, URA, fullShare, named, w64, Val, vint, vptr, SProp, ent, emp, via, fst∗, id⊢, Lft, GName, Share, Fml, ftrue, fat, flft, fres, Memory, Routine, Heap, Calls, Loops, WpFn, Tables, Atoms, Fun, fact, givenOf, tables, Given, Item, ‵, raw, later, some, _⊛_, ⋆, _$_, _∵_, !, qed, by, move, drop, use1, use2, split, pick, await, rewrite, fsplit, fjoin, feqI, suffices, join, frame, done, agg, whole, sub, look-in, look, init, forget, stop, hop, fld, from, load, of-opd, and-then, no-more, addr, assigns, land, returns, enter, alloc1, alloc0, params1, pass1, pass0, free1, free0, fmOf, owns, Is, shows, uint-makes, usize, u64, u32, RefT, sliceVal, MutSlice, ShrSlice, Room, slice-vals, mut-slice-tells, shr-slice-tells, plain, only, owned, facts, heard, nothing, Vals, onEntry, Meets, tripleOf, Contract, Triple, calls-at, ensured, lasts, entered, cited, says, Stays, stay-slice, walkOf, ends-at, goes-slice, yes, R, typed, meets-by}
 use Rattle.marks.specs.Contracts.Marks.{marksIn}
 use Rattle.index.specs.declared.Record.{Record}
 use Rattle.index.specs.Contracts.Lists.{noRecord}
@@ -47,7 +46,7 @@ use Rattle.rudignals.proofs.indexing.rudignals_write_indexed_large as f
 use Rattle.rudignals.proofs.indexing.rudignals_write_indexed_large.Statement as stated
 use Rattle.rudignals.proofs.indexing.rudignals_write_indexed_large.Code as code
 
--- the slots of the options, of the notes and of the room, of which nothing is said at exit
+-- the slots of the options and of the notes, of which nothing is said at exit
 abbrev options-slot : Slot 6
 options-slot = shrSliceOf (0 ∷ []) tt (plain (λ _. u8))
 
@@ -55,7 +54,7 @@ abbrev notes-slot : Slot 6
 notes-slot = shrSliceOf (1 ∷ []) tt (plain (λ _. u8))
 
 abbrev stayed : Stays (f.ended .signature .params) (f.ended .kept)
-stayed = (stay-dropped options-slot yes, (stay-dropped notes-slot yes, (gave-slice (2 ∷ []) tt (plain (λ _. u8)), (gave-slice (3 ∷ []) tt (plain (λ _. R)), (gave-ref (4 ∷ []) tt (plain (λ _. u64)), (stay-dropped (mutSliceOf (5 ∷ []) tt (plain (λ _. u32))) no, tt))))))
+stayed = (stay-dropped options-slot yes, (stay-dropped notes-slot yes, (gave-slice (2 ∷ []) tt (plain (λ _. u8)), (gave-slice (3 ∷ []) tt (plain (λ _. R)), (gave-ref (4 ∷ []) tt (plain (λ _. u64)), (stay-slice (5 ∷ []) tt (plain (λ _. u32)), tt))))))
 
 module _ {M : Type 1} (𝓤 : URA M) (H : Heap 𝓤) (A : Atoms 𝓤) (mem : Memory → SProp 𝓤) (run : Routine → Fun 𝓤) where
   -- the contracts that the proof cites
@@ -93,23 +92,24 @@ module _ {M : Type 1} (𝓤 : URA M) (H : Heap 𝓤) (A : Atoms 𝓤) (W : Given
   abbrev Noted : List ℕ → ℕ → List ℕ → Told → Type 0
   Noted out′ filled′ ms t = Marked answer (length (index .now)) (output .now) out′ filled′ ms t
 
-  -- what is had at exit
-  abbrev Has : List ℕ → List Record → ℕ → List (Item 𝓤)
-  Has out′ index′ filled′ = ‵ (flft κ₀ q₀) ∷ ‵ (flft κ₁ q₁) ∷ ‵ (flft κ₂ q₂) ∷ ‵ (flft κ₃ q₃) ∷ ‵ (flft κ₄ q₄) ∷ ‵ (flft κ₅ q₅) ∷ ‵ (finally u8 (output .name) out′) ∷ ‵ (finally R (index .name) index′) ∷ ‵ (fres (filled .name) (u64 .coded .code filled′)) ∷ []
-
-  exits : (r : ℕ) → r < 2 ^ 64 → (out′ : List ℕ) → length out′ ≡ length (output .now) → (index′ : List Record) → length index′ ≡ length (index .now) → (filled′ : ℕ) → Left answer (output .now) (index .now) r out′ index′ filled′
-      → ent 𝓤 (⋆ 𝓤 H A (Has out′ index′ filled′)) (Post (vint w64 r))
-  exits r fits out′ out-length index′ index-length filled′ e =
-      qed W (Has out′ index′ filled′) ∵
-      suffices ! _ (ends-at 𝓤 H A f.ended stayed (f.clauses 𝓤 H A mem run) W ((κs, qs, tt, a, at), tt) (vint w64 r) r (tt, (tt, (out′, (index′, (filled′, (tt, tt)))))) (tt, (tt, (out-length, (index-length, (tt, (tt, tt))))))) $ says ! e $
-      nothing ! $ move ! (1 ∷ 2 ∷ 3 ∷ 4 ∷ 5 ∷ 6 ∷ 0 ∷ []) $ group ! 7 $ frame ! $
-      nothing ! $ nothing ! $ fjoin ! $ move ! (3 ∷ 0 ∷ []) $ fjoin ! $ move ! (2 ∷ 0 ∷ []) $ fjoin ! $ move ! (1 ∷ 0 ∷ []) $ fjoin ! $ nothing ! $ fjoin ! $ nothing ! $ fjoin ! $ frame ! $
-      owned ! u64 (Is u64) (uint-makes 𝓤 H A W w64) r _ (refl, fits) $ done !
-
-  -- the room under a name, with so many numbers in it; and what a reference to it owns apart from its machine value
+  -- the room under a name, with so many numbers in it
   abbrev room-at : GName → List ℕ → RefT (List ℕ)
   room-at γ ms = record { ptr = work .ptr; name = γ; now = ms }
 
+  -- what is had at exit
+  abbrev Has : List ℕ → List Record → ℕ → List ℕ → List (Item 𝓤)
+  Has out′ index′ filled′ ms = ‵ (flft κ₀ q₀) ∷ ‵ (flft κ₁ q₁) ∷ ‵ (flft κ₂ q₂) ∷ ‵ (flft κ₃ q₃) ∷ ‵ (flft κ₄ q₄) ∷ ‵ (flft κ₅ q₅) ∷ ‵ (finally u8 (output .name) out′) ∷ ‵ (finally R (index .name) index′) ∷ ‵ (fres (filled .name) (u64 .coded .code filled′)) ∷ ‵ (MutSlice (named 5) κ₅ u32 .own (room-at (work .name) ms) (slice work ∷ [])) ∷ []
+
+  exits : (r : ℕ) → r < 2 ^ 64 → (out′ : List ℕ) → length out′ ≡ length (output .now) → (index′ : List Record) → length index′ ≡ length (index .now) → (filled′ : ℕ) (ms : List ℕ) → length ms ≡ length (work .now) → Left answer (output .now) (index .now) r out′ index′ filled′
+      → ent 𝓤 (⋆ 𝓤 H A (Has out′ index′ filled′ ms)) (Post (vint w64 r))
+  exits r fits out′ out-length index′ index-length filled′ ms same e =
+      qed W (Has out′ index′ filled′ ms) ∵
+      suffices ! _ (ends-at 𝓤 H A f.ended stayed (f.clauses 𝓤 H A mem run) W ((κs, qs, tt, a, at), tt) (vint w64 r) r (tt, (tt, (out′, (index′, (filled′, (ms, tt)))))) (tt, (tt, (out-length, (index-length, (tt, (same, tt))))))) $ says ! e $
+      nothing ! $ move ! (1 ∷ 2 ∷ 3 ∷ 4 ∷ 5 ∷ 6 ∷ 0 ∷ []) $ group ! 7 $ frame ! $
+      nothing ! $ move ! (4 ∷ 0 ∷ []) $ fjoin ! $ move ! (3 ∷ 0 ∷ []) $ fjoin ! $ move ! (2 ∷ 0 ∷ []) $ fjoin ! $ move ! (1 ∷ 0 ∷ []) $ fjoin ! $ nothing ! $ fjoin ! $ nothing ! $ fjoin ! $ frame ! $
+      owned ! u64 (Is u64) (uint-makes 𝓤 H A W w64) r _ (refl, fits) $ done !
+
+  -- what a reference to the room owns apart from its machine value
   abbrev Lends : Lft → GName → List ℕ → Fml
   Lends κ γ ms = Owned.MutSlice erased κ u32 .own (room-at γ ms)
 
@@ -221,20 +221,21 @@ module _ {M : Type 1} (𝓤 : URA M) (H : Heap 𝓤) (A : Atoms 𝓤) (W : Given
         move ! (1 ∷ []) $ split ! $ move ! (1 ∷ []) $ facts ! unit (Is unit) (shows 𝓤 H A unit) u (w′ ∷ []) (λ nil.
         land ! (from ! (stop !)) (init ! 17 refl (nothing-lawful 𝓤 H A W .typed u _ nil .0)) $
         split ! $ move ! (1 ∷ []) $ split ! $ move ! (1 ∷ []) $ drop ! $ lft-end ! tt $ move ! (0 ∷ 3 ∷ []) $
-        use2 W (later (‵ (Lends κ₅ (work .name) (marks-in ws)) ⊛ ‵ (flft κ₅ q₅))) (sl-reshare-back 𝓤 H A W u32 κ₅ q₅ (β ∷ []) (work .ptr .0) (work .ptr .1) (work .name) (marks-in ws)) $ await ! tt $ split ! $ drop ! $
-        -- [the tokens of κ₅ and κ₃; index's; the tokens of κ₄, κ₂, κ₁, κ₀; filled's; output's; _18; …; _0; …]
-        assigns ! (of-opd ! (load ! (from ! (fld ! refl (stop !))) (look-in ! 31 (sub ! 0 refl (whole !))))) (from ! (stop !)) (init ! 45 refl (tt, record { fits = answer-fits t w is })) $ returns ! (look ! 45 refl) $
-        forget ! 9 refl $ forget ! 11 refl $ forget ! 13 refl $ forget ! 15 refl $ forget ! 17 refl $ forget ! 19 refl $ forget ! 21 refl $ forget ! 23 refl $ forget ! 25 refl $ forget ! 27 refl $ forget ! 29 refl $ forget ! 31 refl $ forget ! 33 refl $ forget ! 35 refl $ forget ! 37 refl $ forget ! 39 refl $ forget ! 41 refl $ forget ! 43 refl $ forget ! 45 refl $
-        move ! (45 ∷ 46 ∷ []) $ free1 ! $ move ! (43 ∷ 44 ∷ []) $ free1 ! $ move ! (41 ∷ 42 ∷ []) $ free1 ! $ move ! (39 ∷ 40 ∷ []) $ free1 ! $ move ! (37 ∷ 38 ∷ []) $ free1 ! $ move ! (35 ∷ 36 ∷ []) $ free1 ! $ move ! (33 ∷ 34 ∷ []) $ free1 ! $ move ! (31 ∷ 32 ∷ []) $ free1 ! $
-        move ! (29 ∷ 30 ∷ []) $ free1 ! $ move ! (27 ∷ 28 ∷ []) $ free1 ! $ move ! (25 ∷ 26 ∷ []) $ free1 ! $ move ! (23 ∷ 24 ∷ []) $ free1 ! $ move ! (21 ∷ 22 ∷ []) $ free1 ! $ move ! (19 ∷ 20 ∷ []) $ free1 ! $ move ! (17 ∷ 18 ∷ []) $ free1 ! $ move ! (15 ∷ 16 ∷ []) $ free1 ! $
-        move ! (13 ∷ 14 ∷ []) $ free1 ! $ move ! (11 ∷ 12 ∷ []) $ free1 ! $ move ! (9 ∷ 10 ∷ []) $ free1 ! $ free0 ! $
-        move ! (6 ∷ 5 ∷ 4 ∷ 1 ∷ 3 ∷ 0 ∷ 8 ∷ 2 ∷ 7 ∷ []) $ by ! (exits (t .answer) (answer-fits t w is) (output-in ws) out-length (zs .0) index-length (filled-in ws) (left answer (output .now) (index .now) (output-in ws) (filled-in ws) (marks-in ws) t (zs .0) noted stored))))))))))))))))))))))))))))))))))))))))
+        use2 W (later (‵ (Lends κ₅ (work .name) (marks-in ws)) ⊛ ‵ (flft κ₅ q₅))) (sl-reshare-back 𝓤 H A W u32 κ₅ q₅ (β ∷ []) (work .ptr .0) (work .ptr .1) (work .name) (marks-in ws)) $ await ! tt $ split ! $
+        fsplit ! $ feqI ! (List Val) (slice work ∷ []) (slice (room-at (work .name) (marks-in ws)) ∷ []) (ap (λ (n : ℕ). sliceVal (work .ptr) n ∷ []) (sym same)) $ fjoin ! $ fjoin ! $
+        -- [the room; the tokens of κ₅ and κ₃; index's; the tokens of κ₄, κ₂, κ₁, κ₀; filled's; output's; _18; …; _0; …]
+        assigns ! (of-opd ! (load ! (from ! (fld ! refl (stop !))) (look-in ! 32 (sub ! 0 refl (whole !))))) (from ! (stop !)) (init ! 46 refl (tt, record { fits = answer-fits t w is })) $ returns ! (look ! 46 refl) $
+        forget ! 10 refl $ forget ! 12 refl $ forget ! 14 refl $ forget ! 16 refl $ forget ! 18 refl $ forget ! 20 refl $ forget ! 22 refl $ forget ! 24 refl $ forget ! 26 refl $ forget ! 28 refl $ forget ! 30 refl $ forget ! 32 refl $ forget ! 34 refl $ forget ! 36 refl $ forget ! 38 refl $ forget ! 40 refl $ forget ! 42 refl $ forget ! 44 refl $ forget ! 46 refl $
+        move ! (46 ∷ 47 ∷ []) $ free1 ! $ move ! (44 ∷ 45 ∷ []) $ free1 ! $ move ! (42 ∷ 43 ∷ []) $ free1 ! $ move ! (40 ∷ 41 ∷ []) $ free1 ! $ move ! (38 ∷ 39 ∷ []) $ free1 ! $ move ! (36 ∷ 37 ∷ []) $ free1 ! $ move ! (34 ∷ 35 ∷ []) $ free1 ! $ move ! (32 ∷ 33 ∷ []) $ free1 ! $
+        move ! (30 ∷ 31 ∷ []) $ free1 ! $ move ! (28 ∷ 29 ∷ []) $ free1 ! $ move ! (26 ∷ 27 ∷ []) $ free1 ! $ move ! (24 ∷ 25 ∷ []) $ free1 ! $ move ! (22 ∷ 23 ∷ []) $ free1 ! $ move ! (20 ∷ 21 ∷ []) $ free1 ! $ move ! (18 ∷ 19 ∷ []) $ free1 ! $ move ! (16 ∷ 17 ∷ []) $ free1 ! $
+        move ! (14 ∷ 15 ∷ []) $ free1 ! $ move ! (12 ∷ 13 ∷ []) $ free1 ! $ move ! (10 ∷ 11 ∷ []) $ free1 ! $ free0 ! $
+        move ! (7 ∷ 6 ∷ 5 ∷ 2 ∷ 4 ∷ 1 ∷ 9 ∷ 3 ∷ 8 ∷ 0 ∷ []) $ by ! (exits (t .answer) (answer-fits t w is) (output-in ws) out-length (zs .0) index-length (filled-in ws) (marks-in ws) same (left answer (output .now) (index .now) (output-in ws) (filled-in ws) (marks-in ws) t (zs .0) noted stored))))))))))))))))))))))))))))))))))))))))
 
 module _ {M : Type 1} (𝓤 : URA M) (H : Heap 𝓤) (A : Atoms 𝓤) (W : Given 𝓤 H A) (mem : Memory → SProp 𝓤) (run : Routine → Fun 𝓤) where
   write-indexed-meets : (𝓣 : Tables 𝓤 H) → Triple 𝓤 (𝓣 .C #indexer·write-marked-large) (WriteMarked 𝓤 H A mem run) → Triple 𝓤 (𝓣 .C #index·store-records) (StoreRecords 𝓤 H A mem run) → Meets 𝓤 H A f.signature (WpFn 𝓤 H (𝓣 .C) (𝓣 .Λ) code.function) (f.spec 𝓤 H A mem run)
   write-indexed-meets 𝓣 known-write known-store =
       meets-by 𝓤 H A W f.ended stayed (f.clauses 𝓤 H A mem run) code.function 𝓣
-      (goes-dropped 𝓤 H A W 6 options-slot yes (λ κs x f. refl), (goes-dropped 𝓤 H A W 6 notes-slot yes (λ κs x f. refl), (goes-gave-slice 𝓤 H A W 6 2 tt (plain (λ _. u8)), (goes-gave-slice 𝓤 H A W 6 3 tt (plain (λ _. R)), (goes-gave-ref 𝓤 H A W 6 4 tt (plain (λ _. u64)), (goes-spent-slice 𝓤 H A W 6 (5 ∷ []) tt (plain (λ _. u32)), tt))))))
+      (goes-dropped 𝓤 H A W 6 options-slot yes (λ κs x f. refl), (goes-dropped 𝓤 H A W 6 notes-slot yes (λ κs x f. refl), (goes-gave-slice 𝓤 H A W 6 2 tt (plain (λ _. u8)), (goes-gave-slice 𝓤 H A W 6 3 tt (plain (λ _. R)), (goes-gave-ref 𝓤 H A W 6 4 tt (plain (λ _. u64)), (goes-slice 𝓤 H A W 6 5 tt (plain (λ _. u32)), tt))))))
       (λ κs. (slice-vals, (slice-vals, (slice-vals, (slice-vals, (ptr-vals, (slice-vals, tt)))))))
       (λ κs. (shr-slice-tells (named 0) (κs .0) u8, (shr-slice-tells (named 1) (κs .1 .0) u8, (mut-slice-tells (named 2) (κs .1 .1 .0) u8, (mut-slice-tells (named 3) (κs .1 .1 .1 .0) R, (mut-tells (named 4) (κs .1 .1 .1 .1 .0) u64, (mut-slice-tells (named 5) (κs .1 .1 .1 .1 .1 .0) u32, tt)))))))
       (λ κs qs bounds a g are. via 𝓤 _ (fst∗ 𝓤 _ (emp 𝓤)) (walk 𝓤 H A W mem run (κs .0) (κs .1 .0) (κs .1 .1 .0) (κs .1 .1 .1 .0) (κs .1 .1 .1 .1 .0) (κs .1 .1 .1 .1 .1 .0) (qs .0) (qs .1 .0) (qs .1 .1 .0) (qs .1 .1 .1 .0) (qs .1 .1 .1 .1 .0) (qs .1 .1 .1 .1 .1 .0)

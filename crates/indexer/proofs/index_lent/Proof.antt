@@ -1,0 +1,65 @@
+-- `indexer::index_lent` meets its contract.
+use mathlib.Core.Path.{_∙_}
+use native.Mathlib.Nat.{zero-max}
+use native.Mathlib.Omega.{arith}
+use lib.ListN.{length}
+use Rattle.options.specs.Opts.{meant}
+use Rattle.walk.specs.Work.{workFor}
+use Rattle.indexer.proofs.Answers.{need-is, lent-fits, lent-refused, lent-indexes}
+use borrow.Author.Needs.{needs}
+use Rattle.indexer.proofs.index_lent.Statement.{statement}
+use Rattle.indexer.proofs.index_lent.Tie as tie
+
+marks-for-requires : tie.Need-marks-for-requires
+marks-for-requires c κs = c .before .before .before .before .pre .short
+
+work-over-requires : tie.Need-work-over-requires
+work-over-requires c κs = c .before .before .before .before .before .before .pre
+
+add-t14 : tie.Need-add-t14
+add-t14 c = record { fits = lent-fits (meant (c .before .before .before .before .before .before .before .args .block .now) (c .before .before .before .before .before .before .before .args .o)) (c .before .before .before .before .before .before .before .args .notes .now) (c .before .before .marks-for .ensures) (c .work-over .ensures ∙ zero-max (workFor (meant (c .before .before .before .before .before .before .before .args .block .now) (c .before .before .before .before .before .before .before .args .o)) (c .before .before .before .before .before .before .before .args .notes .now))) (c .before .before .before .before .before .before .before .pre .short) }
+
+returns : tie.Need-returns
+returns c = lent-refused (meant (c .before .before .before .before .before .before .before .args .block .now) (c .before .before .before .before .before .before .before .args .o)) (c .before .before .before .before .before .before .before .args .notes .now) _ _ (length (c .before .before .before .before .before .before .before .args .work .now)) _ _ (c .before .before .marks-for .ensures) _ _ (c .work-over .ensures ∙ zero-max (workFor (meant (c .before .before .before .before .before .before .before .args .block .now) (c .before .before .before .before .before .before .before .args .o)) (c .before .before .before .before .before .before .before .args .notes .now))) (omega (arith, c .before .if1 .taken))
+
+sub-rest : tie.Need-sub-rest
+sub-rest c = c .if1 .left
+
+work-over-requires-2 : tie.Need-work-over-requires-2
+work-over-requires-2 c κs = c .before .before .before .before .before .before .pre
+
+add-t15 : tie.Need-add-t15
+add-t15 c = record { fits = lent-fits (meant (c .before .before .before .before .before .before .before .before .args .block .now) (c .before .before .before .before .before .before .before .before .args .o)) (c .before .before .before .before .before .before .before .before .args .notes .now) (c .before .before .before .marks-for .ensures) (need-is _ _ _ (c .before .work-over2 .ensures) (c .if2 .taken)) (c .before .before .before .before .before .before .before .before .pre .short) }
+
+returns-2 : tie.Need-returns-2
+returns-2 c = lent-refused (meant (c .before .before .before .before .before .before .before .before .args .block .now) (c .before .before .before .before .before .before .before .before .args .o)) (c .before .before .before .before .before .before .before .before .args .notes .now) _ _ (length (c .before .before .before .before .before .before .before .before .args .work .now)) _ _ (c .before .before .before .marks-for .ensures) _ _ (need-is _ _ _ (c .before .work-over2 .ensures) (c .if2 .taken)) (omega (arith, c .if2 .taken, c .before .before .if1 .left))
+
+index-with-requires : tie.Need-index-with-requires
+index-with-requires c κs = let m = c .before .before .before .before .before .marks-for .ensures in let p = c .before .before .before .before .before .before .before .before .before .before .pre in (p, record { enough = omega (arith, m); few = omega (arith, m, p .short); order = c .before .before .before .before .if1 .left; within = omega arith })
+
+same-length : tie.Need-same-length
+same-length c = search needs
+
+same-length-2 : tie.Need-same-length-2
+same-length-2 c = search needs
+
+returns-3 : tie.Need-returns-3
+unfolding meant
+returns-3 c = lent-indexes (meant (c .before .before .before .before .before .before .before .before .before .before .before .before .before .before .before .args .block .now) (c .before .before .before .before .before .before .before .before .before .before .before .before .before .before .before .args .o)) (c .before .before .before .before .before .before .before .before .before .before .before .before .before .before .before .args .notes .now) _ _ (length (c .before .before .before .before .before .before .before .before .before .before .before .before .before .before .before .args .work .now)) _ _ (c .before .before .before .before .before .before .before .before .before .before .marks-for .ensures) (c .before .before .before .before .before .before .before .before .before .if1 .left) (c .before .before .before .before .before .before .before .before .work-over2 .ensures) (c .before .before .before .before .before .before .before .if2 .left) (c .before .before .before .before .index-with .ensures)
+
+pub index-lent-spec : {M : Type 1} → statement M
+index-lent-spec =
+    tie.close
+    (tie.spec
+    marks-for-requires
+    work-over-requires
+    add-t14
+    returns
+    sub-rest
+    work-over-requires-2
+    add-t15
+    returns-2
+    index-with-requires
+    same-length
+    same-length-2
+    returns-3)

@@ -1,0 +1,50 @@
+-- `indexer::write_lent` meets its contract.
+use native.Mathlib.Omega.{arith}
+use lib.ListN.{length}
+use Rattle.formatter.proofs.Refusals.{passed, refused}
+use Rattle.indexer.specs.Indexing.{indexLending}
+use Rattle.indexer.proofs.Answers.{indexing-left, refused-answer}
+use borrow.Author.Needs.{needs}
+use Rattle.indexer.proofs.write_lent.Statement.{statement}
+use Rattle.indexer.proofs.write_lent.Tie as tie
+
+admit-within-requires : tie.Need-admit-within-requires
+admit-within-requires c κs = omega arith
+
+enum-known-r : tie.Need-enum-known-r
+enum-known-r c = search needs
+
+refused-requires : tie.Need-refused-requires
+refused-requires c κs = search needs
+
+enum-known-o : tie.Need-enum-known-o
+enum-known-o c = search needs
+
+index-lent-requires : tie.Need-index-lent-requires
+index-lent-requires c κs = let l = indexLending (length (c .before .before .before .before .before .before .before .before .before .before .args .work .now)) in passed l _ _ (c .before .before .before .before .before .admit-within .ensures (l .words)) (c .before .before .before .o .given .1) .0
+
+returns : tie.Need-returns
+returns c = let l = indexLending (length (c .before .before .before .before .before .before .before .before .before .args .work .now)) in rw (c .refused .ensures) (refused-answer l _ _ _ _ _ _ _ (refused l _ _ (c .before .before .before .before .admit-within .ensures (l .words)) (c .before .before .r .given .1)))
+
+same-length : tie.Need-same-length
+same-length c = search needs
+
+same-length-2 : tie.Need-same-length-2
+same-length-2 c = search needs
+
+returns-2 : tie.Need-returns-2
+returns-2 c = let l = indexLending (length (c .before .before .before .before .before .before .before .before .before .before .before .before .before .before .before .args .work .now)) in rw (indexing-left l _ _ _ _ _ (passed l _ _ (c .before .before .before .before .before .before .before .before .before .before .admit-within .ensures (l .words)) (c .before .before .before .before .before .before .before .before .o .given .1))) (c .before .before .before .before .index-lent .ensures)
+
+pub write-lent-spec : {M : Type 1} → statement M
+write-lent-spec =
+    tie.close
+    (tie.spec
+    admit-within-requires
+    enum-known-r
+    refused-requires
+    enum-known-o
+    index-lent-requires
+    returns
+    same-length
+    same-length-2
+    returns-2)
