@@ -1,8 +1,8 @@
 -- A paragraph written by quick without a table of its words: the promise is the paragraph's own.
-use mathlib.Core.Path.{_≡_, refl, sym, ap, _∙_}
+use mathlib.Core.Path.{_≡_, refl, ap, _∙_}
 use mathlib.Core.Bool.{Bool, true, false, _||_}
 use mathlib.Core.List.{List, []}
-use Prim.Native.Nat.{ℕ, _+_, _-_, _*_, _≤_, _<_}
+use Prim.Native.Nat.{ℕ, _-_, _*_, _≤_, _<_}
 use native.Mathlib.Omega.{arith}
 use lib.Dec.{ltb}
 use lib.ListN.{length}
@@ -24,10 +24,10 @@ use Rattle.output.specs.Contracts.Writers.{marginOf}
 use Rattle.output.proofs.Bound.{emit-most}
 use Rattle.quick.specs.Quick.{quickBreaks}
 use Rattle.paragraphs.specs.Breaks.{settingOf, breaksBy}
-use Rattle.paragraphs.specs.Contracts.Steps.{roomFor, Placed, settingFor, wordsFor, TextPut, TextStepped}
+use Rattle.paragraphs.specs.Contracts.Steps.{Placed, settingFor, wordsFor, TextStepped}
 use Rattle.paragraphs.specs.declared.Step.the-variants.{On}
-use Rattle.regular.specs.Contracts.Places.{PutIs, wordsOn}
-use Rattle.regular.specs.declared.Put.the-variants.{Done, Other}
+use Rattle.regular.specs.Contracts.Places.{PutIs}
+use Rattle.regular.specs.declared.Put.the-variants.{Done}
 
 -- over plain marks
 by-marks : (uniform mail quick : Bool) → uniform ≡ false → mail ≡ false → quick ≡ true → (first indent : List ℕ) (g : Bool → Setting) (ws : Bool → List Word) (out : List ℕ) (written : ℕ) (out′ : List ℕ) (r : ℕ) (h : Setting) → h ≡ g mail

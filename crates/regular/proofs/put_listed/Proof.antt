@@ -1,8 +1,6 @@
 -- `regular::put_listed` meets its contract. Invariant: what is left of the output is that of the words from j on.
 use Prim.Native.Nat.{_-_}
 use native.Mathlib.Omega.{arith}
-use denote.Ref.{now}
-use borrow.Author.Needs.{needs}
 use Rattle.output.proofs.Sink.{left-length}
 use Rattle.output.specs.Contracts.Writers.{marginOf}
 use Rattle.regular.specs.Contracts.Places.{Listed}
