@@ -71,8 +71,13 @@ module _ (s : List ℕ) (w : Record) (g : Setting) (indent : List ℕ) (out : Li
       stays : (more : List Word) → quickRest g indent (t .column) (t .punct) (meaning s w ∷ more) ≡ replicate count 32 ++ (slice (w .from) (w .end) s ++ quickRest g indent reached (w .punct) more)
       stays more =
           word-stays g indent (t .column) (t .punct) (meaning s w) more (rw reaches (le-ltb _ _ fits))
-          ∙ rw (reaches, ← counts, append-assoc (replicate count 32) (slice (w .from) (w .start) s) (slice (w .start) (w .end) s ++ quickRest g indent reached (w .punct) more),
-            ← append-assoc (slice (w .from) (w .start) s) (slice (w .start) (w .end) s) (quickRest g indent reached (w .punct) more), slice-join (w .from) (w .start) (w .end) s (lies .gap) (lies .text) (lies .end))
+          ∙ rw (
+            reaches,
+            ← counts,
+            append-assoc (replicate count 32) (slice (w .from) (w .start) s) (slice (w .start) (w .end) s ++ quickRest g indent reached (w .punct) more),
+            ← append-assoc (slice (w .from) (w .start) s) (slice (w .start) (w .end) s) (quickRest g indent reached (w .punct) more),
+            slice-join (w .from) (w .start) (w .end) s (lies .gap) (lies .text) (lies .end),
+          )
 
 -- ---- the words of a table
 
