@@ -226,7 +226,67 @@ uint64_t rudignals_write(const uint8_t *options, size_t options_len, const uint8
  */
 uint64_t rudignals_format(const uint8_t *options, size_t options_len, const uint8_t *notes, size_t notes_len, uint8_t *output, size_t output_len);
 
-/* ---- Large notes: this block is for the calls that take notes of more than RUDIGNALS_MOST_NOTES bytes ------------------------------------ */
+/* ---- Large notes ------------------------------------------------------------------------------------------------------------------------ */
+
+/* Notes of up to RUDIGNALS_MOST_LARGE bytes, with paragraphs of any number of words, in working room that the program lends. Each of these
+ * calls answers as the call without _large does, but for this:
+ *
+ *    2 long, 9 long digest
+ *               Above RUDIGNALS_MOST_LARGE bytes.
+ *    4 words    Never given. In its place in the order:
+ *   12 work     work has fewer numbers than the call needs. N is how many it needs: with so many the same call does not answer 12. The
+ *               output, the index and the reason are unchanged, *filled and *dashes are 0.
+ *    5 room     The rudignals_measure_large, rudignals_write_large, rudignals_write_indexed_large and rudignals_flow_large calls answer 5 with
+ *               N 4294967295 for a digest of more bytes than that.
+ *
+ * work is an array of work_len numbers of 32 bits, with any content. What it holds afterwards is not promised. N of 12 depends on the call, the
+ * options and the notes alone. So a program calls with no room, lends what it is told and calls again; or it lends RUDIGNALS_WORK(notes_len)
+ * numbers at once, with which no call answers 12. */
+#define RUDIGNALS_MOST_LARGE 1048576u    /* bytes of notes, and of a digest that is checked, for these calls */
+#define RUDIGNALS_WORK(notes_len) ((size_t)8 * ((size_t)(notes_len) + 1)) /* numbers, for notes of up to RUDIGNALS_MOST_LARGE bytes */
+
+struct rudignals_record;
+
+/* rudignals_measure_large - find out how long the digest of large notes is
+ *
+ * rudignals_measure for notes of up to RUDIGNALS_MOST_LARGE bytes, in lent working room. With notes that have no paragraph it needs none.
+ */
+uint64_t rudignals_measure_large(const uint8_t *options, size_t options_len, const uint8_t *notes, size_t notes_len, uint32_t *work, size_t work_len);
+
+/* rudignals_write_large - write the digest of large notes
+ *
+ * rudignals_write for notes of up to RUDIGNALS_MOST_LARGE bytes, in lent working room. It needs as much of it as rudignals_measure_large.
+ */
+uint64_t rudignals_write_large(const uint8_t *options, size_t options_len, const uint8_t *notes, size_t notes_len, uint8_t *output, size_t output_len,
+                               uint32_t *work, size_t work_len);
+
+/* rudignals_write_indexed_large - write the digest of large notes and an index beside it
+ *
+ * rudignals_write_indexed for notes of up to RUDIGNALS_MOST_LARGE bytes, in lent working room.
+ */
+uint64_t rudignals_write_indexed_large(const uint8_t *options, size_t options_len, const uint8_t *notes, size_t notes_len, uint8_t *output, size_t output_len,
+                                       struct rudignals_record *index, size_t records, uint64_t *filled, uint32_t *work, size_t work_len);
+
+/* rudignals_explain_large - find out why a line of the digest of large notes ends where it does
+ *
+ * rudignals_explain for notes of up to RUDIGNALS_MOST_LARGE bytes, in lent working room.
+ */
+uint64_t rudignals_explain_large(const uint8_t *options, size_t options_len, const uint8_t *notes, size_t notes_len, uint64_t line, uint64_t reason[6],
+                                 uint32_t *work, size_t work_len);
+
+/* rudignals_flow_large - write the digest of large notes as mail
+ *
+ * rudignals_flow for notes of up to RUDIGNALS_MOST_LARGE bytes, in lent working room. With notes that have no paragraph it needs none.
+ */
+uint64_t rudignals_flow_large(const uint8_t *options, size_t options_len, const uint8_t *notes, size_t notes_len, uint8_t *output, size_t output_len, uint64_t *dashes,
+                              uint32_t *work, size_t work_len);
+
+/* rudignals_check_large - check that a digest carries its large notes
+ *
+ * rudignals_check for notes and a digest of up to RUDIGNALS_MOST_LARGE bytes each, in lent working room.
+ */
+uint64_t rudignals_check_large(const uint8_t *options, size_t options_len, const uint8_t *notes, size_t notes_len, const uint8_t *digest, size_t digest_len,
+                               uint32_t *work, size_t work_len);
 
 /* ---- From a line of the digest back to the notes ------------------------------------------------------------------------------------------ */
 

@@ -53,7 +53,7 @@ module _ (o : Options) (block : List ℕ) where
   rows-same mail [] = refl
   rows-same mail (row ∷ rows) = ap₂ (λ (l r : List Word). l ++ r) (row-same mail row) (rows-same mail rows)
 
-  words-same : (mail : Bool) (start later : ℕ) (ls : List Line) → wordsAt (meant [] o) mail start later ls ≡ wordsAt (meant block o) mail start later ls
+  pub words-same : (mail : Bool) (start later : ℕ) (ls : List Line) → wordsAt (meant [] o) mail start later ls ≡ wordsAt (meant block o) mail start later ls
   unfolding wordsAt
   words-same mail start later ls = sym (rows-same mail (rowsAt start later ls))
 
@@ -68,7 +68,7 @@ module _ (o : Opts) (mail : Bool) (start later : ℕ) where
   unfolding placesAt placesOf
   places-nil glue at = refl
 
-  rows-first : (l : Line) (ls : List Line) → wordsAt o mail start later (l ∷ ls) ≡ rowWords o mail (record { text = l .text; start = start }) ++ wordsAt o mail later later ls
+  pub rows-first : (l : Line) (ls : List Line) → wordsAt o mail start later (l ∷ ls) ≡ rowWords o mail (record { text = l .text; start = start }) ++ wordsAt o mail later later ls
   unfolding wordsAt rowsAt joined
   rows-first l ls = refl
 
