@@ -4,6 +4,7 @@
 #   make check        every test (./check)
 #   make install      header, libraries, rudignals.pc, command, completion and manual pages, under PREFIX; DESTDIR is put before it
 #   make uninstall    takes the same files away again
+#   make deb          four Debian packages in target/deb: rudignals, librudignals1, librudignals-dev, python3-rudignals
 #   make clean        removes target/, the proofs too: the next make takes some minutes
 PREFIX ?= /usr/local
 DESTDIR ?=
@@ -25,7 +26,9 @@ install: all
 	@tools/package install
 uninstall:
 	@tools/package uninstall
+deb:
+	@tools/package deb
 clean:
 	rm -rf target
 
-.PHONY: all check install uninstall clean
+.PHONY: all check install uninstall deb clean

@@ -1,7 +1,7 @@
 /* Made by tools/page from page/page.css and page/page.js: change those, and make it anew. */
 #include "page.h"
 
-const char PAGE_STYLE_HASH[] = "bJ+yJQ8IbWNXOa1TT0U2lEiNSSqLT2Kf/eUF8Lqb6K4=";
+const char PAGE_STYLE_HASH[] = "19r2MW2RE8KvSVsdGzP9nGHPt95tDHR+fvUgO1vlJI8=";
 
 const char *const PAGE_STYLE[] = {
     ":root {\n",
@@ -60,7 +60,8 @@ const char *const PAGE_STYLE[] = {
     "b { width: 2ch; text-align: center; }\n",
     "b[class] { text-align: left; letter-spacing: calc(2ch - 1em); text-indent: calc(1ch - .5em); font-kerning: none; text-spacing-trim: space-all; }\n",
     ".w0 { width: 0; }\n",
-    ".w1 { width: 1ch; } .w2 { width: 2ch; } .w3 { width: 3ch; } .w4 { width: 4ch; } .w5 { width: 5ch; } .w6 { width: 6ch; } .w7 { width: 7ch; } .w8 { width: 8ch; } .w9 { width: 9ch; } .w10 { width: 10ch; } .w11 { width: 11ch; } .w12 { width: 12ch; } .w13 { width: 13ch; } .w14 { width: 14ch; } .w15 { width: 15ch; } .w16 { width: 16ch; } .w17 { width: 17ch; } .w18 { width: 18ch; } .w19 { width: 19ch; } .w20 { width: 20ch; } .w21 { width: 21ch; } .w22 { width: 22ch; } .w23 { width: 23ch; } .w24 { width: 24ch; } .w25 { width: 25ch; } .w26 { width: 26ch; } .w27 { width: 27ch; } .w28 { width: 28ch; } .w29 { width: 29ch; } .w30 { width: 30ch; } .w31 { width: 31ch; } .w32 { width: 32ch; } .w33 { width: 33ch; } .w34 { width: 34ch; } .w35 { width: 35ch; } .w36 { width: 36ch; } .w37 { width: 37ch; } .w38 { width: 38ch; } .w39 { width: 39ch; } .w40 { width: 40ch; }\n",
+    ".w1 { width: 1ch; } .w2 { width: 2ch; } .w3 { width: 3ch; } .w4 { width: 4ch; } .w5 { width: 5ch; } .w6 { width: 6ch; } .w7 { width: 7ch; } .w8 { width: 8ch; } .w9 { width: 9ch; } .w10 { width: 10ch; } .w11 { width: 11ch; } .w12 { width: 12ch; } .w13 { width: 13ch; } .w14 { width: 14ch; } .w15 { width: 15ch; } .w16 { width: 16ch; } .w17 { width: 17ch; } .w18 { width: 18ch; } .w19 { width: 19ch; } .w20 { width: 20ch; } .w21 { width: 21ch; } .w22 { width: 22ch; } .w23 { width: 23ch; } .w24 { width: 24ch; } .w25 { width: 25ch; } .w26 { width: 26ch; } .w27 { width: 27ch; } .w28 { width: 28ch; } .w29 { width: 29ch; } .w30 { width: 30ch; } .w31 { width: 31ch; } .w32 { width: 32ch; } .w33 { width: 33ch; } .w34 { width: 34ch; } .w35 { width: 35ch; } .w36 { width: 36ch; } .w37 { width: 37ch; } .w38 { width: 38ch; } .w39 { width: 39ch; } .w40 { width: 40ch; } .w41 { width: 41ch; } .w42 { width: 42ch; } .w43 { width: 43ch; } .w44 { width: 44ch; } .w45 { width: 45ch; } .w46 { width: 46ch; } .w47 { width: 47ch; } .w48 { width: 48ch; } .w49 { width: 49ch; } .w50 { width: 50ch; } .w51 { width: 51ch; } .w52 { width: 52ch; } .w53 { width: 53ch; } .w54 { width: 54ch; } .w55 { width: 55ch; } .w56 { width: 56ch; } .w57 { width: 57ch; } .w58 { width: 58ch; } .w59 { width: 59ch; } .w60 { width: 60ch; } .w61 { width: 61ch; } .w62 { width: 62ch; } .w63 { width: 63ch; } .w64 { width: 64ch; } .w65 { width: 65ch; } .w66 { width: 66ch; } .w67 { width: 67ch; } .w68 { width: 68ch; } .w69 { width: 69ch; } .w70 { width: 70ch; } .w71 { width: 71ch; } .w72 { width: 72ch; } .w73 { width: 73ch; } .w74 { width: 74ch; } .w75 { width: 75ch; } .w76 { width: 76ch; } .w77 { width: 77ch; } .w78 { width: 78ch; } .w79 { width: 79ch; } .w80 { width: 80ch; }\n",
+    ".r { direction: rtl; }\n",
     "u { text-decoration: none; }\n",
     "#digest u { position: relative; display: inline-block; height: 1.5em; vertical-align: top; }\n",
     "#digest .c, #digest u.d, #digest .q { overflow: clip; }\n",
@@ -125,8 +126,9 @@ const char *const PAGE_STYLE[] = {
     "header.bar a { color: inherit; }\n",
     "#wall { display: none; }\n",
     "#wall:target { position: fixed; z-index: 9; inset: 0; display: grid; align-content: center; justify-content: center; gap: .5rem; overflow: auto; background: #303840; color: #b8c4d0; }\n",
-    "#wall pre { padding: .1em .35em; font: min(1.95vw, 3.25vh)/1.18 var(--mono); font-variant-ligatures: none; direction: ltr; background: #0c1014; color: #f0f0f0; }\n",
+    "#wall pre { padding: .1em 1.5ch; font: min(1.95vw, 3.25vh)/1.18 var(--mono); font-variant-ligatures: none; direction: ltr; background: #0c1014; color: #f0f0f0; }\n",
     "#wall pre span { display: block; width: 80ch; height: 1.18em; overflow: clip; }\n",
+    "#wall pre .g { box-shadow: -.6ch 0 #0c1014, -1ch 0 #ffb000; }\n",
     "#wall .o { background: #ffb000; color: #000; font-weight: bold; }\n",
     "#wall .d { background: #d01818; color: #fff; font-weight: bold; }\n",
     "#wall .o, #wall .d { line-height: 1.18; }\n",

@@ -2,7 +2,6 @@
 #include "buffer.h"
 
 #include <errno.h>
-#include <stdarg.h>
 #include <stdio.h>
 #include <stdlib.h>
 #include <string.h>
@@ -39,19 +38,26 @@ bool buffer_add(struct buffer *buffer, const void *bytes, size_t length) {
 }
 
 /* The zero byte that the system puts behind the text is not counted. */
-bool buffer_print(struct buffer *buffer, const char *format, ...) {
-    va_list values, again;
+bool buffer_fill(struct buffer *buffer, const char *format, va_list values) {
+    va_list again;
     int length;
     bool well;
-    va_start(values, format);
     va_copy(again, values);
-    length = vsnprintf(NULL, 0, format, values);
+    length = vsnprintf(NULL, 0, format, again);
+    va_end(again);
     well = length >= 0 && buffer_room(buffer, (size_t)length + 1);
     if (well) {
-        vsnprintf((char *)buffer->bytes + buffer->length, (size_t)length + 1, format, again);
+        vsnprintf((char *)buffer->bytes + buffer->length, (size_t)length + 1, format, values);
         buffer->length += (size_t)length;
     }
-    va_end(again);
+    return well;
+}
+
+bool buffer_print(struct buffer *buffer, const char *format, ...) {
+    va_list values;
+    bool well;
+    va_start(values, format);
+    well = buffer_fill(buffer, format, values);
     va_end(values);
     return well;
 }

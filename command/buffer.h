@@ -2,6 +2,7 @@
 #ifndef BUFFER_H
 #define BUFFER_H
 
+#include <stdarg.h>
 #include <stdbool.h>
 #include <stddef.h>
 #include <stdint.h>
@@ -24,6 +25,8 @@ struct buffer {
 bool buffer_room(struct buffer *buffer, size_t more);
 bool buffer_add(struct buffer *buffer, const void *bytes, size_t length);
 bool buffer_print(struct buffer *buffer, const char *format, ...) PRINTS(2, 3);
+/* The same of values that were handed on. */
+bool buffer_fill(struct buffer *buffer, const char *format, va_list values) PRINTS(2, 0);
 /* Gives the room back; the buffer is an empty one again. */
 void buffer_free(struct buffer *buffer);
 

@@ -3,7 +3,7 @@
  * Of a line that is formatted the prefix is no word: it stands before each line of the digest again, however many those are. */
 #include "ink.h"
 
-#include "rudignals.h"
+#include "damage.h"
 
 #include <string.h>
 
@@ -42,25 +42,6 @@ static const uint8_t *behind_word(const uint8_t *at, const uint8_t *end) {
     while (at < end && blank_at(at, end) == 0)
         at++;
     return at;
-}
-
-/* Mending tells it: with no room for a list the first change is refused. The library takes so many bytes at once; a line may be parted where
- * no byte continues a character, since none reaches over such a place. */
-static bool part_damaged(const uint8_t *bytes, size_t length) {
-    return rudignals_code_of(rudignals_mend(bytes, length, NULL, 0, NULL, 0, NULL, 0)) == RUDIGNALS_LIST_FULL;
-}
-
-bool is_damaged(const uint8_t *bytes, size_t length) {
-    size_t cut;
-    while (length > RUDIGNALS_MOST_NOTES) {
-        for (cut = RUDIGNALS_MOST_NOTES; cut > RUDIGNALS_MOST_NOTES - 4 && (bytes[cut] & 0xC0u) == 0x80u;)
-            cut--;
-        if (part_damaged(bytes, cut))
-            return true;
-        bytes += cut;
-        length -= cut;
-    }
-    return part_damaged(bytes, length);
 }
 
 static bool all_ascii(const uint8_t *at, const uint8_t *end) {

@@ -39,7 +39,5 @@ bool same_ink(const struct ink *a, const struct ink *b);
 
 /* How many bytes the blank (White_Space) at a place takes; 0 if there is none. */
 size_t blank_at(const uint8_t *at, const uint8_t *end);
-/* Is there a byte at which no well-formed character begins? The text has no line feed. */
-bool is_damaged(const uint8_t *bytes, size_t length);
 
 #endif

@@ -5,6 +5,8 @@
  * as its number in hex; markup is escaped. */
 #include "page.h"
 
+#include "damage.h"
+
 #include <string.h>
 
 /* ---- what a text consists of */
@@ -25,22 +27,6 @@ struct reader {
     struct sign sign; /* the one before `at`, if it is not ended */
     bool ended;
 };
-
-/* The first damaged byte from a place on. A call looks at no more than its limit; a character that is cut off there is looked at again. */
-static size_t find_damage(const uint8_t *bytes, size_t length, size_t at) {
-    while (at < length) {
-        size_t part = length - at < RUDIGNALS_MOST_NOTES ? length - at : RUDIGNALS_MOST_NOTES;
-        uint64_t answer = rudignals_measure(NULL, 0, bytes + at, part);
-        size_t place = rudignals_number_of(answer);
-        if (rudignals_code_of(answer) != RUDIGNALS_TEXT)
-            at += part;
-        else if (at + part == length || place + 4 <= part)
-            return at + place;
-        else
-            at += place;
-    }
-    return length;
-}
 
 /* The length of a well-formed character, by its first byte. */
 static size_t length_from(uint8_t first) { return first < 0x80 ? 1 : first < 0xE0 ? 2 : first < 0xF0 ? 3 : 4; }
@@ -74,7 +60,7 @@ static void read_damaged(struct reader *reader) {
     struct sign *sign = &reader->sign;
     *sign = (struct sign){reader->bytes + reader->at, 1, reader->bytes[reader->at], 1, true};
     reader->at++;
-    reader->damage = find_damage(reader->bytes, reader->length, reader->at);
+    reader->damage = first_damage(reader->bytes, reader->length, reader->at);
 }
 
 static void step(struct reader *reader) {
@@ -95,7 +81,7 @@ static void step(struct reader *reader) {
 }
 
 static struct reader reader_of(const uint8_t *bytes, size_t length) {
-    struct reader reader = {.bytes = bytes, .length = length, .damage = find_damage(bytes, length, 0)};
+    struct reader reader = {.bytes = bytes, .length = length, .damage = first_damage(bytes, length, 0)};
     step(&reader);
     return reader;
 }
@@ -356,8 +342,23 @@ static void put_cell(FILE *out, struct cell cell, bool wide) {
     fputs(wide ? "</b>" : *CLASS[cell.kind] != '\0' || !is_simple(cell.character) ? "</i>" : "", out);
 }
 
+/* A browser orders and shapes the letters of a run, in the box of their cells. */
+static void put_cell_run(FILE *out, const struct panel *panel, int row, int column, int length, bool from_right) {
+    int end = column + length;
+    fprintf(out, from_right ? "<i class='w%d r'>" : "<i class=w%d>", length);
+    for (; column < end; column++)
+        put_escaped(out, cell_at(panel, row, column).character);
+    fputs("</i>", out);
+}
+
 void put_row(FILE *out, const struct panel *panel, int row) {
-    int column;
-    for (column = 0; column < COLUMNS; column++)
-        put_cell(out, cell_at(panel, row, column), column + 1 < COLUMNS && cell_at(panel, row, column + 1).character == FILLER);
+    enum script script;
+    int column, length;
+    for (column = 0; column < COLUMNS; column += length) {
+        length = run_length(panel, row, column, &script);
+        if (length > 1)
+            put_cell_run(out, panel, row, column, length, script == FROM_RIGHT);
+        else
+            put_cell(out, cell_at(panel, row, column), column + 1 < COLUMNS && cell_at(panel, row, column + 1).character == FILLER);
+    }
 }

@@ -4,6 +4,7 @@
  * than a call takes is cut anywhere; whether it is mended is decided for the whole of it before. */
 #include "mend.h"
 
+#include "damage.h"
 #include "say.h"
 
 #include <string.h>
@@ -53,20 +54,6 @@ static bool mend_lines(struct mender *mender, const uint8_t *part, size_t length
 }
 
 /* ---- a line that is longer than a call takes */
-
-/* A character that is cut off at a part's end is looked at again. */
-static bool is_damaged(const uint8_t *line, size_t length) {
-    size_t part, place;
-    for (; length > 0; line += place, length -= place) {
-        uint64_t answer;
-        part = length < MOST ? length : MOST;
-        answer = rudignals_measure(NULL, 0, line, part);
-        place = rudignals_code_of(answer) == RUDIGNALS_TEXT ? rudignals_number_of(answer) : part;
-        if (place < part && (part == length || place + 4 <= part))
-            return true;
-    }
-    return false;
-}
 
 /* The byte FF is part of no character: with one before it any part of the line is damaged, and so mended. The two bytes that it becomes are
  * taken away again. */

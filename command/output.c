@@ -9,8 +9,6 @@
 
 #include <errno.h>
 #include <fcntl.h>
-#include <stdarg.h>
-#include <stdio.h>
 #include <string.h>
 #include <unistd.h>
 
@@ -91,18 +89,10 @@ bool write_out(const void *bytes, size_t length) {
 
 bool print_out(const char *format, ...) {
     struct buffer text = {0};
-    va_list values, again;
-    int length;
+    va_list values;
     bool well;
     va_start(values, format);
-    va_copy(again, values);
-    length = vsnprintf(NULL, 0, format, values);
-    well = written(length >= 0 && buffer_room(&text, (size_t)length + 1));
-    if (well) {
-        vsnprintf((char *)text.bytes, (size_t)length + 1, format, again);
-        well = write_out(text.bytes, (size_t)length);
-    }
-    va_end(again);
+    well = written(buffer_fill(&text, format, values)) && write_out(text.bytes, text.length);
     va_end(values);
     buffer_free(&text);
     return well;

@@ -4,6 +4,7 @@
 #include "night.h"
 
 #include "cut.h"
+#include "drawn.h"
 #include "json.h"
 #include "lines.h"
 #include "numbers.h"
@@ -139,21 +140,9 @@ static bool make_mail(struct night *night, struct buffer *out) {
 
 /* ---- what is drawn: page.html, wall.svg, wall.html */
 
-struct sheet {
-    FILE *out;
-    char *bytes;
-    size_t length;
-};
-
-static bool open_sheet(struct sheet *sheet) {
-    *sheet = (struct sheet){NULL, NULL, 0};
-    sheet->out = open_memstream(&sheet->bytes, &sheet->length);
-    return sheet->out != NULL;
-}
-
-static bool close_sheet(struct sheet *sheet, struct buffer *out) {
-    bool well = !ferror(sheet->out);
-    well = fclose(sheet->out) == 0 && well && buffer_add(out, sheet->bytes, sheet->length);
+/* Puts what was drawn behind the file. */
+static bool add_sheet(struct buffer *out, struct sheet *sheet) {
+    bool well = close_sheet(sheet) && buffer_add(out, sheet->bytes, sheet->length);
     free(sheet->bytes);
     return well;
 }
@@ -171,7 +160,7 @@ static bool make_page(struct night *night, struct buffer *out) {
         return false;
     draw_found(sheet.out, &page, outcome, night->outcome == MADE ? last_said() : reason_of(night));
     free_page(&page);
-    return close_sheet(&sheet, out);
+    return add_sheet(out, &sheet);
 }
 
 static void put_panel(struct panel *panel, const struct night *night) {
@@ -187,7 +176,7 @@ static bool make_drawing(const struct panel *panel, void (*draw)(FILE *out, cons
     if (!open_sheet(&sheet))
         return false;
     draw(sheet.out, panel);
-    return close_sheet(&sheet, out);
+    return add_sheet(out, &sheet);
 }
 
 /* ---- index.json */

@@ -6,6 +6,7 @@
 #include "page.h"
 
 #include "cut.h"
+#include "drawn.h"
 #include "lines.h"
 #include "output.h"
 #include "subcommand.h"
@@ -133,7 +134,7 @@ enum outcome find_page(struct page *page, enum outcome outcome) {
         outcome = NOT_READ;
     }
     if (outcome == MADE)
-        put_digest(&page->panel, &page->facts, &page->digest->text, tab_of(page->options), true);
+        put_digest(&page->panel, &page->facts, &page->digest->text, tab_of(page->options), false);
     return outcome;
 }
 
@@ -147,29 +148,27 @@ void free_page(struct page *page) {
 
 /* A page that says why there is no digest: an empty one would look like a quiet night. */
 void draw_found(FILE *out, struct page *page, enum outcome outcome, const char *reason) {
+    struct buffer notes = {(uint8_t *)page->notes, page->notes_len, page->notes_len};
     if (outcome == MADE) {
         put_page(out, page);
         return;
     }
-    put_failure(&page->panel, &page->facts, outcome, reason, NULL, 8, true);
+    put_failure(&page->panel, &page->facts, outcome, reason, &notes, page->options == NULL ? 8 : tab_of(page->options), false);
     put_failed_page(out, page, outcome, reason);
 }
 
 /* All of it is in memory before a byte is written. */
 static bool write_page(struct page *page, enum outcome outcome, const char *reason) {
-    char *bytes = NULL;
-    size_t length = 0;
-    FILE *out = open_memstream(&bytes, &length);
-    bool well = out != NULL;
+    struct sheet sheet;
+    bool well = open_sheet(&sheet);
     if (well) {
-        draw_found(out, page, outcome, reason);
-        well = !ferror(out);
-        well = fclose(out) == 0 && well;
+        draw_found(sheet.out, page, outcome, reason);
+        well = close_sheet(&sheet);
     }
     if (!well)
         say("%s: no memory for the page", page->label);
-    well = well && write_out(bytes, length);
-    free(bytes);
+    well = well && write_out(sheet.bytes, sheet.length);
+    free(sheet.bytes);
     return well;
 }
 

@@ -71,6 +71,13 @@ void put_character(FILE *out, uint32_t character);
 void put_escaped(FILE *out, uint32_t character);
 void put_below_escaped(FILE *out, const struct panel *panel, enum line_below line);
 
+/* ---- runs.c: cells that are drawn as one text */
+
+/* How a character stands beside its neighbours: by itself, or in one text with those of its kind. */
+enum script { ALONE, JOINED, FROM_RIGHT };
+/* How many columns from this one on are one text: 1 if the cell stands by itself. */
+int run_length(const struct panel *panel, int row, int column, enum script *script);
+
 /* ---- wall.c: what every drawing tells */
 
 /* What a drawing is of. */

@@ -70,7 +70,6 @@ static bool measured(struct passes *passes) {
         say_no_memory(passes);
         return false;
     }
-    say_mended(passes->label, &passes->window.mender.mended);
     return true;
 }
 
@@ -120,7 +119,10 @@ bool take_parts(struct passes *passes, take_part *take, void *state) {
         say_failure(passes->label, errno);
         return false;
     }
-    return (found == NO_PART && number == parts_known(passes)) || not_as_before(passes) != BROKEN;
+    if (found != NO_PART || number != parts_known(passes))
+        return not_as_before(passes) != BROKEN;
+    say_mended(passes->label, &passes->window.mender.mended);
+    return true;
 }
 
 void close_file(struct passes *passes) { close_window(&passes->window); }

@@ -22,7 +22,7 @@ bool measure_file(struct passes *passes, const struct options *options, const ch
 /* The second: each part is handed over with the bytes of its digest, of which there is room in passes->room. */
 enum taken { GO_ON, ENOUGH, BROKEN };
 typedef enum taken take_part(void *state, struct passes *passes, const struct part *part, size_t length);
-/* Answers false if a part was broken, or the file is another than in the first pass, which is said. */
+/* Answers false if a part was broken, or the file is another than in the first pass, which is said. Says what was mended in it. */
 bool take_parts(struct passes *passes, take_part *take, void *state);
 /* A part that is not as it was measured: so the file was changed. */
 enum taken not_as_before(const struct passes *passes);

@@ -4,6 +4,7 @@
  * as many lines as there are rows need be folded; the counts speak of all of it. */
 #include "panel.h"
 
+#include "damage.h"
 #include "lines.h"
 
 #include <string.h>
@@ -71,26 +72,6 @@ static size_t end_of_text(struct stretch text, uint64_t tab, size_t *blank) {
 }
 
 /* ---- damaged lines */
-
-/* The first damaged byte from a place on, or the length. The library is asked for the length of a digest in which every line is left as it is:
- * it refuses damage. A call looks at no more than its limit; a character that is cut off there is looked at again. */
-static size_t first_damage(const uint8_t *bytes, size_t length, size_t at) {
-    uint8_t block[RUDIGNALS_MOST_BLOCK];
-    size_t block_len = rudignals_put_prefix(block, 0, RUDIGNALS_TAG_SKIP, NULL, 0), part, place;
-    uint64_t answer;
-    while (at < length) {
-        part = length - at < RUDIGNALS_MOST_NOTES ? length - at : RUDIGNALS_MOST_NOTES;
-        answer = rudignals_measure(block, block_len, bytes + at, part);
-        place = rudignals_number_of(answer);
-        if (rudignals_code_of(answer) != RUDIGNALS_TEXT)
-            at += part;
-        else if (at + part == length || place + 4 <= part)
-            return at + place;
-        else
-            at += place;
-    }
-    return length;
-}
 
 static size_t damaged_in(const uint8_t *bytes, size_t from, size_t to) {
     size_t count = 0, at = first_damage(bytes, to, from);

@@ -25,18 +25,9 @@ static char *made_visible(const char *text, size_t length) {
 }
 
 PRINTS(1, 0) static char *fill(const char *sentence, va_list values) {
-    va_list again;
-    char *text, *plain = NULL;
-    int length;
-    va_copy(again, values);
-    length = vsnprintf(NULL, 0, sentence, again);
-    va_end(again);
-    text = length < 0 ? NULL : malloc((size_t)length + 1);
-    if (text != NULL) {
-        vsnprintf(text, (size_t)length + 1, sentence, values);
-        plain = made_visible(text, (size_t)length);
-    }
-    free(text);
+    struct buffer text = {0};
+    char *plain = buffer_fill(&text, sentence, values) ? made_visible((const char *)text.bytes, text.length) : NULL;
+    buffer_free(&text);
     return plain;
 }
 

@@ -50,11 +50,16 @@ static void put_head(FILE *out, const char *what, const char *label) {
     fputs("</script>\n<body>\n<p id=cut role=alert>This page is not whole: it is still being read, or it was cut short.</p>\n", out);
 }
 
+/* A row that goes on with the line above is marked beside its cells. */
+static const char *class_of_row(const struct panel *panel, int row) {
+    return row >= ROWS - panel->bar ? " class=bar" : panel->continued[row] ? " class=g" : "";
+}
+
 static void put_wall(FILE *out, const struct panel *panel) {
     int row;
     fputs("<section id=wall aria-label='The wall panel'>\n<pre tabindex=0>", out);
     for (row = 0; row < ROWS; row++) {
-        fputs(row >= ROWS - panel->bar ? "<span class=bar>" : "<span>", out);
+        fprintf(out, "<span%s>", class_of_row(panel, row));
         put_row(out, panel, row);
         fputs("\n</span>", out);
     }

@@ -2,6 +2,7 @@
 #define _POSIX_C_SOURCE 200809L
 #include "panel.h"
 
+#include "drawn.h"
 #include "output.h"
 #include "say.h"
 #include "whole.h"
@@ -131,24 +132,6 @@ static int write_standard(struct show *show, const char *bytes, size_t length) {
             bytes += put, length -= (size_t)put, show->torn = length > 0;
     }
     return 0;
-}
-
-/* A drawing in memory: it is written in one piece, so that a screen does not flicker. */
-struct sheet {
-    FILE *out;
-    char *bytes;
-    size_t length;
-};
-
-static bool open_sheet(struct sheet *sheet) {
-    *sheet = (struct sheet){0};
-    sheet->out = open_memstream(&sheet->bytes, &sheet->length);
-    return sheet->out != NULL;
-}
-
-static bool close_sheet(struct sheet *sheet) {
-    bool well = !ferror(sheet->out);
-    return fclose(sheet->out) == 0 && well;
 }
 
 /* What is known of a drawing while it is written to one place after the other. */

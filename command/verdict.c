@@ -4,11 +4,11 @@
  * plain lines count as one word each, on both sides: then a line of them is there or it is not. */
 #include "verdict.h"
 
+#include "buffer.h"
+#include "damage.h"
 #include "lines.h"
 #include "rudignals.h"
 
-#include <stdarg.h>
-#include <stdio.h>
 #include <stdlib.h>
 #include <string.h>
 
@@ -30,21 +30,16 @@ const char *const VERDICT_WORDS[VERDICTS] = {
 
 /* ---- words */
 
-static char *phrase(const char *format, ...) __attribute__((format(printf, 1, 2)));
-static char *phrase(const char *format, ...) {
+PRINTS(1, 2) static char *phrase(const char *format, ...) {
+    struct buffer text = {0};
     va_list values;
-    char *made;
-    int length;
+    bool well;
     va_start(values, format);
-    length = vsnprintf(NULL, 0, format, values);
+    well = buffer_fill(&text, format, values) && buffer_add(&text, "", 1);
     va_end(values);
-    made = length < 0 ? NULL : malloc((size_t)length + 1);
-    if (made == NULL)
-        return NULL;
-    va_start(values, format);
-    vsnprintf(made, (size_t)length + 1, format, values);
-    va_end(values);
-    return made;
+    if (!well)
+        buffer_free(&text);
+    return (char *)text.bytes;
 }
 
 struct finding not_judged(const char *why) {

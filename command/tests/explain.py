@@ -14,6 +14,8 @@ LINES = [
     (["-w10", "-q"], b"aaaa bbbbbb c\n", 1, "line 1: ends here because the next word, 6 columns, would reach column 11 of 10\n"),
     (["-w10", "-q"], b"aaaa bbbbbb c\n", 2, "line 2: ends here because its paragraph ends\n"),
     (["-g7", "-q"], b"aaaa bbbbbb c\n", 1, "line 1: ends here because the next word, 6 columns, would reach column 11 of 10\n"),
+    # a sentence ends: 8 columns, a gap of 1, 1 added, and the word
+    (["-w10", "-q", "-u"], b"aaa bbb.  ccc dddd\n", 1, "line 1: ends here because the next word, 3 columns, would reach column 13 of 10\n"),
     ([], b"a" * 66 + b" bbb " + b"c" * 20, 1, EVEN),
     (["--keep"], b"a\n\xb0\n\nc", 2, "line 2: a plain line, which ends as it does in the notes\n"),
     (["--keep"], b"a\n\xb0\n\nc", 3, "line 3: a blank line of the notes\n"),
@@ -35,6 +37,8 @@ def by_hand(folder):
     path.write_bytes(b"aaaa bbbbbb c\n\n\td\n")
     rows = [("next word, 6 columns, would reach 11 of 10", b"aaaa"), ("end of paragraph", b"bbbbbb c"), ("blank line", b""), ("end of paragraph", b"\td")]
     expect("explain: every line", run(["explain", "-w10", "-q", str(path)], b"", RUDIGNALS), (0, table(rows), ""))
+    rows = [("next word, 3 columns, would reach 13 of 10", b"aaa bbb."), ("end of paragraph", b"ccc dddd")]
+    expect("explain: a sentence's end", run(["explain", "-w10", "-q", "-u", "-"], b"aaa bbb.  ccc dddd\n", RUDIGNALS), (0, table(rows), ""))
     expect("explain: nothing", run(["explain", "-"], b"", RUDIGNALS), (0, b"", ""))
     absent = "rudignals: standard input: there is no line 5: the digest has 4 lines\n"
     expect("explain: no such line", run(["explain", "-w10", "-q", "-", "5"], path.read_bytes(), RUDIGNALS), (1, b"", absent))

@@ -1,5 +1,5 @@
 """Files longer than one call of the library takes: cut at blank lines, formatted whole or refused whole."""
-from .calls import expect, expect_same, run
+from .calls import RUDIGNALS, expect, expect_same, run
 from .words import DAMAGED, LONG, MANY
 from . import rust
 
@@ -24,6 +24,8 @@ CUT = [
     (["--keep"], b"\xb0 b\nc\nd\n\n" * 30000, b"\xb0 b\nc d\n\n" * 30000),
     (["--keep"], b"\xb0" * 65535 + b"\n\n" + WORD, b"\xb0" * 65535 + b"\n\n" + WORD),
     (["-q", "-w6", "--glue"], b"a\xc2\xa0b cc\n\n" * 20000, b"a\xc2\xa0b cc\n\n" * 20000),
+    # a control character is no blank: its line is one of its paragraph's, at the end of the first part too
+    (["-q", "-w6"], b"a\n\n" * 21800 + b"a\n" * 60 + b"\x0e\n" + b"a\n" * 62, b"a\n\n" * 21800 + b"a a a\n" * 20 + b"\x0e a a\n" + b"a a a\n" * 20),
     # next-mail is true behind a blank line and false behind other lines
     (["-m"], b"To: a\n b\n\nTo: c\n d\nTo: e\n\n" * 10000, b"To: a b\n\nTo: c d\nTo: e\n\n" * 10000),
     (["-m"], b"x\nTo: a\n b\n\n" * 10000, b"x To: a\n b\n\n" * 10000),
@@ -58,6 +60,8 @@ def by_hand(folder):
         expect_same(f"{arguments} on {notes[:60]}", written, output)
     for arguments, notes, words in REFUSED:
         expect(f"{arguments} on {notes[:60]}", run(arguments, notes), (1, b"", "fmt: standard input: " + words))
+    caption = run(["panel"], b"a\nb\n\n" * 30000 + b"c\nd", RUDIGNALS)[1]
+    expect("a panel of several parts", (b"60001 lines, none damaged; above: 59977 lines" in caption, caption.split(b"\n")[24].strip(b"| ")), (True, b"c d"))
     (folder / "good").write_bytes(MANY_LINES)
     (folder / "bad").write_bytes(MANY_LINES + b"\xb0")
     expect("a long file", run(["good"], cwd=folder), (0, MANY_LINES, ""))

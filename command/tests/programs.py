@@ -64,4 +64,51 @@ def example(folder):
         expect(f"the example refuses {notes[:20]}", run(arguments, notes, host), (1, b"", f"refused: {words}\n"))
 
 
-ALL = [digest, digest_streams, digest_usage, example]
+# The room that the header names: a call with so much is never refused for room, and needs most of it for these.
+BOUNDS = r"""
+#include <rudignals.h>
+#include <stdio.h>
+#include <stdlib.h>
+#include <string.h>
+static void tell(const char *name, uint64_t answer, size_t room) { printf("%s %u %u of %zu\n", name, (unsigned)rudignals_code_of(answer), (unsigned)rudignals_number_of(answer), room); }
+int main(void) {
+    static uint8_t notes[RUDIGNALS_MOST_NOTES];
+    size_t length = 30000 + 2 * RUDIGNALS_MOST_WORDS, room = RUDIGNALS_MOST_FLOWED(length), i;
+    uint8_t *output = malloc(room);
+    uint64_t dashes, worst = 0, answer;
+    memset(notes, ' ', sizeof notes);
+    for (i = 30000; i < length; i += 2)
+        notes[i] = 'a';
+    tell("flow", rudignals_flow((const uint8_t *)"\2\0\2\0\6", 5, notes, length, output, room, &dashes), room);
+    room = RUDIGNALS_MOST_DIGEST(length);
+    tell("digest", rudignals_write((const uint8_t *)"\2\0\2\0\6", 5, notes, length, output, room), room);
+    for (i = 0; i < 15625; i++) { /* every text of six of these signs */
+        static const char SIGNS[] = "> \n\ra";
+        size_t k, rest = i;
+        for (k = 0; k < 6; k++, rest /= 5)
+            notes[k] = (uint8_t)SIGNS[rest % 5];
+        for (k = 0; k <= 6; k++) {
+            answer = rudignals_unflow(notes, k, output, RUDIGNALS_MOST_UNFLOWED(k));
+            worst = answer > worst ? answer : worst;
+        }
+    }
+    tell("unflow", worst, RUDIGNALS_MOST_UNFLOWED(6));
+    free(output);
+    return 0;
+}
+"""
+
+
+def bounds(folder):
+    source = folder / "bounds.c"
+    source.write_text(BOUNDS)
+    # a line of 30,001 columns for each word, and a line end of one byte or of three with the space before it, none behind the last
+    flow, written = 1024 * 30001 + 1024 * 3 - 1 + 1024, 1024 * 30002
+    room = 30000 + 2 * 1024
+    status, output, words = run([], b"", link(folder, "bounds", str(source)))
+    *told, read = (output.decode().split("\n") + [""] * 3)[:3]
+    expect("the header's room", (status, told, words), (0, [f"flow 0 {flow} of {3120 * room}", f"digest 0 {written} of {1040 * room}"], ""))
+    expect("of what is read", (read[:9], read[-6:]), ("unflow 0 ", " of 24"))
+
+
+ALL = [digest, digest_streams, digest_usage, example, bounds]

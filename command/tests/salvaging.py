@@ -93,6 +93,20 @@ def as_the_copy(folder):
             expect(f"{arguments} --salvage of a file", found[1] == wanted[1] and found[2].startswith(said_of_both(notes, str(path))), True)
 
 
+def said_once(folder):
+    """Of each file what was mended in it: of the second reading alone, and not with the file before."""
+    (folder / "long").write_bytes(b"caf\xe9 au lait\n\n" * 120000)  # read from the disk twice, and of several files three times
+    (folder / "short").write_bytes(b"41\xb0C\n\x80\n")
+    long = "rudignals: long: 120000 lines mended: 120000 bytes read as ISO 8859-1\n"
+    short = "rudignals: short: 2 lines mended: 2 bytes read as ISO 8859-1\nrudignals: short: 1 mended byte is of 80 to 9F, for which ISO 8859-1 has no letter; the notes may be windows-1252\n"
+    for arguments, said in ([["long"], long], [["long", "short"], long + short], [["short", "long", "short"], short + long + short], [["--skip-refused", "short", "long", "short"], short + long + short]):
+        status, _, words = run(["format", "--salvage", *arguments], b"", RUDIGNALS, cwd=folder)
+        expect(f"what is said of {arguments}", (status, words), (0, said))
+    (folder / "bad").write_bytes(b"a\xff\n")
+    status, output, words = run(["format", "short", "bad"], b"", RUDIGNALS, cwd=folder)
+    expect("nothing is said to be mended of what is not written", (status, output, "mended" in words), (1, b"", False))
+
+
 def as_iconv_has_it():
     """Where every line is ISO 8859-1, the copy is iconv's."""
     if not shutil.which("iconv"):
@@ -161,7 +175,7 @@ def long_lines(folder):
     for most in 8, 12, 65536:
         program = str(folder / f"mending-{most}")
         subprocess.run(["cc", "-std=c11", "-Wall", "-Wextra", "-Werror", "-g", "-fsanitize=address,undefined", "-fno-sanitize-recover=all", f"-DMOST_PART={most}", f"-I{command}", f"-I{ROOT}/include", "-o", program, str(source),
-                        str(command / "mend.c"), str(command / "buffer.c"), str(ROOT / "target/native/librudignals.a")], check=True)
+                        str(command / "mend.c"), str(command / "damage.c"), str(command / "buffer.c"), str(ROOT / "target/native/librudignals.a")], check=True)
         for _ in range(60 if most < 100 else 6):
             size = 200 if most < 100 else 300000
             characters = ["a", "b", "\u00e9", "\u20ac", "\U0001f527", "\n" if most < 100 else "c"]
@@ -217,4 +231,4 @@ def followed(folder):
     expect("said once each", said.split("\n")[:2], [f"rudignals: {path}: 1 line mended: 1 byte read as ISO 8859-1", f"rudignals: {path}: 2 lines mended: 2 bytes read as ISO 8859-1"])
 
 
-ALL = [by_hand, as_the_copy, as_iconv_has_it, places, long_lines, on_page_and_wall, followed]
+ALL = [by_hand, as_the_copy, said_once, as_iconv_has_it, places, long_lines, on_page_and_wall, followed]

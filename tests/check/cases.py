@@ -3,6 +3,7 @@ from model import Options
 
 plain = Options()
 glue = Options(glue=True)
+tagged = Options(tagged=True)
 S = b"\xc2\xa0"  # U+00A0
 
 CASES = [
@@ -69,8 +70,28 @@ CASES = [
     (Options(crown=True), b"  a\nb\nc\n", b"  a b c\n", 0, 0),
     (Options(crown=True), b"  a\nb\nc\n", b"  a\nb\nc\n", 0, 0),
     (Options(crown=True), b"  a\nb\nc\n", b"  a\n  b c\n", 10, 1),
-    (Options(tagged=True), b"a b\n", b"a\n    b\n", 0, 0),
-    (Options(tagged=True), b"a b\n", b"a\nb\n", 10, 1),
+    (tagged, b"a b\n", b"a\n    b\n", 0, 0),
+    (tagged, b"a b\n", b"a\nb\n", 10, 1),
+    (tagged, b"a b\n  c\n  d\n", b"a b c d\n", 0, 0),
+    (tagged, b"a b\n  c\n  d\n", b"a\n  b\n  c d\n", 0, 0),
+    (tagged, b"a b\n  c\n  d\n", b"a\n    b c d\n", 10, 1),
+    (tagged, b"a b\n  c\n  d\n", b"a\nb c d\n", 10, 1),
+    (tagged, b"  a\nb\nc\n", b"  a b\nc\n", 0, 0),
+    (tagged, b"a\n  b\nc\n", b"a b\nc\n", 0, 0),
+    (tagged, b"a\n  b\nc\n", b"a b c\n", 10, 0),
+    # a second line whose indent ends at the first's byte and the first's column begins a paragraph of its own; not so with one of the two
+    (tagged, b"a\nb\n", b"a\nb\n", 0, 0),
+    (tagged, b"a\nb\n", b"a b\n", 10, 0),
+    (tagged, b"  a\n  b\n", b"  a\n  b\n", 0, 0),
+    (tagged, b"  a\n  b\n", b"  a b\n", 10, 0),
+    (tagged, b"        a\n\tb\n", b"        a b\n", 0, 0),
+    (tagged, b"\ta\n b\n", b"\ta b\n", 0, 0),
+    (Options(tagged=True, prefix=b">"), b"> a\n>  b\n>  c\n", b"> a\n>  b c\n", 0, 0),
+    (Options(tagged=True, prefix=b">"), b"> a\n > b\n", b"> a b\n", 10, 0),
+    (Options(tagged=True, prefix=b">"), b"\t> a\n        >  b\n", b"\t> a b\n", 10, 0),
+    (Options(tagged=True, prefix=b">"), b"\t> a\n >  b\n", b"\t> a b\n", 10, 0),
+    (Options(tagged=True, crown=True), b"a\nb\n", b"a b\n", 0, 0),
+    (Options(tagged=True, split=True), b"a\n  b\n", b"a b\n", 10, 0),
     (Options(mail=True), b"To: a\n c\n", b"To: a c\n", 0, 0),
     (Options(mail=True), b"To: a\n c\n", b"To:\n  a\n  c\n", 0, 0),
     (Options(mail=True), b"To: a\n c\n", b"To:\na c\n", 10, 1),

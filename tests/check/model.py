@@ -309,6 +309,21 @@ def refusal(o, notes):
     return None, found
 
 
+MOST_LARGE = 1048576
+
+
+def refusal_lent(o, notes, numbers):
+    """The same where so many numbers of working room are lent: 12 in the place of 4. And the pieces, and the room needed."""
+    if len(notes) > MOST_LARGE:
+        return (2, 0), None, 0
+    place = None if o.keep else damage(notes)
+    if place is not None:
+        return (3, place), None, 0
+    found = pieces(o, notes)
+    needed = (7 if o.quick else 15) * max([len(p[3]) for p in found if p[0] == "paragraph"], default=0)
+    return ((12, needed) if numbers < needed else None), found, needed
+
+
 def judged(machine, digest):
     """The verdict on a digest: (0, 0), or 10 and the line."""
     states, line, fresh = machine.start(), 0, True

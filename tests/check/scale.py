@@ -17,13 +17,15 @@ import texts
 from cases import CASES
 from damages import damaged
 from library import Library
-from model import MOST, Machine, judged, refusal
+from model import MOST, MOST_LARGE, Machine, Options, judged, refusal, refusal_lent
 
 FAULTS = {
     "line": lambda answer: (answer[0], answer[1] + 1) if answer[0] == 10 else answer,
     "short": lambda answer: (0, 0) if answer[0] == 10 and answer[1] > 3 else answer,
     "strict": lambda answer: (10, 0) if answer == (0, 0) else answer,
     "order": lambda answer: (9, 0) if answer[0] == 4 else answer,
+    "room": lambda answer: (12, answer[1] + 1) if answer[0] == 12 else answer,
+    "twelve": lambda answer: (9, 0) if answer[0] == 12 else answer,
 }
 os.environ["LC_ALL"] = "C"
 
@@ -80,6 +82,18 @@ def main():
             sys.exit(3)
         return got[0] == 0
 
+    def compare_lent(o, notes, digest, verdict):
+        """The large call with the room that the model says it needs, with one number less, and with none."""
+        early, _, needed = refusal_lent(o, notes, MOST_LARGE * 16)
+        for numbers in {needed, max(needed, 1) - 1, 0}:
+            want = early or ((12, needed) if numbers < needed else (9, 0) if len(digest) > MOST_LARGE else verdict)
+            got = fault(library.check_large(o.block(), notes, digest, numbers))
+            tried["in lent room"] += 1
+            good["in lent room"] += got[0] == 0
+            if got != want:
+                print(f"check: {numbers} numbers lent, seed {seed}: {o.given} {notes[:2000]!r} {digest[:2000]!r}: {got}, not {want}")
+                sys.exit(3)
+
     for o, notes, digest, code, n in CASES:
         compare("by hand", o, notes, digest, (code, n))
     for block in (b"\1", b"\1\0\2\x10\0", b"\2\0\2\0\5"):
@@ -93,6 +107,7 @@ def main():
         if code:
             refused += 1
             compare("refused notes", o, notes, b"x" * chance.choice([0, 3, MOST + 1]), code)
+            compare_lent(o, notes, b"x" * chance.choice([0, MOST_LARGE + 1]), (10, 0))
             continue
         machine = Machine(o, found)
         own = library.digest(o.block(), notes)
@@ -102,6 +117,7 @@ def main():
         accepted = []
         for kind, digest in digests.items():
             if digest is not None and len(digest) <= MOST:
+                compare_lent(o, notes, digest, judged(machine, digest))
                 if compare(kind, o, notes, digest, judged(machine, digest)):
                     accepted.append(digest)
                 elif kind == "own" or kind == "GNU fmt" and simple and not o.tagged:
@@ -109,6 +125,20 @@ def main():
         for digest in accepted[:2]:
             for kind, other in damaged(chance, digest):
                 compare("damage: " + kind, o, notes, other, judged(machine, other))
+                if chance.randrange(8) == 0:
+                    compare_lent(o, notes, other, judged(machine, other))
+    # more words to a paragraph and more bytes than the small call takes, each limit at its edge and one beside it
+    for size in (1025, 3000, 40000):
+        for quick in (False, True):
+            o, words = Options(quick=quick), [b"w%d" % chance.randrange(1000) for _ in range(size)]
+            notes, digest = b" ".join(words), b"\n".join(words) + b"\n"
+            if fault(library.check(o.block(), notes, digest)) != ((2, 0) if len(notes) > MOST else (4, 0)):
+                sys.exit("check: the small call takes too many words")
+            for other, verdict in [(digest, (0, 0)), (b" ".join(words) + b"\n", (0, 0)), (digest[:-1], (10, size - 1)), (digest + b"\n", (10, size)), (digest.replace(b"\n", b"\n ", 1), (10, 1))]:
+                compare_lent(o, notes, other, verdict)
+    for size in (MOST_LARGE, MOST_LARGE + 1):
+        compare_lent(Options(), b"\n" * size, b"\n" * size, (0, 0))
+        compare_lent(Options(), b"a", b"\n" * size, (10, 0))
     total = sum(tried.values())
     for kind in tried:
         print(f"{kind:28} {tried[kind]:8} checked, {good[kind]:8} accepted")

@@ -287,8 +287,50 @@ static void checked(void) {
     CHECK(rudignals_check(NULL, 0, NOTES, NOTES_LEN, spaced, sizeof spaced - 1) == told(RUDIGNALS_DONE, 0));
 }
 
+/* ---- the room that is always enough: for mail, written and read */
+
+static void most_mail(void) {
+    static uint8_t notes[RUDIGNALS_MOST_NOTES];
+    uint8_t block[5], text[2];
+    uint64_t answer, dashes;
+    size_t notes_len, i;
+    unsigned pair, most_read = 0;
+    rudignals_put_number(block, 0, RUDIGNALS_TAG_WIDTH, 6);
+    for (notes_len = 4096; notes_len <= sizeof notes; notes_len *= 2) {
+        memset(notes, ' ', notes_len);
+        for (i = 0; i < RUDIGNALS_MOST_WORDS; i++)
+            notes[notes_len - 1 - 2 * i] = 'a';
+        answer = rudignals_flow(block, 5, notes, notes_len, NULL, 0, &dashes);
+        CHECK(rudignals_code_of(answer) == RUDIGNALS_ROOM && rudignals_number_of(answer) <= RUDIGNALS_MOST_FLOWED(notes_len));
+    }
+    CHECK(RUDIGNALS_MOST_FLOWED(2) == 6240 && RUDIGNALS_MOST_UNFLOWED(3) == 12 && RUDIGNALS_MOST_DIGEST(2) == 2080);
+    for (pair = 0; pair < 65536; pair++) {
+        text[0] = (uint8_t)(pair >> 8), text[1] = (uint8_t)(pair & 255u);
+        for (i = 1; i <= 2; i++) {
+            answer = rudignals_unflow(text, i, NULL, 0);
+            CHECK(rudignals_number_of(answer) <= RUDIGNALS_MOST_UNFLOWED(i));
+            if (rudignals_number_of(answer) > 2 * i)
+                most_read++;
+        }
+    }
+    CHECK(most_read > 0); /* two bytes for each would not be enough */
+}
+
+/* ---- what answers text */
+
+static void words(void) {
+    uint32_t code, other;
+    for (code = RUDIGNALS_DONE; code <= RUDIGNALS_WORK_ROOM; code++)
+        for (other = code + 1; other <= RUDIGNALS_WORK_ROOM + 1; other++)
+            CHECK(strcmp(rudignals_code_words(code), rudignals_code_words(other)) != 0);
+    CHECK(strcmp(rudignals_code_words(RUDIGNALS_DONE), "done") == 0);
+    CHECK(strcmp(rudignals_code_words(RUDIGNALS_TEXT), "a character of the notes is damaged") == 0);
+    CHECK(strcmp(rudignals_code_words(RUDIGNALS_WORK_ROOM + 1), "unknown code") == 0 && strcmp(rudignals_code_words(UINT32_MAX), "unknown code") == 0);
+}
+
 static void version(void) {
     char words[32];
+    CHECK(strcmp(rudignals_version(), RUDIGNALS_VERSION) == 0);
     snprintf(words, sizeof words, "%d.%d.%d", RUDIGNALS_VERSION_MAJOR, RUDIGNALS_VERSION_MINOR, RUDIGNALS_VERSION_PATCH);
     CHECK(strcmp(words, RUDIGNALS_VERSION) == 0);
 }
@@ -304,7 +346,9 @@ int main(void) {
     prefixes();
     whole_block();
     most();
+    most_mail();
     checked();
+    words();
     version();
     printf("header: %lu checks, version %s\n", checks, RUDIGNALS_VERSION);
     return 0;

@@ -1,17 +1,21 @@
-/* Writing with an index, and the lookup, through the library, against a model of its own: indexed hand | scale SEED COUNT | tamper FAULT | time
+/* Writing with an index, and the lookup, through the library, against a model of its own: indexed hand | scale SEED COUNT | long SEED COUNT | tamper FAULT |
+ * time
  *
  * The model is written from P3's words and document 01's on lines and paragraphs, for ASCII notes and the options empty, quick and split: a
  * blank line is a piece; other lines join as long as their indents agree. A piece's lines are counted in what rudignals_write makes of its
- * bytes alone, its place and length in the notes. Lookups are modelled with sums of 128 bits. */
+ * bytes alone, its place and length in the notes. Lookups are modelled with sums of 128 bits. Every call is made once more with the room that the
+ * model says it needs, which lies before a page that cannot be touched, with one number less, and with none. */
 #include <stdio.h>
 #include <stdlib.h>
 #include <string.h>
+#include <sys/mman.h>
 #include <time.h>
+#include <unistd.h>
 
 #include "rudignals.h"
 
 typedef struct rudignals_record record;
-enum { MOST = 4096, SPARE = 3 };
+enum { MOST = 4096, MANY = 1 << 20, SPARE = 3 };
 
 static const char *fault = "";
 static unsigned long calls;
@@ -50,10 +54,28 @@ static line line_at(const uint8_t *s, size_t at, size_t n) {
     return l;
 }
 
+/* so many numbers in front of a page that cannot be touched, none of them 0 */
+static uint32_t *room_of(size_t numbers) {
+    static uint8_t *end;
+    size_t page = (size_t)sysconf(_SC_PAGESIZE), most = ((size_t)40 << 20) / page * page;
+    if (!end) {
+        uint8_t *all = mmap(0, most + page, PROT_READ | PROT_WRITE, MAP_PRIVATE | MAP_ANONYMOUS, -1, 0);
+        if (all == MAP_FAILED || mprotect(all + most, page, PROT_NONE))
+            fail("no room to lend");
+        end = all + most;
+    }
+    if (numbers > most / 4)
+        fail("more room than there is to lend");
+    memset(end - numbers * 4, 0xB7, numbers * 4);
+    return (uint32_t *)(void *)(end - numbers * 4);
+}
+
 static size_t lines_in(const uint8_t *block, size_t block_len, const uint8_t *s, size_t n) {
-    static uint8_t out[1 << 20];
+    static uint8_t out[1 << 23];
     uint64_t a = rudignals_write(block, block_len, s, n, out, sizeof out);
     size_t i, k = 0;
+    if (rudignals_code_of(a) == 2 || rudignals_code_of(a) == 4)
+        a = rudignals_write_large(block, block_len, s, n, out, sizeof out, room_of(RUDIGNALS_WORK(n)), RUDIGNALS_WORK(n));
     if (rudignals_code_of(a))
         fail("a piece by itself is refused");
     for (i = 0; i < rudignals_number_of(a); i++)
@@ -84,9 +106,58 @@ static size_t model(const uint8_t *block, size_t block_len, int split, const uin
     return k;
 }
 
+/* ---- the working room that the model says a call needs: a number for sixteen bytes, and for each word of the longest piece seven or fifteen */
+
+static size_t needed_for(const uint8_t *s, size_t n, const record *want, size_t pieces, int quick) {
+    size_t i, k, longest = 0;
+    for (i = 0; i < pieces; i++) {
+        size_t words = 0;
+        for (k = want[i].place; k < want[i].place + want[i].length; k++)
+            words += !is_blank(s[k]) && (k == want[i].place || is_blank(s[k - 1]));
+        longest = words > longest ? words : longest;
+    }
+    return (n + 15) / 16 + (quick ? 7 : 15) * longest - (tampered("room") && longest > 0);
+}
+
+/* the same call in lent room: as it answered, or refused with 12 and everything as it was */
+static void lent(const uint8_t *block, size_t block_len, int quick, const uint8_t *s, size_t n, const record *want, size_t pieces, size_t room, size_t records, uint64_t code, uint64_t number) {
+    static uint8_t out[1 << 23], plain[1 << 23];
+    static record index[MANY + SPARE];
+    size_t i, needed = needed_for(s, n, want, pieces, quick), turns[] = {needed, needed ? needed - 1 : 0, 0}, t;
+    for (t = 0; t < 3; t++) {
+        uint64_t filled = 77, a, enough = turns[t] >= needed, due = enough ? code : 12;
+        memset(out, 46, room + SPARE);
+        memset(index, 46, (records + SPARE) * sizeof *index);
+        a = rudignals_write_indexed_large(block, block_len, s, n, out, room, index, records, &filled, room_of(turns[t]), turns[t]);
+        calls++;
+        if (rudignals_code_of(a) != due || rudignals_number_of(a) != (enough ? number : needed))
+            fail("another answer in lent room");
+        if (filled != (due ? 0 : pieces))
+            fail("another count in lent room");
+        for (i = due == 12 ? 0 : room; i < room + SPARE; i++)
+            if (out[i] != 46)
+                fail("a byte that is not the call's in lent room");
+        for (i = due ? 0 : pieces; i < records + SPARE; i++)
+            if (index[i].place != 0x2e2e2e2e2e2e2e2eu || index[i].length != index[i].place || index[i].first != index[i].place || index[i].count != index[i].place)
+                fail("a record that is not the call's to fill in lent room");
+        if (due == 5 || due == 6)
+            for (i = 0; i < room; i++)
+                if (out[i])
+                    fail("a byte left on a refusal in lent room");
+        if (due)
+            continue;
+        if (memcmp(index, want, pieces * sizeof *index))
+            fail("another record in lent room");
+        memset(plain, 46, room + SPARE);
+        rudignals_write_large(block, block_len, s, n, plain, room, room_of(RUDIGNALS_WORK(n)), RUDIGNALS_WORK(n));
+        if (memcmp(plain, out, room))
+            fail("another digest than without an index in lent room");
+    }
+}
+
 /* ---- a call with so much room and so many records, held against what the model has */
 
-static void one(const uint8_t *block, size_t block_len, const uint8_t *s, size_t n, const record *want, size_t pieces, size_t room, size_t records) {
+static void one(const uint8_t *block, size_t block_len, int quick, const uint8_t *s, size_t n, const record *want, size_t pieces, size_t room, size_t records) {
     static uint8_t out[1 << 20], plain[1 << 20];
     static record index[MOST + SPARE];
     uint64_t filled = 77, a, b = rudignals_measure(block, block_len, s, n);
@@ -101,6 +172,7 @@ static void one(const uint8_t *block, size_t block_len, const uint8_t *s, size_t
     if (tampered("order"))
         code = needed > room ? 5 : pieces > records ? 6 : 0;
     number = code == 6 ? pieces : needed;
+    lent(block, block_len, quick, s, n, want, pieces, room, records, code, number);
     if (rudignals_code_of(a) != code || rudignals_number_of(a) != number)
         fail("another answer");
     if (filled != (code ? 0 : pieces + tampered("filled")))
@@ -133,18 +205,18 @@ static void one(const uint8_t *block, size_t block_len, const uint8_t *s, size_t
     }
 }
 
-static void text(const uint8_t *block, size_t block_len, int split, const uint8_t *s, size_t n) {
+static void text(const uint8_t *block, size_t block_len, int quick, int split, const uint8_t *s, size_t n) {
     static record want[MOST];
     size_t pieces = model(block, block_len, split, s, n, want);
     size_t needed = rudignals_number_of(rudignals_measure(block, block_len, s, n));
-    one(block, block_len, s, n, want, pieces, needed, pieces);
-    one(block, block_len, s, n, want, pieces, needed + 2, pieces + 2);
-    one(block, block_len, s, n, want, pieces, needed, 0);
+    one(block, block_len, quick, s, n, want, pieces, needed, pieces);
+    one(block, block_len, quick, s, n, want, pieces, needed + 2, pieces + 2);
+    one(block, block_len, quick, s, n, want, pieces, needed, 0);
     if (needed)
-        one(block, block_len, s, n, want, pieces, needed - 1, pieces);
+        one(block, block_len, quick, s, n, want, pieces, needed - 1, pieces);
     if (pieces) {
-        one(block, block_len, s, n, want, pieces, needed, pieces - 1);
-        one(block, block_len, s, n, want, pieces, needed - 1, pieces - 1);
+        one(block, block_len, quick, s, n, want, pieces, needed, pieces - 1);
+        one(block, block_len, quick, s, n, want, pieces, needed - 1, pieces - 1);
     }
 }
 
@@ -210,9 +282,9 @@ static void hand(void) {
     const record three[] = {{0, 3, 0, 1}, {3, 1, 1, 1}, {4, 1, 2, 1}};
     uint64_t filled = 9, part[2];
     size_t i;
-    text(empty, 0, 0, (const uint8_t *)"", 0);
-    text(empty, 0, 0, (const uint8_t *)"a\r\n\nb", 5);
-    text(quick, 5, 0, (const uint8_t *)"  a b\n\tc\n\n\n d", 13);
+    text(empty, 0, 0, 0, (const uint8_t *)"", 0);
+    text(empty, 0, 0, 0, (const uint8_t *)"a\r\n\nb", 5);
+    text(quick, 5, 1, 0, (const uint8_t *)"  a b\n\tc\n\n\n d", 13);
     if (rudignals_write_indexed(empty, 0, (const uint8_t *)"a\r\n\nb", 5, out, 5, r, 3, &filled) != 5 || filled != 3 || memcmp(r, three, sizeof three))
         fail("the three records");
     /* 1, 2, 3 and 4 come before 6 and 5 */
@@ -255,6 +327,50 @@ static void hand(void) {
     }
 }
 
+/* notes of more bytes than the small calls take and paragraphs of more words, each limit at its edge and one beside it */
+static void far_notes(unsigned long count) {
+    static uint8_t s[(1 << 20) + 1], out[1 << 20];
+    static record want[MANY];
+    static const uint8_t none[1], faulty[] = {9};
+    uint64_t filled = 9;
+    size_t i, n = (size_t)1 << 20;
+    /* as many pieces as there can be, and one byte more */
+    memset(s, 10, n + 1);
+    if (rudignals_write_indexed_large(none, 0, s, n, out, n, want, n, &filled, room_of(n / 16), n / 16) != n || filled != n)
+        fail("1,048,576 blank lines");
+    for (i = 0; i < n; i++)
+        if (want[i].place != i || want[i].length != 1 || want[i].first != i || want[i].count != 1)
+            fail("a record of 1,048,576");
+    if (rudignals_write_indexed_large(none, 0, s, n, out, n, want, n - 1, &filled, room_of(n / 16), n / 16) != ((uint64_t)6 << 32) + n || filled)
+        fail("1,048,575 records");
+    if (rudignals_write_indexed_large(none, 0, s, n, out, n, want, n, &filled, room_of(n / 16 - 1), n / 16 - 1) != ((uint64_t)12 << 32) + n / 16 || filled)
+        fail("one number less");
+    if (rudignals_write_indexed_large(none, 0, s, n + 1, out, n, want, n, &filled, room_of(0), 0) != (uint64_t)2 << 32 || filled)
+        fail("1,048,577 bytes");
+    /* 1, 2 and 3 come before 12, and 12 before 6 and 5 */
+    if (rudignals_write_indexed_large(faulty, 1, s, n + 1, out, 0, want, 0, &filled, room_of(0), 0) != (uint64_t)1 << 32 || filled)
+        fail("code 1 in lent room");
+    if (rudignals_write_indexed_large(none, 0, (const uint8_t *)"a\n\xB0", 3, out, 0, want, 0, &filled, room_of(0), 0) != ((uint64_t)3 << 32) + 2 || filled)
+        fail("code 3 in lent room");
+    if (rudignals_write_indexed_large(none, 0, (const uint8_t *)"a b", 3, out, 0, want, 0, &filled, room_of(0), 0) != ((uint64_t)12 << 32) + 31 || filled)
+        fail("code 12 before 6 and 5");
+    while (count--) {
+        uint8_t block[16];
+        size_t most = roll(4) ? 5000 + roll(200000) : ((size_t)1 << 20) - roll(2), b, pieces, needed;
+        unsigned quick = roll(2), blanks = roll(3) ? 1000 + roll(100000) : 1 + roll(40);
+        b = rudignals_put_number(block, 0, RUDIGNALS_TAG_FLAGS, quick ? RUDIGNALS_QUICK : 0);
+        for (i = 0; i < most; i++)
+            s[i] = i % (2 + roll(7)) ? 'a' : roll(12) ? ' ' : 10;
+        for (i = blanks; i + 1 < most; i += 1 + roll(2 * blanks))
+            s[i] = s[i + 1] = 10;
+        pieces = model(block, b, 0, s, most, want);
+        needed = rudignals_number_of(rudignals_measure_large(block, b, s, most, room_of(RUDIGNALS_WORK(most)), RUDIGNALS_WORK(most)));
+        lent(block, b, (int)quick, s, most, want, pieces, needed, pieces, 0, needed);
+        lent(block, b, (int)quick, s, most, want, pieces, needed - 1, pieces, 5, needed);
+        lent(block, b, (int)quick, s, most, want, pieces, needed, pieces - 1, 6, pieces);
+    }
+}
+
 static void scale(unsigned long count) {
     static const char *words[] = {"a", "bb", "ccc.", "dddd", "eeeee?", "ffffffff", "g!", "hhhhhhhhhhhhhhhh"};
     static const char *between[] = {" ", " ", " ", "  ", "\n", "\n", "\r\n", "\n\n", "\n ", "\n  ", "\n\t", " \n", "\n \n"};
@@ -271,7 +387,7 @@ static void scale(unsigned long count) {
             if (i + 1 < k || roll(2))
                 memcpy(s + n, g, strlen(g)), n += strlen(g);
         }
-        text(block, b, (int)split, s, n);
+        text(block, b, flags != 0, (int)split, s, n);
         any_list();
         b = rudignals_put_number(block, 0, RUDIGNALS_TAG_FLAGS, roll(2048) & ~(unsigned)RUDIGNALS_MAIL);
         if (roll(2))
@@ -339,6 +455,9 @@ int main(int argc, char **argv) {
     else if (!strcmp(what, "scale") && argc > 3) {
         state = strtoull(argv[2], 0, 10);
         scale(strtoul(argv[3], 0, 10));
+    } else if (!strcmp(what, "long") && argc > 3) {
+        state = strtoull(argv[2], 0, 10);
+        far_notes(strtoul(argv[3], 0, 10));
     } else if (!strcmp(what, "time")) {
         timing();
         return 0;

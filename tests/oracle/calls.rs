@@ -33,6 +33,24 @@ extern "C" {
         records: usize,
         filled: *mut u64,
     ) -> u64;
+    pub fn rudignals_measure_large(
+        options: *const u8,
+        options_len: usize,
+        notes: *const u8,
+        notes_len: usize,
+        work: *mut u32,
+        work_len: usize,
+    ) -> u64;
+    pub fn rudignals_write_large(
+        options: *const u8,
+        options_len: usize,
+        notes: *const u8,
+        notes_len: usize,
+        output: *mut u8,
+        output_len: usize,
+        work: *mut u32,
+        work_len: usize,
+    ) -> u64;
     pub fn rudignals_lookup(index: *const Record, records: usize, filled: u64, notes: *const u8, notes_len: usize, line: u64, part: *mut u64) -> u64;
     pub fn rudignals_explain(options: *const u8, options_len: usize, notes: *const u8, notes_len: usize, line: u64, reason: *mut u64) -> u64;
     pub fn rudignals_panel(digest: *const u8, digest_len: usize, tab: u64, cells: *mut u32) -> u64;

@@ -54,19 +54,19 @@ extern "C" {
 }
 
 /// A guard is as large as the largest page of the machines that this runs on.
-const GUARD: usize = 65536;
+pub const GUARD: usize = 65536;
 /// So many bytes beside a slice, on the side without a guard, are watched too.
 const MARGIN: usize = 64;
 
 /// Memory that can be read and written, with memory that cannot on both sides.
-struct Area {
+pub struct Area {
     start: *mut u8,
     size: usize,
 }
 
 impl Area {
     /// Memory of this process alone, or from that place of a file that is shared.
-    fn new(size: usize, shared: Option<(&File, usize)>) -> Area {
+    pub fn new(size: usize, shared: Option<(&File, usize)>) -> Area {
         const NONE: i32 = 0;
         const READ_WRITE: i32 = 3;
         const PRIVATE_ANONYMOUS_UNRESERVED: i32 = 0x4022;
@@ -91,13 +91,13 @@ impl Area {
     }
 
     /// A slice against the upper guard or the lower.
-    fn slice(&mut self, size: usize, high: bool) -> &'static mut [u8] {
+    pub fn slice(&mut self, size: usize, high: bool) -> &'static mut [u8] {
         assert!(size <= self.size, "a slice of {size} bytes");
         unsafe { std::slice::from_raw_parts_mut(self.start.add(if high { self.size - size } else { 0 }), size) }
     }
 
     /// The bytes beside such a slice, on its other side.
-    fn margin(&mut self, size: usize, high: bool) -> &'static mut [u8] {
+    pub fn margin(&mut self, size: usize, high: bool) -> &'static mut [u8] {
         let margin = MARGIN.min(self.size - size);
         let at = if high { self.size - size - margin } else { size };
         unsafe { std::slice::from_raw_parts_mut(self.start.add(at), margin) }
@@ -113,7 +113,7 @@ pub struct Call {
     pub places: usize,
 }
 
-fn hex(bytes: &[u8]) -> String {
+pub fn hex(bytes: &[u8]) -> String {
     match bytes {
         [] => "-".to_string(),
         _ => bytes.iter().map(|byte| format!("{byte:02x}")).collect(),
@@ -158,15 +158,15 @@ static PATTERN: [u8; 2 * PERIOD] = {
 };
 static ZEROS: [u8; PERIOD] = [0; PERIOD];
 
-fn fill(slice: &mut [u8]) {
+pub fn fill(slice: &mut [u8]) {
     slice.chunks_mut(PERIOD).for_each(|part| part.copy_from_slice(&PATTERN[..part.len()]));
 }
 
-fn is_filled(slice: &[u8], from: usize) -> bool {
+pub fn is_filled(slice: &[u8], from: usize) -> bool {
     slice.chunks(PERIOD).all(|part| *part == PATTERN[from % PERIOD..][..part.len()])
 }
 
-fn is_zero(slice: &[u8]) -> bool {
+pub fn is_zero(slice: &[u8]) -> bool {
     slice.chunks(PERIOD).all(|part| *part == ZEROS[..part.len()])
 }
 

@@ -124,22 +124,47 @@ impl Original {
         }
     }
 
-    /// The right answer.
-    pub fn answer(&mut self, block: &[u8], notes: &[u8]) -> Answer {
-        let mut fields = match read(block) {
-            Ok(fields) => fields,
-            Err(place) => return Answer::Options(place),
-        };
-        if notes.len() > 65536 {
-            return Answer::Long;
+    /// Codes 1 to 3 for notes of up to so many bytes, or the notes as the original is shown them, which has the options.
+    fn shown(&mut self, block: &[u8], notes: &[u8], most: usize) -> Result<(Fields, Shown), Answer> {
+        let mut fields = read(block).map_err(Answer::Options)?;
+        if notes.len() > most {
+            return Err(Answer::Long);
         }
         if !fields.has(KEEP) {
             if let Some(place) = damage(notes) {
-                return Answer::Text(place);
+                return Err(Answer::Text(place));
             }
         }
         let shown = Shown::new(&mut fields, notes);
         self.set(&fields);
+        Ok((fields, shown))
+    }
+
+    /// The right answer of a call with lent room, where there is enough of it, and how many numbers it needs: 7 for each word of the longest
+    /// paragraph, without quick 15.
+    pub fn large(&mut self, block: &[u8], notes: &[u8]) -> (Answer, usize) {
+        let (fields, shown) = match self.shown(block, notes, 1_048_576) {
+            Ok(found) => found,
+            Err(refusal) => return (refusal, 0),
+        };
+        let pieces = fmt_cube::parasplit::counts(&self.options, shown.text.as_bytes());
+        let longest = pieces.iter().map(|(_, words)| *words).max().unwrap_or(0);
+        let digest = fmt_cube::format(&self.options, shown.text.as_bytes());
+        (Answer::Done(shown.back(digest)), longest * if fields.has(QUICK) { 7 } else { 15 })
+    }
+
+    /// The original by itself, for its time: notes of plain words.
+    pub fn format(&mut self, block: &[u8], notes: &[u8]) -> Vec<u8> {
+        self.set(&read(block).ok().expect("a block that is accepted"));
+        fmt_cube::format(&self.options, notes)
+    }
+
+    /// The right answer.
+    pub fn answer(&mut self, block: &[u8], notes: &[u8]) -> Answer {
+        let (fields, shown) = match self.shown(block, notes, 65536) {
+            Ok(found) => found,
+            Err(refusal) => return refusal,
+        };
         match self.long_paragraph(shown.text.as_bytes()) {
             Some(line) => Answer::Words(notes.split_inclusive(|b| *b == b'\n').take(line).map(|l| l.len()).sum()),
             None => {

@@ -5,6 +5,8 @@
 //!     scale apart FILE SEED COUNT TABLES PROGRAM ...  the calls made by another program (shipped.c), that shares memory as FILE
 //!     scale width SEED LINES                 quick's lines held to the width (width.rs), so many of them
 //!     scale index SEED COUNT [TAMPER]        writing with an index, and lookups (indexed.rs)
+//!     scale large SEED COUNT [TAMPER]        measuring and writing in lent room (large.rs)
+//!     scale linear [tells]                   the time a byte of one long paragraph; fails if it is not level, or only tells it
 //!     scale octets                           every sequence of up to four octets of a set that has every class
 //!     scale replay BLOCK NOTES ROOM PLACES   one call, in hexadecimal, as a difference was printed
 //!
@@ -12,6 +14,7 @@
 
 mod glue;
 mod indexed;
+mod large;
 mod model;
 mod width;
 
@@ -292,6 +295,15 @@ fn main() {
                 _ => usage(),
             }
         }
+        ["large", seed, count, ref more @ ..] => {
+            let tamper = large::TAMPERS.iter().find(|t| **t == *more.first().unwrap_or(&"none"));
+            match (seed.parse(), count.parse(), tamper) {
+                (Ok(seed), Ok(count), Some(tamper)) => large::run(seed, count, tamper),
+                _ => usage(),
+            }
+        }
+        ["linear"] => large::linear(false),
+        ["linear", "tells"] => large::linear(true),
         ["octets"] => octets(),
         ["replay", ..] => replay(&args[1..]),
         _ => usage(),

@@ -279,7 +279,7 @@ def refusal(sight):
     sight.shot("refused")
     b.keys("w")
     tell("on the wall", b.run("return [...document.querySelectorAll('#wall .bar')].map(e => e.textContent.trim().replace(/; drawn [-0-9]+ [0-9:]+: /, ': ')).slice(-2)"),
-         ["REFUSED: there may be notes, and none is shown", "refused: standard input"])
+         ["REFUSED: not formatted; above is the end of the notes as they are", "refused: 6 lines, 1 damaged; none above: standard input"])
     sight.page("cut", [], LATIN, lambda data: data[: data.index(b"</aside>")])
     b.open(sight.out / "cut.html")
     tell("a page that was cut short", b.run("return document.getElementById('cut').checkVisibility()"), True)

@@ -11,8 +11,8 @@ ATTRIBUTES = {  # of each element that a page may have: the attributes, and what
     "nav": {"aria-label": "This page"}, "main": {"id": "failed"}, "footer": {}, "b": {"class": r"w\d+"}, "div": {"id": "digest", "role": "region", "aria-label": "The digest, line by line", "tabindex": "-1"},
     "section": {"id": f"n{NUMBER}|seen|wall", "aria-label": "Not to be missed|The wall panel"}, "aside": {"id": "notes", "aria-label": ".*", "tabindex": "-1"},
     "p": {"id": f"r{NUMBER}|cut|calm", "class": "hint|bar|e", "role": "alert"}, "pre": {"tabindex": "0"}, "ol": {"start": NUMBER}, "li": {"class": "[donm]|at"},
-    "a": {"id": NUMBER, "class": "[do]", "href": f"#(n?{NUMBER}|digest|notes|wall|top)"}, "span": {"class": "name|k|goal|width|ruler|bar|mouse|touch"},
-    "i": {"class": r"w\d+|w1 [do]", "id": "end"}, "u": {"class": r"[cd] w\d+|[cdeqzt]", "data-x": r"[0-9A-F \n]+"},
+    "a": {"id": NUMBER, "class": "[do]", "href": f"#(n?{NUMBER}|digest|notes|wall|top)"}, "span": {"class": "name|k|goal|width|ruler|bar|g|mouse|touch"},
+    "i": {"class": r"w\d+( r)?|w1 [do]", "id": "end"}, "u": {"class": r"[cd] w\d+|[cdeqzt]", "data-x": r"[0-9A-F \n]+"},
 }
 VOID = {"meta", "br"}
 CLOSED_BY = {"li": {"li"}, "p": {"p", "h3", "div", "section"}}  # elements whose end is left out
@@ -26,7 +26,7 @@ class Page(HTMLParser):
         self.lines = []  # of the digest: number, class, the piece's anchor, bytes
         self.pieces = {}  # by its anchor: the first note's number, {line: (columns, words, numbers, its link)}, the words for the place, bytes
         self.warned = {}  # by the class: the text, and the lines linked to
-        self.rows, self.notes, self.rulers, self.heading = [], [], [], ""
+        self.rows, self.sides, self.notes, self.rulers, self.heading = [], [], [], [], ""  # rows of the wall, and the mark beside each
         self.piece = self.reason = None
         if not data.startswith(b"\xef\xbb\xbf<!doctype html>\n"):
             self.faults.append("no mark of byte order, or no doctype")
@@ -103,6 +103,7 @@ class Page(HTMLParser):
             list(self.warned.values())[-1][1].append(int(words["href"][1:]))
         elif tag == "span" and self.within("section", id="wall"):
             self.rows.append("")
+            self.sides.append({"bar": "!", "g": ">"}.get(words.get("class"), "|"))
 
     def bytes_in(self, data, digest):
         """A number in brackets is the bytes, or in the digest the code points, that it stands for."""

@@ -241,6 +241,27 @@ def edges(command, tell):
     tell("a file over 65,536 bytes", (page.faults, page.all_notes() == long, page.digest() == command.run(["format"], long).stdout), ([], True, True))
 
 
+# Of every kind that a wall folds: a damaged line, words without blanks, an address; more rows than there are; and a wall without a digest.
+FOLDED = [
+    (["--keep"], b"41\xb0C " + b"DO NOT CYCLE " * 16 + b"\n\nquiet\n"),
+    ([], "\u4e09\u53f7".encode() * 100 + b"\nhttps://example.org/" + b"a" * 200 + b"\n"),
+    ([], b"x" * 2500 + b"\n"),
+    ([], b"x" * 90 + b"\n\n\xb0\n"),
+]
+
+
+def wall_view(command, tell):
+    """The wall in the page is the wall: folded, each row at its place and marked where it goes on."""
+    for arguments, notes in FOLDED:
+        page = command.page(arguments, notes)[1]
+        drawn = command.run(["panel", *arguments], notes).stdout.decode().split("\n")[1:25]
+        if page.lines:
+            tell(f"the wall of {notes[:20]!r}", (page.sides, page.rows), ([row[0] for row in drawn], [row[1:-1] + "\n" for row in drawn]))
+            tell(f"rows of {notes[:20]!r} go on", ">" in page.sides, True)
+        else:
+            tell(f"the wall of {notes[:20]!r}", (page.sides[-1], page.rows[-1].split(":")[0]), ("!", "REFUSED"))
+
+
 # A page of these notes, changed in one place: what, and the change.
 SPOILED = b"22:40 Pump 2 <img> tripped on low pressure. Restarted by hand after the valve was\nbled\xe2\x80\xae.\n\n41\xb0C\n\n\n"
 FAULTS = [
@@ -284,6 +305,7 @@ def run_all(command, tell, seed, count):
     columns(command, tell)
     failures(command, tell)
     edges(command, tell)
+    wall_view(command, tell)
     faults(command, tell)
     for arguments, block in OPTIONS:
         for _ in range(count):

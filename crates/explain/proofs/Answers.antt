@@ -2,9 +2,9 @@
 use mathlib.Core.Path.{_≡_, refl, sym, ap, _∙_}
 use mathlib.Core.Bool.{Bool, true, false, cond}
 use mathlib.Core.List.{List}
-use Prim.Native.Nat.{ℕ, _-_, _≤_}
+use Prim.Native.Nat.{ℕ, _-_, _≤_, _<_, max}
 use native.Mathlib.Omega.{arith}
-use borrow.Author.Tests.{ltb-false}
+use borrow.Author.Tests.{ltb-false, le-ltb, lt-ltb}
 use lib.Dec.{ltb}
 use lib.ListN.{length, getD}
 use Rattle.text.specs.declared.Found.{Found}
@@ -16,19 +16,26 @@ use Rattle.options.specs.declared.Block.{Block}
 use Rattle.pieces.specs.Pieces.{pieces}
 use Rattle.endings.specs.declared.Ending.{Ending}
 use Rattle.endings.specs.declared.Ending.the-variants.{Paragraph}
-use Rattle.walk.specs.Digest.{mostWords, longParagraph}
-use Rattle.walk.proofs.Loop.{all-long}
+use Rattle.paragraphs.specs.Contracts.Steps.{roomFor}
+use Rattle.walk.specs.Digest.{longParagraph, digest}
+use Rattle.walk.specs.Work.{workFor}
+use Rattle.walk.proofs.Loop.{all-pieces}
 use Rattle.formatter.specs.Answers.{Answer, done, options, long, text, words, room, work, code}
-use Rattle.formatter.specs.Format.{document01, withWords, withBlock, finding}
+use Rattle.formatter.specs.Format.{Limits, limited, withWords, withBlock, finding}
+use Rattle.formatter.specs.Work.{lending}
 use Rattle.formatter.specs.Contracts.Call.{Admits}
 use Rattle.formatter.specs.declared.Reply.{Reply}
-use Rattle.formatter.specs.declared.Reply.the-variants.{Words}
+use Rattle.formatter.specs.declared.Reply.the-variants.{Words, Work}
 use Rattle.formatter.specs.declared.Admission.{Admission}
 use Rattle.formatter.specs.declared.Admission.the-variants.{Refused as NotAdmitted, Passed as Admitted}
+use Rattle.formatter.proofs.Lent.{fits, over}
 use Rattle.formatter.proofs.Refusals.{a-refusal-is-no-digest}
 use Rattle.formatter.proofs.Replies.{refused-of, passed-of}
 use Rattle.explain.specs.declared.Asked.{Asked}
 use Rattle.explain.specs.declared.Asked.the-variants.{Told, Behind}
+use Rattle.explain.specs.declared.Seek.{Seek}
+use Rattle.explain.specs.declared.Course.{Course}
+use Rattle.explain.specs.declared.Course.the-variants.{End, Short}
 use Rattle.explain.specs.declared.Sought.{Sought}
 use Rattle.explain.specs.declared.Sought.the-variants.{All, Stopped}
 use Rattle.explain.specs.declared.Explained.{Explained}
@@ -36,8 +43,8 @@ use Rattle.explain.specs.declared.Explained.the-variants.{Refused}
 use Rattle.explain.specs.Reasons.{lineEndings}
 use Rattle.explain.specs.Explain.{Explanation, because, refused, noLine, lookUp, lookUpIn, afterMeasuring, explaining}
 use Rattle.explain.specs.Contracts.Asking.{passed}
-use Rattle.explain.specs.Contracts.Seeking.{SoughtIs, linesAhead, asking, told, wordsOr, leftOf}
-use Rattle.explain.proofs.Seeking.{all-endings}
+use Rattle.explain.specs.Contracts.Seeking.{begin, longBehind, SoughtIs, Coursed, linesAhead, asking, told, leftOf}
+use Rattle.explain.proofs.Seeking.{all-endings, seeking-stopped, course-end, course-short}
 
 -- ---- at the end of the notes
 
@@ -52,55 +59,82 @@ all-passed es line = go (ltb line (length es)) refl
     go true t = (refl, omega arith)
     go false t = let h = ltb-false line (length es) t in (ap noLine (omega arith), omega arith)
 
-module _ (o : Opts) (notes : List ℕ) (line : ℕ) (r : Sought) (s : SoughtIs o notes (record { at = 0; mail = true; asked = Behind line }) r) where
-  pub stopped-told : {place : ℕ} → r ≡ Stopped place → Refused (Words place) ≡ told (leftOf o notes line)
-  stopped-told {place} e =
-      let k : SoughtIs o notes (record { at = 0; mail = true; asked = Behind line }) (Stopped place) = rw e at s in
-      let l : longParagraph mostWords o 0 (pieces o notes) ≡ At place = sym (all-long o notes) ∙ k in
-      rw l
+module _ (most : ℕ) (o : Opts) (notes : List ℕ) (line : ℕ) where
+  all-long : longBehind most o notes (begin line) ≡ longParagraph most o 0 (pieces o notes)
+  all-long = ap (longParagraph most o 0) (all-pieces o notes)
 
-  all-of : {a : Asked} → r ≡ All a → (longParagraph mostWords o 0 (pieces o notes) ≡ Nowhere) × (a ≡ passed (lineEndings o notes) (Behind line))
-  all-of {a} e =
-      let k : SoughtIs o notes (record { at = 0; mail = true; asked = Behind line }) (All a) = rw e at s in
-      (sym (all-long o notes) ∙ k .0, k .1 ∙ ap (λ (es : List Ending). passed es (Behind line)) (all-endings o notes))
+  module _ (r : Sought) (s : SoughtIs most o notes (begin line) r) where
+    pub stopped-of : {place : ℕ} → r ≡ Stopped place → longParagraph most o 0 (pieces o notes) ≡ At place
+    stopped-of {place} e = let k : SoughtIs most o notes (begin line) (Stopped place) = rw e at s in sym all-long ∙ k
 
-  pub all-ahead : {a : Asked} → r ≡ All a → linesAhead a ≤ line
-  all-ahead e = rw (all-of e .1) (all-passed (lineEndings o notes) line .1)
+    pub all-of : {a : Asked} → r ≡ All a → (longParagraph most o 0 (pieces o notes) ≡ Nowhere) × (a ≡ passed (lineEndings o notes) (Behind line))
+    all-of {a} e =
+        let k : SoughtIs most o notes (begin line) (All a) = rw e at s in
+        (sym all-long ∙ k .0, k .1 ∙ ap (λ (es : List Ending). passed es (Behind line)) (all-endings o notes))
 
-  pub all-told : {a : Asked} {x : Explained} → r ≡ All a → x ≡ told (asking line a) → x ≡ told (leftOf o notes line)
-  all-told {a} e h =
-      let k = all-of e in
-      h ∙ ap told (ap (asking line) (k .1) ∙ all-passed (lineEndings o notes) line .0) ∙ ap (λ (f : Found). told (wordsOr f (lookUp line (lineEndings o notes)))) (sym (k .0))
+    pub all-ahead : {a : Asked} → r ≡ All a → linesAhead a ≤ line
+    all-ahead e = rw (all-of e .1) (all-passed (lineEndings o notes) line .1)
+
+    all-asked : {a : Asked} {x : Explained} → r ≡ All a → x ≡ told (asking line a) → x ≡ told (lookUp line (lineEndings o notes))
+    all-asked e h = h ∙ ap told (ap (asking line) (all-of e .1) ∙ all-passed (lineEndings o notes) line .0)
+
+    -- with a limit on words
+    module _ (bytes : ℕ) where
+      pub stopped-told : {place : ℕ} → r ≡ Stopped place → Refused (Words place) ≡ told (leftOf (limited bytes most) o notes line)
+      stopped-told e = rw (stopped-of e)
+
+      pub all-told : {a : Asked} {x : Explained} → r ≡ All a → x ≡ told (asking line a) → x ≡ told (leftOf (limited bytes most) o notes line)
+      all-told e h = all-asked e h ∙ ap (λ (f : Found). told (afterMeasuring (lookUp line (lineEndings o notes)) (withWords done o notes f))) (sym (all-of e .0))
+
+-- where room is lent: it does not reach, and what the notes need is told; or it does
+module _ (lends : ℕ) (o : Opts) (notes : List ℕ) (line : ℕ) (r : Course) (c : Coursed (roomFor (o .quick) lends) o notes (begin line) r) where
+  abbrev room-is : ℕ
+  room-is = roomFor (o .quick) lends
+
+  pub short-told : {t : Seek} {n : ℕ} → r ≡ Short t → n ≡ max lends (workFor o notes) → Refused (Work n) ≡ told (leftOf (lending lends) o notes line)
+  short-told {t} {n} e k =
+      let s = course-short room-is room-is o notes (begin line) r (omega arith) c e in
+      let h : lends < workFor o notes = over o lends notes (stopped-of room-is o notes line (Stopped (t .at)) (seeking-stopped room-is o notes (s .0) (s .1) (s .1 .many)) refl) in
+      let m : n ≡ workFor o notes = omega (arith, h, k) in
+      ap (λ (k : ℕ). Refused (Work k)) m ∙ ap (λ (b : Bool). told (afterMeasuring (lookUp line (lineEndings o notes)) (elim b as (λ t. Answer) [ true ↦ work (workFor o notes) | false ↦ done (digest o notes) ]))) (sym (lt-ltb lends (workFor o notes) h))
+
+  module _ {a : Asked} (e : r ≡ End a) where
+    sought : SoughtIs room-is o notes (begin line) (All a)
+    sought = course-end room-is room-is o notes (begin line) r (omega arith) c e
+
+    pub lent-ahead : linesAhead a ≤ line
+    lent-ahead = all-ahead room-is o notes line (All a) sought refl
+
+    pub lent-told : {x : Explained} → x ≡ told (asking line a) → x ≡ told (leftOf (lending lends) o notes line)
+    lent-told h =
+        let f = fits o lends notes (all-of room-is o notes line (All a) sought refl .0) in
+        all-asked room-is o notes line (All a) sought refl h
+        ∙ ap (λ (b : Bool). told (afterMeasuring (lookUp line (lineEndings o notes)) (elim b as (λ t. Answer) [ true ↦ work (workFor o notes) | false ↦ done (digest o notes) ]))) (sym (le-ltb lends (workFor o notes) f))
 
 -- ---- before any piece is looked at
 
-module _ (block notes : List ℕ) (a : Admission) (admits : Admits document01 block notes a) where
-  refusal-stays : (x : Explanation) (b : Answer) → 1 ≤ code b → afterMeasuring x b ≡ refused b
-  refusal-stays x (done digest) h = absurd (omega (arith, h))
-  refusal-stays x (options place) h = refl
-  refusal-stays x long h = refl
-  refusal-stays x (text place) h = refl
-  refusal-stays x (words place) h = refl
-  refusal-stays x (room needed) h = refl
-  refusal-stays x (work needed) h = refl
+refusal-stays : (x : Explanation) (b : Answer) → 1 ≤ code b → afterMeasuring x b ≡ refused b
+refusal-stays x (done digest) h = absurd (omega (arith, h))
+refusal-stays x (options place) h = refl
+refusal-stays x long h = refl
+refusal-stays x (text place) h = refl
+refusal-stays x (words place) h = refl
+refusal-stays x (room needed) h = refl
+refusal-stays x (work needed) h = refl
 
-  pub refused-told : (line : ℕ) {r : Reply} → a ≡ NotAdmitted r → Refused r ≡ told (explaining document01 block notes line)
+module _ (l : Limits) (block notes : List ℕ) (a : Admission) (admits : Admits l block notes a) where
+  pub refused-told : (line : ℕ) {r : Reply} → a ≡ NotAdmitted r → Refused r ≡ told (explaining l block notes line)
   unfolding explaining finding
   refused-told line e =
-      let f = refused-of document01 block notes a admits e in
+      let f = refused-of l block notes a admits e in
       ap Refused (f .is)
-      ∙ ap told (sym (refusal-stays (lookUpIn line block notes (readBlock block)) (f .refusal) (a-refusal-is-no-digest document01 block notes f)))
+      ∙ ap told (sym (refusal-stays (lookUpIn line block notes (readBlock block)) (f .refusal) (a-refusal-is-no-digest l block notes f)))
       ∙ ap (λ (b : Answer). told (afterMeasuring (lookUpIn line block notes (readBlock block)) b)) (sym (f .whole-is done))
 
-  pub passed-told : (line : ℕ) {o : Options} {x : Explained} → a ≡ Admitted o → x ≡ told (leftOf (meant block o) notes line) → x ≡ told (explaining document01 block notes line)
+  pub passed-told : (line : ℕ) {o : Options} {x : Explained} → a ≡ Admitted o → x ≡ told (leftOf l (meant block o) notes line) → x ≡ told (explaining l block notes line)
   unfolding explaining finding
   passed-told line {o} e h =
-      let f = passed-of document01 block notes a admits e in
+      let f = passed-of l block notes a admits e in
       h
-      ∙ ap told (sym (go (longParagraph mostWords (meant block o) 0 (pieces (meant block o) notes))))
       ∙ ap (λ (b : Answer). told (afterMeasuring (lookUp line (lineEndings (meant block o) notes)) b)) (sym (f .1 done))
-      ∙ ap (λ (b : Block). told (afterMeasuring (lookUpIn line block notes b) (withBlock document01 done block notes (readBlock block)))) (sym (f .0 .accepted))
-    where
-      go : (f : Found) → afterMeasuring (lookUp line (lineEndings (meant block o) notes)) (withWords done (meant block o) notes f) ≡ wordsOr f (lookUp line (lineEndings (meant block o) notes))
-      go (At place) = refl
-      go Nowhere = refl
+      ∙ ap (λ (b : Block). told (afterMeasuring (lookUpIn line block notes b) (withBlock l done block notes (readBlock block)))) (sym (f .0 .accepted))

@@ -25,7 +25,7 @@ use Rattle.paragraphs.specs.Breaks.{settingOf}
 use Rattle.walk.specs.Digest.{extentOf}
 use Rattle.walk.specs.Standing.{wordsUnder}
 use Rattle.walk.proofs.Extents.{extents-are-notes, extents-some}
-use Rattle.formatter.proofs.Work.{words-are-few}
+use Rattle.walk.proofs.Work.{words-are-few}
 use Rattle.explain.specs.Reasons.{linesBy, paragraphEndings, endingsOf, pieceEndings, lineEndings}
 use Rattle.explain.proofs.Asking.{nexts-length}
 

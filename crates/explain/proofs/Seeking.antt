@@ -9,12 +9,12 @@ use lib.Dec.{ltb}
 use lib.ListN.{length, getD, length-append, List·getD-append}
 use lib.Seq.{getD-append-add}
 use Rattle.lists.specs.Runs.{joined}
-use Rattle.lists.proofs.Walk.{walk-nil}
 use Rattle.lists.proofs.Parts.{joined-nil, joined-cons}
+use Rattle.text.specs.declared.Found.{Found}
+use Rattle.text.specs.declared.Found.the-variants.{At, Nowhere}
 use Rattle.options.specs.Opts.{Opts, meant}
 use Rattle.options.specs.declared.Options.{Options}
-use Rattle.lines.proofs.Lines.{lines-past}
-use Rattle.pieces.specs.Pieces.{Kind, blankLine, plainLine, paragraph, nextPiece, pieces}
+use Rattle.pieces.specs.Pieces.{Kind, blankLine, plainLine, paragraph, pieces}
 use Rattle.pieces.specs.declared.Paragraph.{Paragraph as ParagraphAt}
 use Rattle.records.specs.Word.{Word}
 use Rattle.words.specs.Words.{wordsOf}
@@ -23,9 +23,9 @@ use Rattle.endings.specs.declared.Ending.{Ending}
 use Rattle.endings.specs.declared.Ending.the-variants.{Paragraph, Plain, Blank}
 use Rattle.endings.specs.Endings.{endings}
 use Rattle.paragraphs.specs.Contracts.Steps.{settingFor, wordsFor}
-use Rattle.walk.specs.Digest.{mostWords}
+use Rattle.walk.specs.Digest.{tooMany, longParagraph}
 use Rattle.walk.specs.Contracts.Course.{piecesFrom, FirstPiece}
-use Rattle.walk.proofs.Loop.{long-none, long-more, long-here}
+use Rattle.walk.proofs.Loop.{none-left}
 use Rattle.walk.proofs.Meaning.{TextGoes}
 use Rattle.walk.proofs.Rows.{text-words}
 use Rattle.explain.specs.declared.Asked.{Asked}
@@ -39,7 +39,7 @@ use Rattle.explain.specs.declared.Sought.{Sought}
 use Rattle.explain.specs.declared.Sought.the-variants.{All, Stopped}
 use Rattle.explain.specs.Reasons.{linesBy, paragraphEndings, endingsOf, pieceEndings, lineEndings}
 use Rattle.explain.specs.Contracts.Asking.{passed}
-use Rattle.explain.specs.Contracts.Seeking.{TextPassed, PieceBehind, NoRoom, PiecePassed, endingsFrom, Seeking, SoughtIs, Coursed}
+use Rattle.explain.specs.Contracts.Seeking.{TextPassed, PieceBehind, NoRoom, PiecePassed, endingsFrom, longBehind, Seeking, SoughtIs, Coursed}
 
 -- ---- lines that are passed
 
@@ -104,8 +104,8 @@ module _ (o : Opts) where
   all-endings notes = refl
 
   endings-none : (nextMail : Bool) (notes : List ℕ) (at : ℕ) → length notes ≤ at → endingsFrom o nextMail notes at ≡ []
-  unfolding endingsFrom piecesFrom
-  endings-none nextMail notes at h = rw (lines-past notes at h, walk-nil (nextPiece o) nextMail) (joined-nil (pieceEndings o))
+  unfolding endingsFrom
+  endings-none nextMail notes at h = rw (none-left o nextMail notes at h) (joined-nil (pieceEndings o))
 
   endings-more : {nextMail : Bool} {notes : List ℕ} {at : ℕ} {kind : Kind} {state : Bool} {next : ℕ} → FirstPiece o nextMail notes at kind state next
       → endingsFrom o nextMail notes at ≡ endingsOf o kind ++ endingsFrom o state notes next
@@ -113,50 +113,71 @@ module _ (o : Opts) where
   endings-more {nextMail} {notes} {at} {kind} {state} {next} g =
       ap (joined (pieceEndings o)) (g .pieces) ∙ joined-cons (pieceEndings o) (g .piece) (piecesFrom o state notes next) ∙ ap (λ (k : Kind). endingsOf o k ++ endingsFrom o state notes next) (g .is)
 
+-- ---- the first paragraph of over so many words
+
+-- of no more than fewer words is of no more than so many
+kind-fewer : (room most : ℕ) (o : Opts) (kind : Kind) → room ≤ most → tooMany room o kind ≡ false → tooMany most o kind ≡ false
+kind-fewer room most o blankLine h e = refl
+kind-fewer room most o (plainLine line) h e = refl
+kind-fewer room most o (paragraph p) h e = le-ltb most (length (wordsOf o p)) (let f = ltb-false room (length (wordsOf o p)) e in omega arith)
+
+module _ (most : ℕ) (o : Opts) (notes : List ℕ) where
+  long-none : (s : Seek) → length notes ≤ s .at → longBehind most o notes s ≡ Nowhere
+  unfolding longParagraph
+  long-none s h = ap (longParagraph most o (s .at)) (none-left o (s .mail) notes (s .at) h)
+
+  module _ (s : Seek) {kind : Kind} {state : Bool} {next : ℕ} (g : FirstPiece o (s .mail) notes (s .at) kind state next) where
+    long-as : (b : Bool) → tooMany most o kind ≡ b → longBehind most o notes s ≡ elim b as (λ x. Found) [ true ↦ At (s .at) | false ↦ longParagraph most o next (piecesFrom o state notes next) ]
+    unfolding longParagraph
+    long-as b e =
+        ap (longParagraph most o (s .at)) (g .pieces)
+        ∙ ap (λ (n : ℕ). elim (tooMany most o (g .piece .kind)) as (λ x. Found) [ true ↦ At (s .at) | false ↦ longParagraph most o n (piecesFrom o state notes next) ]) (g .extent)
+        ∙ ap (λ (x : Bool). elim x as (λ y. Found) [ true ↦ At (s .at) | false ↦ longParagraph most o next (piecesFrom o state notes next) ]) (ap (tooMany most o) (g .is) ∙ e)
+
 -- ---- the search
 
-module _ (o : Opts) (notes : List ℕ) where
-  pub seeking-first : (s : Seek) → s .at ≤ length notes → Seeking o notes s s
+module _ (most : ℕ) (o : Opts) (notes : List ℕ) where
+  pub seeking-first : (s : Seek) → s .at ≤ length notes → Seeking most o notes s s
   seeking-first s h = record { within = h; asked = refl; long = refl }
 
-  module _ {s t : Seek} (g : Seeking o notes s t) where
-    pub seeking-on : {u : Seek} → PieceBehind o notes t u → Seeking o notes s u
-    seeking-on {u} p = record {
+  module _ {s t : Seek} (g : Seeking most o notes s t) where
+    pub seeking-on : {room : ℕ} {u : Seek} → room ≤ most → PieceBehind room o notes t u → Seeking most o notes s u
+    seeking-on {room} {u} fewer p = record {
       within = p .goes .within;
       asked =
           ap (passed (endingsFrom o (u .mail) notes (u .at))) (p .asked)
           ∙ sym (passed-append (endingsOf o (p .kind)) (endingsFrom o (u .mail) notes (u .at)) (t .asked))
           ∙ ap (λ (es : List Ending). passed es (t .asked)) (sym (endings-more o (p .goes)))
           ∙ g .asked;
-      long = sym (long-more o (p .goes) (p .few)) ∙ g .long;
+      long = sym (long-as most o notes t (p .goes) false (kind-fewer room most o (p .kind) fewer (p .few))) ∙ g .long;
     }
 
-    pub seeking-last : length notes ≤ t .at → SoughtIs o notes s (All (t .asked))
+    pub seeking-last : length notes ≤ t .at → SoughtIs most o notes s (All (t .asked))
     seeking-last h = (
-      sym (g .long) ∙ long-none o (t .mail) notes (t .at) h,
+      sym (g .long) ∙ long-none most o notes t h,
       sym (passed-none (t .asked)) ∙ ap (λ (es : List Ending). passed es (t .asked)) (sym (endings-none o (t .mail) notes (t .at) h)) ∙ g .asked,
     )
 
     -- where it began does not matter
-    pub seeking-sought : (r : Sought) → SoughtIs o notes t r → SoughtIs o notes s r
+    pub seeking-sought : (r : Sought) → SoughtIs most o notes t r → SoughtIs most o notes s r
     seeking-sought (All a) k = (sym (g .long) ∙ k .0, k .1 ∙ g .asked)
     seeking-sought (Stopped place) k = sym (g .long) ∙ k
 
-    -- at last there is room for 1,024 words
-    pub seeking-stopped : {room : ℕ} (n : NoRoom room o notes t) → mostWords < length (wordsOf o (n .text)) → SoughtIs o notes s (Stopped (t .at))
-    seeking-stopped n many = sym (g .long) ∙ long-here o (n .goes) (lt-ltb mostWords (length (wordsOf o (n .text))) many)
+    -- at last there is room for as many words as a paragraph may have
+    pub seeking-stopped : {room : ℕ} (n : NoRoom room o notes t) → most < length (wordsOf o (n .text)) → SoughtIs most o notes s (Stopped (t .at))
+    seeking-stopped n many = sym (g .long) ∙ long-as most o notes t (n .goes) true (lt-ltb most (length (wordsOf o (n .text))) many)
 
 -- by how far the room reached
-module _ (room : ℕ) (o : Opts) (notes : List ℕ) (s : Seek) (r : Course) (c : Coursed room o notes s r) where
-  pub course-end : {a : Asked} → r ≡ End a → SoughtIs o notes s (All a)
-  course-end e = rw e at c
+module _ (most room : ℕ) (o : Opts) (notes : List ℕ) (s : Seek) (r : Course) (few : room ≤ most) (c : Coursed room o notes s r) where
+  pub course-end : {a : Asked} → r ≡ End a → SoughtIs most o notes s (All a)
+  course-end e = rw e at (c most few)
 
-  pub course-short : {t : Seek} → r ≡ Short t → Seeking o notes s t × NoRoom room o notes t
-  course-short e = rw e at c
+  pub course-short : {t : Seek} → r ≡ Short t → Seeking most o notes s t × NoRoom room o notes t
+  course-short e = rw e at (c most few)
 
 -- by what came of a piece
 module _ (room : ℕ) (o : Opts) (notes : List ℕ) (s : Seek) (r : Passed) (p : PiecePassed room o notes s r) where
-  pub piece-on : {t : Seek} → r ≡ On t → PieceBehind o notes s t
+  pub piece-on : {t : Seek} → r ≡ On t → PieceBehind room o notes s t
   piece-on e = rw e at p
 
   pub piece-over : r ≡ Over → NoRoom room o notes s
@@ -164,12 +185,12 @@ module _ (room : ℕ) (o : Opts) (notes : List ℕ) (s : Seek) (r : Passed) (p :
 
 -- ---- a piece
 
-module _ (o : Opts) (notes : List ℕ) (s : Seek) (next : ℕ) (a : Asked) where
-  pub blank-behind : FirstPiece o (s .mail) notes (s .at) blankLine true next → a ≡ passed (Blank ∷ []) (s .asked) → PieceBehind o notes s (record { at = next; mail = true; asked = a })
+module _ (room : ℕ) (o : Opts) (notes : List ℕ) (s : Seek) (next : ℕ) (a : Asked) where
+  pub blank-behind : FirstPiece o (s .mail) notes (s .at) blankLine true next → a ≡ passed (Blank ∷ []) (s .asked) → PieceBehind room o notes s (record { at = next; mail = true; asked = a })
   unfolding endingsOf
   blank-behind g e = record { kind = blankLine; goes = g; few = refl; asked = e }
 
-  pub plain-behind : {line : List ℕ} → FirstPiece o (s .mail) notes (s .at) (plainLine line) false next → a ≡ passed (Plain ∷ []) (s .asked) → PieceBehind o notes s (record { at = next; mail = false; asked = a })
+  pub plain-behind : {line : List ℕ} → FirstPiece o (s .mail) notes (s .at) (plainLine line) false next → a ≡ passed (Plain ∷ []) (s .asked) → PieceBehind room o notes s (record { at = next; mail = false; asked = a })
   unfolding endingsOf
   plain-behind {line} g e = record { kind = plainLine line; goes = g; few = refl; asked = e }
 
@@ -188,7 +209,7 @@ module _ (room : ℕ) (block notes : List ℕ) (o : Options) (s : Seek) (p : Par
   text-passed (On t) h = record {
     kind = paragraph (g .paragraph-is);
     goes = rw (h .next, h .mail) (g .goes);
-    few = rw words-are (le-ltb mostWords (length (wordsFor block notes (s .at) o p)) (h .few));
+    few = rw words-are (le-ltb room (length (wordsFor block notes (s .at) o p)) (h .few));
     asked = rw endings-are (h .asked);
   }
   text-passed Over h = record {

@@ -14,8 +14,10 @@ use Rattle.options.specs.declared.Block.the-variants.{Accepted, Fault}
 use Rattle.endings.specs.declared.Ending.{Ending}
 use Rattle.endings.specs.declared.Ending.the-variants.{Paragraph}
 use Rattle.formatter.specs.Answers.{Answer, done, options, long, text, words, room, work, code, value, numbered}
-use Rattle.formatter.specs.Format.{Limits, document01, damageIn, withText, withBlock, finding, mostTold}
-use Rattle.formatter.proofs.Values.{Sound, document01-sound, found-value, reads-back}
+use Rattle.formatter.specs.Format.{Limits, damageIn, withText, withBlock, finding, mostTold}
+use Rattle.formatter.specs.Work.{lending}
+use Rattle.formatter.proofs.Values.{Sound, found-value, reads-back}
+use Rattle.formatter.proofs.Work.{the-room-asked-for-suffices}
 use Rattle.formatter.proofs.Values as formatter
 use Rattle.explain.specs.Reasons.{lineEndings}
 use Rattle.explain.specs.Explain.{Explanation, because, refused, noLine, lookUp, lookUpIn, afterMeasuring, explaining, explainedNumber, reasonAfter}
@@ -96,13 +98,44 @@ code-most (refused (room needed)) = omega arith
 code-most (refused (work needed)) = omega arith
 code-most (noLine n) = omega arith
 
-pub told-fits : (block notes : List ℕ) (line : ℕ) → toldNumber (told (explaining document01 block notes line)) < 2 ^ 64
-told-fits block notes line =
-    let c = code-most (explaining document01 block notes line) in
-    let v = explained-value document01 document01-sound block notes line in
+pub told-fits : (l : Limits) → Sound l → (block notes : List ℕ) (line : ℕ) → toldNumber (told (explaining l block notes line)) < 2 ^ 64
+told-fits l sound block notes line =
+    let c = code-most (explaining l block notes line) in
+    let v = explained-value l sound block notes line in
     rw (told-number, explained-is) (omega (arith, c, v))
 
 -- Code and value can be read back from the number, whatever the limits, the block, the notes and the line.
 pub explaining-tells-code-and-value : (l : Limits) → Sound l → (block notes : List ℕ) (line : ℕ)
     → (explainedNumber (explaining l block notes line) / 2 ^ 32 ≡ codeOf (explaining l block notes line)) × (explainedNumber (explaining l block notes line) % 2 ^ 32 ≡ valueOf (explaining l block notes line))
 explaining-tells-code-and-value l sound block notes line = rw explained-is (reads-back (codeOf (explaining l block notes line)) (valueOf (explaining l block notes line)) (explained-value l sound block notes line))
+
+-- ---- lent room
+
+-- what is refused for want of room is found so
+module _ (l : Limits) (block notes : List ℕ) (line n : ℕ) where
+  never-so : (b : Block) → lookUpIn line block notes b ≡ refused (work n) → ⊥
+  never-so (Fault place) e = let z = ap codeOf e in omega (arith, z)
+  never-so (Accepted o) e = go (ltb line (length (lineEndings (meant block o) notes))) e
+    where
+      go : (b : Bool) → cond b (because (getD (lineEndings (meant block o) notes) line Paragraph)) (noLine (length (lineEndings (meant block o) notes))) ≡ refused (work n) → ⊥
+      go true k = let z = ap codeOf k in omega (arith, z)
+      go false k = let z = ap codeOf k in omega (arith, z)
+
+  found-so : explaining l block notes line ≡ refused (work n) → finding l block notes ≡ work n
+  unfolding explaining
+  found-so e = go (finding l block notes) e
+    where
+      go : (a : Answer) → afterMeasuring (lookUpIn line block notes (readBlock block)) a ≡ refused (work n) → a ≡ work n
+      go (done digest) k = absurd (never-so (readBlock block) k)
+      go (options place) k = absurd (let z = ap codeOf k in omega (arith, z))
+      go long k = absurd (let z = ap codeOf k in omega (arith, z))
+      go (text place) k = absurd (let z = ap codeOf k in omega (arith, z))
+      go (words place) k = absurd (let z = ap codeOf k in omega (arith, z))
+      go (room needed) k = absurd (let z = ap codeOf k in omega (arith, z))
+      go (work needed) k = ap work (ap valueOf k)
+
+-- With the room that the call asks for it is not refused so again, whatever the line.
+pub the-room-asked-for-suffices-to-explain : (block notes : List ℕ) (line other lends needed more : ℕ) → explaining (lending lends) block notes line ≡ refused (work needed) → needed ≤ more
+    → (n : ℕ) → explaining (lending more) block notes other ≡ refused (work n) → ⊥
+the-room-asked-for-suffices-to-explain block notes line other lends needed more e h n f =
+    the-room-asked-for-suffices block notes lends needed more (found-so (lending lends) block notes line needed e) h n (found-so (lending more) block notes other n f)

@@ -23,6 +23,7 @@ ghost use Rattle.walk.specs.Digest.{mostWords};
 ghost use Rattle.walk.specs.Contracts.Course.{Admitted};
 ghost use Rattle.explain.specs.Reasons.{linesBy};
 ghost use Rattle.formatter.specs.Format.{document01};
+ghost use Rattle.formatter.specs.Work.{lending};
 ghost use Rattle.explain.specs.Explain.{explaining};
 ghost use Rattle.explain.specs.declared.Asked.the-variants.{Behind};
 ghost use Rattle.explain.specs.Contracts.Asking.{EndsSo, passed};
@@ -76,6 +77,16 @@ pub fn explain(block: &[u8], notes: &[u8], line: u64) -> Explained
     }
 }
 
+// The same in working room that is lent: 12 in the place of 4.
+pub fn explain_large(block: &[u8], notes: &[u8], line: u64, work: &mut [u32]) -> Explained
+    ensures { λ r. ⌜ r ≡ told (explaining (lending (length (now (work .entry)))) (now (block .entry)) (now (notes .entry)) line) ⌝ }
+{
+    match formatter::admit_within(block, notes, formatter::MOST_LARGE) {
+        Admission::Refused(r) => Explained::Refused(r),
+        Admission::Passed(o) => explain_lent(o, block, notes, line as usize, work),
+    }
+}
+
 // The answer's code stands in the upper 32 bits of its number, what it tells in the lower.
 const UPPER: u64 = 4294967296;
 
@@ -97,7 +108,7 @@ pub fn tell(x: Explained, reason: &mut [u64; 6]) -> u64
 // The line sought from the start of the notes on.
 fn explain_line(o: Options, block: &[u8], notes: &[u8], line: usize) -> Explained
     requires { ⌜ Admitted (now block) (now notes) o ⌝ }
-    ensures { λ r. ⌜ r ≡ told (leftOf (meant (now (block .entry)) o) (now (notes .entry)) line) ⌝ }
+    ensures { λ r. ⌜ r ≡ told (leftOf document01 (meant (now (block .entry)) o) (now (notes .entry)) line) ⌝ }
 {
     let start = Seek {
         at: 0,
@@ -109,6 +120,34 @@ fn explain_line(o: Options, block: &[u8], notes: &[u8], line: usize) -> Explaine
         Sought::All(a) => found(line, a),
     }
 }
+
+// The line sought in the room that is lent. Nothing is written before it is found: only where the room does not reach is counted what would.
+fn explain_lent(
+    o: Options,
+    block: &[u8],
+    notes: &[u8],
+    line: usize,
+    work: &mut [u32],
+) -> Explained
+    requires { ⌜ Admitted (now block) (now notes) o ⌝ }
+    ensures { λ r. ⌜ r ≡ told (leftOf (lending (length (now (work .entry)))) (meant (now (block .entry)) o) (now (notes .entry)) line) ⌝ }
+{
+    let start = Seek {
+        at: 0,
+        mail: true,
+        asked: Asked::Behind(line),
+    };
+    match seek_with(o, block, notes, start, work) {
+        Course::Short(_) => Explained::Refused(Reply::Work(walk::work_over(
+            o,
+            block,
+            notes,
+            work.len(),
+        ))),
+        Course::End(a) => found(line, a),
+    }
+}
+
 
 // What is told of the line at the end of the notes: lines that were passed are all there are.
 fn found(line: usize, a: Asked) -> Explained
@@ -134,7 +173,7 @@ const BEST_MOST: usize = 15360;
 // lines and then for the most words that a paragraph may have.
 fn seek_line(o: Options, block: &[u8], notes: &[u8], from: Seek) -> Sought
     requires { ⌜ Admitted (now block) (now notes) o × (from .at ≤ length (now notes)) ⌝ }
-    ensures { λ r. ⌜ SoughtIs (meant (now (block .entry)) o) (now (notes .entry)) from r ⌝ }
+    ensures { λ r. ⌜ SoughtIs mostWords (meant (now (block .entry)) o) (now (notes .entry)) from r ⌝ }
 {
     if o.quick {
         return seek_quick(o, block, notes, from);
@@ -145,7 +184,7 @@ fn seek_line(o: Options, block: &[u8], notes: &[u8], from: Seek) -> Sought
 // With quick: for the words of a few lines.
 fn seek_quick(o: Options, block: &[u8], notes: &[u8], from: Seek) -> Sought
     requires { ⌜ Admitted (now block) (now notes) o × (from .at ≤ length (now notes)) × (o .quick ≡ true) ⌝ }
-    ensures { λ r. ⌜ SoughtIs (meant (now (block .entry)) o) (now (notes .entry)) from r ⌝ }
+    ensures { λ r. ⌜ SoughtIs mostWords (meant (now (block .entry)) o) (now (notes .entry)) from r ⌝ }
 {
     let mut work = [0u32; QUICK_FEW];
     match seek_with(o, block, notes, from, &mut work) {
@@ -157,7 +196,7 @@ fn seek_quick(o: Options, block: &[u8], notes: &[u8], from: Seek) -> Sought
 // For the most words.
 fn seek_quick_long(o: Options, block: &[u8], notes: &[u8], from: Seek) -> Sought
     requires { ⌜ Admitted (now block) (now notes) o × (from .at ≤ length (now notes)) × (o .quick ≡ true) ⌝ }
-    ensures { λ r. ⌜ SoughtIs (meant (now (block .entry)) o) (now (notes .entry)) from r ⌝ }
+    ensures { λ r. ⌜ SoughtIs mostWords (meant (now (block .entry)) o) (now (notes .entry)) from r ⌝ }
 {
     let mut work = [0u32; QUICK_MOST];
     match seek_with(o, block, notes, from, &mut work) {
@@ -169,7 +208,7 @@ fn seek_quick_long(o: Options, block: &[u8], notes: &[u8], from: Seek) -> Sought
 // With Knuth-Plass: for the words of a few lines.
 fn seek_best(o: Options, block: &[u8], notes: &[u8], from: Seek) -> Sought
     requires { ⌜ Admitted (now block) (now notes) o × (from .at ≤ length (now notes)) × (o .quick ≡ false) ⌝ }
-    ensures { λ r. ⌜ SoughtIs (meant (now (block .entry)) o) (now (notes .entry)) from r ⌝ }
+    ensures { λ r. ⌜ SoughtIs mostWords (meant (now (block .entry)) o) (now (notes .entry)) from r ⌝ }
 {
     let mut work = [0u32; BEST_FEW];
     match seek_with(o, block, notes, from, &mut work) {
@@ -181,7 +220,7 @@ fn seek_best(o: Options, block: &[u8], notes: &[u8], from: Seek) -> Sought
 // For the most words.
 fn seek_best_long(o: Options, block: &[u8], notes: &[u8], from: Seek) -> Sought
     requires { ⌜ Admitted (now block) (now notes) o × (from .at ≤ length (now notes)) × (o .quick ≡ false) ⌝ }
-    ensures { λ r. ⌜ SoughtIs (meant (now (block .entry)) o) (now (notes .entry)) from r ⌝ }
+    ensures { λ r. ⌜ SoughtIs mostWords (meant (now (block .entry)) o) (now (notes .entry)) from r ⌝ }
 {
     let mut work = [0u32; BEST_MOST];
     match seek_with(o, block, notes, from, &mut work) {
@@ -192,7 +231,7 @@ fn seek_best_long(o: Options, block: &[u8], notes: &[u8], from: Seek) -> Sought
 
 // Piece by piece, as far as the tables reach.
 fn seek_with(o: Options, block: &[u8], notes: &[u8], from: Seek, work: &mut [u32]) -> Course
-    requires { ⌜ Admitted (now block) (now notes) o × (from .at ≤ length (now notes)) × (roomFor (o .quick) (length (now work)) ≤ mostWords) ⌝ }
+    requires { ⌜ Admitted (now block) (now notes) o × (from .at ≤ length (now notes)) ⌝ }
     ensures { λ r. ⌜ Coursed (roomFor (o .quick) (length (now (work .entry)))) (meant (now (block .entry)) o) (now (notes .entry)) from r ⌝ }
 {
     let mut s = from;
@@ -208,7 +247,7 @@ fn seek_with(o: Options, block: &[u8], notes: &[u8], from: Seek, work: &mut [u32
 
 // Behind the piece at a place.
 fn pass_piece(o: Options, block: &[u8], notes: &[u8], s: Seek, work: &mut [u32]) -> Passed
-    requires { ⌜ Admitted (now block) (now notes) o × (s .at < length (now notes)) × (roomFor (o .quick) (length (now work)) ≤ mostWords) ⌝ }
+    requires { ⌜ Admitted (now block) (now notes) o × (s .at < length (now notes)) ⌝ }
     ensures { λ r. ⌜ PiecePassed (roomFor (o .quick) (length (now (work .entry)))) (meant (now (block .entry)) o) (now (notes .entry)) s r ⌝ }
 {
     let at = s.at;
@@ -252,7 +291,7 @@ fn pass_paragraph(
     asked: Asked,
     work: &mut [u32],
 ) -> Passed
-    requires { ⌜ Placed (now notes) at o p × (roomFor (o .quick) (length (now work)) ≤ mostWords) ⌝ }
+    requires { ⌜ Placed (now notes) at o p ⌝ }
     ensures { λ r. ⌜ ((block : List ℕ) → TextPassed (roomFor (o .quick) (length (now (work .entry)))) (now (notes .entry)) at o p asked r block) ⌝ }
 {
     let most = paragraphs::room_for(o.quick, work.len());

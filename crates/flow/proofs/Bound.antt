@@ -81,13 +81,13 @@ module _ (o : Opts) (notes : List ℕ) (least : 1 ≤ o .tab) (most : o .tab ≤
   past-most : (nextMail : Bool) (at : ℕ) → at ≤ length notes → length notes ≤ at → length (flowedFrom o nextMail notes at) + 3120 * at ≤ 3120 * length notes
   past-most nextMail at h k = rw (sent-none o notes nextMail at k) (omega arith)
 
-  from-most : (k : ℕ) (nextMail : Bool) (at : ℕ) → at ≤ length notes → length notes ≤ at + k → longFrom o nextMail notes at ≡ Nowhere
+  from-most : (k : ℕ) (nextMail : Bool) (at : ℕ) → at ≤ length notes → length notes ≤ at + k → longFrom mostWords o nextMail notes at ≡ Nowhere
       → length (flowedFrom o nextMail notes at) + 3120 * at ≤ 3120 * length notes
   from-most zero nextMail at h k e = past-most nextMail at h (omega arith)
   from-most (suc k) nextMail at h g e = go (ltb at (length notes)) refl (from-most k)
     where
       go : (t : Bool) → ltb at (length notes) ≡ t
-          → ((m : Bool) (i : ℕ) → i ≤ length notes → length notes ≤ i + k → longFrom o m notes i ≡ Nowhere → length (flowedFrom o m notes i) + 3120 * i ≤ 3120 * length notes)
+          → ((m : Bool) (i : ℕ) → i ≤ length notes → length notes ≤ i + k → longFrom mostWords o m notes i ≡ Nowhere → length (flowedFrom o m notes i) + 3120 * i ≤ 3120 * length notes)
           → length (flowedFrom o nextMail notes at) + 3120 * at ≤ 3120 * length notes
       go false t rest = past-most nextMail at h (ltb-false at (length notes) t)
       go true t rest = step (tooMany mostWords o (n .kind)) refl
@@ -102,12 +102,12 @@ module _ (o : Opts) (notes : List ℕ) (least : 1 ≤ o .tab) (most : o .tab ≤
           n = next-of o nextMail notes at r (piece-goes o nextMail notes at r (means o nextMail notes at i least most short cleared) (bounded o nextMail notes at i least most short cleared))
 
           step : (b : Bool) → tooMany mostWords o (n .kind) ≡ b → length (flowedFrom o nextMail notes at) + 3120 * at ≤ 3120 * length notes
-          step true b = absurd (let q = sym e ∙ long-here o (n .goes) b in let z : _≡_ {A = ℕ} 0 1 = cc in omega arith)
+          step true b = absurd (let q = sym e ∙ long-here mostWords o (n .goes) b in let z : _≡_ {A = ℕ} 0 1 = cc in omega arith)
           step false b =
-              let s = rest (n .state) (n .next) (n .goes .within) (omega (arith, n .goes .on)) (sym (long-more o (n .goes) b) ∙ e) in
+              let s = rest (n .state) (n .next) (n .goes .within) (omega (arith, n .goes .on)) (sym (long-more mostWords o (n .goes) b) ∙ e) in
               let l = ap length (sent-more o notes (n .goes)) ∙ length-append (joined sent (sentLines o (n .kind))) (flowedFrom o (n .state) notes (n .next)) in
               omega (arith, l, s, n .most b)
 
   -- a host that lends so much room never gets code 5
   pub flowed-most : longParagraph mostWords o 0 (pieces o notes) ≡ Nowhere → length (flowed o notes) ≤ 3120 * length notes
-  flowed-most e = let s = from-most (length notes) true 0 (omega arith) (omega arith) (all-long o notes ∙ e) in omega (arith, s, ap length (all-sent o notes))
+  flowed-most e = let s = from-most (length notes) true 0 (omega arith) (omega arith) (all-long mostWords o notes ∙ e) in omega (arith, s, ap length (all-sent o notes))

@@ -39,11 +39,11 @@ use Rattle.output.proofs.Sink.{length-written, wrote-nil, left-first, left-then
 use Rattle.quick.specs.Quick.{quickBreaks}
 use Rattle.paragraphs.specs.Contracts.Steps.{settingFor, wordsFor, Placed}
 use Rattle.paragraphs.proofs.Breaking.{limits-of}
-use Rattle.walk.specs.Digest.{mostWords, tooMany, longParagraph}
-use Rattle.walk.specs.Contracts.Course.{piecesFrom, longFrom, FirstPiece}
+use Rattle.walk.specs.Digest.{tooMany, longParagraph}
+use Rattle.walk.specs.Contracts.Course.{mostPerByte, piecesFrom, longFrom, FirstPiece}
 use Rattle.walk.proofs.Rows.{text-words}
 use Rattle.walk.proofs.Meaning.{TextGoes, PieceGoes}
-use Rattle.walk.proofs.Bound.{text-most}
+use Rattle.walk.proofs.Bound.{any-text-most}
 use Rattle.walk.proofs.Steps.{piece-found, text-found}
 use Rattle.walk.proofs.Loop.{all-long, long-none, long-more, long-here}
 use Rattle.unflow.specs.Flowed.{isDashes}
@@ -88,6 +88,10 @@ module _ (block notes : List ℕ) (o : Options) (ready : Ready block notes o) wh
   ready-quick : o .quick ≡ true
   ready-quick = rw (ready .is)
 
+  pub mailed-quick : meant block o .quick ≡ true
+  unfolding meant
+  mailed-quick = ready-quick
+
   pub found-goes : (nextMail : Bool) (at : ℕ) (r s : PieceAt) → at < length notes → (r ≡ pieceAt (meant block o) nextMail notes at) × Bounded (o .glue) notes at r → r ≡ s → PieceGoes (meant block o) nextMail notes at s
   found-goes nextMail at r s h p q = piece-found block notes o ready-kept (ready .admitted .short) nextMail at r s h p q
 
@@ -98,11 +102,11 @@ fair-of {notes} {at} {o} {p} h block =
 
 -- ---- what was sent of a paragraph, in terms of its own words
 
-pub text-sent : {notes table : List ℕ} {n : ℕ} {c : Cursor} {o : Options} {p : ParagraphAt} {out out′ block : List ℕ} {g : Setting} (l : Layout) (t : Turn) → length (wordsFor block notes (c .at) o p) ≤ 1024
+pub text-sent : {most : ℕ} {notes table : List ℕ} {n : ℕ} {c : Cursor} {o : Options} {p : ParagraphAt} {out out′ block : List ℕ} {g : Setting} (l : Layout) (t : Turn) → length (wordsFor block notes (c .at) o p) ≤ most
     → l .first ≡ p .first → l .indent ≡ p .indent → wordsIn notes n table ≡ wordsFor block notes (c .at) o p → breaksOf n table ≡ quickBreaks g (wordsFor block notes (c .at) o p) → g ≡ settingFor block o p
     → ParagraphSent notes table n l out (c .written) out′ t
-    → TextSent notes c o p out out′ (record { at = p .next; written = t .at; mail = p .mail; dashes = c .dashes + t .dashes }) block
-text-sent {notes} {table} {n} {c} {o} {p} {out} {out′} {block} {g} l t few f i w b s q = record {
+    → TextSent most notes c o p out out′ (record { at = p .next; written = t .at; mail = p .mail; dashes = c .dashes + t .dashes }) block
+text-sent {most} {notes} {table} {n} {c} {o} {p} {out} {out′} {block} {g} l t few f i w b s q = record {
   few = few;
   next = refl;
   mail = refl;
@@ -119,9 +123,9 @@ blank-sent : (notes : List ℕ) (at : ℕ) → plainSent (slice at at notes) ≡
 unfolding plainSent trimmed isDashes begins
 blank-sent notes at = rw (slice-empty at notes)
 
-module _ (o : Opts) (notes out : List ℕ) (c : Cursor) (out′ : List ℕ) (next n : ℕ) where
+module _ (room : ℕ) (o : Opts) (notes out : List ℕ) (c : Cursor) (out′ : List ℕ) (next n : ℕ) where
   pub blank-put : FirstPiece o (c .mail) notes (c .at) blankLine true next → Wrote out (c .written) (sent (plainSent (slice (c .at) (c .at) notes))) out′ n × (n ≤ c .written + (c .at - c .at) + 3)
-      → Put o notes out c (record { at = next; written = n; mail = true; dashes = c .dashes }) out′
+      → Put room o notes out c (record { at = next; written = n; mail = true; dashes = c .dashes }) out′
   unfolding sentLines
   blank-put g w = record {
     kind = blankLine;
@@ -135,7 +139,7 @@ module _ (o : Opts) (notes out : List ℕ) (c : Cursor) (out′ : List ℕ) (nex
 
   pub plain-put : (end : ℕ) → FirstPiece o (c .mail) notes (c .at) (plainLine (slice (c .at) end notes)) false next × (c .at ≤ end) × (end ≤ next)
       → Wrote out (c .written) (sent (plainSent (slice (c .at) end notes))) out′ n × (n ≤ c .written + (end - c .at) + 3)
-      → Put o notes out c (record { at = next; written = n; mail = false; dashes = c .dashes }) out′
+      → Put room o notes out c (record { at = next; written = n; mail = false; dashes = c .dashes }) out′
   unfolding sentLines
   plain-put end g w = record {
     kind = plainLine (slice (c .at) end notes);
@@ -186,38 +190,38 @@ module _ (block notes : List ℕ) (o : Options) (ready : Ready block notes o) (n
   unfolding paragraphLines meant
   lines-are = rw (words-are, text .mail, text .first .bytes, text .indent .bytes, text .first .columns, text .indent .columns, ready-quick block notes o ready)
 
-  most : length ws ≤ 1024 → longest first indent ws + 1040 * at ≤ 1040 * p .next
-  most few =
+  most : longest first indent ws + mostPerByte * at ≤ mostPerByte * p .next
+  most =
       let e : longest first indent ws ≡ longest (q .first .bytes) (q .indent .bytes) (wordsOf (meant block o) q) = rw (words-are, text .first .bytes, text .indent .bytes) in
-      omega (arith, e, text-most (meant block o) notes at p q text bounds (omega (arith, words-count, few)))
+      omega (arith, e, any-text-most (meant block o) notes at p q text bounds (ready .admitted .short))
 
-  put : (out : List ℕ) (c d : Cursor) (out′ : List ℕ) → c .at ≡ at → c .mail ≡ nextMail → TextSent notes c o p out out′ d block → Put (meant block o) notes out c d out′
+  put : (room : ℕ) (out : List ℕ) (c d : Cursor) (out′ : List ℕ) → c .at ≡ at → c .mail ≡ nextMail → TextSent room notes c o p out out′ d block → Put room (meant block o) notes out c d out′
   unfolding sentLines
-  put out c d out′ a m w =
-      let v : TextSent notes (record { at = at; written = c .written; mail = nextMail; dashes = c .dashes }) o p out out′ d block = rw (a, m) at w in
-      let b = most (v .few) in
+  put room out c d out′ a m w =
+      let v : TextSent room notes (record { at = at; written = c .written; mail = nextMail; dashes = c .dashes }) o p out out′ d block = rw (a, m) at w in
+      let b = most in
       let l = sent-most indent first breaks ws in
       let k = words-dashes-few indent first breaks ws in
       record {
         kind = paragraph q;
         goes = rw (a, m, v .next, v .mail) goes;
-        few = rw words-count (le-ltb mostWords (length ws) (v .few));
+        few = rw words-count (le-ltb room (length ws) (v .few));
         wrote = rw (lines-are, words-sent indent first breaks ws some) (v .wrote);
         dashes = rw (lines-are, words-dashes indent first breaks ws some) (v .dashes);
         bounded = rw (a, v .next) (omega (arith, v .wrote .count, b, l, sent-longest first indent ws));
         counted = rw (a, v .next) (omega (arith, v .dashes, b, k, few-longest first indent ws));
       }
 
-  many : mostWords < length ws → tooMany mostWords (meant block o) (paragraph q) ≡ true
-  many h = rw words-count (lt-ltb mostWords (length ws) h)
+  many : (room : ℕ) → room < length ws → tooMany room (meant block o) (paragraph q) ≡ true
+  many room h = rw words-count (lt-ltb room (length ws) h)
 
 module _ (block notes : List ℕ) (o : Options) (ready : Ready block notes o) (c : Cursor) {p : ParagraphAt} (g : TextGoes (meant block o) (c .mail) notes (c .at) p) where
   pub text-placed : Placed notes (c .at) o p
   text-placed = placed block notes o ready (c .mail) (c .at) p (g .paragraph-is) (g .goes) (g .text) (g .bounds)
 
-  pub text-stepped : (out out′ : List ℕ) (r : Step) → TextStepped notes c o p out out′ r block → PieceStepped (meant block o) notes out c out′ r
-  text-stepped out out′ (On d) w = put block notes o ready (c .mail) (c .at) p (g .paragraph-is) (g .goes) (g .text) (g .bounds) out c d out′ refl refl w
-  text-stepped out out′ Over w = (long-here (meant block o) (g .goes) (many block notes o ready (c .mail) (c .at) p (g .paragraph-is) (g .goes) (g .text) (g .bounds) (w .0)), w .1)
+  pub text-stepped : (room : ℕ) (out out′ : List ℕ) (r : Step) → TextStepped room notes c o p out out′ r block → PieceStepped room (meant block o) notes out c out′ r
+  text-stepped room out out′ (On d) w = put block notes o ready (c .mail) (c .at) p (g .paragraph-is) (g .goes) (g .text) (g .bounds) room out c d out′ refl refl w
+  text-stepped room out out′ Over w = (long-here room (meant block o) (g .goes) (many block notes o ready (c .mail) (c .at) p (g .paragraph-is) (g .goes) (g .text) (g .bounds) room (w .0)), w .1)
 
 -- ---- the loop over the pieces
 
@@ -255,38 +259,38 @@ module _ (o : Opts) (notes : List ℕ) where
     dashes-more = ap (dashesIn o) (g .pieces) ∙ ap (λ (k : Kind). pieceDashes o k + dashesFor o state notes next) (g .is)
 
   -- what the cursor and the output have come to
-  pub record Going (out₀ : List ℕ) (c : Cursor) (out : List ℕ) : Type 0 where
+  pub record Going (room : ℕ) (out₀ : List ℕ) (c : Cursor) (out : List ℕ) : Type 0 where
     pub stands : CursorIn notes c
     pub left : Left out₀ 0 (flowed o notes) out (c .written) (flowedFrom o (c .mail) notes (c .at))
     pub dashes : c .dashes + dashesFor o (c .mail) notes (c .at) ≡ dashesIn o (pieces o notes)
-    pub long : longFrom o (c .mail) notes (c .at) ≡ longParagraph mostWords o 0 (pieces o notes)
+    pub long : longFrom room o (c .mail) notes (c .at) ≡ longParagraph room o 0 (pieces o notes)
 
-  pub going-first : (out : List ℕ) → Going out (record { at = 0; written = 0; mail = true; dashes = 0 }) out
-  going-first out = record {
+  pub going-first : (room : ℕ) (out : List ℕ) → Going room out (record { at = 0; written = 0; mail = true; dashes = 0 }) out
+  going-first room out = record {
     stands = record { within = omega arith; bounded = omega arith; few = omega arith };
     left = rw all-sent (left-first out 0 (flowed o notes));
     dashes = omega (arith, all-dashes);
-    long = all-long o notes;
+    long = all-long room o notes;
   }
 
-  module _ {out₀ : List ℕ} {c : Cursor} {out : List ℕ} (g : Going out₀ c out) where
+  module _ {room : ℕ} {out₀ : List ℕ} {c : Cursor} {out : List ℕ} (g : Going room out₀ c out) where
     pub going-length : length out ≡ length out₀
     going-length = sym (length-written (c .written) out (flowedFrom o (c .mail) notes (c .at))) ∙ ap length (g .left .bytes) ∙ length-written 0 out₀ (flowed o notes)
 
-    pub going-on : {d : Cursor} {out′ : List ℕ} → Put o notes out c d out′ → Going out₀ d out′
+    pub going-on : {d : Cursor} {out′ : List ℕ} → Put room o notes out c d out′ → Going room out₀ d out′
     going-on {d} {out′} p = record {
       stands = record { within = p .goes .within; bounded = omega (arith, g .stands .bounded, p .bounded); few = omega (arith, g .stands .few, p .counted) };
       left = left-then {d = joined sent (sentLines o (p .kind))} {e = flowedFrom o (d .mail) notes (d .at)} (rw (sent-more (p .goes)) at (g .left)) (p .wrote);
       dashes = omega (arith, g .dashes, p .dashes, dashes-more (p .goes));
-      long = sym (long-more o (p .goes) (p .few)) ∙ g .long;
+      long = sym (long-more room o (p .goes) (p .few)) ∙ g .long;
     }
 
-    pub going-over : {out′ : List ℕ} → (longFrom o (c .mail) notes (c .at) ≡ At (c .at)) × (out′ ≡ out) → Finished o notes out₀ out′ (Stopped (c .at))
+    pub going-over : {out′ : List ℕ} → (longFrom room o (c .mail) notes (c .at) ≡ At (c .at)) × (out′ ≡ out) → Finished room o notes out₀ out′ (Stopped (c .at))
     going-over t = (sym (g .long) ∙ t .0, ap length (t .1) ∙ going-length, g .stands .within)
 
-    pub going-last : length notes ≤ c .at → Finished o notes out₀ out (All (c .written) (c .dashes))
+    pub going-last : length notes ≤ c .at → Finished room o notes out₀ out (All (c .written) (c .dashes))
     going-last h = (
-      sym (g .long) ∙ long-none o (c .mail) notes (c .at) h,
+      sym (g .long) ∙ long-none room o (c .mail) notes (c .at) h,
       left-last (rw (sent-none (c .mail) (c .at) h) at (g .left)) (wrote-nil out (c .written)),
       omega (arith, g .dashes, dashes-none (c .mail) (c .at) h),
       omega (arith, g .stands .bounded, g .stands .within),
@@ -294,9 +298,9 @@ module _ (o : Opts) (notes : List ℕ) where
 
 -- ---- by what came of a piece
 
-module _ (o : Opts) (notes out out′ : List ℕ) (c : Cursor) {r : Step} (s : PieceStepped o notes out c out′ r) where
-  pub stepped-on : {d : Cursor} → r ≡ On d → Put o notes out c d out′
+module _ (room : ℕ) (o : Opts) (notes out out′ : List ℕ) (c : Cursor) {r : Step} (s : PieceStepped room o notes out c out′ r) where
+  pub stepped-on : {d : Cursor} → r ≡ On d → Put room o notes out c d out′
   stepped-on e = rw e at s
 
-  pub stepped-over : r ≡ Over → (longFrom o (c .mail) notes (c .at) ≡ At (c .at)) × (out′ ≡ out)
+  pub stepped-over : r ≡ Over → (longFrom room o (c .mail) notes (c .at) ≡ At (c .at)) × (out′ ≡ out)
   stepped-over e = rw e at s

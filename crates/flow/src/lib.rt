@@ -24,13 +24,15 @@ ghost use Rattle.records.specs.Contracts.Table.{Within};
 ghost use Rattle.output.specs.Contracts.Sink.{Wrote};
 ghost use Rattle.output.specs.Contracts.Writers.{marginOf, MarginIn, Laid};
 ghost use Rattle.paragraphs.specs.Contracts.Steps.{roomFor, settingFor, Placed};
-ghost use Rattle.walk.specs.Digest.{mostWords};
 ghost use Rattle.unflow.specs.Flowed.{stuffing, isDashes};
-ghost use Rattle.flow.specs.Flow.{plainSent, trimmed, sent};
+ghost use Rattle.pieces.specs.Pieces.{pieces};
+ghost use Rattle.walk.specs.Work.{workFor};
 ghost use Rattle.formatter.specs.Format.{document01};
-ghost use Rattle.flow.specs.Answers.{flagsOf, flow as flowOf, dashesOf};
+ghost use Rattle.formatter.specs.Work.{lending};
+ghost use Rattle.flow.specs.Flow.{plainSent, trimmed, sent, flowed, dashesIn};
+ghost use Rattle.flow.specs.Answers.{flagsOf, sentIn, flow as flowOf, dashesOf};
 ghost use Rattle.flow.specs.Contracts.Words.{lineEnd};
-ghost use Rattle.flow.specs.Contracts.Sending.{switched, Ready, refusedFor, shaped, Opens, Turned, RestSent, ParagraphSent, TextStepped, CursorIn, PieceStepped, Finished, Sends, leftOf, leftDashes};
+ghost use Rattle.flow.specs.Contracts.Sending.{switched, Ready, refusedFor, shaped, Opens, Turned, RestSent, ParagraphSent, TextStepped, CursorIn, PieceStepped, Finished, Sends, leftOf, ifDone, leftDashes};
 
 // What the writer answers: the reply of a writing call, and the count of lines `--`.
 pub struct Outcome {
@@ -84,6 +86,22 @@ pub fn flow(block: &[u8], notes: &[u8], out: &mut [u8]) -> Outcome
     match formatter::admit(block, notes) {
         Admission::Refused(reply) => Outcome { reply, dashes: 0 },
         Admission::Passed(o) => send_notes(mailed(o), block, notes, out),
+    }
+}
+
+// The same with working room that is lent.
+pub fn flow_lent(block: &[u8], notes: &[u8], out: &mut [u8], work: &mut [u32]) -> Outcome
+    ensures { λ r. ⌜ Sends (flowOf (lending (length (now (work .entry)))) (now (block .entry)) (now (notes .entry)) (length (now (out .entry)))) (dashesOf (lending (length (now (work .entry)))) (now (block .entry)) (now (notes .entry)) (length (now (out .entry)))) (now (out .entry)) r (now (out .exit)) ⌝ }
+{
+    if is_unfit(block) {
+        return Outcome {
+            reply: Reply::Options(block.len()),
+            dashes: 0,
+        };
+    }
+    match formatter::admit_within(block, notes, formatter::MOST_LARGE) {
+        Admission::Refused(reply) => Outcome { reply, dashes: 0 },
+        Admission::Passed(o) => send_large(mailed(o), block, notes, out, work),
     }
 }
 
@@ -157,12 +175,16 @@ fn mailed(o: Options) -> Options
     }
 }
 
+// The room, in numbers, for the most words that a paragraph may have: seven a word.
+const QUICK_MOST: usize = 7168;
+
 // Writes what fits of the notes, and counts what is needed.
 fn send_notes(o: Options, block: &[u8], notes: &[u8], out: &mut [u8]) -> Outcome
     requires { ⌜ Ready (now block) (now notes) o ⌝ }
-    ensures { λ r. ⌜ Sends (leftOf (meant (now (block .entry)) o) (now (notes .entry)) (length (now (out .entry)))) (leftDashes (meant (now (block .entry)) o) (now (notes .entry)) (length (now (out .entry)))) (now (out .entry)) r (now (out .exit)) ⌝ }
+    ensures { λ r. ⌜ Sends (leftOf document01 (meant (now (block .entry)) o) (now (notes .entry)) (length (now (out .entry)))) (leftDashes document01 (meant (now (block .entry)) o) (now (notes .entry)) (length (now (out .entry)))) (now (out .entry)) r (now (out .exit)) ⌝ }
 {
-    match send_pieces(o, block, notes, out) {
+    let mut work = [0u32; QUICK_MOST];
+    match send_pieces(o, block, notes, out, &mut work) {
         Ended::Stopped(place) => {
             walk::clear(out);
             Outcome {
@@ -186,15 +208,82 @@ fn send_notes(o: Options, block: &[u8], notes: &[u8], out: &mut [u8]) -> Outcome
     }
 }
 
-// The room, in numbers, for the most words that a paragraph may have: seven a word.
-const QUICK_MOST: usize = 7168;
+// The same with lent room. The need is counted before a byte is written.
+fn send_large(
+    o: Options,
+    block: &[u8],
+    notes: &[u8],
+    out: &mut [u8],
+    work: &mut [u32],
+) -> Outcome
+    requires { ⌜ Ready (now block) (now notes) o ⌝ }
+    ensures { λ r. ⌜ Sends (leftOf (lending (length (now (work .entry)))) (meant (now (block .entry)) o) (now (notes .entry)) (length (now (out .entry)))) (leftDashes (lending (length (now (work .entry)))) (meant (now (block .entry)) o) (now (notes .entry)) (length (now (out .entry)))) (now (out .entry)) r (now (out .exit)) ⌝ }
+{
+    let lends = work.len();
+    let needed = walk::work_with(o, block, notes, lends);
+    if lends < needed {
+        return Outcome {
+            reply: Reply::Work(needed),
+            dashes: 0,
+        };
+    }
+    send_enough(o, block, notes, out, work)
+}
+
+// N has 32 bits: what is longer is refused for want of room.
+const MOST_TOLD: usize = 4294967295;
+
+// With room for every paragraph.
+fn send_enough(
+    o: Options,
+    block: &[u8],
+    notes: &[u8],
+    out: &mut [u8],
+    work: &mut [u32],
+) -> Outcome
+    requires { ⌜ Ready (now block) (now notes) o × (workFor (meant (now block) o) (now notes) ≤ length (now work)) ⌝ }
+    ensures { λ r. ⌜ Sends (sentIn (lending (length (now (work .entry))) .words) (length (now (out .entry))) (flowed (meant (now (block .entry)) o) (now (notes .entry)))) (ifDone (sentIn (lending (length (now (work .entry))) .words) (length (now (out .entry))) (flowed (meant (now (block .entry)) o) (now (notes .entry)))) (dashesIn (meant (now (block .entry)) o) (pieces (meant (now (block .entry)) o) (now (notes .entry))))) (now (out .entry)) r (now (out .exit)) ⌝ }
+{
+    match send_pieces(o, block, notes, out, work) {
+        // There is room for every paragraph, so the work does not stop.
+        Ended::Stopped(place) => Outcome {
+            reply: Reply::Words(place),
+            dashes: 0,
+        },
+        Ended::All { written, dashes } => {
+            if MOST_TOLD < written {
+                walk::clear(out);
+                return Outcome {
+                    reply: Reply::Room(MOST_TOLD),
+                    dashes: 0,
+                };
+            }
+            if written <= out.len() {
+                return Outcome {
+                    reply: Reply::Done(written),
+                    dashes,
+                };
+            }
+            walk::clear(out);
+            Outcome {
+                reply: Reply::Room(written),
+                dashes: 0,
+            }
+        }
+    }
+}
 
 // Piece by piece. The work goes on when no room is left: too many words, found later, take precedence.
-fn send_pieces(o: Options, block: &[u8], notes: &[u8], out: &mut [u8]) -> Ended
+fn send_pieces(
+    o: Options,
+    block: &[u8],
+    notes: &[u8],
+    out: &mut [u8],
+    work: &mut [u32],
+) -> Ended
     requires { ⌜ Ready (now block) (now notes) o ⌝ }
-    ensures { λ r. ⌜ Finished (meant (now (block .entry)) o) (now (notes .entry)) (now (out .entry)) (now (out .exit)) r ⌝ }
+    ensures { λ r. ⌜ Finished (roomFor true (length (now (work .entry)))) (meant (now (block .entry)) o) (now (notes .entry)) (now (out .entry)) (now (out .exit)) r ⌝ }
 {
-    let mut work = [0u32; QUICK_MOST];
     let mut c = Cursor {
         at: 0,
         written: 0,
@@ -202,7 +291,7 @@ fn send_pieces(o: Options, block: &[u8], notes: &[u8], out: &mut [u8]) -> Ended
         dashes: 0,
     };
     while c.at < notes.len() {
-        let Step::On(d) = send_piece(o, block, notes, c, out, &mut work) else {
+        let Step::On(d) = send_piece(o, block, notes, c, out, work) else {
             return Ended::Stopped(c.at);
         };
         c = d;
@@ -222,8 +311,8 @@ fn send_piece(
     out: &mut [u8],
     work: &mut [u32],
 ) -> Step
-    requires { ⌜ Ready (now block) (now notes) o × CursorIn (now notes) c × (c .at < length (now notes)) × (roomFor true (length (now work)) ≡ mostWords) ⌝ }
-    ensures { λ r. ⌜ PieceStepped (meant (now (block .entry)) o) (now (notes .entry)) (now (out .entry)) c (now (out .exit)) r ⌝ }
+    requires { ⌜ Ready (now block) (now notes) o × CursorIn (now notes) c × (c .at < length (now notes)) ⌝ }
+    ensures { λ r. ⌜ PieceStepped (roomFor true (length (now (work .entry)))) (meant (now (block .entry)) o) (now (notes .entry)) (now (out .entry)) c (now (out .exit)) r ⌝ }
 {
     let at = c.at;
     match pieces::next_piece(notes, at, o, block, c.mail) {
@@ -252,8 +341,8 @@ fn send_text(
     out: &mut [u8],
     work: &mut [u32],
 ) -> Step
-    requires { ⌜ Placed (now notes) (c .at) o p × (roomFor true (length (now work)) ≡ mostWords) × (c .written < 2 ^ 62) × (c .dashes < 2 ^ 62) × (o .uniform ≡ true) ⌝ }
-    ensures { λ r. ⌜ ((block : List ℕ) → TextStepped (now (notes .entry)) c o p (now (out .entry)) (now (out .exit)) r block) ⌝ }
+    requires { ⌜ Placed (now notes) (c .at) o p × (c .written < 2 ^ 62) × (c .dashes < 2 ^ 62) × (o .uniform ≡ true) ⌝ }
+    ensures { λ r. ⌜ ((block : List ℕ) → TextStepped (roomFor true (length (now (work .entry)))) (now (notes .entry)) c o p (now (out .entry)) (now (out .exit)) r block) ⌝ }
 {
     let most = paragraphs::room_for(true, work.len());
     let Count::Words(n) = words::split_words(

@@ -6,3 +6,4 @@ pub mod Values
 pub mod Unique
 pub mod Refusals
 pub mod Work
+pub mod Lent

@@ -1,7 +1,7 @@
 -- The replies, case by case: what each refusal and a digest leave behind, and what measuring tells.
 use mathlib.Core.Path.{_≡_, refl, sym, ap, _∙_}
 use mathlib.Core.List.{List}
-use Prim.Native.Nat.{ℕ, _≤_, _<_}
+use Prim.Native.Nat.{ℕ, _≤_, _<_, max}
 use native.Mathlib.Omega.{arith}
 use lib.ListN.{length, replicate}
 use borrow.Author.Tests.{lt-ltb, le-ltb, le-leb, lt-leb}
@@ -16,13 +16,15 @@ use Rattle.lines.specs.Contracts.Places.{mostLarge}
 use Rattle.pieces.specs.Pieces.{pieces}
 use Rattle.output.specs.Contracts.Sink.{Wrote}
 use Rattle.output.proofs.Sink.{written-fits, wrote-length}
-use Rattle.formatter.specs.Answers.{Answer, done, options, long, text, outputAfter}
+use Rattle.formatter.specs.Answers.{Answer, done, options, long, text, room, work, outputAfter}
 use Rattle.walk.specs.Digest.{mostWords, digest, longParagraph}
-use Rattle.formatter.specs.Format.{Limits, document01, withText, damageIn, withNotes, withBlock, withDigest, measured, measuring, inRoom, writing}
+use Rattle.formatter.specs.Format.{Words, Limits, document01, within, withWork, withText, damageIn, withNotes, withBlock, withDigest, mostTold, measured, measuring, inRoom, writing}
+use Rattle.formatter.specs.Work.{mostLent, lending}
+use Rattle.walk.specs.Work.{workFor}
 use Rattle.walk.specs.Contracts.Course.{Finished}
-use Rattle.formatter.specs.Contracts.Call.{told, Answers, leftOf, AdmitsNotes, Admits}
+use Rattle.formatter.specs.Contracts.Call.{told, Answers, Refuses, leftOf, AdmitsNotes, Admits, AdmitsWithin, AdmitsWork, AdmitsLent}
 use Rattle.formatter.specs.declared.Reply.{Reply}
-use Rattle.formatter.specs.declared.Reply.the-variants.{Done, Options as Faulty, Long, Text, Words, Room}
+use Rattle.formatter.specs.declared.Reply.the-variants.{Done, Options as Faulty, Long, Text, Words as Many, Room, Work}
 use Rattle.formatter.specs.declared.Admission.{Admission}
 use Rattle.formatter.specs.declared.Admission.the-variants.{Refused, Passed}
 use Rattle.walk.specs.declared.Ended.{Ended}
@@ -31,7 +33,7 @@ use Rattle.formatter.proofs.Together.{written-at-once}
 
 -- ---- with the options and notes that are to be formatted
 
-module _ (o : Opts) (notes out out′ : List ℕ) (r : Ended) (f : Finished o notes out out′ r) where
+module _ (o : Opts) (notes out out′ : List ℕ) (r : Ended) (f : Finished mostWords o notes out out′ r) where
   all-of : {n : ℕ} → r ≡ All n → (longParagraph mostWords o 0 (pieces o notes) ≡ Nowhere) × Wrote out 0 (digest o notes) out′ n
   all-of e = rw e at f
 
@@ -39,7 +41,7 @@ module _ (o : Opts) (notes out out′ : List ℕ) (r : Ended) (f : Finished o no
   stopped-of e = rw e at f
 
   -- too many words: all zero
-  pub words-answer : {place : ℕ} → r ≡ Stopped place → Answers (leftOf document01 o notes (withDigest (length out))) out (Words place) out′
+  pub words-answer : {place : ℕ} → r ≡ Stopped place → Answers (leftOf document01 o notes (withDigest (length out))) out (Many place) out′
   unfolding outputAfter
   words-answer e = let s = stopped-of e in rw (s .0) (record { is = refl; output = s .1 })
 
@@ -65,7 +67,7 @@ module _ (o : Opts) (notes out out′ : List ℕ) (r : Ended) (f : Finished o no
       rw (w .0, lt-leb (length (digest o notes)) (length out) over) (record { is = ap Room c; output = z ∙ ap (λ (k : ℕ). replicate k 0) l })
 
   -- measured: the same without an output
-  pub words-measured : {place : ℕ} → r ≡ Stopped place → Words place ≡ told (leftOf document01 o notes done)
+  pub words-measured : {place : ℕ} → r ≡ Stopped place → Many place ≡ told (leftOf document01 o notes done)
   words-measured e = rw (stopped-of e .0)
 
   pub done-measured : {n : ℕ} → r ≡ All n → Done n ≡ told (leftOf document01 o notes done)
@@ -75,6 +77,10 @@ module _ (o : Opts) (notes out out′ : List ℕ) (r : Ended) (f : Finished o no
       rw (w .0) (ap Done c)
 
 -- ---- with the options of an accepted block
+
+-- up to so many bytes, however many words a paragraph may have
+abbrev pub limits : ℕ → Words → Limits
+limits bytes w = record { bytes = bytes; words = w }
 
 module _ (l : Limits) (block notes : List ℕ) (o : Options) where
   notes-are : (then : List ℕ → Answer) (f : Found) → length notes ≤ l .bytes → f ≡ damageIn (o .keep) notes → withNotes l then (meant block o) notes ≡ withText (l .words) then (meant block o) notes f
@@ -105,6 +111,22 @@ module _ (l : Limits) (block notes : List ℕ) (b : Block) (read : b ≡ readBlo
 
 -- ---- what is replied to it
 
+-- what becomes of the digest in an output of so many bytes
+abbrev pub inOutput : Limits → List ℕ → List ℕ → Answer
+inOutput l out d = inRoom (length out) (measured (l .words) d)
+
+module _ (l : Limits) (block notes : List ℕ) where
+  as-written : (out : List ℕ) (w : Answer) {r : Reply} {out′ : List ℕ} → withBlock l (inOutput l out) block notes (readBlock block) ≡ w → Answers w out r out′ → Answers (writing l block notes (length out)) out r out′
+  as-written out w e h = rw (written-at-once l block notes (length out) ∙ e) h
+
+  module _ {most : ℕ} {r : Reply} where
+    pub refusal-measured : Refuses most (λ then. withBlock l then block notes (readBlock block)) r → r ≡ told (measuring l block notes)
+    unfolding measuring
+    refusal-measured f = f .is ∙ ap told (sym (f .whole-is (measured (l .words))))
+
+    refusal-written : (out : List ℕ) → Refuses most (λ then. withBlock l then block notes (readBlock block)) r → Answers (writing l block notes (length out)) out r out
+    refusal-written out f = as-written out (f .refusal) (f .whole-is (inOutput l out)) (record { is = f .is; output = sym (f .untouched out) })
+
 module _ (l : Limits) (block notes : List ℕ) (a : Admission) (admits : Admits l block notes a) where
   pub refused-of : {r : Reply} → a ≡ Refused r → Admits l block notes (Refused r)
   refused-of e = rw e at admits
@@ -113,22 +135,92 @@ module _ (l : Limits) (block notes : List ℕ) (a : Admission) (admits : Admits 
   passed-of e = rw e at admits
 
   pub refused-measured : {r : Reply} → a ≡ Refused r → r ≡ told (measuring l block notes)
-  unfolding measuring
-  refused-measured e = let f = refused-of e in f .is ∙ ap told (sym (f .whole-is (measured (l .words))))
+  refused-measured e = refusal-measured l block notes (refused-of e)
 
   pub passed-measured : {o : Options} {r : Reply} → a ≡ Passed o → r ≡ told (leftOf l (meant block o) notes (measured (l .words))) → r ≡ told (measuring l block notes)
   unfolding measuring
   passed-measured e h = h ∙ ap told (sym (passed-of e .1 (measured (l .words))))
 
-  -- what becomes of the digest in an output of so many bytes
-  abbrev inOutput : List ℕ → List ℕ → Answer
-  inOutput out d = inRoom (length out) (measured (l .words) d)
-
-  as-written : (out : List ℕ) (w : Answer) {r : Reply} {out′ : List ℕ} → withBlock l (inOutput out) block notes (readBlock block) ≡ w → Answers w out r out′ → Answers (writing l block notes (length out)) out r out′
-  as-written out w e h = rw (written-at-once l block notes (length out) ∙ e) h
-
   pub refused-written : (out : List ℕ) {r : Reply} → a ≡ Refused r → Answers (writing l block notes (length out)) out r out
-  refused-written out e = let f = refused-of e in as-written out (f .refusal) (f .whole-is (inOutput out)) (record { is = f .is; output = sym (f .untouched out) })
+  refused-written out e = refusal-written l block notes out (refused-of e)
 
-  pub passed-written : (out : List ℕ) {o : Options} {r : Reply} {out′ : List ℕ} → a ≡ Passed o → Answers (leftOf l (meant block o) notes (inOutput out)) out r out′ → Answers (writing l block notes (length out)) out r out′
-  passed-written out {o} e h = as-written out (leftOf l (meant block o) notes (inOutput out)) (passed-of e .1 (inOutput out)) h
+  pub passed-written : (out : List ℕ) {o : Options} {r : Reply} {out′ : List ℕ} → a ≡ Passed o → Answers (leftOf l (meant block o) notes (inOutput l out)) out r out′ → Answers (writing l block notes (length out)) out r out′
+  passed-written out {o} e h = as-written l block notes out (leftOf l (meant block o) notes (inOutput l out)) (passed-of e .1 (inOutput l out)) h
+
+-- ---- where working room is lent
+
+module _ (lends : ℕ) (block notes : List ℕ) where
+  pub within-refused : {a : Admission} {r : Reply} → AdmitsWithin mostLent block notes a → a ≡ Refused r → AdmitsLent lends block notes (Refused r)
+  within-refused s e = let f : Admits (lending lends) block notes (Refused _) = rw e at (s (lending lends .words)) in
+      record { refusal = f .refusal; is = f .is; whole-is = f .whole-is; untouched = f .untouched; early = omega (arith, f .early) }
+
+  -- code 12 is due exactly where less is lent than is needed
+  pub work-refused : (o : Opts) (p : Options) (needed : ℕ) → needed ≡ max lends (workFor o notes) → lends < needed → AdmitsWork lends o notes p (Refused (Work needed))
+  unfolding outputAfter
+  work-refused o p needed e h =
+      let n : needed ≡ workFor o notes = omega arith in
+      record { refusal = work needed; is = refl; whole-is = λ then. rw (within, withWork, lt-ltb lends (workFor o notes) (omega arith), n); untouched = λ out. refl; early = omega arith }
+
+  pub work-passed : (o : Opts) (p : Options) (needed : ℕ) → needed ≡ max lends (workFor o notes) → needed ≤ lends → AdmitsWork lends o notes p (Passed p)
+  work-passed o p needed e h = (refl, omega arith)
+
+  pub lent-admits : {a : Admission} {o : Options} (r : Admission) → AdmitsWithin mostLent block notes a → a ≡ Passed o → AdmitsWork lends (meant block o) notes o r → AdmitsLent lends block notes r
+  lent-admits {a} {o} (Refused r) s e w =
+      let f : Admits (lending lends) block notes (Passed o) = rw e at (s (lending lends .words)) in
+      record { refusal = w .refusal; is = w .is; whole-is = λ then. f .1 then ∙ w .whole-is then; untouched = w .untouched; early = w .early }
+  lent-admits {a} {o} (Passed p) s e w =
+      let f : Admits (lending lends) block notes (Passed o) = rw e at (s (lending lends .words)) in
+      rw (w .0) (f .0, λ then. f .1 then ∙ rw (within, withWork, le-ltb lends (workFor (meant block o) notes) (w .1)), w .1)
+
+  module _ (a : Admission) (admits : AdmitsLent lends block notes a) where
+    pub lent-passed : {o : Options} → a ≡ Passed o → AdmitsLent lends block notes (Passed o)
+    lent-passed e = rw e at admits
+
+    lent-refused : {r : Reply} → a ≡ Refused r → AdmitsLent lends block notes (Refused r)
+    lent-refused e = rw e at admits
+
+    pub lent-refused-measured : {r : Reply} → a ≡ Refused r → r ≡ told (measuring (lending lends) block notes)
+    lent-refused-measured e = refusal-measured (lending lends) block notes (lent-refused e)
+
+    pub lent-passed-measured : {o : Options} {r : Reply} → a ≡ Passed o → r ≡ told (measured (lending lends .words) (digest (meant block o) notes)) → r ≡ told (measuring (lending lends) block notes)
+    unfolding measuring
+    lent-passed-measured e h = h ∙ ap told (sym (lent-passed e .1 (measured (lending lends .words))))
+
+    pub lent-refused-written : (out : List ℕ) {r : Reply} → a ≡ Refused r → Answers (writing (lending lends) block notes (length out)) out r out
+    lent-refused-written out e = refusal-written (lending lends) block notes out (lent-refused e)
+
+    pub lent-passed-written : (out : List ℕ) {o : Options} {r : Reply} {out′ : List ℕ} → a ≡ Passed o → Answers (inOutput (lending lends) out (digest (meant block o) notes)) out r out′ → Answers (writing (lending lends) block notes (length out)) out r out′
+    lent-passed-written out {o} e h = as-written (lending lends) block notes out (inOutput (lending lends) out (digest (meant block o) notes)) (lent-passed e .1 (inOutput (lending lends) out)) h
+
+-- what is measured, and what is written, of a digest that was put into an output as far as it fits
+module _ (lends : ℕ) (d out out′ : List ℕ) (n : ℕ) (w : Wrote out 0 d out′ n) where
+  counted : n ≡ length d
+  counted = omega (arith, w .count)
+
+  told-is : n ≤ mostTold → measured (lending lends .words) d ≡ done d
+  told-is h = rw (le-leb (length d) mostTold (omega (arith, counted)))
+
+  untold-is : mostTold < n → measured (lending lends .words) d ≡ room mostTold
+  untold-is h = rw (lt-leb (length d) mostTold (omega (arith, counted)))
+
+  pub told-measured : n ≤ mostTold → Done n ≡ told (measured (lending lends .words) d)
+  told-measured h = rw (told-is h) (ap Done counted)
+
+  pub untold-measured : mostTold < n → Room mostTold ≡ told (measured (lending lends .words) d)
+  untold-measured h = rw (untold-is h)
+
+  pub untold-written : {clear : List ℕ} → mostTold < n → clear ≡ replicate (length out′) 0 → Answers (inRoom (length out) (measured (lending lends .words) d)) out (Room mostTold) clear
+  unfolding outputAfter
+  untold-written h z = rw (untold-is h) (record { is = refl; output = z ∙ ap (λ (k : ℕ). replicate k 0) (wrote-length w) })
+
+  pub done-written : n ≤ mostTold → n ≤ length out′ → Answers (inRoom (length out) (measured (lending lends .words) d)) out (Done n) out′
+  unfolding outputAfter
+  done-written h k =
+      let l = wrote-length w in
+      rw (told-is h, le-leb (length d) (length out) (omega (arith, counted, l))) (record { is = ap Done counted; output = w .bytes ∙ written-fits 0 out d (omega (arith, counted, l)) })
+
+  pub room-written : {clear : List ℕ} → n ≤ mostTold → length out′ < n → clear ≡ replicate (length out′) 0 → Answers (inRoom (length out) (measured (lending lends .words) d)) out (Room n) clear
+  unfolding outputAfter
+  room-written h k z =
+      let l = wrote-length w in
+      rw (told-is h, lt-leb (length d) (length out) (omega (arith, counted, l))) (record { is = ap Room counted; output = z ∙ ap (λ (k : ℕ). replicate k 0) l })

@@ -71,7 +71,7 @@ next-of o nextMail notes at (Text p) t = record {
 module _ (o : Opts) (notes : List ℕ) (least : 1 ≤ o .tab) (most : o .tab ≤ 100) (short : length notes ≤ mostLarge) (cleared : o .split ≡ true → (o .crown || o .tagged) ≡ false) where
   -- from a place on: the output's length
   abbrev Small : (nextMail : Bool) (at : ℕ) → Type 0
-  Small nextMail at = longFrom o nextMail notes at ≡ Nowhere → length (outputFrom o nextMail notes at) + 1040 * at ≤ 1040 * length notes
+  Small nextMail at = longFrom mostWords o nextMail notes at ≡ Nowhere → length (outputFrom o nextMail notes at) + 1040 * at ≤ 1040 * length notes
 
   small-past : (nextMail : Bool) (at : ℕ) → at ≤ length notes → length notes ≤ at → Small nextMail at
   small-past nextMail at h k e = rw (output-none o nextMail notes at k) (omega arith)
@@ -80,8 +80,8 @@ module _ (o : Opts) (notes : List ℕ) (least : 1 ≤ o .tab) (most : o .tab ≤
   small-more nextMail at h n s e = go (tooMany mostWords o (n .kind)) refl
     where
       go : (t : Bool) → tooMany mostWords o (n .kind) ≡ t → length (outputFrom o nextMail notes at) + 1040 * at ≤ 1040 * length notes
-      go true t = absurd (let q = long-here o (n .goes) t in let z : _≡_ {A = ℕ} 0 1 = cc in omega arith)
-      go false t = rw (output-more o (n .goes), length-append) (omega (arith, n .bounded t, s (sym (long-more o (n .goes) t) ∙ e)))
+      go true t = absurd (let q = long-here mostWords o (n .goes) t in let z : _≡_ {A = ℕ} 0 1 = cc in omega arith)
+      go false t = rw (output-more o (n .goes), length-append) (omega (arith, n .bounded t, s (sym (long-more mostWords o (n .goes) t) ∙ e)))
 
   small : (k : ℕ) (nextMail : Bool) (at : ℕ) → at ≤ length notes → length notes ≤ at + k → Small nextMail at
   small zero nextMail at h k = small-past nextMail at h (omega arith)
@@ -97,7 +97,7 @@ module _ (o : Opts) (notes : List ℕ) (least : 1 ≤ o .tab) (most : o .tab ≤
 
   -- without a paragraph of too many words, the digest has at most so many bytes for each byte of the notes
   pub digest-most : longParagraph mostWords o 0 (pieces o notes) ≡ Nowhere → length (digest o notes) ≤ 1040 * length notes
-  digest-most e = let s = small (length notes) true 0 (omega arith) (omega arith) (all-long o notes ∙ e) in omega (arith, ap length (all-output o notes))
+  digest-most e = let s = small (length notes) true 0 (omega arith) (omega arith) (all-long mostWords o notes ∙ e) in omega (arith, ap length (all-output o notes))
 
 -- ---- a paragraph of too many words
 
@@ -261,8 +261,8 @@ small-fits : (a : Answer) → value a ≤ mostTold → replyNumber (told a) < 2 
 unfolding numbered
 small-fits a v = let c = code-most a in rw told-number (omega arith)
 
-pub measured-fits : (block notes : List ℕ) → replyNumber (told (measuring document01 block notes)) < 2 ^ 64
-measured-fits block notes = small-fits (measuring document01 block notes) (measured-value document01 document01-sound block notes)
+pub measured-fits : (l : Limits) → Sound l → (block notes : List ℕ) → replyNumber (told (measuring l block notes)) < 2 ^ 64
+measured-fits l sound block notes = small-fits (measuring l block notes) (measured-value l sound block notes)
 
-pub written-fits : (block notes : List ℕ) (space : ℕ) → replyNumber (told (writing document01 block notes space)) < 2 ^ 64
-written-fits block notes space = small-fits (writing document01 block notes space) (written-value document01 document01-sound block notes space)
+pub written-fits : (l : Limits) → Sound l → (block notes : List ℕ) (space : ℕ) → replyNumber (told (writing l block notes space)) < 2 ^ 64
+written-fits l sound block notes space = small-fits (writing l block notes space) (written-value l sound block notes space)

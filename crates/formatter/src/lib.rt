@@ -5,13 +5,17 @@ use text::Found;
 use walk::Ended;
 ghost use mathlib.Core.Path.{_≡_};
 ghost use mathlib.Core.List.{List};
-ghost use Prim.Native.Nat.{ℕ, _^_, _<_};
+ghost use Prim.Native.Nat.{ℕ, _^_, _≤_, _<_};
 ghost use lib.ListN.{length};
 ghost use Rattle.options.specs.Opts.{meant};
+ghost use Rattle.lines.specs.Contracts.Places.{mostLarge};
+ghost use Rattle.walk.specs.Digest.{digest};
+ghost use Rattle.walk.specs.Work.{workFor};
 ghost use Rattle.walk.specs.Contracts.Course.{Admitted};
 ghost use Rattle.formatter.specs.Answers.{done};
-ghost use Rattle.formatter.specs.Format.{document01, damageIn, withDigest, measuring, writing};
-ghost use Rattle.formatter.specs.Contracts.Call.{told, replyNumber, Answers, leftOf, AdmitsNotes, Admits};
+ghost use Rattle.formatter.specs.Format.{Words, document01, damageIn, withDigest, measured, measuring, inRoom, writing};
+ghost use Rattle.formatter.specs.Work.{lending};
+ghost use Rattle.formatter.specs.Contracts.Call.{told, replyNumber, Answers, leftOf, AdmitsNotes, Admits, AdmitsWithin, AdmitsWork, AdmitsLent};
 
 // What measuring and writing reply: the digest's length, or a refusal with what is told of it. (Measuring has no `Room`, and where no working
 // room is lent there is no `Work`.)
@@ -74,20 +78,30 @@ pub fn write(block: &[u8], notes: &[u8], out: &mut [u8]) -> Reply
 pub fn admit(block: &[u8], notes: &[u8]) -> Admission
     ensures { λ r. ⌜ Admits document01 (now (block .entry)) (now (notes .entry)) r ⌝ }
 {
+    admit_within(block, notes, MOST_BYTES)
+}
+
+// Notes are refused if they are longer; where working room is lent, if they are longer than this.
+const MOST_BYTES: usize = 65536;
+
+pub const MOST_LARGE: usize = 1048576;
+
+// The same with notes of up to so many bytes.
+pub fn admit_within(block: &[u8], notes: &[u8], most: usize) -> Admission
+    requires { ⌜ most ≤ mostLarge ⌝ }
+    ensures { λ r. ⌜ AdmitsWithin most (now (block .entry)) (now (notes .entry)) r ⌝ }
+{
     match options::read_block(block) {
         Block::Fault(place) => Admission::Refused(Reply::Options(place)),
-        Block::Accepted(o) => admit_notes(o, notes),
+        Block::Accepted(o) => admit_notes(o, notes, most),
     }
 }
 
-// Notes are refused if they are longer.
-const MOST_BYTES: usize = 65536;
-
 // The same with the options of an accepted block: codes 2 and 3.
-fn admit_notes(o: Options, notes: &[u8]) -> Admission
-    ensures { λ r. ⌜ ((block : List ℕ) → AdmitsNotes document01 block o (now (notes .entry)) r) ⌝ }
+fn admit_notes(o: Options, notes: &[u8], most: usize) -> Admission
+    ensures { λ r. ⌜ ((w : Words) (block : List ℕ) → AdmitsNotes (record { bytes = most; words = w }) block o (now (notes .entry)) r) ⌝ }
 {
-    if MOST_BYTES < notes.len() {
+    if most < notes.len() {
         return Admission::Refused(Reply::Long);
     }
     match damage_in(o.keep, notes) {
@@ -133,4 +147,81 @@ fn write_notes(o: Options, block: &[u8], notes: &[u8], out: &mut [u8]) -> Reply
             Reply::Room(needed)
         }
     }
+}
+
+// ---- with working room that is lent
+
+// N has 32 bits: a digest that is longer is refused for want of room.
+const MOST_TOLD: usize = 4294967295;
+
+// What measuring replies.
+pub fn measure_lent(block: &[u8], notes: &[u8], work: &mut [u32]) -> Reply
+    ensures { λ r. ⌜ r ≡ told (measuring (lending (length (now (work .entry)))) (now (block .entry)) (now (notes .entry))) ⌝ }
+{
+    match admit_lent(block, notes, work.len()) {
+        Admission::Refused(r) => r,
+        Admission::Passed(o) => measure_large(o, block, notes, work),
+    }
+}
+
+// What writing replies.
+pub fn write_lent(block: &[u8], notes: &[u8], out: &mut [u8], work: &mut [u32]) -> Reply
+    ensures { λ r. ⌜ Answers (writing (lending (length (now (work .entry)))) (now (block .entry)) (now (notes .entry)) (length (now (out .entry)))) (now (out .entry)) r (now (out .exit)) ⌝ }
+{
+    match admit_lent(block, notes, work.len()) {
+        Admission::Refused(r) => r,
+        Admission::Passed(o) => write_large(o, block, notes, out, work),
+    }
+}
+
+// Codes 1 to 3 and 12, or the options with which the notes are to be formatted, in so many numbers. All of it before a byte is written.
+pub fn admit_lent(block: &[u8], notes: &[u8], lends: usize) -> Admission
+    ensures { λ r. ⌜ AdmitsLent lends (now (block .entry)) (now (notes .entry)) r ⌝ }
+{
+    match admit_within(block, notes, MOST_LARGE) {
+        Admission::Refused(r) => Admission::Refused(r),
+        Admission::Passed(o) => admit_work(o, block, notes, lends),
+    }
+}
+
+// Code 12.
+fn admit_work(o: Options, block: &[u8], notes: &[u8], lends: usize) -> Admission
+    requires { ⌜ Admitted (now block) (now notes) o ⌝ }
+    ensures { λ r. ⌜ AdmitsWork lends (meant (now (block .entry)) o) (now (notes .entry)) o r ⌝ }
+{
+    let needed = walk::work_over(o, block, notes, lends);
+    if lends < needed {
+        return Admission::Refused(Reply::Work(needed));
+    }
+    Admission::Passed(o)
+}
+
+// Measures the notes in room that is enough.
+fn measure_large(o: Options, block: &[u8], notes: &[u8], work: &mut [u32]) -> Reply
+    requires { ⌜ Admitted (now block) (now notes) o × (workFor (meant (now block) o) (now notes) ≤ length (now work)) ⌝ }
+    ensures { λ r. ⌜ r ≡ told (measured (lending (length (now (work .entry))) .words) (digest (meant (now (block .entry)) o) (now (notes .entry)))) ⌝ }
+{
+    let mut none = [0u8; 0];
+    let needed = walk::put_all_lent(o, block, notes, &mut none, work);
+    if MOST_TOLD < needed {
+        return Reply::Room(MOST_TOLD);
+    }
+    Reply::Done(needed)
+}
+
+// Writes their digest.
+fn write_large(o: Options, block: &[u8], notes: &[u8], out: &mut [u8], work: &mut [u32]) -> Reply
+    requires { ⌜ Admitted (now block) (now notes) o × (workFor (meant (now block) o) (now notes) ≤ length (now work)) ⌝ }
+    ensures { λ r. ⌜ Answers (inRoom (length (now (out .entry))) (measured (lending (length (now (work .entry))) .words) (digest (meant (now (block .entry)) o) (now (notes .entry))))) (now (out .entry)) r (now (out .exit)) ⌝ }
+{
+    let needed = walk::put_all_lent(o, block, notes, out, work);
+    if MOST_TOLD < needed {
+        walk::clear(out);
+        return Reply::Room(MOST_TOLD);
+    }
+    if needed <= out.len() {
+        return Reply::Done(needed);
+    }
+    walk::clear(out);
+    Reply::Room(needed)
 }

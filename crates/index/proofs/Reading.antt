@@ -1,15 +1,33 @@
 -- Records read off marks: that none runs past the marks, and what one more is, in the list that a loop stores them to.
-use mathlib.Core.Path.{_≡_, refl, ap}
-use mathlib.Core.Bool.{Bool}
+use mathlib.Core.Path.{_≡_, refl, sym, ap, _∙_}
+use mathlib.Core.Bool.{Bool, true, false}
 use mathlib.Core.List.{List, [], _∷_, _++_}
-use Prim.Native.Nat.{ℕ, zero, suc, _+_, _*_, _≤_, _<_}
+use Prim.Native.Nat.{ℕ, zero, suc, _+_, _*_, _^_, _≤_, _<_, min}
 use native.Mathlib.Nat.{not-suc-le-zero, le-of-suc-le-suc}
 use native.Mathlib.Omega.{arith}
-use lib.ListN.{length, set, drop, length-append, length-drop}
+use lib.Dec.{leb}
+use lib.ListN.{length, set, take, drop, length-append, length-take, length-drop}
+use lib.Seq.{take-all, length-take-le}
+use borrow.Author.Tests.{leb-true, leb-false}
 use Rattle.marks.specs.Contracts.Marks.{marksIn, toMark}
 use Rattle.marks.proofs.Laws.{to-mark-within, length-marks}
 use Rattle.index.specs.declared.Record.{Record}
-use Rattle.index.specs.Contracts.Reading.{behind, recordAfter, readFrom}
+use Rattle.index.specs.Contracts.Reading.{front, behind, recordAfter, readFrom}
+
+-- ---- the numbers that may hold marks
+
+pub front-length : (table : List ℕ) (end : ℕ) → end ≡ min (length table) 65536 → end ≡ length (take end table)
+front-length table end e = sym (length-take-le end table (omega (arith, e)))
+
+pub front-is : (table : List ℕ) (end : ℕ) → end ≡ min (length table) 65536 → take end table ≡ front table
+front-is table end e = go (leb (length table) 65536) refl
+  where
+    go : (b : Bool) → leb (length table) 65536 ≡ b → take end table ≡ front table
+    go true t = let h = leb-true (length table) 65536 t in take-all end table (omega (arith, e, h)) ∙ sym (take-all 65536 table h)
+    go false t = let h = leb-false (length table) 65536 t in let k : end ≡ 65536 = omega (arith, e, h) in ap (λ (n : ℕ). take n table) k
+
+pub front-few : (table : List ℕ) → length (front table) ≤ 2 ^ 16
+front-few table = let l = length-take 65536 table in omega (arith, l)
 
 -- ---- one record
 

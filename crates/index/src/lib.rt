@@ -4,13 +4,13 @@
 ghost use mathlib.Core.Path.{_≡_};
 ghost use mathlib.Core.Bool.{cond};
 ghost use mathlib.Core.List.{_++_};
-ghost use Prim.Native.Nat.{_*_, _^_, _≤_};
+ghost use Prim.Native.Nat.{_*_, _^_, _≤_, min};
 ghost use lib.Dec.{leb};
 ghost use lib.ListN.{length, drop};
 ghost use Rattle.marks.specs.Contracts.Marks.{marksIn};
 ghost use Rattle.index.specs.Lookup.{holds, partIn, lookup, answered, partAfter};
 ghost use Rattle.index.specs.Contracts.Lists.{noRecord, partIf};
-ghost use Rattle.index.specs.Contracts.Reading.{behind, recordAfter, readFrom};
+ghost use Rattle.index.specs.Contracts.Reading.{front, behind, recordAfter, readFrom};
 
 // A piece: its place and length in the notes, its first output line and its count of output lines.
 #[repr(C)]
@@ -116,10 +116,10 @@ pub fn tell(p: Part, part: &mut [u64; 2]) -> u64
     }
 }
 
-// Stores the n records that the marks tell.
+// Stores the n records that the marks tell. What stands behind the marks does not matter.
 pub fn store_records(index: &mut [Record], n: usize, marks: &[u32])
-    requires { ⌜ (n ≤ length (now index)) × (length (now marks) ≤ 2 ^ 15) ⌝ }
-    ensures { λ _. ⌜ now (index .exit) ≡ readFrom (marksIn (now (marks .entry))) n noRecord ++ drop n (now (index .entry)) ⌝ }
+    requires { ⌜ n ≤ length (now index) ⌝ }
+    ensures { λ _. ⌜ now (index .exit) ≡ readFrom (marksIn (front (now (marks .entry)))) n noRecord ++ drop n (now (index .entry)) ⌝ }
 {
     let mut r = no_record();
     let mut i = 0;
@@ -130,9 +130,21 @@ pub fn store_records(index: &mut [Record], n: usize, marks: &[u32])
     }
 }
 
-// The record behind a record: its length and its count of output lines are the next two gaps.
+// So many numbers have room for two marks for each byte of the longest notes.
+const MOST_NUMBERS: usize = 65536;
+
+// The record behind a record, as the marks tell it.
 fn next_record(marks: &[u32], r: Record) -> Record
-    requires { ⌜ (behind r ≤ 32 * length (now marks)) × (length (now marks) ≤ 2 ^ 15) ⌝ }
+    requires { ⌜ behind r ≤ 32 * length (front (now marks)) ⌝ }
+    ensures { λ s. ⌜ s ≡ recordAfter (marksIn (front (now (marks .entry)))) r ⌝ }
+{
+    let end = least(marks.len(), MOST_NUMBERS);
+    record_behind(&marks[..end], r)
+}
+
+// Its length and its count of output lines are the next two gaps.
+fn record_behind(marks: &[u32], r: Record) -> Record
+    requires { ⌜ (behind r ≤ 32 * length (now marks)) × (length (now marks) ≤ 2 ^ 16) ⌝ }
     ensures { λ s. ⌜ s ≡ recordAfter (marksIn (now (marks .entry))) r ⌝ }
 {
     let place = r.place + r.length;
@@ -146,4 +158,13 @@ fn next_record(marks: &[u32], r: Record) -> Record
         first,
         count: count as u64,
     }
+}
+
+fn least(a: usize, b: usize) -> usize
+    ensures { λ r. ⌜ r ≡ min a b ⌝ }
+{
+    if a < b {
+        return a;
+    }
+    b
 }

@@ -16,7 +16,7 @@ use Rattle.paragraphs.specs.Contracts.Steps.{TextStepped}
 use Rattle.paragraphs.specs.declared.Cursor.{Cursor}
 use Rattle.paragraphs.specs.declared.Step.{Step}
 use Rattle.paragraphs.specs.declared.Step.the-variants.{On, Over}
-use Rattle.walk.specs.Digest.{extentOf, mostWords}
+use Rattle.walk.specs.Digest.{extentOf}
 use Rattle.walk.specs.Contracts.Course.{Admitted, longFrom, Put, CursorIn, TextAhead}
 use Rattle.walk.proofs.Extents.{extents-are-notes, extents-some}
 use Rattle.walk.proofs.Loop.{going-first}
@@ -26,19 +26,20 @@ use Rattle.indexer.specs.Contracts.Noting.{PieceStepped}
 
 -- ---- a piece
 
-module _ (o : Options) (room : ℕ) (most : room ≡ mostWords) where
+module _ (o : Options) (room : ℕ) where
   pub text-stepped : (block notes : List ℕ) (c : Cursor) (p : Paragraph) → Admitted block notes o → CursorIn notes c → TextAhead block o notes c p → (out out′ : List ℕ) (r : Step)
-      → TextStepped room notes (c .at) o p out (c .written) out′ r block → PieceStepped (meant block o) notes out c out′ r
-  text-stepped block notes c p ready s b out out′ (On d) w = begins-stepped block notes o c p ready b room out out′ (On d) d (omega (arith, most)) w refl
+      → TextStepped room notes (c .at) o p out (c .written) out′ r block → PieceStepped room (meant block o) notes out c out′ r
+  text-stepped block notes c p ready s b out out′ (On d) w = begins-stepped block notes o c p ready b room room out out′ (On d) d (omega arith) w refl
   text-stepped block notes c p ready s b out out′ Over w =
       let v = begins-over block notes o c p ready b room out out′ Over w refl in
-      (begins-long block notes o c p ready b c out out (going-first (meant block o) notes c out s) (omega (arith, most, v .0)) .0, v .1)
+      (begins-long block notes o c p ready b room c out out (going-first room (meant block o) notes c out s) (v .0) .0, v .1)
 
-pub stepped-on : (o : Opts) (notes out : List ℕ) (c : Cursor) (out′ : List ℕ) {r : Step} {d : Cursor} → PieceStepped o notes out c out′ r → r ≡ On d → Put o notes out c d out′
-stepped-on o notes out c out′ s e = rw e at s
+module _ (most : ℕ) (o : Opts) (notes out : List ℕ) (c : Cursor) (out′ : List ℕ) {r : Step} (s : PieceStepped most o notes out c out′ r) where
+  pub stepped-on : {d : Cursor} → r ≡ On d → Put most o notes out c d out′
+  stepped-on e = rw e at s
 
-pub stepped-over : (o : Opts) (notes out : List ℕ) (c : Cursor) (out′ : List ℕ) {r : Step} → PieceStepped o notes out c out′ r → r ≡ Over → (longFrom o (c .mail) notes (c .at) ≡ At (c .at)) × (out′ ≡ out)
-stepped-over o notes out c out′ s e = rw e at s
+  pub stepped-over : r ≡ Over → (longFrom most o (c .mail) notes (c .at) ≡ At (c .at)) × (out′ ≡ out)
+  stepped-over e = rw e at s
 
 -- ---- the number of records
 

@@ -5,14 +5,14 @@ use mathlib.Core.List.{List}
 use Prim.Native.Nat.{ℕ}
 use Rattle.marks.specs.Contracts.Marks.{marksIn}
 use Rattle.index.specs.Contracts.Lists.{noRecord}
-use Rattle.index.specs.Contracts.Reading.{readFrom}
+use Rattle.index.specs.Contracts.Reading.{front, readFrom}
 use Rattle.indexer.specs.Answers.{Indexed}
 use Rattle.indexer.specs.Contracts.Noting.{Marked}
 use Rattle.indexer.specs.declared.Told.{Told}
 
-module _ (a : Indexed) (records : ℕ) (out : List ℕ) {out₁ out₂ : List ℕ} {filled₁ filled₂ : ℕ} {marks₁ marks₂ : List ℕ} {t s : Told} where
-  pub indexes-unique : Marked a records out out₁ filled₁ marks₁ t → Marked a records out out₂ filled₂ marks₂ s
-      → (t ≡ s) × (out₁ ≡ out₂) × (filled₁ ≡ filled₂) × (readFrom (marksIn marks₁) (t .records) noRecord ≡ readFrom (marksIn marks₂) (s .records) noRecord)
+module _ (a : Indexed) (records : ℕ) (out : List ℕ) {out₁ out₂ : List ℕ} {filled₁ filled₂ : ℕ} {work₁ work₂ : List ℕ} {t s : Told} where
+  pub indexes-unique : Marked a records out out₁ filled₁ work₁ t → Marked a records out out₂ filled₂ work₂ s
+      → (t ≡ s) × (out₁ ≡ out₂) × (filled₁ ≡ filled₂) × (readFrom (marksIn (front work₁)) (t .records) noRecord ≡ readFrom (marksIn (front work₂)) (s .records) noRecord)
   indexes-unique h k = (
     ap (λ (n : ℕ). record { answer = n; records = t .records }) (h .answer ∙ sym (k .answer)) ∙ ap (λ (n : ℕ). record { answer = s .answer; records = n }) (h .count ∙ sym (k .count)),
     h .output ∙ sym (k .output),

@@ -2,15 +2,17 @@
 -- pieces than records; then 5.
 use mathlib.Core.Bool.{cond}
 use mathlib.Core.List.{List, []}
-use Prim.Native.Nat.{ℕ}
+use Prim.Native.Nat.{ℕ, _+_, _/_}
 use lib.Dec.{leb}
 use lib.ListN.{length}
-use Rattle.options.specs.Opts.{meant}
+use Rattle.options.specs.Opts.{Opts, meant}
 use Rattle.options.specs.OptionBlock.{readBlock}
 use Rattle.options.specs.declared.Block.{Block}
 use Rattle.options.specs.declared.Block.the-variants.{Accepted, Fault}
 use Rattle.formatter.specs.Answers.{Answer, done as measured, options as faulty, long as tooLong, text as damaged, words as manyWords, room as noRoom, work as noWork}
-use Rattle.formatter.specs.Format.{Words, Limits, finding, mostTold, isTold}
+use Rattle.walk.specs.Work.{workFor}
+use Rattle.formatter.specs.Format.{Words, lent, Limits, finding, mostTold, isTold}
+use Rattle.formatter.specs.Work.{mostLent}
 use Rattle.index.specs.declared.Record.{Record}
 use Rattle.indexer.specs.Index.{indexOf}
 use Rattle.indexer.specs.Answers.{Indexed, done, options, long, text, words, full, room, work}
@@ -31,6 +33,20 @@ inIndex w space records index (manyWords place) = words place
 -- (nothing is found so)
 inIndex w space records index (noRoom needed) = room needed
 inIndex w space records index (noWork needed) = work needed
+
+-- ---- the room that the call needs where it is lent: a number for each 32 marks, of which a byte of the notes may need two; and what the notes
+-- need to be written
+
+abbrev pub marksFor : ℕ → ℕ
+marksFor size = (size + 15) / 16
+
+unfoldable pub indexWork : Opts → List ℕ → ℕ
+indexWork o notes = marksFor (length notes) + workFor o notes
+
+abbrev pub indexLending : ℕ → Limits
+indexLending lends = record { bytes = mostLent; words = lent lends indexWork }
+
+-- ---- the call
 
 -- the index under the options that a block means; of a faulty block none is asked
 abbrev pub indexUnder : List ℕ → List ℕ → Block → List Record

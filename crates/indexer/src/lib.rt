@@ -8,17 +8,16 @@ use paragraphs::Cursor;
 use paragraphs::Step;
 use pieces::Piece;
 ghost use mathlib.Core.Path.{_≡_};
-ghost use mathlib.Core.Bool.{true, false};
-ghost use Prim.Native.Nat.{_^_, _≤_, _<_};
-ghost use lib.ListN.{length, replicate};
+ghost use Prim.Native.Nat.{_-_, _^_, _≤_, _<_};
+ghost use lib.ListN.{length};
 ghost use Rattle.options.specs.Opts.{meant};
 ghost use Rattle.lines.specs.Lines.{linesOf};
+ghost use Rattle.lines.specs.Contracts.Places.{mostLarge};
 ghost use Rattle.paragraphs.specs.Contracts.Steps.{roomFor};
-ghost use Rattle.walk.specs.Digest.{mostWords};
 ghost use Rattle.walk.specs.Contracts.Course.{Admitted, CursorIn};
-ghost use Rattle.formatter.specs.Format.{document01};
-ghost use Rattle.indexer.specs.Indexing.{indexing};
-ghost use Rattle.indexer.specs.Contracts.Noting.{PieceStepped, Unmarked, Spells, Spelt, Noted, Indexes, Marked, refusedAs, leftOf, toldNumber, toldFilled};
+ghost use Rattle.formatter.specs.Format.{mostBytes, document01};
+ghost use Rattle.indexer.specs.Indexing.{marksFor, indexLending, indexing};
+ghost use Rattle.indexer.specs.Contracts.Noting.{PieceStepped, Parted, Spells, Spelt, Noted, Indexes, Marked, refusedAs, leftOf, foundOf, toldNumber, toldFilled};
 
 // What the call tells: its answer's number, and how many records the marks tell (none where it is refused).
 pub struct Told {
@@ -51,12 +50,33 @@ pub fn write_marked(
     out: &mut [u8],
     records: usize,
     filled: &mut u64,
-    marks: &mut [u32],
+    work: &mut [u32],
 ) -> Told
-    requires { ⌜ now marks ≡ replicate 4096 0 ⌝ }
-    ensures { λ t. ⌜ Marked (indexing document01 (now (block .entry)) (now (notes .entry)) (length (now (out .entry))) records) records (now (out .entry)) (now (out .exit)) (now (filled .exit)) (now (marks .exit)) t ⌝ }
+    requires { ⌜ length (now work) ≡ 19456 ⌝ }
+    ensures { λ t. ⌜ Marked (indexing document01 (now (block .entry)) (now (notes .entry)) (length (now (out .entry))) records) records (now (out .entry)) (now (out .exit)) (now (filled .exit)) (now (work .exit)) t ⌝ }
 {
-    let r = write_pieces(block, notes, out, records, marks);
+    tell(write_pieces(block, notes, out, records, work), filled)
+}
+
+// The same in working room that is lent, of any size.
+pub fn write_marked_large(
+    block: &[u8],
+    notes: &[u8],
+    out: &mut [u8],
+    records: usize,
+    filled: &mut u64,
+    work: &mut [u32],
+) -> Told
+    ensures { λ t. ⌜ Marked (indexing (indexLending (length (now (work .entry)))) (now (block .entry)) (now (notes .entry)) (length (now (out .entry))) records) records (now (out .entry)) (now (out .exit)) (now (filled .exit)) (now (work .exit)) t ⌝ }
+{
+    tell(write_lent(block, notes, out, records, work), filled)
+}
+
+// What is told, and the count of records as the host gets it.
+fn tell(r: Filled, filled: &mut u64) -> Told
+    requires { ⌜ toldNumber r < 2 ^ 64 ⌝ }
+    ensures { λ t. ⌜ (t .answer ≡ toldNumber r) × (t .records ≡ toldFilled r) × (now (filled .exit) ≡ toldFilled r) ⌝ }
+{
     let n = records_in(r);
     *filled = n;
     Told {
@@ -71,14 +91,30 @@ fn write_pieces(
     notes: &[u8],
     out: &mut [u8],
     records: usize,
-    gaps: &mut [u32],
+    work: &mut [u32],
 ) -> Filled
-    requires { ⌜ now gaps ≡ replicate 4096 0 ⌝ }
-    ensures { λ r. ⌜ Indexes (indexing document01 (now (block .entry)) (now (notes .entry)) (length (now (out .entry))) records) (now (out .entry)) r (now (out .exit)) (now (gaps .exit)) ⌝ }
+    requires { ⌜ length (now work) ≡ 19456 ⌝ }
+    ensures { λ r. ⌜ Indexes (indexing document01 (now (block .entry)) (now (notes .entry)) (length (now (out .entry))) records) (now (out .entry)) r (now (out .exit)) (now (work .exit)) ⌝ }
 {
     match formatter::admit(block, notes) {
         Admission::Refused(r) => refused(r),
-        Admission::Passed(o) => index_notes(o, block, notes, out, records, gaps),
+        Admission::Passed(o) => index_notes(o, block, notes, out, records, work),
+    }
+}
+
+// With lent room 12 stands in the place of 4.
+fn write_lent(
+    block: &[u8],
+    notes: &[u8],
+    out: &mut [u8],
+    records: usize,
+    work: &mut [u32],
+) -> Filled
+    ensures { λ r. ⌜ Indexes (indexing (indexLending (length (now (work .entry)))) (now (block .entry)) (now (notes .entry)) (length (now (out .entry))) records) (now (out .entry)) r (now (out .exit)) (now (work .exit)) ⌝ }
+{
+    match formatter::admit_within(block, notes, formatter::MOST_LARGE) {
+        Admission::Refused(r) => refused(r),
+        Admission::Passed(o) => index_lent(o, block, notes, out, records, work),
     }
 }
 
@@ -97,73 +133,84 @@ fn refused(r: Reply) -> Filled
     }
 }
 
-// The rooms, in numbers, for the most words that a paragraph may have: with quick seven a word, with Knuth-Plass fifteen.
-const QUICK_MOST: usize = 7168;
+// A paragraph may have so many words.
+const MOST_WORDS: usize = 1024;
 
-const BEST_MOST: usize = 15360;
+// A number has room for 32 marks, and two are made for each byte of the notes: the numbers for notes of so many bytes.
+fn marks_for(size: usize) -> usize
+    requires { ⌜ size ≤ mostLarge ⌝ }
+    ensures { λ r. ⌜ r ≡ marksFor size ⌝ }
+{
+    (size + 15) / 16
+}
 
-// Working room for the most words that a paragraph may have.
+// In room for the marks of the longest notes and for the most words that a paragraph may have.
 fn index_notes(
     o: Options,
     block: &[u8],
     notes: &[u8],
     out: &mut [u8],
     records: usize,
-    gaps: &mut [u32],
+    work: &mut [u32],
 ) -> Filled
-    requires { ⌜ Admitted (now block) (now notes) o × Unmarked (now notes) (now gaps) ⌝ }
-    ensures { λ r. ⌜ Indexes (leftOf (meant (now (block .entry)) o) (now (notes .entry)) (length (now (out .entry))) records) (now (out .entry)) r (now (out .exit)) (now (gaps .exit)) ⌝ }
+    requires { ⌜ Admitted (now block) (now notes) o × (length (now notes) ≤ mostBytes) × (length (now work) ≡ 19456) ⌝ }
+    ensures { λ r. ⌜ Indexes (leftOf document01 (meant (now (block .entry)) o) (now (notes .entry)) (length (now (out .entry))) records) (now (out .entry)) r (now (out .exit)) (now (work .exit)) ⌝ }
 {
-    if o.quick {
-        return index_quick(o, block, notes, out, records, gaps);
+    let marks = marks_for(notes.len());
+    let end = marks + paragraphs::numbers_for(o.quick, MOST_WORDS);
+    index_with(o, block, notes, out, records, work, marks, end)
+}
+
+// In the room that is lent, if it is enough. The room is told before anything is written, since the output stays as it was.
+fn index_lent(
+    o: Options,
+    block: &[u8],
+    notes: &[u8],
+    out: &mut [u8],
+    records: usize,
+    work: &mut [u32],
+) -> Filled
+    requires { ⌜ Admitted (now block) (now notes) o ⌝ }
+    ensures { λ r. ⌜ Indexes (leftOf (indexLending (length (now (work .entry)))) (meant (now (block .entry)) o) (now (notes .entry)) (length (now (out .entry))) records) (now (out .entry)) r (now (out .exit)) (now (work .exit)) ⌝ }
+{
+    let marks = marks_for(notes.len());
+    let needed = marks + walk::work_over(o, block, notes, behind(work.len(), marks));
+    if work.len() < needed {
+        return Filled::Work(needed);
     }
-    index_best(o, block, notes, out, records, gaps)
+    let end = work.len();
+    index_with(o, block, notes, out, records, work, marks, end)
 }
 
-fn index_quick(
-    o: Options,
-    block: &[u8],
-    notes: &[u8],
-    out: &mut [u8],
-    records: usize,
-    gaps: &mut [u32],
-) -> Filled
-    requires { ⌜ Admitted (now block) (now notes) o × Unmarked (now notes) (now gaps) × (o .quick ≡ true) ⌝ }
-    ensures { λ r. ⌜ Indexes (leftOf (meant (now (block .entry)) o) (now (notes .entry)) (length (now (out .entry))) records) (now (out .entry)) r (now (out .exit)) (now (gaps .exit)) ⌝ }
+// What is left of a room behind so many numbers.
+fn behind(size: usize, marks: usize) -> usize
+    ensures { λ r. ⌜ r ≡ size - marks ⌝ }
 {
-    let mut work = [0u32; QUICK_MOST];
-    index_with(o, block, notes, out, records, gaps, &mut work)
+    if size < marks {
+        return 0;
+    }
+    size - marks
 }
 
-fn index_best(
-    o: Options,
-    block: &[u8],
-    notes: &[u8],
-    out: &mut [u8],
-    records: usize,
-    gaps: &mut [u32],
-) -> Filled
-    requires { ⌜ Admitted (now block) (now notes) o × Unmarked (now notes) (now gaps) × (o .quick ≡ false) ⌝ }
-    ensures { λ r. ⌜ Indexes (leftOf (meant (now (block .entry)) o) (now (notes .entry)) (length (now (out .entry))) records) (now (out .entry)) r (now (out .exit)) (now (gaps .exit)) ⌝ }
-{
-    let mut work = [0u32; BEST_MOST];
-    index_with(o, block, notes, out, records, gaps, &mut work)
-}
+// N has room for no more.
+const MOST_TOLD: usize = 4294967295;
 
-// Writes the digest, and tells whether there is room for its records and for itself.
+// Writes the digest, and tells whether there is room for its records and for itself. The first numbers of the room are for marks, those
+// behind them for words.
 fn index_with(
     o: Options,
     block: &[u8],
     notes: &[u8],
     out: &mut [u8],
     records: usize,
-    gaps: &mut [u32],
     work: &mut [u32],
+    marks: usize,
+    end: usize,
 ) -> Filled
-    requires { ⌜ Admitted (now block) (now notes) o × Unmarked (now notes) (now gaps) × (roomFor (o .quick) (length (now work)) ≡ mostWords) ⌝ }
-    ensures { λ r. ⌜ Indexes (leftOf (meant (now (block .entry)) o) (now (notes .entry)) (length (now (out .entry))) records) (now (out .entry)) r (now (out .exit)) (now (gaps .exit)) ⌝ }
+    requires { ⌜ Admitted (now block) (now notes) o × Parted (now notes) marks end (now work) ⌝ }
+    ensures { λ r. ⌜ Indexes (foundOf (roomFor (o .quick) (end - marks)) (meant (now (block .entry)) o) (now (notes .entry)) (length (now (out .entry))) records) (now (out .entry)) r (now (out .exit)) (now (work .exit)) ⌝ }
 {
-    match note_pieces(o, block, notes, out, gaps, work) {
+    match note_pieces(o, block, notes, out, work, marks, end) {
         Pieces::Stopped(place) => {
             walk::clear(out);
             Filled::Words(place)
@@ -172,6 +219,10 @@ fn index_with(
             if records < pieces {
                 walk::clear(out);
                 return Filled::Full(pieces);
+            }
+            if MOST_TOLD < written {
+                walk::clear(out);
+                return Filled::Room(MOST_TOLD);
             }
             if out.len() < written {
                 walk::clear(out);
@@ -191,12 +242,14 @@ fn note_pieces(
     block: &[u8],
     notes: &[u8],
     out: &mut [u8],
-    gaps: &mut [u32],
     work: &mut [u32],
+    marks: usize,
+    end: usize,
 ) -> Pieces
-    requires { ⌜ Admitted (now block) (now notes) o × Unmarked (now notes) (now gaps) × (roomFor (o .quick) (length (now work)) ≡ mostWords) ⌝ }
-    ensures { λ r. ⌜ Noted (meant (now (block .entry)) o) (now (notes .entry)) (now (out .entry)) (now (out .exit)) (now (gaps .exit)) r ⌝ }
+    requires { ⌜ Admitted (now block) (now notes) o × Parted (now notes) marks end (now work) ⌝ }
+    ensures { λ r. ⌜ Noted (roomFor (o .quick) (end - marks)) (meant (now (block .entry)) o) (now (notes .entry)) (now (out .entry)) (now (out .exit)) (now (work .exit)) r ⌝ }
 {
+    marks::clear(&mut work[..marks]);
     let mut c = Cursor {
         at: 0,
         written: 0,
@@ -205,10 +258,10 @@ fn note_pieces(
     let mut k = 0;
     let mut line = 0;
     while c.at < notes.len() {
-        let Step::On(d) = put_piece(o, block, notes, c, out, work) else {
+        let Step::On(d) = put_piece(o, block, notes, c, out, &mut work[marks..end]) else {
             return Pieces::Stopped(c.at);
         };
-        line = spell(gaps, out, c, d, line);
+        line = spell(&mut work[..marks], out, c, d, line);
         k += 1;
         c = d;
     }
@@ -245,8 +298,8 @@ fn put_piece(
     out: &mut [u8],
     work: &mut [u32],
 ) -> Step
-    requires { ⌜ Admitted (now block) (now notes) o × CursorIn (now notes) c × (c .at < length (now notes)) × (roomFor (o .quick) (length (now work)) ≡ mostWords) ⌝ }
-    ensures { λ r. ⌜ PieceStepped (meant (now (block .entry)) o) (now (notes .entry)) (now (out .entry)) c (now (out .exit)) r ⌝ }
+    requires { ⌜ Admitted (now block) (now notes) o × CursorIn (now notes) c × (c .at < length (now notes)) ⌝ }
+    ensures { λ r. ⌜ PieceStepped (roomFor (o .quick) (length (now (work .entry)))) (meant (now (block .entry)) o) (now (notes .entry)) (now (out .entry)) c (now (out .exit)) r ⌝ }
 {
     let at = c.at;
     match pieces::next_piece(notes, at, o, block, c.mail) {

@@ -2,7 +2,7 @@
 use mathlib.Core.Path.{_≡_, refl, sym, ap, _∙_}
 use mathlib.Core.Bool.{Bool, true, false, cond}
 use mathlib.Core.List.{List}
-use Prim.Native.Nat.{ℕ, _≤_, _<_}
+use Prim.Native.Nat.{ℕ, _≤_, _<_, max}
 use native.Mathlib.Omega.{arith}
 use lib.Dec.{ltb}
 use lib.ListN.{length, drop}
@@ -15,12 +15,16 @@ use Rattle.options.specs.OptionBlock.{readBlock}
 use Rattle.options.specs.declared.Options.{Options}
 use Rattle.options.specs.declared.Block.{Block}
 use Rattle.pieces.specs.Pieces.{pieces}
-use Rattle.walk.specs.Digest.{mostWords, longParagraph}
+use Rattle.paragraphs.specs.Contracts.Steps.{roomFor}
+use Rattle.walk.specs.Digest.{longParagraph, digest as digestOf}
+use Rattle.walk.specs.Work.{workFor}
 use Rattle.formatter.specs.Answers.{Answer, done, options, long, text, words, room, work, code as codeOf}
-use Rattle.formatter.specs.Format.{mostBytes, document01, withWords, withBlock, finding}
+use Rattle.formatter.specs.Format.{Limits, limited, withWords, withBlock, finding}
+use Rattle.formatter.specs.Work.{mostLent, lending}
 use Rattle.formatter.specs.Contracts.Call.{Admits, told}
 use Rattle.formatter.specs.declared.Reply.{Reply}
 use Rattle.formatter.specs.declared.Admission.the-variants.{Refused, Passed}
+use Rattle.formatter.proofs.Lent.{fits, over}
 use Rattle.formatter.proofs.Refusals.{a-refusal-is-no-digest}
 use Rattle.checker.specs.Matching.{Match, on, andThen, matchPieces, verdictOf, verdict}
 use Rattle.checker.specs.Contracts.Places.{matched, MatchedIn}
@@ -28,39 +32,40 @@ use Rattle.checker.specs.declared.Spot.{Spot}
 use Rattle.checker.specs.declared.Matched.{Matched}
 use Rattle.checker.specs.declared.Matched.the-variants.{On, Fault}
 use Rattle.judge.specs.Checking.{withVerdict, withDigest, withNotes, verdictUnder, checking}
-use Rattle.judge.specs.Contracts.Judging.{Walked, begun, toldOf, judgedBy, refusedAs, wordsOr, leftOf}
+use Rattle.judge.specs.Contracts.Judging.{Walked, begun, toldOf, judgedBy, refusedAs, leftOf}
 use Rattle.judge.specs.declared.Judgement.{Judgement}
-use Rattle.judge.specs.declared.Judgement.the-variants.{Accepted, Words, LongDigest, Line}
+use Rattle.judge.specs.declared.Judgement.the-variants.{Accepted, Words, LongDigest, Line, Work}
 use Rattle.judge.specs.declared.Course.{Course}
 use Rattle.judge.specs.declared.Course.the-variants.{Through, Stopped}
 
 -- ---- where matching begins, and what is told of where it ends
 
-pub begun-long : (size : ℕ) → mostBytes < size → Fault 0 ≡ begun size
-begun-long size h = rw (lt-ltb mostBytes size h)
+module _ (bytes : ℕ) where
+  pub begun-long : (size : ℕ) → bytes < size → Fault 0 ≡ begun bytes size
+  begun-long size h = rw (lt-ltb bytes size h)
 
-pub begun-short : (size : ℕ) → size ≤ mostBytes → On (record { at = 0; line = 0 }) ≡ begun size
-begun-short size h = rw (le-ltb mostBytes size h)
+  pub begun-short : (size : ℕ) → size ≤ bytes → On (record { at = 0; line = 0 }) ≡ begun bytes size
+  begun-short size h = rw (le-ltb bytes size h)
 
-pub begun-in : (digest : List ℕ) {m : Matched} → m ≡ begun (length digest) → MatchedIn digest m
-begun-in digest e = rw e (go (ltb mostBytes (length digest)))
-  where
-    go : (b : Bool) → MatchedIn digest (cond b (Fault 0) (On (record { at = 0; line = 0 })))
-    go true = omega arith
-    go false = record { within = omega arith; line = omega arith }
+  pub begun-in : (digest : List ℕ) {m : Matched} → m ≡ begun bytes (length digest) → MatchedIn digest m
+  begun-in digest e = rw e (go (ltb bytes (length digest)))
+    where
+      go : (b : Bool) → MatchedIn digest (cond b (Fault 0) (On (record { at = 0; line = 0 })))
+      go true = omega arith
+      go false = record { within = omega arith; line = omega arith }
 
-pub judged-long : (size : ℕ) (m : Matched) → mostBytes < size → LongDigest ≡ judgedBy size m
-judged-long size m h = rw (lt-ltb mostBytes size h)
+  pub judged-long : (size : ℕ) (m : Matched) → bytes < size → LongDigest ≡ judgedBy bytes size m
+  judged-long size m h = rw (lt-ltb bytes size h)
 
-module _ (size : ℕ) {m : Matched} (h : size ≤ mostBytes) where
-  pub judged-fault : {line : ℕ} → m ≡ Fault line → Line line ≡ judgedBy size m
-  judged-fault e = rw (le-ltb mostBytes size h, e)
+  module _ (size : ℕ) {m : Matched} (h : size ≤ bytes) where
+    pub judged-fault : {line : ℕ} → m ≡ Fault line → Line line ≡ judgedBy bytes size m
+    judged-fault e = rw (le-ltb bytes size h, e)
 
-  pub judged-left : {p : Spot} → m ≡ On p → p .at < size → Line (p .line) ≡ judgedBy size m
-  judged-left {p} e k = rw (le-ltb mostBytes size h, e, lt-ltb (p .at) size k)
+    pub judged-left : {p : Spot} → m ≡ On p → p .at < size → Line (p .line) ≡ judgedBy bytes size m
+    judged-left {p} e k = rw (le-ltb bytes size h, e, lt-ltb (p .at) size k)
 
-  pub judged-whole : {p : Spot} → m ≡ On p → size ≤ p .at → Accepted ≡ judgedBy size m
-  judged-whole {p} e k = rw (le-ltb mostBytes size h, e, le-ltb (p .at) size k)
+    pub judged-whole : {p : Spot} → m ≡ On p → size ≤ p .at → Accepted ≡ judgedBy bytes size m
+    judged-whole {p} e k = rw (le-ltb bytes size h, e, le-ltb (p .at) size k)
 
 -- nothing may be left of the digest
 told-verdict : (digest : List ℕ) (m : Matched) → toldOf (length digest) m ≡ withVerdict (verdictOf (matched digest m))
@@ -73,18 +78,18 @@ told-verdict digest (On p) = go (ltb (p .at) (length digest)) refl
 
 -- ---- from what the pieces came to
 
-module _ (o : Opts) (notes digest : List ℕ) (first : Matched) (r : Course) (w : Walked o notes digest first r) where
-  pub stopped-answer : {place : ℕ} → r ≡ Stopped place → Words place ≡ leftOf o notes digest
-  stopped-answer {place} e = let f : Walked o notes digest first (Stopped place) = rw e at w in rw f
+module _ (bytes most : ℕ) (o : Opts) (notes digest : List ℕ) (first : Matched) (r : Course) (w : Walked most o notes digest first r) where
+  stopped : {place : ℕ} → r ≡ Stopped place → longParagraph most o 0 (pieces o notes) ≡ At place
+  stopped {place} e = let f : Walked most o notes digest first (Stopped place) = rw e at w in f
 
-  through : {m : Matched} → r ≡ Through m → Walked o notes digest first (Through m)
+  through : {m : Matched} → r ≡ Through m → Walked most o notes digest first (Through m)
   through e = rw e at w
 
-  pub through-answer : {m : Matched} → r ≡ Through m → first ≡ begun (length digest) → {a : Judgement} → a ≡ judgedBy (length digest) m → a ≡ leftOf o notes digest
+  through-judged : {m : Matched} → r ≡ Through m → first ≡ begun bytes (length digest) → judgedBy bytes (length digest) m ≡ withDigest bytes (length digest) (verdict o notes digest)
   unfolding verdict
-  through-answer {m} e b q = let f = through e in q ∙ go (ltb mostBytes (length digest)) refl ∙ rw (f .0)
+  through-judged {m} e b = go (ltb bytes (length digest)) refl
     where
-      go : (t : Bool) → ltb mostBytes (length digest) ≡ t → judgedBy (length digest) m ≡ withDigest mostBytes (length digest) (verdict o notes digest)
+      go : (t : Bool) → ltb bytes (length digest) ≡ t → judgedBy bytes (length digest) m ≡ withDigest bytes (length digest) (verdict o notes digest)
       go true t = rw t
       go false t =
           let f : matched digest m ≡ andThen (matched digest first) (matchPieces o (pieces o notes)) = through e .1 .is in
@@ -92,19 +97,38 @@ module _ (o : Opts) (notes digest : List ℕ) (first : Matched) (r : Course) (w 
           let v : matched digest m ≡ matchPieces o (pieces o notes) digest 0 = f ∙ ap (λ (x : Matched). andThen (matched digest x) (matchPieces o (pieces o notes))) k in
           rw t (told-verdict digest m ∙ ap (λ (x : Match). withVerdict (verdictOf x)) v)
 
+  -- with a limit on words
+  pub stopped-answer : {place : ℕ} → r ≡ Stopped place → Words place ≡ leftOf (limited bytes most) o notes digest
+  stopped-answer e = rw (stopped e)
+
+  pub through-answer : {m : Matched} → r ≡ Through m → first ≡ begun bytes (length digest) → {a : Judgement} → a ≡ judgedBy bytes (length digest) m → a ≡ leftOf (limited bytes most) o notes digest
+  through-answer e b q = q ∙ through-judged e b ∙ ap (λ (f : Found). withNotes (withDigest bytes (length digest) (verdict o notes digest)) (withWords done o notes f)) (sym (through e .0))
+
+-- where room is lent, for so many words: it does not reach, and what the notes need is told; or it does
+module _ (lends : ℕ) (o : Opts) (notes digest : List ℕ) (first : Matched) (most : ℕ) (is : most ≡ roomFor (o .quick) lends) (r : Course) (w : Walked most o notes digest first r) where
+  walked : Walked (roomFor (o .quick) lends) o notes digest first r
+  walked = rw (← is) w
+
+  pub short-answer : {place n : ℕ} → r ≡ Stopped place → n ≡ max lends (workFor o notes) → Work n ≡ leftOf (lending lends) o notes digest
+  short-answer {place} {n} e k =
+      let h : lends < workFor o notes = over o lends notes (stopped mostLent (roomFor (o .quick) lends) o notes digest first r walked e) in
+      let m : n ≡ workFor o notes = omega (arith, h, k) in
+      ap Work m ∙ ap (λ (b : Bool). withNotes (withDigest mostLent (length digest) (verdict o notes digest)) (elim b as (λ t. Answer) [ true ↦ work (workFor o notes) | false ↦ done (digestOf o notes) ])) (sym (lt-ltb lends (workFor o notes) h))
+
+  pub lent-answer : {m : Matched} → r ≡ Through m → first ≡ begun mostLent (length digest) → {a : Judgement} → a ≡ judgedBy mostLent (length digest) m → a ≡ leftOf (lending lends) o notes digest
+  lent-answer e b q =
+      let f = fits o lends notes (through mostLent (roomFor (o .quick) lends) o notes digest first r walked e .0) in
+      q ∙ through-judged mostLent (roomFor (o .quick) lends) o notes digest first r walked e b
+      ∙ ap (λ (t : Bool). withNotes (withDigest mostLent (length digest) (verdict o notes digest)) (elim t as (λ x. Answer) [ true ↦ work (workFor o notes) | false ↦ done (digestOf o notes) ])) (sym (le-ltb lends (workFor o notes) f))
+
 -- ---- what is told before
 
-module _ (block notes : List ℕ) where
-  pub checking-left : (digest : List ℕ) (o : Options) → Admits document01 block notes (Passed o) → checking document01 block notes digest ≡ leftOf (meant block o) notes digest
+module _ (l : Limits) (block notes : List ℕ) where
+  pub checking-left : (digest : List ℕ) (o : Options) → Admits l block notes (Passed o) → checking l block notes digest ≡ leftOf l (meant block o) notes digest
   unfolding checking finding
   checking-left digest o s =
-      ap (λ (b : Block). withNotes (withDigest mostBytes (length digest) (verdictUnder block notes digest b)) (withBlock document01 done block notes (readBlock block))) (s .0 .accepted)
-      ∙ ap (withNotes (withDigest mostBytes (length digest) (verdict (meant block o) notes digest))) (s .1 done)
-      ∙ go (longParagraph mostWords (meant block o) 0 (pieces (meant block o) notes))
-    where
-      go : (f : Found) → withNotes (withDigest mostBytes (length digest) (verdict (meant block o) notes digest)) (withWords done (meant block o) notes f) ≡ wordsOr f (withDigest mostBytes (length digest) (verdict (meant block o) notes digest))
-      go (At place) = refl
-      go Nowhere = refl
+      ap (λ (b : Block). withNotes (withDigest (l .bytes) (length digest) (verdictUnder block notes digest b)) (withBlock l done block notes (readBlock block))) (s .0 .accepted)
+      ∙ ap (withNotes (withDigest (l .bytes) (length digest) (verdict (meant block o) notes digest))) (s .1 done)
 
   refusal-is : (then : Judgement) (a : Answer) → 1 ≤ codeOf a → refusedAs (told a) ≡ withNotes then a
   refusal-is then (done d) h = absurd (omega (arith, h))
@@ -115,10 +139,10 @@ module _ (block notes : List ℕ) where
   refusal-is then (room needed) h = refl
   refusal-is then (work needed) h = refl
 
-  pub refused-answer : (digest : List ℕ) {q : Reply} → Admits document01 block notes (Refused q) → refusedAs q ≡ checking document01 block notes digest
+  pub refused-answer : (digest : List ℕ) {q : Reply} → Admits l block notes (Refused q) → refusedAs q ≡ checking l block notes digest
   unfolding checking finding
   refused-answer digest {q} s =
-      let then = withDigest mostBytes (length digest) (verdictUnder block notes digest (readBlock block)) in
+      let then = withDigest (l .bytes) (length digest) (verdictUnder block notes digest (readBlock block)) in
       ap refusedAs (s .is)
-      ∙ refusal-is then (s .refusal) (a-refusal-is-no-digest document01 block notes s)
+      ∙ refusal-is then (s .refusal) (a-refusal-is-no-digest l block notes s)
       ∙ ap (withNotes then) (sym (s .whole-is done))

@@ -1,13 +1,14 @@
 -- Piece by piece: what is left to be matched, and of the search for a paragraph of too many words.
 use mathlib.Core.Path.{_≡_, refl, sym, ap, _∙_}
-use mathlib.Core.Bool.{true, false}
+use mathlib.Core.Bool.{Bool, true, false}
 use mathlib.Core.List.{List, [], _∷_}
 use Prim.Native.Nat.{ℕ, _-_, _*_, _≤_, _<_}
 use native.Mathlib.Omega.{arith}
 use lib.ListN.{length, take, drop}
 use lib.Seq.{slice}
 use borrow.Author.Tests.{le-ltb, lt-ltb}
-use Rattle.text.specs.declared.Found.the-variants.{At}
+use Rattle.text.specs.declared.Found.{Found}
+use Rattle.text.specs.declared.Found.the-variants.{At, Nowhere}
 use Rattle.options.specs.Opts.{Opts, meant}
 use Rattle.options.specs.declared.Options.{Options}
 use Rattle.lines.specs.Lines.{linesOf}
@@ -29,19 +30,19 @@ use Rattle.words.specs.declared.Count.the-variants.{Words, TooMany}
 use Rattle.words.proofs.Order.{paragraph-some}
 use Rattle.output.specs.Contracts.Writers.{marginOf}
 use Rattle.paragraphs.proofs.Breaking.{split-many, split-few}
-use Rattle.walk.specs.Digest.{mostWords, longParagraph}
-use Rattle.walk.specs.Contracts.Course.{Admitted, piecesFrom, longFrom, FirstPiece}
+use Rattle.walk.specs.Digest.{tooMany, longParagraph}
+use Rattle.walk.specs.Contracts.Course.{Admitted, piecesFrom, FirstPiece}
 use Rattle.walk.proofs.Rows.{text-words}
 use Rattle.walk.proofs.Meaning.{TextGoes}
 use Rattle.walk.proofs.Steps.{ready-kept, found-goes}
-use Rattle.walk.proofs.Loop.{all-long, long-none, long-more, long-here, none-left, all-pieces}
+use Rattle.walk.proofs.Loop.{none-left, all-pieces}
 use Rattle.checker.specs.Matching.{Match, on, fault, andThen, matchLine, matchWords, matchPiece, matchPieces}
 use Rattle.checker.specs.Contracts.Places.{matched, MatchedIn, Matches, SpotIn, MarginFits, Matchable}
 use Rattle.checker.specs.declared.Spot.{Spot}
 use Rattle.checker.specs.declared.Matched.{Matched}
 use Rattle.checker.specs.declared.Matched.the-variants.{On as MatchedOn, Fault}
 use Rattle.checker.proofs.Spots.{then-fault, then-on, on-in, matches-same, part-slice}
-use Rattle.judge.specs.Contracts.Judging.{Took, Stepped, Walked}
+use Rattle.judge.specs.Contracts.Judging.{Took, longBehind, Stepped, Walked}
 use Rattle.judge.specs.declared.Stand.{Stand}
 use Rattle.judge.specs.declared.Step.{Step}
 use Rattle.judge.specs.declared.Step.the-variants.{On, Over}
@@ -50,6 +51,21 @@ use Rattle.judge.specs.declared.Course.the-variants.{Through, Stopped}
 -- the table has room for the most words that a paragraph may have
 pub table-holds : {size : ℕ} → size ≡ 1024 * 7 → 1024 * 7 ≤ size
 table-holds e = omega (arith, e)
+
+-- ---- the first paragraph of over so many words
+
+module _ (most : ℕ) (o : Opts) (notes : List ℕ) (c : Stand) where
+  long-none : length notes ≤ c .at → longBehind most o notes c ≡ Nowhere
+  unfolding longParagraph
+  long-none h = ap (longParagraph most o (c .at)) (none-left o (c .mail) notes (c .at) h)
+
+  module _ {kind : Kind} {state : Bool} {next : ℕ} (g : FirstPiece o (c .mail) notes (c .at) kind state next) where
+    long-as : (b : Bool) → tooMany most o kind ≡ b → longBehind most o notes c ≡ elim b as (λ x. Found) [ true ↦ At (c .at) | false ↦ longParagraph most o next (piecesFrom o state notes next) ]
+    unfolding longParagraph
+    long-as b e =
+        ap (longParagraph most o (c .at)) (g .pieces)
+        ∙ ap (λ (n : ℕ). elim (tooMany most o (g .piece .kind)) as (λ x. Found) [ true ↦ At (c .at) | false ↦ longParagraph most o n (piecesFrom o state notes next) ]) (g .extent)
+        ∙ ap (λ (x : Bool). elim x as (λ y. Found) [ true ↦ At (c .at) | false ↦ longParagraph most o next (piecesFrom o state notes next) ]) (ap (tooMany most o) (g .is) ∙ e)
 
 -- ---- behind what is matched
 
@@ -68,16 +84,16 @@ module _ {digest : List ℕ} {m : Matched} (h : MatchedIn digest m) where
 
 -- ---- a piece
 
-module _ (o : Opts) (notes digest : List ℕ) (c : Stand) (next : ℕ) {r : Matched} where
+module _ (most : ℕ) (o : Opts) (notes digest : List ℕ) (c : Stand) (next : ℕ) {r : Matched} where
   pub blank-took : FirstPiece o (c .mail) notes (c .at) blankLine true next → Matches digest (andThen (matched digest (c .matched)) (matchLine (take (c .at - c .at) (drop (c .at) notes)))) r
-      → Took o notes digest c (record { at = next; mail = true; matched = r })
+      → Took most o notes digest c (record { at = next; mail = true; matched = r })
   unfolding matchPiece
   blank-took g m =
       let z : c .at - c .at ≡ 0 = omega arith in
       record { kind = blankLine; goes = g; few = refl; matches = matches-same (ap (λ (n : ℕ). andThen (matched digest (c .matched)) (matchLine (take n (drop (c .at) notes)))) z) m }
 
   pub plain-took : (end : ℕ) → FirstPiece o (c .mail) notes (c .at) (plainLine (slice (c .at) end notes)) false next × (c .at ≤ end) × (end ≤ next)
-      → Matches digest (andThen (matched digest (c .matched)) (matchLine (take (end - c .at) (drop (c .at) notes)))) r → Took o notes digest c (record { at = next; mail = false; matched = r })
+      → Matches digest (andThen (matched digest (c .matched)) (matchLine (take (end - c .at) (drop (c .at) notes)))) r → Took most o notes digest c (record { at = next; mail = false; matched = r })
   unfolding matchPiece
   plain-took end g m = record {
     kind = plainLine (slice (c .at) end notes);
@@ -112,9 +128,9 @@ module _ (block notes : List ℕ) (o : Options) (c : Stand) (p : Paragraph) (rea
       let b = goes .bounds in
       (omega (arith, b .on), b .within, ready .short, k .tabLeast, k .tabMost, b .begins)
 
-  module _ {table : List ℕ} {k : Count} {es : List ℕ} (s : Split 1024 notes words es table k) where
-    pub text-over : k ≡ TooMany → longFrom (meant block o) (c .mail) notes (c .at) ≡ At (c .at)
-    text-over e = long-here (meant block o) (goes .goes) (lt-ltb mostWords (length (wordsOf (meant block o) (goes .paragraph-is))) (omega (arith, split-many s e, ap length words-are)))
+  module _ {most : ℕ} {table : List ℕ} {k : Count} {es : List ℕ} (s : Split most notes words es table k) where
+    pub text-over : k ≡ TooMany → longBehind most (meant block o) notes c ≡ At (c .at)
+    text-over e = long-as most (meant block o) notes c (goes .goes) true (lt-ltb most (length (wordsOf (meant block o) (goes .paragraph-is))) (omega (arith, split-many s e, ap length words-are)))
 
     module _ (n : ℕ) (e : k ≡ Words n) where
       pub text-matchable : Matchable notes table n (p .indent) × MarginFits notes (p .first)
@@ -126,20 +142,20 @@ module _ (block notes : List ℕ) (o : Options) (c : Stand) (p : Paragraph) (rea
           )
 
       pub text-took : {digest : List ℕ} {r : Matched} → Matches digest (andThen (matched digest (c .matched)) (matchWords (o .glue) (marginOf notes (p .first)) (marginOf notes (p .indent)) (wordsIn notes n table))) r
-          → Took (meant block o) notes digest c (record { at = p .next; mail = p .mail; matched = r })
+          → Took most (meant block o) notes digest c (record { at = p .next; mail = p .mail; matched = r })
       unfolding matchPiece meant
       text-took m = record {
         kind = paragraph (goes .paragraph-is);
         goes = goes .goes;
-        few = le-ltb mostWords (length (wordsOf (meant block o) (goes .paragraph-is))) (omega (arith, split-few s n e .1, ap length words-are));
+        few = le-ltb most (length (wordsOf (meant block o) (goes .paragraph-is))) (omega (arith, split-few s n e .1, ap length words-are));
         matches = rw (words-are, ← goes .text .first .bytes, ← goes .text .indent .bytes, ← s .words n e) m;
       }
 
-module _ (o : Opts) (notes digest : List ℕ) (c : Stand) {r : Step} (s : Stepped o notes digest c r) where
-  pub stepped-on : {d : Stand} → r ≡ On d → Took o notes digest c d
+module _ (most : ℕ) (o : Opts) (notes digest : List ℕ) (c : Stand) {r : Step} (s : Stepped most o notes digest c r) where
+  pub stepped-on : {d : Stand} → r ≡ On d → Took most o notes digest c d
   stepped-on e = rw e at s
 
-  pub stepped-over : r ≡ Over → longFrom o (c .mail) notes (c .at) ≡ At (c .at)
+  pub stepped-over : r ≡ Over → longBehind most o notes c ≡ At (c .at)
   stepped-over e = rw e at s
 
 -- ---- the pieces from a place on
@@ -156,18 +172,18 @@ module _ (o : Opts) where
   match-none (fault n) = refl
 
 -- what is left where the work stands at c, of what the digest had come to first
-pub record Going (o : Opts) (notes digest : List ℕ) (first : Matched) (c : Stand) : Type 0 where
+pub record Going (most : ℕ) (o : Opts) (notes digest : List ℕ) (first : Matched) (c : Stand) : Type 0 where
   pub within : c .at ≤ length notes
   pub inside : MatchedIn digest (c .matched)
   pub left : andThen (matched digest (c .matched)) (matchPieces o (piecesFrom o (c .mail) notes (c .at))) ≡ andThen (matched digest first) (matchPieces o (pieces o notes))
-  pub long : longFrom o (c .mail) notes (c .at) ≡ longParagraph mostWords o 0 (pieces o notes)
+  pub long : longBehind most o notes c ≡ longParagraph most o 0 (pieces o notes)
 
-module _ (o : Opts) (notes digest : List ℕ) (first : Matched) where
-  pub going-first : MatchedIn digest first → Going o notes digest first (record { at = 0; mail = true; matched = first })
-  going-first h = record { within = omega arith; inside = h; left = rw (all-pieces o notes); long = all-long o notes }
+module _ (most : ℕ) (o : Opts) (notes digest : List ℕ) (first : Matched) where
+  pub going-first : MatchedIn digest first → Going most o notes digest first (record { at = 0; mail = true; matched = first })
+  going-first h = record { within = omega arith; inside = h; left = rw (all-pieces o notes); long = rw (all-pieces o notes) }
 
-  module _ {c : Stand} (g : Going o notes digest first c) where
-    pub going-on : {d : Stand} → Took o notes digest c d → Going o notes digest first d
+  module _ {c : Stand} (g : Going most o notes digest first c) where
+    pub going-on : {d : Stand} → Took most o notes digest c d → Going most o notes digest first d
     going-on {d} t =
         let q = t .goes .piece in
         let rest = piecesFrom o (d .mail) notes (d .at) in
@@ -180,17 +196,17 @@ module _ (o : Opts) (notes digest : List ℕ) (first : Matched) where
               ∙ match-more o (matched digest (c .matched)) q rest
               ∙ ap (λ (qs : List Piece). andThen (matched digest (c .matched)) (matchPieces o qs)) (sym (t .goes .pieces))
               ∙ g .left;
-          long = sym (long-more o (t .goes) (t .few)) ∙ g .long;
+          long = sym (long-as most o notes c (t .goes) false (t .few)) ∙ g .long;
         }
 
-    pub going-through : length notes ≤ c .at → Walked o notes digest first (Through (c .matched))
+    pub going-through : length notes ≤ c .at → Walked most o notes digest first (Through (c .matched))
     going-through h = (
-      sym (g .long) ∙ long-none o (c .mail) notes (c .at) h,
+      sym (g .long) ∙ long-none most o notes c h,
       record {
         is = sym (match-none o (matched digest (c .matched))) ∙ ap (λ (qs : List Piece). andThen (matched digest (c .matched)) (matchPieces o qs)) (sym (none-left o (c .mail) notes (c .at) h)) ∙ g .left;
         inside = g .inside;
       },
     )
 
-    pub going-stopped : longFrom o (c .mail) notes (c .at) ≡ At (c .at) → Walked o notes digest first (Stopped (c .at))
+    pub going-stopped : longBehind most o notes c ≡ At (c .at) → Walked most o notes digest first (Stopped (c .at))
     going-stopped e = sym (g .long) ∙ e

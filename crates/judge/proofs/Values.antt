@@ -13,8 +13,10 @@ use Rattle.options.specs.OptionBlock.{readBlock}
 use Rattle.options.specs.declared.Block.{Block}
 use Rattle.options.specs.declared.Block.the-variants.{Accepted as BlockAccepted, Fault}
 use Rattle.formatter.specs.Answers.{Answer, done, options, long, text, words, room, work, code as codeOf, value as valueOf}
-use Rattle.formatter.specs.Format.{Limits, document01, finding, mostTold}
-use Rattle.formatter.proofs.Values.{Sound, document01-sound, found-value, reads-back}
+use Rattle.formatter.specs.Format.{Limits, finding, mostTold}
+use Rattle.formatter.specs.Work.{lending}
+use Rattle.formatter.proofs.Values.{Sound, found-value, reads-back}
+use Rattle.formatter.proofs.Work.{the-room-asked-for-suffices}
 use Rattle.checker.specs.Acceptable.{Acceptable}
 use Rattle.checker.specs.Named.{feeds, Named}
 use Rattle.checker.specs.Matching.{Verdict, accepted, at, verdict}
@@ -81,9 +83,9 @@ code-most LongDigest = omega arith
 code-most (Line line) = omega arith
 code-most (Work needed) = omega arith
 
-pub number-fits : (block notes digest : List ℕ) → numbered (checking document01 block notes digest) < 2 ^ 64
+pub number-fits : (l : Limits) → Sound l → (block notes digest : List ℕ) → numbered (checking l block notes digest) < 2 ^ 64
 unfolding numbered
-number-fits block notes digest = let s = checking-small document01 document01-sound block notes digest in let m = code-most (checking document01 block notes digest) in omega (arith, s, m)
+number-fits l sound block notes digest = let s = checking-small l sound block notes digest in let m = code-most (checking l block notes digest) in omega (arith, s, m)
 
 -- Code and value can be read back from the number, whatever the limits, the block, the notes and the digest.
 pub checking-tells-code-and-value : (l : Limits) → Sound l → (block notes digest : List ℕ)
@@ -95,3 +97,31 @@ checking-tells-code-and-value l sound block notes digest = reads-back (code (che
 pub number-is : {a b : Judgement} → a ≡ b → numbered a ≡ code b * 2 ^ 32 + value b
 unfolding numbered
 number-is e = ap numbered e
+
+-- ---- lent room
+
+-- what is refused for want of room is found so
+module _ (l : Limits) (block notes digest : List ℕ) (n : ℕ) where
+  never-so : (b : Bool) (v : Verdict) → cond b LongDigest (withVerdict v) ≡ Work n → ⊥
+  never-so true v e = let z = ap code e in omega (arith, z)
+  never-so false accepted e = let z = ap code e in omega (arith, z)
+  never-so false (at line) e = let z = ap code e in omega (arith, z)
+
+  found-so : checking l block notes digest ≡ Work n → finding l block notes ≡ work n
+  unfolding checking
+  found-so e = go (finding l block notes) e
+    where
+      go : (a : Answer) → withNotes (withDigest (l .bytes) (length digest) (verdictUnder block notes digest (readBlock block))) a ≡ Work n → a ≡ work n
+      go (done d) k = absurd (never-so (ltb (l .bytes) (length digest)) (verdictUnder block notes digest (readBlock block)) k)
+      go (options place) k = absurd (let z = ap code k in omega (arith, z))
+      go long k = absurd (let z = ap code k in omega (arith, z))
+      go (text place) k = absurd (let z = ap code k in omega (arith, z))
+      go (words place) k = absurd (let z = ap code k in omega (arith, z))
+      go (room needed) k = absurd (let z = ap code k in omega (arith, z))
+      go (work needed) k = ap work (ap value k)
+
+-- With the room that the call asks for it is not refused so again, whatever the digest.
+pub the-room-asked-for-suffices-to-check : (block notes digest other : List ℕ) (lends needed more : ℕ) → checking (lending lends) block notes digest ≡ Work needed → needed ≤ more
+    → (n : ℕ) → checking (lending more) block notes other ≡ Work n → ⊥
+the-room-asked-for-suffices-to-check block notes digest other lends needed more e h n f =
+    the-room-asked-for-suffices block notes lends needed more (found-so (lending lends) block notes digest needed e) h n (found-so (lending more) block notes other n f)

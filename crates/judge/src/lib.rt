@@ -17,6 +17,7 @@ ghost use Rattle.walk.specs.Contracts.Course.{Admitted};
 ghost use Rattle.checker.specs.Matching.{andThen, matchLine, matchWords};
 ghost use Rattle.checker.specs.Contracts.Places.{matched, MatchedIn, Matches, MarginFits, Matchable};
 ghost use Rattle.formatter.specs.Format.{document01};
+ghost use Rattle.formatter.specs.Work.{lending};
 ghost use Rattle.judge.specs.Answers.{numbered};
 ghost use Rattle.judge.specs.Checking.{checking};
 ghost use Rattle.judge.specs.Contracts.Judging.{begun, judgedBy, refusedAs, leftOf, Stepped, Walked};
@@ -55,8 +56,10 @@ enum Course {
 // Notes and digests are refused if they are longer.
 const MOST_BYTES: usize = 65536;
 
-// A paragraph of more words is refused.
+// A paragraph of more words is refused. They take seven numbers each.
 const MOST_WORDS: usize = 1024;
+
+const MOST_NUMBERS: usize = 7168;
 
 // Checks a digest: 1, 2, 3, 4, 9 and 10 are the refusals, in this order.
 pub fn check(block: &[u8], notes: &[u8], digest: &[u8]) -> Judgement
@@ -65,6 +68,16 @@ pub fn check(block: &[u8], notes: &[u8], digest: &[u8]) -> Judgement
     match formatter::admit(block, notes) {
         Admission::Refused(r) => refused(r),
         Admission::Passed(o) => check_notes(o, block, notes, digest),
+    }
+}
+
+// The same in working room that is lent: 12 in the place of 4.
+pub fn check_large(block: &[u8], notes: &[u8], digest: &[u8], work: &mut [u32]) -> Judgement
+    ensures { λ r. ⌜ r ≡ checking (lending (length (now (work .entry)))) (now (block .entry)) (now (notes .entry)) (now (digest .entry)) ⌝ }
+{
+    match formatter::admit_within(block, notes, formatter::MOST_LARGE) {
+        Admission::Refused(r) => refused(r),
+        Admission::Passed(o) => check_lent(o, block, notes, digest, work),
     }
 }
 
@@ -86,30 +99,64 @@ fn refused(r: Reply) -> Judgement
 // 4, 9 and 10, with the options of an accepted block. The table of a paragraph's words is lent from here on.
 fn check_notes(o: Options, block: &[u8], notes: &[u8], digest: &[u8]) -> Judgement
     requires { ⌜ Admitted (now block) (now notes) o ⌝ }
-    ensures { λ r. ⌜ r ≡ leftOf (meant (now (block .entry)) o) (now (notes .entry)) (now (digest .entry)) ⌝ }
+    ensures { λ r. ⌜ r ≡ leftOf document01 (meant (now (block .entry)) o) (now (notes .entry)) (now (digest .entry)) ⌝ }
 {
-    let mut table = [0u32; 7168];
-    match match_pieces(o, block, notes, digest, begin(digest.len()), &mut table) {
+    let mut table = [0u32; MOST_NUMBERS];
+    match match_pieces(
+        o,
+        block,
+        notes,
+        digest,
+        begin(MOST_BYTES, digest.len()),
+        MOST_WORDS,
+        &mut table,
+    ) {
         Course::Stopped(place) => Judgement::Words(place),
-        Course::Through(m) => judge(digest.len(), m),
+        Course::Through(m) => judge(MOST_BYTES, digest.len(), m),
+    }
+}
+
+// In the room that is lent. Only where it does not reach is counted what would.
+fn check_lent(
+    o: Options,
+    block: &[u8],
+    notes: &[u8],
+    digest: &[u8],
+    work: &mut [u32],
+) -> Judgement
+    requires { ⌜ Admitted (now block) (now notes) o ⌝ }
+    ensures { λ r. ⌜ r ≡ leftOf (lending (length (now (work .entry)))) (meant (now (block .entry)) o) (now (notes .entry)) (now (digest .entry)) ⌝ }
+{
+    let most = paragraphs::room_for(o.quick, work.len());
+    match match_pieces(
+        o,
+        block,
+        notes,
+        digest,
+        begin(formatter::MOST_LARGE, digest.len()),
+        most,
+        work,
+    ) {
+        Course::Stopped(_) => Judgement::Work(walk::work_over(o, block, notes, work.len())),
+        Course::Through(m) => judge(formatter::MOST_LARGE, digest.len(), m),
     }
 }
 
 // A digest that is too long is not matched at all. 4 comes before 9, so the words of the notes are counted all the same.
-fn begin(size: usize) -> Matched
-    ensures { λ r. ⌜ r ≡ begun size ⌝ }
+fn begin(bytes: usize, size: usize) -> Matched
+    ensures { λ r. ⌜ r ≡ begun bytes size ⌝ }
 {
-    if MOST_BYTES < size {
+    if bytes < size {
         return Matched::Fault(0);
     }
     Matched::On(Spot { at: 0, line: 0 })
 }
 
 // What is told of a digest of so many bytes that has come to m behind the last piece: nothing may be left of it.
-fn judge(size: usize, m: Matched) -> Judgement
-    ensures { λ r. ⌜ r ≡ judgedBy size m ⌝ }
+fn judge(bytes: usize, size: usize, m: Matched) -> Judgement
+    ensures { λ r. ⌜ r ≡ judgedBy bytes size m ⌝ }
 {
-    if MOST_BYTES < size {
+    if bytes < size {
         return Judgement::LongDigest;
     }
     match m {
@@ -130,10 +177,11 @@ fn match_pieces(
     notes: &[u8],
     digest: &[u8],
     first: Matched,
+    most: usize,
     table: &mut [u32],
 ) -> Course
-    requires { ⌜ Admitted (now block) (now notes) o × MatchedIn (now digest) first × Holds 1024 (now table) ⌝ }
-    ensures { λ r. ⌜ Walked (meant (now (block .entry)) o) (now (notes .entry)) (now (digest .entry)) first r ⌝ }
+    requires { ⌜ Admitted (now block) (now notes) o × MatchedIn (now digest) first × Holds most (now table) ⌝ }
+    ensures { λ r. ⌜ Walked most (meant (now (block .entry)) o) (now (notes .entry)) (now (digest .entry)) first r ⌝ }
 {
     let mut c = Stand {
         at: 0,
@@ -141,7 +189,7 @@ fn match_pieces(
         matched: first,
     };
     while c.at < notes.len() {
-        let Step::On(d) = match_piece(o, block, notes, digest, c, table) else {
+        let Step::On(d) = match_piece(o, block, notes, digest, c, most, table) else {
             return Course::Stopped(c.at);
         };
         c = d;
@@ -157,10 +205,11 @@ fn match_piece(
     notes: &[u8],
     digest: &[u8],
     c: Stand,
+    most: usize,
     table: &mut [u32],
 ) -> Step
-    requires { ⌜ Admitted (now block) (now notes) o × MatchedIn (now digest) (c .matched) × Holds 1024 (now table) × (c .at < length (now notes)) ⌝ }
-    ensures { λ r. ⌜ Stepped (meant (now (block .entry)) o) (now (notes .entry)) (now (digest .entry)) c r ⌝ }
+    requires { ⌜ Admitted (now block) (now notes) o × MatchedIn (now digest) (c .matched) × Holds most (now table) × (c .at < length (now notes)) ⌝ }
+    ensures { λ r. ⌜ Stepped most (meant (now (block .entry)) o) (now (notes .entry)) (now (digest .entry)) c r ⌝ }
 {
     let at = c.at;
     let m = c.matched;
@@ -184,7 +233,7 @@ fn match_piece(
                 p.start,
                 p.later,
                 o,
-                MOST_WORDS,
+                most,
                 table,
             ) else {
                 return Step::Over;

@@ -7,7 +7,7 @@ use borrow.Author.Tests.{eqb-true, eqb-false}
 use lib.Dec.{eqb}
 use lib.ListN.{length}
 use Rattle.knuth_plass.specs.declared.Break.{Break as Record}
-use Rattle.knuth_plass.specs.Contracts.Table.{Tables, breakIn, withBreak, Stored, Sound, Filled}
+use Rattle.knuth_plass.specs.Contracts.Table.{mostWords, Tables, breakIn, withBreak, Stored, Sound, Filled, Leads}
 use Rattle.knuth_plass.specs.Contracts.Round.{lessened, extended}
 use Rattle.knuth_plass.proofs.Table.{sized-with, stored-with}
 
@@ -44,3 +44,10 @@ module _ (i n : ℕ) (t : Tables) (filled : Filled i n t) where
     sound = λ m h. stored-holds t n b (withBreak t n b) (λ m c. Sound (suc i) c) (stored-with t n b room (filled .sized)) sound m (λ ne. sound-later i (breakIn t m) (filled .sound m (omega arith)));
     down = λ m p h. stored-holds t n b (withBreak t n b) (λ m c. 0 < m → c .previous < m) (stored-with t n b room (filled .sized)) (λ q. before) m (λ ne q. filled .down m q (omega arith)) p;
   }
+
+-- each record leads down to the first
+pub filled-leads : (i n : ℕ) (t : Tables) → Filled i n t → i ≤ mostWords → (last : ℕ) → last < n → Leads t last
+filled-leads i n t filled few last h j p l =
+    let m : j < n = omega arith in
+    let w = filled .sound j m .word in
+    (filled .down j p m, omega arith)

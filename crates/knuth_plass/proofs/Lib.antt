@@ -15,6 +15,12 @@ pub mod Settling
 pub mod Paragraph
 pub mod Whole
 pub mod Reduction
+pub mod Absolute
+pub mod Bases
+pub mod Span
+pub mod Again
+pub mod Rounding
+pub mod Intervals
 pub mod Unique
 pub mod Makers
 pub mod Asked

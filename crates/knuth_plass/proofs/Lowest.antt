@@ -77,13 +77,13 @@ module _ (t : Tables) (m n : ℕ) (a b : Record) (first : a ≡ breakIn t m) (se
   pub lesser-first : a .demerits ≤ b .demerits → m ≡ lesserIn t m n
   lesser-first h = sym (rw (← first, ← second, le-ltb (b .demerits) (a .demerits) h))
 
-lesser-below : (t : Tables) (m n size : ℕ) → m < size → n < size → lesserIn t m n < size
+pub lesser-below : (t : Tables) (m n size : ℕ) → m < size → n < size → lesserIn t m n < size
 lesser-below t m n size h k = by (ltb (breakIn t n .demerits) (breakIn t m .demerits)) where
   by : (x : Bool) → cond x n m < size
   by true = k
   by false = h
 
-least-next : (t : Tables) (m n : ℕ) (bs : List Break) → leastFrom (breakMeant t m) (breakMeant t n ∷ bs) ≡ leastFrom (breakMeant t (lesserIn t m n)) bs
+pub least-next : (t : Tables) (m n : ℕ) (bs : List Break) → leastFrom (breakMeant t m) (breakMeant t n ∷ bs) ≡ leastFrom (breakMeant t (lesserIn t m n)) bs
 unfolding leastFrom breakMeant seen
 least-next t m n bs = ap (λ (c : Break). leastFrom c bs) (by (ltb (breakIn t n .demerits) (breakIn t m .demerits))) where
   by : (x : Bool) → cond x (breakMeant t n) (breakMeant t m) ≡ breakMeant t (cond x n m)

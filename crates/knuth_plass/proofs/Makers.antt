@@ -26,12 +26,12 @@ use Rattle.knuth_plass.specs.declared.Tried.the-variants.{Other, Here}
 use Rattle.knuth_plass.specs.KnuthPlass.{Break, none, stretchOf, minimumOf, reduced, reached, staying, offerOf, bestOffer, restart}
 use Rattle.knuth_plass.specs.BestLines.{offering, chosenOf, forced, makerOf, maker}
 use Rattle.knuth_plass.specs.Contracts.Table.{ratioOf, Tables, breakIn, pathTo, seen, breakMeant}
-use Rattle.knuth_plass.specs.Contracts.Round.{Turns, lessened, nothing, breaksListed, Fit, Restarted, Done, Settled}
+use Rattle.knuth_plass.specs.Contracts.Round.{Turns, lessened, nothing, breaksListed, Fit, Restarted, Done, Settled, turnOf}
 use Rattle.knuth_plass.specs.Contracts.Makers.{triedOf, found, chosenIn, Kept, From, ForcedIs, MakerIs, ToldIs}
 use Rattle.knuth_plass.proofs.Ascends.{ascends-each}
 use Rattle.knuth_plass.proofs.Offers.{offer-some, offer-none}
 use Rattle.knuth_plass.proofs.Over.{fit-all}
-use Rattle.knuth_plass.proofs.Paragraph.{turnOf, round-is}
+use Rattle.knuth_plass.proofs.Paragraph.{round-is}
 use Rattle.knuth_plass.proofs.Settling.{kept-room, breaks-length}
 
 -- ---- an offer of a total
@@ -129,14 +129,14 @@ module _ (g : Setting) (turn : Turn) (st : Standing) (t : Tables) (a : List ℕ)
     makes = makerOf g (turn .last) (turn .number) (turn .space) word active (bestOffer g (turn .last) (turn .number) (turn .space) word active) (staying g (turn .space) word active)
 
     pub makes-last : s .best .total < nothing → turn .last ≡ true → Paragraph ≡ makes
-    makes-last h l = sym (rw (← done .best, offer-some g (turn .number) t (s .best) h, l))
+    makes-last h l = sym (rw (← done .best, offer-some (g .indent) true (turn .number) t (s .best) h, l))
 
     pub makes-chosen : s .best .total < nothing → turn .last ≡ false → chosenIn g (turn .weight) (s .best .total) (breaksListed (s .kept) t a) ≡ makes
     unfolding meaning
     makes-chosen h l =
         ap (chosenIn g (turn .weight) (s .best .total)) (done .stayed)
         ∙ chosen-staying g (turn .number) (turn .space) (turn .weight) (s .best .total) word (turns .weight) active
-        ∙ sym (rw (← done .best, offer-some g (turn .number) t (s .best) h, l))
+        ∙ sym (rw (← done .best, offer-some (g .indent) true (turn .number) t (s .best) h, l))
 
     some-stays : (bs : List Break) → 0 < length bs → Paragraph ≡ makerOf g (turn .last) (turn .number) (turn .space) word active none bs
     some-stays [] h = absurd (omega arith)
@@ -144,12 +144,12 @@ module _ (g : Setting) (turn : Turn) (st : Standing) (t : Tables) (a : List ℕ)
 
     pub makes-nothing : nothing ≤ s .best .total → 0 < s .kept → Paragraph ≡ makes
     makes-nothing h k =
-        rw (← done .best, offer-none g (turn .number) t (s .best) h, ← done .stayed) (some-stays (breaksListed (s .kept) t a) (rw (breaks-length g turn st t a s turns fit) k))
+        rw (← done .best, offer-none (g .indent) true (turn .number) t (s .best) h, ← done .stayed) (some-stays (breaksListed (s .kept) t a) (rw (breaks-length g turn st t a s turns fit) k))
 
     pub makes-forced : (e : Ending) → nothing ≤ s .best .total → s .kept ≡ 0 → ForcedIs g turn (lessened (st .reduction) (breakIn t (s .from))) e → e ≡ makes
     makes-forced e h z is =
         is notes (pathTo t (s .from))
-        ∙ rw (← done .best, offer-none g (turn .number) t (s .best) h, ← done .stayed, z)
+        ∙ rw (← done .best, offer-none (g .indent) true (turn .number) t (s .best) h, ← done .stayed, z)
         (ap (λ (b : Break). forced (restart g (turn .number) (turn .space) word b .places)) (done .found .again z))
 
 -- ---- a round

@@ -7,12 +7,11 @@ use native.Mathlib.Omega.{arith}
 use borrow.Author.Tests.{le-leb, lt-leb, leb-true, leb-false, lt-ltb, le-ltb, ltb-true, ltb-false}
 use lib.Dec.{T, leb, ltb}
 use lib.Ieee.{Float}
-use Rattle.spacing.specs.declared.Setting.{Setting}
 use Rattle.demerits.specs.Contracts.Bounds.{within, mostCost}
 use Rattle.knuth_plass.specs.declared.Best.{Best}
 use Rattle.knuth_plass.specs.KnuthPlass.{Break, Offer, none, offer, after, lesser}
 use Rattle.knuth_plass.specs.Contracts.Table.{Tables, pathTo}
-use Rattle.knuth_plass.specs.Contracts.Round.{nothing, bestFrom, better, offerIn, BestFits}
+use Rattle.knuth_plass.specs.Contracts.Round.{nothing, bestFrom, better, offerMade, BestFits}
 
 -- ---- as the code chooses
 
@@ -32,23 +31,23 @@ better-stays b p d r h = rw (le-leb (b .total) d h)
 
 -- ---- what is chosen
 
-module _ (g : Setting) (i : ℕ) (t : Tables) where
+module _ (columns : ℕ) (fresh : Bool) (i : ℕ) (t : Tables) where
   -- the break that an offer would be
   abbrev one : Best → Break
-  one b = record { places = after i ∷ pathTo t (b .previous); demerits = b .total; ratio = b .ratio; columns = g .indent; fresh = true }
+  one b = record { places = after i ∷ pathTo t (b .previous); demerits = b .total; ratio = b .ratio; columns = columns; fresh = fresh }
 
-  pub offer-some : (b : Best) → b .total < nothing → offerIn g i t b ≡ offer (one b)
-  unfolding offerIn
+  pub offer-some : (b : Best) → b .total < nothing → offerMade columns fresh i t b ≡ offer (one b)
+  unfolding offerMade
   offer-some b h = rw (lt-ltb (b .total) nothing h)
 
-  pub offer-none : (b : Best) → nothing ≤ b .total → offerIn g i t b ≡ none
-  unfolding offerIn
+  pub offer-none : (b : Best) → nothing ≤ b .total → offerMade columns fresh i t b ≡ none
+  unfolding offerMade
   offer-none b h = rw (le-ltb (b .total) nothing h)
 
-  pub offer-better : (b : Best) (p d : ℕ) (r : Float) → d < nothing → offerIn g i t (better b p d r) ≡ lesser (offerIn g i t b) (offerIn g i t (bestFrom p d r))
+  pub offer-better : (b : Best) (p d : ℕ) (r : Float) → d < nothing → offerMade columns fresh i t (better b p d r) ≡ lesser (offerMade columns fresh i t b) (offerMade columns fresh i t (bestFrom p d r))
   unfolding better lesser
   offer-better b p d r few = by (leb (b .total) d) (ltb (b .total) nothing) refl refl where
-    by : (x y : Bool) → leb (b .total) d ≡ x → ltb (b .total) nothing ≡ y → offerIn g i t (cond x b (bestFrom p d r)) ≡ lesser (offerIn g i t b) (offerIn g i t (bestFrom p d r))
+    by : (x y : Bool) → leb (b .total) d ≡ x → ltb (b .total) nothing ≡ y → offerMade columns fresh i t (cond x b (bestFrom p d r)) ≡ lesser (offerMade columns fresh i t b) (offerMade columns fresh i t (bestFrom p d r))
     by true true e f = rw (offer-some b (ltb-true (b .total) nothing f), offer-some (bestFrom p d r) few, lesser, e)
     by false true e f = rw (offer-some b (ltb-true (b .total) nothing f), offer-some (bestFrom p d r) few, lesser, e)
     by true false e f = let h = leb-true (b .total) d e in let k = ltb-false (b .total) nothing f in absurd (omega arith)
@@ -63,13 +62,13 @@ fits-better i size b p d r f h k w = by (leb (b .total) d) where
   by false z = record { previous = h; total = k; ratio = w }
 
 -- the same paths, the same offer
-pub offer-same : (g : Setting) (i size : ℕ) (t t₁ : Tables) (b : Best) → (b .total < nothing → BestFits i size b) → ((j : ℕ) → j < size → pathTo t₁ j ≡ pathTo t j) → offerIn g i t₁ b ≡ offerIn g i t b
-offer-same g i size t t₁ b f e = by (ltb (b .total) nothing) refl where
-  by : (x : Bool) → ltb (b .total) nothing ≡ x → offerIn g i t₁ b ≡ offerIn g i t b
+pub offer-same : (columns : ℕ) (fresh : Bool) (i size : ℕ) (t t₁ : Tables) (b : Best) → (b .total < nothing → BestFits i size b) → ((j : ℕ) → j < size → pathTo t₁ j ≡ pathTo t j) → offerMade columns fresh i t₁ b ≡ offerMade columns fresh i t b
+offer-same columns fresh i size t t₁ b f e = by (ltb (b .total) nothing) refl where
+  by : (x : Bool) → ltb (b .total) nothing ≡ x → offerMade columns fresh i t₁ b ≡ offerMade columns fresh i t b
   by true h =
       let k = ltb-true (b .total) nothing h in
-      rw (offer-some g i t₁ b k, offer-some g i t b k, e (b .previous) (f k .previous))
-  by false h = let k = ltb-false (b .total) nothing h in rw (offer-none g i t₁ b k, offer-none g i t b k)
+      rw (offer-some columns fresh i t₁ b k, offer-some columns fresh i t b k, e (b .previous) (f k .previous))
+  by false h = let k = ltb-false (b .total) nothing h in rw (offer-none columns fresh i t₁ b k, offer-none columns fresh i t b k)
 
 -- ---- first among equals, in any grouping
 

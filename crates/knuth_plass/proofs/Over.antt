@@ -17,7 +17,7 @@ use Rattle.knuth_plass.specs.declared.State.{State}
 use Rattle.knuth_plass.specs.declared.Standing.{Standing}
 use Rattle.knuth_plass.specs.KnuthPlass.{Break, reduced, staying, lesser, bestOffer, leastFrom, least}
 use Rattle.knuth_plass.specs.Contracts.Table.{Tables, breakIn, pathTo, seen, breakMeant, Ascends}
-use Rattle.knuth_plass.specs.Contracts.Round.{lessened, nothing, offerIn, RoundReady, breaksListed, Fit, RoundGoes, Outcome, Done}
+use Rattle.knuth_plass.specs.Contracts.Round.{lessened, nothing, offerMade, offerIn, RoundReady, breaksListed, Fit, RoundGoes, Outcome, Done}
 use Rattle.knuth_plass.proofs.Ascends.{ascends-first}
 use Rattle.knuth_plass.proofs.Offers.{lesser-none}
 
@@ -70,7 +70,7 @@ module _ (g : Setting) (turn : Turn) (st : Standing) (t : Tables) (a : List ℕ)
     }
 
     pub goes-first : (notes : List ℕ) → RoundGoes g turn st (answer g turn (map (reduced (st .reduction)) (breaksListed (st .count) t a)) notes) 0 t a (begun (n) (b .demerits) r)
-    unfolding lesser offerIn least reduced breakMeant seen
+    unfolding lesser offerMade least reduced breakMeant seen
     goes-first notes = record {
       stayed = refl;
       best = refl;

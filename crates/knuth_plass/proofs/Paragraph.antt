@@ -19,17 +19,13 @@ use Rattle.demerits.specs.Demerits.{noRatio}
 use Rattle.knuth_plass.specs.declared.Break.{Break as Record}
 use Rattle.knuth_plass.specs.declared.State.{State}
 use Rattle.knuth_plass.specs.declared.Standing.{Standing}
-use Rattle.knuth_plass.specs.declared.Turn.{Turn}
 use Rattle.knuth_plass.specs.KnuthPlass.{Break, Active, Offer, reduced, settled, withOffer, round, isLast, sentenceBehind, firstBreak, roundsFrom}
 use Rattle.knuth_plass.specs.Contracts.Table.{ratioOf, Tables, Sized, withBreak, seen, breakMeant, Sound}
-use Rattle.knuth_plass.specs.Contracts.Round.{Limits, RoundReady, breaksListed, standing, Done, Settled, RoundIs, begin, RoundsAre}
+use Rattle.knuth_plass.specs.Contracts.Round.{Limits, turnOf, RoundReady, breaksListed, standing, Done, Settled, RoundIs, begin, RoundsAre}
 use Rattle.knuth_plass.proofs.Table.{sized-with, length-with, read-back}
 use Rattle.knuth_plass.proofs.Path.{path-start}
 
 -- ---- one round
-
-abbrev pub turnOf : Bool → ℕ → WordRecord → ℕ → ℕ → Turn
-turnOf last i w space weight = record { word = w; number = i; space = space; weight = weight; last = last }
 
 module _ (g : Setting) (last sentence : Bool) (i : ℕ) (w : WordRecord) (space weight : ℕ) (st : Standing) (t : Tables) (a : List ℕ) where
   pub round-is : (t₁ : Tables) (a₁ : List ℕ) (s : State) (t₂ : Tables) (a₂ : List ℕ) (r : Standing) → space ≡ addedSpace (g .uniform) (w .first) sentence false

@@ -115,7 +115,7 @@ module _ (g : Setting) (turn : Turn) (st : Standing) (t : Tables) (a : List ℕ)
       room = omega arith;
       ascends = ascends;
     });
-    is = λ notes active l. rw (offer-none g (turn .number) t (s .best) e) (settled-is notes active (breaksListed (s .kept) t a) (breaksListed (s .kept) t a) l refl (rw breaks-length some));
+    is = λ notes active l. rw (offer-none (g .indent) true (turn .number) t (s .best) e) (settled-is notes active (breaksListed (s .kept) t a) (breaksListed (s .kept) t a) l refl (rw breaks-length some));
   }
 
   -- the best offer is one break more
@@ -137,7 +137,7 @@ module _ (g : Setting) (turn : Turn) (st : Standing) (t : Tables) (a : List ℕ)
         let f = fit .best best in
         record {
           ready = ready-more offered (s .least) t₁ a₁ offer-sound (f .previous) stored put;
-          is = λ notes active l. rw (offer-some g (turn .number) t (s .best) best, ← same)
+          is = λ notes active l. rw (offer-some (g .indent) true (turn .number) t (s .best) best, ← same)
               (settled-is notes active (breaksListed (s .kept + 1) t₁ a₁) (breaksListed (s .kept) t a ++ (seen (placeOf offered ∷ pathTo t (s .best .previous)) offered ∷ [])) l
               (breaks-more offered (s .least) t₁ a₁ offer-sound (f .previous) stored put)
               (simp length-append (omega arith)));
@@ -154,7 +154,7 @@ module _ (g : Setting) (turn : Turn) (st : Standing) (t : Tables) (a : List ℕ)
       record {
         ready = rw z at (ready-more b 0 t₁ a₁ (again .sound) before stored put₁);
         is = λ notes active l.
-            rw (offer-none g (turn .number) t (s .best) e, z)
+            rw (offer-none (g .indent) true (turn .number) t (s .best) e, z)
             (ap (λ (bs : List Break). make bs 0)
             (rw z at more
             ∙ ap (λ (c : Break). c ∷ [])

@@ -1,5 +1,6 @@
 -- One turn of a round: the break that is next is dropped, or stays with the word on its line and may offer.
 use mathlib.Core.Path.{_≡_, refl, sym, _∙_}
+use mathlib.Core.Bool.{true}
 use mathlib.Core.List.{List, [], _∷_, _++_, map-append}
 use Prim.Native.Nat.{ℕ, _+_, _≤_, _<_}
 use native.Mathlib.Numerals.{add-one}
@@ -22,7 +23,7 @@ use Rattle.knuth_plass.proofs.Path.{Alike, path-again, meant-again, mea
 use Rattle.knuth_plass.proofs.Ascends.{ascends-at, ascends-less, map-left, map-right}
 use Rattle.knuth_plass.proofs.Filled.{filled-again, sound-lessened, sound-extended}
 use Rattle.knuth_plass.proofs.Lowest.{lower, noted-kept, noted-best, noted-from, noted-found, least-step}
-use Rattle.knuth_plass.proofs.Line.{line-is, offered-short}
+use Rattle.knuth_plass.proofs.Line.{line-is, offered-line, offered-short}
 use Rattle.knuth_plass.proofs.Table.{has-room, stored-with}
 use Rattle.knuth_plass.proofs.Offers.{lesser-assoc, offer-same}
 
@@ -102,7 +103,7 @@ module _ (g : Setting) (turn : Turn) (st : Standing) (k : ℕ) (t : Tables) (a :
           }
 
     module _ (x : ℕ) (best : Best) (t₁ : Tables) (limits : Limits g) (line : x ≡ lineAt g turn b) (fits : x ≤ g .width)
-        (offered : OfferedIs g turn (n) b (s .best) best) (stored : Stored t (n) (extended x b) t₁) where
+        (offered : OfferedIs g turn (n) b x (s .best) best) (stored : Stored t (n) (extended x b) t₁) where
       alike : Alike (extended x b) (breakIn t (n))
       alike = rw is (record { place = refl; previous = refl })
 
@@ -161,8 +162,8 @@ module _ (g : Setting) (turn : Turn) (st : Standing) (k : ℕ) (t : Tables) (a :
             ) (rw (r, staying-keeps g turn (z .notes) b (pathTo t (n)) (rest st (k + 1) t a) f) at (v .stayed));
             best = rw (
               rest-same,
-              offer-same g (turn .number) (st .size) t t₁ best (offered .fits (st .size) within (fit .best)) paths,
-              offered .is (z .notes) t,
+              offer-same (g .indent) true (turn .number) (st .size) t t₁ best (offered .fits (st .size) within (fit .best)) paths,
+              offered-line g turn n b (s .best) x best line offered (z .notes) t,
               lesser-assoc,
             ) (rw (r, bestOffer) at (v .best));
             so-far = lower st t s (n) b (v .so-far) (v .found);
@@ -177,13 +178,13 @@ module _ (g : Setting) (turn : Turn) (st : Standing) (k : ℕ) (t : Tables) (a :
       abbrev Onward : Type 0
       Onward = Fit turn st (k + 1) t₁ a₁ r × ((z : Outcome) → RoundGoes g turn st z k t a s → RoundGoes g turn st z (k + 1) t₁ a₁ r)
 
-      pub keeps : x ≤ g .width → OfferedIs g turn n b (s .best) best → Onward
+      pub keeps : x ≤ g .width → OfferedIs g turn n b x (s .best) best → Onward
       keeps fits offered =
           let stored = stored-with t n (extended x b) room (fit .filled .sized) in
           rw (went, listed, saw, kept, noted-kept s n (b .demerits)) (fit-keeps x best _ limits line fits offered stored, goes-keeps x best _ limits line fits offered stored)
 
-    pub offers : (x : ℕ) → Limits g → x ≡ lineAt g turn b → x ≤ g .width → Offers g turn b x
-    offers x limits line fits = record { limits = limits; turns = turns; is = line; fits = fits; sound = rw is sound }
+    pub offers : (x : ℕ) → Limits g → x ≤ g .width → Offers g turn b x
+    offers x limits fits = record { limits = limits; turns = turns; fits = fits; sound = rw is sound }
 
     -- the table has room for what is stored where it stays
     pub keep-room : (after : State) (x : ℕ) (l : List ℕ) → t ≡ tableIn l → after ≡ noted s n (b .demerits) → Limits g → x ≤ g .width → Keeps n x (after .kept) l
@@ -202,5 +203,5 @@ module _ (g : Setting) (turn : Turn) (st : Standing) (k : ℕ) (t : Tables) (a :
     pub short-fits : (x : ℕ) → Limits g → x < minimumOf g → x ≤ g .width
     short-fits x limits h = let o = limits .over in omega arith
 
-    pub short-offers : (x : ℕ) → Limits g → x ≡ lineAt g turn b → x < minimumOf g → OfferedIs g turn (n) b (s .best) (s .best)
-    short-offers x limits line h = offered-short g turn (n) b (s .best) x (offers x limits line (short-fits x limits h)) h
+    pub short-offers : (x : ℕ) → Limits g → x < minimumOf g → OfferedIs g turn (n) b x (s .best) (s .best)
+    short-offers x limits h = offered-short g turn (n) b (s .best) x (offers x limits (short-fits x limits h)) h

@@ -17,7 +17,8 @@ use Rattle.spacing.specs.declared.Setting.{Setting}
 use Rattle.knuth_plass.specs.declared.Standing.{Standing}
 use Rattle.knuth_plass.specs.KnuthPlass.{Place, Break, Active, least, roundsFrom, pathOf, startsLine, marksFrom, bestBreaks}
 use Rattle.knuth_plass.specs.Contracts.Table.{Tables, pathTo, seen, breakMeant, Leads}
-use Rattle.knuth_plass.specs.Contracts.Round.{begin, RoundsAre, Listed, LeastIs, Worked, BestAre}
+use Rattle.knuth_plass.specs.Contracts.Round.{begin, RoundsAre, Listed, LeastIs, PathIs, Worked, BestAre}
+use Rattle.knuth_plass.proofs.Filled.{filled-leads}
 use Rattle.knuth_plass.proofs.Work.{worked-word, worked-beyond}
 
 marks-are : (marks : List Bool) (n : ℕ) (path : List Place) (i : ℕ) (ws : List Word) → n ≤ length marks → length ws ≡ n - i
@@ -39,33 +40,36 @@ module _ (g : Setting) (n : ℕ) (table : List ℕ) (t : Tables) (a : List ℕ) 
     pub last-room : last < length t
     last-room = let r = rounds .ready .few in let h = rounds .holds in let w = found .within in omega arith
 
-    pub last-below : last < n
-    last-below = let r = rounds .ready .few in let w = found .within in omega arith
-
     pub leads : Leads t last
-    leads j p h =
-        let r = rounds .ready in
-        let w = found .within in
-        let k = rounds .holds in
-        let l : j < st .size = omega arith in
-        let d = r .filled .sound j l .word in
-        let s = r .filled .sized .few in
-        (r .filled .down j p l, omega arith)
+    leads =
+        let h = rounds .holds in
+        let s = rounds .ready .filled .sized .few in
+        filled-leads n (st .size) t (rounds .ready .filled) (omega arith) last (found .within)
 
     pub path-is : (notes : List ℕ) → pathTo t last ≡ least (roundsFrom g false 1 (begin g (meaning notes (wordIn table 0))) (drop 1 (wordsIn notes n table)) .breaks) .places
     unfolding breakMeant seen
     path-is notes = ap (λ (b : Break). b .places) (found .is ∙ ap (λ (b : Active). least (b .breaks)) (rounds .is notes))
 
-    pub best-are : (work new : List ℕ) → 1 ≤ n → Worked n table work → MarkedUpTo n work new (λ (j : ℕ). startsLine j (pathTo t last)) → BestAre g n table new
-    unfolding bestBreaks pathOf begin
-    best-are work new some worked m = record {
-      breaks = λ notes.
-          let l = words-length notes n table in
-          rw (words-drop notes n table 0 some, ← path-is notes)
-          (marks-are (marksIn n new) n (pathTo t last) 1 (drop 1 (wordsIn notes n table)) (rw (marks-length new n) (omega arith)) (length-drop 1 (wordsIn notes n table) ∙ rw l)
-          (λ j h. marks-at new n j false h ∙ m .marks j h));
-      first = λ notes. rw (words-drop notes n table 0 some, ← path-is notes) (m .marks 0 some);
-      words = λ j h. m .words j h ∙ worked-word n table work worked j h;
-      beyond = λ k h. m .beyond k (omega arith) ∙ worked-beyond n table work worked k h;
-      sized = m .sized ∙ worked .sized;
-    }
+    pub path-least : 1 ≤ n → PathIs g n table t last
+    unfolding pathOf begin
+    path-least some =
+        let r = rounds .ready .few in
+        let w = found .within in
+        record { below = omega arith; leads = leads; is = λ notes. rw (words-drop notes n table 0 some) (path-is notes) }
+
+pub best-are : (g : Setting) (n : ℕ) (table : List ℕ) (t : Tables) (last : ℕ) → PathIs g n table t last → (work new : List ℕ) → 1 ≤ n → Worked n table work
+    → MarkedUpTo n work new (λ (j : ℕ). startsLine j (pathTo t last)) → BestAre g n table new
+unfolding bestBreaks
+best-are g n table t last path work new some worked m = record {
+  breaks = λ notes.
+      let l = words-length notes n table in
+      let w = words-drop notes n table 0 some in
+      rw w
+      (rw (← w, ← path .is notes)
+      (marks-are (marksIn n new) n (pathTo t last) 1 (drop 1 (wordsIn notes n table)) (rw (marks-length new n) (omega arith)) (length-drop 1 (wordsIn notes n table) ∙ rw l)
+      (λ j h. marks-at new n j false h ∙ m .marks j h)));
+  first = λ notes. rw (← path .is notes) (m .marks 0 some);
+  words = λ j h. m .words j h ∙ worked-word n table work worked j h;
+  beyond = λ k h. m .beyond k (omega arith) ∙ worked-beyond n table work worked k h;
+  sized = m .sized ∙ worked .sized;
+}

@@ -2,3 +2,4 @@
 pub mod Round
 pub mod Table
 pub mod Makers
+pub mod Interval

@@ -1,4 +1,6 @@
 // Knuth-Plass: the best breaks of a paragraph, one round for each word over the active breaks.
+mod interval;
+
 use endings::Ending;
 use records::Before;
 use records::Word;
@@ -13,8 +15,9 @@ ghost use lib.ListN.{length, drop, getD, set};
 ghost use Rattle.records.specs.Word.{meaning};
 ghost use Rattle.records.specs.Contracts.Marks.{markIn, MarkedUpTo};
 ghost use Rattle.records.specs.Contracts.Table.{Holds, Small, wordIn, wordsIn};
+ghost use Rattle.demerits.specs.Demerits.{wordTerm};
 ghost use Rattle.demerits.specs.Contracts.Bounds.{within, mostWord};
-ghost use Rattle.knuth_plass.specs.KnuthPlass.{minimumOf, startsLine, reduced, sentenceBehind};
+ghost use Rattle.knuth_plass.specs.KnuthPlass.{stretchOf, minimumOf, startsLine, reduced, sentenceBehind};
 ghost use Rattle.knuth_plass.specs.Contracts.Table as T;
 ghost use Rattle.knuth_plass.specs.Contracts.Round as R;
 ghost use Rattle.knuth_plass.specs.Contracts.Makers as W;
@@ -41,7 +44,7 @@ fn bit(mark: bool) -> u32
 }
 
 fn place(x: u32) -> usize
-    ensures { λ r. ⌜ r ≡ x ⌝ }
+    ensures { λ r. ⌜ (r ≡ x) × (r < 2 ^ 32) ⌝ }
 {
     x as usize
 }
@@ -70,7 +73,7 @@ const RATIO_LESS_ONE: u32 = 0xbf80_0000;
 // Number j of record i.
 fn number(breaks: &[u32], i: usize, j: usize) -> usize
     requires { ⌜ (i * 8 + 8 ≤ length (now breaks)) × (j < 8) ⌝ }
-    ensures { λ r. ⌜ r ≡ T.breakNumber (now (breaks .entry)) i j ⌝ }
+    ensures { λ r. ⌜ (r ≡ T.breakNumber (now (breaks .entry)) i j) × (r < 2 ^ 32) ⌝ }
 {
     let k = i * 8 + j;
     place(breaks[k])
@@ -174,6 +177,19 @@ pub struct Turn {
     pub space: usize,
     pub weight: u16,
     pub last: bool,
+}
+
+fn turn_of(g: Setting, word: Word, number: usize, space: usize, last: bool) -> Turn
+    requires { ⌜ R.Limits g × R.Turnable number word space ⌝ }
+    ensures { λ r. ⌜ (r ≡ R.turnOf last number word space (wordTerm (stretchOf g) (word .width))) × R.Turns g r ⌝ }
+{
+    Turn {
+        word,
+        number,
+        space,
+        weight: demerits::word_term(g.width - g.goal, word.width),
+        last,
+    }
 }
 
 // A total that no offer reaches.
@@ -342,7 +358,7 @@ fn floor(stretch: usize, weight: u16) -> u64
 // In the original: `find_kp_breakpoints`.
 fn offered(g: Setting, turn: Turn, n: usize, b: Break, t: usize, best: Best) -> Best
     requires { ⌜ R.Offers g turn b t × (minimumOf g ≤ t) ⌝ }
-    ensures { λ r. ⌜ R.OfferedIs g turn n b best r ⌝ }
+    ensures { λ r. ⌜ R.OfferedIs g turn n b t best r ⌝ }
 {
     if turn.last {
         // The last line costs nothing, but a break that is not among the least offers none.
@@ -531,13 +547,7 @@ fn round(
 {
     // Not the spacing that is written later: the previous word's punctuation does not count here.
     let space = spacing::added_space(g.uniform, word.first, sentence, false);
-    let turn = Turn {
-        word,
-        number: i,
-        space,
-        weight: demerits::word_term(g.width - g.goal, word.width),
-        last,
-    };
+    let turn = turn_of(g, word, i, space, last);
     let s = advance(g, turn, st, breaks);
     settle(g, turn, st, breaks, s)
 }
@@ -631,6 +641,20 @@ fn least(breaks: &[u32], st: Standing) -> usize
     found
 }
 
+// The record that the best path ends at: by an interval of the table where that will do, and else by a list of the active breaks.
+fn best_path(g: Setting, work: &mut [u32], n: usize) -> usize
+    requires { ⌜ R.Limits g × (1 ≤ n) × R.Lent n (now work) × R.AllNarrow n (now work) ⌝ }
+    ensures { λ r. ⌜ R.PathIs g n (now (work .entry)) (T.tableIn (T.recordsPart n (now (work .exit)))) r × R.Worked n (now (work .entry)) (now (work .exit)) ⌝ }
+{
+    if interval::is_regular(work, n, g) {
+        return interval::best_path(g, work, n);
+    }
+    let base = n * 7;
+    let end = n * 15;
+    let st = rounds(g, work, n);
+    least(&work[base..end], st)
+}
+
 // ---- the path as marks by word
 
 // The word that a break starts a line with.
@@ -688,10 +712,7 @@ pub fn best_breaks(work: &mut [u32], n: usize, g: Setting)
     requires { ⌜ R.Limits g × (1 ≤ n) × R.Lent n (now work) × R.AllNarrow n (now work) ⌝ }
     ensures { λ _. ⌜ R.BestAre g n (now (work .entry)) (now (work .exit)) ⌝ }
 {
-    let base = n * 7;
-    let end = n * 15;
-    let st = rounds(g, work, n);
-    let last = least(&work[base..end], st);
+    let last = best_path(g, work, n);
     clear(work, n);
     mark_path(work, n, last);
 }
@@ -804,34 +825,6 @@ fn maker(g: Setting, turn: Turn, st: Standing, breaks: &[u32], s: State) -> Endi
     forced(g, turn, st, breaks, s.from)
 }
 
-// The same as `advance`, for the rounds that are told. It is a function of its own so that the compiler has one place to put each of the
-// two, and formatting's stays in its loop.
-fn advance_again(g: Setting, turn: Turn, st: Standing, breaks: &mut [u32]) -> State
-    requires { ⌜ R.Limits g × R.Turns g turn × (turn .number < length (T.tableIn (now breaks))) × R.RoundReady (turn .number) st (T.tableIn (now breaks)) (T.activeIn (now breaks)) ⌝ }
-    ensures { λ r. ⌜ R.Fit turn st (st .count) (T.tableIn (now (breaks .exit))) (T.activeIn (now (breaks .exit))) r × ((notes : List ℕ) → R.Done g turn st (map (reduced (st .reduction)) (R.breaksListed (st .count) (T.tableIn (now (breaks .entry))) (T.activeIn (now (breaks .entry))))) (T.tableIn (now (breaks .exit))) (T.activeIn (now (breaks .exit))) r notes) ⌝ }
-{
-    let first = active(breaks, 0);
-    let b = lessened(get_break(breaks, first), st.reduction);
-    let best = Best {
-        total: NOTHING,
-        previous: 0,
-        ratio: 0.0,
-    };
-    let mut s = State {
-        kept: 0,
-        from: first,
-        least: b.demerits,
-        best,
-    };
-    let count = st.count;
-    let mut k = 0;
-    while k < count {
-        s = visit(g, turn, st, breaks, k, s);
-        k += 1;
-    }
-    s
-}
-
 // The round of word i, and what makes its break.
 fn told_round(
     g: Setting,
@@ -846,14 +839,8 @@ fn told_round(
     ensures { λ r. ⌜ W.ToldIs g last sentence i word st (T.tableIn (now (breaks .entry))) (T.activeIn (now (breaks .entry))) (T.tableIn (now (breaks .exit))) (T.activeIn (now (breaks .exit))) r ⌝ }
 {
     let space = spacing::added_space(g.uniform, word.first, sentence, false);
-    let turn = Turn {
-        word,
-        number: i,
-        space,
-        weight: demerits::word_term(g.width - g.goal, word.width),
-        last,
-    };
-    let s = advance_again(g, turn, st, breaks);
+    let turn = turn_of(g, word, i, space, last);
+    let s = advance(g, turn, st, breaks);
     let ending = maker(g, turn, st, breaks, s);
     Told {
         st: settle(g, turn, st, breaks, s),

@@ -1,7 +1,7 @@
 -- How many places a table has, how far a mark can be, and a table without marks.
-use mathlib.Core.Path.{_≡_, refl, ap, _∙_}
+use mathlib.Core.Path.{_≡_, refl, sym, ap, _∙_}
 use mathlib.Core.Bool.{Bool, true, false}
-use mathlib.Core.List.{List, [], _∷_, _++_}
+use mathlib.Core.List.{List, [], _∷_, _++_, append-assoc}
 use Prim.Native.Nat.{ℕ, zero, suc, _+_, _*_, _/_, _≤_}
 use native.Mathlib.Omega.{arith}
 use lib.ListN.{length, replicate, length-append, replicate-append-replicate}
@@ -10,6 +10,11 @@ use Rattle.marks.specs.Contracts.Marks.{bitsOf, marksIn, toMark}
 pub marks-cons : (v : ℕ) (t : List ℕ) → marksIn (v ∷ t) ≡ bitsOf 32 v ++ marksIn t
 unfolding marksIn
 marks-cons v t = refl
+
+pub marks-append : (s t : List ℕ) → marksIn (s ++ t) ≡ marksIn s ++ marksIn t
+unfolding marksIn
+marks-append [] t = refl
+marks-append (v ∷ s) t = ap (λ (bs : List Bool). bitsOf 32 v ++ bs) (marks-append s t) ∙ sym (append-assoc (bitsOf 32 v) (marksIn s) (marksIn t))
 
 pub length-bits : (n v : ℕ) → length (bitsOf n v) ≡ n
 unfolding bitsOf

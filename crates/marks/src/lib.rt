@@ -4,8 +4,19 @@ ghost use mathlib.Core.Path.{_≡_};
 ghost use mathlib.Core.Bool.{true, false};
 ghost use Prim.Native.Nat.{suc, _*_, _^_, _≤_};
 ghost use lib.Count.{trailingZeros};
-ghost use lib.ListN.{length, getD, set, drop};
+ghost use lib.ListN.{length, getD, set, drop, replicate};
 ghost use Rattle.marks.specs.Contracts.Marks.{marksIn, toMark};
+
+// Takes all marks away.
+pub fn clear(table: &mut [u32])
+    ensures { λ _. ⌜ now (table .exit) ≡ replicate (length (now (table .entry))) 0 ⌝ }
+{
+    let mut i = 0;
+    while i < table.len() {
+        table[i] = 0;
+        i += 1;
+    }
+}
 
 // Marks a place that has no mark yet.
 pub fn mark(table: &mut [u32], at: usize)
@@ -18,7 +29,7 @@ pub fn mark(table: &mut [u32], at: usize)
 
 // How far it is from a place to the next mark: 1 if the place itself has one, 0 if there is none.
 pub fn gap(table: &[u32], from: usize) -> usize
-    requires { ⌜ length (now table) ≤ 2 ^ 15 ⌝ }
+    requires { ⌜ length (now table) ≤ 2 ^ 16 ⌝ }
     ensures { λ r. ⌜ r ≡ toMark (drop from (marksIn (now (table .entry)))) ⌝ }
 {
     let k = from / 32;
@@ -38,7 +49,7 @@ pub fn gap(table: &[u32], from: usize) -> usize
 
 // The same from a word's lowest place: word by word, since most have no mark.
 fn gap_from_word(table: &[u32], k: usize) -> usize
-    requires { ⌜ (k ≤ length (now table)) × (length (now table) ≤ 2 ^ 15) ⌝ }
+    requires { ⌜ (k ≤ length (now table)) × (length (now table) ≤ 2 ^ 16) ⌝ }
     ensures { λ r. ⌜ r ≡ toMark (marksIn (drop k (now (table .entry)))) ⌝ }
 {
     let mut i = k;

@@ -6,10 +6,11 @@ use regular::Put;
 use spacing::Setting;
 use words::Count;
 ghost use mathlib.Core.Path.{_≡_};
-ghost use mathlib.Core.Bool.{true, false, _||_};
+ghost use mathlib.Core.Bool.{cond, true, false, _||_};
 ghost use mathlib.Core.List.{List};
 ghost use Prim.Native.Nat.{ℕ, _+_, _*_, _^_, _≤_, _<_};
 ghost use lib.ListN.{length};
+ghost use Rattle.lines.specs.Contracts.Places.{mostLarge};
 ghost use Rattle.knuth_plass.specs.Contracts.Round.{Limits, AllNarrow};
 ghost use Rattle.paragraphs.specs.Contracts.Steps.{roomFor, Roomy, settingFor, Broken, Placed, TextStepped};
 
@@ -39,6 +40,17 @@ pub fn room_for(quick: bool, size: usize) -> usize
         return size / QUICK;
     }
     size / BEST
+}
+
+// How many numbers so many words take.
+pub fn numbers_for(quick: bool, words: usize) -> usize
+    requires { ⌜ words ≤ mostLarge ⌝ }
+    ensures { λ r. ⌜ r ≡ cond quick 7 15 * words ⌝ }
+{
+    if quick {
+        return QUICK * words;
+    }
+    BEST * words
 }
 
 // Writes a paragraph, unless it has more words than there is room for.

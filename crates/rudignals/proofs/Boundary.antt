@@ -26,8 +26,9 @@ use Rattle.formatter.specs.Answers.{done}
 use Rattle.walk.specs.Digest.{outputOf, pieceOutput, digest, extentOf, tooMany, longParagraph}
 use Rattle.formatter.specs.Format.{Words, upTo, lent, Limits, damageIn, finding, isTold, measuring}
 use Rattle.rudignals.specs.Theorems.LineEnds.{LineEnd, feed, returnAndFeed, byFeed}
-use Rattle.formatter.specs.Work.{mostWork, workFor, lending}
-use Rattle.formatter.proofs.Work.{work-append}
+use Rattle.walk.specs.Work.{mostWork, workFor}
+use Rattle.walk.proofs.Work.{work-append}
+use Rattle.formatter.specs.Work.{lending}
 use Rattle.formatter.proofs.Answers.{Enough, Done, measured-done, found-done, done-found, done-measured}
 use Rattle.rudignals.proofs.LineEnds.{line-of-bytes}
 use Rattle.rudignals.proofs.Undamaged.{damage-append, blank-sound, feed-sound, return-feed-sound}

@@ -9,6 +9,7 @@ pub mod Indexed
 pub mod PieceStarts
 pub mod Windows
 pub mod Lent
+mod Filling
 pub mod Mailed
 pub mod Numbers
 pub mod Mended

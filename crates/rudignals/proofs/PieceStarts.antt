@@ -28,8 +28,9 @@ use Rattle.walk.specs.Digest.{digest, extentOf, tooMany, longParagraph}
 use Rattle.walk.proofs.Starts.{bytes-are, parts-are-notes, first-pieces, second-pieces, pieces-of-parts, digest-of-parts}
 use Rattle.formatter.specs.Answers.{Answer, done, options, long, text, words, room, work, code}
 use Rattle.formatter.specs.Format.{Words, upTo, lent, Limits, damageIn, withWords, withWork, within, withText, withNotes, finding, mostTold, isTold, measured, measuring}
-use Rattle.formatter.specs.Work.{mostWork, workFor, lending}
-use Rattle.formatter.proofs.Work.{work-append}
+use Rattle.walk.specs.Work.{mostWork, workFor}
+use Rattle.walk.proofs.Work.{work-append}
+use Rattle.formatter.specs.Work.{lending}
 use Rattle.formatter.proofs.Together.{retold, measured-at-once, finding-never-answers-five}
 use Rattle.formatter.proofs.Answers.{found-done}
 use Rattle.checker.specs.Named.{feeds}

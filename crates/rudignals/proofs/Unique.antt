@@ -12,6 +12,7 @@
 --   records       starts_line                                                               an equation
 --   records       store, mark                                                               an equation for the table
 --   words         split_words                                                               `words-unique`, by words/proofs/Unique (below)
+--   words         count_words                                                               an equation
 --   spacing       gap_width, added_space                                                    spacing/proofs/Unique: `gap-unique`, `added-unique`
 --   quick         quick_breaks                                                              `quick-unique`, by records/proofs/Unique: `marked-unique`
 --   quick         quick_ending                                                              an equation
@@ -37,25 +38,27 @@
 --   unflow        reading_number, is_dashes                                                 an equation
 --   unflow        stuffing_of                                                               `spaces-unique`, with a bound
 --   unflow        put_end                                                                   output/proofs/Unique: `wrote-unique`
---   flow          flow                                                                      flow/proofs/Unique: `sends-unique`
+--   flow          flow, flow_lent                                                           flow/proofs/Unique: `sends-unique`
 --   checker       match_line, match_words                                                   checker/proofs/Unique: `matches-unique`
 --   judge         check, number_of                                                          an equation
 --   paragraphs    put_paragraph                                                             paragraphs/proofs/Unique: `step-unique`
---   paragraphs    setting_of, room_for                                                      an equation
+--   paragraphs    setting_of, room_for, numbers_for                                         an equation
 --   paragraphs    mark_breaks                                                               an equation for the marks behind the first word's
 --   explain       explain                                                                   an equation
 --   explain       tell                                                                      an equation for the answer, one for the reason
 --   walk          put_all                                                                   walk/proofs/Unique: `ended-unique`
---   walk          clear                                                                     an equation
---   formatter     measure, number_of                                                        an equation
---   formatter     write                                                                     an equation for the reply, one for the output
---   formatter     admit                                                                     formatter/proofs/Unique: `admission-unique`
+--   walk          put_all_lent                                                              output/proofs/Unique: `wrote-unique`
+--   walk          clear, work_over, work_with                                               an equation
+--   formatter     measure, measure_lent, number_of                                          an equation
+--   formatter     write, write_lent                                                         an equation for the reply, one for the output
+--   formatter     admit, admit_within, admit_lent                                           formatter/proofs/Unique: `admission-unique`, `admission-within-unique`,
+--                                                                                           `admission-lent-unique`
 --   rudignals     rudignals_measure, rudignals_check                                        an equation
 --   rudignals     rudignals_write_indexed, rudignals_lookup                                 an equation for each of what they answer and leave
---   rudignals     rudignals_write, rudignals_format                                         `call-unique`
+--   rudignals     rudignals_write, rudignals_format, rudignals_write_large                  `call-unique`
 --   rudignals     rudignals_panel, rudignals_mend, rudignals_restore,
 --                 rudignals_unflow, rudignals_explain                                       an equation for the number, one for each slice
---   rudignals     rudignals_flow                                                            the same, and one for the count
+--   rudignals     rudignals_flow, rudignals_flow_large                                      the same, and one for the count
 --
 -- What stays open is scratch that nobody reads afterwards: docs/PROMISES.md lists it.
 use mathlib.Core.Path.{_≡_, sym, ap, _∙_}

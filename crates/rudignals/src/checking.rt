@@ -1,6 +1,8 @@
 // The call of P11: the digest that another site sent with its notes is checked. The work is in the crates checker and judge.
 ghost use mathlib.Core.Path.{_≡_};
+ghost use lib.ListN.{length};
 ghost use Rattle.formatter.specs.Format.{document01};
+ghost use Rattle.formatter.specs.Work.{lending};
 ghost use Rattle.judge.specs.Answers.{numbered};
 ghost use Rattle.judge.specs.Checking.{checking};
 
@@ -10,4 +12,17 @@ pub extern "C" fn rudignals_check(options: &[u8], notes: &[u8], digest: &[u8]) -
     ensures { λ r. ⌜ r ≡ numbered (checking document01 (now (options .entry)) (now (notes .entry)) (now (digest .entry))) ⌝ }
 {
     judge::number_of(judge::check(options, notes, digest))
+}
+
+// The same in working room that the host lends, which may hold anything.
+#[no_mangle]
+pub extern "C" fn rudignals_check_large(
+    options: &[u8],
+    notes: &[u8],
+    digest: &[u8],
+    work: &mut [u32],
+) -> u64
+    ensures { λ r. ⌜ r ≡ numbered (checking (lending (length (now (work .entry)))) (now (options .entry)) (now (notes .entry)) (now (digest .entry))) ⌝ }
+{
+    judge::number_of(judge::check_large(options, notes, digest, work))
 }

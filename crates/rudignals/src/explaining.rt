@@ -1,6 +1,8 @@
 // The call of P6: why an output line ends where it does. The work is in the crate explain.
 ghost use mathlib.Core.Path.{_≡_};
+ghost use lib.ListN.{length};
 ghost use Rattle.formatter.specs.Format.{document01};
+ghost use Rattle.formatter.specs.Work.{lending};
 ghost use Rattle.explain.specs.Explain.{explaining, explainedNumber, reasonAfter};
 
 // The answer's number, and the kind and its numbers as the answer leaves them: on a refusal they are unchanged.
@@ -14,4 +16,18 @@ pub extern "C" fn rudignals_explain(
     ensures { λ r. ⌜ (r ≡ explainedNumber (explaining document01 (now (options .entry)) (now (notes .entry)) line)) × (now (reason .exit) ≡ reasonAfter (explaining document01 (now (options .entry)) (now (notes .entry)) line) (now (reason .entry))) ⌝ }
 {
     explain::tell(explain::explain(options, notes, line), reason)
+}
+
+// The same in working room that the host lends, which may hold anything.
+#[no_mangle]
+pub extern "C" fn rudignals_explain_large(
+    options: &[u8],
+    notes: &[u8],
+    line: u64,
+    reason: &mut [u64; 6],
+    work: &mut [u32],
+) -> u64
+    ensures { λ r. ⌜ (r ≡ explainedNumber (explaining (lending (length (now (work .entry)))) (now (options .entry)) (now (notes .entry)) line)) × (now (reason .exit) ≡ reasonAfter (explaining (lending (length (now (work .entry)))) (now (options .entry)) (now (notes .entry)) line) (now (reason .entry))) ⌝ }
+{
+    explain::tell(explain::explain_large(options, notes, line, work), reason)
 }

@@ -6,8 +6,11 @@ ghost use lib.ListN.{length};
 ghost use Rattle.index.specs.Lookup.{lookup, answered, partAfter};
 ghost use Rattle.formatter.specs.Format.{document01};
 ghost use Rattle.indexer.specs.Answers.{numbered, outputAfter, recordsAfter, filledAfter};
-ghost use Rattle.indexer.specs.Indexing.{indexing};
+ghost use Rattle.indexer.specs.Indexing.{indexLending, indexing};
 use index::Record;
+
+// The working room, in numbers: for the marks of the longest notes, 4,096, and for the most words of a paragraph, of which each takes fifteen.
+const NUMBERS: usize = 19456;
 
 // The answer's number, and the output, the records and the count of those filled as the answer leaves them. Nothing is stored in the records
 // before it is known that all of them and all of the digest fit: until then a table of marks tells them.
@@ -21,9 +24,26 @@ pub extern "C" fn rudignals_write_indexed(
 ) -> u64
     ensures { λ r. ⌜ (r ≡ numbered (indexing document01 (now (options .entry)) (now (notes .entry)) (length (now (output .entry))) (length (now (index .entry))))) × (now (output .exit) ≡ outputAfter (indexing document01 (now (options .entry)) (now (notes .entry)) (length (now (output .entry))) (length (now (index .entry)))) (now (output .entry))) × (now (index .exit) ≡ recordsAfter (indexing document01 (now (options .entry)) (now (notes .entry)) (length (now (output .entry))) (length (now (index .entry)))) (now (index .entry))) × (now (filled .exit) ≡ filledAfter (indexing document01 (now (options .entry)) (now (notes .entry)) (length (now (output .entry))) (length (now (index .entry))))) ⌝ }
 {
-    let mut marks = [0u32; 4096];
-    let t = indexer::write_marked(options, notes, output, index.len(), filled, &mut marks);
-    index::store_records(index, t.records, &marks);
+    let mut work = [0u32; NUMBERS];
+    let t = indexer::write_marked(options, notes, output, index.len(), filled, &mut work);
+    index::store_records(index, t.records, &work);
+    t.answer
+}
+
+// The same in working room that the host lends, which may hold anything.
+#[no_mangle]
+pub extern "C" fn rudignals_write_indexed_large(
+    options: &[u8],
+    notes: &[u8],
+    output: &mut [u8],
+    index: &mut [Record],
+    filled: &mut u64,
+    work: &mut [u32],
+) -> u64
+    ensures { λ r. ⌜ (r ≡ numbered (indexing (indexLending (length (now (work .entry)))) (now (options .entry)) (now (notes .entry)) (length (now (output .entry))) (length (now (index .entry))))) × (now (output .exit) ≡ outputAfter (indexing (indexLending (length (now (work .entry)))) (now (options .entry)) (now (notes .entry)) (length (now (output .entry))) (length (now (index .entry)))) (now (output .entry))) × (now (index .exit) ≡ recordsAfter (indexing (indexLending (length (now (work .entry)))) (now (options .entry)) (now (notes .entry)) (length (now (output .entry))) (length (now (index .entry)))) (now (index .entry))) × (now (filled .exit) ≡ filledAfter (indexing (indexLending (length (now (work .entry)))) (now (options .entry)) (now (notes .entry)) (length (now (output .entry))) (length (now (index .entry))))) ⌝ }
+{
+    let t = indexer::write_marked_large(options, notes, output, index.len(), filled, work);
+    index::store_records(index, t.records, work);
     t.answer
 }
 

@@ -9,6 +9,7 @@ ghost use mathlib.Core.Path.{_≡_};
 ghost use lib.ListN.{length};
 ghost use Rattle.formatter.specs.Answers.{numbered, outputAfter};
 ghost use Rattle.formatter.specs.Format.{document01, answer, measuring, writing};
+ghost use Rattle.formatter.specs.Work.{lending};
 
 mod wall;
 
@@ -35,4 +36,24 @@ pub extern "C" fn rudignals_format(options: &[u8], notes: &[u8], output: &mut [u
 {
     rudignals_measure(options, notes);
     rudignals_write(options, notes, output)
+}
+
+// The same two for notes of up to 1 MiB, with paragraphs of any number of words, in working room that the host lends.
+#[no_mangle]
+pub extern "C" fn rudignals_measure_large(options: &[u8], notes: &[u8], work: &mut [u32]) -> u64
+    ensures { λ r. ⌜ r ≡ numbered (measuring (lending (length (now (work .entry)))) (now (options .entry)) (now (notes .entry))) ⌝ }
+{
+    formatter::number_of(formatter::measure_lent(options, notes, work))
+}
+
+#[no_mangle]
+pub extern "C" fn rudignals_write_large(
+    options: &[u8],
+    notes: &[u8],
+    output: &mut [u8],
+    work: &mut [u32],
+) -> u64
+    ensures { λ r. ⌜ (r ≡ numbered (writing (lending (length (now (work .entry)))) (now (options .entry)) (now (notes .entry)) (length (now (output .entry))))) × (now (output .exit) ≡ outputAfter (writing (lending (length (now (work .entry)))) (now (options .entry)) (now (notes .entry)) (length (now (output .entry)))) (now (output .entry))) ⌝ }
+{
+    formatter::number_of(formatter::write_lent(options, notes, output, work))
 }

@@ -4,6 +4,7 @@ ghost use mathlib.Core.Path.{_≡_};
 ghost use lib.ListN.{length};
 ghost use Rattle.formatter.specs.Answers.{numbered as answerNumber, outputAfter as outputLeft};
 ghost use Rattle.formatter.specs.Format.{document01};
+ghost use Rattle.formatter.specs.Work.{lending};
 ghost use Rattle.unflow.specs.Unflow.{unflow as reading, numbered, outputAfter};
 ghost use Rattle.flow.specs.Answers.{flow as sending, dashesOf};
 
@@ -18,6 +19,23 @@ pub extern "C" fn rudignals_flow(
     ensures { λ r. ⌜ (r ≡ answerNumber (sending document01 (now (options .entry)) (now (notes .entry)) (length (now (output .entry))))) × (now (output .exit) ≡ outputLeft (sending document01 (now (options .entry)) (now (notes .entry)) (length (now (output .entry)))) (now (output .entry))) × (now (dashes .exit) ≡ dashesOf document01 (now (options .entry)) (now (notes .entry)) (length (now (output .entry)))) ⌝ }
 {
     let r = flow::flow(options, notes, output);
+    let reply = r.reply;
+    *dashes = r.dashes as u64;
+    formatter::number_of(reply)
+}
+
+// The same for notes of up to 1 MiB, in working room that the host lends.
+#[no_mangle]
+pub extern "C" fn rudignals_flow_large(
+    options: &[u8],
+    notes: &[u8],
+    output: &mut [u8],
+    dashes: &mut u64,
+    work: &mut [u32],
+) -> u64
+    ensures { λ r. ⌜ (r ≡ answerNumber (sending (lending (length (now (work .entry)))) (now (options .entry)) (now (notes .entry)) (length (now (output .entry))))) × (now (output .exit) ≡ outputLeft (sending (lending (length (now (work .entry)))) (now (options .entry)) (now (notes .entry)) (length (now (output .entry)))) (now (output .entry))) × (now (dashes .exit) ≡ dashesOf (lending (length (now (work .entry)))) (now (options .entry)) (now (notes .entry)) (length (now (output .entry)))) ⌝ }
+{
+    let r = flow::flow_lent(options, notes, output, work);
     let reply = r.reply;
     *dashes = r.dashes as u64;
     formatter::number_of(reply)

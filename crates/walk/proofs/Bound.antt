@@ -1,4 +1,5 @@
--- How long a piece's output gets: at most 1,040 bytes for each byte of the notes that it takes, if it has no more than 1,024 words.
+-- How long a piece's output gets: at most 1,040 bytes for each byte of the notes that it takes, if it has no more than 1,024 words; with any
+-- number of words, not so many that the sums of the walk leave 64 bits.
 use mathlib.Core.Path.{_≡_, refl, sym, ap, _∙_}
 use mathlib.Core.Bool.{Bool, true, false, cond, _||_}
 use mathlib.Core.List.{List, [], _∷_, _++_, map}
@@ -18,7 +19,7 @@ use Rattle.text.proofs.Edges.{glyphs-joined}
 use Rattle.options.specs.Opts.{Opts}
 use Rattle.lines.specs.Lines.{Line, body, firstLine, linesOf}
 use Rattle.lines.specs.Classes.{glyphsBefore, glyphsFrom}
-use Rattle.lines.specs.Contracts.Places.{lengthsOf}
+use Rattle.lines.specs.Contracts.Places.{mostLarge, lengthsOf}
 use Rattle.lines.proofs.Lines.{lengths}
 use Rattle.lines.proofs.Extents.{lines-extents}
 use Rattle.lines.proofs.Ink.{upTo-from}
@@ -39,6 +40,7 @@ use Rattle.output.specs.Contracts.Bound.{bulk, longest}
 use Rattle.output.proofs.Bound.{emit-most}
 use Rattle.paragraphs.specs.Breaks.{settingOf, breaksBy}
 use Rattle.walk.specs.Digest.{formatted, mostWords}
+use Rattle.walk.specs.Contracts.Course.{mostPerByte}
 
 -- ---- the words of a line have no more bytes than the line
 
@@ -144,21 +146,36 @@ module _ (o : Opts) (notes : List ℕ) (at : ℕ) (p : ParagraphAt) (q : Paragra
       let b = ap length (h .bytes) in
       omega (arith, w .more, w .low, w .order, w .high)
 
-  words-most : (first indent : List ℕ) → length first ≤ p .next - at + 4 → length indent ≤ p .next - at + 4 → length (wordsOf o q) ≤ mostWords
-      → longest first indent (wordsOf o q) + 1040 * at ≤ 1040 * p .next
-  words-most first indent f i few =
+  -- all but what stands before the words
+  words-most : (first indent : List ℕ) → length first ≤ p .next - at + 4 → longest first indent (wordsOf o q) ≤ 10 * (p .next - at) + length (wordsOf o q) * (length indent + 2)
+  words-most first indent f =
       let b = words-bulk in
       let on = within .on in
-      let n = before-words (length (wordsOf o q)) (length indent + 2) (p .next - at) few words-few (omega arith) in
       omega arith
 
   emitted-most : (first indent : List ℕ) (breaks : List Bool) → length first ≤ p .next - at + 4 → length indent ≤ p .next - at + 4 → length (wordsOf o q) ≤ mostWords
       → length (emit (o .uniform || q .mail) first indent breaks (wordsOf o q)) + 1040 * at ≤ 1040 * p .next
-  emitted-most first indent breaks f i few = omega (arith, emit-most (o .uniform || q .mail) indent first breaks (wordsOf o q), words-most first indent f i few)
+  emitted-most first indent breaks f i few =
+      let n = before-words (length (wordsOf o q)) (length indent + 2) (p .next - at) few words-few (omega arith) in
+      let on = within .on in
+      omega (arith, emit-most (o .uniform || q .mail) indent first breaks (wordsOf o q), words-most first indent f, n)
 
-  -- what emission promises
+  -- what emission promises, with so many words
   pub text-most : length (wordsOf o q) ≤ mostWords → longest (q .first .bytes) (q .indent .bytes) (wordsOf o q) + 1040 * at ≤ 1040 * p .next
-  text-most few = words-most (q .first .bytes) (q .indent .bytes) (margin-most (p .first) (q .first) (t .first) (within .first)) (margin-most (p .indent) (q .indent) (t .indent) (within .indent)) few
+  text-most few =
+      let i = margin-most (p .indent) (q .indent) (t .indent) (within .indent) in
+      let n = before-words (length (wordsOf o q)) (length (q .indent .bytes) + 2) (p .next - at) few words-few (omega (arith, i)) in
+      let on = within .on in
+      omega (arith, words-most (q .first .bytes) (q .indent .bytes) (margin-most (p .first) (q .first) (t .first) (within .first)), n)
+
+  -- and with any number
+  pub any-text-most : length notes ≤ mostLarge → longest (q .first .bytes) (q .indent .bytes) (wordsOf o q) + mostPerByte * at ≤ mostPerByte * p .next
+  any-text-most short =
+      let i = margin-most (p .indent) (q .indent) (t .indent) (within .indent) in
+      let w = within .within in
+      let n = mul-le-mul {n₁ = length (wordsOf o q)} {n₂ = p .next - at} words-few (let z : length (q .indent .bytes) + 2 ≤ 1048582 = omega (arith, i, w, short) in z) in
+      let on = within .on in
+      omega (arith, words-most (q .first .bytes) (q .indent .bytes) (margin-most (p .first) (q .first) (t .first) (within .first)), n)
 
   -- and what is defined
   pub formatted-most : length (wordsOf o q) ≤ mostWords → length (formatted o q) + 1040 * at ≤ 1040 * p .next

@@ -4,6 +4,8 @@ pub mod Standing
 pub mod Rows
 pub mod Meaning
 pub mod Bound
+pub mod Work
 pub mod Steps
 pub mod Loop
+pub mod Lent
 pub mod Unique

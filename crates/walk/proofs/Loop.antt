@@ -16,7 +16,7 @@ use Rattle.lines.proofs.Lines.{lines-past}
 use Rattle.pieces.specs.Pieces.{Kind, nextPiece, pieces}
 use Rattle.pieces.specs.declared.Paragraph.{Paragraph}
 use Rattle.output.proofs.Sink.{length-written, wrote-nil, left-first, left-then, left-last}
-use Rattle.walk.specs.Digest.{mostWords, outputOf, pieceOutput, digest, tooMany, longParagraph}
+use Rattle.walk.specs.Digest.{outputOf, pieceOutput, digest, tooMany, longParagraph}
 use Rattle.walk.specs.Contracts.Course.{piecesFrom, outputFrom, longFrom, FirstPiece, Put, TooLong, CursorIn, Going, start, FinishedFrom, Finished, Reached, Coursed, Begun}
 use Rattle.paragraphs.specs.declared.Cursor.{Cursor}
 use Rattle.walk.specs.declared.Ahead.{Ahead}
@@ -33,10 +33,6 @@ module _ (o : Opts) where
   unfolding outputFrom piecesFrom digest pieces
   all-output notes = refl
 
-  pub all-long : (notes : List ℕ) → longFrom o true notes 0 ≡ longParagraph mostWords o 0 (pieces o notes)
-  unfolding longFrom piecesFrom pieces
-  all-long notes = refl
-
   pub all-pieces : (notes : List ℕ) → piecesFrom o true notes 0 ≡ pieces o notes
   unfolding piecesFrom pieces
   all-pieces notes = refl
@@ -49,99 +45,107 @@ module _ (o : Opts) where
   unfolding outputFrom
   output-none nextMail notes at h = rw (none-left nextMail notes at h) (joined-nil (pieceOutput o))
 
-  pub long-none : (nextMail : Bool) (notes : List ℕ) (at : ℕ) → length notes ≤ at → longFrom o nextMail notes at ≡ Nowhere
+  pub output-more : {nextMail : Bool} {notes : List ℕ} {at : ℕ} {kind : Kind} {state : Bool} {next : ℕ} (g : FirstPiece o nextMail notes at kind state next)
+      → outputFrom o nextMail notes at ≡ outputOf o kind ++ outputFrom o state notes next
+  unfolding outputFrom
+  output-more {nextMail} {notes} {at} {kind} {state} {next} g =
+      ap (joined (pieceOutput o)) (g .pieces) ∙ joined-cons (pieceOutput o) (g .piece) (piecesFrom o state notes next) ∙ ap (λ (k : Kind). outputOf o k ++ outputFrom o state notes next) (g .is)
+
+-- the first of them that has more than so many words
+module _ (most : ℕ) (o : Opts) where
+  pub all-long : (notes : List ℕ) → longFrom most o true notes 0 ≡ longParagraph most o 0 (pieces o notes)
+  unfolding longFrom piecesFrom pieces
+  all-long notes = refl
+
+  pub long-none : (nextMail : Bool) (notes : List ℕ) (at : ℕ) → length notes ≤ at → longFrom most o nextMail notes at ≡ Nowhere
   unfolding longFrom longParagraph
-  long-none nextMail notes at h = ap (longParagraph mostWords o at) (none-left nextMail notes at h)
+  long-none nextMail notes at h = ap (longParagraph most o at) (none-left o nextMail notes at h)
 
   module _ {nextMail : Bool} {notes : List ℕ} {at : ℕ} {kind : Kind} {state : Bool} {next : ℕ} (g : FirstPiece o nextMail notes at kind state next) where
-    pub output-more : outputFrom o nextMail notes at ≡ outputOf o kind ++ outputFrom o state notes next
-    unfolding outputFrom
-    output-more = ap (joined (pieceOutput o)) (g .pieces) ∙ joined-cons (pieceOutput o) (g .piece) (piecesFrom o state notes next) ∙ ap (λ (k : Kind). outputOf o k ++ outputFrom o state notes next) (g .is)
-
-    long-as : (t : Bool) → tooMany mostWords o kind ≡ t → longFrom o nextMail notes at ≡ elim t as (λ x. Found) [ true ↦ At at | false ↦ longFrom o state notes next ]
+    long-as : (t : Bool) → tooMany most o kind ≡ t → longFrom most o nextMail notes at ≡ elim t as (λ x. Found) [ true ↦ At at | false ↦ longFrom most o state notes next ]
     unfolding longFrom longParagraph
     long-as t e =
-        ap (longParagraph mostWords o at) (g .pieces)
-        ∙ ap (λ (n : ℕ). elim (tooMany mostWords o (g .piece .kind)) as (λ x. Found) [ true ↦ At at | false ↦ longParagraph mostWords o n (piecesFrom o state notes next) ]) (g .extent)
-        ∙ ap (λ (b : Bool). elim b as (λ x. Found) [ true ↦ At at | false ↦ longFrom o state notes next ]) (ap (tooMany mostWords o) (g .is) ∙ e)
+        ap (longParagraph most o at) (g .pieces)
+        ∙ ap (λ (n : ℕ). elim (tooMany most o (g .piece .kind)) as (λ x. Found) [ true ↦ At at | false ↦ longParagraph most o n (piecesFrom o state notes next) ]) (g .extent)
+        ∙ ap (λ (b : Bool). elim b as (λ x. Found) [ true ↦ At at | false ↦ longFrom most o state notes next ]) (ap (tooMany most o) (g .is) ∙ e)
 
-    pub long-more : tooMany mostWords o kind ≡ false → longFrom o nextMail notes at ≡ longFrom o state notes next
+    pub long-more : tooMany most o kind ≡ false → longFrom most o nextMail notes at ≡ longFrom most o state notes next
     long-more e = long-as false e
 
-    pub long-here : tooMany mostWords o kind ≡ true → longFrom o nextMail notes at ≡ At at
+    pub long-here : tooMany most o kind ≡ true → longFrom most o nextMail notes at ≡ At at
     long-here e = long-as true e
 
 -- ---- the work from a place on
 
-module _ (o : Opts) (notes : List ℕ) where
-  pub going-first : (c : Cursor) (out : List ℕ) → CursorIn notes c → Going o notes c out c out
+module _ (most : ℕ) (o : Opts) (notes : List ℕ) where
+  pub going-first : (c : Cursor) (out : List ℕ) → CursorIn notes c → Going most o notes c out c out
   going-first c out s = record { stands = s; left = left-first out (c .written) (outputFrom o (c .mail) notes (c .at)); long = refl }
 
-  module _ {c₀ : Cursor} {out₀ : List ℕ} {c : Cursor} {out : List ℕ} (g : Going o notes c₀ out₀ c out) where
+  module _ {c₀ : Cursor} {out₀ : List ℕ} {c : Cursor} {out : List ℕ} (g : Going most o notes c₀ out₀ c out) where
     pub going-length : length out ≡ length out₀
     going-length = sym (length-written (c .written) out (outputFrom o (c .mail) notes (c .at))) ∙ ap length (g .left .bytes) ∙ length-written (c₀ .written) out₀ (outputFrom o (c₀ .mail) notes (c₀ .at))
 
-    pub going-on : {d : Cursor} {out′ : List ℕ} → Put o notes out c d out′ → Going o notes c₀ out₀ d out′
+    pub going-on : {d : Cursor} {out′ : List ℕ} → Put most o notes out c d out′ → Going most o notes c₀ out₀ d out′
     going-on {d} {out′} p = record {
       stands = record { within = p .goes .within; bounded = omega (arith, g .stands .bounded, p .bounded) };
       left = left-then {d = outputOf o (p .kind)} {e = outputFrom o (d .mail) notes (d .at)} (rw (output-more o (p .goes)) at (g .left)) (p .wrote);
-      long = sym (long-more o (p .goes) (p .few)) ∙ g .long;
+      long = sym (long-more most o (p .goes) (p .few)) ∙ g .long;
     }
 
-    pub going-further : {d : Cursor} {out′ : List ℕ} → Going o notes c out d out′ → Going o notes c₀ out₀ d out′
+    pub going-further : {d : Cursor} {out′ : List ℕ} → Going most o notes c out d out′ → Going most o notes c₀ out₀ d out′
     going-further h = record {
       stands = h .stands;
       left = record { count = h .left .count ∙ g .left .count; bytes = h .left .bytes ∙ g .left .bytes };
       long = h .long ∙ g .long;
     }
 
-    pub going-finished : (out′ : List ℕ) (r : Ended) → FinishedFrom o notes c out out′ r → FinishedFrom o notes c₀ out₀ out′ r
+    pub going-finished : (out′ : List ℕ) (r : Ended) → FinishedFrom most o notes c out out′ r → FinishedFrom most o notes c₀ out₀ out′ r
     going-finished out′ (All n) f = (sym (g .long) ∙ f .0, left-last (g .left) (f .1))
     going-finished out′ (Stopped place) f = (sym (g .long) ∙ f .0, f .1 ∙ going-length)
 
-    pub going-over : {out′ : List ℕ} → TooLong o notes out c out′ → FinishedFrom o notes c₀ out₀ out′ (Stopped (c .at))
-    going-over t = (sym (g .long) ∙ long-here o (t .goes) (t .many), ap length (t .same) ∙ going-length)
+    pub going-over : {out′ : List ℕ} → TooLong most o notes out c out′ → FinishedFrom most o notes c₀ out₀ out′ (Stopped (c .at))
+    going-over t = (sym (g .long) ∙ long-here most o (t .goes) (t .many), ap length (t .same) ∙ going-length)
 
-    pub going-last : length notes ≤ c .at → FinishedFrom o notes c₀ out₀ out (All (c .written))
-    going-last h = (sym (g .long) ∙ long-none o (c .mail) notes (c .at) h, left-last (rw (output-none o (c .mail) notes (c .at) h) at (g .left)) (wrote-nil out (c .written)))
+    pub going-last : length notes ≤ c .at → FinishedFrom most o notes c₀ out₀ out (All (c .written))
+    going-last h = (sym (g .long) ∙ long-none most o (c .mail) notes (c .at) h, left-last (rw (output-none o (c .mail) notes (c .at) h) at (g .left)) (wrote-nil out (c .written)))
 
 -- from the first place on
 pub stands-first : (notes : List ℕ) → CursorIn notes start
 stands-first notes = record { within = omega arith; bounded = omega arith }
 
-module _ (o : Opts) (notes out out′ : List ℕ) (r : Ended) (s : FinishedFrom o notes start out out′ r) where
-  pub all-finished : {n : ℕ} → r ≡ All n → Finished o notes out out′ (All n)
-  all-finished {n} e = let f : FinishedFrom o notes start out out′ (All n) = rw e at s in (sym (all-long o notes) ∙ f .0, rw (all-output o notes) at (f .1))
+module _ (most : ℕ) (o : Opts) (notes out out′ : List ℕ) (r : Ended) (s : FinishedFrom most o notes start out out′ r) where
+  pub all-finished : {n : ℕ} → r ≡ All n → Finished most o notes out out′ (All n)
+  all-finished {n} e = let f : FinishedFrom most o notes start out out′ (All n) = rw e at s in (sym (all-long most o notes) ∙ f .0, rw (all-output o notes) at (f .1))
 
-  pub stopped-finished : {place : ℕ} {clear : List ℕ} → r ≡ Stopped place → clear ≡ replicate (length out′) 0 → Finished o notes out clear (Stopped place)
+  pub stopped-finished : {place : ℕ} {clear : List ℕ} → r ≡ Stopped place → clear ≡ replicate (length out′) 0 → Finished most o notes out clear (Stopped place)
   stopped-finished {place} e z =
-      let f : FinishedFrom o notes start out out′ (Stopped place) = rw e at s in
-      (sym (all-long o notes) ∙ f .0, z ∙ ap (λ (n : ℕ). replicate n 0) (f .1))
+      let f : FinishedFrom most o notes start out out′ (Stopped place) = rw e at s in
+      (sym (all-long most o notes) ∙ f .0, z ∙ ap (λ (n : ℕ). replicate n 0) (f .1))
 
 -- by what follows the lines
-module _ (block : List ℕ) (o : Options) (notes out₀ out : List ℕ) (c₀ : Cursor) (r : Ahead) (s : Reached block o notes c₀ out₀ out r) where
-  pub reached-text : {c : Cursor} {p : Paragraph} → r ≡ Text c p → Reached block o notes c₀ out₀ out (Text c p)
+module _ (most : ℕ) (block : List ℕ) (o : Options) (notes out₀ out : List ℕ) (c₀ : Cursor) (r : Ahead) (s : Reached most block o notes c₀ out₀ out r) where
+  pub reached-text : {c : Cursor} {p : Paragraph} → r ≡ Text c p → Reached most block o notes c₀ out₀ out (Text c p)
   reached-text e = rw e at s
 
-  pub reached-end : {n : ℕ} → r ≡ End n → Reached block o notes c₀ out₀ out (End n)
+  pub reached-end : {n : ℕ} → r ≡ End n → Reached most block o notes c₀ out₀ out (End n)
   reached-end e = rw e at s
 
 -- by how far the room reached
-module _ (room : ℕ) (block : List ℕ) (o : Options) (notes out₀ out : List ℕ) (c₀ : Cursor) (r : Course) (s : Coursed room block o notes c₀ out₀ out r) where
-  pub course-end : {n : ℕ} → r ≡ CourseEnd n → FinishedFrom (meant block o) notes c₀ out₀ out (All n)
+module _ (most room : ℕ) (block : List ℕ) (o : Options) (notes out₀ out : List ℕ) (c₀ : Cursor) (r : Course) (s : Coursed most room block o notes c₀ out₀ out r) where
+  pub course-end : {n : ℕ} → r ≡ CourseEnd n → FinishedFrom most (meant block o) notes c₀ out₀ out (All n)
   course-end e = rw e at s
 
-  pub course-short : {c : Cursor} {p : Paragraph} → r ≡ Short c p → Coursed room block o notes c₀ out₀ out (Short c p)
+  pub course-short : {c : Cursor} {p : Paragraph} → r ≡ Short c p → Coursed most room block o notes c₀ out₀ out (Short c p)
   course-short e = rw e at s
 
-module _ (room : ℕ) (block : List ℕ) (o : Options) (notes out₀ out : List ℕ) (c₀ : Cursor) where
-  pub course-begun : (r : Course) → Coursed room block o notes c₀ out₀ out r → Begun block o notes c₀ out₀ out r
+module _ (most room : ℕ) (block : List ℕ) (o : Options) (notes out₀ out : List ℕ) (c₀ : Cursor) where
+  pub course-begun : (r : Course) → Coursed most room block o notes c₀ out₀ out r → Begun most block o notes c₀ out₀ out r
   course-begun (CourseEnd n) s = s
   course-begun (Short c p) s = (s .0, s .1)
 
-module _ (block : List ℕ) (o : Options) (notes out₀ out : List ℕ) (c₀ : Cursor) (r : Course) (s : Begun block o notes c₀ out₀ out r) where
-  pub begun-end : {n : ℕ} → r ≡ CourseEnd n → FinishedFrom (meant block o) notes c₀ out₀ out (All n)
+module _ (most : ℕ) (block : List ℕ) (o : Options) (notes out₀ out : List ℕ) (c₀ : Cursor) (r : Course) (s : Begun most block o notes c₀ out₀ out r) where
+  pub begun-end : {n : ℕ} → r ≡ CourseEnd n → FinishedFrom most (meant block o) notes c₀ out₀ out (All n)
   begun-end e = rw e at s
 
-  pub begun-short : {c : Cursor} {p : Paragraph} → r ≡ Short c p → Begun block o notes c₀ out₀ out (Short c p)
+  pub begun-short : {c : Cursor} {p : Paragraph} → r ≡ Short c p → Begun most block o notes c₀ out₀ out (Short c p)
   begun-short e = rw e at s

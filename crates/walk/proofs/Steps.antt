@@ -37,19 +37,23 @@ use Rattle.paragraphs.specs.declared.Step.{Step}
 use Rattle.paragraphs.specs.declared.Step.the-variants.{On, Over}
 use Rattle.walk.proofs.Rows.{text-words}
 use Rattle.walk.proofs.Meaning.{TextGoes, PieceGoes, piece-goes}
-use Rattle.walk.proofs.Bound.{words-few, text-most}
+use Rattle.walk.proofs.Bound.{words-few, any-text-most}
 use Rattle.walk.proofs.Loop.{going-over}
 
 -- ---- what the block's options allow
 
+-- the piece that the code found at a place, with the bounds promised of it
+pub usable-goes : (block notes : List ℕ) (o : Options) → Usable block o → Cleared o → length notes ≤ mostLarge → (nextMail : Bool) (at : ℕ) (r s : PieceAt) → at < length notes
+    → (r ≡ pieceAt (meant block o) nextMail notes at) × Bounded (o .glue) notes at r → r ≡ s → PieceGoes (meant block o) nextMail notes at s
+unfolding meant
+usable-goes block notes o u cleared short nextMail at r s h p q =
+    let m = means (meant block o) nextMail notes at h (u .least) (u .most) short cleared in
+    piece-goes (meant block o) nextMail notes at s (rw (sym q ∙ p .0) m) (rw q at (p .1))
+
 -- in notes that are not too long, under options that a block can give
 module _ (block notes : List ℕ) (o : Options) (kept : Kept block o) (short : length notes ≤ mostLarge) (nextMail : Bool) (at : ℕ) where
-  -- the piece that the code found at a place, with the bounds promised of it
   pub piece-found : (r s : PieceAt) → at < length notes → (r ≡ pieceAt (meant block o) nextMail notes at) × Bounded (o .glue) notes at r → r ≡ s → PieceGoes (meant block o) nextMail notes at s
-  unfolding meant
-  piece-found r s h p q =
-      let m = means (meant block o) nextMail notes at h (kept .tabLeast) (kept .tabMost) short (kept .splitClears) in
-      piece-goes (meant block o) nextMail notes at s (rw (sym q ∙ p .0) m) (rw q at (p .1))
+  piece-found r s h p q = usable-goes block notes o (usable block o kept) (kept .splitClears) short nextMail at r s h p q
 
   -- a paragraph lies in the notes, with limits that keep all sums small
   module _ (p : ParagraphAt) (q : Paragraph) (text : TextIs (meant block o) notes at p q) (bounds : ParagraphWithin (meant block o .glue) notes at p) where
@@ -100,9 +104,9 @@ found-begins block notes o c p h m e = record { within = h; is = sym e ∙ m .0;
 
 -- ---- blank and plain lines
 
-module _ (o : Opts) (notes out : List ℕ) (c : Cursor) (out′ : List ℕ) (next n : ℕ) where
+module _ (most : ℕ) (o : Opts) (notes out : List ℕ) (c : Cursor) (out′ : List ℕ) (next n : ℕ) where
   pub blank-put : FirstPiece o (c .mail) notes (c .at) blankLine true next → Wrote out (c .written) (slice (c .at) (c .at) notes ++ lineFeed) out′ n × (n ≤ c .written + (c .at - c .at) + 1)
-      → Put o notes out c (record { at = next; written = n; mail = true }) out′
+      → Put most o notes out c (record { at = next; written = n; mail = true }) out′
   unfolding outputOf
   blank-put g w =
       let z : c .at + 0 ≡ c .at = omega arith in
@@ -110,7 +114,7 @@ module _ (o : Opts) (notes out : List ℕ) (c : Cursor) (out′ : List ℕ) (nex
       record { kind = blankLine; goes = g; few = refl; wrote = rw e at (w .0); bounded = omega (arith, g .on, w .1) }
 
   pub plain-put : (end : ℕ) {bytes : List ℕ} {longest : ℕ} → FirstPiece o (c .mail) notes (c .at) (plainLine (slice (c .at) end notes)) false next × (c .at ≤ end) × (end ≤ next) → Wrote out (c .written) bytes out′ n × (n ≤ longest)
-      → bytes ≡ slice (c .at) end notes ++ lineFeed → longest ≤ c .written + (end - c .at) + 1 → Put o notes out c (record { at = next; written = n; mail = false }) out′
+      → bytes ≡ slice (c .at) end notes ++ lineFeed → longest ≤ c .written + (end - c .at) + 1 → Put most o notes out c (record { at = next; written = n; mail = false }) out′
   unfolding outputOf
   plain-put end g w e k = record { kind = plainLine (slice (c .at) end notes); goes = g .0; few = refl; wrote = rw e at (w .0); bounded = omega (arith, g .0 .on, g .1, g .2, w .1, k) }
 
@@ -132,23 +136,24 @@ module _ (block notes : List ℕ) (o : Options) (ready : Admitted block notes o)
   words-count : length (wordsOf (meant block o) q) ≡ length (wordsFor block notes at o p)
   words-count = ap length words-are
 
-  text-put : (out : List ℕ) (c d : Cursor) (out′ : List ℕ) → c .at ≡ at → c .mail ≡ nextMail → length (wordsFor block notes at o p) ≤ mostWords → TextPut notes at o p out (c .written) out′ d block → Put (meant block o) notes out c d out′
+  text-put : (most : ℕ) (out : List ℕ) (c d : Cursor) (out′ : List ℕ) → c .at ≡ at → c .mail ≡ nextMail → length (wordsFor block notes at o p) ≤ most → TextPut notes at o p out (c .written) out′ d block
+      → Put most (meant block o) notes out c d out′
   unfolding outputOf
-  text-put out c d out′ a m f w = record {
+  text-put most out c d out′ a m f w = record {
     kind = paragraph q;
     goes = rw (a, m, w .next, w .mail) (goes);
-    few = rw words-count (le-ltb mostWords (length (wordsFor block notes at o p)) f);
+    few = rw words-count (le-ltb most (length (wordsFor block notes at o p)) f);
     wrote = rw formatted-is (w .wrote);
-    bounded = rw (a, w .next) (omega (arith, w .bounded, most-is, text-most (meant block o) notes at p q text bounds (omega (arith, words-count, f))));
+    bounded = rw (a, w .next) (omega (arith, w .bounded, most-is, any-text-most (meant block o) notes at p q text bounds (ready .short)));
   }
 
-  text-long : (out : List ℕ) (c : Cursor) → c .at ≡ at → c .mail ≡ nextMail → mostWords < length (wordsFor block notes at o p) → TooLong (meant block o) notes out c out
-  text-long out c a m w = record {
+  text-long : (most : ℕ) (out : List ℕ) (c : Cursor) → c .at ≡ at → c .mail ≡ nextMail → most < length (wordsFor block notes at o p) → TooLong most (meant block o) notes out c out
+  text-long most out c a m w = record {
     kind = paragraph q;
     state = p .mail;
     next = p .next;
     goes = rw (a, m) (goes);
-    many = rw words-count (lt-ltb mostWords (length (wordsFor block notes at o p)) w);
+    many = rw words-count (lt-ltb most (length (wordsFor block notes at o p)) w);
     same = refl;
   }
 
@@ -159,20 +164,21 @@ module _ (block notes : List ℕ) (o : Options) (c : Cursor) (p : ParagraphAt) (
   pub begins-placed : Placed notes (c .at) o p
   begins-placed = let g = begins-goes in text-found block notes o (ready-kept block notes o ready) (ready .short) (c .mail) (c .at) p (g .paragraph-is) (g .text) (g .bounds)
 
-  pub begins-stepped : (longest : ℕ) (out out′ : List ℕ) (r : Step) (d : Cursor) → longest ≤ mostWords → TextStepped longest notes (c .at) o p out (c .written) out′ r block → r ≡ On d → Put (meant block o) notes out c d out′
-  begins-stepped longest out out′ r d few w e =
+  pub begins-stepped : (most longest : ℕ) (out out′ : List ℕ) (r : Step) (d : Cursor) → longest ≤ most → TextStepped longest notes (c .at) o p out (c .written) out′ r block → r ≡ On d → Put most (meant block o) notes out c d out′
+  begins-stepped most longest out out′ r d few w e =
       let g = begins-goes in
       let v : TextStepped longest notes (c .at) o p out (c .written) out′ (On d) block = rw e at w in
-      text-put block notes o ready (c .mail) (c .at) p (g .paragraph-is) (g .goes) (g .text) (g .bounds) out c d out′ refl refl (omega (arith, v .0, few)) (v .1)
+      text-put block notes o ready (c .mail) (c .at) p (g .paragraph-is) (g .goes) (g .text) (g .bounds) most out c d out′ refl refl (omega (arith, v .0, few)) (v .1)
 
   pub begins-over : (longest : ℕ) (out out′ : List ℕ) (r : Step) → TextStepped longest notes (c .at) o p out (c .written) out′ r block → r ≡ Over → (longest < length (wordsFor block notes (c .at) o p)) × (out′ ≡ out)
   begins-over longest out out′ r w e = rw e at w
 
-  -- at last there is room for 1,024
-  pub begins-long : (c₀ : Cursor) (out₀ out : List ℕ) → Going (meant block o) notes c₀ out₀ c out → mostWords < length (wordsFor block notes (c .at) o p) → FinishedFrom (meant block o) notes c₀ out₀ out (Stopped (c .at))
-  begins-long c₀ out₀ out going h =
+  -- it has more words than any may have
+  pub begins-long : (most : ℕ) (c₀ : Cursor) (out₀ out : List ℕ) → Going most (meant block o) notes c₀ out₀ c out → most < length (wordsFor block notes (c .at) o p)
+      → FinishedFrom most (meant block o) notes c₀ out₀ out (Stopped (c .at))
+  begins-long most c₀ out₀ out going h =
       let g = begins-goes in
-      going-over (meant block o) notes going (text-long block notes o ready (c .mail) (c .at) p (g .paragraph-is) (g .goes) (g .text) (g .bounds) out c refl refl h)
+      going-over most (meant block o) notes going (text-long block notes o ready (c .mail) (c .at) p (g .paragraph-is) (g .goes) (g .text) (g .bounds) most out c refl refl h)
 
 -- ---- the rooms
 

@@ -5,13 +5,22 @@ use paragraphs::Step;
 use pieces::Paragraph;
 use pieces::Piece;
 ghost use mathlib.Core.Path.{_≡_};
-ghost use mathlib.Core.Bool.{true, false};
-ghost use Prim.Native.Nat.{_≤_};
+ghost use mathlib.Core.Bool.{true, false, cond};
+ghost use mathlib.Core.List.{List};
+ghost use Prim.Native.Nat.{ℕ, _+_, _-_, _*_, _≤_, max};
 ghost use lib.ListN.{length, replicate};
+ghost use lib.Seq.{slice};
+ghost use Rattle.text.specs.declared.Found.the-variants.{Nowhere};
 ghost use Rattle.options.specs.Opts.{meant};
-ghost use Rattle.paragraphs.specs.Contracts.Steps.{roomFor};
-ghost use Rattle.walk.specs.Digest.{mostWords};
-ghost use Rattle.walk.specs.Contracts.Course.{CursorIn, TextAhead, Reached, Admitted, Coursed, Begun, start, Finished, FinishedFrom};
+ghost use Rattle.lines.specs.Lines.{linesOf};
+ghost use Rattle.lines.specs.Contracts.Places.{mostLarge, Usable};
+ghost use Rattle.pieces.specs.Contracts.Places.{Cleared};
+ghost use Rattle.pieces.specs.Contracts.Bounds.{AllBegin};
+ghost use Rattle.output.specs.Contracts.Sink.{Wrote};
+ghost use Rattle.paragraphs.specs.Contracts.Steps.{roomFor, wordsFor};
+ghost use Rattle.walk.specs.Digest.{mostWords, digest};
+ghost use Rattle.walk.specs.Work.{workFor};
+ghost use Rattle.walk.specs.Contracts.Course.{CursorIn, TextAhead, Reached, Admitted, outputFrom, longFrom, Coursed, Begun, start, Finished, FinishedFrom};
 
 // What follows the lines behind a place: a paragraph, where the cursor stands, or the end of the notes.
 enum Ahead {
@@ -34,7 +43,7 @@ pub enum Ended {
 // Writes what fits of all pieces, and counts what is needed; or tells the first paragraph of too many words, and clears the output.
 pub fn put_all(o: Options, block: &[u8], notes: &[u8], out: &mut [u8]) -> Ended
     requires { ⌜ Admitted (now block) (now notes) o ⌝ }
-    ensures { λ r. ⌜ Finished (meant (now (block .entry)) o) (now (notes .entry)) (now (out .entry)) (now (out .exit)) r ⌝ }
+    ensures { λ r. ⌜ Finished mostWords (meant (now (block .entry)) o) (now (notes .entry)) (now (out .entry)) (now (out .exit)) r ⌝ }
 {
     match put_pieces(o, block, notes, out) {
         Ended::All(needed) => Ended::All(needed),
@@ -45,11 +54,102 @@ pub fn put_all(o: Options, block: &[u8], notes: &[u8], out: &mut [u8]) -> Ended
     }
 }
 
+// The same in room that is lent, of which there is enough for every paragraph.
+pub fn put_all_lent(o: Options, block: &[u8], notes: &[u8], out: &mut [u8], work: &mut [u32]) -> usize
+    requires { ⌜ Admitted (now block) (now notes) o × (workFor (meant (now block) o) (now notes) ≤ length (now work)) ⌝ }
+    ensures { λ r. ⌜ Wrote (now (out .entry)) 0 (digest (meant (now (block .entry)) o) (now (notes .entry))) (now (out .exit)) r ⌝ }
+{
+    let start = Cursor {
+        at: 0,
+        written: 0,
+        mail: true,
+    };
+    match put_lines(o, block, notes, start, out) {
+        Ahead::End(needed) => needed,
+        Ahead::Text { c, p } => put_lent(o, block, notes, c, p, out, work),
+    }
+}
+
+// Everything from the first paragraph on.
+fn put_lent(
+    o: Options,
+    block: &[u8],
+    notes: &[u8],
+    c: Cursor,
+    p: Paragraph,
+    out: &mut [u8],
+    work: &mut [u32],
+) -> usize
+    requires { ⌜ Admitted (now block) (now notes) o × CursorIn (now notes) c × TextAhead (now block) o (now notes) c p × (longFrom (roomFor (o .quick) (length (now work))) (meant (now block) o) (c .mail) (now notes) (c .at) ≡ Nowhere) ⌝ }
+    ensures { λ r. ⌜ Wrote (now (out .entry)) (c .written) (outputFrom (meant (now (block .entry)) o) (c .mail) (now (notes .entry)) (c .at)) (now (out .exit)) r ⌝ }
+{
+    match put_texts(o, block, notes, c, p, out, work) {
+        Course::End(needed) => needed,
+        // There is room for every paragraph, so none is left.
+        Course::Short { c: d, p: _ } => d.written,
+    }
+}
+
+// The room that the notes need, if it is more than so much. Their bytes may show that it is not: between two words stands a blank.
+pub fn work_over(o: Options, block: &[u8], notes: &[u8], lent: usize) -> usize
+    requires { ⌜ Admitted (now block) (now notes) o ⌝ }
+    ensures { λ r. ⌜ r ≡ max lent (workFor (meant (now (block .entry)) o) (now (notes .entry))) ⌝ }
+{
+    work_with(o, block, notes, lent)
+}
+
+// The same with options of which some may have been turned on since the block was read.
+pub fn work_with(o: Options, block: &[u8], notes: &[u8], lent: usize) -> usize
+    requires { ⌜ (length (now notes) ≤ mostLarge) × Usable (now block) o × Cleared o ⌝ }
+    ensures { λ r. ⌜ r ≡ max lent (workFor (meant (now (block .entry)) o) (now (notes .entry))) ⌝ }
+{
+    if paragraphs::numbers_for(o.quick, (notes.len() + 1) / 2) <= lent {
+        return lent;
+    }
+    let mut most = lent;
+    let mut at = 0;
+    let mut mail = true;
+    while at < notes.len() {
+        match pieces::next_piece(notes, at, o, block, mail) {
+            Piece::Blank { next } => {
+                at = next;
+                mail = true;
+            }
+            Piece::Plain { end: _, next } => {
+                at = next;
+                mail = false;
+            }
+            Piece::Text(p) => {
+                most = with_paragraph(o, notes, at, p, most);
+                at = p.next;
+                mail = p.mail;
+            }
+        }
+    }
+    most
+}
+
+// The same of a paragraph, whose words are counted only where its bytes do not show it.
+fn with_paragraph(o: Options, notes: &[u8], at: usize, p: Paragraph, most: usize) -> usize
+    requires { ⌜ (at ≤ p .next) × (p .next ≤ length (now notes)) × (length (now notes) ≤ mostLarge) × (1 ≤ o .tab) × (o .tab ≤ 100) × (p .mail ≡ false → AllBegin (o .glue) (p .start) (p .later) (linesOf (slice at (p .next) (now notes)))) × ((block : List ℕ) → 2 * length (wordsFor block (now notes) at o p) ≤ p .next - at + 1) ⌝ }
+    ensures { λ r. ⌜ ((block : List ℕ) → r ≡ max most (cond (o .quick) 7 15 * length (wordsFor block (now (notes .entry)) at o p))) ⌝ }
+{
+    if paragraphs::numbers_for(o.quick, (p.next - at + 1) / 2) <= most {
+        return most;
+    }
+    let words = words::count_words(notes, at, p.next, p.mail, p.start, p.later, o);
+    let needed = paragraphs::numbers_for(o.quick, words);
+    if needed <= most {
+        return most;
+    }
+    needed
+}
+
 // The pieces themselves. The work goes on when no room is left: too many words, found later, take precedence.
 // In the original: `ParagraphStream::new` and `uumain`.
 fn put_pieces(o: Options, block: &[u8], notes: &[u8], out: &mut [u8]) -> Ended
     requires { ⌜ Admitted (now block) (now notes) o ⌝ }
-    ensures { λ r. ⌜ FinishedFrom (meant (now (block .entry)) o) (now (notes .entry)) start (now (out .entry)) (now (out .exit)) r ⌝ }
+    ensures { λ r. ⌜ FinishedFrom mostWords (meant (now (block .entry)) o) (now (notes .entry)) start (now (out .entry)) (now (out .exit)) r ⌝ }
 {
     let start = Cursor {
         at: 0,
@@ -65,7 +165,7 @@ fn put_pieces(o: Options, block: &[u8], notes: &[u8], out: &mut [u8]) -> Ended
 // Writes the lines from a place on, blank and plain ones, up to the next paragraph.
 fn put_lines(o: Options, block: &[u8], notes: &[u8], from: Cursor, out: &mut [u8]) -> Ahead
     requires { ⌜ Admitted (now block) (now notes) o × CursorIn (now notes) from ⌝ }
-    ensures { λ r. ⌜ Reached (now (block .entry)) o (now (notes .entry)) from (now (out .entry)) (now (out .exit)) r ⌝ }
+    ensures { λ r. ⌜ ((most : ℕ) → Reached most (now (block .entry)) o (now (notes .entry)) from (now (out .entry)) (now (out .exit)) r) ⌝ }
 {
     let mut c = from;
     while c.at < notes.len() {
@@ -118,7 +218,7 @@ fn put_from(
     out: &mut [u8],
 ) -> Ended
     requires { ⌜ Admitted (now block) (now notes) o × CursorIn (now notes) c × TextAhead (now block) o (now notes) c p ⌝ }
-    ensures { λ r. ⌜ FinishedFrom (meant (now (block .entry)) o) (now (notes .entry)) c (now (out .entry)) (now (out .exit)) r ⌝ }
+    ensures { λ r. ⌜ FinishedFrom mostWords (meant (now (block .entry)) o) (now (notes .entry)) c (now (out .entry)) (now (out .exit)) r ⌝ }
 {
     if o.quick {
         return put_quick(o, block, notes, c, p, out);
@@ -136,7 +236,7 @@ fn put_quick(
     out: &mut [u8],
 ) -> Ended
     requires { ⌜ Admitted (now block) (now notes) o × CursorIn (now notes) c × TextAhead (now block) o (now notes) c p × (o .quick ≡ true) ⌝ }
-    ensures { λ r. ⌜ FinishedFrom (meant (now (block .entry)) o) (now (notes .entry)) c (now (out .entry)) (now (out .exit)) r ⌝ }
+    ensures { λ r. ⌜ FinishedFrom mostWords (meant (now (block .entry)) o) (now (notes .entry)) c (now (out .entry)) (now (out .exit)) r ⌝ }
 {
     let mut work = [0u32; QUICK_FEW];
     match put_texts(o, block, notes, c, p, out, &mut work) {
@@ -155,7 +255,7 @@ fn put_quick_longer(
     out: &mut [u8],
 ) -> Ended
     requires { ⌜ Admitted (now block) (now notes) o × CursorIn (now notes) c × TextAhead (now block) o (now notes) c p × (o .quick ≡ true) ⌝ }
-    ensures { λ r. ⌜ FinishedFrom (meant (now (block .entry)) o) (now (notes .entry)) c (now (out .entry)) (now (out .exit)) r ⌝ }
+    ensures { λ r. ⌜ FinishedFrom mostWords (meant (now (block .entry)) o) (now (notes .entry)) c (now (out .entry)) (now (out .exit)) r ⌝ }
 {
     match put_quick_more(o, block, notes, c, p, out) {
         Course::End(needed) => Ended::All(needed),
@@ -173,7 +273,7 @@ fn put_quick_more(
     out: &mut [u8],
 ) -> Course
     requires { ⌜ Admitted (now block) (now notes) o × CursorIn (now notes) c × TextAhead (now block) o (now notes) c p × (o .quick ≡ true) ⌝ }
-    ensures { λ r. ⌜ Begun (now (block .entry)) o (now (notes .entry)) c (now (out .entry)) (now (out .exit)) r ⌝ }
+    ensures { λ r. ⌜ Begun mostWords (now (block .entry)) o (now (notes .entry)) c (now (out .entry)) (now (out .exit)) r ⌝ }
 {
     if c.at + 1024 < p.next {
         return Course::Short { c, p };
@@ -192,7 +292,7 @@ fn put_quick_long(
     out: &mut [u8],
 ) -> Ended
     requires { ⌜ Admitted (now block) (now notes) o × CursorIn (now notes) c × TextAhead (now block) o (now notes) c p × (o .quick ≡ true) ⌝ }
-    ensures { λ r. ⌜ FinishedFrom (meant (now (block .entry)) o) (now (notes .entry)) c (now (out .entry)) (now (out .exit)) r ⌝ }
+    ensures { λ r. ⌜ FinishedFrom mostWords (meant (now (block .entry)) o) (now (notes .entry)) c (now (out .entry)) (now (out .exit)) r ⌝ }
 {
     let mut work = [0u32; QUICK_MOST];
     match put_texts(o, block, notes, c, p, out, &mut work) {
@@ -211,7 +311,7 @@ fn put_best(
     out: &mut [u8],
 ) -> Ended
     requires { ⌜ Admitted (now block) (now notes) o × CursorIn (now notes) c × TextAhead (now block) o (now notes) c p × (o .quick ≡ false) ⌝ }
-    ensures { λ r. ⌜ FinishedFrom (meant (now (block .entry)) o) (now (notes .entry)) c (now (out .entry)) (now (out .exit)) r ⌝ }
+    ensures { λ r. ⌜ FinishedFrom mostWords (meant (now (block .entry)) o) (now (notes .entry)) c (now (out .entry)) (now (out .exit)) r ⌝ }
 {
     let mut work = [0u32; BEST_FEW];
     match put_texts(o, block, notes, c, p, out, &mut work) {
@@ -230,7 +330,7 @@ fn put_best_more(
     out: &mut [u8],
 ) -> Ended
     requires { ⌜ Admitted (now block) (now notes) o × CursorIn (now notes) c × TextAhead (now block) o (now notes) c p × (o .quick ≡ false) ⌝ }
-    ensures { λ r. ⌜ FinishedFrom (meant (now (block .entry)) o) (now (notes .entry)) c (now (out .entry)) (now (out .exit)) r ⌝ }
+    ensures { λ r. ⌜ FinishedFrom mostWords (meant (now (block .entry)) o) (now (notes .entry)) c (now (out .entry)) (now (out .exit)) r ⌝ }
 {
     let mut work = [0u32; BEST_MORE];
     match put_texts(o, block, notes, c, p, out, &mut work) {
@@ -249,7 +349,7 @@ fn put_best_long(
     out: &mut [u8],
 ) -> Ended
     requires { ⌜ Admitted (now block) (now notes) o × CursorIn (now notes) c × TextAhead (now block) o (now notes) c p × (o .quick ≡ false) ⌝ }
-    ensures { λ r. ⌜ FinishedFrom (meant (now (block .entry)) o) (now (notes .entry)) c (now (out .entry)) (now (out .exit)) r ⌝ }
+    ensures { λ r. ⌜ FinishedFrom mostWords (meant (now (block .entry)) o) (now (notes .entry)) c (now (out .entry)) (now (out .exit)) r ⌝ }
 {
     let mut work = [0u32; BEST_MOST];
     match put_texts(o, block, notes, c, p, out, &mut work) {
@@ -269,8 +369,8 @@ fn put_texts(
     out: &mut [u8],
     work: &mut [u32],
 ) -> Course
-    requires { ⌜ Admitted (now block) (now notes) o × CursorIn (now notes) first × TextAhead (now block) o (now notes) first head × (roomFor (o .quick) (length (now work)) ≤ mostWords) ⌝ }
-    ensures { λ r. ⌜ Coursed (roomFor (o .quick) (length (now (work .entry)))) (now (block .entry)) o (now (notes .entry)) first (now (out .entry)) (now (out .exit)) r ⌝ }
+    requires { ⌜ Admitted (now block) (now notes) o × CursorIn (now notes) first × TextAhead (now block) o (now notes) first head ⌝ }
+    ensures { λ r. ⌜ ((most : ℕ) → roomFor (o .quick) (length (now (work .entry))) ≤ most → Coursed most (roomFor (o .quick) (length (now (work .entry)))) (now (block .entry)) o (now (notes .entry)) first (now (out .entry)) (now (out .exit)) r) ⌝ }
 {
     let mut c = first;
     let mut p = head;

@@ -1,6 +1,6 @@
 // Words: a paragraph's word records.
 ghost use mathlib.Core.Path.{_≡_};
-ghost use mathlib.Core.Bool.{Bool, true, false, cond, _&&_, _||_};
+ghost use mathlib.Core.Bool.{Bool, true, false, cond, not, _&&_, _||_};
 ghost use mathlib.Core.List.{List, [], _++_};
 ghost use Prim.Native.Nat.{ℕ, _+_, _-_, _*_, _^_, _≤_, _<_};
 ghost use lib.Dec.{ltb, eqb};
@@ -278,6 +278,53 @@ fn split_line(
             return Count::TooMany;
         }
         records::store(table, count, w);
+        count += 1;
+        at = w.end;
+        first = false;
+        previous = w.punct;
+    }
+}
+
+// How many words a paragraph has, where no table is at hand to hold them: as many as `split_words` finds.
+pub fn count_words(
+    notes: &[u8],
+    at: usize,
+    next: usize,
+    mail: bool,
+    start: usize,
+    later: usize,
+    o: Options,
+) -> usize
+    requires { ⌜ (at ≤ next) × (next ≤ length (now notes)) × (length (now notes) ≤ mostLarge) × (1 ≤ o .tab) × (o .tab ≤ 100) × (mail ≡ false → AllBegin (o .glue) start later (linesOf (slice at next (now notes)))) ⌝ }
+    ensures { λ r. ⌜ ((block : List ℕ) → r ≡ length (wordsAt (meant block o) mail start later (linesOf (slice at next (now (notes .entry)))))) ⌝ }
+{
+    let part = &notes[..next];
+    let mut i = at;
+    let mut n = 0;
+    let mut skip = start;
+    while i < next {
+        let line = lines::first_line(&part[i..]);
+        n = count_line(notes, begin(mail, i, skip), i + line.text, mail, o, n);
+        i += line.whole;
+        skip = later;
+    }
+    n
+}
+
+// The words of a line from start up to end, and n more.
+fn count_line(notes: &[u8], start: usize, end: usize, mail: bool, o: Options, n: usize) -> usize
+    requires { ⌜ (start ≤ end) × (end ≤ length (now notes)) × (length (now notes) ≤ mostLarge) × (1 ≤ o .tab) × (o .tab ≤ 100) × (n ≤ start) × (mail ≡ false → while isBlank (inkGlyphs (o .glue) (slice start end (now notes))) ≡ []) ⌝ }
+    ensures { λ r. ⌜ (r ≡ n + length (wordsFrom (meant [] o) mail (not mail) false (glyphsBehind (o .glue) (not mail) (slice start end (now (notes .entry)))))) × (r ≤ end) ⌝ }
+{
+    let s = &notes[..end];
+    let mut count = n;
+    let mut at = start;
+    let mut first = !mail;
+    let mut previous = false;
+    loop {
+        let Next::One(w) = next_word(s, at, mail, first, previous, o) else {
+            return count;
+        };
         count += 1;
         at = w.end;
         first = false;

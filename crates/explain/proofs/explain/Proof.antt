@@ -19,10 +19,10 @@ explain-line-requires : tie.Need-explain-line-requires
 explain-line-requires c κs = passed-of document01 _ _ _ (c .before .before .before .admit .ensures) (c .before .o .given .1) .0
 
 returns : tie.Need-returns
-returns c = refused-told _ _ _ (c .before .before .before .admit .ensures) _ (c .before .r .given .1)
+returns c = refused-told document01 _ _ _ (c .before .before .before .admit .ensures) _ (c .before .r .given .1)
 
 returns-2 : tie.Need-returns-2
-returns-2 c = passed-told _ _ _ (c .before .before .before .before .admit .ensures) _ (c .before .before .o .given .1) (c .explain-line .ensures)
+returns-2 c = passed-told document01 _ _ _ (c .before .before .before .before .admit .ensures) _ (c .before .before .o .given .1) (c .explain-line .ensures)
 
 pub explain-spec : {M : Type 1} → statement M
 explain-spec =

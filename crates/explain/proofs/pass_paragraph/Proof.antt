@@ -13,7 +13,7 @@ room-for-requires : tie.Need-room-for-requires
 room-for-requires c κs = search needs
 
 split-words-requires : tie.Need-split-words-requires
-split-words-requires c κs = let p = c .before .before .before .before .pre in (p .0 .order, p .0 .within, p .0 .short, p .0 .tabLeast, p .0 .tabMost, room-holds _ _ _ (c .before .room-for .ensures), p .0 .begins)
+split-words-requires c κs = let p = c .before .before .before .before .pre in (p .order, p .within, p .short, p .tabLeast, p .tabMost, room-holds _ _ _ (c .before .room-for .ensures), p .begins)
 
 enum-known-n : tie.Need-enum-known-n
 enum-known-n c = search needs
@@ -39,7 +39,7 @@ same-length-2 c = search needs
 returns-2 : tie.Need-returns-2
 returns-2 c = λ block.
     record {
-      few = omega (arith, split-few (c .before .before .before .before .before .before .before .split-words .ensures block) _ (c .before .before .before .n .given .1) .1, c .before .before .before .before .before .before .before .before .before .room-for .ensures, c .before .before .before .before .before .before .before .before .before .before .before .before .pre .1);
+      few = omega (arith, split-few (c .before .before .before .before .before .before .before .split-words .ensures block) _ (c .before .before .before .n .given .1) .1, c .before .before .before .before .before .before .before .before .before .room-for .ensures);
       next = refl;
       mail = refl;
       asked = rw (c .enum-told2 .given .1) (passed-told _ _);
@@ -51,15 +51,15 @@ setting-of-requires c κs = search needs
 ask-lines-requires : tie.Need-ask-lines-requires
 ask-lines-requires c κs =
     let p = c .before .before .before .before .before .before .before .before .before .before .before .before .before .before .before .before .before .pre in
-    let s = c .before .before .before .before .before .before .before .before .before .before .before .before .split-words .ensures (p .0 .block) in
+    let s = c .before .before .before .before .before .before .before .before .before .before .before .before .split-words .ensures (p .block) in
     let w = c .before .before .before .before .before .before .before .before .n .given .1 in
     let n = split-few s _ w in
     let k = s .kept _ w in (
-      rw (c .before .setting-of .ensures (p .0 .block)) (limits-of _ _ _ _ (p .0) (p .0 .block)),
-      omega (arith, n .0, p .0 .some),
-      omega (arith, n .0, p .0 .few, p .0 .short),
+      rw (c .before .setting-of .ensures (p .block)) (limits-of _ _ _ _ p (p .block)),
+      omega (arith, n .0, p .some),
+      omega (arith, n .0, p .few, p .short),
       roomy (c .before .before .before .before .before .before .before .before .before .before .before .before .before .before .before .before .before .args .o .quick) (c .before .before .before .before .before .before .before .before .before .before .before .before .before .before .before .before .before .args .p .mail) (c .before .before .before .before .before .before .before .before .before .before .before .work .given) (c .before .before .before .before .before .before .before .before .before .before .before .before .before .before .room-for .ensures) (k .few) refl,
-      split-narrow s _ w (p .0 .short),
+      split-narrow s _ w (p .short),
     )
 
 same-length-3 : tie.Need-same-length-3
@@ -70,7 +70,7 @@ returns-3 c = λ block.
     let s = c .before .before .before .before .before .before .before .before .before .before .before .before .before .before .before .split-words .ensures block in
     let w = c .before .before .before .before .before .before .before .before .before .before .before .n .given .1 in
     record {
-      few = omega (arith, split-few s _ w .1, c .before .before .before .before .before .before .before .before .before .before .before .before .before .before .before .before .before .room-for .ensures, c .before .before .before .before .before .before .before .before .before .before .before .before .before .before .before .before .before .before .before .before .pre .1);
+      few = omega (arith, split-few s _ w .1, c .before .before .before .before .before .before .before .before .before .before .before .before .before .before .before .before .before .room-for .ensures);
       next = refl;
       mail = refl;
       asked = passed-as (c .before .before .before .before .before .before .before .before .before .before .before .before .before .before .before .before .before .before .before .before .args .o .quick || c .before .before .before .before .before .before .before .before .before .before .before .before .before .before .before .before .before .before .before .before .args .p .mail) _ _ _ _ _ _ _ (c .before .before .ask-lines .ensures _) (c .before .before .before .before .before .before .before .before .asked .given .1) (c .before .before .before .before .setting-of .ensures block) (s .words _ w);

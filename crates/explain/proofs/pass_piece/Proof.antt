@@ -30,19 +30,19 @@ pass-paragraph-requires : tie.Need-pass-paragraph-requires
 pass-paragraph-requires c κs =
     let s = c .before .before .before .before .before .before .before .before in
     let cursor : Cursor = record { at = s .args .s .at; written = 0; mail = s .args .s .mail } in
-    (begins-placed _ _ _ cursor _ (s .pre .0) (found-begins _ _ _ cursor _ (s .pre .1) (c .before .before .before .before .next-piece .ensures) (c .before .before .p .given .1)), s .pre .2)
+    begins-placed _ _ _ cursor _ (s .pre .0) (found-begins _ _ _ cursor _ (s .pre .1) (c .before .before .before .before .next-piece .ensures) (c .before .before .p .given .1))
 
 returns : tie.Need-returns
 returns c =
     let p = c .before .before .before .before .before .before .before .before .pre in
     let m = found-goes _ _ _ (p .0) _ _ _ _ (p .1) (c .before .before .before .before .next-piece .ensures) (c .before .before .next .given .1) in
-    blank-behind _ _ _ _ _ m (c .pass-line .ensures)
+    blank-behind _ _ _ _ _ _ m (c .pass-line .ensures)
 
 returns-2 : tie.Need-returns-2
 returns-2 c =
     let p = c .before .before .before .before .before .before .before .before .pre in
     let m = found-goes _ _ _ (p .0) _ _ _ _ (p .1) (c .before .before .before .before .next-piece .ensures) (c .before .before .next2 .given .1) in
-    plain-behind _ _ _ _ _ (m .0) (c .pass-line2 .ensures)
+    plain-behind _ _ _ _ _ _ (m .0) (c .pass-line2 .ensures)
 
 same-length : tie.Need-same-length
 same-length c = search needs

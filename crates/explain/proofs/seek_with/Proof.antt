@@ -1,26 +1,27 @@
 -- `explain::seek_with` meets its contract. Invariant: the search has gone on from where it began.
 use mathlib.Core.Path.{_≡_, refl, _∙_}
-use Prim.Native.Nat.{_-_}
+use Prim.Native.Nat.{ℕ, _-_, _≤_}
 use native.Mathlib.Omega.{arith}
 use lib.ListN.{length}
 use borrow.Author.Needs.{needs}
 use Rattle.options.specs.Opts.{meant}
+use Rattle.paragraphs.specs.Contracts.Steps.{roomFor}
 use Rattle.explain.specs.Contracts.Seeking.{Seeking}
 use Rattle.explain.proofs.Seeking.{seeking-first, seeking-on, seeking-last, piece-on, piece-over}
 use Rattle.explain.proofs.seek_with.Statement.{statement}
 use Rattle.explain.proofs.seek_with.Tie as tie
 
 abbrev Inv-loop : tie.InvT-loop
-Inv-loop o block notes work₀ s₀ work s = Seeking (meant block o) notes s₀ s × (length work ≡ length work₀)
+Inv-loop o block notes work₀ s₀ work s = ((most : ℕ) → roomFor (o .quick) (length work₀) ≤ most → Seeking most (meant block o) notes s₀ s) × (length work ≡ length work₀)
 
 abbrev μ-loop : tie.MeasureT-loop
 μ-loop o block notes work₀ s₀ work s = length notes - s .at
 
 loop-holds : tie.Need-loop-holds Inv-loop μ-loop
-loop-holds c = (seeking-first _ _ _ (c .before .before .before .pre .1), refl)
+loop-holds c = (λ most few. seeking-first _ _ _ _ (c .before .before .before .pre .1), refl)
 
 pass-piece-requires : tie.Need-pass-piece-requires Inv-loop μ-loop
-pass-piece-requires c κs = let p = c .before .before .before .before .before .before .before .pre in let i = c .before .before .before .loop .inv in (p .0, c .before .if1 .taken, rw (i .1) (p .2))
+pass-piece-requires c κs = let p = c .before .before .before .before .before .before .before .pre in (p .0, c .before .if1 .taken)
 
 enum-known-t : tie.Need-enum-known-t Inv-loop μ-loop
 enum-known-t c = search needs
@@ -34,7 +35,7 @@ same-length c = c .before .before .before .work .given ∙ c .before .before .be
 returns : tie.Need-returns Inv-loop μ-loop
 returns c =
     let i = c .before .before .before .before .before .before .before .before .loop .inv in
-    (i .0, rw (← i .1) (piece-over _ _ _ _ _ (c .before .before .before .before .pass-piece .ensures) (c .enum-told .given .1)))
+    λ most few. (i .0 most few, rw (← i .1) (piece-over _ _ _ _ _ (c .before .before .before .before .pass-piece .ensures) (c .enum-told .given .1)))
 
 loop-less : tie.Need-loop-less Inv-loop μ-loop
 loop-less c = let p = piece-on _ _ _ _ _ (c .before .before .before .before .before .pass-piece .ensures) (c .before .t .given .1) in omega (arith, p .goes .on, p .goes .within)
@@ -43,7 +44,7 @@ loop-again : tie.Need-loop-again Inv-loop μ-loop
 loop-again c =
     let p = piece-on _ _ _ _ _ (c .before .before .before .before .before .pass-piece .ensures) (c .before .t .given .1) in
     let i = c .before .before .before .before .before .before .before .before .before .loop .inv in (
-      seeking-on _ _ (i .0) p,
+      λ most few. seeking-on _ _ _ (i .0 most few) (rw (i .1) few) p,
       c .before .before .before .before .work .given ∙ i .1,
     )
 
@@ -51,7 +52,7 @@ same-length-2 : tie.Need-same-length-2 Inv-loop μ-loop
 same-length-2 c = c .before .before .loop .inv .1
 
 returns-2 : tie.Need-returns-2 Inv-loop μ-loop
-returns-2 c = seeking-last _ _ (c .before .before .loop .inv .0) (omega (arith, c .if1 .left))
+returns-2 c = λ most few. seeking-last _ _ _ (c .before .before .loop .inv .0 most few) (omega (arith, c .if1 .left))
 
 pub seek-with-spec : {M : Type 1} → statement M
 seek-with-spec =

@@ -1,6 +1,6 @@
 -- What the functions of the search answer for: the lines of the pieces from a place of the notes on, and the line that is asked for.
 use mathlib.Core.Path.{_≡_}
-use mathlib.Core.Bool.{Bool, false, _||_}
+use mathlib.Core.Bool.{Bool, true, false, _||_}
 use mathlib.Core.List.{List}
 use Prim.Native.Nat.{ℕ, _+_, _-_, _*_, _^_, _≤_, _<_}
 use lib.ListN.{length}
@@ -9,15 +9,16 @@ use Rattle.text.specs.declared.Found.{Found}
 use Rattle.text.specs.declared.Found.the-variants.{At, Nowhere}
 use Rattle.options.specs.Opts.{Opts}
 use Rattle.options.specs.declared.Options.{Options}
-use Rattle.pieces.specs.Pieces.{Kind, Paragraph, paragraph, pieces}
+use Rattle.pieces.specs.Pieces.{Kind, Paragraph, paragraph}
 use Rattle.pieces.specs.declared.Paragraph.{Paragraph as ParagraphAt}
 use Rattle.words.specs.Words.{wordsOf}
 use Rattle.endings.specs.declared.Ending.{Ending}
 use Rattle.endings.specs.Endings.{numbersOf, endings}
 use Rattle.paragraphs.specs.Contracts.Steps.{settingFor, wordsFor}
-use Rattle.walk.specs.Digest.{mostWords, tooMany, longParagraph}
-use Rattle.walk.specs.Contracts.Course.{piecesFrom, longFrom, FirstPiece}
-use Rattle.formatter.specs.Answers.{words}
+use Rattle.walk.specs.Digest.{tooMany, longParagraph}
+use Rattle.walk.specs.Contracts.Course.{piecesFrom, FirstPiece}
+use Rattle.formatter.specs.Answers.{done}
+use Rattle.formatter.specs.Format.{Limits, within}
 use Rattle.formatter.specs.Contracts.Call.{told as replied, replyNumber}
 use Rattle.explain.specs.declared.Asked.{Asked}
 use Rattle.explain.specs.declared.Asked.the-variants.{Told, Behind as Ahead}
@@ -31,30 +32,30 @@ use Rattle.explain.specs.declared.Sought.the-variants.{All, Stopped}
 use Rattle.explain.specs.declared.Explained.{Explained}
 use Rattle.explain.specs.declared.Explained.the-variants.{Because, Refused, NoLine}
 use Rattle.explain.specs.Reasons.{linesBy, pieceEndings, endingsOf, lineEndings}
-use Rattle.explain.specs.Explain.{Explanation, because, refused, noLine, lookUp}
+use Rattle.explain.specs.Explain.{Explanation, because, refused, noLine, lookUp, afterMeasuring}
 use Rattle.explain.specs.Contracts.Asking.{passed}
 
 -- ---- a paragraph in places
 
--- it is passed
-pub record TextBehind (notes : List ℕ) (at : ℕ) (o : Options) (p : ParagraphAt) (a : Asked) (s : Seek) (block : List ℕ) : Type 0 where
-  pub few : length (wordsFor block notes at o p) ≤ 1024
+-- it is passed: there is room for its words
+pub record TextBehind (room : ℕ) (notes : List ℕ) (at : ℕ) (o : Options) (p : ParagraphAt) (a : Asked) (s : Seek) (block : List ℕ) : Type 0 where
+  pub few : length (wordsFor block notes at o p) ≤ room
   pub next : s .at ≡ p .next
   pub mail : s .mail ≡ p .mail
   pub asked : s .asked ≡ passed (endings (linesBy (o .quick || p .mail) (settingFor block o p) (wordsFor block notes at o p))) a
 
 -- or it has more words than there is room for
 abbrev pub TextPassed : ℕ → List ℕ → ℕ → Options → ParagraphAt → Asked → Passed → List ℕ → Type 0
-TextPassed room notes at o p a (On s) block = TextBehind notes at o p a s block
+TextPassed room notes at o p a (On s) block = TextBehind room notes at o p a s block
 TextPassed room notes at o p a Over block = room < length (wordsFor block notes at o p)
 
 -- ---- a piece
 
 -- the search goes on behind it
-pub record PieceBehind (o : Opts) (notes : List ℕ) (s t : Seek) : Type 0 where
+pub record PieceBehind (room : ℕ) (o : Opts) (notes : List ℕ) (s t : Seek) : Type 0 where
   pub kind : Kind
   pub goes : FirstPiece o (s .mail) notes (s .at) kind (t .mail) (t .at)
-  pub few : tooMany mostWords o kind ≡ false
+  pub few : tooMany room o kind ≡ false
   pub asked : t .asked ≡ passed (endingsOf o kind) (s .asked)
 
 -- or there is not enough room for it
@@ -66,10 +67,14 @@ pub record NoRoom (room : ℕ) (o : Opts) (notes : List ℕ) (s : Seek) : Type 0
   pub many : room < length (wordsOf o text)
 
 abbrev pub PiecePassed : ℕ → Opts → List ℕ → Seek → Passed → Type 0
-PiecePassed room o notes s (On t) = PieceBehind o notes s t
+PiecePassed room o notes s (On t) = PieceBehind room o notes s t
 PiecePassed room o notes s Over = NoRoom room o notes s
 
 -- ---- the notes
+
+-- where the search for a line begins
+abbrev pub begin : ℕ → Seek
+begin line = record { at = 0; mail = true; asked = Ahead line }
 
 -- the lines from a place on, each with the way it ended
 unfoldable pub endingsFrom : Opts → Bool → List ℕ → ℕ → List Ending
@@ -79,23 +84,27 @@ endingsFrom o nextMail notes at = joined (pieceEndings o) (piecesFrom o nextMail
 abbrev pub passedAll : Opts → List ℕ → Seek → Asked
 passedAll o notes s = passed (endingsFrom o (s .mail) notes (s .at)) (s .asked)
 
-abbrev pub longBehind : Opts → List ℕ → Seek → Found
-longBehind o notes s = longFrom o (s .mail) notes (s .at)
+-- the first paragraph of over so many words from there on
+abbrev pub longBehind : ℕ → Opts → List ℕ → Seek → Found
+longBehind most o notes s = longParagraph most o (s .at) (piecesFrom o (s .mail) notes (s .at))
 
 -- the search has gone on from s to t
-pub record Seeking (o : Opts) (notes : List ℕ) (s t : Seek) : Type 0 where
+pub record Seeking (most : ℕ) (o : Opts) (notes : List ℕ) (s t : Seek) : Type 0 where
   pub within : t .at ≤ length notes
   pub asked : passedAll o notes t ≡ passedAll o notes s
-  pub long : longBehind o notes t ≡ longBehind o notes s
+  pub long : longBehind most o notes t ≡ longBehind most o notes s
 
-abbrev pub SoughtIs : Opts → List ℕ → Seek → Sought → Type 0
-SoughtIs o notes s (All a) = (longBehind o notes s ≡ Nowhere) × (a ≡ passedAll o notes s)
-SoughtIs o notes s (Stopped place) = longBehind o notes s ≡ At place
+abbrev pub SoughtIs : ℕ → Opts → List ℕ → Seek → Sought → Type 0
+SoughtIs most o notes s (All a) = (longBehind most o notes s ≡ Nowhere) × (a ≡ passedAll o notes s)
+SoughtIs most o notes s (Stopped place) = longBehind most o notes s ≡ At place
 
--- so far as the room reaches
+-- so far as the room reaches; what counts as too many words is no less
+abbrev pub CoursedUnder : ℕ → ℕ → Opts → List ℕ → Seek → Course → Type 0
+CoursedUnder most room o notes s (End a) = SoughtIs most o notes s (All a)
+CoursedUnder most room o notes s (Short t) = Seeking most o notes s t × NoRoom room o notes t
+
 abbrev pub Coursed : ℕ → Opts → List ℕ → Seek → Course → Type 0
-Coursed room o notes s (End a) = SoughtIs o notes s (All a)
-Coursed room o notes s (Short t) = Seeking o notes s t × NoRoom room o notes t
+Coursed room o notes s r = (most : ℕ) → room ≤ most → CoursedUnder most room o notes s r
 
 -- ---- the answer in code
 
@@ -125,9 +134,5 @@ toldReason (Refused r) reason = reason
 toldReason (NoLine lines) reason = reason
 
 -- what is left to be told behind codes 1 to 3
-abbrev pub wordsOr : Found → Explanation → Explanation
-wordsOr (At place) a = refused (words place)
-wordsOr Nowhere a = a
-
-abbrev pub leftOf : Opts → List ℕ → ℕ → Explanation
-leftOf o notes line = wordsOr (longParagraph mostWords o 0 (pieces o notes)) (lookUp line (lineEndings o notes))
+abbrev pub leftOf : Limits → Opts → List ℕ → ℕ → Explanation
+leftOf l o notes line = afterMeasuring (lookUp line (lineEndings o notes)) (within (l .words) done o notes)

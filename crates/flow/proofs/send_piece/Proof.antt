@@ -30,7 +30,7 @@ send-text-requires : tie.Need-send-text-requires
 send-text-requires c κs =
     let p = c .before .before .before .before .before .before .before .before .before .before .pre in
     let g = found-goes _ _ _ (p .0) _ _ _ _ (p .2) (c .before .before .before .before .before .next-piece .ensures) (c .before .before .before .p .given .1) in
-    (text-placed _ _ _ (p .0) (c .before .before .before .before .before .before .before .before .before .before .args .c) g, p .3, omega (arith, p .0 .admitted .short, p .1 .within, p .1 .bounded), omega (arith, p .0 .admitted .short, p .1 .within, p .1 .few), ready-uniform _ _ _ (p .0))
+    (text-placed _ _ _ (p .0) (c .before .before .before .before .before .before .before .before .before .before .args .c) g, omega (arith, p .0 .admitted .short, p .1 .within, p .1 .bounded), omega (arith, p .0 .admitted .short, p .1 .within, p .1 .few), ready-uniform _ _ _ (p .0))
 
 same-length : tie.Need-same-length
 same-length c = search needs
@@ -39,7 +39,7 @@ returns : tie.Need-returns
 returns c =
     let p = c .before .before .before .before .before .before .before .before .before .before .before .before .pre in
     let m = found-goes _ _ _ (p .0) _ _ _ _ (p .2) (c .before .before .before .before .before .before .before .next-piece .ensures) (c .before .before .before .before .before .next .given .1) in
-    blank-put _ _ _ (c .before .before .before .before .before .before .before .before .before .before .before .before .args .c) _ _ _ m (c .before .before .send-line .ensures)
+    blank-put _ _ _ _ (c .before .before .before .before .before .before .before .before .before .before .before .before .args .c) _ _ _ m (c .before .before .send-line .ensures)
 
 same-length-2 : tie.Need-same-length-2
 same-length-2 c = search needs
@@ -48,7 +48,7 @@ returns-2 : tie.Need-returns-2
 returns-2 c =
     let p = c .before .before .before .before .before .before .before .before .before .before .before .before .pre in
     let m = found-goes _ _ _ (p .0) _ _ _ _ (p .2) (c .before .before .before .before .before .before .before .next-piece .ensures) (c .before .before .before .before .before .end .given .1) in
-    plain-put _ _ _ (c .before .before .before .before .before .before .before .before .before .before .before .before .args .c) _ _ _ _ m (c .before .before .send-line2 .ensures)
+    plain-put _ _ _ _ (c .before .before .before .before .before .before .before .before .before .before .before .before .args .c) _ _ _ _ m (c .before .before .send-line2 .ensures)
 
 same-length-3 : tie.Need-same-length-3
 same-length-3 c = search needs
@@ -60,7 +60,7 @@ returns-3 : tie.Need-returns-3
 returns-3 c =
     let p = c .before .before .before .before .before .before .before .before .before .before .before .before .before .before .before .pre in
     let g = found-goes _ _ _ (p .0) _ _ _ _ (p .2) (c .before .before .before .before .before .before .before .before .before .before .next-piece .ensures) (c .before .before .before .before .before .before .before .before .p .given .1) in
-    text-stepped _ _ _ (p .0) (c .before .before .before .before .before .before .before .before .before .before .before .before .before .before .before .args .c) g _ _ (c .before .before .before .before .send-text .result) (c .before .before .before .before .send-text .ensures _)
+    text-stepped _ _ _ (p .0) (c .before .before .before .before .before .before .before .before .before .before .before .before .before .before .before .args .c) g _ _ _ (c .before .before .before .before .send-text .result) (c .before .before .before .before .send-text .ensures _)
 
 pub send-piece-spec : {M : Type 1} → statement M
 send-piece-spec =

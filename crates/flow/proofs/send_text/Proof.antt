@@ -28,7 +28,7 @@ same-length : tie.Need-same-length
 same-length c = search needs
 
 returns : tie.Need-returns
-returns c = λ block. (omega (arith, split-many (c .before .before .before .before .split-words .ensures block) (c .enum-told .given .1), c .before .before .before .before .before .before .room-for .ensures, c .before .before .before .before .before .before .before .before .before .before .pre .1), refl)
+returns c = λ block. (omega (arith, split-many (c .before .before .before .before .split-words .ensures block) (c .enum-told .given .1), c .before .before .before .before .before .before .room-for .ensures), refl)
 
 setting-of-requires : tie.Need-setting-of-requires
 setting-of-requires c κs = search needs
@@ -40,7 +40,7 @@ quick-breaks-requires c κs =
     let w = c .before .before .before .before .before .n .given .1 in
     let n = split-few s _ w in
     let k = s .kept _ w in
-    (omega (arith, n .0, p .0 .some), omega (arith, k .few, k .held), rw (c .setting-of .ensures (p .0 .block) (c .before .before .before .before .before .before .before .before .before .before .before .before .before .before .before .args .p) (p .4) refl refl) (fair-of (p .0) (p .0 .block)))
+    (omega (arith, n .0, p .0 .some), omega (arith, k .few, k .held), rw (c .setting-of .ensures (p .0 .block) (c .before .before .before .before .before .before .before .before .before .before .before .before .before .before .before .args .p) (p .3) refl refl) (fair-of (p .0) (p .0 .block)))
 
 layout-of-requires : tie.Need-layout-of-requires
 layout-of-requires c κs = search needs
@@ -56,21 +56,22 @@ emit-requires c κs =
     let l = c .before .layout-of .ensures in (
       record {
         some = omega (arith, n .0, p .0 .some);
-        few = omega (arith, k .few, c .before .before .before .before .before .before .before .before .before .before .before .before .before .before .before .before .before .room-for .ensures, p .1);
+        few = omega (arith, n .0, p .0 .few, p .0 .short);
         words = λ i h. rw (b .words i) (k .within i h);
         held = omega (arith, k .few, k .held, b .sized);
         first = rw (l .0) (p .0 .first);
         indent = rw (l .1) (p .0 .indent);
         small = omega (arith, p .0 .short);
       },
-      p .2,
+      p .1,
     )
 
 add-t12 : tie.Need-add-t12
 add-t12 c =
     let p = c .before .before .before .before .before .before .before .before .before .before .before .before .before .before .before .before .before .before .before .before .before .before .before .before .before .before .pre in
-    let k = c .before .before .before .before .before .before .before .before .before .before .before .before .before .before .before .before .before .before .before .before .split-words .ensures (p .0 .block) .kept _ (c .before .before .before .before .before .before .before .before .before .before .before .before .before .before .before .before .n .given .1) in
-    omega (arith, p .3, c .before .before .before .before .emit .ensures .few, k .few, c .before .before .before .before .before .before .before .before .before .before .before .before .before .before .before .before .before .before .before .before .before .before .room-for .ensures, p .1)
+    let k = c .before .before .before .before .before .before .before .before .before .before .before .before .before .before .before .before .before .before .before .before .split-words .ensures (p .0 .block) in
+    let n = split-few k _ (c .before .before .before .before .before .before .before .before .before .before .before .before .before .before .before .before .n .given .1) in
+    omega (arith, p .2, c .before .before .before .before .emit .ensures .few, n .0, p .0 .few, p .0 .short)
 
 same-length-2 : tie.Need-same-length-2
 same-length-2 c = search needs
@@ -86,7 +87,7 @@ returns-2 c =
     let w = c .before .before .before .before .before .before .before .before .before .before .before .before .before .before .before .before .n .given .1 in
     let l = c .before .before .before .before .before .before .layout-of .ensures in
     let q = c .before .before .before .before .before .before .before .before .before .before .quick-breaks .ensures _ in
-    text-sent (c .before .before .before .before .before .before .layout-of .result) (c .before .before .before .before .emit .result) (omega (arith, split-few s _ w .1, c .before .before .before .before .before .before .before .before .before .before .before .before .before .before .before .before .before .before .before .before .before .before .room-for .ensures, p .1)) (l .0) (l .1) (words-same _ _ _ _ (λ j h. q .words j) ∙ s .words _ w) (q .says ∙ ap (quickBreaks _) (s .words _ w)) (c .before .before .before .before .before .before .before .before .before .before .before .setting-of .ensures block (c .before .before .before .before .before .before .before .before .before .before .before .before .before .before .before .before .before .before .before .before .before .before .before .before .before .before .args .p) (p .4) refl refl) (c .before .before .before .before .emit .ensures)
+    text-sent (c .before .before .before .before .before .before .layout-of .result) (c .before .before .before .before .emit .result) (omega (arith, split-few s _ w .1, c .before .before .before .before .before .before .before .before .before .before .before .before .before .before .before .before .before .before .before .before .before .before .room-for .ensures)) (l .0) (l .1) (words-same _ _ _ _ (λ j h. q .words j) ∙ s .words _ w) (q .says ∙ ap (quickBreaks _) (s .words _ w)) (c .before .before .before .before .before .before .before .before .before .before .before .setting-of .ensures block (c .before .before .before .before .before .before .before .before .before .before .before .before .before .before .before .before .before .before .before .before .before .before .before .before .before .before .args .p) (p .3) refl refl) (c .before .before .before .before .emit .ensures)
 
 pub send-text-spec : {M : Type 1} → statement M
 send-text-spec =

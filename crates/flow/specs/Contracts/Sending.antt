@@ -3,11 +3,9 @@ use mathlib.Core.Path.{_≡_}
 use mathlib.Core.Bool.{Bool, true, false, cond, _&&_, _||_}
 use mathlib.Core.List.{List, _++_}
 use Prim.Native.Nat.{ℕ, _+_, _*_, _^_, _≤_, _<_}
-use lib.Dec.{leb}
 use lib.ListN.{length, drop, replicate}
 use lib.Seq.{slice}
 use Rattle.lists.specs.Runs.{joined}
-use Rattle.text.specs.declared.Found.{Found}
 use Rattle.text.specs.declared.Found.the-variants.{At, Nowhere}
 use Rattle.options.specs.Opts.{Opts}
 use Rattle.options.specs.OptionBlock.{bit, readBlock}
@@ -27,10 +25,10 @@ use Rattle.output.specs.Contracts.Sink.{Wrote}
 use Rattle.output.specs.Contracts.Writers.{marginOf}
 use Rattle.quick.specs.Quick.{quickBreaks}
 use Rattle.paragraphs.specs.Contracts.Steps.{settingFor, wordsFor}
-use Rattle.walk.specs.Digest.{mostWords, tooMany, longParagraph}
+use Rattle.walk.specs.Digest.{tooMany, longParagraph}
 use Rattle.walk.specs.Contracts.Course.{Admitted, piecesFrom, longFrom, FirstPiece}
-use Rattle.formatter.specs.Answers.{Answer, outputAfter}
-use Rattle.formatter.specs.Format.{document01, within}
+use Rattle.formatter.specs.Answers.{Answer, done, options, long, text, words, room, work, outputAfter}
+use Rattle.formatter.specs.Format.{Limits, within}
 use Rattle.formatter.specs.Contracts.Call.{told, replyNumber}
 use Rattle.unflow.specs.Flowed.{stuffing}
 use Rattle.flow.specs.Flow.{isDashed, sent, sentLines, flowed, pieceDashes, dashesIn}
@@ -121,8 +119,8 @@ pub record ParagraphSent (notes table : List ℕ) (n : ℕ) (l : Layout) (out : 
   pub few : r .dashes ≤ n
 
 -- a paragraph in places was written, or has too many words, and then the output is as it was
-pub record TextSent (notes : List ℕ) (c : Cursor) (o : Options) (p : Paragraph) (out out′ : List ℕ) (d : Cursor) (block : List ℕ) : Type 0 where
-  pub few : length (wordsFor block notes (c .at) o p) ≤ 1024
+pub record TextSent (most : ℕ) (notes : List ℕ) (c : Cursor) (o : Options) (p : Paragraph) (out out′ : List ℕ) (d : Cursor) (block : List ℕ) : Type 0 where
+  pub few : length (wordsFor block notes (c .at) o p) ≤ most
   pub next : d .at ≡ p .next
   pub mail : d .mail ≡ p .mail
   pub wrote : Wrote out (c .written)
@@ -130,9 +128,9 @@ pub record TextSent (notes : List ℕ) (c : Cursor) (o : Options) (p : Paragraph
       out′ (d .written)
   pub dashes : d .dashes ≡ c .dashes + wordsDashes (marginOf notes (p .first)) (marginOf notes (p .indent)) (quickBreaks (settingFor block o p) (wordsFor block notes (c .at) o p)) (wordsFor block notes (c .at) o p)
 
-abbrev pub TextStepped : List ℕ → Cursor → Options → Paragraph → List ℕ → List ℕ → Step → List ℕ → Type 0
-TextStepped notes c o p out out′ (On d) block = TextSent notes c o p out out′ d block
-TextStepped notes c o p out out′ Over block = (1024 < length (wordsFor block notes (c .at) o p)) × (out′ ≡ out)
+abbrev pub TextStepped : ℕ → List ℕ → Cursor → Options → Paragraph → List ℕ → List ℕ → Step → List ℕ → Type 0
+TextStepped most notes c o p out out′ (On d) block = TextSent most notes c o p out out′ d block
+TextStepped most notes c o p out out′ Over block = (most < length (wordsFor block notes (c .at) o p)) × (out′ ≡ out)
 
 -- ---- the pieces from a place on
 
@@ -142,31 +140,34 @@ flowedFrom o nextMail notes at = joined (λ (q : Piece). joined sent (sentLines 
 unfoldable pub dashesFor : Opts → Bool → List ℕ → ℕ → ℕ
 dashesFor o nextMail notes at = dashesIn o (piecesFrom o nextMail notes at)
 
--- a place within the notes; no byte of them makes more than 3,120, nor more than one line `--`
+-- a place within the notes; no byte of them makes more than three times what it may of the digest, nor more lines `--`
+abbrev pub mostSentPerByte : ℕ
+mostSentPerByte = 6291456
+
 pub record CursorIn (notes : List ℕ) (c : Cursor) : Type 0 where
   pub within : c .at ≤ length notes
-  pub bounded : c .written ≤ 3120 * c .at
-  pub few : c .dashes ≤ 3120 * c .at
+  pub bounded : c .written ≤ mostSentPerByte * c .at
+  pub few : c .dashes ≤ mostSentPerByte * c .at
 
 -- a piece was written, and the work goes on behind it
-pub record Put (o : Opts) (notes out : List ℕ) (c d : Cursor) (out′ : List ℕ) : Type 0 where
+pub record Put (most : ℕ) (o : Opts) (notes out : List ℕ) (c d : Cursor) (out′ : List ℕ) : Type 0 where
   pub kind : Kind
   pub goes : FirstPiece o (c .mail) notes (c .at) kind (d .mail) (d .at)
-  pub few : tooMany mostWords o kind ≡ false
+  pub few : tooMany most o kind ≡ false
   pub wrote : Wrote out (c .written) (joined sent (sentLines o kind)) out′ (d .written)
   pub dashes : d .dashes ≡ c .dashes + pieceDashes o kind
-  pub bounded : d .written + 3120 * c .at ≤ c .written + 3120 * d .at
-  pub counted : d .dashes + 3120 * c .at ≤ c .dashes + 3120 * d .at
+  pub bounded : d .written + mostSentPerByte * c .at ≤ c .written + mostSentPerByte * d .at
+  pub counted : d .dashes + mostSentPerByte * c .at ≤ c .dashes + mostSentPerByte * d .at
 
-abbrev pub PieceStepped : Opts → List ℕ → List ℕ → Cursor → List ℕ → Step → Type 0
-PieceStepped o notes out c out′ (On d) = Put o notes out c d out′
-PieceStepped o notes out c out′ Over = (longFrom o (c .mail) notes (c .at) ≡ At (c .at)) × (out′ ≡ out)
+abbrev pub PieceStepped : ℕ → Opts → List ℕ → List ℕ → Cursor → List ℕ → Step → Type 0
+PieceStepped most o notes out c out′ (On d) = Put most o notes out c d out′
+PieceStepped most o notes out c out′ Over = (longFrom most o (c .mail) notes (c .at) ≡ At (c .at)) × (out′ ≡ out)
 
 -- all were written; or the work stopped at a paragraph of too many words
-abbrev pub Finished : Opts → List ℕ → List ℕ → List ℕ → Ended → Type 0
-Finished o notes out out′ (All n k) =
-    (longParagraph mostWords o 0 (pieces o notes) ≡ Nowhere) × Wrote out 0 (flowed o notes) out′ n × (k ≡ dashesIn o (pieces o notes)) × (n ≤ 3120 * length notes)
-Finished o notes out out′ (Stopped place) = (longParagraph mostWords o 0 (pieces o notes) ≡ At place) × (length out′ ≡ length out) × (place ≤ length notes)
+abbrev pub Finished : ℕ → Opts → List ℕ → List ℕ → List ℕ → Ended → Type 0
+Finished most o notes out out′ (All n k) =
+    (longParagraph most o 0 (pieces o notes) ≡ Nowhere) × Wrote out 0 (flowed o notes) out′ n × (k ≡ dashesIn o (pieces o notes)) × (n ≤ mostSentPerByte * length notes)
+Finished most o notes out out′ (Stopped place) = (longParagraph most o 0 (pieces o notes) ≡ At place) × (length out′ ≡ length out) × (place ≤ length notes)
 
 -- ---- the answer in code: without the bytes, which are in the output
 
@@ -177,12 +178,18 @@ pub record Sends (a : Answer) (dashes : ℕ) (out : List ℕ) (r : Outcome) (out
   pub small : replyNumber (r .reply) < 2 ^ 64
 
 -- what is left to be told where codes 1 to 3 are not due
-abbrev pub leftOf : Opts → List ℕ → ℕ → Answer
-leftOf o notes space = within (document01 .words) (λ d. sentIn (document01 .words) space (flowed o notes)) o notes
+abbrev pub leftOf : Limits → Opts → List ℕ → ℕ → Answer
+leftOf l o notes space = within (l .words) (λ d. sentIn (l .words) space (flowed o notes)) o notes
 
-abbrev pub dashesLeft : Opts → List ℕ → ℕ → Found → ℕ
-dashesLeft o notes space (At place) = 0
-dashesLeft o notes space Nowhere = cond (leb (length (flowed o notes)) space) (dashesIn o (pieces o notes)) 0
+-- the count of lines `--`, which is 0 on a refusal
+abbrev pub ifDone : Answer → ℕ → ℕ
+ifDone (done bytes) n = n
+ifDone (options place) n = 0
+ifDone long n = 0
+ifDone (text place) n = 0
+ifDone (words place) n = 0
+ifDone (room needed) n = 0
+ifDone (work needed) n = 0
 
-abbrev pub leftDashes : Opts → List ℕ → ℕ → ℕ
-leftDashes o notes space = dashesLeft o notes space (longParagraph mostWords o 0 (pieces o notes))
+abbrev pub leftDashes : Limits → Opts → List ℕ → ℕ → ℕ
+leftDashes l o notes space = ifDone (leftOf l o notes space) (dashesIn o (pieces o notes))

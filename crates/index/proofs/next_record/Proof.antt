@@ -1,32 +1,20 @@
 -- `index::next_record` meets its contract.
-use native.Mathlib.Omega.{arith}
 use borrow.Author.Needs.{needs}
-use Rattle.marks.specs.Contracts.Marks.{marksIn}
-use Rattle.index.specs.Contracts.Reading.{behind}
-use Rattle.index.proofs.Reading.{after-is, gap-within}
+use Rattle.index.proofs.Reading.{front-length, front-is, front-few}
 use Rattle.index.proofs.next_record.Statement.{statement}
 use Rattle.index.proofs.next_record.Tie as tie
 
-add-place : tie.Need-add-place
-add-place c = search needs
+least-requires : tie.Need-least-requires
+least-requires c κs = search needs
 
-add-first : tie.Need-add-first
-add-first c = search needs
+slice-aggregate-record-behind : tie.Need-slice-aggregate-record-behind
+slice-aggregate-record-behind c = front-length (c .before .before .before .args .marks .now) _ (c .before .least .ensures)
 
-add-at : tie.Need-add-at
-add-at c = search needs
-
-gap-requires : tie.Need-gap-requires
-gap-requires c κs = search needs
-
-add-gap : tie.Need-add-gap
-add-gap c = let h = gap-within (c .before .before .before .before .args .marks .now) (behind (c .before .before .before .before .args .r)) _ (c .before .before .before .before .pre .0) (c .gap .ensures) in let k = c .before .before .before .before .pre .1 in omega (arith, h, k)
-
-gap-requires-2 : tie.Need-gap-requires-2
-gap-requires-2 c κs = search needs
+record-behind-requires : tie.Need-record-behind-requires
+record-behind-requires c κs = rw (front-is (c .before .before .before .args .marks .now) _ (c .before .least .ensures)) (c .before .before .before .pre, front-few (c .before .before .before .args .marks .now))
 
 returns : tie.Need-returns
-returns c = after-is (marksIn (c .before .before .before .before .before .args .marks .now)) (c .before .before .before .before .before .args .r) _ _ (c .before .gap .ensures) (c .gap2 .ensures)
+returns c = rw (← front-is (c .before .before .before .before .args .marks .now) _ (c .before .before .least .ensures)) (c .record-behind .ensures)
 
 pub next-record-spec : {M : Type 1} → statement M
-next-record-spec = tie.close (tie.spec add-place add-first add-at gap-requires add-gap gap-requires-2 returns)
+next-record-spec = tie.close (tie.spec least-requires slice-aggregate-record-behind record-behind-requires returns)

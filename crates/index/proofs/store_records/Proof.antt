@@ -12,7 +12,7 @@ use contract.Running.{tablesOf}
 use Rattle.index.proofs.Walk.{meets-by, _≡_, refl, sym, ap, subst, _∙_, ℕ, _+_, _-_, _*_, _^_, _≤_, _<_, zero-le, List, [], _∷_, length, URA, fullShare, Ty, named, imm, mut, w32, w64, tyPtr, tyInt, tyBool, tyUnit, tyRef, Val, vunit, vint, vptr, SProp, ent, sep, id⊢, exE, snd∗, Lft, GName, Share, Fml, ftrue, fat, froom, fdies, flft, fobs, fauth, fbor, fobor, Memory, Routine, Heap, Env, Out, afterSeq, afterBlock, Calls, Loops, Wp, atReturn, WpFn, Tables, Atoms, sem, Fun, fact, givenOf, tables, Given, Item, Sq, runs, anyQ, atRet, ‵, raw, later, some, _⊛_, ⋆, _$_, _∵_, !, qed, by, move, keep, drop, use1, use2, split, join, pick, await, rewrite, fsplit, fjoin, feqI, suffices, frame, done, whole, sub, look-in, look, init, store, store-raw, forget, stop, hop, fld, from, load, lit, unit-lit, of-opd, and-then, no-more, bin, assigns, assigns-last, land, first, blocks, exec, Below, again, loops, returns, enter, alloc1, alloc0, params1, pass1, pass0, free1, free0, fmOf, owns, pureI, Is, shows, pointee, uint-vals, uint-tells, uint-makes, usize, u32, RefT, sliceTy, sliceVal, MutSlice, ShrSlice, Room, heres, codedHoleys, at-slice, slice-vals, mut-slice-tells, shr-slice-tells, shr-slice-copy, Held, row, opens-slice, closes-slice, plain, only, owned, facts, heard, nothing, Vals, onEntry, Meets, tripleOf, Contract, Triple, calls-at, ensured, lasts, entered, cited, says, needs, Stays, stay-slice, stay-none-slice, stay-none, walkOf, ends-at, goes-slice, goes-none-slice, goes-none, yes, Record, R, word, rec-ty, low, rec-tells, Ok, place-at, R-makes, typed, takes-out, puts-in}
 use Rattle.marks.specs.Contracts.Marks.{marksIn}
 use Rattle.index.specs.Contracts.Lists.{noRecord}
-use Rattle.index.specs.Contracts.Reading.{behind, recordAfter, readFrom}
+use Rattle.index.specs.Contracts.Reading.{front, behind, recordAfter, readFrom}
 use Rattle.index.proofs.Reading.{lastRead, last-within, last-more, readTo, read-more, same-length}
 use Rattle.index.proofs.NoRecord.{NoRecord, no-record-told, to-no-record, no-record-goes}
 use Rattle.index.proofs.Test.{tests}
@@ -45,11 +45,11 @@ module _ {M : Type 1} (𝓤 : URA M) (H : Heap 𝓤) (A : Atoms 𝓤) (mem : Mem
   NextRecord = tripleOf 𝓤 H A next-record.signature (next-record.spec 𝓤 H A mem run)
 
   -- of what they ensure, the clause alone: they have no `&mut`, so what is said of last values is dropped
-  next-record-told : (κ′ : Lft) (ms : RefT (List ℕ)) (r s : Record) → ent 𝓤 (ensured 𝓤 H A next-record.ended (next-record.clauses 𝓤 H A mem run) (κ′, tt) (ms, (r, tt)) tt s) (fact 𝓤 (s ≡ recordAfter (marksIn (ms .now)) r))
-  next-record-told κ′ ms r s = exE 𝓤 _ (λ ws. snd∗ 𝓤 (sem 𝓤 H A (lasts next-record.ended (κ′, tt) (ms, (r, tt)) ws)) (fact 𝓤 (s ≡ recordAfter (marksIn (ms .now)) r)))
+  next-record-told : (κ′ : Lft) (ms : RefT (List ℕ)) (r s : Record) → ent 𝓤 (ensured 𝓤 H A next-record.ended (next-record.clauses 𝓤 H A mem run) (κ′, tt) (ms, (r, tt)) tt s) (fact 𝓤 (s ≡ recordAfter (marksIn (front (ms .now))) r))
+  next-record-told κ′ ms r s = exE 𝓤 _ (λ ws. snd∗ 𝓤 (sem 𝓤 H A (lasts next-record.ended (κ′, tt) (ms, (r, tt)) ws)) (fact 𝓤 (s ≡ recordAfter (marksIn (front (ms .now))) r)))
 
 module _ {M : Type 1} (𝓤 : URA M) (H : Heap 𝓤) (A : Atoms 𝓤) (W : Given 𝓤 H A) (mem : Memory → SProp 𝓤) (run : Routine → Fun 𝓤) (κ κ′ : Lft) (q q′ : Share) (b o : ℕ) (γ : GName) (ys : List Record) (n : ℕ) (ms : RefT (List ℕ))
-    (few : (n ≤ length ys) × (length (ms .now) ≤ 2 ^ 15)) (gn : Room R (length ys)) (fits : n < 2 ^ 64) (room-ms : Room u32 (length (ms .now))) where
+    (few : n ≤ length ys) (gn : Room R (length ys)) (fits : n < 2 ^ 64) (room-ms : Room u32 (length (ms .now))) where
   abbrev x : RefT (List Record) × (ℕ × (RefT (List ℕ) × Unit {0}))
   x = (record { ptr = (b, o); name = γ; now = ys }, (n, (ms, tt)))
 
@@ -65,16 +65,16 @@ module _ {M : Type 1} (𝓤 : URA M) (H : Heap 𝓤) (A : Atoms 𝓤) (W : Given
 
   -- after i turns: the record that is stored last, the one that is stored next, and the list
   abbrev last : ℕ → Record
-  last i = lastRead (marksIn (ms .now)) i noRecord
+  last i = lastRead (marksIn (front (ms .now))) i noRecord
 
   abbrev next : ℕ → Record
-  next i = recordAfter (marksIn (ms .now)) (last i)
+  next i = recordAfter (marksIn (front (ms .now))) (last i)
 
   abbrev after : ℕ → List Record
-  after i = readTo (marksIn (ms .now)) i noRecord ys
+  after i = readTo (marksIn (front (ms .now))) i noRecord ys
 
   same : (i : ℕ) → i ≤ n → length (after i) ≡ length ys
-  same i l = same-length (marksIn (ms .now)) i noRecord ys (omega (arith, l, few .0))
+  same i l = same-length (marksIn (front (ms .now))) i noRecord ys (omega (arith, l, few))
 
   abbrev Post : Val → SProp 𝓤
   Post = walkOf 𝓤 H A f.ended stayed (f.clauses 𝓤 H A mem run) .post (((κ, (κ′, tt)), (q, (q′, tt)), tt, x, at), tt)
@@ -91,9 +91,9 @@ module _ {M : Type 1} (𝓤 : URA M) (H : Heap 𝓤) (A : Atoms 𝓤) (W : Given
   abbrev to-next-record : Record → NextRecord 𝓤 H A mem run .Ghost
   to-next-record r = (((κ′, tt), (q′, tt), tt, (ms, (r, tt)), (slice-vals ms, (low r ∷ [], tt))), tt)
 
-  next-record-goes : (r : Record) → Ok r → behind r ≤ 32 * length (ms .now) → ent 𝓤 (sep 𝓤 (A .lft κ′ q′) (sem 𝓤 H A Shared)) (NextRecord 𝓤 H A mem run .pre (to-next-record r))
+  next-record-goes : (r : Record) → Ok r → behind r ≤ 32 * length (front (ms .now)) → ent 𝓤 (sep 𝓤 (A .lft κ′ q′) (sem 𝓤 H A Shared)) (NextRecord 𝓤 H A mem run .pre (to-next-record r))
   next-record-goes r g within =
-      qed W (‵ (flft κ′ q′) ∷ ‵ Shared ∷ []) ∵ says ! (within, few .1) $ nothing ! $ move ! (1 ∷ 0 ∷ []) $ join ! $ frame ! $
+      qed W (‵ (flft κ′ q′) ∷ ‵ Shared ∷ []) ∵ says ! within $ nothing ! $ move ! (1 ∷ 0 ∷ []) $ join ! $ frame ! $
       nothing ! $ owned ! R (Is R) (R-makes 𝓤 H A) r _ g $ fjoin ! $ move ! (1 ∷ 0 ∷ []) $ fjoin ! $ done !
 
   -- the loop's variant and what is known with it
@@ -130,7 +130,7 @@ module _ {M : Type 1} (𝓤 : URA M) (H : Heap 𝓤) (A : Atoms 𝓤) (W : Given
     turns i =
         assigns ! (bin ! (load ! (from ! (stop !)) (look ! 12 refl)) (load ! (from ! (stop !)) (look ! 18 refl)) tt) (from ! (stop !)) (init ! 10 refl (tt, tt)) $
         tests ! (load ! (from ! (stop !)) (look ! 10 refl))
-        (λ less. move ! (5 ∷ []) $ use1 W (‵ Shared ⊛ ‵ Shared) twice $ split ! $ move ! (6 ∷ 0 ∷ []) $ use2 W (raw (NextRecord 𝓤 H A mem run .pre (to-next-record (last (i .0))))) (next-record-goes (last (i .0)) (i .2) (last-within (ms .now) (i .0) noRecord zero-le)) $
+        (λ less. move ! (5 ∷ []) $ use1 W (‵ Shared ⊛ ‵ Shared) twice $ split ! $ move ! (6 ∷ 0 ∷ []) $ use2 W (raw (NextRecord 𝓤 H A mem run .pre (to-next-record (last (i .0))))) (next-record-goes (last (i .0)) (i .2) (last-within (front (ms .now)) (i .0) noRecord zero-le)) $
         -- [what the call needs; the shared slice; the row; the open borrow; obs; auth; _8; …]
         calls-at ! (fmOf 𝓤 H (W .laws) 𝓣) (NextRecord 𝓤 H A mem run) known (to-next-record (last (i .0))) (and-then ! (load ! (from ! (stop !)) (look ! 16 refl)) (and-then ! (load ! (from ! (stop !)) (look ! 14 refl)) (no-more !))) (λ w.
         use1 W (later (some (λ (r : Record). ((‵ (flft κ′ q′) ⊛ ‵ ftrue) ⊛ ‵ (R .own r (w ∷ []))) ⊛ raw (ensured 𝓤 H A next-record.ended (next-record.clauses 𝓤 H A mem run) (κ′, tt) (ms, (last (i .0), tt)) tt r)))) (id⊢ 𝓤 _) $ await ! tt $ pick ! (λ r.
@@ -146,7 +146,7 @@ module _ {M : Type 1} (𝓤 : URA M) (H : Heap 𝓤) (A : Atoms 𝓤) (W : Given
         -- [index[i]; what it owns; the others; the open borrow; obs; auth; the token; the shared slice; _8; …]
         assigns ! (of-opd ! (load ! (from ! (stop !)) (look ! 16 refl))) (from ! (hop ! (look ! 8 refl) (stop !))) (store-raw ! 0 refl (typed 𝓤 H A W (next (i .0)) (made r w e is))) $
         puts-in ! (after (i .0)) (i .0) (next (i .0)) b o (inside less) (made r w e is) $
-        rewrite ! 0 (λ (zs : List Record). ‵ (row R fullShare zs b o)) (read-more (marksIn (ms .now)) (i .0) noRecord ys (below less) ∙ sym (ap after (add-one (i .0)))) refl $
+        rewrite ! 0 (λ (zs : List Record). ‵ (row R fullShare zs b o)) (read-more (marksIn (front (ms .now))) (i .0) noRecord ys (below less) ∙ sym (ap after (add-one (i .0)))) refl $
         assigns-last ! (bin ! (load ! (from ! (stop !)) (look ! 12 refl)) (lit ! tt) (record { fits = next-fits less })) (from ! (stop !)) (store ! 12 refl (tt, record { fits = next-fits less })) $
         forget ! 6 refl $ forget ! 8 refl $ forget ! 10 refl $
         rewrite ! 14 (λ (u : Record). ‵ (fat fullShare rec-ty l₄ 0 (low u))) is-next refl $
@@ -160,10 +160,10 @@ module _ {M : Type 1} (𝓤 : URA M) (H : Heap 𝓤) (A : Atoms 𝓤) (W : Given
         by ! (exits (i .0) (i .1) (le-antisymm (i .1) (nltb→le (i .0) n over))))
       where
         is-next : next (i .0) ≡ last (i .0 + 1)
-        is-next = last-more (marksIn (ms .now)) (i .0) noRecord ∙ sym (ap last (add-one (i .0)))
+        is-next = last-more (marksIn (front (ms .now))) (i .0) noRecord ∙ sym (ap last (add-one (i .0)))
 
         below : T (ltb (i .0) n) → i .0 < length ys
-        below less = omega (arith, ltb→lt (i .0) n less, few .0)
+        below less = omega (arith, ltb→lt (i .0) n less, few)
 
         inside : T (ltb (i .0) n) → i .0 < length (after (i .0))
         inside less = omega (arith, below less, same (i .0) (i .1))

@@ -2,9 +2,13 @@
 use mathlib.Core.Bool.{Bool}
 use mathlib.Core.List.{List, [], _∷_}
 use Prim.Native.Nat.{ℕ, zero, suc, _+_}
-use lib.ListN.{drop}
+use lib.ListN.{take, drop}
 use Rattle.marks.specs.Contracts.Marks.{toMark}
 use Rattle.index.specs.declared.Record.{Record}
+
+-- the numbers that may hold marks: two bits for each byte of the longest notes, 1,048,576
+abbrev pub front : List ℕ → List ℕ
+front table = take 65536 table
 
 -- the place of the marks behind a record, and the record that is told from there on
 abbrev pub behind : Record → ℕ

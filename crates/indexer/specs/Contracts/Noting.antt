@@ -4,8 +4,7 @@ use mathlib.Core.Path.{_≡_}
 use mathlib.Core.Bool.{true, false}
 use mathlib.Core.List.{List, [], _∷_}
 use Prim.Native.Nat.{ℕ, _+_, _-_, _*_, _^_, _≤_, _<_}
-use lib.ListN.{length, take, drop, replicate, getD, set}
-use Rattle.text.specs.declared.Found.{Found}
+use lib.ListN.{length, take, drop, getD, set}
 use Rattle.text.specs.declared.Found.the-variants.{At, Nowhere}
 use Rattle.options.specs.Opts.{Opts}
 use Rattle.lines.specs.Lines.{linesOf}
@@ -15,18 +14,19 @@ use Rattle.output.specs.Contracts.Sink.{Wrote}
 use Rattle.paragraphs.specs.declared.Cursor.{Cursor}
 use Rattle.paragraphs.specs.declared.Step.{Step}
 use Rattle.paragraphs.specs.declared.Step.the-variants.{On, Over}
-use Rattle.walk.specs.Digest.{mostWords, digest, extentOf, longParagraph}
+use Rattle.walk.specs.Digest.{digest, extentOf, longParagraph}
 use Rattle.walk.specs.Contracts.Course.{longFrom, Put}
-use Rattle.formatter.specs.Format.{document01}
+use Rattle.formatter.specs.Answers.{done as measured}
+use Rattle.formatter.specs.Format.{Words as WordLimit, lent, Limits, withWords, within}
 use Rattle.formatter.specs.declared.Reply.{Reply}
 use Rattle.formatter.specs.declared.Reply.the-variants.{Done as ReplyDone, Options as ReplyOptions, Long as ReplyLong, Text as ReplyText, Words as ReplyWords, Room as ReplyRoom, Work as ReplyWork}
 use Rattle.marks.specs.Contracts.Marks.{marksIn}
 use Rattle.index.specs.declared.Record.{Record}
 use Rattle.index.specs.Contracts.Lists.{noRecord}
-use Rattle.index.specs.Contracts.Reading.{readFrom}
+use Rattle.index.specs.Contracts.Reading.{front, readFrom}
 use Rattle.indexer.specs.Index.{lineCount, indexOf}
 use Rattle.indexer.specs.Answers.{Indexed, done, options, long, text, words, full, room, work, numbered, outputAfter, filledAfter}
-use Rattle.indexer.specs.Indexing.{withIndex}
+use Rattle.indexer.specs.Indexing.{inIndex}
 use Rattle.indexer.specs.declared.Told.{Told}
 use Rattle.indexer.specs.declared.Filled.{Filled}
 use Rattle.indexer.specs.declared.Filled.the-variants.{Done, Options as Faulty, Long, Text, Words, Full, Room, Work}
@@ -35,9 +35,9 @@ use Rattle.indexer.specs.declared.Pieces.the-variants.{All, Stopped}
 
 -- ---- a piece: written, or a paragraph of too many words, and then the output is as it was
 
-abbrev pub PieceStepped : Opts → List ℕ → List ℕ → Cursor → List ℕ → Step → Type 0
-PieceStepped o notes out c out′ (On d) = Put o notes out c d out′
-PieceStepped o notes out c out′ Over = (longFrom o (c .mail) notes (c .at) ≡ At (c .at)) × (out′ ≡ out)
+abbrev pub PieceStepped : ℕ → Opts → List ℕ → List ℕ → Cursor → List ℕ → Step → Type 0
+PieceStepped most o notes out c out′ (On d) = Put most o notes out c d out′
+PieceStepped most o notes out c out′ Over = (longFrom most o (c .mail) notes (c .at) ≡ At (c .at)) × (out′ ≡ out)
 
 -- ---- the gaps that are spelled: of each piece its length in the notes and its count of output lines
 
@@ -49,10 +49,12 @@ gapsOf o (q ∷ qs) = length (extentOf q) ∷ lineCount o q ∷ gapsOf o qs
 abbrev pub linesPut : List ℕ → Cursor → Cursor → ℕ
 linesPut out c d = length (linesOf (take (d .written - c .written) (drop (c .written) out)))
 
--- a table of bits, none of them set, with two for each byte of the notes
-pub record Unmarked (notes gaps : List ℕ) : Type 0 where
-  pub clear : gaps ≡ replicate 4096 0
-  pub enough : 2 * length notes ≤ 4096 * 32
+-- the room that is lent: its first numbers are for marks, two for each byte of the notes; what stands behind them up to an end, for words
+pub record Parted (notes : List ℕ) (marks end : ℕ) (work : List ℕ) : Type 0 where
+  pub enough : 2 * length notes ≤ 32 * marks
+  pub few : marks ≤ 65536
+  pub order : marks ≤ end
+  pub within : end ≤ length work
 
 -- before a piece is spelled: where its output fits, neither of its two places is marked
 pub record Spells (gaps out : List ℕ) (c d : Cursor) (line : ℕ) : Type 0 where
@@ -71,11 +73,11 @@ pub record Spelt (gaps out : List ℕ) (c d : Cursor) (line : ℕ) (gaps′ : Li
   pub marked : d .written ≤ length out → marksIn gaps′ ≡ set (set (marksIn gaps) (d .at + line - 1) true) (d .at + line + linesPut out c d - 1) true
 
 -- all pieces were written, and if they fit, the gaps tell their records; or the work stopped at a paragraph of too many words
-abbrev pub Noted : Opts → List ℕ → List ℕ → List ℕ → List ℕ → Pieces → Type 0
-Noted o notes out out′ gaps′ (All n k) =
-    (longParagraph mostWords o 0 (pieces o notes) ≡ Nowhere) × Wrote out 0 (digest o notes) out′ n × (k ≡ length (indexOf o notes))
-    × (n ≤ length out → readFrom (marksIn gaps′) k noRecord ≡ indexOf o notes)
-Noted o notes out out′ gaps′ (Stopped place) = (longParagraph mostWords o 0 (pieces o notes) ≡ At place) × (length out′ ≡ length out)
+abbrev pub Noted : ℕ → Opts → List ℕ → List ℕ → List ℕ → List ℕ → Pieces → Type 0
+Noted most o notes out out′ work′ (All n k) =
+    (longParagraph most o 0 (pieces o notes) ≡ Nowhere) × Wrote out 0 (digest o notes) out′ n × (k ≡ length (indexOf o notes))
+    × (n ≤ length out → readFrom (marksIn (front work′)) k noRecord ≡ indexOf o notes)
+Noted most o notes out out′ work′ (Stopped place) = (longParagraph most o 0 (pieces o notes) ≡ At place) × (length out′ ≡ length out)
 
 -- ---- the answer in code: without the digest's bytes, which stand in the output, and the records, which the gaps tell
 
@@ -122,19 +124,19 @@ recordsOf (room needed) = []
 recordsOf (work needed) = []
 
 -- what a function that gives the answer leaves behind
-pub record Indexes (a : Indexed) (out : List ℕ) (r : Filled) (out′ gaps′ : List ℕ) : Type 0 where
+pub record Indexes (a : Indexed) (out : List ℕ) (r : Filled) (out′ work′ : List ℕ) : Type 0 where
   pub is : r ≡ told a
   pub output : out′ ≡ outputAfter a out
-  pub read : readFrom (marksIn gaps′) (filledAfter a) noRecord ≡ recordsOf a
+  pub read : readFrom (marksIn (front work′)) (filledAfter a) noRecord ≡ recordsOf a
 
 -- what the call leaves behind, and tells
-pub record Marked (a : Indexed) (records : ℕ) (out out′ : List ℕ) (filled′ : ℕ) (marks′ : List ℕ) (t : Told) : Type 0 where
+pub record Marked (a : Indexed) (records : ℕ) (out out′ : List ℕ) (filled′ : ℕ) (work′ : List ℕ) (t : Told) : Type 0 where
   pub answer : t .answer ≡ numbered a
   pub output : out′ ≡ outputAfter a out
   pub filled : filled′ ≡ filledAfter a
   pub count : t .records ≡ filledAfter a
   pub few : t .records ≤ records
-  pub read : readFrom (marksIn marks′) (t .records) noRecord ≡ recordsOf a
+  pub read : readFrom (marksIn (front work′)) (t .records) noRecord ≡ recordsOf a
 
 -- a refusal that is told before any piece is looked at (it is not `Done`)
 abbrev pub refusedAs : Reply → Filled
@@ -147,9 +149,12 @@ refusedAs (ReplyRoom needed) = Room needed
 refusedAs (ReplyWork needed) = Work needed
 
 -- what is left to be told behind them
-abbrev pub wordsOr : Found → Indexed → Indexed
-wordsOr (At place) a = words place
-wordsOr Nowhere a = a
+abbrev pub leftOf : Limits → Opts → List ℕ → ℕ → ℕ → Indexed
+leftOf l o notes space records = inIndex (l .words) space records (indexOf o notes) (within (l .words) measured o notes)
 
-abbrev pub leftOf : Opts → List ℕ → ℕ → ℕ → Indexed
-leftOf o notes space records = wordsOr (longParagraph mostWords o 0 (pieces o notes)) (withIndex (document01 .words) space records (indexOf o notes) (digest o notes))
+-- and of the pieces: the place of the first paragraph of over so many words; or what is told of the digest, if N has room for its length
+abbrev pub numbering : WordLimit
+numbering = lent 0 (λ o notes. 0)
+
+abbrev pub foundOf : ℕ → Opts → List ℕ → ℕ → ℕ → Indexed
+foundOf most o notes space records = inIndex numbering space records (indexOf o notes) (withWords measured o notes (longParagraph most o 0 (pieces o notes)))

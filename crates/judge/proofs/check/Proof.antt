@@ -23,10 +23,10 @@ check-notes-requires : tie.Need-check-notes-requires
 check-notes-requires c κs = passed document01 _ _ (c .before .before .before .admit .ensures) (c .before .o .given .1) .0
 
 returns : tie.Need-returns
-returns c = c .refused .ensures ∙ refused-answer _ _ _ (refused document01 _ _ (c .before .before .before .before .admit .ensures) (c .before .before .r .given .1))
+returns c = c .refused .ensures ∙ refused-answer document01 _ _ _ (refused document01 _ _ (c .before .before .before .before .admit .ensures) (c .before .before .r .given .1))
 
 returns-2 : tie.Need-returns-2
-returns-2 c = c .check-notes .ensures ∙ sym (checking-left _ _ _ _ (passed document01 _ _ (c .before .before .before .before .admit .ensures) (c .before .before .o .given .1)))
+returns-2 c = c .check-notes .ensures ∙ sym (checking-left document01 _ _ _ _ (passed document01 _ _ (c .before .before .before .before .admit .ensures) (c .before .before .o .given .1)))
 
 pub check-spec : {M : Type 1} → statement M
 check-spec =

@@ -1,6 +1,7 @@
 -- `judge::check_notes` meets its contract.
 use mathlib.Core.Path.{refl}
 use borrow.Author.Needs.{needs}
+use Rattle.formatter.specs.Format.{mostBytes}
 use Rattle.judge.proofs.Laws.{table-holds}
 use Rattle.judge.proofs.Answers.{begun-in, stopped-answer, through-answer}
 use Rattle.judge.proofs.check_notes.Statement.{statement}
@@ -13,7 +14,7 @@ slice-aggregate-match-pieces : tie.Need-slice-aggregate-match-pieces
 slice-aggregate-match-pieces c = search needs
 
 match-pieces-requires : tie.Need-match-pieces-requires
-match-pieces-requires c κs = (c .before .before .before .before .before .pre, begun-in _ (c .before .begin .ensures), table-holds refl)
+match-pieces-requires c κs = (c .before .before .before .before .before .pre, begun-in _ _ (c .before .begin .ensures), table-holds refl)
 
 enum-known-place : tie.Need-enum-known-place
 enum-known-place c = search needs
@@ -25,10 +26,10 @@ judge-requires : tie.Need-judge-requires
 judge-requires c κs = search needs
 
 returns : tie.Need-returns
-returns c = stopped-answer _ _ _ (c .before .before .before .before .before .before .begin .result) (c .before .before .before .before .match-pieces .result) (c .before .before .before .before .match-pieces .ensures) (c .before .place .given .1)
+returns c = stopped-answer mostBytes _ _ _ _ (c .before .before .before .before .before .before .begin .result) (c .before .before .before .before .match-pieces .result) (c .before .before .before .before .match-pieces .ensures) (c .before .place .given .1)
 
 returns-2 : tie.Need-returns-2
-returns-2 c = through-answer _ _ _ (c .before .before .before .before .before .before .before .begin .result) (c .before .before .before .before .before .match-pieces .result) (c .before .before .before .before .before .match-pieces .ensures) (c .before .before .m .given .1) (c .before .before .before .before .before .before .before .begin .ensures) (c .judge .ensures)
+returns-2 c = through-answer mostBytes _ _ _ _ (c .before .before .before .before .before .before .before .begin .result) (c .before .before .before .before .before .match-pieces .result) (c .before .before .before .before .before .match-pieces .ensures) (c .before .before .m .given .1) (c .before .before .before .before .before .before .before .begin .ensures) (c .judge .ensures)
 
 pub check-notes-spec : {M : Type 1} → statement M
 check-notes-spec =

@@ -61,10 +61,10 @@ words-behind-requires : tie.Need-words-behind-requires
 words-behind-requires c κs = let p = c .before .before .before .before .before .before .before .before .before .before .before .before .before .before .before .before .pre in let w = text-matchable _ _ _ (c .before .before .before .before .before .before .before .before .before .before .before .before .before .before .before .before .args .c) _ (p .0) (p .3) (c .before .before .before .before .before .before .before .before .before .before .before .next-piece .ensures) (c .before .before .before .before .before .before .before .before .before .p .given .1) (c .before .before .before .before .before .before .split-words .ensures _) _ (c .before .before .n .given .1) in (w .0, w .1, p .1)
 
 returns-2 : tie.Need-returns-2
-returns-2 c = let m = found-goes _ _ _ (c .before .before .before .before .before .before .before .before .before .before .pre .0) _ _ _ _ (c .before .before .before .before .before .before .before .before .before .before .pre .3) (c .before .before .before .before .before .next-piece .ensures) (c .before .before .before .next .given .1) in blank-took _ _ _ (c .before .before .before .before .before .before .before .before .before .before .args .c) _ m (c .line-behind .ensures)
+returns-2 c = let m = found-goes _ _ _ (c .before .before .before .before .before .before .before .before .before .before .pre .0) _ _ _ _ (c .before .before .before .before .before .before .before .before .before .before .pre .3) (c .before .before .before .before .before .next-piece .ensures) (c .before .before .before .next .given .1) in blank-took _ _ _ _ (c .before .before .before .before .before .before .before .before .before .before .args .c) _ m (c .line-behind .ensures)
 
 returns-3 : tie.Need-returns-3
-returns-3 c = let m = found-goes _ _ _ (c .before .before .before .before .before .before .before .before .before .before .pre .0) _ _ _ _ (c .before .before .before .before .before .before .before .before .before .before .pre .3) (c .before .before .before .before .before .next-piece .ensures) (c .before .before .before .end .given .1) in plain-took _ _ _ (c .before .before .before .before .before .before .before .before .before .before .args .c) _ _ m (c .line-behind2 .ensures)
+returns-3 c = let m = found-goes _ _ _ (c .before .before .before .before .before .before .before .before .before .before .pre .0) _ _ _ _ (c .before .before .before .before .before .before .before .before .before .before .pre .3) (c .before .before .before .before .before .next-piece .ensures) (c .before .before .before .end .given .1) in plain-took _ _ _ _ (c .before .before .before .before .before .before .before .before .before .before .args .c) _ _ m (c .line-behind2 .ensures)
 
 same-length-2 : tie.Need-same-length-2
 same-length-2 c = search needs

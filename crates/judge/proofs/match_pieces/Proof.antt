@@ -10,13 +10,13 @@ use Rattle.judge.proofs.match_pieces.Statement.{statement}
 use Rattle.judge.proofs.match_pieces.Tie as tie
 
 abbrev Inv-loop : tie.InvT-loop
-Inv-loop o block notes digest table₀ c₀ table c = Going (meant block o) notes digest (c₀ .matched) c × (length table ≡ length table₀)
+Inv-loop o block notes digest most table₀ c₀ table c = Going most (meant block o) notes digest (c₀ .matched) c × (length table ≡ length table₀)
 
 abbrev μ-loop : tie.MeasureT-loop
-μ-loop o block notes digest table₀ c₀ table c = length notes - c .at
+μ-loop o block notes digest most table₀ c₀ table c = length notes - c .at
 
 loop-holds : tie.Need-loop-holds Inv-loop μ-loop
-loop-holds c = (going-first _ _ _ _ (c .before .before .before .before .pre .1), refl)
+loop-holds c = (going-first _ _ _ _ _ (c .before .before .before .before .pre .1), refl)
 
 match-piece-requires : tie.Need-match-piece-requires Inv-loop μ-loop
 match-piece-requires c κs = let p = c .before .before .before .before .before .before .before .before .pre in let i = c .before .before .before .loop .inv in (p .0, i .0 .inside, omega (arith, p .2, i .1), c .before .if1 .taken)
@@ -31,19 +31,19 @@ same-length : tie.Need-same-length Inv-loop μ-loop
 same-length c = c .before .before .before .table .given ∙ c .before .before .before .before .before .before .before .before .loop .inv .1
 
 returns : tie.Need-returns Inv-loop μ-loop
-returns c = going-stopped _ _ _ _ (c .before .before .before .before .before .before .before .before .loop .inv .0) (stepped-over _ _ _ _ (c .before .before .before .before .match-piece .ensures) (c .enum-told .given .1))
+returns c = going-stopped _ _ _ _ _ (c .before .before .before .before .before .before .before .before .loop .inv .0) (stepped-over _ _ _ _ _ (c .before .before .before .before .match-piece .ensures) (c .enum-told .given .1))
 
 loop-less : tie.Need-loop-less Inv-loop μ-loop
-loop-less c = let t = stepped-on _ _ _ _ (c .before .before .before .before .before .match-piece .ensures) (c .before .d .given .1) in omega (arith, t .goes .on, t .goes .within)
+loop-less c = let t = stepped-on _ _ _ _ _ (c .before .before .before .before .before .match-piece .ensures) (c .before .d .given .1) in omega (arith, t .goes .on, t .goes .within)
 
 loop-again : tie.Need-loop-again Inv-loop μ-loop
-loop-again c = let t = stepped-on _ _ _ _ (c .before .before .before .before .before .match-piece .ensures) (c .before .d .given .1) in (going-on _ _ _ _ (c .before .before .before .before .before .before .before .before .before .loop .inv .0) t, c .before .before .before .before .table .given ∙ c .before .before .before .before .before .before .before .before .before .loop .inv .1)
+loop-again c = let t = stepped-on _ _ _ _ _ (c .before .before .before .before .before .match-piece .ensures) (c .before .d .given .1) in (going-on _ _ _ _ _ (c .before .before .before .before .before .before .before .before .before .loop .inv .0) t, c .before .before .before .before .table .given ∙ c .before .before .before .before .before .before .before .before .before .loop .inv .1)
 
 same-length-2 : tie.Need-same-length-2 Inv-loop μ-loop
 same-length-2 c = c .before .before .loop .inv .1
 
 returns-2 : tie.Need-returns-2 Inv-loop μ-loop
-returns-2 c = going-through _ _ _ _ (c .before .before .loop .inv .0) (c .if1 .left)
+returns-2 c = going-through _ _ _ _ _ (c .before .before .loop .inv .0) (c .if1 .left)
 
 pub match-pieces-spec : {M : Type 1} → statement M
 match-pieces-spec =

@@ -9,7 +9,7 @@ number-requires : tie.Need-number-requires
 number-requires c κs = let l = c .before .args .breaks .now in (has-room l (c .before .args .k) (rw (← active-sized l) (c .before .pre)), omega arith)
 
 returns : tie.Need-returns
-returns c = let l = c .before .before .args .breaks .now in c .number .ensures ∙ sym (active-at l (c .before .before .args .k) (rw (← active-sized l) (c .before .before .pre)))
+returns c = let l = c .before .before .args .breaks .now in c .number .ensures .0 ∙ sym (active-at l (c .before .before .args .k) (rw (← active-sized l) (c .before .before .pre)))
 
 pub active-spec : {M : Type 1} → statement M
 active-spec =

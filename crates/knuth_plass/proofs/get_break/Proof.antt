@@ -34,7 +34,7 @@ number-requires-4 c κs = (has-room (c .before .before .before .before .before .
 
 returns : tie.Need-returns
 unfolding recordAt
-returns c = rw (table-at (c .before .before .before .before .before .before .before .args .breaks .now) (c .before .before .before .before .before .before .before .args .i) (c .before .before .before .before .before .before .before .pre), c .before .before .before .before .before .number .ensures, c .before .before .before .before .number2 .ensures, c .before .number3 .ensures, c .number4 .ensures, c .before .before .before .demerits-of .ensures)
+returns c = rw (table-at (c .before .before .before .before .before .before .before .args .breaks .now) (c .before .before .before .before .before .before .before .args .i) (c .before .before .before .before .before .before .before .pre), c .before .before .before .before .before .number .ensures .0, c .before .before .before .before .number2 .ensures .0, c .before .number3 .ensures .0, c .number4 .ensures .0, c .before .before .before .demerits-of .ensures)
 
 pub get-break-spec : {M : Type 1} → statement M
 get-break-spec =

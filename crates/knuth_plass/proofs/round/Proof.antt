@@ -9,39 +9,40 @@ use Rattle.knuth_plass.proofs.round.Tie as tie
 added-space-requires : tie.Need-added-space-requires
 added-space-requires c κs = search needs
 
-sub-word-term : tie.Need-sub-word-term
-sub-word-term c = search needs
-
-word-term-requires : tie.Need-word-term-requires
-word-term-requires c κs = let p = c .before .before .before .pre in let w = p .0 .wide in omega arith
+turn-of-requires : tie.Need-turn-of-requires
+turn-of-requires c κs =
+    let p = c .before .before .pre in
+    let holds = p .1 in
+    let few = p .4 .filled .sized .few in
+    (p .0, record { narrow = p .3; small = p .2; few = omega arith; space = c .added-space .ensures .most })
 
 advance-requires : tie.Need-advance-requires
 advance-requires c κs =
-    let p = c .before .before .before .before .before .pre in
-    let t = c .before .word-term .ensures in
-    (p .0, record { narrow = p .3; small = p .2; space = c .before .before .before .added-space .ensures .most; few = omega (arith, p .1, p .4 .filled .sized .few); weight = t .0; light = t .1 }, p .1, p .4)
+    let p = c .before .before .before .before .pre in
+    let turn = c .before .turn-of .ensures in
+    (p .0, turn .1, rw (turn .0) (p .1), rw (turn .0) (p .4))
 
 settle-requires : tie.Need-settle-requires
-settle-requires c κs =
-    let p = c .before .before .before .before .before .before .before .before .before .pre in
-    let t = c .before .before .before .before .before .word-term .ensures in
-    (p .0, record { narrow = p .3; small = p .2; space = c .before .before .before .before .before .before .before .added-space .ensures .most; few = omega (arith, p .1, p .4 .filled .sized .few); weight = t .0; light = t .1 }, c .before .before .before .advance .ensures .0)
+settle-requires c κs = (c .before .before .before .before .before .before .before .before .pre .0, c .before .before .before .before .before .turn-of .ensures .1, c .before .before .before .advance .ensures .0)
 
 same-length : tie.Need-same-length
 same-length c = search needs
 
 returns : tie.Need-returns
 returns c =
-    let a = c .before .before .before .before .before .before .before .before .before .before .before .before .args in
-    (round-is (a .g) (a .last) (a .sentence) (a .i) _ _ _ (a .st) (tableIn (a .breaks .now)) (activeIn (a .breaks .now)) _ _ _ _ _ _ (c .before .before .before .before .before .before .before .before .before .before .added-space .ensures .is) (c .before .before .before .before .before .before .advance .ensures .1) (c .before .before .settle .ensures))
+    let a = c .before .before .before .before .before .before .before .before .before .before .before .args in
+    let turn = c .before .before .before .before .before .before .before .before .turn-of .ensures in
+    round-is (a .g) (a .last) (a .sentence) (a .i) _ _ _ (a .st) (tableIn (a .breaks .now)) (activeIn (a .breaks .now)) _ _ _ _ _ _
+    (c .before .before .before .before .before .before .before .before .before .added-space .ensures .is)
+    (rw (turn .0) at (c .before .before .before .before .before .before .advance .ensures .1))
+    (rw (turn .0) at (c .before .before .settle .ensures))
 
 pub round-spec : {M : Type 1} → statement M
 round-spec =
     tie.close
     (tie.spec
     added-space-requires
-    sub-word-term
-    word-term-requires
+    turn-of-requires
     advance-requires
     settle-requires
     same-length

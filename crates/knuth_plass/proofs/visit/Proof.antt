@@ -55,7 +55,7 @@ returns c =
     let last = kept-room (a .g) (a .turn) (a .st) (a .k) (tableIn (a .breaks .now)) (activeIn (a .breaks .now)) (a .s) (p .1) (p .2) (p .3) _ (c .before .before .before .before .before .before .before .before .before .before .before .before .before .active .ensures) _ _ (c .before .before .before .before .before .before .before .noted .ensures) in
     keeps (a .g) (a .turn) (a .st) (a .k) (tableIn (a .breaks .now)) (activeIn (a .breaks .now)) (a .s) (p .1) (p .2) (p .3) _ (c .before .before .before .before .before .before .before .before .before .before .before .before .before .active .ensures) _ is _ _ (p .0) line _ _ _ _ (c .before .before .before .before .before .before .before .noted .ensures) (table-kept (a .breaks .now) _ _ _ _ is here _ _ _ (kept .0)) (active-kept (a .breaks .now) _ _ _ _ is here _ _ _ last (kept .0)) (kept .1)
     (short-fits (a .g) (a .turn) (a .st) (a .k) (tableIn (a .breaks .now)) (activeIn (a .breaks .now)) (a .s) (p .1) (p .2) (p .3) _ (c .before .before .before .before .before .before .before .before .before .before .before .before .before .active .ensures) _ is _ (p .0) (c .before .before .before .before .if1 .taken))
-    (short-offers (a .g) (a .turn) (a .st) (a .k) (tableIn (a .breaks .now)) (activeIn (a .breaks .now)) (a .s) (p .1) (p .2) (p .3) _ (c .before .before .before .before .before .before .before .before .before .before .before .before .before .active .ensures) _ is _ (p .0) line (c .before .before .before .before .if1 .taken))
+    (short-offers (a .g) (a .turn) (a .st) (a .k) (tableIn (a .breaks .now)) (activeIn (a .breaks .now)) (a .s) (p .1) (p .2) (p .3) _ (c .before .before .before .before .before .before .before .before .before .before .before .before .before .active .ensures) _ is _ (p .0) (c .before .before .before .before .if1 .taken))
 
 same-length-2 : tie.Need-same-length-2
 same-length-2 c = search needs
@@ -76,7 +76,7 @@ offered-requires c κs =
     let a = c .before .before .before .before .before .before .before .before .before .before .before .before .before .before .args in
     let p = c .before .before .before .before .before .before .before .before .before .before .before .before .before .before .pre in
     let is = c .before .before .before .before .before .before .before .before .lessened .ensures ∙ ap (lessened (a .st .reduction)) (c .before .before .before .before .before .before .before .before .before .get-break .ensures) in
-    (offers (a .g) (a .turn) (a .st) (a .k) (tableIn (a .breaks .now)) (activeIn (a .breaks .now)) (a .s) (p .1) (p .2) (p .3) _ (c .before .before .before .before .before .before .before .before .before .before .before .active .ensures) _ is _ (p .0) (c .before .before .before .before .before .before .before .reach .ensures .0) (c .if2 .left), c .before .before .if1 .left)
+    (offers (a .g) (a .turn) (a .st) (a .k) (tableIn (a .breaks .now)) (activeIn (a .breaks .now)) (a .s) (p .1) (p .2) (p .3) _ (c .before .before .before .before .before .before .before .before .before .before .before .active .ensures) _ is _ (p .0) (c .if2 .left), c .before .before .if1 .left)
 
 keep-requires-2 : tie.Need-keep-requires-2
 keep-requires-2 c κs =

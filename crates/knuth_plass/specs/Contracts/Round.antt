@@ -1,5 +1,5 @@
 -- What the code's records of a round mean, what holds of them, and what a round has still to do while it goes over the active breaks.
-use mathlib.Core.Bool.{Bool, true, false, cond}
+use mathlib.Core.Bool.{Bool, true, false, cond, _&&_}
 use mathlib.Core.List.{List, [], _∷_, _++_, map}
 use mathlib.Core.Path.{_≡_}
 use Prim.Native.Nat.{ℕ, suc, _+_, _-_, _*_, _^_, _≤_, _<_}
@@ -13,15 +13,15 @@ use Rattle.records.specs.Contracts.Marks.{markIn, breaksOf}
 use Rattle.records.specs.declared.Word.{Word as WordRecord}
 use Rattle.spacing.specs.Spacing.{gapWidth}
 use Rattle.spacing.specs.declared.Setting.{Setting}
-use Rattle.demerits.specs.Demerits.{wordTerm}
+use Rattle.demerits.specs.Demerits.{noRatio, ratio, wordTerm, cost}
 use Rattle.demerits.specs.Contracts.Bounds.{within, mostWord, mostCost}
 use Rattle.knuth_plass.specs.declared.Break.{Break as Record}
 use Rattle.knuth_plass.specs.declared.Best.{Best}
 use Rattle.knuth_plass.specs.declared.Turn.{Turn}
 use Rattle.knuth_plass.specs.declared.State.{State}
 use Rattle.knuth_plass.specs.declared.Standing.{Standing}
-use Rattle.knuth_plass.specs.KnuthPlass.{stretchOf, Place, Break, Active, Offer, none, offer, after, reduced, staying, lesser, offerOf, bestOffer, leastFrom, least, restart, settled, withOffer, round, firstBreak, roundsFrom, pathOf, startsLine, bestBreaks}
-use Rattle.knuth_plass.specs.Contracts.Table.{mostWords, Tables, Sized, breakIn, placeOf, pathTo, seen, breakMeant, Sound, Filled, Ascends}
+use Rattle.knuth_plass.specs.KnuthPlass.{stretchOf, minimumOf, Place, Break, Active, Offer, none, offer, after, reduced, staying, lesser, bestOffer, leastFrom, least, restart, settled, withOffer, round, firstBreak, roundsFrom, pathOf, startsLine, bestBreaks}
+use Rattle.knuth_plass.specs.Contracts.Table.{mostWords, Tables, Sized, breakIn, placeOf, pathTo, seen, breakMeant, Sound, Filled, Leads, Ascends}
 
 -- ---- what can be asked of a caller
 
@@ -41,6 +41,16 @@ pub record Turns (g : Setting) (turn : Turn) : Type 0 where
   pub few : turn .number < mostWords
   pub weight : turn .weight ≡ wordTerm (stretchOf g) (turn .word .width)
   pub light : turn .weight ≤ mostWord
+
+-- a word, its number and the space before it that a turn can be of
+pub record Turnable (i : ℕ) (w : WordRecord) (s : ℕ) : Type 0 where
+  pub narrow : w .width < 2 ^ 31
+  pub small : Small w
+  pub few : i < mostWords
+  pub space : s ≤ 2
+
+abbrev pub turnOf : Bool → ℕ → WordRecord → ℕ → ℕ → Turn
+turnOf last i w space weight = record { word = w; number = i; space = space; weight = weight; last = last }
 
 -- ---- one active break
 
@@ -97,12 +107,28 @@ bestFrom p d r = record { total = d; previous = p; ratio = r }
 unfoldable pub better : Best → ℕ → ℕ → Float → Best
 better b p d r = cond (leb (b .total) d) b (bestFrom p d r)
 
--- the offer that it means, behind word i
-unfoldable pub offerIn : Setting → ℕ → Tables → Best → Offer
-offerIn g i t b =
+-- the offer that it means, behind word i: a break with a line of so many columns, fresh or not
+unfoldable pub offerMade : ℕ → Bool → ℕ → Tables → Best → Offer
+offerMade columns fresh i t b =
     cond (ltb (b .total) nothing)
-    (offer (record { places = after i ∷ pathTo t (b .previous); demerits = b .total; ratio = b .ratio; columns = g .indent; fresh = true }))
+    (offer (record { places = after i ∷ pathTo t (b .previous); demerits = b .total; ratio = b .ratio; columns = columns; fresh = fresh }))
     none
+
+-- as the definition has it, the new line is fresh and has the indent
+abbrev pub offerIn : Setting → ℕ → Tables → Best → Offer
+offerIn g i t b = offerMade (g .indent) true i t b
+
+-- the offer of break b with the word, of a width, on its line of x columns
+unfoldable pub offerAt : Setting → Bool → ℕ → ℕ → ℕ → ℕ → Bool → Break → Offer
+offerAt g lastWord i width x columns fresh b =
+    let made : ℕ → Float → Break = λ total r. record { places = after i ∷ b .places; demerits = total; ratio = r; columns = columns; fresh = fresh } in
+    elim (leb x (g .width) && leb (minimumOf g) x) [
+      | false ↦ none
+      | true ↦ elim lastWord [
+        | true ↦ cond (leb (b .demerits) 0) (offer (made 0 noRatio)) none
+        | false ↦ let r = ratio (g .goal) x (stretchOf g) in offer (made (cost r (b .ratio) (stretchOf g) width + b .demerits) r)
+      ]
+    ]
 
 pub record BestFits (i size : ℕ) (b : Best) : Type 0 where
   pub previous : b .previous < size
@@ -118,15 +144,14 @@ pub record Floor (w f : ℕ) : Type 0 where
 pub record Offers (g : Setting) (turn : Turn) (b : Record) (x : ℕ) : Type 0 where
   pub limits : Limits g
   pub turns : Turns g turn
-  pub is : x ≡ lineAt g turn b
   pub fits : x ≤ g .width
   pub sound : Sound (turn .number) b
 
 -- the best offer with that of break n, which is b
-pub record OfferedIs (g : Setting) (turn : Turn) (n : ℕ) (b : Record) (best r : Best) : Type 0 where
-  pub is : (notes : List ℕ) (t : Tables)
-      → offerIn g (turn .number) t r
-      ≡ lesser (offerIn g (turn .number) t best) (offerOf g (turn .last) (turn .number) (turn .space) (meaning notes (turn .word)) (seen (pathTo t n) b))
+pub record OfferedIs (g : Setting) (turn : Turn) (n : ℕ) (b : Record) (x : ℕ) (best r : Best) : Type 0 where
+  pub is : (columns : ℕ) (fresh : Bool) (t : Tables)
+      → offerMade columns fresh (turn .number) t r
+      ≡ lesser (offerMade columns fresh (turn .number) t best) (offerAt g (turn .last) (turn .number) (turn .word .width) x columns fresh (seen (pathTo t n) b))
   pub fits : (size : ℕ) → n < size → (best .total < nothing → BestFits (turn .number) size best) → r .total < nothing → BestFits (turn .number) size r
 
 -- ---- the active breaks
@@ -245,6 +270,12 @@ pub record Listed (st : Standing) (t : Tables) (a : List ℕ) : Type 0 where
 pub record LeastIs (st : Standing) (t : Tables) (a : List ℕ) (r : ℕ) : Type 0 where
   pub within : r < st .size
   pub is : breakMeant t r ≡ least (breaksListed (st .count) t a)
+
+-- the record that the best path ends at
+pub record PathIs (g : Setting) (n : ℕ) (table : List ℕ) (t : Tables) (last : ℕ) : Type 0 where
+  pub below : last < n
+  pub leads : Leads t last
+  pub is : (notes : List ℕ) → pathTo t last ≡ pathOf g (wordsIn notes n table)
 
 -- a slice that has n words has room for as many breaks behind them
 pub record Lent (n : ℕ) (work : List ℕ) : Type 0 where

@@ -20,13 +20,13 @@ same-length : tie.Need-same-length
 same-length c = search needs
 
 returns : tie.Need-returns
-returns c = all-finished _ _ _ _ (c .before .before .before .before .before .put-pieces .result) (c .before .before .before .before .before .put-pieces .ensures) (c .before .needed .given .1)
+returns c = all-finished _ _ _ _ _ (c .before .before .before .before .before .put-pieces .result) (c .before .before .before .before .before .put-pieces .ensures) (c .before .needed .given .1)
 
 same-length-2 : tie.Need-same-length-2
 same-length-2 c = search needs
 
 returns-2 : tie.Need-returns-2
-returns-2 c = stopped-finished _ _ _ _ (c .before .before .before .before .before .before .before .before .before .put-pieces .result) (c .before .before .before .before .before .before .before .before .before .put-pieces .ensures) (c .before .before .before .before .before .place .given .1) (c .before .before .clear .ensures)
+returns-2 c = stopped-finished _ _ _ _ _ (c .before .before .before .before .before .before .before .before .before .put-pieces .result) (c .before .before .before .before .before .before .before .before .before .put-pieces .ensures) (c .before .before .before .before .before .place .given .1) (c .before .before .clear .ensures)
 
 pub put-all-spec : {M : Type 1} → statement M
 put-all-spec =

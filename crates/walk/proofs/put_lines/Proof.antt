@@ -1,5 +1,5 @@
 -- `walk::put_lines` meets its contract. Invariant: what is left of the work from the first place on.
-use Prim.Native.Nat.{_-_, _≤_}
+use Prim.Native.Nat.{ℕ, _-_, _≤_}
 use native.Mathlib.Omega.{arith}
 use borrow.Author.Needs.{needs}
 use lib.ListN.{length}
@@ -12,13 +12,13 @@ use Rattle.walk.proofs.put_lines.Statement.{statement}
 use Rattle.walk.proofs.put_lines.Tie as tie
 
 abbrev Inv-loop : tie.InvT-loop
-Inv-loop o block notes out₀ from out c = Going (meant block o) notes from out₀ c out × (from .at ≤ c .at)
+Inv-loop o block notes out₀ from out c = ((most : ℕ) → Going most (meant block o) notes from out₀ c out) × (from .at ≤ c .at)
 
 abbrev μ-loop : tie.MeasureT-loop
 μ-loop o block notes out₀ from out c = length notes - c .at
 
 loop-holds : tie.Need-loop-holds Inv-loop μ-loop
-loop-holds c = (going-first _ _ _ _ (c .before .before .before .pre .1), omega arith)
+loop-holds c = (λ most. going-first most _ _ _ _ (c .before .before .before .pre .1), omega arith)
 
 next-piece-requires : tie.Need-next-piece-requires Inv-loop μ-loop
 next-piece-requires c κs =
@@ -30,7 +30,7 @@ enum-known-next c = search needs
 
 emit-line-requires : tie.Need-emit-line-requires Inv-loop μ-loop
 emit-line-requires c κs =
-    let s = c .before .before .before .before .before .before .before .loop .inv .0 .stands in
+    let s = c .before .before .before .before .before .before .before .loop .inv .0 0 .stands in
     let short = c .before .before .before .before .before .before .before .before .before .before .before .pre .0 .short in
     (omega arith, s .within, omega (arith, short), omega (arith, short, s .within, s .bounded))
 
@@ -42,14 +42,14 @@ loop-less c =
 loop-again : tie.Need-loop-again Inv-loop μ-loop
 loop-again c =
     let m = found-goes _ _ _ (c .before .before .before .before .before .before .before .before .before .before .before .before .before .before .pre .0) _ _ _ _ (c .before .before .before .before .before .before .before .before .if1 .taken) (c .before .before .before .before .before .before .before .next-piece .ensures) (c .before .before .before .before .before .next .given .1) in
-    (going-on _ _ (c .before .before .before .before .before .before .before .before .before .before .loop .inv .0) (blank-put _ _ _ _ _ _ _ m (c .before .before .emit-line .ensures)), omega (arith, m .on, c .before .before .before .before .before .before .before .before .before .before .loop .inv .1))
+    (λ most. going-on most _ _ (c .before .before .before .before .before .before .before .before .before .before .loop .inv .0 most) (blank-put most _ _ _ _ _ _ _ m (c .before .before .emit-line .ensures)), omega (arith, m .on, c .before .before .before .before .before .before .before .before .before .before .loop .inv .1))
 
 enum-known-end : tie.Need-enum-known-end Inv-loop μ-loop
 enum-known-end c = search needs
 
 emit-line-requires-2 : tie.Need-emit-line-requires-2 Inv-loop μ-loop
 emit-line-requires-2 c κs =
-    let s = c .before .before .before .before .before .before .before .loop .inv .0 .stands in
+    let s = c .before .before .before .before .before .before .before .loop .inv .0 0 .stands in
     let short = c .before .before .before .before .before .before .before .before .before .before .before .pre .0 .short in
     let m = found-goes _ _ _ (c .before .before .before .before .before .before .before .before .before .before .before .pre .0) _ _ _ _ (c .before .before .before .before .before .if1 .taken) (c .before .before .before .before .next-piece .ensures) (c .before .before .end .given .1) in
     (omega (arith, m .1), omega (arith, m .1, m .2, m .0 .within), omega (arith, short), omega (arith, short, s .within, s .bounded))
@@ -62,22 +62,22 @@ loop-less-2 c =
 loop-again-2 : tie.Need-loop-again-2 Inv-loop μ-loop
 loop-again-2 c =
     let m = found-goes _ _ _ (c .before .before .before .before .before .before .before .before .before .before .before .before .before .before .pre .0) _ _ _ _ (c .before .before .before .before .before .before .before .before .if1 .taken) (c .before .before .before .before .before .before .before .next-piece .ensures) (c .before .before .before .before .before .end .given .1) in
-    (going-on _ _ (c .before .before .before .before .before .before .before .before .before .before .loop .inv .0) (plain-put _ _ _ _ _ _ _ _ m (c .before .before .emit-line2 .ensures) refl (omega arith)), omega (arith, m .0 .on, c .before .before .before .before .before .before .before .before .before .before .loop .inv .1))
+    (λ most. going-on most _ _ (c .before .before .before .before .before .before .before .before .before .before .loop .inv .0 most) (plain-put most _ _ _ _ _ _ _ _ m (c .before .before .emit-line2 .ensures) refl (omega arith)), omega (arith, m .0 .on, c .before .before .before .before .before .before .before .before .before .before .loop .inv .1))
 
 enum-known-p : tie.Need-enum-known-p Inv-loop μ-loop
 enum-known-p c = search needs
 
 same-length : tie.Need-same-length Inv-loop μ-loop
-same-length c = going-length _ _ (c .before .before .before .before .before .before .loop .inv .0)
+same-length c = going-length 0 _ _ (c .before .before .before .before .before .before .loop .inv .0 0)
 
 returns : tie.Need-returns Inv-loop μ-loop
-returns c = (c .before .before .before .before .before .before .loop .inv .0, found-begins _ _ _ _ _ (c .before .before .before .before .if1 .taken) (c .before .before .before .next-piece .ensures) (c .before .p .given .1), c .before .before .before .before .before .before .loop .inv .1)
+returns c most = (c .before .before .before .before .before .before .loop .inv .0 most, found-begins _ _ _ _ _ (c .before .before .before .before .if1 .taken) (c .before .before .before .next-piece .ensures) (c .before .p .given .1), c .before .before .before .before .before .before .loop .inv .1)
 
 same-length-2 : tie.Need-same-length-2 Inv-loop μ-loop
-same-length-2 c = going-length _ _ (c .before .before .loop .inv .0)
+same-length-2 c = going-length 0 _ _ (c .before .before .loop .inv .0 0)
 
 returns-2 : tie.Need-returns-2 Inv-loop μ-loop
-returns-2 c = going-last _ _ (c .before .before .loop .inv .0) (omega (arith, c .if1 .left))
+returns-2 c most = going-last most _ _ (c .before .before .loop .inv .0 most) (omega (arith, c .if1 .left))
 
 pub put-lines-spec : {M : Type 1} → statement M
 put-lines-spec =

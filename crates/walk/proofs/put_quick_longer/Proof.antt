@@ -18,14 +18,14 @@ put-quick-long-requires : tie.Need-put-quick-long-requires
 put-quick-long-requires c κs =
     let p = c .before .before .before .before .before .before .before .before .before .before .before .pre in
     let m = c .before .before .before .before .before .before .put-quick-more in
-    let t = begun-short _ _ _ _ _ _ (m .result) (m .ensures) (c .before .before .d .given .1) in
+    let t = begun-short _ _ _ _ _ _ _ (m .result) (m .ensures) (c .before .before .d .given .1) in
     (p .0, t .0 .stands, t .1, p .3)
 
 same-length : tie.Need-same-length
-same-length c = let m = c .before .before .before .before .before .put-quick-more in wrote-length (begun-end _ _ _ _ _ _ (m .result) (m .ensures) (c .before .needed .given .1) .1)
+same-length c = let m = c .before .before .before .before .before .put-quick-more in wrote-length (begun-end _ _ _ _ _ _ _ (m .result) (m .ensures) (c .before .needed .given .1) .1)
 
 returns : tie.Need-returns
-returns c = let m = c .before .before .before .before .before .put-quick-more in begun-end _ _ _ _ _ _ (m .result) (m .ensures) (c .before .needed .given .1)
+returns c = let m = c .before .before .before .before .before .put-quick-more in begun-end _ _ _ _ _ _ _ (m .result) (m .ensures) (c .before .needed .given .1)
 
 same-length-2 : tie.Need-same-length-2
 same-length-2 c = search needs
@@ -33,8 +33,8 @@ same-length-2 c = search needs
 returns-2 : tie.Need-returns-2
 returns-2 c =
     let m = c .before .before .before .before .before .before .before .before .before .put-quick-more in
-    let t = begun-short _ _ _ _ _ _ (m .result) (m .ensures) (c .before .before .before .before .before .d .given .1) in
-    going-finished _ _ (t .0) _ (c .before .before .put-quick-long .result) (c .before .before .put-quick-long .ensures)
+    let t = begun-short _ _ _ _ _ _ _ (m .result) (m .ensures) (c .before .before .before .before .before .d .given .1) in
+    going-finished _ _ _ (t .0) _ (c .before .before .put-quick-long .result) (c .before .before .put-quick-long .ensures)
 
 pub put-quick-longer-spec : {M : Type 1} → statement M
 put-quick-longer-spec =
