@@ -3,7 +3,7 @@
  * The digest of notes is that of their first part and then that of the rest, and so is every digest that is accepted: the library reads both
  * piece by piece. Where the part's own digest ends is known by the blank lines: one of the notes is an empty line of the digest, and no other
  * line is. Where that is not so, or no blank line stands there, the library tells: of more than the part's digest it names the first line
- * behind it, and accepts what stands before. Else the line that it names is the first of the whole that cannot be right. */
+ * after it, and accepts what is before. Else the line that it names is the first of the whole that cannot be right. */
 #include "accept.h"
 
 #include "damage.h"
@@ -50,7 +50,7 @@ static bool is_blank(const uint8_t *line, size_t length) {
     return at == end;
 }
 
-/* Behind so many empty lines; or before the next one, or at the end. */
+/* After so many empty lines; or before the next one, or at the end. */
 static size_t behind_empty(struct bytes digest, size_t count, bool before_next) {
     struct lines lines = read_lines(digest.at, digest.length);
     while ((count > 0 || before_next) && next_line(&lines)) {
@@ -158,7 +158,7 @@ static struct judgement unless_refused(struct judging *judging, struct judgement
     return found == UNCUT ? refused(judging, (uint64_t)RUDIGNALS_LONG << 32) : judgement;
 }
 
-/* What is left of the digest behind the last part cannot be right. */
+/* What is left of the digest after the last part cannot be right. */
 struct judgement judge(struct bytes block, struct bytes notes, struct bytes digest) {
     struct judging judging = {.block = block, .notes = notes, .digest = digest};
     struct judgement judgement;

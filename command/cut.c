@@ -1,8 +1,8 @@
-/* Where notes may be cut: right before and right behind a blank line.
+/* Where notes may be cut: right before and right after a blank line.
  *
- * A blank line is a full boundary (`a-blank-line-is-a-full-boundary` in crates/rudignals/proofs/Demand3.antt): the lines before it, an empty
- * line and the lines behind it, each formatted by itself, are what the whole would have become. A paragraph ends there, and next-mail is
- * true behind it as at the start. The theorem speaks of notes in which nothing is refused. What is refused is found by the part too: a line
+ * A blank line is a full boundary (`a-blank-line-is-a-full-boundary` in crates/rudignals/proofs/NothingLost.antt): the lines before it, an empty
+ * line and the lines after it, each formatted by itself, are what the whole would have become. A paragraph ends there, and next-mail is
+ * true after it as at the start. The theorem speaks of notes in which nothing is refused. What is refused is found by the part too: a line
  * feed ends its line even inside a broken character, so the first damaged character of the whole is that of the first damaged part, and
  * no paragraph reaches over a blank line.
  *
@@ -20,7 +20,7 @@ static bool all_blank(const uint8_t *from, const uint8_t *to) {
     return from == to;
 }
 
-/* The place behind the line that begins at a place, or 0 if its line feed is not there. */
+/* The place after the line that begins at a place, or 0 if its line feed is not there. */
 static size_t line_end(const uint8_t *bytes, size_t length, size_t at) {
     const uint8_t *feed = memchr(bytes + at, '\n', length - at);
     return feed == NULL ? 0 : (size_t)(feed - bytes) + 1;

@@ -5,7 +5,7 @@
 
 #include <errno.h>
 
-/* Measures the part, makes room for just that much and writes it behind the digest so far. Where that room is not to be had the part is
+/* Measures the part, makes room for just that much and writes it after the digest so far. Where that room is not to be had the part is
  * refused for it. */
 static uint64_t ask(struct digest *digest, const struct options *options, const struct part *part) {
     uint64_t answer = measure_part(options, false, part), dashes = 0;
@@ -26,7 +26,7 @@ static void add_part(struct digest *digest, const struct options *options, const
         digest->text.length += rudignals_number_of(answer);
 }
 
-/* Behind what has no cut no lower code can follow. */
+/* After what has no cut no lower code can follow. */
 bool make_digest(struct digest *digest, const struct options *options, struct window *window) {
     struct part part = {0};
     enum found found;

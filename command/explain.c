@@ -109,7 +109,7 @@ static enum taken tell_one(struct question *question, const struct options *opti
 
 /* ---- all lines: piece by piece
  *
- * A call looks at all the notes that it is given, up to the line and behind it. So each piece is asked about by itself: what a piece becomes
+ * A call looks at all the notes that it is given, up to the line and after it. So each piece is asked about by itself: what a piece becomes
  * depends on its own lines and on next-mail alone (docs/RULES.md, Pieces and paragraphs). Next-mail matters where the flag mail is set, and
  * where it is false no paragraph is mail: then the piece is what it is without the flag. */
 

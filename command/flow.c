@@ -6,7 +6,7 @@
 
 #include <inttypes.h>
 
-/* What is told of a mail behind it. A line goes from part to part: they are cut at blank lines. */
+/* What is told of a mail after it. A line goes from part to part: they are cut at blank lines. */
 struct told {
     uint64_t dashes;
     size_t longest; /* line, in octets */

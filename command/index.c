@@ -38,7 +38,7 @@ static bool show_notes(const struct search *search, const struct part *part, con
     return well;
 }
 
-/* The records of a part, moved on by what stands before it; or, of the part that holds the line, the notes under it. The parts join by the
+/* The records of a part, moved on by what is before it; or, of the part that holds the line, the notes under it. The parts join by the
  * theorem `the-indexes-join'. */
 static enum taken show_part(struct search *search, const struct part *part) {
     const struct rudignals_record *records = search->index.records;

@@ -10,7 +10,7 @@ struct mended {
     size_t lines, bytes, nameless;
 };
 
-/* Notes come in from their front, in parts of any length, and go out mended. All zero at first; what goes out stands in memory line by line. */
+/* Notes come in from their front, in parts of any length, and go out mended. All zero at first; what goes out is in memory line by line. */
 struct mender {
     struct buffer raw;  /* the beginning of a line whose end has not come in */
     struct buffer copy; /* mended, and from `taken` on not out yet */

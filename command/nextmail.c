@@ -1,4 +1,4 @@
-/* Next-mail: true at the start and behind a blank line, false behind a plain line, and behind a paragraph whether that was mail.
+/* Next-mail: true at the start and after a blank line, false after a plain line, and after a paragraph whether that was mail.
  *
  * It matters where the flag mail is set; where it is false no paragraph is mail, and what follows is what it is without the flag. So notes may
  * be cut there too, up to the next blank line. */

@@ -13,7 +13,7 @@ struct bytes without_mail(struct bytes block, uint8_t room[RUDIGNALS_MOST_BLOCK]
 
 /* Could a paragraph that begins so be a mail header? */
 bool is_header(struct bytes paragraph);
-/* Next-mail behind a piece, of which the kind of its first line's reason is known. */
+/* Next-mail after a piece, of which the kind of its first line's reason is known. */
 bool next_mail(struct bytes block, bool before, uint64_t kind, struct bytes piece);
 
 #endif

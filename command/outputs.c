@@ -31,7 +31,7 @@ static const char *reason_of(const struct night *night) { return night->reason =
 
 /* ---- digest.txt */
 
-/* What stands in the place of a digest: the refusal, and the notes as they are. */
+/* What is in the place of a digest: the refusal, and the notes as they are. */
 static bool add_refusal(struct buffer *out, const struct night *night) {
     bool well = buffer_print(out, "%s\n%s\n", headline(night), reason_of(night));
     if (night->notes.length == 0)
@@ -139,7 +139,7 @@ static bool make_mail(struct night *night, struct buffer *out) {
 
 /* ---- what is drawn: page.html, wall.svg, wall.html */
 
-/* Puts what was drawn behind the file. */
+/* Puts what was drawn after the file. */
 static bool add_sheet(struct buffer *out, struct sheet *sheet) {
     bool well = close_sheet(sheet) && buffer_add(out, sheet->bytes, sheet->length);
     free(sheet->bytes);

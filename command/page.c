@@ -18,7 +18,7 @@
 
 /* ---- the pieces and lines of the digest */
 
-/* The piece of a record, whose part begins at `at` in the notes, behind the last one. */
+/* The piece of a record, whose part begins at `at` in the notes, after the last one. */
 static bool find_piece(const struct page *page, const struct rudignals_record *record, size_t at, size_t length, struct piece *last) {
     uint64_t part[2];
     if (rudignals_lookup(record, 1, 1, page->notes + at, length, record->first, part) == 0)

@@ -1,8 +1,8 @@
 /* A file's parts, each of which the library formats by itself.
  *
  * A part ends at a blank line (cut.c) or, where there is none, where a piece begins: that is a full boundary too, next-mail being true there
- * (`the-start-of-a-piece-is-a-full-boundary` in crates/rudignals/proofs/Demand3.antt). Of lines that may go on, all pieces but the last are
- * those of the whole, since a piece ends by the line behind it. Where next-mail is false the part behind is formatted without the flag mail, up
+ * (`the-start-of-a-piece-is-a-full-boundary` in crates/rudignals/proofs/NothingLost.antt). Of lines that may go on, all pieces but the last are
+ * those of the whole, since a piece ends by the line after it. Where next-mail is false the part after is formatted without the flag mail, up
  * to the next blank line. */
 #include "parts.h"
 

@@ -19,7 +19,7 @@ struct part {
 /* The next part of what the window shows; the part before is dropped. UNCUT: a paragraph, or a line, is longer than the library takes. */
 enum found { PART, NO_PART, UNCUT, UNREAD };
 enum found next_part(struct window *window, const struct options *options, struct part *part);
-/* The next part of notes that stand in memory; of at most so many bytes if they can be cut so. */
+/* The next part of notes that are in memory; of at most so many bytes if they can be cut so. */
 enum found next_part_of(struct work *work, struct bytes block, struct bytes notes, size_t most, struct part *part);
 
 /* The block of the options; and the one that a part is formatted with, which may need the room. */

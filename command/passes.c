@@ -36,7 +36,7 @@ static bool remember(struct passes *passes, size_t *most, const struct part *par
     return buffer_add(&passes->known, &known, sizeof known);
 }
 
-/* Once something is refused no more is remembered, but a lower code may still come; not behind what has no cut. */
+/* Once something is refused no more is remembered, but a lower code may still come; not after what has no cut. */
 static bool measure_parts(struct passes *passes, struct refusal *refusal, size_t *most) {
     struct part part = {0};
     enum found found;

@@ -20,7 +20,7 @@ struct entries {
     bool there;
 };
 
-/* `PLACE BYTE', a line feed behind it: what salvage writes. */
+/* `PLACE BYTE', a line feed after it: what salvage writes. */
 static bool read_entry(struct entries *list) {
     const char *line = (const char *)list->lines.line, *blank = memchr(line, ' ', list->lines.length);
     return blank != NULL && list->lines.fed && list->lines.length == (size_t)(blank - line) + 4 && read_number(line, (size_t)(blank - line), &list->place) &&

@@ -89,7 +89,7 @@ static bool fold(struct buffer *out, const uint8_t *bytes, size_t length, uint64
     return rudignals_code_of(answer) == RUDIGNALS_DONE;
 }
 
-/* Does the line run past the panel? The mark is asked for; behind a line of 80 columns that ends in the mark's sign nothing is folded. */
+/* Does the line run past the panel? The mark is asked for; after a line of 80 columns that ends in the mark's sign nothing is folded. */
 static bool runs_over(const uint8_t *line, size_t length, uint64_t tab, struct buffer *room) {
     uint32_t cells[ROWS * COLUMNS];
     if (length <= COLUMNS && memchr(line, '\t', length) == NULL)

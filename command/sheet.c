@@ -180,7 +180,7 @@ static size_t prefix_length(const uint8_t *bytes, size_t length, const char *typ
     return size <= length && memcmp(bytes, prefix, size) == 0 ? size : length;
 }
 
-/* The columns of the word with which a line of the digest begins, behind its indent and prefix. A blank of any kind ends it, so that it is
+/* The columns of the word with which a line of the digest begins, after its indent and prefix. A blank of any kind ends it, so that it is
  * never taken for longer than it is. */
 static uint64_t first_word(const struct page *page, const struct line *line) {
     const uint8_t *bytes = page->digest->text.bytes + line->at, *end = bytes + line->length;
@@ -450,7 +450,7 @@ void put_page(FILE *out, const struct page *page) {
     put_end(out);
 }
 
-/* The place with some lines before and behind it. */
+/* The place with some lines before and after it. */
 static void put_excerpt(FILE *out, const struct page *page, const struct refusal *refusal) {
     size_t from = refusal->place, to, before = 0, i;
     for (; from > 0 && (page->notes[from - 1] != '\n' || before < 3); from--)

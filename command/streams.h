@@ -41,7 +41,7 @@ void free_window(struct window *window);
 void keep_if_needed(struct window *window, struct buffer *kept);
 bool rewind_window(struct window *window);
 
-/* All of a file behind the buffer. */
+/* All of a file after the buffer. */
 bool read_whole(const char *name, struct buffer *buffer);
 
 #endif

@@ -184,7 +184,7 @@ static size_t indent_length(const uint8_t *line, size_t length) {
     return at;
 }
 
-/* Would the digest be right up to behind the line, if the line were another? Tried with the digest up to there. */
+/* Would the digest be right up to after the line, if the line were another? Tried with the digest up to there. */
 static bool would_go_on(const struct terms *terms, struct bytes notes, struct bytes digest, uint64_t number, const struct text_line *line, const struct bytes *parts, size_t count) {
     size_t before = (size_t)(line->at - digest.at), length = before, i;
     uint8_t *tried;

@@ -11,7 +11,7 @@
 #include <sys/stat.h>
 #include <unistd.h>
 
-/* A name with its folder; without one it stands in the folder where we are. */
+/* A name with its folder; without one it is in the folder where we are. */
 static size_t folder_length(const char *name) {
     const char *slash = strrchr(name, '/');
     return slash == NULL ? 0 : (size_t)(slash - name) + 1;

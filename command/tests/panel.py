@@ -66,7 +66,7 @@ def frame(rows, counted, dated="standard input", failure=()):
 WIDE = "三号\U00020000"
 ON = "\0"
 
-# A line, the options, its row with --cut, how many lines are damaged and how many are cut; all by hand from P7 of document 02.
+# A line, the options, its row with --cut, how many lines are damaged and how many are cut; all by hand from RULES 15.
 LINES = [
     ("plain", b"pump 2", [], "pump 2", 0, 0),
     ("a tab", b"a\tb", [], "a       b", 0, 0),

@@ -62,7 +62,7 @@ OTHERWISE = [
     (["-40", "-w", "16"], WIDE, b"aaaa bbbb cccc\ndddd eeee ffff\ngggg\n"),
 ]
 
-# likewise for what document 01 adds; the digests of the last three are longer than the notes, up to a hundred times
+# likewise for what RULES adds; the digests of the last three are longer than the notes, up to a hundred times
 OURS = [
     (["-q", "-w", "6", "--glue"], b"aaa\xc2\xa0bbb\n", b"aaa\xc2\xa0bbb\n"),
     (["-u"], b"a.\xc2\xa0b\n", b"a.  b\n"),

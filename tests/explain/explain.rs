@@ -149,7 +149,7 @@ const QUICK: u16 = 32;
 const KEEP: u16 = 256;
 const CHARACTERS: u16 = 1024;
 
-/// Worked out by hand from documents 01 and 02.
+/// Worked out by hand from RULES.
 fn hand() -> i32 {
     let mut run = Run::new(1, "none");
     let end = [0; 6];
@@ -166,7 +166,7 @@ fn hand() -> i32 {
         (block(QUICK | UNIFORM, 6, 0), b"a b.\nccc\n", vec![[3, 4, 0, 2, 3, 0], end]),
         // mail counts as uniform and quick; a word's width is its bytes
         (block(MAIL, 10, 0), "To: aaa \u{e9}\u{e9}\u{e9}\n c\n".as_bytes(), vec![[3, 7, 0, 1, 6, 0], end]),
-        // P6's own example: width 8 has the goal 5, stretch 3. Line 1 is `ccc`, three columns: t counts the added space of a fresh line
+        // the example of RULES 13: width 8 has the goal 5, stretch 3. Line 1 is `ccc`, three columns: t counts the added space of a fresh line
         (block(UNIFORM, 8, 0), b"aaa bbb ccc ddd eee fff ggg\n", vec![]),
         // one word to a line, each too wide: nothing stays, and the break is forced after it
         (block(0, 2, 2), b"aaaa bbbb c\n", vec![]),
@@ -181,10 +181,10 @@ fn hand() -> i32 {
         }
         run.ask(block, notes);
     }
-    // P6: line 1 of the example has t 4
+    // RULES 13: line 1 of the example has t 4
     let (code, _, reason) = explain(&block(UNIFORM, 8, 0), b"aaa bbb ccc ddd eee fff ggg\n", 1, "none");
     if (code, reason[0], reason[1]) != (0, 4, 4) {
-        println!("differ: the example of P6: {code} {reason:?}");
+        println!("differ: the example of RULES 13: {code} {reason:?}");
         run.differ += 1;
     }
     // codes 1 to 4 come before 8

@@ -5,7 +5,7 @@ import subprocess
 
 from reader import Page
 
-# What is typed, and the option block that it makes, by document 01.
+# What is typed, and the option block that it makes, by RULES 3.
 OPTIONS = [
     ([], b""),
     (["-q"], b"\1\0\2\0\x20"),
@@ -40,7 +40,7 @@ def random_notes(chance):
     return b"".join(parts)
 
 
-# The columns of the words among PIECES, by hand: document 02, P4 and P7. The others are blanks, which are no words.
+# The columns of the words among PIECES, by hand: RULES 4.2 and 15. The others are blanks, which are no words.
 WORDS = {"a": 1, "bc": 2, "pump": 4, "tripped.": 8, "restarted": 9, "a-very-long-word-that-fits-in-no-line": 37, "\u4e09\u53f7": 4, "e\u0301": 1, "\u0928\u092e\u0938\u094d\u0924\u0947": 4, "\U0001f527": 2,
          "\u0416\u0443\u043a": 3, "\u05d0\u05d1": 2, "<b>": 3, "&amp;": 5, "'": 1, '"': 1, "</pre>": 6, "\0": 1, "\x1b[31m": 5, "\x7f": 1, "\u009b": 1, "\u00ad": 1, "\u202e": 0, "\u2066": 0, "\u200b": 0, "\ufeff": 0,
          "\u200d": 0, "\ufffd": 1, "\ufffe": 1, "\u0301": 0, "To:": 3, "From": 4, ">": 1, "\u1160": 0, "\U000e0041": 0}
@@ -81,7 +81,7 @@ def together(index, notes, reasons):
 
 
 def margins(width, goal):
-    """Document 01, width and goal."""
+    """RULES 3.4, width and goal."""
     if width is None and goal is None:
         return 74, 79
     if goal is None:
@@ -181,7 +181,7 @@ def is_damaged(line):
     return False
 
 
-# A line, and the columns that it takes, by hand: document 02, P4 and P7. Tabs are at 8.
+# A line, and the columns that it takes, by hand: RULES 4.2 and 15. Tabs are at 8.
 COLUMNS = [(b"pump 2", 6), ("a\u4e09\u53f7b".encode(), 6), ("e\u0301x".encode(), 2), (b"a\tb", 9), (b"a\t", 1), ("a\t\u0301".encode(), 1), (b"41\xb0C", 4), ("a\u202eb".encode(), 2), (b"\x1b[0m", 4), ("\u0928\u092e\u0938\u094d\u0924\u0947".encode(), 4),
            ("\U0001f469\u200d\U0001f527".encode(), 4), ("\u00ad".encode(), 1), ("\u1112\u119e\u11ab".encode(), 2), (b"x" * 80, 80), ("\u05d0\u05d1".encode(), 2)]
 

@@ -1,4 +1,4 @@
--- What the call answers, by what the digest has come to behind the last piece, or by what is told before.
+-- What the call answers, by what the digest has come to after the last piece, or by what is told before.
 use mathlib.Core.Path.{_≡_, refl, sym, ap, _∙_}
 use mathlib.Core.Bool.{Bool, true, false, cond}
 use mathlib.Core.List.{List}

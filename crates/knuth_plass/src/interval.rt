@@ -49,7 +49,7 @@ fn has_tab(w: Word) -> bool
     }
 }
 
-// Whether no word behind the first has a tab in its gap, and the whole paragraph on one line is short enough for a record.
+// Whether no word after the first has a tab in its gap, and the whole paragraph on one line is short enough for a record.
 fn fits_one_line(work: &[u32], n: usize, first: usize) -> bool
     requires { ⌜ (first < 2 ^ 31) × (n ≤ T.mostWords) × Holds n (now work) ⌝ }
     ensures { λ r. ⌜ (r ≡ true → I.OneLine first n (now (work .entry))) ⌝ }
@@ -121,7 +121,7 @@ fn first_least(breaks: &[u32], head: usize, size: usize) -> usize
     found
 }
 
-// The best offer of a break after the word. Bases ascend: behind a line that is too short to end here all are.
+// The best offer of a break after the word. Bases ascend: after a line that is too short to end here all are.
 fn best_offer(breaks: &[u32], g: Setting, turn: Turn, x: usize, head: usize, size: usize) -> Best
     requires { ⌜ I.Stay g turn x head size (T.tableIn (now breaks)) ⌝ }
     ensures { λ r. ⌜ I.BestOffered g turn x head size (T.tableIn (now (breaks .entry))) r ⌝ }
@@ -188,7 +188,7 @@ fn viewed(g: Setting, i: usize, p: usize, n: usize, b: Break) -> Break
     }
 }
 
-// The base of a new break: where its word begins, or behind the word and the gap after it, which does not count on a fresh line.
+// The base of a new break: where its word begins, or after the word and the gap after it, which does not count on a fresh line.
 fn base_of(before: bool, x: usize, width: usize, gap: usize) -> usize
     requires { ⌜ (width ≤ x) × (x + gap < 2 ^ 32) ⌝ }
     ensures { λ r. ⌜ r ≡ cond before (x - width) (x + gap) ⌝ }
@@ -259,7 +259,7 @@ fn round(
         };
     }
     if last {
-        // The last line costs nothing: what is offered behind it changes no path.
+        // The last line costs nothing: what is offered after it changes no path.
         return Interval { head, size, line };
     }
     if line + g.indent < g.goal - (g.width - g.goal) + number(breaks, head, 6) {
@@ -278,7 +278,7 @@ fn round(
 
 // ---- a paragraph
 
-// The gap before the word behind word i, of n.
+// The gap before the word after word i, of n.
 fn gap_behind(work: &[u32], n: usize, i: usize) -> usize
     requires { ⌜ (i < n) × Holds n (now work) × (n ≤ T.mostWords) ⌝ }
     ensures { λ r. ⌜ r ≡ I.gapAfter n i (now (work .entry)) ⌝ }
@@ -291,7 +291,7 @@ fn gap_behind(work: &[u32], n: usize, i: usize) -> usize
     w.after
 }
 
-// One round for each word behind the first.
+// One round for each word after the first.
 // In the original: `find_kp_breakpoints`.
 fn rounds(g: Setting, work: &mut [u32], n: usize) -> Interval
     requires { ⌜ R.Limits g × (1 ≤ n) × R.Lent n (now work) × R.AllNarrow n (now work) × I.Regular g n (now work) ⌝ }

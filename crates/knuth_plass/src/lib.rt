@@ -1,5 +1,5 @@
 // Knuth-Plass: the best breaks of a paragraph, one round for each word over the active breaks. A paragraph is one lent slice: its n words,
-// and behind them n break records.
+// and after them n break records.
 mod interval;
 mod listed;
 mod marking;
@@ -18,7 +18,7 @@ ghost use Rattle.knuth_plass.specs.Contracts.Table as T;
 ghost use Rattle.knuth_plass.specs.Contracts.Round as R;
 ghost use Rattle.knuth_plass.specs.Contracts.Makers as W;
 
-// A break place: the number of the previous break, the word and whether it stands before or after it; its demerits and the ratio of
+// A break place: the number of the previous break, the word and whether it is before or after it; its demerits and the ratio of
 // the line that it ends, as bits; the columns of the line that it begins, and whether nothing but the indent stands on that line.
 pub struct Break {
     pub previous: usize,
@@ -77,7 +77,7 @@ fn best_path(g: Setting, work: &mut [u32], n: usize) -> usize
 }
 
 // The best breaks of a paragraph of n words, as marks of its words: that of word i says whether a new line starts with it. The words
-// stand in front; behind them is room for as many breaks, and what it holds afterwards is left open.
+// stand in front; after them is room for as many breaks, and what it holds afterwards is left open.
 // In the original: `break_knuth_plass`.
 pub fn best_breaks(work: &mut [u32], n: usize, g: Setting)
     requires { ⌜ R.Limits g × (1 ≤ n) × R.Lent n (now work) × R.AllNarrow n (now work) ⌝ }
@@ -100,7 +100,7 @@ pub struct Told {
     pub ending: Ending,
 }
 
-// All rounds: between rounds, and what made the breaks of two words, one behind the other.
+// All rounds: between rounds, and what made the breaks of two words, one after the other.
 pub struct AllTold {
     pub st: Standing,
     pub first: Ending,

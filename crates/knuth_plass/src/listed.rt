@@ -28,7 +28,7 @@ ghost use Rattle.knuth_plass.specs.KnuthPlass.{reduced};
 ghost use Rattle.knuth_plass.specs.Contracts.Table as T;
 ghost use Rattle.knuth_plass.specs.Contracts.Round as R;
 
-// The number of the k-th active break. It stands in record k, in the one place that is not the record's own.
+// The number of the k-th active break. It is in record k, in the one place that is not the record's own.
 pub fn active(breaks: &[u32], k: usize) -> usize
     requires { ⌜ k < length (T.activeIn (now breaks)) ⌝ }
     ensures { λ r. ⌜ r ≡ getD (T.activeIn (now (breaks .entry))) k 0 ⌝ }
@@ -224,7 +224,7 @@ fn round(
     settle(g, turn, st, breaks, s)
 }
 
-// One round for each word behind the first.
+// One round for each word after the first.
 // In the original: `find_kp_breakpoints`.
 pub fn rounds(g: Setting, work: &mut [u32], n: usize) -> Standing
     requires { ⌜ R.Limits g × (1 ≤ n) × R.Lent n (now work) × R.AllNarrow n (now work) ⌝ }

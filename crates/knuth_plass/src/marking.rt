@@ -33,7 +33,7 @@ pub fn clear(work: &mut [u32], n: usize)
     }
 }
 
-// A break behind the last word starts no line.
+// A break after the last word starts no line.
 fn mark(work: &mut [u32], n: usize, at: usize)
     requires { ⌜ Holds n (now work) ⌝ }
     ensures { λ _. ⌜ MarkedUpTo n (now (work .entry)) (now (work .exit)) (λ (j : ℕ). markIn (now (work .entry)) j || eqb at j) ⌝ }

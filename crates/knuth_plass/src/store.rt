@@ -23,7 +23,7 @@ fn place(x: u32) -> usize
     x as usize
 }
 
-// A ratio's bits, as they stand in a record.
+// A ratio's bits, as they are in a record.
 pub fn bits_of(ratio: f32) -> u32
     requires { ⌜ D.T (within 1 ratio) ⌝ }
     ensures { λ r. ⌜ T.ratioOf r ≡ ratio ⌝ }
@@ -64,7 +64,7 @@ fn demerits_of(breaks: &[u32], i: usize) -> u64
     joined(breaks[high], breaks[low])
 }
 
-// The record at i, put together. The word and whether the break stands before it are one number.
+// The record at i, put together. The word and whether the break is before it are one number.
 pub fn get_break(breaks: &[u32], i: usize) -> Break
     requires { ⌜ i < length (T.tableIn (now breaks)) ⌝ }
     ensures { λ r. ⌜ r ≡ T.breakIn (T.tableIn (now (breaks .entry))) i ⌝ }

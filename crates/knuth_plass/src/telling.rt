@@ -141,7 +141,7 @@ fn told_round(
     }
 }
 
-// One round for each word behind the first, and what made the breaks of word e - 1 and of word e.
+// One round for each word after the first, and what made the breaks of word e - 1 and of word e.
 pub fn all_told(g: Setting, work: &mut [u32], n: usize, e: usize) -> AllTold
     requires { ⌜ R.Limits g × (1 ≤ n) × R.Lent n (now work) × R.AllNarrow n (now work) × (1 ≤ e) ⌝ }
     ensures { λ r. ⌜ W.AllToldIs g n e (now (work .entry)) (T.tableIn (T.recordsPart n (now (work .exit)))) (T.activeIn (T.recordsPart n (now (work .exit)))) r × R.Worked n (now (work .entry)) (now (work .exit)) ⌝ }
@@ -181,7 +181,7 @@ pub fn all_told(g: Setting, work: &mut [u32], n: usize, e: usize) -> AllTold
     AllTold { st, first, second }
 }
 
-// Whether the break of a path that starts a line with word e stands before it.
+// Whether the break of a path that starts a line with word e is before it.
 pub fn stands_before(breaks: &[u32], last: usize, e: usize) -> bool
     requires { ⌜ (last < length (T.tableIn (now breaks))) × T.Sized (T.tableIn (now breaks)) × T.Leads (T.tableIn (now breaks)) last ⌝ }
     ensures { λ r. ⌜ r ≡ W.beforeAt e (T.pathTo (T.tableIn (now (breaks .entry))) last) ⌝ }

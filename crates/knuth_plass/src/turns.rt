@@ -196,7 +196,7 @@ pub fn restarted(g: Setting, turn: Turn, n: usize, least: Break) -> Break
     }
 }
 
-// The sentence mark of the word behind word i, of n.
+// The sentence mark of the word after word i, of n.
 // In the original: `find_kp_breakpoints`.
 pub fn sentence_behind(table: &[u32], n: usize, i: usize) -> bool
     requires { ⌜ (i < n) × Holds n (now table) ⌝ }

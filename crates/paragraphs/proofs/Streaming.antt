@@ -57,7 +57,7 @@ module _ (notes : List ℕ) (at : ℕ) (o : Options) (p : Paragraph) (placed : P
     unfolding settingOf meant
     fair g e = rw e (record { some = placed .tabLeast; tab = placed .tabMost; width = omega (arith, placed .width); first = omega (arith, placed .firstSmall); indent = omega (arith, placed .indentSmall) })
 
-    -- what it is broken with hangs on no block
+    -- what it is broken with depends on no block
     pub streamed : (g : Setting) → ((block : List ℕ) → g ≡ settingFor block o p) → (most : ℕ) → p .next - at ≤ 2 * most → (out : List ℕ) (written : ℕ) (out′ : List ℕ) (end : ℕ)
         → PutIs notes at (p .next) (p .start) (p .later) o g (marginOf notes (p .first)) (marginOf notes (p .indent)) out written out′ (Done end)
         → (block : List ℕ) → TextStepped most notes at o p out written out′ (On (record { at = p .next; written = end; mail = p .mail })) block

@@ -1,4 +1,4 @@
--- The glyphs of regular bytes: each byte is one, glue or not, behind ink or not. So the words of a regular line are those of its bytes.
+-- The glyphs of regular bytes: each byte is one, glue or not, after ink or not. So the words of a regular line are those of its bytes.
 use mathlib.Core.Path.{_≡_, refl, sym, ap, _∙_}
 use mathlib.Core.Bool.{Bool, true, false}
 use mathlib.Core.List.{List, [], _∷_}

@@ -1,4 +1,4 @@
--- The mark behind a line's stretch, and the stretch of a paragraph's next line.
+-- The mark after a line's stretch, and the stretch of a paragraph's next line.
 use mathlib.Core.Path.{_≡_, refl, sym, _∙_}
 use mathlib.Core.Bool.{Bool, true, false}
 use mathlib.Core.List.{List, [], _∷_}

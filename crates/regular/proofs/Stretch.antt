@@ -159,7 +159,7 @@ module _ (sp ink rest : List ℕ) (spaces : every isSpace sp ≡ true) (inked : 
       pick [] l ws = absurd (omega arith)
       pick (x ∷ t) l ws = refl
 
-  -- the first word, and the words behind it
+  -- the first word, and the words after it
   pub word-first : (o : Opts) (newLine previous : Bool) → o .uniform ≡ false
       → stretchWords o newLine previous (sp ++ (ink ++ rest)) ≡ plainWord newLine previous sp ink ∷ stretchWords o false (lastly false ink) rest
   unfolding stretchWords

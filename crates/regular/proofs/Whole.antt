@@ -37,7 +37,7 @@ unfolding quickRest quickFrom emitRest
 rest-none g indent column punct = refl
 
 module _ (s : List ℕ) (p e : ℕ) (inked : Inked s p e) (o : Opts) (kept : o .uniform ≡ false) (g : Setting) (even : g .uniform ≡ false) (first indent : List ℕ) (more : List Word) where
-  -- of a stretch and words behind it
+  -- of a stretch and words after it
   pub emit-fresh : emit false first indent (quickBreaks g (stretchWords o true false (slice p e s) ++ more)) (stretchWords o true false (slice p e s) ++ more)
       ≡ first ++ quickFresh g indent false (g .first) (stretchWords o true false (slice p e s) ++ more)
   emit-fresh =

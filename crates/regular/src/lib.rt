@@ -30,7 +30,7 @@ struct State {
     column: usize,
 }
 
-// The stretch of a line's words and the line behind it, if its bytes are regular.
+// The stretch of a line's words and the line after it, if its bytes are regular.
 struct Row {
     from: usize,
     end: usize,
@@ -38,7 +38,7 @@ struct Row {
     regular: bool,
 }
 
-// Where a paragraph stands behind a word: the written end, the column, and the mark of the word.
+// Where a paragraph is after a word: the written end, the column, and the mark of the word.
 struct Reached {
     written: usize,
     column: usize,
@@ -65,7 +65,7 @@ struct Cut {
     next: usize,
 }
 
-// The last space behind a place, up to another, or that place.
+// The last space after a place, up to another, or that place.
 fn last_space(s: &[u8], from: usize, to: usize) -> usize
     requires { ⌜ (from ≤ to) × (to < length (now s)) ⌝ }
     ensures { λ r. ⌜ LastSpace (now (s .entry)) from to r ⌝ }
@@ -169,7 +169,7 @@ fn room_of(width: usize, column: usize) -> usize
     0
 }
 
-// Bytes of the notes, written behind k bytes.
+// Bytes of the notes, written after k bytes.
 fn put_at(s: &[u8], from: usize, to: usize, out: &mut [u8], k: usize) -> usize
     requires { ⌜ (from ≤ to) × (to ≤ length (now s)) × (length (now s) ≤ 2 ^ 20) × (k < 2 ^ 63) ⌝ }
     ensures { λ r. ⌜ Wrote (now (out .entry)) k (slice from to (now (s .entry))) (now (out .exit)) r ⌝ }
@@ -178,7 +178,7 @@ fn put_at(s: &[u8], from: usize, to: usize, out: &mut [u8], k: usize) -> usize
     k + output::put_text(s, from, to, &mut out[place..])
 }
 
-// A new line, behind k bytes.
+// A new line, after k bytes.
 fn break_at(s: &[u8], indent: Margin, out: &mut [u8], k: usize) -> usize
     requires { ⌜ MarginIn (length (now s)) indent × (length (now s) ≤ 2 ^ 20) × (k < 2 ^ 63) ⌝ }
     ensures { λ r. ⌜ Wrote (now (out .entry)) k (lineFeed ++ marginOf (now (s .entry)) indent) (now (out .exit)) r × (r ≤ k + 2 ^ 33) ⌝ }
@@ -187,7 +187,7 @@ fn break_at(s: &[u8], indent: Margin, out: &mut [u8], k: usize) -> usize
     k + output::put_break(s, indent, &mut out[place..])
 }
 
-// A line of output behind k bytes: bytes of the notes, and a new line.
+// A line of output after k bytes: bytes of the notes, and a new line.
 fn put_line(s: &[u8], from: usize, to: usize, indent: Margin, out: &mut [u8], k: usize) -> usize
     requires { ⌜ (from ≤ to) × (to ≤ length (now s)) × MarginIn (length (now s)) indent × (length (now s) ≤ 2 ^ 20) × (k < 2 ^ 62 + 2 ^ 61) ⌝ }
     ensures { λ r. ⌜ Wrote (now (out .entry)) k (slice from to (now (s .entry)) ++ (lineFeed ++ marginOf (now (s .entry)) indent)) (now (out .exit)) r × (r ≤ k + 2 ^ 34) ⌝ }
@@ -243,7 +243,7 @@ fn added_of(punct: bool) -> usize
     1
 }
 
-// Added spaces, behind k bytes.
+// Added spaces, after k bytes.
 fn spaces_at(count: usize, out: &mut [u8], k: usize) -> usize
     requires { ⌜ (count ≤ 2) × (k < 2 ^ 63) ⌝ }
     ensures { λ r. ⌜ Wrote (now (out .entry)) k (replicate count 32) (now (out .exit)) r × (r ≤ k + 2) ⌝ }
@@ -252,7 +252,7 @@ fn spaces_at(count: usize, out: &mut [u8], k: usize) -> usize
     k + output::put_added(count, &mut out[place..])
 }
 
-// The next line's regular stretch, behind a line of output that has begun: punct is the mark of the word before.
+// The next line's regular stretch, after a line of output that has begun: punct is the mark of the word before.
 fn join(
     s: &[u8],
     p: usize,
@@ -381,7 +381,7 @@ fn ends_line(s: &[u8], at: usize, next: usize) -> bool
     s[at] == 10
 }
 
-// The place behind a line that ends at a place: behind its line feed, unless the paragraph ends there.
+// The place after a line that ends at a place: after its line feed, unless the paragraph ends there.
 fn behind_line(end: usize, next: usize) -> usize
     requires { ⌜ next < 2 ^ 32 ⌝ }
     ensures { λ r. ⌜ (end < next → r ≡ end + 1) × (next ≤ end → r ≡ end) ⌝ }
@@ -453,7 +453,7 @@ fn next_row(
     }
 }
 
-// The mark that counts behind a paragraph's first line.
+// The mark that counts after a paragraph's first line.
 fn head_punct(s: &[u8], from: usize, e: usize) -> bool
     requires { ⌜ Inked (now s) from e ⌝ }
     ensures { λ r. ⌜ r ≡ freshPunct false (slice from e (now (s .entry))) ⌝ }
@@ -465,7 +465,7 @@ fn head_punct(s: &[u8], from: usize, e: usize) -> bool
     is_punct(s[last])
 }
 
-// A paragraph's lines behind its first, as far as they are regular.
+// A paragraph's lines after its first, as far as they are regular.
 fn rows_from(
     s: &[u8],
     at: usize,
@@ -503,7 +503,7 @@ fn rows_from(
     }
 }
 
-// A word of any kind, behind a line of output that has begun.
+// A word of any kind, after a line of output that has begun.
 // In the original: `accum_words_simple`.
 fn put_word(s: &[u8], w: Word, g: Setting, indent: Margin, t: Reached, out: &mut [u8]) -> Reached
     requires { ⌜ Within (length (now s)) w × Small w × (w .width ≤ length (now s)) × Fair g × MarginIn (length (now s)) indent × (length (now s) ≤ 2 ^ 20) × (t .written < 2 ^ 62 + 2 ^ 59) × (t .column ≤ 2 ^ 33) × (g .indent < 2 ^ 31) × (g .width < 2 ^ 31) ⌝ }
@@ -576,7 +576,7 @@ fn put_rest(
     put_listed(s, work, n, g, indent, t, out)
 }
 
-// An indent, behind k bytes.
+// An indent, after k bytes.
 fn margin_at(s: &[u8], m: Margin, out: &mut [u8], k: usize) -> usize
     requires { ⌜ MarginIn (length (now s)) m × (length (now s) ≤ 2 ^ 20) × (k < 2 ^ 63) ⌝ }
     ensures { λ r. ⌜ Wrote (now (out .entry)) k (marginOf (now (s .entry)) m) (now (out .exit)) r × (r ≤ k + 2 ^ 33) ⌝ }
@@ -585,7 +585,7 @@ fn margin_at(s: &[u8], m: Margin, out: &mut [u8], k: usize) -> usize
     k + output::put_margin(s, m, &mut out[place..])
 }
 
-// A line feed, behind k bytes.
+// A line feed, after k bytes.
 fn feed_at(out: &mut [u8], k: usize) -> usize
     requires { ⌜ k < 2 ^ 63 ⌝ }
     ensures { λ r. ⌜ Wrote (now (out .entry)) k lineFeed (now (out .exit)) r ⌝ }

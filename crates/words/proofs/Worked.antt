@@ -24,7 +24,7 @@ ends-too-late a = omega (arith, a)
 begins-too-early : Ascends 5 (letterAt 4 ∷ []) 9 → ⊥
 begins-too-early a = omega (arith, a .0)
 
--- `a` stands at another place of `ab`
+-- `a` is at another place of `ab`
 another-place : (glue : Bool) → Stands glue (97 ∷ 98 ∷ []) 1 (97 ∷ []) → ⊥
 another-place glue s = let e = s .is in let z : _≡_ {A = ℕ} 98 97 = cc in omega arith
 

@@ -29,11 +29,11 @@ use Rattle.lines.specs.Lines.{linesOf}
 use Rattle.pieces.specs.Contracts.Bounds.{AllBegin}
 use Rattle.words.specs.Contracts.Places.{wordsAt}
 
--- no space stands at a place
+-- no space is at a place
 abbrev pub NoSpace : List ℕ → ℕ → Type 0
 NoSpace s i = getD s i 0 ≡ 32 → ⊥
 
--- r is the last space behind a place, up to another; or the first place, if there is none
+-- r is the last space after a place, up to another; or the first place, if there is none
 pub record LastSpace (s : List ℕ) (from to r : ℕ) : Type 0 where
   pub on : from ≤ r
   pub most : r ≤ to
@@ -47,7 +47,7 @@ pub record FirstSpace (s : List ℕ) (from end r : ℕ) : Type 0 where
   pub space : r < end → getD s r 0 ≡ 32
   pub none : (i : ℕ) → from ≤ i → i < r → NoSpace s i
 
--- r is behind the spaces at a place, before an end
+-- r is after the spaces at a place, before an end
 pub record OverSpaces (s : List ℕ) (from end r : ℕ) : Type 0 where
   pub on : from ≤ r
   pub most : r ≤ end
@@ -68,7 +68,7 @@ pub record Inked (s : List ℕ) (p e : ℕ) : Type 0 where
   pub first : NoSpace s p
   pub last : NoSpace s (e - 1)
 
--- A stretch is cut: its words up to r's end are those that end by p + room, or one word; the next one begins at r's next, and ends behind p + room.
+-- A stretch is cut: its words up to r's end are those that end by p + room, or one word; the next one begins at r's next, and ends after p + room.
 pub record CutAt (s : List ℕ) (p e room : ℕ) (r : Cut) : Type 0 where
   pub on : p < r .end
   pub gap : r .end < r .next
@@ -102,7 +102,7 @@ pub record Filled (s : List ℕ) (p e : ℕ) (counts : Bool) (g : Setting) (inde
   pub most : r .written ≤ k + (e - p) * 2 ^ 34
   pub reach : r .column ≤ column + g .indent + (e - p)
 
--- The same of the next line's stretch, behind a line of output that stands at a column.
+-- The same of the next line's stretch, after a line of output that is at a column.
 pub record Joined (s : List ℕ) (p e : ℕ) (punct : Bool) (g : Setting) (indent : List ℕ) (column : ℕ) (out : List ℕ) (k : ℕ) (out′ : List ℕ) (r : State) : Type 0 where
   pub left : (o : Opts) (more : List Word) → o .uniform ≡ false
       → Left out k (quickRest g indent column punct (stretchWords o true false (slice p e s) ++ more))
@@ -110,7 +110,7 @@ pub record Joined (s : List ℕ) (p e : ℕ) (punct : Bool) (g : Setting) (inden
   pub most : r .written ≤ k + (e - p + 1) * 2 ^ 34
   pub reach : r .column ≤ g .width + g .indent + g .indent + (e - p)
 
--- ---- a paragraph's lines, which stand in the notes up to next
+-- ---- a paragraph's lines, which are in the notes up to next
 
 -- regular bytes stand between two places
 abbrev pub EachRegular : List ℕ → ℕ → ℕ → Type 0
@@ -123,7 +123,7 @@ pub record RegularTo (s : List ℕ) (from end r : ℕ) : Type 0 where
   pub all : EachRegular s from r
   pub stop : r < end → isRegular (getD s r 0) ≡ false
 
--- r is the stretch of the line at a place, whose words begin so many bytes behind: its words are the line's
+-- r is the stretch of the line at a place, whose words begin so many bytes after: its words are the line's
 pub record RowIs (o : Opts) (skip later : ℕ) (s : List ℕ) (next i : ℕ) (r : Row) : Type 0 where
   pub on : i < r .next
   pub most : r .next ≤ next
@@ -134,7 +134,7 @@ pub record RowIs (o : Opts) (skip later : ℕ) (s : List ℕ) (next i : ℕ) (r 
   pub inked : r .from < r .end → Inked s (r .from) (r .end)
   pub words : wordsAt o false skip later (linesOf (slice i next s)) ≡ stretchWords o true false (slice (r .from) (r .end) s) ++ wordsAt o false later later (linesOf (slice (r .next) next s))
 
--- A stretch, that may be empty, is written behind a line of output that stands at a column.
+-- A stretch, that may be empty, is written after a line of output that is at a column.
 pub record Went (s : List ℕ) (from e : ℕ) (g : Setting) (indent : List ℕ) (out : List ℕ) (t : Reached) (out′ : List ℕ) (r : Reached) : Type 0 where
   pub left : (o : Opts) (more : List Word) → o .uniform ≡ false
       → Left out (t .written) (quickRest g indent (t .column) (t .punct) (stretchWords o true false (slice from e s) ++ more))
@@ -146,7 +146,7 @@ pub record Went (s : List ℕ) (from e : ℕ) (g : Setting) (indent : List ℕ) 
 abbrev pub wordsOn : List ℕ → Options → ℕ → ℕ → ℕ → List ℕ → ℕ → List Word
 wordsOn block o start later next s i = wordsAt (meant block o) false start later (linesOf (slice i next s))
 
--- Lines are written up to a place, behind a line of output that stands at a column: what is left of quick's output is that of the other lines' words.
+-- Lines are written up to a place, after a line of output that is at a column: what is left of quick's output is that of the other lines' words.
 pub record Gone (s : List ℕ) (at next later : ℕ) (o : Options) (g : Setting) (indent : List ℕ) (out : List ℕ) (t : Reached) (out′ : List ℕ) (i : ℕ) (r : Reached) : Type 0 where
   pub on : at ≤ i
   pub most : i ≤ next
@@ -160,7 +160,7 @@ pub record Gone (s : List ℕ) (at next later : ℕ) (o : Options) (g : Setting)
 abbrev pub reachedOf : Progress → Reached
 reachedOf r = record { written = r .written; column = r .column; punct = r .punct }
 
--- A word of any kind is written behind a line of output that stands at a column.
+-- A word of any kind is written after a line of output that is at a column.
 pub record WordPut (s : List ℕ) (w : Record) (g : Setting) (indent : List ℕ) (out : List ℕ) (t : Reached) (out′ : List ℕ) (r : Reached) : Type 0 where
   pub left : (more : List Word)
       → Left out (t .written) (quickRest g indent (t .column) (t .punct) (meaning s w ∷ more))

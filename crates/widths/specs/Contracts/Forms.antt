@@ -8,7 +8,7 @@ use Rattle.widths.specs.Table.{table}
 use Rattle.widths.specs.Widths.{widthOf}
 use Rattle.widths.specs.WhiteSpace.{whiteSpace}
 
--- what the code reads behind the table's last range: no character is past it
+-- what the code reads after the table's last range: no character is past it
 abbrev pub beyond : Range
 beyond = span 0xFFFFFF 0xFFFFFF 1
 

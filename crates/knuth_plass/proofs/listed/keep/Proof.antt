@@ -1,4 +1,4 @@
--- `knuth_plass::listed::keep` meets its contract. The record is taken apart again, and its number stands behind those that stay.
+-- `knuth_plass::listed::keep` meets its contract. The record is taken apart again, and its number is after those that stay.
 use mathlib.Core.Path.{refl}
 use native.Mathlib.Omega.{arith}
 use borrow.Author.Needs.{needs}

@@ -1,4 +1,4 @@
--- `knuth_plass::marking::starts` meets its contract. Behind the word where it does not stand before it.
+-- `knuth_plass::marking::starts` meets its contract. After the word where it does not stand before it.
 use borrow.Author.Needs.{needs}
 use Rattle.knuth_plass.proofs.marking.starts.Statement.{statement}
 use Rattle.knuth_plass.proofs.marking.starts.Tie as tie

@@ -33,7 +33,7 @@ use Rattle.index.proofs.store_records.Symbol.{name as #index·store-records}
 use Rattle.index.proofs.store_records.Met as store-records-thm
 use Rattle.indexer.specs.declared.Told.{Told}
 use Rattle.indexer.specs.Answers.{Indexed}
-use Rattle.formatter.specs.Format.{document01}
+use Rattle.formatter.specs.Format.{ownRoom}
 use Rattle.indexer.specs.Indexing.{indexing}
 use Rattle.indexer.specs.Contracts.Noting.{Marked}
 use Rattle.indexer.proofs.Told as Tol
@@ -97,7 +97,7 @@ module _ {M : Type 1} (𝓤 : URA M) (H : Heap 𝓤) (A : Atoms 𝓤) (W : Given
 
   -- the answer, what `write_marked` ensures of it, and what is said at exit
   abbrev answer : Indexed
-  answer = indexing document01 (options .now) (notes .now) (length (output .now)) (length (index .now))
+  answer = indexing ownRoom (options .now) (notes .now) (length (output .now)) (length (index .now))
 
   abbrev Noted : List ℕ → ℕ → List ℕ → Told → Type 0
   Noted out′ filled′ ms t = Marked answer (length (index .now)) (output .now) out′ filled′ ms t

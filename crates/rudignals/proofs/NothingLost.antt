@@ -1,5 +1,5 @@
--- Demand 3, in the customer's sentences. Each statement is about the definitions of specs/ alone, no code, and is proved with nothing
--- assumed; where a proof is long it stands in the file cited. The words of the statements: `document01`, `answer`, `measuring`,
+-- RULES 21, in plain sentences: nothing is lost, and nothing leaks from one part into another. Each statement is about the definitions of specs/ alone, no code, and is proved with nothing
+-- assumed; where a proof is long it is in the file cited. The words of the statements: `ownRoom`, `answer`, `measuring`,
 -- `writing` and `done` (specs/Format.antt and Answers.antt; `done bytes` is code 0 with those bytes), `LineEnd` and `LineIs` (specs/Theorems/LineEnds.antt), `Closed` (lines/specs),
 -- `Gap` (text/specs/Theorems/Blanks.antt), `InOrder` (output/specs/Theorems/Order.antt), `rowInk` (words/specs/Theorems/Ink.antt), `All` and `∈`
 -- (lists/specs/Theorems/All.antt), `joined` (lists/specs/Runs.antt).
@@ -38,7 +38,7 @@ use Rattle.words.proofs.Order.{Whole, row-ink, paragraph-whole}
 use Rattle.output.specs.Theorems.Order.{InOrder}
 use Rattle.formatter.specs.Answers.{done, numbered}
 use Rattle.walk.specs.Digest.{pieceOutput, digest, mostWords, extentOf}
-use Rattle.formatter.specs.Format.{Limits, limited, mostBytes, document01, answer, finding, isTold, measured, measuring, inRoom, writing}
+use Rattle.formatter.specs.Format.{Limits, limited, mostBytes, ownRoom, answer, finding, isTold, measured, measuring, inRoom, writing}
 use Rattle.rudignals.specs.Theorems.LineEnds.{LineEnd, feed, LineIs}
 use Rattle.rudignals.specs.Theorems.Parts.{upToPiece, fromPiece, MayCut, ByParts, both, behindFirst, bothReasons}
 use Rattle.formatter.proofs.Together.{together-they-do-what-the-old-call-did, measured-room-suffices}
@@ -64,7 +64,7 @@ use Rattle.rudignals.proofs.Windows.{pieces-front}
 use Rattle.rudignals.proofs.PieceStarts.{parts-are, parts-pieces, digest-parts, index-parts, reasons-parts, measuring-parts, indexing-parts, explaining-parts}
 
 -- What measuring has found, and what a call that is done has written, is the digest of its notes, of which 2 to 4 speak, under the
--- options that its block means. So with document 01's limits (`document01`) and with any others.
+-- options that its block means. So with the limits of RULES 2.2 (`ownRoom`) and with any others.
 pub what-is-measured-is-the-digest : (l : Limits) (block notes : List ℕ) (o : Options) (bytes : List ℕ)
     → readBlock block ≡ Accepted o
     → measuring l block notes ≡ done bytes
@@ -77,7 +77,7 @@ pub what-is-written-is-the-digest : (l : Limits) (block notes : List ℕ) (o : O
     → bytes ≡ digest (meant block o) notes
 what-is-written-is-the-digest l block notes o space bytes b e = what-is-measured-is-the-digest l block notes o bytes b (written-measured l block notes space bytes e .0)
 
--- (The call that measures and writes in one is document 01's, with limits such as its own.)
+-- (The call that measures and writes in one has limits such as those of RULES 2.2.)
 pub what-is-done-is-the-digest : (most words : ℕ) (block notes : List ℕ) (o : Options) (space : ℕ) (bytes : List ℕ)
     → readBlock block ≡ Accepted o
     → answer (limited most words) block notes space ≡ done bytes
@@ -90,7 +90,7 @@ what-is-done-is-the-digest most words block notes o space bytes b e = what-is-me
 -- its text, in which no line feed stands and which is blank by the definition (lines/specs/Classes), and its line end, a line feed or a
 -- carriage return and a line feed. The whole is within the input limit. Keep may be on or off.
 -- The limits may be any. Where working room is lent, what is enough for the parts must be enough for the whole (`Joining`: proofs/Boundary), and the
--- whole's length must be one that can be told; both hold of themselves with limits such as document 01's.
+-- whole's length must be one that can be told; both hold of themselves with limits such as those of RULES 2.2.
 module _ (l : Limits) (joining : Joining (l .words)) (block first line end second : List ℕ) (o : Options) (digest₁ digest₂ : List ℕ)
     (block-accepted : readBlock block ≡ Accepted o)
     (first-ends : Closed first)
@@ -121,7 +121,7 @@ module _ (l : Limits) (joining : Joining (l .words)) (block first line end secon
         let n = length-append digest₁ (10 ∷ digest₂) in
         measured-room-suffices l block (first ++ (line ++ (end ++ second))) space (digest₁ ++ 10 ∷ digest₂) (a-blank-line-is-a-full-boundary-for-measuring (m₁ .0) (m₂ .0)) (omega arith)
 
--- The call that does both in one, with limits such as document 01's: nothing more is asked.
+-- The call that does both in one, with limits such as those of RULES 2.2: nothing more is asked.
 module _ (most words : ℕ) (block first line end second : List ℕ) (o : Options) (digest₁ digest₂ : List ℕ)
     (block-accepted : readBlock block ≡ Accepted o)
     (first-ends : Closed first)
@@ -143,31 +143,31 @@ module _ (most words : ℕ) (block first line end second : List ℕ) (o : Option
   unfolding numbered
   the-counts-of-the-parts-add-up = rw (a-blank-line-is-a-full-boundary, first-done, second-done, length-append) (omega arith)
 
--- The customer's sentence: the blank line is empty, a line feed alone, and the limits are document 01's.
+-- The plainest case: the blank line is empty, a line feed alone, and the limits are those of RULES 2.2.
 module _ (block first second : List ℕ) (o : Options) (digest₁ digest₂ : List ℕ)
     (block-accepted : readBlock block ≡ Accepted o)
     (first-ends : Closed first)
     (within-limit : length (first ++ 10 ∷ second) ≤ mostBytes) where
-  module _ (first-measured : measuring document01 block first ≡ done digest₁) (second-measured : measuring document01 block second ≡ done digest₂) where
-    pub an-empty-line-is-a-full-boundary-for-measuring : measuring document01 block (first ++ 10 ∷ second) ≡ done (digest₁ ++ 10 ∷ digest₂)
+  module _ (first-measured : measuring ownRoom block first ≡ done digest₁) (second-measured : measuring ownRoom block second ≡ done digest₂) where
+    pub an-empty-line-is-a-full-boundary-for-measuring : measuring ownRoom block (first ++ 10 ∷ second) ≡ done (digest₁ ++ 10 ∷ digest₂)
     an-empty-line-is-a-full-boundary-for-measuring =
-        a-blank-line-is-a-full-boundary-for-measuring document01 tt block first [] (10 ∷ []) second o digest₁ digest₂ block-accepted first-ends (every-nil noFeed) (feed refl (λ z. z)) (empty-blank (meant block o)) within-limit refl first-measured second-measured
+        a-blank-line-is-a-full-boundary-for-measuring ownRoom tt block first [] (10 ∷ []) second o digest₁ digest₂ block-accepted first-ends (every-nil noFeed) (feed refl (λ z. z)) (empty-blank (meant block o)) within-limit refl first-measured second-measured
 
   module _ (room₁ room₂ space : ℕ) (enough-room : length digest₁ + 1 + length digest₂ ≤ space) where
-    module _ (first-done : answer document01 block first room₁ ≡ done digest₁) (second-done : answer document01 block second room₂ ≡ done digest₂) where
+    module _ (first-done : answer ownRoom block first room₁ ≡ done digest₁) (second-done : answer ownRoom block second room₂ ≡ done digest₂) where
       -- Formatting the first part, a line feed and the second part gives the first's output, one line feed, and the second's output.
-      pub an-empty-line-is-a-full-boundary : answer document01 block (first ++ 10 ∷ second) space ≡ done (digest₁ ++ 10 ∷ digest₂)
+      pub an-empty-line-is-a-full-boundary : answer ownRoom block (first ++ 10 ∷ second) space ≡ done (digest₁ ++ 10 ∷ digest₂)
       an-empty-line-is-a-full-boundary =
           a-blank-line-is-a-full-boundary mostBytes mostWords block first [] (10 ∷ []) second o digest₁ digest₂ block-accepted first-ends (every-nil noFeed) (feed refl (λ z. z)) (empty-blank (meant block o)) within-limit room₁ room₂ space enough-room first-done second-done
 
-      pub the-counts-add-up : numbered (answer document01 block (first ++ 10 ∷ second) space) ≡ numbered (answer document01 block first room₁) + 1 + numbered (answer document01 block second room₂)
+      pub the-counts-add-up : numbered (answer ownRoom block (first ++ 10 ∷ second) space) ≡ numbered (answer ownRoom block first room₁) + 1 + numbered (answer ownRoom block second room₂)
       the-counts-add-up =
           the-counts-of-the-parts-add-up mostBytes mostWords block first [] (10 ∷ []) second o digest₁ digest₂ block-accepted first-ends (every-nil noFeed) (feed refl (λ z. z)) (empty-blank (meant block o)) within-limit room₁ room₂ space enough-room first-done second-done
 
-    module _ (first-written : writing document01 block first room₁ ≡ done digest₁) (second-written : writing document01 block second room₂ ≡ done digest₂) where
-      pub an-empty-line-is-a-full-boundary-for-writing : writing document01 block (first ++ 10 ∷ second) space ≡ done (digest₁ ++ 10 ∷ digest₂)
+    module _ (first-written : writing ownRoom block first room₁ ≡ done digest₁) (second-written : writing ownRoom block second room₂ ≡ done digest₂) where
+      pub an-empty-line-is-a-full-boundary-for-writing : writing ownRoom block (first ++ 10 ∷ second) space ≡ done (digest₁ ++ 10 ∷ digest₂)
       an-empty-line-is-a-full-boundary-for-writing =
-          a-blank-line-is-a-full-boundary-for-writing document01 tt block first [] (10 ∷ []) second o digest₁ digest₂ block-accepted first-ends (every-nil noFeed) (feed refl (λ z. z)) (empty-blank (meant block o)) within-limit refl room₁ room₂ space enough-room first-written second-written
+          a-blank-line-is-a-full-boundary-for-writing ownRoom tt block first [] (10 ∷ []) second o digest₁ digest₂ block-accepted first-ends (every-nil noFeed) (feed refl (λ z. z)) (empty-blank (meant block o)) within-limit refl room₁ room₂ space enough-room first-written second-written
 
 -- ---- 2. words stand once and in order
 
@@ -180,7 +180,7 @@ pub words-stand-once-and-in-order : (o : Opts) (notes : List ℕ) (q : Piece) (p
     → InOrder (λ s. Gap (o .glue) s ⊎ (s ≡ 10 ∷ p .indent .bytes)) (p .first .bytes) (wordsOf o p) (pieceOutput o q)
 words-stand-once-and-in-order = paragraph-order
 
--- A gap is blank by the rule of document 02, P2, read on the line that it stands on, whatever is before and behind it there: the line's
+-- A gap is blank by the rule of RULES 4.4, read on the line that it stands on, whatever is before and after it there: the line's
 -- glyphs are those of the undamaged text before the gap, those of the gap, each of them a blank, and the rest. (`BlankThere`: proofs/Gaps.)
 pub a-gap-is-blank-where-it-stands : (glue : Bool) (before gap after : List ℕ)
     → damage before ≡ Nowhere
@@ -196,7 +196,7 @@ pub words-come-from-the-lines : (o : Opts) (notes : List ℕ) (q : Piece) (p : P
 unfolding wordsOf
 words-come-from-the-lines o notes q p m e = rw (rows-of o notes q p m e .rows)
 
--- .. and none of a line's bytes is left out: its words, joined, are the bytes of the non-blank characters at or behind its indent's
+-- .. and none of a line's bytes is left out: its words, joined, are the bytes of the non-blank characters at or after its indent's
 -- end, of a mail paragraph's line those of the whole line.
 pub no-byte-is-left-out : (o : Opts) (mail : Bool) (row : Row) → joined (λ (w : Word). w .text) (rowWords o mail row) ≡ rowInk o mail row
 no-byte-is-left-out = row-ink
@@ -208,7 +208,7 @@ pub no-word-is-empty : (o : Opts) (notes : List ℕ) (q : Piece) (p : Paragraph)
     → All (λ (w : Word). 0 < length (w .text)) (wordsOf o p)
 no-word-is-empty o notes q p m e = all-weaken (Whole (o .glue) (o .uniform || p .mail)) _ (λ w h. h .some) (wordsOf o p) (paragraph-whole o (q .lines) p (rows-of o notes q p m e))
 
--- Each word has its place in the notes (document 02, P3; `standingWords`: walk/specs/Standing.antt, `Stands` and `Ascends`:
+-- Each word has its place in the notes (RULES 12; `standingWords`: walk/specs/Standing.antt, `Stands` and `Ascends`:
 -- words/specs/Theorems/Standing.antt). The words that have one are the words of all paragraphs, each once and in order ..
 pub each-word-has-its-place : (o : Opts) (notes : List ℕ) → map (λ (s : Standing). s .word) (standingWords o notes) ≡ joined (λ (q : Piece). wordsUnder o (q .kind)) (pieces o notes)
 each-word-has-its-place o notes = words-stand o notes .words
@@ -221,9 +221,9 @@ a-word-is-the-notes'-bytes-at-its-place o notes = words-stand o notes .each
 pub places-ascend : (o : Opts) (notes : List ℕ) → Ascends 0 (standingWords o notes) (length notes)
 places-ascend o notes = words-stand o notes .ascend
 
--- So of each paragraph the words that stand in its output once and in order are known with their places: it takes the bytes of the notes
--- behind those that the pieces before it take, and its words stand there, within its own lines; they are those words of the notes that
--- come behind the words of the pieces before it.
+-- So of each paragraph the words that are in its output once and in order are known with their places: it takes the bytes of the notes
+-- after those that the pieces before it take, and its words stand there, within its own lines; they are those words of the notes that
+-- come after the words of the pieces before it.
 pub record WordsPlaced (o : Opts) (notes : List ℕ) (before : List Piece) (q : Piece) (after : List Piece) (p : Paragraph) (place : ℕ) : Type 0 where
   pub in-order : InOrder (λ s. Gap (o .glue) s ⊎ (s ≡ 10 ∷ p .indent .bytes)) (p .first .bytes) (map (λ (s : Standing). s .word) (wordsStanding o place (q .lines) p)) (pieceOutput o q)
   pub in-the-notes : WordsStand o notes place (q .lines) p
@@ -258,7 +258,7 @@ pub a-text-with-its-end-is-a-line : (above text end below : List ℕ)
     → linesOf (above ++ (text ++ (end ++ below))) ≡ linesOf above ++ record { raw = text ++ end; text = text } ∷ linesOf below
 a-text-with-its-end-is-a-line = line-of-bytes
 
--- A line of the notes comes out unaltered up to its line end: it is a piece of its own, behind the pieces of what is above it; its output
+-- A line of the notes comes out unaltered up to its line end: it is a piece of its own, after the pieces of what is above it; its output
 -- is its bytes and a line feed; and the lines below it are all there, in pieces of their own.
 pub record Unaltered (o : Opts) (above text end below : List ℕ) : Type 0 where
   pub after : List Piece
@@ -266,7 +266,7 @@ pub record Unaltered (o : Opts) (above text end below : List ℕ) : Type 0 where
   pub lines-after : joined (λ (q : Piece). q .lines) after ≡ linesOf below
   pub output : digest o (above ++ (text ++ (end ++ below))) ≡ digest o above ++ (text ++ 10 ∷ joined (pieceOutput o) after)
 
--- A line of the notes that has a damaged character stands, and the notes go on behind it.
+-- A line of the notes that has a damaged character stands, and the notes go on after it.
 pub a-damaged-line-stands : (o : Opts) (above text end below : List ℕ) (place : ℕ)
     → Closed above
     → LineIs text end below
@@ -299,8 +299,8 @@ the-lines-are-the-lines-of-the-notes = pieces-lines
 pub the-extents-are-the-notes : (o : Opts) (notes : List ℕ) → joined extentOf (pieces o notes) ≡ notes
 the-extents-are-the-notes = extents-are-notes
 
--- A piece's place: it takes at least one byte of the notes, behind those that the pieces before it take; its output is not empty, and
--- stands in the digest behind theirs.
+-- A piece's place: it takes at least one byte of the notes, after those that the pieces before it take; its output is not empty, and
+-- is in the digest after theirs.
 pub record Place (o : Opts) (notes : List ℕ) (before : List Piece) (q : Piece) (after : List Piece) : Type 0 where
   pub takes : 0 < length (extentOf q)
   pub in-the-notes : notes ≡ joined extentOf before ++ (extentOf q ++ joined extentOf after)
@@ -317,7 +317,7 @@ each-piece-has-its-place o notes before q after e = record {
   in-the-digest = the-digest-is-the-outputs-in-order o notes ∙ joined-at (pieceOutput o) before q after (pieces o notes) e;
 }
 
--- ---- 5. from a digest line back to the note (document 02, P3)
+-- ---- 5. from a digest line back to the note (RULES 12)
 
 -- The records of the index follow each other without a gap: in the notes from place 0 to the notes' end, in the digest from line 0 to its last line.
 pub the-records-follow-without-a-gap : (o : Opts) (notes : List ℕ) → Follows 0 0 (indexOf o notes) (length notes) (length (linesOf (digest o notes)))
@@ -347,7 +347,7 @@ module _ (l : Limits) (joining : Joining (l .words)) (block first line end secon
 -- ---- 6. where a piece begins, notes may be cut
 
 -- Where a piece begins is seen without reading all of the notes: a front part of them, empty or ending in a line feed, has the notes' own
--- pieces, but for its last, which may go on in what is behind it.
+-- pieces, but for its last, which may go on in what is after it.
 pub a-front-part-shows-where-pieces-begin : (o : Opts) (front behind : List ℕ) (k : ℕ)
     → Closed front
     → k < length (pieces o front)
@@ -358,7 +358,7 @@ a-front-part-shows-where-pieces-begin o front behind k = pieces-front o k front 
 pub without-mail-every-start-is-a-cut : (o : Opts) (k : ℕ) (notes : List ℕ) → o .mail ≡ false → MayCut o k notes
 without-mail-every-start-is-a-cut o k notes off on = absurd (false≢true (sym off ∙ on))
 
--- The option block is accepted. For any k the notes are cut behind their first k pieces, where the next piece begins. Without mail nothing
+-- The option block is accepted. For any k the notes are cut after their first k pieces, where the next piece begins. Without mail nothing
 -- else is asked; with mail, that next-mail is true there. (`upToPiece`, `fromPiece` and `MayCut`: specs/Theorems/Parts.antt.)
 module _ (block notes : List ℕ) (o : Options) (k : ℕ)
     (block-accepted : readBlock block ≡ Accepted o)
@@ -389,7 +389,7 @@ module _ (block notes : List ℕ) (o : Options) (k : ℕ)
   the-reasons-are-those-of-the-parts = reasons-parts block notes o k block-accepted may-cut
 
   -- The notes are within the input limit. The limits may be any: where working room is lent, the notes must need the greater of what their parts need
-  -- (`ByParts`), as they do (`lending-is-by-parts`: proofs/PieceStarts); with limits such as document 01's nothing is asked.
+  -- (`ByParts`), as they do (`lending-is-by-parts`: proofs/PieceStarts); with limits such as those of RULES 2.2 nothing is asked.
   module _ (l : Limits) (by-parts : ByParts (l .words)) (within-limit : length notes ≤ l .bytes) where
     -- What measuring finds is found by the part: if both are done, the first's output and then the second's, if their length can be told; else what a
     -- part is refused for. The lowest number wins, then the first place, and a place in the second part is counted from the notes' front; of working
@@ -429,15 +429,15 @@ module _ (block notes : List ℕ) (o : Options) (k : ℕ)
         → indexing l block notes space records ≡ indexed (digest₁ ++ digest₂) (index₁ ++ behindFirst first-part digest₁ index₂)
     the-indexes-of-the-parts-join = indexing-parts block notes o k block-accepted may-cut l by-parts within-limit
 
-    -- Nothing is refused of either part: a line of the first part's output has its reason there, and a line behind them the reason that it has in the
-    -- second part; behind all lines their number is told. (`finding`: formatter/specs/Format.antt; `feeds` counts line feeds: checker/specs/Named.antt.)
+    -- Nothing is refused of either part: a line of the first part's output has its reason there, and a line after them the reason that it has in the
+    -- second part; after all lines their number is told. (`finding`: formatter/specs/Format.antt; `feeds` counts line feeds: checker/specs/Named.antt.)
     pub the-reasons-of-the-parts-join : (line : ℕ) (digest₁ digest₂ : List ℕ)
         → finding l block first-part ≡ done digest₁
         → finding l block second-part ≡ done digest₂
         → explaining l block notes line ≡ bothReasons (explaining l block first-part line) (explaining l block second-part (line - feeds digest₁))
     the-reasons-of-the-parts-join = explaining-parts block notes o k block-accepted may-cut l by-parts within-limit
 
-  -- The call that measures and writes in one, with limits such as document 01's.
+  -- The call that measures and writes in one, with limits such as those of RULES 2.2.
   module _ (most words : ℕ) (within-limit : length notes ≤ most) where
     pub the-start-of-every-piece-is-a-full-boundary-for-formatting : (space : ℕ)
         → answer (limited most words) block notes space ≡ inRoom space (both done (length first-part) (measuring (limited most words) block first-part) (measuring (limited most words) block second-part))
