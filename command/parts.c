@@ -85,7 +85,18 @@ static size_t whole_lines(struct bytes known, size_t most) {
     return end;
 }
 
-/* Where the last piece begins; it may go on. What is refused is a part as it is: measuring tells why. 0 if there is a single piece. */
+/* A blank or a plain line is a piece whatever follows. */
+static size_t end_of_line(struct work *work, struct pieces *pieces, struct part *part) {
+    uint64_t reason[6] = {RUDIGNALS_END_OF_PARAGRAPH};
+    lent_explain(work, pieces->block, pieces->lines, 0, reason);
+    if (reason[0] != RUDIGNALS_BLANK_LINE && reason[0] != RUDIGNALS_PLAIN_LINE)
+        return 0;
+    part->ends_unmail = reason[0] == RUDIGNALS_PLAIN_LINE && (part->no_mail || asks_for_mail(pieces->block));
+    return pieces->lines.length;
+}
+
+/* Where the last piece begins; it may go on. What is refused is a part as it is: measuring tells why. 0 if a paragraph
+ * may go on. */
 static size_t end_at_piece(struct work *work, struct bytes block, struct bytes known, bool all, size_t most, struct part *part) {
     uint8_t room[RUDIGNALS_MOST_BLOCK];
     struct pieces pieces = {.block = block_of_part(block, part, room), .lines = {known.at, all ? known.length : whole_lines(known, most)}};
@@ -100,6 +111,8 @@ static size_t end_at_piece(struct work *work, struct bytes block, struct bytes k
         end = end_with_mail(work, &pieces, all, part);
     else if (code == RUDIGNALS_DONE)
         end = all ? pieces.lines.length : (size_t)pieces.records[pieces.filled - 1].place;
+    if (code == RUDIGNALS_DONE && end == 0)
+        end = end_of_line(work, &pieces, part);
     free_pieces(&pieces);
     return end;
 }

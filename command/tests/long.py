@@ -21,7 +21,7 @@ CUT = [
     ([], WORD + b" " * 65535 + b"\n" + WORD, WORD + b"\n" + WORD),
     ([], WORD + b"\n" + WORD[:-1], WORD + b"\n" + WORD),
     ([], LINE + b"\n" + LINE[:-1], LINE + b"\n" + LINE),
-    ([], b"x\n\n" + LINE + b"\xc2\xa0\n" + LINE, b"x\n\n" + LINE + b"\n" + LINE),
+    ([], b"x\n\n" + LINE[3:] + b"\xc2\xa0\n" + LINE, b"x\n\n" + LINE[3:] + b"\n" + LINE),
     (["--glue"], WORD + b"\xc2\xa0\n" + WORD, WORD + b"\n" + WORD),
     ([], WORD + b"\xc2\x85\n" + WORD, WORD + b"\n" + WORD),
     # no blank line at all: a piece begins with another indent, with a damaged line and behind it, with split at every line
