@@ -14,6 +14,12 @@
 #define PRINTS(sentence, values)
 #endif
 
+/* Bytes that stand somewhere. */
+struct bytes {
+    const uint8_t *at;
+    size_t length;
+};
+
 /* All zero is an empty one. */
 struct buffer {
     uint8_t *bytes;

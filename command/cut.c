@@ -10,8 +10,6 @@
  * them, are cut at; others, of U+0085 or U+00A0, are not looked for. A last line without a line feed is not cut at either. */
 #include "cut.h"
 
-#include "streams.h"
-
 #include <string.h>
 
 static bool is_blank(uint8_t byte) { return byte == ' ' || (byte >= '\t' && byte <= '\r'); }
@@ -30,14 +28,14 @@ static size_t line_end(const uint8_t *bytes, size_t length, size_t at) {
 
 bool parts_notes(const uint8_t *line, size_t length) { return length > 0 && line[length - 1] == '\n' && all_blank(line, line + length); }
 
-static size_t last_cut(const uint8_t *bytes, size_t length) {
+static size_t last_cut(const uint8_t *bytes, size_t length, size_t most) {
     size_t cut = 0, at = 0, end;
-    while (at <= MOST_PART && (end = line_end(bytes, length, at)) != 0) {
+    while (at <= most && (end = line_end(bytes, length, at)) != 0) {
         if (all_blank(bytes + at, bytes + end))
-            cut = end <= MOST_PART ? end : at;
+            cut = end <= most ? end : at;
         at = end;
     }
     return cut;
 }
 
-size_t first_part(const uint8_t *bytes, size_t length, bool ended) { return ended && length <= MOST_PART ? length : last_cut(bytes, length); }
+size_t first_part(const uint8_t *bytes, size_t length, bool ended, size_t most) { return ended && length <= most ? length : last_cut(bytes, length, most); }

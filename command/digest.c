@@ -32,11 +32,24 @@ bool make_digest(struct digest *digest, const struct options *options, struct wi
     enum found found;
     digest->text.length = 0;
     digest->refusal.code = RUDIGNALS_DONE;
-    while ((found = next_part(window, &part)) == PART)
+    while ((found = next_part(window, options, &part)) == PART)
         add_part(digest, options, &part);
     if (found == UNCUT)
         refuse_uncut(&digest->refusal, &part);
     return found != UNREAD;
+}
+
+/* The same of notes in memory; there is nothing to read. */
+bool digest_bytes(struct digest *digest, const struct options *options, struct bytes notes) {
+    struct part part = {0};
+    enum found found;
+    digest->text.length = 0;
+    digest->refusal.code = RUDIGNALS_DONE;
+    while ((found = next_part_of(&own_work, block_of(options), notes, MOST_PART, &part)) == PART)
+        add_part(digest, options, &part);
+    if (found == UNCUT)
+        refuse_uncut(&digest->refusal, &part);
+    return digest->refusal.code == RUDIGNALS_DONE;
 }
 
 static bool read_digest(const struct options *options, const char *name, struct window *window, struct digest *digest) {

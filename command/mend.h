@@ -3,12 +3,7 @@
 #define MEND_H
 
 #include "buffer.h"
-#include "rudignals.h"
-
-/* A call of the library is given at most so many bytes of notes. Tests make it small, to have many parts. */
-#ifndef MOST_PART
-#define MOST_PART RUDIGNALS_MOST_NOTES
-#endif
+#include "limits.h"
 
 /* How many lines were mended, how many bytes of them were changed, and how many of these are 80 to 9F, for which ISO 8859-1 has no letter. */
 struct mended {

@@ -39,7 +39,7 @@ static bool mend_window(const char *label, struct window *window, struct buffer 
     unsigned long place = 0;
     size_t length;
     do {
-        if (!fill_window(window)) {
+        if (!fill_window(window, 2 * MOST_PART)) {
             say_failure(label, errno);
             return false;
         }

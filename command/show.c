@@ -27,7 +27,7 @@ static bool read_window(struct window *window, const struct options *options, st
         return false;
     while (digest->refusal.code != RUDIGNALS_DONE && !window->ended) {
         window->length = 0;
-        if (!fill_window(window))
+        if (!fill_window(window, MOST_PART))
             return false;
     }
     return true;

@@ -272,7 +272,7 @@ def refused():
     rows = [str(i) for i in range(5, 25)] + ["z" * 79 + "+"]
     wanted = frame(rows, "refused: 31 lines, 1 damaged, 1 cut; above: 8 lines, 1 damaged; 2 blank below", failure=REASON)
     expect("the same, cut", shown(["--cut"], notes), (1, wanted, said))
-    long = b"a" * 65537 + b"\n" + b"\n".join(b"line %d" % i for i in range(40000))
+    long = b"a" * 1048577 + b"\n" + b"\n".join(b"line %d" % i for i in range(40000))
     status, output, errors = shown([], long)
     lines = output.split("\n")
     expect("too long: to the end", (status, lines[21][1:12], bar_of(output)[-1]), (1, "line 39999 ", WITH_NOTES))

@@ -197,13 +197,11 @@ def columns(command, tell):
 FAILURES = [
     ([], b"ok\n\n41\xb0C\nend\n", 1, "REFUSED", "line 3, column 3: byte B0 begins no UTF-8 character", (b"ok\n\n41\xb0C\nend\n", b"\xb0")),
     ([], b"x\n" * 9 + b"\xff\xff\n" + b"y\n" * 9, 1, "REFUSED", "line 10, column 1", (b"x\n" * 3 + b"\xff\xff\n" + b"y\n" * 3, b"\xff")),
-    ([], b"\n" + b"a " * 1025 + b"\n", 1, "REFUSED", "more than 1024 words", (b"\n" + b"a " * 1025 + b"\n", None)),
-    ([], b"a" * 65537, 1, "REFUSED", "more than 65536 bytes", (b"a" * 65537, None)),
+    ([], b"\n" + b"a " * 524289 + b"\n", 1, "REFUSED", "more than 1048576 bytes", None),
     (["-w", "5"], b"a\n", 2, "REFUSED: there may be notes", "--width 5: must be 6 to 1000 without --goal", None),
     (["none"], b"", 1, "NOT READ", "none: No such file or directory", None),
     (["a", "b"], b"", 2, "NOT READ", "the page shows one file, and 2 are named", None),
     (["--no-such"], b"", 2, "NOT READ", "said why on standard error", None),
-    ([], b" " * 60000 + b"a " * 1000, 1, "REFUSED", "a page shows at most 65536 and 4194304", None),
 ]
 
 
@@ -239,6 +237,23 @@ def edges(command, tell):
     long = b"filler words\nof a long night\n\n" * 3000 + b"the\nend\n"
     page = command.page([], long)[1]
     tell("a file over 65,536 bytes", (page.faults, page.all_notes() == long, page.digest() == command.run(["format"], long).stdout), ([], True, True))
+
+
+def above(command, tell):
+    """Of a digest that no page has room for the last lines are shown, with their numbers, their notes and their reasons; the others are counted."""
+    tail = b"a\nb\n\n" * 20000
+    for arguments, notes, count in (["--keep"], b"41\xb0C\n\n" * 3 + b"c\n\n" * 20000 + tail, 80006), (["-m", "--keep"], b"41\xb0C\n\n" * 3 + b"c\n\n" * 20000 + tail, 80006):
+        status, page, _ = command.page(arguments, notes)
+        hidden = count - 65536
+        tell("a long digest", (status, page.faults, len(page.lines), page.lines[0][0], page.lines[-1][0]), (0, [], 65536, hidden + 1, count))
+        tell("a long digest: what is above", page.warned["a"][0].strip(), f"{hidden:,} lines above are not on this page, 3 of them damaged: it has room for the last of the digest. rudignals format writes all of it.")
+        tell("a long digest: its end", page.digest(), command.run(["format", *arguments], notes).stdout.split(b"\n", hidden)[-1])
+        tell("a long digest: its notes", notes.endswith(page.all_notes()) and len(page.all_notes()) > len(tail), True)
+    # one paragraph, of which the last lines are shown
+    wide = b" " * 60000 + b"a " * 1000
+    status, page, _ = command.page([], wide)
+    tell("a wide digest", (status, page.faults, len(page.lines), page.lines[-1][0], page.warned["a"][0].split(" lines")[0]), (0, [], 69, 1000, "931"))
+    tell("a wide digest: why its lines end", [words for _, (_, reasons, _, _) in list(page.pieces.items()) for _, words, _, _ in list(reasons.values())[-1:]], ["Its paragraph ends here."])
 
 
 # Of every kind that a wall folds: a damaged line, words without blanks, an address; more rows than there are; and a wall without a digest.
@@ -306,6 +321,7 @@ def run_all(command, tell, seed, count):
     failures(command, tell)
     edges(command, tell)
     wall_view(command, tell)
+    above(command, tell)
     faults(command, tell)
     for arguments, block in OPTIONS:
         for _ in range(count):

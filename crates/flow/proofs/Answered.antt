@@ -4,7 +4,7 @@ use mathlib.Core.Bool.{Bool, true, false, false≢true}
 use mathlib.Core.List.{List}
 use Prim.Native.Nat.{ℕ, _^_, _≤_, _<_, max}
 use native.Mathlib.Omega.{arith}
-use lib.Dec.{leb, ltb}
+use lib.Dec.{ltb}
 use lib.ListN.{length, replicate}
 use borrow.Author.Tests.{lt-ltb, le-ltb, le-leb, lt-leb}
 use Rattle.text.specs.declared.Found.{Found}
@@ -25,7 +25,7 @@ use Rattle.walk.proofs.Lent.{enough}
 use Rattle.walk.proofs.Unique.{nowhere-else}
 use Rattle.formatter.specs.Answers.{Answer, done, options, long, text, words, room, work, code, outputAfter}
 use Rattle.formatter.specs.Format.{Limits, document01, damageIn, within, withWork, withText, withNotes, withBlock, mostTold, measuring}
-use Rattle.formatter.specs.Work.{mostLent, lending}
+use Rattle.formatter.specs.Work.{lending}
 use Rattle.formatter.specs.Contracts.Call.{told, replyNumber, Refuses, Admits}
 use Rattle.formatter.specs.declared.Reply.{Reply}
 use Rattle.formatter.specs.declared.Reply.the-variants.{Done, Options as Faulty, Words, Room, Work}

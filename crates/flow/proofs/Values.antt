@@ -1,8 +1,8 @@
 -- What the writer's answer tells has no more than 32 bits, so code and value can be read back from its number.
-use mathlib.Core.Path.{_≡_, refl}
+use mathlib.Core.Path.{_≡_, refl, sym, ap, _∙_}
 use mathlib.Core.Bool.{Bool, true, false, cond, _||_}
 use mathlib.Core.List.{List}
-use Prim.Native.Nat.{ℕ, _/_, _%_, _^_, _≤_}
+use Prim.Native.Nat.{ℕ, _/_, _%_, _^_, _≤_, _<_}
 use native.Mathlib.Omega.{arith}
 use lib.Dec.{leb}
 use lib.ListN.{length}
@@ -15,8 +15,10 @@ use Rattle.options.specs.declared.Block.the-variants.{Accepted, Fault}
 use Rattle.options.proofs.Accepted.{accepted}
 use Rattle.pieces.specs.Pieces.{pieces}
 use Rattle.walk.specs.Digest.{mostWords}
-use Rattle.formatter.specs.Answers.{Answer, done, options, room, code, value, numbered}
+use Rattle.formatter.specs.Answers.{Answer, done, options, room, work, code, value, numbered}
 use Rattle.formatter.specs.Format.{Words, upTo, lent, Limits, mostTold}
+use Rattle.formatter.specs.Work.{lending}
+use Rattle.formatter.proofs.Work.{Never, asked-notes}
 use Rattle.formatter.proofs.Answers.{Enough}
 use Rattle.formatter.proofs.Faults.{fault-small, accepted-small}
 use Rattle.formatter.proofs.Values.{Modest, Sound, long-fewer, notes-value, reads-back}
@@ -60,3 +62,35 @@ pub flow-tells-code-and-value : (l : Limits) → Sound l → (block notes : List
     → (numbered (flow l block notes space) / 2 ^ 32 ≡ code (flow l block notes space)) × (numbered (flow l block notes space) % 2 ^ 32 ≡ value (flow l block notes space))
 unfolding numbered
 flow-tells-code-and-value l sound block notes space = reads-back (code (flow l block notes space)) (value (flow l block notes space)) (flow-value l sound block notes space)
+
+-- ---- where working room is lent
+
+-- What is sent asks for none, so the writer too is refused so exactly when less is lent than is needed: 7 numbers for each word of the longest
+-- paragraph. With the room that was told it is not refused so again.
+sent-never : (lends space : ℕ) (o : Opts) (notes : List ℕ) → Never (λ d. sentIn (lending lends .words) space (flowed o notes))
+sent-never lends space o notes d n e = go (leb (length (flowed o notes)) mostTold) (leb (length (flowed o notes)) space) e
+  where
+    go : (a b : Bool) → cond a (cond b (done (flowed o notes)) (room (length (flowed o notes)))) (room mostTold) ≡ work n → ⊥
+    go true true k = let z = ap code k in omega (arith, z)
+    go true false k = let z = ap code k in omega (arith, z)
+    go false b k = let z = ap code k in omega (arith, z)
+
+module _ (block notes : List ℕ) where
+  asked-block : (lends space : ℕ) (b : Block) (n : ℕ) → sentBlock (lending lends) space block notes b ≡ work n → (needed : ℕ) (more other : ℕ) → sentBlock (lending more) other block notes b ≡ work needed → (n ≡ needed) × (more < needed)
+  asked-block lends space (Fault place) n e needed more other f = absurd (let z = ap code e in omega (arith, z))
+  asked-block lends space (Accepted o) n e needed more other f = go (unfit block) e f
+    where
+      m : Opts
+      m = mailed (meant block o)
+
+      go : (b : Bool) → elim b as (λ t. Answer) [ true ↦ options (length block) | false ↦ sentNotes (lending lends) space m notes ] ≡ work n
+          → elim b as (λ t. Answer) [ true ↦ options (length block) | false ↦ sentNotes (lending more) other m notes ] ≡ work needed → (n ≡ needed) × (more < needed)
+      go true j k = absurd (let z = ap code j in omega (arith, z))
+      go false j k =
+          let a = asked-notes notes (λ d. sentIn (lending lends .words) space (flowed m notes)) (sent-never lends space m notes) lends m n j in
+          let b = asked-notes notes (λ d. sentIn (lending more .words) other (flowed m notes)) (sent-never more other m notes) more m needed k in
+          (a .0 ∙ sym (b .0), b .1)
+
+  pub the-room-asked-for-suffices-to-send : (lends space needed more other : ℕ) → flow (lending lends) block notes space ≡ work needed → needed ≤ more → (n : ℕ) → flow (lending more) block notes other ≡ work n → ⊥
+  unfolding flow
+  the-room-asked-for-suffices-to-send lends space needed more other e h n f = let a = asked-block lends space (readBlock block) needed e n more other f in omega (arith, a .0, a .1, h)

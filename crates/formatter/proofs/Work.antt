@@ -1,11 +1,11 @@
 -- Lent working room: N of code 12 can be told; a call is refused so exactly when less is lent than is needed; and with the room that was told
 -- it is not refused so again.
-use mathlib.Core.Path.{_≡_, refl, sym, ap}
-use mathlib.Core.Bool.{Bool, true, false}
+use mathlib.Core.Path.{_≡_, refl, sym, ap, _∙_}
+use mathlib.Core.Bool.{Bool, true, false, cond}
 use mathlib.Core.List.{List}
-use Prim.Native.Nat.{ℕ, _≤_, _<_}
+use Prim.Native.Nat.{ℕ, _+_, _*_, _≤_, _<_}
 use native.Mathlib.Omega.{arith}
-use lib.Dec.{ltb}
+use lib.Dec.{leb, ltb}
 use lib.ListN.{length}
 use borrow.Author.Tests.{ltb-true}
 use Rattle.text.specs.declared.Found.{Found}
@@ -18,37 +18,50 @@ use Rattle.options.specs.declared.Block.the-variants.{Accepted, Fault}
 use Rattle.walk.specs.Digest.{digest}
 use Rattle.walk.specs.Work.{workFor}
 use Rattle.walk.proofs.Work.{work-most}
-use Rattle.formatter.specs.Answers.{Answer, done, options, long, work, code, value}
-use Rattle.formatter.specs.Format.{withText, damageIn, finding}
+use Rattle.formatter.specs.Answers.{Answer, done, options, long, text, words, room, work, code, value}
+use Rattle.formatter.specs.Format.{withText, damageIn, withNotes, finding, mostTold, isTold, measuring, inRoom, writing}
 use Rattle.formatter.specs.Work.{mostLent, lending}
+use Rattle.formatter.proofs.Together.{retold, measured-at-once}
 use Rattle.formatter.proofs.Values.{Sound}
 
 -- N can be told.
 pub lending-sound : (lends : ℕ) → Sound (lending lends)
 lending-sound lends = record { short = omega arith; modest = λ o notes h. let w = work-most o notes in omega (arith, w, h) }
 
+-- ---- what is answered with the digest never asks for working room
+
+abbrev pub Never : (List ℕ → Answer) → Type 0
+Never then = (d : List ℕ) (n : ℕ) → then d ≡ work n → ⊥
+
 -- A call is refused for working room exactly when less is lent than is needed, and N is what is needed ..
+module _ (notes : List ℕ) (then : List ℕ → Answer) (never : Never then) (lends : ℕ) (o : Opts) where
+  work-asked : (b : Bool) (n : ℕ) → ltb lends (workFor o notes) ≡ b → elim b as (λ t. Answer) [ true ↦ work (workFor o notes) | false ↦ then (digest o notes) ] ≡ work n
+      → (n ≡ workFor o notes) × (lends < n)
+  work-asked true n t e = let z : workFor o notes ≡ n = ap value e in (sym z, rw (← z) (ltb-true lends (workFor o notes) t))
+  work-asked false n t e = absurd (never (digest o notes) n e)
+
+  asked-text : (f : Found) (n : ℕ) → withText (lending lends .words) then o notes f ≡ work n → (n ≡ workFor o notes) × (lends < n)
+  asked-text (At place) n e = absurd (let z = ap code e in omega (arith, z))
+  asked-text Nowhere n e = work-asked (ltb lends (workFor o notes)) n refl e
+
+  pub asked-notes : (n : ℕ) → withNotes (lending lends) then o notes ≡ work n → (n ≡ workFor o notes) × (lends < n)
+  asked-notes n e = go (ltb mostLent (length notes)) e
+    where
+      go : (b : Bool) → elim b as (λ t. Answer) [ true ↦ long | false ↦ withText (lending lends .words) then o notes (damageIn (o .keep) notes) ] ≡ work n → (n ≡ workFor o notes) × (lends < n)
+      go true k = absurd (let z = ap code k in omega (arith, z))
+      go false k = asked-text (damageIn (o .keep) notes) n k
+
+-- a digest that was found, measured or written asks for none
+found-never : Never done
+found-never d n e = let z = ap code e in omega (arith, z)
+
 module _ (block notes : List ℕ) where
-  work-asked : (lends : ℕ) (o : Opts) (b : Bool) (d : List ℕ) (n : ℕ) → ltb lends (workFor o notes) ≡ b → elim b as (λ t. Answer) [ true ↦ work (workFor o notes) | false ↦ done d ] ≡ work n
-      → (n ≡ workFor o notes) × (lends < n)
-  work-asked lends o true d n t e = let z : workFor o notes ≡ n = ap value e in (sym z, rw (← z) (ltb-true lends (workFor o notes) t))
-  work-asked lends o false d n t e = absurd (let z = ap code e in omega (arith, z))
-
-  asked-text : (lends : ℕ) (o : Opts) (f : Found) (n : ℕ) → withText (lending lends .words) done o notes f ≡ work n → (n ≡ workFor o notes) × (lends < n)
-  asked-text lends o (At place) n e = absurd (let z = ap code e in omega (arith, z))
-  asked-text lends o Nowhere n e = work-asked lends o (ltb lends (workFor o notes)) (digest o notes) n refl e
-
-  asked-notes : (lends : ℕ) (o : Opts) (b : Bool) (n : ℕ) → elim b as (λ t. Answer) [ true ↦ long | false ↦ withText (lending lends .words) done o notes (damageIn (o .keep) notes) ] ≡ work n
-      → (n ≡ workFor o notes) × (lends < n)
-  asked-notes lends o true n e = absurd (let z = ap code e in omega (arith, z))
-  asked-notes lends o false n e = asked-text lends o (damageIn (o .keep) notes) n e
-
   pub the-room-asked-for-is-the-room-needed : (lends needed : ℕ) (o : Options) → readBlock block ≡ Accepted o → finding (lending lends) block notes ≡ work needed
       → (needed ≡ workFor (meant block o) notes) × (lends < needed)
   unfolding finding
-  the-room-asked-for-is-the-room-needed lends needed o b e = asked-notes lends (meant block o) (ltb mostLent (length notes)) needed (rw b at e)
+  the-room-asked-for-is-the-room-needed lends needed o b e = asked-notes notes done found-never lends (meant block o) needed (rw b at e)
 
-  -- .. so a host that lends N is not refused so again.
+  -- .. so a host that lends N is not refused so again ..
   pub the-room-asked-for-suffices : (lends needed more : ℕ) → finding (lending lends) block notes ≡ work needed → needed ≤ more → (n : ℕ) → finding (lending more) block notes ≡ work n → ⊥
   unfolding finding
   the-room-asked-for-suffices lends needed more e h n f = go (readBlock block) refl
@@ -59,3 +72,58 @@ module _ (block notes : List ℕ) where
           let a = the-room-asked-for-is-the-room-needed lends needed o q e in
           let b = the-room-asked-for-is-the-room-needed more n o q f in
           omega (arith, a .0, b .0, b .1, h)
+
+  -- .. and N is never more than 8 numbers for each byte of the notes and one.
+  pub no-more-is-asked-for : (lends needed : ℕ) → finding (lending lends) block notes ≡ work needed → needed ≤ 8 * (length notes + 1)
+  unfolding finding
+  no-more-is-asked-for lends needed e = go (readBlock block) refl
+    where
+      go : (b : Block) → readBlock block ≡ b → needed ≤ 8 * (length notes + 1)
+      go (Fault place) q = absurd (let z : options place ≡ work needed = rw q at e in let c = ap code z in omega (arith, c))
+      go (Accepted o) q = let a = the-room-asked-for-is-the-room-needed lends needed o q e in let m = work-most (meant block o) notes in omega (arith, a .0, m)
+
+  -- So of measuring and of writing, which ask for room where it is found to lack.
+  retold-found : (lends : ℕ) (a : Answer) (n : ℕ) → retold (lending lends .words) a ≡ work n → a ≡ work n
+  retold-found lends (done d) n e = absurd (go (isTold (lending lends .words) (length d)) e)
+    where
+      go : (b : Bool) → cond b (done d) (room mostTold) ≡ work n → ⊥
+      go true k = let z = ap code k in omega (arith, z)
+      go false k = let z = ap code k in omega (arith, z)
+  retold-found lends (options place) n e = e
+  retold-found lends long n e = e
+  retold-found lends (text place) n e = e
+  retold-found lends (words place) n e = e
+  retold-found lends (room needed) n e = e
+  retold-found lends (work needed) n e = e
+
+  measured-found : (lends n : ℕ) → measuring (lending lends) block notes ≡ work n → finding (lending lends) block notes ≡ work n
+  measured-found lends n e = retold-found lends (finding (lending lends) block notes) n (measured-at-once (lending lends) block notes ∙ e)
+
+  written-measured : (space : ℕ) (a : Answer) (n : ℕ) → inRoom space a ≡ work n → a ≡ work n
+  written-measured space (done d) n e = absurd (go (leb (length d) space) e)
+    where
+      go : (b : Bool) → cond b (done d) (room (length d)) ≡ work n → ⊥
+      go true k = let z = ap code k in omega (arith, z)
+      go false k = let z = ap code k in omega (arith, z)
+  written-measured space (options place) n e = e
+  written-measured space long n e = e
+  written-measured space (text place) n e = e
+  written-measured space (words place) n e = e
+  written-measured space (room needed) n e = e
+  written-measured space (work needed) n e = e
+
+  pub the-room-asked-for-suffices-to-measure : (lends needed more : ℕ) → measuring (lending lends) block notes ≡ work needed → needed ≤ more → (n : ℕ) → measuring (lending more) block notes ≡ work n → ⊥
+  the-room-asked-for-suffices-to-measure lends needed more e h n f = the-room-asked-for-suffices lends needed more (measured-found lends needed e) h n (measured-found more n f)
+
+  -- what measuring asks for suffices to write, and the other way round
+  pub the-room-asked-for-suffices-to-write : (lends needed more space : ℕ) → measuring (lending lends) block notes ≡ work needed → needed ≤ more → (n : ℕ) → writing (lending more) block notes space ≡ work n → ⊥
+  unfolding writing
+  the-room-asked-for-suffices-to-write lends needed more space e h n f =
+      the-room-asked-for-suffices-to-measure lends needed more e h n (written-measured space (measuring (lending more) block notes) n f)
+
+  pub writing-asks-for-what-measuring-asks-for : (lends needed space : ℕ) → writing (lending lends) block notes space ≡ work needed → measuring (lending lends) block notes ≡ work needed
+  unfolding writing
+  writing-asks-for-what-measuring-asks-for lends needed space e = written-measured space (measuring (lending lends) block notes) needed e
+
+  pub no-more-is-asked-for-to-measure : (lends needed : ℕ) → measuring (lending lends) block notes ≡ work needed → needed ≤ 8 * (length notes + 1)
+  no-more-is-asked-for-to-measure lends needed e = no-more-is-asked-for lends needed (measured-found lends needed e)

@@ -30,6 +30,7 @@ use Rattle.pieces.proofs.Columns.{spaces-feedless, feedless-append, first-feedl
 use Rattle.pieces.proofs.Extents.{Feedless, Rows}
 use Rattle.records.specs.Word.{Word}
 use Rattle.words.specs.Words.{rowWords, wordsOf}
+use Rattle.words.proofs.Halves.{bytes-many}
 use Rattle.words.proofs.Spelled.{Spelled, row-spelled}
 use Rattle.words.proofs.Order.{Whole, paragraph-some, paragraph-whole}
 use Rattle.output.specs.Emission.{lineFeed, spaceBefore, emitRest, emit}
@@ -37,7 +38,6 @@ use Rattle.output.proofs.Indents.{Feedless as Feed, indent-for-feedless}
 use Rattle.walk.specs.Digest.{formatted, outputOf, extentOf}
 use Rattle.walk.specs.Contracts.Course.{piecesFrom}
 use Rattle.walk.proofs.Bound.{Shorter, lines-shorter}
-use Rattle.walk.proofs.Work.{bytes-many}
 use Rattle.indexer.specs.Index.{lineCount}
 
 -- ---- the lines of a text, counted

@@ -3,6 +3,18 @@
 use super::Best;
 use super::Break;
 use super::Turn;
+use super::store::bits_of;
+use super::store::get_break;
+use super::store::lesser;
+use super::store::number;
+use super::store::store_break;
+use super::turns::NOTHING;
+use super::turns::either;
+use super::turns::extended;
+use super::turns::offered;
+use super::turns::restarted;
+use super::turns::sentence_behind;
+use super::turns::turn_of;
 use records::Before;
 use records::Word;
 use spacing::Setting;
@@ -87,7 +99,7 @@ fn pass(breaks: &[u32], g: Setting, x: usize, head: usize, size: usize) -> usize
     let end = x + g.indent;
     let mut k = head;
     while k < size {
-        if end <= g.width + super::number(breaks, k, 6) {
+        if end <= g.width + number(breaks, k, 6) {
             return k;
         }
         k += 1;
@@ -103,7 +115,7 @@ fn first_least(breaks: &[u32], head: usize, size: usize) -> usize
     let mut found = head;
     let mut k = head + 1;
     while k < size {
-        found = super::lesser(breaks, found, k);
+        found = lesser(breaks, found, k);
         k += 1;
     }
     found
@@ -117,18 +129,18 @@ fn best_offer(breaks: &[u32], g: Setting, turn: Turn, x: usize, head: usize, siz
     let minimum = g.goal - (g.width - g.goal);
     let end = x + g.indent;
     let mut best = Best {
-        total: super::NOTHING,
+        total: NOTHING,
         previous: 0,
         ratio: 0.0,
     };
     let mut k = head;
     while k < size {
-        let b = super::get_break(breaks, k);
+        let b = get_break(breaks, k);
         let t = end - b.columns;
         if t < minimum {
             return best;
         }
-        best = super::offered(g, turn, k, b, t, best);
+        best = offered(g, turn, k, b, t, best);
         k += 1;
     }
     best
@@ -164,7 +176,7 @@ fn viewed(g: Setting, i: usize, p: usize, n: usize, b: Break) -> Break
     ensures { λ r. ⌜ r ≡ I.viewOf g i p n b ⌝ }
 {
     let fresh = is_fresh(i, n, b);
-    let columns = super::either(fresh, g.indent, columns_from(b.columns, p + g.indent));
+    let columns = either(fresh, g.indent, columns_from(b.columns, p + g.indent));
     Break {
         previous: b.previous,
         word: b.word,
@@ -195,9 +207,9 @@ fn again(breaks: &[u32], g: Setting, turn: Turn, s: Interval, x: usize, gap: usi
 {
     let w = turn.word;
     let n = first_least(breaks, s.head, s.size);
-    let least = viewed(g, turn.number, s.line, n, super::get_break(breaks, n));
-    let b = super::restarted(g, turn, n, least);
-    super::extended(b, base_of(b.before, x, w.width, gap))
+    let least = viewed(g, turn.number, s.line, n, get_break(breaks, n));
+    let b = restarted(g, turn, n, least);
+    extended(b, base_of(b.before, x, w.width, gap))
 }
 
 // The break that the best offer is, after word i.
@@ -210,7 +222,7 @@ fn made(best: Best, i: usize, base: usize) -> Break
         word: i,
         before: false,
         demerits: best.total,
-        ratio: super::bits_of(best.ratio),
+        ratio: bits_of(best.ratio),
         columns: base,
         fresh: false,
     }
@@ -237,9 +249,9 @@ fn round(
     let line = s.line + word.after + space + word.width;
     let head = pass(breaks, g, line, s.head, size);
     if head == size {
-        let turn = super::turn_of(g, word, i, space, last);
+        let turn = turn_of(g, word, i, space, last);
         let b = again(breaks, g, turn, s, line, gap);
-        super::store_break(breaks, size, b);
+        store_break(breaks, size, b);
         return Interval {
             head: size,
             size: size + 1,
@@ -250,13 +262,13 @@ fn round(
         // The last line costs nothing: what is offered behind it changes no path.
         return Interval { head, size, line };
     }
-    if line + g.indent < g.goal - (g.width - g.goal) + super::number(breaks, head, 6) {
+    if line + g.indent < g.goal - (g.width - g.goal) + number(breaks, head, 6) {
         return Interval { head, size, line };
     }
-    let turn = super::turn_of(g, word, i, space, last);
+    let turn = turn_of(g, word, i, space, last);
     let best = best_offer(breaks, g, turn, line, head, size);
     let b = made(best, i, line + gap);
-    super::store_break(breaks, size, b);
+    store_break(breaks, size, b);
     Interval {
         head,
         size: size + 1,
@@ -297,7 +309,7 @@ fn rounds(g: Setting, work: &mut [u32], n: usize) -> Interval
         columns: g.indent,
         fresh: false,
     };
-    super::store_break(&mut work[base..end], 0, first);
+    store_break(&mut work[base..end], 0, first);
     let mut s = Interval {
         head: 0,
         size: 1,
@@ -318,7 +330,7 @@ fn rounds(g: Setting, work: &mut [u32], n: usize) -> Interval
             s,
             &mut work[base..end],
         );
-        sentence = super::sentence_behind(work, n, i);
+        sentence = sentence_behind(work, n, i);
         i += 1;
     }
     s

@@ -50,7 +50,7 @@ body-run s i (suc n) h all =
 pub body-eight : (s : List ℕ) (i : ℕ) → i + 8 ≤ length s → allAt noFeed s i 7 ≡ true → i + length (body (drop i s)) ≡ (i + 8) + length (body (drop (i + 8) s))
 body-eight s i h e = body-run s i 7 (omega arith) (λ k a b. all-each noFeed s i 7 e k a b)
 
-body-within : (s : List ℕ) → length (body s) ≤ length s
+pub body-within : (s : List ℕ) → length (body s) ≤ length s
 unfolding body
 body-within s = while-within noFeed s
 

@@ -1,3 +1,4 @@
 pub mod Tables
 pub mod Breaking
 pub mod Unique
+pub mod Streaming

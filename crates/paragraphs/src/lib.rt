@@ -2,12 +2,13 @@
 use options::Options;
 use output::Layout;
 use pieces::Paragraph;
+use regular::Put;
 use spacing::Setting;
 use words::Count;
 ghost use mathlib.Core.Path.{_≡_};
-ghost use mathlib.Core.Bool.{cond, _||_};
+ghost use mathlib.Core.Bool.{cond, true, false, _||_};
 ghost use mathlib.Core.List.{List};
-ghost use Prim.Native.Nat.{ℕ, _*_, _^_, _≤_, _<_};
+ghost use Prim.Native.Nat.{ℕ, _+_, _*_, _^_, _≤_, _<_};
 ghost use lib.ListN.{length};
 ghost use Rattle.lines.specs.Contracts.Places.{mostLarge};
 ghost use Rattle.knuth_plass.specs.Contracts.Round.{Limits, AllNarrow};
@@ -55,6 +56,69 @@ pub fn numbers_for(quick: bool, words: usize) -> usize
 // Writes a paragraph, unless it has more words than there is room for.
 // In the original: `break_lines`.
 pub fn put_paragraph(
+    notes: &[u8],
+    at: usize,
+    o: Options,
+    p: Paragraph,
+    out: &mut [u8],
+    written: usize,
+    work: &mut [u32],
+) -> Step
+    requires { ⌜ Placed (now notes) at o p × (written < 2 ^ 62) ⌝ }
+    ensures { λ r. ⌜ ((block : List ℕ) → TextStepped (roomFor (o .quick) (length (now (work .entry)))) (now (notes .entry)) at o p (now (out .entry)) written (now (out .exit)) r block) ⌝ }
+{
+    let most = room_for(o.quick, work.len());
+    let next = p.next;
+    if !is_streamed(o, p, next - at, most) {
+        return put_by_table(notes, at, o, p, out, written, work);
+    }
+    let first = p.first;
+    let indent = p.indent;
+    let Put::Done(end) = regular::put_quick(
+        notes,
+        at,
+        next,
+        p.start,
+        p.later,
+        o,
+        setting_of(o, p),
+        first,
+        indent,
+        out,
+        written,
+        most,
+        work,
+    ) else {
+        return put_by_table(notes, at, o, p, out, written, work);
+    };
+    Step::On(Cursor {
+        at: next,
+        written: end,
+        mail: p.mail,
+    })
+}
+
+// Whether a paragraph of so many bytes can be written as it is read: broken quick, with its gaps kept, and with words that are few enough
+// whatever its bytes are, of which every second one at most begins a word.
+fn is_streamed(o: Options, p: Paragraph, size: usize, most: usize) -> bool
+    requires { ⌜ size < 2 ^ 32 ⌝ }
+    ensures { λ r. ⌜ (r ≡ true → (o .quick ≡ true) × (o .uniform ≡ false) × (p .mail ≡ false) × (size ≤ 2 * most)) ⌝ }
+{
+    if !o.quick {
+        return false;
+    }
+    if o.uniform {
+        return false;
+    }
+    if p.mail {
+        return false;
+    }
+    (size + 1) / 2 <= most
+}
+
+// The same by a table of its words.
+// In the original: `break_lines`.
+fn put_by_table(
     notes: &[u8],
     at: usize,
     o: Options,

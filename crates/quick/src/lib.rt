@@ -18,7 +18,7 @@ ghost use Rattle.quick.specs.QuickLines.{quickLines};
 
 // The column that a word reaches if it goes on the line; punct is the mark of the word before it.
 // In the original: `accum_words_simple`.
-fn reach(g: Setting, column: usize, punct: bool, w: Word) -> usize
+pub fn reach(g: Setting, column: usize, punct: bool, w: Word) -> usize
     requires { ⌜ Fair g × Small w × (column < 2 ^ 34) ⌝ }
     ensures { λ r. ⌜ (r ≡ column + gapWidth (g .tab) column (w .before) (w .after) + addedSpace (g .uniform) (w .first) (w .sentence) punct + w .width) × (r < 2 ^ 36) ⌝ }
 {

@@ -4,14 +4,11 @@ use mathlib.Core.Path.{_≡_, refl, sym, ap, _∙_}
 use mathlib.Core.Bool.{Bool, true, false, cond}
 use mathlib.Core.List.{List, [], _∷_}
 use Prim.Native.Nat.{ℕ, _+_, _-_, _*_, _/_, _≤_, _<_, max}
-use native.Mathlib.Nat.{max-le}
 use native.Mathlib.Omega.{arith}
 use lib.ListN.{length}
 use lib.Seq.{slice, length-slice}
 use borrow.Author.Tests.{le-ltb}
-use Rattle.lists.specs.Runs.{joined}
-use Rattle.text.specs.declared.Found.{Found}
-use Rattle.text.specs.declared.Found.the-variants.{At, Nowhere}
+use Rattle.text.specs.declared.Found.the-variants.{Nowhere}
 use Rattle.options.specs.Opts.{Opts, meant}
 use Rattle.options.specs.declared.Options.{Options}
 use Rattle.lines.specs.Lines.{linesOf}
@@ -24,8 +21,7 @@ use Rattle.words.proofs.Rows.{words-same}
 use Rattle.paragraphs.specs.Contracts.Steps.{roomFor, wordsFor}
 use Rattle.walk.specs.Digest.{extentOf, tooMany, longParagraph}
 use Rattle.walk.specs.Work.{workOf, mostWork, workFor}
-use Rattle.walk.specs.Contracts.Course.{Admitted, piecesFrom, longFrom, FirstPiece, TextAhead}
-use Rattle.paragraphs.specs.declared.Cursor.{Cursor}
+use Rattle.walk.specs.Contracts.Course.{piecesFrom, longFrom, FirstPiece}
 use Rattle.walk.proofs.Meaning.{TextGoes}
 use Rattle.walk.proofs.Rows.{text-words}
 use Rattle.walk.proofs.Work.{paragraph-half, trail-upto}

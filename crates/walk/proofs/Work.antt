@@ -11,95 +11,19 @@ use Rattle.lists.specs.Theorems.All.{All}
 use Rattle.lists.proofs.All.{all-weaken}
 use Rattle.lists.proofs.Parts.{joined-nil, joined-cons}
 use Rattle.lists.proofs.Walk.{each-nil, each-step}
-use Rattle.text.specs.Characters.{Glyph, glyphs}
-use Rattle.text.proofs.Extents.{Sound as SoundGlyph, glyphs-sound}
-use Rattle.text.proofs.Edges.{glyphs-joined}
 use Rattle.options.specs.Opts.{Opts}
 use Rattle.lines.specs.Lines.{Line, body, firstLine, linesOf}
-use Rattle.lines.specs.Classes.{glyphsBefore, glyphsFrom}
 use Rattle.lines.specs.Contracts.Places.{lengthsOf}
 use Rattle.lines.proofs.Lines.{text-in-body, lengths}
-use Rattle.lines.proofs.Ink.{upTo-from}
-use Rattle.pieces.specs.Pieces.{Row, Piece, Kind, blankLine, plainLine, paragraph, Paragraph, rowOf, pieces}
+use Rattle.pieces.specs.Pieces.{Piece, Kind, blankLine, plainLine, paragraph, Paragraph, rowOf, pieces}
 use Rattle.pieces.proofs.Extents.{Rows, OfKind, OfPiece, linesIn, pieces-lines, pieces-rows}
-use Rattle.words.specs.Words.{Run, counting, punctAtEnd, lineWords, mailWords, glyphBytes, runs, rowWords, wordsOf}
-use Rattle.words.proofs.Spelled.{Parted, Splits, runs-split}
-use Rattle.words.proofs.Gaps.{line-lined, from-lined}
+use Rattle.words.specs.Words.{rowWords, wordsOf}
+use Rattle.words.proofs.Halves.{row-half}
 use Rattle.walk.specs.Digest.{extentOf}
 use Rattle.walk.specs.Standing.{wordsUnder}
 use Rattle.walk.specs.Work.{workOf, mostWork, workFor}
 use Rattle.walk.proofs.Bound.{Shorter}
 use Rattle.walk.proofs.Extents.{extents-are-notes, extents-some}
-
--- ---- a line: a word has a glyph, and a blank between it and the one before
-
--- of glyphs that begin with a blank, if there are any, every second one at most begins a word
-module _ (glue : Bool) where
-  -- the words of runs, by their number alone
-  inked : List Run → ℕ
-  inked [] = 0
-  inked (r ∷ rs) = elim (r .text) as (λ t. ℕ) [ [] ↦ 0 | g ∷ (gs → h) ↦ suc (inked rs) ]
-
-  inked-few : (rs : List Run) (gs : List Glyph) → Splits glue rs gs → (2 * inked rs ≤ length gs + 1) × (Parted glue gs → 2 * inked rs ≤ length gs)
-  unfolding inked
-  inked-few [] gs s = (omega arith, λ p. omega arith)
-  inked-few (r ∷ rs) gs s = go (r .text) refl (inked-few rs (s .0) (s .2) .1 (s .1 .next))
-    where
-      parts : length gs ≡ length (r .blanks) + (length (r .text) + length (s .0))
-      parts = ap length (s .1 .parts) ∙ length-append (r .blanks) (r .text ++ s .0) ∙ ap (λ (n : ℕ). length (r .blanks) + n) (length-append (r .text) (s .0))
-
-      go : (t : List Glyph) → r .text ≡ t → 2 * inked rs ≤ length (s .0) → (2 * inked (r ∷ rs) ≤ length gs + 1) × (Parted glue gs → 2 * inked (r ∷ rs) ≤ length gs)
-      go [] e ih = (rw (inked, e) (omega arith), λ p. rw (inked, e) (omega arith))
-      go (g ∷ t) e ih =
-          let n = ap length e in
-          (rw (inked, e) (omega (arith, parts, n, ih)), λ p. let b = p .first (omega (arith, parts, n)) in let k = ap length (s .1 .lead) in rw (inked, e) (omega (arith, parts, n, ih, b, k)))
-
-  line-inked : (count : List Glyph → ℕ) (o : Opts) (newLine punct : Bool) (rs : List Run) → length (lineWords count o newLine punct rs) ≡ inked rs
-  unfolding inked lineWords
-  line-inked count o newLine punct [] = refl
-  line-inked count o newLine punct (r ∷ rs) = go (r .text) refl (line-inked count o false (punctAtEnd (r .text)) rs)
-    where
-      go : (t : List Glyph) → r .text ≡ t → length (lineWords count o false (punctAtEnd (r .text)) rs) ≡ inked rs → length (lineWords count o newLine punct (r ∷ rs)) ≡ inked (r ∷ rs)
-      go [] e ih = rw (lineWords, inked, e)
-      go (g ∷ t) e ih = rw (lineWords, inked, e) (ap suc ih)
-
-  mail-inked : (rs : List Run) → length (mailWords rs) ≡ inked rs
-  unfolding inked mailWords
-  mail-inked [] = refl
-  mail-inked (r ∷ rs) = go (r .text) refl (mail-inked rs)
-    where
-      go : (t : List Glyph) → r .text ≡ t → length (mailWords rs) ≡ inked rs → length (mailWords (r ∷ rs)) ≡ inked (r ∷ rs)
-      go [] e ih = rw (mailWords, inked, e)
-      go (g ∷ t) e ih = rw (mailWords, inked, e) (ap suc ih)
-
-pub bytes-many : (gs : List Glyph) → All SoundGlyph gs → length gs ≤ length (joined glyphBytes gs)
-bytes-many [] a = omega arith
-bytes-many (g ∷ gs) a =
-    let r = bytes-many gs (a .1) in
-    let k = a .0 .some in
-    rw (joined-cons, length-append) (omega arith)
-
-row-half : (o : Opts) (mail : Bool) (row : Row) → 2 * length (rowWords o mail row) ≤ length (row .text) + 1
-unfolding rowWords
-row-half o mail row = read mail
-  where
-    gs : List Glyph
-    gs = glyphs (o .glue) (row .text)
-
-    all : length gs ≤ length (row .text)
-    all = let e = ap length (glyphs-joined (o .glue) (row .text)) in omega (arith, bytes-many gs (glyphs-sound (o .glue) (row .text)), e)
-
-    read : (m : Bool) → 2 * length (rowWords o m row) ≤ length (row .text) + 1
-    read true =
-        let k = inked-few (o .glue) (runs gs) gs (runs-split (o .glue) gs (line-lined (o .glue) (row .text))) .0 in
-        let n = mail-inked (o .glue) (runs gs) in
-        omega (arith, all, k, n)
-    read false =
-        let rest = glyphsFrom (row .start) gs in
-        let k = inked-few (o .glue) (runs rest) rest (runs-split (o .glue) rest (from-lined (o .glue) (row .text) (row .start))) .0 in
-        let n = line-inked (o .glue) (counting (o .characters)) o true false (runs rest) in
-        let e = sym (length-append (glyphsBefore (row .start) gs) rest) ∙ ap length (upTo-from (row .start) gs) in
-        omega (arith, all, k, n, e)
 
 -- ---- lines: each but the last of the notes ends in a line feed, which is none of its text
 

@@ -1,5 +1,5 @@
 -- The working room that the pieces of the notes need where it is lent: numbers of 32 bits, for the longest paragraph.
-use mathlib.Core.Bool.{Bool, cond}
+use mathlib.Core.Bool.{cond}
 use mathlib.Core.List.{List, [], _∷_}
 use Prim.Native.Nat.{ℕ, _*_, max}
 use lib.ListN.{length}

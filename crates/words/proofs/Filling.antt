@@ -33,7 +33,7 @@ all-more P t n w room all one i h =
     (eq-or-lt-of-le (let g : i ≤ n = omega arith in g))
 
 -- a word in the front of the notes is one of the notes
-front-means : (notes : List ℕ) (end : ℕ) (w : Record) → Within (length (take end notes)) w → meaning (take end notes) w ≡ meaning notes w
+pub front-means : (notes : List ℕ) (end : ℕ) (w : Record) → Within (length (take end notes)) w → meaning (take end notes) w ≡ meaning notes w
 unfolding meaning
 front-means notes end w h =
     let l = length-take end notes in

@@ -11,7 +11,9 @@ pub mod SpacedWords
 pub mod Rows
 pub mod Gaps
 pub mod Spelled
+pub mod Halves
 pub mod Order
 pub mod Places
 pub mod Columns
 pub mod Unique
+mod Worked

@@ -68,7 +68,7 @@ module _ (o : Opts) (mail : Bool) (start later : ℕ) where
   unfolding placesAt placesOf
   places-nil glue at = refl
 
-  rows-first : (l : Line) (ls : List Line) → wordsAt o mail start later (l ∷ ls) ≡ rowWords o mail (record { text = l .text; start = start }) ++ wordsAt o mail later later ls
+  pub rows-first : (l : Line) (ls : List Line) → wordsAt o mail start later (l ∷ ls) ≡ rowWords o mail (record { text = l .text; start = start }) ++ wordsAt o mail later later ls
   unfolding wordsAt rowsAt joined
   rows-first l ls = refl
 

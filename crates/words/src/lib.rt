@@ -56,7 +56,7 @@ struct Spaced {
 }
 
 // The next word of a line, or the line's end.
-enum Next {
+pub enum Next {
     One(Word),
     End,
 }
@@ -334,7 +334,7 @@ fn count_line(notes: &[u8], start: usize, end: usize, mail: bool, o: Options, n:
 
 // The next word from a place on; the first of a line begins at the place. Blanks at the end belong to no word.
 // In the original: `WordSplit::next`.
-fn next_word(s: &[u8], at: usize, mail: bool, first: bool, previous: bool, o: Options) -> Next
+pub fn next_word(s: &[u8], at: usize, mail: bool, first: bool, previous: bool, o: Options) -> Next
     requires { ⌜ (at ≤ length (now s)) × (length (now s) ≤ mostLarge) × (1 ≤ o .tab) × (o .tab ≤ 100) × (first ≡ true → while isBlank (inkGlyphs (o .glue) (drop at (now s))) ≡ []) ⌝ }
     ensures { λ r. ⌜ NextIs (meant [] o) mail first previous (now (s .entry)) at r ⌝ }
 {

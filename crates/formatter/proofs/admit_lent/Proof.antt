@@ -2,8 +2,8 @@
 use native.Mathlib.Omega.{arith}
 use borrow.Author.Needs.{needs}
 use denote.Ref.{now}
-use Rattle.formatter.specs.Work.{mostLent, lending}
-use Rattle.formatter.proofs.Replies.{limits, passed-of, within-refused, lent-admits}
+use Rattle.formatter.specs.Work.{lending}
+use Rattle.formatter.proofs.Replies.{passed-of, within-refused, lent-admits}
 use Rattle.formatter.proofs.admit_lent.Statement.{statement}
 use Rattle.formatter.proofs.admit_lent.Tie as tie
 

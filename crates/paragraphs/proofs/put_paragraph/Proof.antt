@@ -1,113 +1,110 @@
 -- `paragraphs::put_paragraph` meets its contract.
-use mathlib.Core.Path.{refl, _∙_}
+use mathlib.Core.Path.{_≡_}
+use mathlib.Core.Bool.{true, false}
+use mathlib.Core.List.{[]}
+use Prim.Native.Nat.{_-_, _*_, _≤_}
 use native.Mathlib.Omega.{arith}
+use denote.Ref.{now}
 use borrow.Author.Needs.{needs}
-use Rattle.records.proofs.Marks.{words-same}
-use Rattle.paragraphs.proofs.Tables.{room-holds, roomy}
-use Rattle.paragraphs.proofs.Breaking.{limits-of, split-many, split-few, split-narrow, emitted-is, wrote-as, most-as}
+use borrow.Author.Tests.{not-false}
+use Rattle.options.specs.Opts.{meant}
+use Rattle.paragraphs.specs.Breaks.{settingOf}
+use Rattle.paragraphs.proofs.Streaming.{some-line, even, fair, streamed}
+use Rattle.paragraphs.proofs.Tables.{room-holds}
 use Rattle.paragraphs.proofs.put_paragraph.Statement.{statement}
 use Rattle.paragraphs.proofs.put_paragraph.Tie as tie
 
 room-for-requires : tie.Need-room-for-requires
 room-for-requires c κs = search needs
 
-split-words-requires : tie.Need-split-words-requires
-split-words-requires c κs = let p = c .before .before .before .before .before .pre in (p .0 .order, p .0 .within, p .0 .short, p .0 .tabLeast, p .0 .tabMost, room-holds _ _ _ (c .before .room-for .ensures), p .0 .begins)
+sub-is-streamed : tie.Need-sub-is-streamed
+sub-is-streamed c = c .before .before .before .before .pre .0 .order
 
-enum-known-n : tie.Need-enum-known-n
-enum-known-n c = search needs
+is-streamed-requires : tie.Need-is-streamed-requires
+is-streamed-requires c κs = let p = c .before .before .before .before .pre .0 in omega (arith, p .within, p .short)
 
-enum-told : tie.Need-enum-told
-enum-told c = search needs
+put-by-table-requires : tie.Need-put-by-table-requires
+put-by-table-requires c κs = search needs
 
 same-length : tie.Need-same-length
 same-length c = search needs
 
-returns : tie.Need-returns
-returns c = λ block. (rw (← c .before .before .before .before .before .before .room-for .ensures) (split-many (c .before .before .before .before .split-words .ensures block) (c .enum-told .given .1)), refl)
+same-length-2 : tie.Need-same-length-2
+same-length-2 c = search needs
 
-either-requires : tie.Need-either-requires
-either-requires c κs = search needs
+returns : tie.Need-returns
+returns c = search needs
 
 setting-of-requires : tie.Need-setting-of-requires
 setting-of-requires c κs = search needs
 
-mark-breaks-requires : tie.Need-mark-breaks-requires
-mark-breaks-requires c κs =
-    let p = c .before .before .before .before .before .before .before .before .before .before .before .before .before .before .pre in
-    let s = c .before .before .before .before .before .before .before .before .split-words .ensures (p .0 .block) in
-    let w = c .before .before .before .before .n .given .1 in
-    let n = split-few s _ w in
-    let k = s .kept _ w in (
-      rw (c .before .setting-of .ensures (p .0 .block)) (limits-of _ _ _ _ (p .0) (p .0 .block)),
-      omega (arith, n .0, p .0 .some),
-      omega (arith, n .0, p .0 .few, p .0 .short),
-      roomy (c .before .before .before .before .before .before .before .before .before .before .before .before .before .before .args .o .quick) (c .before .before .before .before .before .before .before .before .before .before .before .before .before .before .args .p .mail) (c .before .before .before .before .before .before .before .work .given) (c .before .before .before .before .before .before .before .before .before .before .room-for .ensures) (k .few) (c .before .before .either .ensures),
-      split-narrow s _ w (p .0 .short),
-    )
+-- it is quick, its gaps are kept, it is no mail, and its bytes are few
+kind : (c : tie.Else1) → (c .before .before .before .before .before .before .args .o .quick ≡ true) × (c .before .before .before .before .before .before .args .o .uniform ≡ false) × (c .before .before .before .before .before .before .args .p .mail ≡ false) × (c .before .before .before .before .before .before .args .p .next - c .before .before .before .before .before .before .args .at ≤ 2 * c .before .before .room-for .result)
+kind c = c .before .is-streamed .ensures (not-false _ (c .if1 .left))
 
-layout-of-requires : tie.Need-layout-of-requires
-layout-of-requires c κs = search needs
+put-quick-requires : tie.Need-put-quick-requires
+unfolding settingOf meant
+put-quick-requires c κs =
+    let q = c .before .before .before .before .before .before .before .before .before .before .before .pre in
+    let l = q .0 in
+    let k = kind (c .before .before .before .before .before) in
+    let e = c .before .before .setting-of .ensures [] in
+    (some-line _ _ _ _ l, l .within, omega (arith, l .short), l .tabLeast, l .tabMost, k .1, l .begins (k .2), even _ _ _ _ l (k .0) (k .1) (k .2) _ e, fair _ _ _ _ l (k .0) (k .1) (k .2) _ e, l .first, l .indent, q .1, rw e (l .firstSmall), rw e (l .indentSmall), rw e (omega (arith, l .width)), k .3, room-holds _ _ _ (c .before .before .before .before .before .before .before .room-for .ensures))
 
-emit-requires : tie.Need-emit-requires
-emit-requires c κs =
-    let p = c .before .before .before .before .before .before .before .before .before .before .before .before .before .before .before .before .before .before .before .before .pre in
-    let s = c .before .before .before .before .before .before .before .before .before .before .before .before .before .before .split-words .ensures (p .0 .block) in
-    let w = c .before .before .before .before .before .before .before .before .before .before .n .given .1 in
-    let n = split-few s _ w in
-    let k = s .kept _ w in
-    let b = c .before .before .before .before .before .mark-breaks .ensures in
-    let l = c .before .layout-of .ensures in (
-      record {
-        some = omega (arith, n .0, p .0 .some);
-        few = omega (arith, n .0, p .0 .few, p .0 .short);
-        words = λ i h. rw (b .words i h) (k .within i h);
-        held = omega (arith, k .few, k .held, b .sized);
-        first = rw (l .1) (p .0 .first);
-        indent = rw (l .2) (p .0 .indent);
-        small = omega (arith, p .0 .short);
-      },
-      p .1,
-    )
+enum-known-end : tie.Need-enum-known-end
+enum-known-end c = search needs
 
-same-length-2 : tie.Need-same-length-2
-same-length-2 c = search needs
+enum-told : tie.Need-enum-told
+enum-told c = search needs
+
+put-by-table-requires-2 : tie.Need-put-by-table-requires-2
+put-by-table-requires-2 c κs = search needs
 
 same-length-3 : tie.Need-same-length-3
-same-length-3 c = c .before .before .before .before .before .before .before .before .mark-breaks .ensures .sized ∙ c .before .before .before .before .before .before .before .before .before .before .before .before .before .before .before .before .work .given
+same-length-3 c = search needs
+
+same-length-4 : tie.Need-same-length-4
+same-length-4 c = search needs
 
 returns-2 : tie.Need-returns-2
 returns-2 c =
     λ block.
-    let s = c .before .before .before .before .before .before .before .before .before .before .before .before .before .before .before .before .before .split-words .ensures block in
-    let w = c .before .before .before .before .before .before .before .before .before .before .before .before .before .n .given .1 in
-    let b = c .before .before .before .before .before .before .before .before .mark-breaks .ensures in
-    let l = c .before .before .before .before .layout-of .ensures in
-    let e = words-same _ _ _ _ (b .words) ∙ s .words _ w in (
-      rw (← c .before .before .before .before .before .before .before .before .before .before .before .before .before .before .before .before .before .before .before .room-for .ensures) (split-few s _ w .1),
-      record {
-        next = refl;
-        mail = refl;
-        wrote = wrote-as (emitted-is _ _ _ _ _ (l .0) (l .1) (l .2) (s .words _ w) b (c .before .before .before .before .before .before .before .before .before .before .before .either .ensures) (c .before .before .before .before .before .before .before .before .before .before .setting-of .ensures block)) (c .before .before .emit .ensures .0);
-        bounded = most-as _ _ _ (c .before .before .before .before .layout-of .result) _ (l .1) (l .2) e (c .before .before .emit .ensures .1);
-      },
-    )
+    let e = rw (c .before .before .before .before .before .before .before .enum-told .given .1) at (c .before .before .before .before .before .before .before .before .before .before .before .before .before .put-quick .ensures) in
+    rw (e, c .before .before .before .before .before .before .before .before .before .before .work2 .given) at (c .before .before .before .before .put-by-table2 .ensures block)
+
+same-length-5 : tie.Need-same-length-5
+same-length-5 c = search needs
+
+same-length-6 : tie.Need-same-length-6
+same-length-6 c = search needs
+
+returns-3 : tie.Need-returns-3
+returns-3 c =
+    λ block.
+    let q = c .before .before .before .before .before .before .before .before .before .before .before .before .before .before .before .before .before .before .before .pre in
+    let k = kind (c .before .before .before .before .before .before .before .before .before .before .before .before .before) in
+    rw (← c .before .before .before .before .before .before .before .before .before .before .before .before .before .before .before .room-for .ensures)
+    (streamed _ _ _ _ (q .0) (k .0) (k .1) (k .2) _ (c .before .before .before .before .before .before .before .before .before .before .setting-of .ensures) _ (k .3) (now (c .before .before .before .before .before .before .before .before .before .before .before .before .before .before .before .before .before .before .before .args .out)) (c .before .before .before .before .before .before .before .before .before .before .before .before .before .before .before .before .before .before .before .args .written) _ _ (rw (c .before .end .given .1) at (c .before .before .before .before .before .before .before .put-quick .ensures)) block)
 
 pub put-paragraph-spec : {M : Type 1} → statement M
 put-paragraph-spec =
     tie.close
     (tie.spec
     room-for-requires
-    split-words-requires
-    enum-known-n
-    enum-told
+    sub-is-streamed
+    is-streamed-requires
+    put-by-table-requires
     same-length
-    returns
-    either-requires
-    setting-of-requires
-    mark-breaks-requires
-    layout-of-requires
-    emit-requires
     same-length-2
+    returns
+    setting-of-requires
+    put-quick-requires
+    enum-known-end
+    enum-told
+    put-by-table-requires-2
     same-length-3
-    returns-2)
+    same-length-4
+    returns-2
+    same-length-5
+    same-length-6
+    returns-3)

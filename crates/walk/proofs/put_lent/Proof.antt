@@ -1,5 +1,4 @@
 -- `walk::put_lent` meets its contract: the room reaches to the end.
-use mathlib.Core.Path.{_≡_}
 use native.Mathlib.Omega.{arith}
 use borrow.Author.Needs.{needs}
 use denote.Ref.{now}

@@ -1,7 +1,6 @@
 -- `walk::with_paragraph` meets its contract: its bytes show that so much is enough, or its words are counted.
 use mathlib.Core.List.{[]}
 use native.Mathlib.Omega.{arith}
-use borrow.Author.Needs.{needs}
 use Rattle.walk.proofs.Lent.{bytes-show, greater, less-or-so}
 use Rattle.walk.proofs.with_paragraph.Statement.{statement}
 use Rattle.walk.proofs.with_paragraph.Tie as tie

@@ -1,5 +1,5 @@
 -- `walk::work_with` meets its contract. Invariant: the greatest need so far, with those of the pieces that are left, is that of all.
-use mathlib.Core.Path.{_≡_, refl, sym, ap, _∙_}
+use mathlib.Core.Path.{_≡_, sym, ap, _∙_}
 use Prim.Native.Nat.{_-_, _≤_, max}
 use native.Mathlib.Omega.{arith}
 use lib.ListN.{length}

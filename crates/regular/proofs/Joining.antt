@@ -1,0 +1,97 @@
+-- Writing the next line's stretch behind a line of output that has begun.
+use mathlib.Core.Path.{_≡_, refl, sym, ap, _∙_}
+use mathlib.Core.Bool.{Bool, true, false}
+use mathlib.Core.List.{List, _++_}
+use Prim.Native.Nat.{ℕ, _+_, _-_, _*_, _≤_, _<_, _^_}
+use native.Mathlib.Omega.{arith}
+use lib.Dec.{ltb}
+use borrow.Author.Tests.{ltb-true, ltb-false}
+use lib.ListN.{length, replicate, length-replicate}
+use lib.Seq.{slice, length-slice}
+use Rattle.lists.proofs.Joins.{slice-join, append-inner}
+use Rattle.options.specs.Opts.{Opts}
+use Rattle.records.specs.Word.{Word}
+use Rattle.spacing.specs.declared.Setting.{Setting}
+use Rattle.output.specs.Emission.{lineFeed}
+use Rattle.output.specs.Contracts.Sink.{Wrote, Left}
+use Rattle.output.proofs.Sink.{left-first, left-then}
+use Rattle.regular.specs.declared.Cut.{Cut}
+use Rattle.regular.specs.declared.State.{State}
+use Rattle.regular.specs.Contracts.Regular.{stretchWords, lastly, freshPunct, added, quickRest, quickFresh}
+use Rattle.regular.specs.Contracts.Places.{NoSpace, LastSpace, BeforeSpaces, OverSpaces, Inked, CutAt, CutIs, Filled, Joined}
+use Rattle.regular.proofs.Cuts.{cut-found}
+use Rattle.regular.proofs.Fronts.{lastly-append, lastly-some}
+use Rattle.regular.proofs.Lines.{next-off, next-cut, next-all}
+use Rattle.regular.proofs.Filling.{fresh-counts}
+
+pub left-on : {o₀ o o′ : List ℕ} {n₀ n n′ : ℕ} {d₀ d d′ : List ℕ} → Left o₀ n₀ d₀ o n d → Left o n d o′ n′ d′ → Left o₀ n₀ d₀ o′ n′ d′
+left-on p q = record { count = q .count ∙ p .count; bytes = q .bytes ∙ p .bytes }
+
+added-few : (punct : Bool) → added punct ≤ 2
+added-few true = omega arith
+added-few false = omega arith
+
+module _ (s : List ℕ) (p e : ℕ) (punct : Bool) (g : Setting) (indent : List ℕ) (column : ℕ) (out : List ℕ) (k : ℕ) (even : g .uniform ≡ false) (inked : Inked s p e) where
+  -- all of it stays
+  pub join-all : column + added punct + (e - p) ≤ g .width → length s ≤ 2 ^ 20
+      → (out′ out″ : List ℕ) (k′ : ℕ) (r : State) → Wrote out k (replicate (added punct) 32) out′ k′ → Wrote out′ k′ (slice p e s) out″ (r .written) → r .column ≡ column + added punct + (e - p)
+      → Joined s p e punct g indent column out k out″ r
+  join-all fits size out′ out″ k′ r spaces wrote at =
+      let w = inked .within in
+      let b = inked .on in
+      let n = length-slice p e s w in
+      let m = length-replicate {A = ℕ} (added punct) 32 in
+      let few = added-few punct in
+      let c = wrote .count in
+      let d = spaces .count in
+      record {
+        left = λ o more kept. rw at (left-then (left-then (rw (next-all s o g indent kept even more p e inked column punct fits) (left-first _ _ _)) spaces) wrote);
+        most = omega arith;
+        reach = omega arith;
+      }
+
+  -- its part from next on begins a line of output
+  module _ (next : ℕ) (on : p ≤ next) (some : next < e) (out′ : List ℕ) (k′ : ℕ) (near : k′ ≤ k + (next - p + 1) * 2 ^ 34)
+      (left : (o : Opts) (more : List Word) → o .uniform ≡ false → Left out k (quickRest g indent column punct (stretchWords o true false (slice p e s) ++ more)) out′ k′ (quickFresh g indent true (g .indent) (stretchWords o false false (slice next e s) ++ more))) where
+    pub join-rest : (out″ : List ℕ) (r : State) → Filled s next e true g indent (g .indent) out′ k′ out″ r → Joined s p e punct g indent column out k out″ r
+    join-rest out″ r filled =
+        let w = inked .within in
+        let n = length-slice next e s w in
+        let same : freshPunct true (slice next e s) ≡ lastly false (slice p e s) =
+        fresh-counts (slice next e s) ∙ lastly-some false (lastly false (slice p next s)) (slice next e s) (omega arith) ∙ sym (lastly-append false (slice p next s) (slice next e s))
+        ∙ ap (lastly false) (slice-join p next e s on (omega arith) w) in
+        let m = filled .most in
+        record {
+          left = λ o more kept. left-on (left o more kept) (rw same at (filled .left o false false more kept));
+          most = omega arith;
+          reach = let c = filled .reach in omega arith;
+        }
+
+  -- some of its words stay, or none
+  pub join-cut : (room : ℕ) (r : Cut) → room ≡ g .width - (column + added punct) → p + room < e → CutAt s p e room r → r .end ≤ p + room
+      → (out′ out″ : List ℕ) (k′ k″ : ℕ) → Wrote out k (replicate (added punct) 32) out′ k′ → Wrote out′ k′ (slice p (r .end) s ++ (lineFeed ++ indent)) out″ k″
+      → (o : Opts) (more : List Word) → o .uniform ≡ false
+      → Left out k (quickRest g indent column punct (stretchWords o true false (slice p e s) ++ more)) out″ k″ (quickFresh g indent true (g .indent) (stretchWords o false false (slice (r .next) e s) ++ more))
+  join-cut room r is short cut by out′ out″ k′ k″ spaces wrote o more kept =
+      left-then (left-then (rw (next-cut s o g indent kept even more p e inked column punct room r is short cut by, ← append-inner (slice p (r .end) s) lineFeed indent _) (left-first _ _ _)) spaces) wrote
+
+  pub join-off : (room : ℕ) → room ≡ g .width - (column + added punct) → p + room < e → ((i : ℕ) → p < i → i ≤ p + room → NoSpace s i)
+      → (out′ : List ℕ) (k′ : ℕ) → Wrote out k (lineFeed ++ indent) out′ k′
+      → (o : Opts) (more : List Word) → o .uniform ≡ false
+      → Left out k (quickRest g indent column punct (stretchWords o true false (slice p e s) ++ more)) out′ k′ (quickFresh g indent true (g .indent) (stretchWords o false false (slice p e s) ++ more))
+  join-off room is short none out′ k′ wrote o more kept = left-then (rw (next-off s o g indent kept even more p e inked column punct room is short none) (left-first _ _ _)) wrote
+
+-- the searches found where it is cut, or that it is not
+module _ (s : List ℕ) (p e begin width room q : ℕ) (inked : Inked s p e) (is : room ≡ width - begin) (long : width < begin + (e - p)) (last : LastSpace s p (p + room) q) where
+  pub join-short : p + room < e
+  join-short = let b = inked .on in omega arith
+
+  pub join-found : (end next : ℕ) → p < q → BeforeSpaces s p q end → OverSpaces s (q + 1) e next → CutAt s p e room (record { end = end; next = next })
+  join-found end next l before over = pick (ltb next e) refl
+    where
+      is-cut : CutIs s p e room (record { end = end; next = next })
+      is-cut = cut-found s p e room inked join-short q end next last l before over
+
+      pick : (t : Bool) → ltb next e ≡ t → CutAt s p e room (record { end = end; next = next })
+      pick true h = is-cut .cut (ltb-true next e h)
+      pick false h = let m = last .most in let k = join-short in absurd (is-cut .lone (ltb-false next e h) q (omega arith) (omega arith) (last .space l))

@@ -1,0 +1,135 @@
+-- By places: a stretch that begins a line of output, cut at the last space up to the width, or at its first word; and one that stays whole.
+use mathlib.Core.Path.{_≡_, refl, ap, _∙_}
+use mathlib.Core.Bool.{Bool, true, false}
+use mathlib.Core.Logic.{_⊎_, inl, inr, ⊎-elim}
+use mathlib.Core.List.{List, [], _++_}
+use Prim.Native.Nat.{ℕ, _+_, _-_, _≤_, _<_}
+use native.Mathlib.Omega.{arith}
+use lib.Dec.{ltb}
+use lib.ListN.{length, replicate}
+use borrow.Author.Tests.{ltb-true, ltb-false}
+use lib.Seq.{slice, length-slice, slice-empty}
+use Rattle.lists.specs.Runs.{while, behind, every}
+use Rattle.lists.proofs.Parts.{while-behind, every-while, every-nil}
+use Rattle.lists.proofs.Joins.{slice-join}
+use Rattle.options.specs.Opts.{Opts}
+use Rattle.records.specs.Word.{Word}
+use Rattle.spacing.specs.declared.Setting.{Setting}
+use Rattle.output.specs.Emission.{lineFeed}
+use Rattle.regular.specs.declared.Cut.{Cut}
+use Rattle.regular.specs.Contracts.Regular.{isSpace, notSpace, stretchWords, lastly, opens, freshPunct, added, quickRest, quickFresh}
+use Rattle.regular.specs.Contracts.Places.{NoSpace, Inked, CutAt}
+use Rattle.regular.proofs.Fresh.{no-words, fresh-same, fresh-stays, breaks, next-stays-on, next-breaks-off}
+use Rattle.regular.proofs.Parts.{behind-opens, part-spaces, part-ink, part-opens, part-closed, part-first-space, part-least}
+
+module _ (s : List ℕ) (o : Opts) (g : Setting) (indent : List ℕ) (kept : o .uniform ≡ false) (even : g .uniform ≡ false) (more : List Word) where
+  -- the words of the notes between two places, the words of later lines behind them
+  abbrev from : Bool → Bool → ℕ → ℕ → List Word
+  from newLine previous p e = stretchWords o newLine previous (slice p e s) ++ more
+
+  -- a word begins at next: its first word, and what is behind that
+  module _ (next e : ℕ) (inked : Inked s next e) where
+    abbrev xs : List ℕ
+    xs = slice next e s
+
+    ink-some : 0 < length (while notSpace xs)
+    ink-some = part-least s next e (inked .within) 1 (let h = inked .on in omega arith) (λ i a b. let z : i ≡ next = omega arith in rw z (inked .first))
+
+    -- on a fresh line its marks do not matter
+    pub fresh-marks : (counts newLine previous : Bool) (column : ℕ) → quickFresh g indent counts column (from newLine previous next e) ≡ quickFresh g indent counts column (from false false next e)
+    fresh-marks counts newLine previous column =
+        rw (while-behind notSpace xs) at (fresh-same o g indent kept more counts newLine previous column [] (while notSpace xs) (behind notSpace xs) (every-nil isSpace) (every-while notSpace xs) ink-some (behind-opens xs))
+
+    -- behind a gap it breaks, where it does not fit
+    break-at : (column : ℕ) (punct previous : Bool) (gap : List ℕ) → every isSpace gap ≡ true → g .width < column + length gap + length (while notSpace xs)
+        → quickRest g indent column punct (stretchWords o false previous (gap ++ xs) ++ more) ≡ lineFeed ++ (indent ++ quickFresh g indent true (g .indent) (from false false next e))
+    break-at column punct previous gap spaced wide =
+        rw (while-behind notSpace xs) at (breaks o g indent kept more even column punct previous gap (while notSpace xs) (behind notSpace xs) spaced (every-while notSpace xs) ink-some (behind-opens xs) wide)
+
+  -- ---- a line of output
+
+  module _ (p e : ℕ) (inked : Inked s p e) (counts newLine previous : Bool) (column : ℕ) where
+    -- the words up to a place, which is their end, begin it
+    fresh-front : (end : ℕ) → p < end → end ≤ e → NoSpace s (end - 1) → opens (slice end e s) ≡ true → (column + (end - p) ≤ g .width) ⊎ ((i : ℕ) → p ≤ i → i < end → NoSpace s i)
+        → quickFresh g indent counts column (from newLine previous p e)
+        ≡ slice p end s ++ quickRest g indent (column + (end - p)) (freshPunct counts (slice p end s)) (from false (lastly false (slice p end s)) end e)
+    fresh-front end some on last next fits =
+        let w = inked .within in
+        let n = length-slice p end s (omega arith) in
+        let f : (column + length (slice p end s) ≤ g .width) ⊎ (every notSpace (slice p end s) ≡ true) =
+        ⊎-elim (λ (h : column + (end - p) ≤ g .width). inl (omega arith)) (λ (h : (i : ℕ) → p ≤ i → i < end → NoSpace s i). inr (part-ink s p end (omega arith) h)) fits in
+        rw (slice-join p end e s (omega arith) on w, n) at
+        (fresh-stays o g indent kept more even counts newLine previous column (slice p end s) (slice end e s) (part-opens s p end (omega arith) some (inked .first)) (part-closed s p end (omega arith) some last) next f)
+
+    -- as many words as end by the width, or one; the next one breaks
+    pub fresh-cut : (room : ℕ) (r : Cut) → room ≡ g .width - column → p + room < e → CutAt s p e room r
+        → quickFresh g indent counts column (from newLine previous p e)
+        ≡ slice p (r .end) s ++ (lineFeed ++ (indent ++ quickFresh g indent true (g .indent) (from false false (r .next) e)))
+    fresh-cut room r is short cut =
+        let w = inked .within in
+        let some = cut .on in
+        let gap = cut .gap in
+        let on = cut .rest .on in
+        let n = length-slice (r .end) (r .next) s (omega arith) in
+        let long = part-least s (r .next) e w (p + room + 1 - r .next) (omega arith) (λ i a b. cut .wide i a (omega arith)) in
+        let least = ink-some (r .next) e (cut .rest) in
+        let fits : (column + (r .end - p) ≤ g .width) ⊎ ((i : ℕ) → p ≤ i → i < r .end → NoSpace s i) = ⊎-elim (λ (h : r .end ≤ p + room). inl (omega arith)) (λ (h : (i : ℕ) → p ≤ i → i < r .end → NoSpace s i). inr h) (cut .fits) in
+        fresh-front (r .end) some (omega arith) (cut .ends) (part-first-space s (r .end) e w (omega arith) (cut .spaces (r .end) (omega arith) gap)) fits
+        ∙ ap (λ (l : List ℕ). slice p (r .end) s ++ l)
+        (rw (slice-join (r .end) (r .next) e s (omega arith) (omega arith) w) at
+        (break-at (r .next) e (cut .rest) (column + (r .end - p)) (freshPunct counts (slice p (r .end) s)) (lastly false (slice p (r .end) s)) (slice (r .end) (r .next) s)
+        (part-spaces s (r .end) (r .next) (omega arith) (cut .spaces)) (omega arith)))
+
+    -- all that is left of the stretch
+    pub fresh-all : (column + (e - p) ≤ g .width) ⊎ ((i : ℕ) → p ≤ i → i < e → NoSpace s i)
+        → quickFresh g indent counts column (from newLine previous p e) ≡ slice p e s ++ quickRest g indent (column + (e - p)) (freshPunct counts (slice p e s)) more
+    unfolding opens
+    fresh-all fits =
+        rw (slice-empty e s, no-words) at (fresh-front e (inked .on) (omega arith) (inked .last) (rw (slice-empty e s)) fits)
+
+  -- ---- the next line's stretch, behind a line of output that has begun
+
+  module _ (p e : ℕ) (inked : Inked s p e) (column : ℕ) (punct : Bool) where
+    -- where it does not even have a first word's room
+    pub next-off : (room : ℕ) → room ≡ g .width - (column + added punct) → p + room < e → ((i : ℕ) → p < i → i ≤ p + room → NoSpace s i)
+        → quickRest g indent column punct (from true false p e) ≡ lineFeed ++ (indent ++ quickFresh g indent true (g .indent) (from false false p e))
+    next-off room is short none =
+        let long = part-least s p e (inked .within) (room + 1) (omega arith) (λ i a b. pick i a b (ltb p i) refl) in
+        rw (while-behind notSpace (slice p e s)) at
+        (next-breaks-off o g indent kept more column punct (while notSpace (slice p e s)) (behind notSpace (slice p e s)) (every-while notSpace (slice p e s)) (ink-some p e inked) (behind-opens (slice p e s)) (omega arith))
+      where
+        pick : (i : ℕ) → p ≤ i → i < p + (room + 1) → (t : Bool) → ltb p i ≡ t → NoSpace s i
+        pick i a b true q = none i (ltb-true p i q) (omega arith)
+        pick i a b false q = let z : i ≡ p = omega (arith, ltb-false p i q) in rw z (inked .first)
+
+    next-front : (end : ℕ) → p < end → end ≤ e → NoSpace s (end - 1) → opens (slice end e s) ≡ true → column + added punct + (end - p) ≤ g .width
+        → quickRest g indent column punct (from true false p e)
+        ≡ replicate (added punct) 32 ++ (slice p end s ++ quickRest g indent (column + added punct + (end - p)) (lastly false (slice p end s)) (from false (lastly false (slice p end s)) end e))
+    next-front end some on last next fits =
+        let w = inked .within in
+        let n = length-slice p end s (omega arith) in
+        rw (slice-join p end e s (omega arith) on w, n) at
+        (next-stays-on o g indent kept more even column punct (slice p end s) (slice end e s) (part-opens s p end (omega arith) some (inked .first)) (part-closed s p end (omega arith) some last) next (omega arith))
+
+    -- as many words as end by the width; the next one breaks
+    pub next-cut : (room : ℕ) (r : Cut) → room ≡ g .width - (column + added punct) → p + room < e → CutAt s p e room r → r .end ≤ p + room
+        → quickRest g indent column punct (from true false p e)
+        ≡ replicate (added punct) 32 ++ (slice p (r .end) s ++ (lineFeed ++ (indent ++ quickFresh g indent true (g .indent) (from false false (r .next) e))))
+    next-cut room r is short cut by =
+        let w = inked .within in
+        let some = cut .on in
+        let gap = cut .gap in
+        let on = cut .rest .on in
+        let n = length-slice (r .end) (r .next) s (omega arith) in
+        let long = part-least s (r .next) e w (p + room + 1 - r .next) (omega arith) (λ i a b. cut .wide i a (omega arith)) in
+        let least = ink-some (r .next) e (cut .rest) in
+        next-front (r .end) some (omega arith) (cut .ends) (part-first-space s (r .end) e w (omega arith) (cut .spaces (r .end) (omega arith) gap)) (omega arith)
+        ∙ ap (λ (l : List ℕ). replicate (added punct) 32 ++ (slice p (r .end) s ++ l))
+        (rw (slice-join (r .end) (r .next) e s (omega arith) (omega arith) w) at
+        (break-at (r .next) e (cut .rest) (column + added punct + (r .end - p)) (lastly false (slice p (r .end) s)) (lastly false (slice p (r .end) s)) (slice (r .end) (r .next) s)
+        (part-spaces s (r .end) (r .next) (omega arith) (cut .spaces)) (omega arith)))
+
+    pub next-all : column + added punct + (e - p) ≤ g .width
+        → quickRest g indent column punct (from true false p e) ≡ replicate (added punct) 32 ++ (slice p e s ++ quickRest g indent (column + added punct + (e - p)) (lastly false (slice p e s)) more)
+    unfolding opens
+    next-all fits = rw (slice-empty e s, no-words) at (next-front e (inked .on) (omega arith) (inked .last) (rw (slice-empty e s)) fits)

@@ -1,0 +1,80 @@
+-- The mark behind a line's stretch, and the stretch of a paragraph's next line.
+use mathlib.Core.Path.{_≡_, refl, sym, _∙_}
+use mathlib.Core.Bool.{Bool, true, false}
+use mathlib.Core.List.{List, [], _∷_}
+use Prim.Native.Nat.{ℕ, zero, suc, _+_, _-_, _≤_, _<_, _^_}
+use native.Mathlib.Omega.{arith}
+use lib.Dec.{ltb}
+use lib.ListN.{length, getD}
+use lib.Seq.{slice, length-slice, slice-empty}
+use borrow.Author.Tests.{le-leb, lt-ltb, lt-leb, le-ltb, ltb-true, ltb-false}
+use Rattle.spacing.specs.declared.Setting.{Setting}
+use Rattle.words.specs.Contracts.Scan.{punctCode}
+use Rattle.output.proofs.Sink.{left-first}
+use Rattle.regular.specs.declared.State.{State}
+use Rattle.regular.specs.declared.Reached.{Reached}
+use Rattle.regular.specs.Contracts.Regular.{isRegular, lastly, freshPunct}
+use Rattle.regular.specs.Contracts.Places.{FirstSpace, Inked, Joined, EachRegular, Went}
+use Rattle.regular.proofs.Fresh.{no-words}
+use Rattle.regular.proofs.Parts.{part-at, part-ink, part-spaced}
+
+pub regular-by : (b : ℕ) → 32 ≤ b → b ≤ 127 → isRegular b ≡ true
+regular-by b h k = let l : b < 128 = omega arith in rw (le-leb 32 b h, lt-ltb b 128 l)
+
+pub regular-below : (b : ℕ) → b < 32 → isRegular b ≡ false
+regular-below b h = rw (lt-leb 32 b h)
+
+pub regular-above : (b : ℕ) → 127 < b → isRegular b ≡ false
+regular-above b h = let l : 128 ≤ b = omega arith in let k : 32 ≤ b = omega arith in rw (le-leb 32 b k, le-ltb b 128 l)
+
+pub each-more : (s : List ℕ) (from i to : ℕ) → EachRegular s from i → EachRegular s i to → EachRegular s from to
+each-more s from i to a b j h k = pick (ltb j i) refl
+  where
+    pick : (t : Bool) → ltb j i ≡ t → isRegular (getD s j 0) ≡ true
+    pick true l = a j h (ltb-true j i l)
+    pick false l = b j (ltb-false j i l) k
+
+-- ---- marks
+
+lastly-last : (t : Bool) (xs : List ℕ) (last : ℕ) → length xs ≡ last + 1 → lastly t xs ≡ punctCode (getD xs last 0)
+unfolding lastly
+lastly-last t [] last h = absurd (omega arith)
+lastly-last t (x ∷ []) zero h = refl
+lastly-last t (x ∷ []) (suc last) h = absurd (omega arith)
+lastly-last t (x ∷ y ∷ xs) zero h = absurd (omega arith)
+lastly-last t (x ∷ y ∷ xs) (suc last) h = lastly-last (punctCode x) (y ∷ xs) last (omega arith)
+
+module _ (s : List ℕ) (p e : ℕ) (inked : Inked s p e) where
+  pub lastly-at : lastly false (slice p e s) ≡ punctCode (getD s (e - 1) 0)
+  lastly-at =
+      let w = inked .within in
+      let l = inked .on in
+      let n = length-slice p e s w in
+      let z : p + (e - 1 - p) ≡ e - 1 = omega arith in
+      lastly-last false (slice p e s) (e - 1 - p) (omega arith) ∙ rw (part-at s p e w (e - 1 - p) (omega arith), z)
+
+  pub head-lone : (r : ℕ) → FirstSpace s p e r → r ≡ e → false ≡ freshPunct false (slice p e s)
+  unfolding freshPunct
+  head-lone r f q = rw (part-ink s p e (inked .within) (λ i a h. f .none i a (omega arith)))
+
+  pub head-more : (r : ℕ) → FirstSpace s p e r → (r ≡ e → ⊥) → punctCode (getD s (e - 1) 0) ≡ freshPunct false (slice p e s)
+  unfolding freshPunct
+  head-more r f q =
+      let l : r < e = omega (arith, f .most, q) in
+      rw (part-spaced s p e (inked .within) r (f .on) l (f .space l)) (sym lastly-at)
+
+module _ (s : List ℕ) (from e : ℕ) (g : Setting) (indent : List ℕ) (out : List ℕ) (t : Reached) where
+  pub went-none : from ≡ e → t .column ≤ 2 ^ 33 → Went s from e g indent out t out t
+  went-none q near = record {
+    left = λ o more kept. rw (q, slice-empty e s, no-words o true false) (left-first _ _ _);
+    most = omega arith;
+    reach = near;
+  }
+
+  pub went-some : Inked s from e → length s ≤ 2 ^ 20 → g .indent < 2 ^ 31 → g .width < 2 ^ 31 → (out′ : List ℕ) (r : State) → Joined s from e (t .punct) g indent (t .column) out (t .written) out′ r → (punct : Bool) → punct ≡ punctCode (getD s (e - 1) 0)
+      → Went s from e g indent out t out′ (record { written = r .written; column = r .column; punct = punct })
+  went-some inked size ind wid out′ r j punct q = record {
+    left = λ o more kept. rw (q, ← lastly-at s from e inked) (j .left o more kept);
+    most = j .most;
+    reach = let h = j .reach in let w = inked .within in omega arith;
+  }

@@ -1,0 +1,59 @@
+-- Quick's output one word at a time: a word that fits stays behind its spacing, and any other begins a fresh line.
+use mathlib.Core.Path.{_≡_, _∙_}
+use mathlib.Core.Bool.{Bool, true, false, cond, or-true}
+use mathlib.Core.List.{List, [], _∷_, _++_, append-nil}
+use Prim.Native.Nat.{ℕ, _+_, _≤_, _<_}
+use native.Mathlib.Omega.{arith}
+use lib.Dec.{ltb}
+use lib.ListN.{length, replicate}
+use borrow.Author.Tests.{lt-ltb, le-ltb}
+use Rattle.records.specs.Word.{Word}
+use Rattle.spacing.specs.Spacing.{gapWidth, addedSpace}
+use Rattle.spacing.specs.declared.Setting.{Setting}
+use Rattle.output.specs.Emission.{lineFeed, spaceBefore, emitRest}
+use Rattle.quick.specs.Quick.{quickFrom}
+use Rattle.quick.proofs.Width.{reachedBy}
+use Rattle.regular.specs.Contracts.Regular.{plainWord, lastly, added, quickRest, quickFresh}
+
+module _ (g : Setting) (indent : List ℕ) where
+  -- of any words
+  pub word-breaks : (column : ℕ) (punct : Bool) (w : Word) (ws : List Word) → ltb (g .width) (reachedBy g column punct w) ≡ true
+      → quickRest g indent column punct (w ∷ ws) ≡ lineFeed ++ (indent ++ quickFresh g indent true (g .indent) (w ∷ ws))
+  unfolding quickRest quickFresh quickFrom emitRest
+  word-breaks column punct w ws h = rw (quickFrom, h)
+
+  pub word-stays : (column : ℕ) (punct : Bool) (w : Word) (ws : List Word) → ltb (g .width) (reachedBy g column punct w) ≡ false
+      → quickRest g indent column punct (w ∷ ws) ≡ spaceBefore (g .uniform) punct w ++ (w .text ++ quickRest g indent (reachedBy g column punct w) (w .endsPunct) ws)
+  unfolding quickRest quickFrom emitRest
+  word-stays column punct w ws h = rw (quickFrom, h)
+
+  -- of a word of regular bytes, not the first of its line
+  module _ (even : g .uniform ≡ false) (column : ℕ) (punct previous : Bool) (sp ink : List ℕ) (ws : List Word) where
+    reach : reachedBy g column punct (plainWord false previous sp ink) ≡ column + length sp + length ink
+    unfolding gapWidth addedSpace
+    reach = rw even (let e : column + length sp + 0 + length ink ≡ column + length sp + length ink = omega arith in e)
+
+    pub plain-stays : column + length sp + length ink ≤ g .width
+        → quickRest g indent column punct (plainWord false previous sp ink ∷ ws) ≡ sp ++ (ink ++ quickRest g indent (column + length sp + length ink) (lastly false ink) ws)
+    unfolding spaceBefore addedSpace
+    plain-stays h = word-stays column punct (plainWord false previous sp ink) ws (rw reach (le-ltb _ _ h)) ∙ rw (reach, even)
+
+    pub plain-breaks : g .width < column + length sp + length ink
+        → quickRest g indent column punct (plainWord false previous sp ink ∷ ws) ≡ lineFeed ++ (indent ++ quickFresh g indent true (g .indent) (plainWord false previous sp ink ∷ ws))
+    plain-breaks h = word-breaks column punct (plainWord false previous sp ink) ws (rw reach (lt-ltb _ _ h))
+
+  -- of the first word of a line behind another one, whose last word's punctuation is known
+  module _ (column : ℕ) (punct : Bool) (ink : List ℕ) (ws : List Word) where
+    reach-next : reachedBy g column punct (plainWord true false [] ink) ≡ column + added punct + length ink
+    unfolding gapWidth addedSpace
+    reach-next = rw (or-true (g .uniform)) (let e : column + 0 + cond punct 2 1 + length ink ≡ column + cond punct 2 1 + length ink = omega arith in e)
+
+    pub next-stays : column + added punct + length ink ≤ g .width
+        → quickRest g indent column punct (plainWord true false [] ink ∷ ws) ≡ replicate (added punct) 32 ++ (ink ++ quickRest g indent (column + added punct + length ink) (lastly false ink) ws)
+    unfolding spaceBefore addedSpace
+    next-stays h =
+        word-stays column punct (plainWord true false [] ink) ws (rw reach-next (le-ltb _ _ h)) ∙ rw (reach-next, or-true (g .uniform), append-nil (replicate {A = ℕ} (cond punct 2 1) 32))
+
+    pub next-breaks : g .width < column + added punct + length ink
+        → quickRest g indent column punct (plainWord true false [] ink ∷ ws) ≡ lineFeed ++ (indent ++ quickFresh g indent true (g .indent) (plainWord true false [] ink ∷ ws))
+    next-breaks h = word-breaks column punct (plainWord true false [] ink) ws (rw reach-next (lt-ltb _ _ h))

@@ -1,0 +1,3 @@
+-- What the contracts of the code cite: no part of what must be believed of the call.
+pub mod Regular
+pub mod Places

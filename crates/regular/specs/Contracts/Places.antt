@@ -1,0 +1,190 @@
+-- What the contracts of the code cite: spaces of a regular line, by places.
+use mathlib.Core.Path.{_≡_}
+use mathlib.Core.Bool.{Bool, true, false}
+use mathlib.Core.Logic.{_⊎_}
+use mathlib.Core.List.{List, [], _∷_, _++_}
+use Prim.Native.Nat.{ℕ, _+_, _-_, _*_, _≤_, _<_, _^_}
+use lib.ListN.{length, getD, drop}
+use lib.Seq.{slice}
+use Rattle.options.specs.Opts.{Opts}
+use Rattle.records.specs.Word.{Word, meaning}
+use Rattle.records.specs.Contracts.Table.{wordsIn}
+use Rattle.records.specs.declared.Word.{Word as Record}
+use Rattle.spacing.specs.declared.Setting.{Setting}
+use Rattle.output.specs.Contracts.Sink.{Left}
+use Rattle.regular.specs.Contracts.Regular.{isRegular, stretchWords, freshPunct, lastly, quickRest, quickFresh}
+use Rattle.regular.specs.declared.Cut.{Cut}
+use Rattle.regular.specs.declared.State.{State}
+use Rattle.regular.specs.declared.Row.{Row}
+use Rattle.regular.specs.declared.Reached.{Reached}
+use Rattle.regular.specs.declared.Progress.{Progress}
+use Rattle.regular.specs.declared.Put.{Put}
+use Rattle.regular.specs.declared.Put.the-variants.{Done, Other}
+use Rattle.options.specs.Opts.{meant}
+use Rattle.options.specs.declared.Options.{Options}
+use Rattle.output.specs.Emission.{emit}
+use Rattle.output.specs.Contracts.Sink.{Wrote}
+use Rattle.quick.specs.Quick.{quickBreaks}
+use Rattle.lines.specs.Lines.{linesOf}
+use Rattle.pieces.specs.Contracts.Bounds.{AllBegin}
+use Rattle.words.specs.Contracts.Places.{wordsAt}
+
+-- no space stands at a place
+abbrev pub NoSpace : List ℕ → ℕ → Type 0
+NoSpace s i = getD s i 0 ≡ 32 → ⊥
+
+-- r is the last space behind a place, up to another; or the first place, if there is none
+pub record LastSpace (s : List ℕ) (from to r : ℕ) : Type 0 where
+  pub on : from ≤ r
+  pub most : r ≤ to
+  pub space : from < r → getD s r 0 ≡ 32
+  pub none : (i : ℕ) → r < i → i ≤ to → NoSpace s i
+
+-- r is the first space from a place on, before an end; or the end
+pub record FirstSpace (s : List ℕ) (from end r : ℕ) : Type 0 where
+  pub on : from ≤ r
+  pub most : r ≤ end
+  pub space : r < end → getD s r 0 ≡ 32
+  pub none : (i : ℕ) → from ≤ i → i < r → NoSpace s i
+
+-- r is behind the spaces at a place, before an end
+pub record OverSpaces (s : List ℕ) (from end r : ℕ) : Type 0 where
+  pub on : from ≤ r
+  pub most : r ≤ end
+  pub spaces : (i : ℕ) → from ≤ i → i < r → getD s i 0 ≡ 32
+  pub ink : r < end → NoSpace s r
+
+-- r is before the spaces that end at a place, not before another
+pub record BeforeSpaces (s : List ℕ) (from to r : ℕ) : Type 0 where
+  pub on : from ≤ r
+  pub most : r ≤ to
+  pub spaces : (i : ℕ) → r ≤ i → i < to → getD s i 0 ≡ 32
+  pub ink : from < r → NoSpace s (r - 1)
+
+-- a stretch that begins and ends with a word
+pub record Inked (s : List ℕ) (p e : ℕ) : Type 0 where
+  pub on : p < e
+  pub within : e ≤ length s
+  pub first : NoSpace s p
+  pub last : NoSpace s (e - 1)
+
+-- A stretch is cut: its words up to r's end are those that end by p + room, or one word; the next one begins at r's next, and ends behind p + room.
+pub record CutAt (s : List ℕ) (p e room : ℕ) (r : Cut) : Type 0 where
+  pub on : p < r .end
+  pub gap : r .end < r .next
+  pub ends : NoSpace s (r .end - 1)
+  pub spaces : (i : ℕ) → r .end ≤ i → i < r .next → getD s i 0 ≡ 32
+  pub rest : Inked s (r .next) e
+  pub fits : (r .end ≤ p + room) ⊎ ((i : ℕ) → p ≤ i → i < r .end → NoSpace s i)
+  pub wide : (i : ℕ) → r .next ≤ i → i ≤ p + room → NoSpace s i
+
+-- or it is one word, which reaches to its end
+pub record CutIs (s : List ℕ) (p e room : ℕ) (r : Cut) : Type 0 where
+  pub most : r .next ≤ e
+  pub cut : r .next < e → CutAt s p e room r
+  pub lone : e ≤ r .next → (i : ℕ) → p ≤ i → i < e → NoSpace s i
+
+-- ---- what is left of quick's output, whatever words follow; the gaps are kept
+
+-- A stretch from `from` to e was to begin a line of output at a column: now that out and k are reached, its part from p on is, at another.
+pub record Along (s : List ℕ) (from e : ℕ) (counts : Bool) (g : Setting) (indent : List ℕ) (column : ℕ) (out : List ℕ) (k p : ℕ) (counts′ : Bool) (column′ : ℕ) (out′ : List ℕ) (k′ : ℕ) : Type 0 where
+  pub inked : Inked s p e
+  pub punct : freshPunct counts′ (slice p e s) ≡ freshPunct counts (slice from e s)
+  pub left : (o : Opts) (newLine previous : Bool) (more : List Word) → o .uniform ≡ false
+      → Left out k (quickFresh g indent counts column (stretchWords o newLine previous (slice from e s) ++ more))
+      out′ k′ (quickFresh g indent counts′ column′ (stretchWords o false false (slice p e s) ++ more))
+
+-- It is written: what is left is the output of the words that follow.
+pub record Filled (s : List ℕ) (p e : ℕ) (counts : Bool) (g : Setting) (indent : List ℕ) (column : ℕ) (out : List ℕ) (k : ℕ) (out′ : List ℕ) (r : State) : Type 0 where
+  pub left : (o : Opts) (newLine previous : Bool) (more : List Word) → o .uniform ≡ false
+      → Left out k (quickFresh g indent counts column (stretchWords o newLine previous (slice p e s) ++ more))
+      out′ (r .written) (quickRest g indent (r .column) (freshPunct counts (slice p e s)) more)
+  pub most : r .written ≤ k + (e - p) * 2 ^ 34
+  pub reach : r .column ≤ column + g .indent + (e - p)
+
+-- The same of the next line's stretch, behind a line of output that stands at a column.
+pub record Joined (s : List ℕ) (p e : ℕ) (punct : Bool) (g : Setting) (indent : List ℕ) (column : ℕ) (out : List ℕ) (k : ℕ) (out′ : List ℕ) (r : State) : Type 0 where
+  pub left : (o : Opts) (more : List Word) → o .uniform ≡ false
+      → Left out k (quickRest g indent column punct (stretchWords o true false (slice p e s) ++ more))
+      out′ (r .written) (quickRest g indent (r .column) (lastly false (slice p e s)) more)
+  pub most : r .written ≤ k + (e - p + 1) * 2 ^ 34
+  pub reach : r .column ≤ g .width + g .indent + g .indent + (e - p)
+
+-- ---- a paragraph's lines, which stand in the notes up to next
+
+-- regular bytes stand between two places
+abbrev pub EachRegular : List ℕ → ℕ → ℕ → Type 0
+EachRegular s from end = (i : ℕ) → from ≤ i → i < end → isRegular (getD s i 0) ≡ true
+
+-- r is the end of the regular bytes at a place, or another place that they reach to
+pub record RegularTo (s : List ℕ) (from end r : ℕ) : Type 0 where
+  pub on : from ≤ r
+  pub most : r ≤ end
+  pub all : EachRegular s from r
+  pub stop : r < end → isRegular (getD s r 0) ≡ false
+
+-- r is the stretch of the line at a place, whose words begin so many bytes behind: its words are the line's
+pub record RowIs (o : Opts) (skip later : ℕ) (s : List ℕ) (next i : ℕ) (r : Row) : Type 0 where
+  pub on : i < r .next
+  pub most : r .next ≤ next
+  pub order : i ≤ r .from
+  pub some : r .from ≤ r .end
+  pub within : r .end ≤ r .next
+  pub rest : AllBegin (o .glue) later later (linesOf (slice (r .next) next s))
+  pub inked : r .from < r .end → Inked s (r .from) (r .end)
+  pub words : wordsAt o false skip later (linesOf (slice i next s)) ≡ stretchWords o true false (slice (r .from) (r .end) s) ++ wordsAt o false later later (linesOf (slice (r .next) next s))
+
+-- A stretch, that may be empty, is written behind a line of output that stands at a column.
+pub record Went (s : List ℕ) (from e : ℕ) (g : Setting) (indent : List ℕ) (out : List ℕ) (t : Reached) (out′ : List ℕ) (r : Reached) : Type 0 where
+  pub left : (o : Opts) (more : List Word) → o .uniform ≡ false
+      → Left out (t .written) (quickRest g indent (t .column) (t .punct) (stretchWords o true false (slice from e s) ++ more))
+      out′ (r .written) (quickRest g indent (r .column) (r .punct) more)
+  pub most : r .written ≤ t .written + (e - from + 1) * 2 ^ 34
+  pub reach : r .column ≤ 2 ^ 33
+
+-- The words of the lines from a place on.
+abbrev pub wordsOn : List ℕ → Options → ℕ → ℕ → ℕ → List ℕ → ℕ → List Word
+wordsOn block o start later next s i = wordsAt (meant block o) false start later (linesOf (slice i next s))
+
+-- Lines are written up to a place, behind a line of output that stands at a column: what is left of quick's output is that of the other lines' words.
+pub record Gone (s : List ℕ) (at next later : ℕ) (o : Options) (g : Setting) (indent : List ℕ) (out : List ℕ) (t : Reached) (out′ : List ℕ) (i : ℕ) (r : Reached) : Type 0 where
+  pub on : at ≤ i
+  pub most : i ≤ next
+  pub rest : AllBegin (o .glue) later later (linesOf (slice i next s))
+  pub left : (block : List ℕ)
+      → Left out (t .written) (quickRest g indent (t .column) (t .punct) (wordsOn block o later later next s at))
+      out′ (r .written) (quickRest g indent (r .column) (r .punct) (wordsOn block o later later next s i))
+  pub few : r .written ≤ t .written + (i - at) * 2 ^ 35
+  pub reach : r .column ≤ 2 ^ 33
+
+abbrev pub reachedOf : Progress → Reached
+reachedOf r = record { written = r .written; column = r .column; punct = r .punct }
+
+-- A word of any kind is written behind a line of output that stands at a column.
+pub record WordPut (s : List ℕ) (w : Record) (g : Setting) (indent : List ℕ) (out : List ℕ) (t : Reached) (out′ : List ℕ) (r : Reached) : Type 0 where
+  pub left : (more : List Word)
+      → Left out (t .written) (quickRest g indent (t .column) (t .punct) (meaning s w ∷ more))
+      out′ (r .written) (quickRest g indent (r .column) (r .punct) more)
+  pub most : r .written ≤ t .written + 2 ^ 34
+  pub reach : r .column ≤ 2 ^ 33
+
+-- So are the words of a table up to the j-th.
+pub record Listed (s table : List ℕ) (n : ℕ) (g : Setting) (indent : List ℕ) (out : List ℕ) (t : Reached) (out′ : List ℕ) (j : ℕ) (r : Reached) : Type 0 where
+  pub few : j ≤ n
+  pub left : Left out (t .written) (quickRest g indent (t .column) (t .punct) (wordsIn s n table))
+      out′ (r .written) (quickRest g indent (r .column) (r .punct) (drop j (wordsIn s n table)))
+  pub most : r .written ≤ t .written + j * 2 ^ 34
+  pub reach : r .column ≤ 2 ^ 33
+
+-- The lines from a place on are written: what is left is what quick writes of no words.
+pub record Rested (s : List ℕ) (at next later : ℕ) (o : Options) (g : Setting) (indent : List ℕ) (out : List ℕ) (t : Reached) (out′ : List ℕ) (r : Reached) : Type 0 where
+  pub left : (block : List ℕ)
+      → Left out (t .written) (quickRest g indent (t .column) (t .punct) (wordsOn block o later later next s at))
+      out′ (r .written) (quickRest g indent (r .column) (r .punct) [])
+  pub most : r .written ≤ t .written + 2 ^ 55
+
+-- A paragraph is written, broken by quick; or nothing is.
+abbrev pub PutIs : List ℕ → ℕ → ℕ → ℕ → ℕ → Options → Setting → List ℕ → List ℕ → List ℕ → ℕ → List ℕ → Put → Type 0
+PutIs s at next start later o g first indent out k out′ (Done r) =
+    (block : List ℕ) → Wrote out k (emit false first indent (quickBreaks g (wordsOn block o start later next s at)) (wordsOn block o start later next s at)) out′ r
+PutIs s at next start later o g first indent out k out′ Other = out′ ≡ out

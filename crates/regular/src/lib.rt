@@ -1,0 +1,654 @@
+// Quick on a regular line: a byte is a column, so that the words that stay are those that end by one place, and the last space up to it
+// is looked for.
+use options::Options;
+use pieces::Margin;
+use records::Word;
+use spacing::Setting;
+use words::Count;
+ghost use mathlib.Core.Path.{_≡_};
+ghost use mathlib.Core.Bool.{true, false};
+ghost use mathlib.Core.List.{List, _++_};
+ghost use Prim.Native.Nat.{ℕ, _+_, _-_, _*_, _≤_, _<_, _^_, min};
+ghost use lib.ListN.{length, getD, replicate};
+ghost use lib.Seq.{slice};
+ghost use Rattle.options.specs.Opts.{meant};
+ghost use Rattle.lines.specs.Lines.{linesOf};
+ghost use Rattle.pieces.specs.Contracts.Bounds.{AllBegin};
+ghost use Rattle.records.specs.Contracts.Table.{Holds, Small, Within};
+ghost use Rattle.spacing.specs.Contracts.Bounds.{Fair};
+ghost use Rattle.words.specs.Contracts.Scan.{punctCode};
+ghost use Rattle.words.specs.Contracts.Split.{Kept};
+ghost use Rattle.output.specs.Emission.{lineFeed};
+ghost use Rattle.output.specs.Contracts.Sink.{Wrote};
+ghost use Rattle.output.specs.Contracts.Writers.{marginOf, MarginIn};
+ghost use Rattle.regular.specs.Contracts.Regular.{freshPunct, added};
+ghost use Rattle.regular.specs.Contracts.Places.{LastSpace, FirstSpace, OverSpaces, BeforeSpaces, Inked, CutIs, Filled, Joined, EachRegular, RegularTo, RowIs, Went, Gone, reachedOf, WordPut, Listed, Rested, PutIs};
+
+// A paragraph's work so far: the written end, and the column.
+struct State {
+    written: usize,
+    column: usize,
+}
+
+// The stretch of a line's words and the line behind it, if its bytes are regular.
+struct Row {
+    from: usize,
+    end: usize,
+    next: usize,
+    regular: bool,
+}
+
+// Where a paragraph stands behind a word: the written end, the column, and the mark of the word.
+struct Reached {
+    written: usize,
+    column: usize,
+    punct: bool,
+}
+
+// How far lines were taken: the line that was not, and where the paragraph stands.
+struct Progress {
+    at: usize,
+    written: usize,
+    column: usize,
+    punct: bool,
+}
+
+// A paragraph was written up to a place, or nothing was written, and it is left to other code.
+pub enum Put {
+    Done(usize),
+    Other,
+}
+
+// Where a line of output ends in the notes, and where the next word begins.
+struct Cut {
+    end: usize,
+    next: usize,
+}
+
+// The last space behind a place, up to another, or that place.
+fn last_space(s: &[u8], from: usize, to: usize) -> usize
+    requires { ⌜ (from ≤ to) × (to < length (now s)) ⌝ }
+    ensures { λ r. ⌜ LastSpace (now (s .entry)) from to r ⌝ }
+{
+    let mut i = to;
+    while from < i {
+        if s[i] == 32 {
+            return i;
+        }
+        i -= 1;
+    }
+    i
+}
+
+// The first space from a place on, before an end, or the end.
+fn first_space(s: &[u8], from: usize, end: usize) -> usize
+    requires { ⌜ (from ≤ end) × (end ≤ length (now s)) ⌝ }
+    ensures { λ r. ⌜ FirstSpace (now (s .entry)) from end r ⌝ }
+{
+    let mut i = from;
+    while i < end {
+        if s[i] == 32 {
+            return i;
+        }
+        i += 1;
+    }
+    i
+}
+
+// On over the spaces at a place, before an end.
+fn over_spaces(s: &[u8], from: usize, end: usize) -> usize
+    requires { ⌜ (from ≤ end) × (end ≤ length (now s)) ⌝ }
+    ensures { λ r. ⌜ OverSpaces (now (s .entry)) from end r ⌝ }
+{
+    let mut i = from;
+    while i < end {
+        if s[i] != 32 {
+            return i;
+        }
+        i += 1;
+    }
+    i
+}
+
+// Back over the spaces that end at a place, not before another.
+fn before_spaces(s: &[u8], from: usize, to: usize) -> usize
+    requires { ⌜ (from ≤ to) × (to ≤ length (now s)) ⌝ }
+    ensures { λ r. ⌜ BeforeSpaces (now (s .entry)) from to r ⌝ }
+{
+    let mut i = to;
+    while from < i {
+        let last = i - 1;
+        if s[last] != 32 {
+            return i;
+        }
+        i = last;
+    }
+    i
+}
+
+// The words of a stretch that go on a fresh line with room for so many columns, where not all of them do.
+fn cut_line(s: &[u8], p: usize, e: usize, room: usize) -> Cut
+    requires { ⌜ Inked (now s) p e × (p + room < e) ⌝ }
+    ensures { λ r. ⌜ CutIs (now (s .entry)) p e room r ⌝ }
+{
+    let at = p + room;
+    let q = last_space(s, p, at);
+    if p < q {
+        let end = before_spaces(s, p, q);
+        return Cut {
+            end,
+            next: over_spaces(s, q + 1, e),
+        };
+    }
+    let z = first_space(s, at + 1, e);
+    if z == e {
+        return Cut { end: e, next: e };
+    }
+    Cut {
+        end: z,
+        next: over_spaces(s, z + 1, e),
+    }
+}
+
+fn lesser(a: usize, b: usize) -> usize
+    ensures { λ r. ⌜ r ≡ min a b ⌝ }
+{
+    if a < b {
+        return a;
+    }
+    b
+}
+
+// The columns that are left, if any.
+fn room_of(width: usize, column: usize) -> usize
+    ensures { λ r. ⌜ r ≡ width - column ⌝ }
+{
+    if column < width {
+        return width - column;
+    }
+    0
+}
+
+// Bytes of the notes, written behind k bytes.
+fn put_at(s: &[u8], from: usize, to: usize, out: &mut [u8], k: usize) -> usize
+    requires { ⌜ (from ≤ to) × (to ≤ length (now s)) × (length (now s) ≤ 2 ^ 20) × (k < 2 ^ 63) ⌝ }
+    ensures { λ r. ⌜ Wrote (now (out .entry)) k (slice from to (now (s .entry))) (now (out .exit)) r ⌝ }
+{
+    let place = lesser(k, out.len());
+    k + output::put_text(s, from, to, &mut out[place..])
+}
+
+// A new line, behind k bytes.
+fn break_at(s: &[u8], indent: Margin, out: &mut [u8], k: usize) -> usize
+    requires { ⌜ MarginIn (length (now s)) indent × (length (now s) ≤ 2 ^ 20) × (k < 2 ^ 63) ⌝ }
+    ensures { λ r. ⌜ Wrote (now (out .entry)) k (lineFeed ++ marginOf (now (s .entry)) indent) (now (out .exit)) r × (r ≤ k + 2 ^ 33) ⌝ }
+{
+    let place = lesser(k, out.len());
+    k + output::put_break(s, indent, &mut out[place..])
+}
+
+// A line of output behind k bytes: bytes of the notes, and a new line.
+fn put_line(s: &[u8], from: usize, to: usize, indent: Margin, out: &mut [u8], k: usize) -> usize
+    requires { ⌜ (from ≤ to) × (to ≤ length (now s)) × MarginIn (length (now s)) indent × (length (now s) ≤ 2 ^ 20) × (k < 2 ^ 62 + 2 ^ 61) ⌝ }
+    ensures { λ r. ⌜ Wrote (now (out .entry)) k (slice from to (now (s .entry)) ++ (lineFeed ++ marginOf (now (s .entry)) indent)) (now (out .exit)) r × (r ≤ k + 2 ^ 34) ⌝ }
+{
+    let j = put_at(s, from, to, out, k);
+    break_at(s, indent, out, j)
+}
+
+// A regular stretch on fresh lines.
+fn fill(
+    s: &[u8],
+    from: usize,
+    e: usize,
+    counts: bool,
+    g: Setting,
+    indent: Margin,
+    st: State,
+    out: &mut [u8],
+) -> State
+    requires { ⌜ Inked (now s) from e × (g .uniform ≡ false) × MarginIn (length (now s)) indent × (length (now s) ≤ 2 ^ 20) × (st .written < 2 ^ 62 + 2 ^ 60) × (st .column < 2 ^ 61) × (g .indent < 2 ^ 61) ⌝ }
+    ensures { λ r. ⌜ Filled (now (s .entry)) from e counts g (marginOf (now (s .entry)) indent) (st .column) (now (out .entry)) (st .written) (now (out .exit)) r ⌝ }
+{
+    let mut p = from;
+    let mut k = st.written;
+    let mut column = st.column;
+    let mut counting = counts;
+    while g.width < column + (e - p) {
+        let cut = cut_line(s, p, e, room_of(g.width, column));
+        if cut.next == e {
+            return State {
+                written: put_at(s, p, e, out, k),
+                column: column + (e - p),
+            };
+        }
+        k = put_line(s, p, cut.end, indent, out, k);
+        p = cut.next;
+        column = g.indent;
+        counting = true;
+    }
+    State {
+        written: put_at(s, p, e, out, k),
+        column: column + (e - p),
+    }
+}
+
+// The spaces between a line's last word and the next line's first.
+fn added_of(punct: bool) -> usize
+    ensures { λ r. ⌜ (r ≡ added punct) × (r ≤ 2) ⌝ }
+{
+    if punct {
+        return 2;
+    }
+    1
+}
+
+// Added spaces, behind k bytes.
+fn spaces_at(count: usize, out: &mut [u8], k: usize) -> usize
+    requires { ⌜ (count ≤ 2) × (k < 2 ^ 63) ⌝ }
+    ensures { λ r. ⌜ Wrote (now (out .entry)) k (replicate count 32) (now (out .exit)) r × (r ≤ k + 2) ⌝ }
+{
+    let place = lesser(k, out.len());
+    k + output::put_added(count, &mut out[place..])
+}
+
+// The next line's regular stretch, behind a line of output that has begun: punct is the mark of the word before.
+fn join(
+    s: &[u8],
+    p: usize,
+    e: usize,
+    punct: bool,
+    g: Setting,
+    indent: Margin,
+    st: State,
+    out: &mut [u8],
+) -> State
+    requires { ⌜ Inked (now s) p e × (g .uniform ≡ false) × MarginIn (length (now s)) indent × (length (now s) ≤ 2 ^ 20) × (st .written < 2 ^ 62 + 2 ^ 59) × (st .column < 2 ^ 60) × (g .indent < 2 ^ 60) × (g .width < 2 ^ 60) ⌝ }
+    ensures { λ r. ⌜ Joined (now (s .entry)) p e punct g (marginOf (now (s .entry)) indent) (st .column) (now (out .entry)) (st .written) (now (out .exit)) r ⌝ }
+{
+    let extra = added_of(punct);
+    let begin = st.column + extra;
+    let k = st.written;
+    if begin + (e - p) <= g.width {
+        let j = spaces_at(extra, out, k);
+        return State {
+            written: put_at(s, p, e, out, j),
+            column: begin + (e - p),
+        };
+    }
+    let room = room_of(g.width, begin);
+    let q = last_space(s, p, p + room);
+    if p < q {
+        let end = before_spaces(s, p, q);
+        let next = over_spaces(s, q + 1, e);
+        let i = spaces_at(extra, out, k);
+        let j = put_line(s, p, end, indent, out, i);
+        return fill(
+            s,
+            next,
+            e,
+            true,
+            g,
+            indent,
+            State {
+                written: j,
+                column: g.indent,
+            },
+            out,
+        );
+    }
+    let j = break_at(s, indent, out, k);
+    fill(
+        s,
+        p,
+        e,
+        true,
+        g,
+        indent,
+        State {
+            written: j,
+            column: g.indent,
+        },
+        out,
+    )
+}
+
+// The end of the regular bytes at a place, at the latest another place.
+fn regular_end(s: &[u8], from: usize, end: usize) -> usize
+    requires { ⌜ (from ≤ end) × (end ≤ length (now s)) ⌝ }
+    ensures { λ r. ⌜ RegularTo (now (s .entry)) from end r ⌝ }
+{
+    let mut i = regular_eights(s, from, end);
+    while i < end {
+        let b = s[i];
+        if b < 32 {
+            return i;
+        }
+        if 127 < b {
+            return i;
+        }
+        i += 1;
+    }
+    i
+}
+
+// On over regular bytes, as long as the next eight are.
+fn regular_eights(s: &[u8], from: usize, end: usize) -> usize
+    requires { ⌜ (from ≤ end) × (end ≤ length (now s)) ⌝ }
+    ensures { λ r. ⌜ (from ≤ r) × (r ≤ end) × EachRegular (now (s .entry)) from r ⌝ }
+{
+    let mut i = from;
+    while 8 <= end - i {
+        if are_regular(s, i) {
+            i += 8;
+        } else {
+            return i;
+        }
+    }
+    i
+}
+
+// Whether the eight bytes at a place are regular: without a branch between them the tests are as quick as one.
+fn are_regular(s: &[u8], i: usize) -> bool
+    requires { ⌜ (i ≤ length (now s)) × (8 ≤ length (now s) - i) ⌝ }
+    ensures { λ r. ⌜ (r ≡ true → EachRegular (now (s .entry)) i (i + 8)) ⌝ }
+{
+    let b = i + 1;
+    let c = i + 2;
+    let d = i + 3;
+    let e = i + 4;
+    let f = i + 5;
+    let g = i + 6;
+    let h = i + 7;
+    ((32 <= s[i]) & (s[i] < 128))
+        & ((32 <= s[b]) & (s[b] < 128))
+        & ((32 <= s[c]) & (s[c] < 128))
+        & ((32 <= s[d]) & (s[d] < 128))
+        & ((32 <= s[e]) & (s[e] < 128))
+        & ((32 <= s[f]) & (s[f] < 128))
+        & ((32 <= s[g]) & (s[g] < 128))
+        & ((32 <= s[h]) & (s[h] < 128))
+}
+
+// Whether a line ends at a place: its line feed stands there, or the paragraph ends.
+fn ends_line(s: &[u8], at: usize, next: usize) -> bool
+    requires { ⌜ (at ≤ next) × (next ≤ length (now s)) ⌝ }
+    ensures { λ r. ⌜ (r ≡ true → at < next → getD (now (s .entry)) at 0 ≡ 10) ⌝ }
+{
+    if at == next {
+        return true;
+    }
+    s[at] == 10
+}
+
+// The place behind a line that ends at a place: behind its line feed, unless the paragraph ends there.
+fn behind_line(end: usize, next: usize) -> usize
+    requires { ⌜ next < 2 ^ 32 ⌝ }
+    ensures { λ r. ⌜ (end < next → r ≡ end + 1) × (next ≤ end → r ≡ end) ⌝ }
+{
+    if end < next {
+        return end + 1;
+    }
+    end
+}
+
+// The line at a place of a paragraph, if it is regular.
+fn row_at(s: &[u8], i: usize, next: usize, skip: usize, later: usize, o: Options) -> Row
+    requires { ⌜ (i < next) × (next ≤ length (now s)) × (length (now s) ≤ 2 ^ 20) × (o .uniform ≡ false) × AllBegin (o .glue) skip later (linesOf (slice i next (now s))) ⌝ }
+    ensures { λ r. ⌜ (r .regular ≡ true → (block : List ℕ) → RowIs (meant block o) skip later (now (s .entry)) next i r) ⌝ }
+{
+    let from = i + skip;
+    let end = regular_end(s, from, next);
+    Row {
+        from,
+        end: before_spaces(s, from, end),
+        next: behind_line(end, next),
+        regular: ends_line(s, end, next),
+    }
+}
+
+fn is_punct(b: u8) -> bool
+    ensures { λ r. ⌜ r ≡ punctCode b ⌝ }
+{
+    match b {
+        33 | 46 | 63 => true,
+        _ => false,
+    }
+}
+
+// The stretch of a paragraph's next line, if it has a word.
+fn next_row(
+    s: &[u8],
+    from: usize,
+    e: usize,
+    g: Setting,
+    indent: Margin,
+    t: Reached,
+    out: &mut [u8],
+) -> Reached
+    requires { ⌜ (from ≤ e) × (e ≤ length (now s)) × (from < e → Inked (now s) from e) × (g .uniform ≡ false) × MarginIn (length (now s)) indent × (length (now s) ≤ 2 ^ 20) × (t .written < 2 ^ 62 + 2 ^ 59) × (t .column ≤ 2 ^ 33) × (g .indent < 2 ^ 31) × (g .width < 2 ^ 31) ⌝ }
+    ensures { λ r. ⌜ Went (now (s .entry)) from e g (marginOf (now (s .entry)) indent) (now (out .entry)) t (now (out .exit)) r ⌝ }
+{
+    if from == e {
+        return t;
+    }
+    let st = join(
+        s,
+        from,
+        e,
+        t.punct,
+        g,
+        indent,
+        State {
+            written: t.written,
+            column: t.column,
+        },
+        out,
+    );
+    let last = e - 1;
+    Reached {
+        written: st.written,
+        column: st.column,
+        punct: is_punct(s[last]),
+    }
+}
+
+// The mark that counts behind a paragraph's first line.
+fn head_punct(s: &[u8], from: usize, e: usize) -> bool
+    requires { ⌜ Inked (now s) from e ⌝ }
+    ensures { λ r. ⌜ r ≡ freshPunct false (slice from e (now (s .entry))) ⌝ }
+{
+    let last = e - 1;
+    if first_space(s, from, e) == e {
+        return false;
+    }
+    is_punct(s[last])
+}
+
+// A paragraph's lines behind its first, as far as they are regular.
+fn rows_from(
+    s: &[u8],
+    at: usize,
+    next: usize,
+    later: usize,
+    o: Options,
+    g: Setting,
+    indent: Margin,
+    t: Reached,
+    out: &mut [u8],
+) -> Progress
+    requires { ⌜ (at ≤ next) × (next ≤ length (now s)) × (length (now s) ≤ 2 ^ 20) × (o .uniform ≡ false) × AllBegin (o .glue) later later (linesOf (slice at next (now s))) × (g .uniform ≡ false) × MarginIn (length (now s)) indent × (t .written < 2 ^ 62 + 2 ^ 58) × (t .column ≤ 2 ^ 33) × (g .indent < 2 ^ 31) × (g .width < 2 ^ 31) ⌝ }
+    ensures { λ r. ⌜ Gone (now (s .entry)) at next later o g (marginOf (now (s .entry)) indent) (now (out .entry)) t (now (out .exit)) (r .at) (reachedOf r) ⌝ }
+{
+    let mut i = at;
+    let mut v = t;
+    while i < next {
+        let row = row_at(s, i, next, later, later, o);
+        if !row.regular {
+            return Progress {
+                at: i,
+                written: v.written,
+                column: v.column,
+                punct: v.punct,
+            };
+        }
+        v = next_row(s, row.from, row.end, g, indent, v, out);
+        i = row.next;
+    }
+    Progress {
+        at: i,
+        written: v.written,
+        column: v.column,
+        punct: v.punct,
+    }
+}
+
+// A word of any kind, behind a line of output that has begun.
+// In the original: `accum_words_simple`.
+fn put_word(s: &[u8], w: Word, g: Setting, indent: Margin, t: Reached, out: &mut [u8]) -> Reached
+    requires { ⌜ Within (length (now s)) w × Small w × (w .width ≤ length (now s)) × Fair g × MarginIn (length (now s)) indent × (length (now s) ≤ 2 ^ 20) × (t .written < 2 ^ 62 + 2 ^ 59) × (t .column ≤ 2 ^ 33) × (g .indent < 2 ^ 31) × (g .width < 2 ^ 31) ⌝ }
+    ensures { λ r. ⌜ WordPut (now (s .entry)) w g (marginOf (now (s .entry)) indent) (now (out .entry)) t (now (out .exit)) r ⌝ }
+{
+    let reached = quick::reach(g, t.column, t.punct, w);
+    if g.width < reached {
+        let j = break_at(s, indent, out, t.written);
+        return Reached {
+            written: put_at(s, w.start, w.end, out, j),
+            column: g.indent + w.width,
+            punct: w.punct,
+        };
+    }
+    let added = spacing::added_space(g.uniform, w.first, w.sentence, t.punct);
+    let j = spaces_at(added, out, t.written);
+    Reached {
+        written: put_at(s, w.from, w.end, out, j),
+        column: reached,
+        punct: w.punct,
+    }
+}
+
+// The words of a table, one by one.
+// In the original: `break_simple`.
+fn put_listed(
+    s: &[u8],
+    table: &[u32],
+    n: usize,
+    g: Setting,
+    indent: Margin,
+    t: Reached,
+    out: &mut [u8],
+) -> Reached
+    requires { ⌜ Kept n (length (now s)) n (now table) × (n ≤ 2 ^ 20) × Fair g × MarginIn (length (now s)) indent × (length (now s) ≤ 2 ^ 20) × (t .written < 2 ^ 62 + 2 ^ 58) × (t .column ≤ 2 ^ 33) × (g .indent < 2 ^ 31) × (g .width < 2 ^ 31) ⌝ }
+    ensures { λ r. ⌜ Listed (now (s .entry)) (now (table .entry)) n g (marginOf (now (s .entry)) indent) (now (out .entry)) t (now (out .exit)) n r ⌝ }
+{
+    let mut j = 0;
+    let mut v = t;
+    while j < n {
+        v = put_word(s, records::get(table, j), g, indent, v, out);
+        j += 1;
+    }
+    v
+}
+
+// A paragraph's lines from one on that is not regular: by a table of their words, which are few enough for it.
+fn put_rest(
+    s: &[u8],
+    at: usize,
+    next: usize,
+    later: usize,
+    o: Options,
+    g: Setting,
+    indent: Margin,
+    t: Reached,
+    out: &mut [u8],
+    most: usize,
+    work: &mut [u32],
+) -> Reached
+    requires { ⌜ (at ≤ next) × (next ≤ length (now s)) × (length (now s) ≤ 2 ^ 20) × (1 ≤ o .tab) × (o .tab ≤ 100) × AllBegin (o .glue) later later (linesOf (slice at next (now s))) × Fair g × MarginIn (length (now s)) indent × (t .written < 2 ^ 62 + 2 ^ 58) × (t .column ≤ 2 ^ 33) × (g .indent < 2 ^ 31) × (g .width < 2 ^ 31) × (next - at ≤ 2 * most) × Holds most (now work) ⌝ }
+    ensures { λ r. ⌜ Rested (now (s .entry)) at next later o g (marginOf (now (s .entry)) indent) (now (out .entry)) t (now (out .exit)) r ⌝ }
+{
+    if at == next {
+        return t;
+    }
+    let Count::Words(n) = words::split_words(s, at, next, false, later, later, o, most, work) else {
+        return t;
+    };
+    put_listed(s, work, n, g, indent, t, out)
+}
+
+// An indent, behind k bytes.
+fn margin_at(s: &[u8], m: Margin, out: &mut [u8], k: usize) -> usize
+    requires { ⌜ MarginIn (length (now s)) m × (length (now s) ≤ 2 ^ 20) × (k < 2 ^ 63) ⌝ }
+    ensures { λ r. ⌜ Wrote (now (out .entry)) k (marginOf (now (s .entry)) m) (now (out .exit)) r × (r ≤ k + 2 ^ 33) ⌝ }
+{
+    let place = lesser(k, out.len());
+    k + output::put_margin(s, m, &mut out[place..])
+}
+
+// A line feed, behind k bytes.
+fn feed_at(out: &mut [u8], k: usize) -> usize
+    requires { ⌜ k < 2 ^ 63 ⌝ }
+    ensures { λ r. ⌜ Wrote (now (out .entry)) k lineFeed (now (out .exit)) r ⌝ }
+{
+    let place = lesser(k, out.len());
+    k + output::put_feed(&mut out[place..])
+}
+
+// A paragraph by quick where its gaps are kept: regular lines without a table of words, and from the first other line on by one, for which
+// there is room. One whose first line is not regular, or has no word, is left as it is.
+// In the original: `break_simple`.
+pub fn put_quick(
+    s: &[u8],
+    at: usize,
+    next: usize,
+    start: usize,
+    later: usize,
+    o: Options,
+    g: Setting,
+    first: Margin,
+    indent: Margin,
+    out: &mut [u8],
+    written: usize,
+    most: usize,
+    work: &mut [u32],
+) -> Put
+    requires { ⌜ (at < next) × (next ≤ length (now s)) × (length (now s) ≤ 2 ^ 20) × (1 ≤ o .tab) × (o .tab ≤ 100) × (o .uniform ≡ false) × AllBegin (o .glue) start later (linesOf (slice at next (now s))) × (g .uniform ≡ false) × Fair g × MarginIn (length (now s)) first × MarginIn (length (now s)) indent × (written < 2 ^ 62) × (g .first < 2 ^ 31) × (g .indent < 2 ^ 31) × (g .width < 2 ^ 31) × (next - at ≤ 2 * most) × Holds most (now work) ⌝ }
+    ensures { λ r. ⌜ PutIs (now (s .entry)) at next start later o g (marginOf (now (s .entry)) first) (marginOf (now (s .entry)) indent) (now (out .entry)) written (now (out .exit)) r ⌝ }
+{
+    let head = row_at(s, at, next, start, later, o);
+    if !head.regular {
+        return Put::Other;
+    }
+    let p = head.from;
+    let e = head.end;
+    if p == e {
+        return Put::Other;
+    }
+    let k = margin_at(s, first, out, written);
+    let st = fill(
+        s,
+        p,
+        e,
+        false,
+        g,
+        indent,
+        State {
+            written: k,
+            column: g.first,
+        },
+        out,
+    );
+    let t = Reached {
+        written: st.written,
+        column: st.column,
+        punct: head_punct(s, p, e),
+    };
+    let r = rows_from(s, head.next, next, later, o, g, indent, t, out);
+    let v = Reached {
+        written: r.written,
+        column: r.column,
+        punct: r.punct,
+    };
+    let end = put_rest(s, r.at, next, later, o, g, indent, v, out, most, work);
+    Put::Done(feed_at(out, end.written))
+}
