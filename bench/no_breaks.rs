@@ -1,4 +1,4 @@
-//! U+00A0 with glue on beside glue off (document 02, P2): the same 64 KiB, so that a class that is worked out again and again shows.
+//! U+00A0 with glue on beside glue off (RULES 4.4): the same 64 KiB, so that a class that is worked out again and again shows.
 
 use crate::options::{Opts, GLUE, QUICK, STAND_INS};
 use crate::{call, least, Side};

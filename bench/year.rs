@@ -1,4 +1,4 @@
-//! Regenerates an archive year (document 02, P12): by measuring and writing, by writing alone and by the original, in one process.
+//! Regenerates an archive year (RULES 23): by measuring and writing, by writing alone and by the original, in one process.
 //!
 //!     year [ROUNDS [SEED]]                 by default 40 rounds of seed 2026
 //!     year --files COMMAND [SEED]          the same year as files: by the command, beside other programs

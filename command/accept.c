@@ -1,32 +1,46 @@
 /* A digest of any length, held against its notes part by part.
  *
- * Notes are cut right before or right behind a blank line, which is a full boundary. A blank line of the notes is an empty line of the digest,
- * and no other line is: a paragraph's lines have words, and a plain line is not blank. So the digest is cut at the same empty line, counted
- * from the front. Where an empty line was added or dropped the parts do not belong together, and the first line that cannot be right lies
- * in the part where that happened. */
+ * The digest of notes is that of their first part and then that of the rest, and so is every digest that is accepted: the library reads both
+ * piece by piece. Where the part's own digest ends is known by the blank lines: one of the notes is an empty line of the digest, and no other
+ * line is. Where that is not so, or no blank line stands there, the library tells: of more than the part's digest it names the first line
+ * after it, and accepts what is before. Else the line that it names is the first of the whole that cannot be right. */
 #include "accept.h"
 
+#include "damage.h"
 #include "ink.h"
 #include "lines.h"
-#include "rudignals.h"
+#include "nextmail.h"
+#include "parts.h"
 
 #include <string.h>
 
-#ifndef MOST_PART
-#define MOST_PART RUDIGNALS_MOST_NOTES
-#endif
-
-/* How much of the notes and of the digest belongs to the next part; of the notes 0 if there is no place for a cut. */
-struct cut {
-    size_t notes, digest;
-    bool clipped; /* more of the digest may belong to it */
+/* What is judged, and how far. */
+struct judging {
+    struct work work;
+    struct bytes block, notes, digest; /* of the digest what is left */
+    struct part part;
+    uint64_t lines_before; /* of the digest */
 };
 
-/* The next line of the notes, with its end. */
-static size_t line_length(struct bytes text, size_t at) {
-    const uint8_t *feed = memchr(text.at + at, '\n', text.length - at);
-    return feed == NULL ? text.length - at : (size_t)(feed - (text.at + at)) + 1;
+static const struct judgement GOOD = {ACCEPTED, 0, 0, 0};
+
+static bool is_last(const struct judging *judging) { return judging->part.bytes_before + judging->part.length == judging->notes.length; }
+
+static uint64_t ask(struct judging *judging, size_t digest) {
+    uint8_t room[RUDIGNALS_MOST_BLOCK];
+    struct bytes part = {judging->part.bytes, judging->part.length};
+    return lent_check(&judging->work, block_of_part(judging->block, &judging->part, room), part, (struct bytes){judging->digest.at, digest});
 }
+
+static bool is_accepted(struct judging *judging, size_t digest) { return rudignals_code_of(ask(judging, digest)) == RUDIGNALS_DONE; }
+
+static struct judgement go_behind(struct judging *judging, size_t digest) {
+    judging->lines_before += feeds(judging->digest.at, digest);
+    judging->digest = (struct bytes){judging->digest.at == NULL ? NULL : judging->digest.at + digest, judging->digest.length - digest};
+    return GOOD;
+}
+
+/* ---- where the part's digest ends, by blank lines */
 
 static bool is_blank(const uint8_t *line, size_t length) {
     const uint8_t *at = line, *end = line + length;
@@ -36,92 +50,128 @@ static bool is_blank(const uint8_t *line, size_t length) {
     return at == end;
 }
 
-/* The start of the first empty line at or behind a place, or the end. */
-static size_t empty_line(struct bytes digest, size_t at) {
-    const uint8_t *feed;
-    while (at < digest.length && digest.at[at] != '\n') {
-        feed = memchr(digest.at + at, '\n', digest.length - at);
-        at = feed == NULL ? digest.length : (size_t)(feed - digest.at) + 1;
+/* After so many empty lines; or before the next one, or at the end. */
+static size_t behind_empty(struct bytes digest, size_t count, bool before_next) {
+    struct lines lines = read_lines(digest.at, digest.length);
+    while ((count > 0 || before_next) && next_line(&lines)) {
+        if (lines.length > 1 || !lines.fed)
+            continue;
+        if (count == 0)
+            return lines.next - 1;
+        count--;
     }
-    return at;
+    return lines.next;
 }
 
-/* The digest up to its last line end within the limit. */
-static size_t clipped(struct bytes digest) {
-    size_t end = digest.length < MOST_PART ? digest.length : MOST_PART;
-    if (end == digest.length)
-        return end;
-    while (end > 0 && digest.at[end - 1] != '\n')
+static size_t end_by_blanks(const struct judging *judging) {
+    struct lines lines = read_lines(judging->part.bytes, judging->part.length);
+    size_t count = 0;
+    bool last = false;
+    while (next_line(&lines)) {
+        last = is_blank(lines.line, lines.length);
+        count += last;
+    }
+    return behind_empty(judging->digest, count, !last);
+}
+
+/* ---- where it ends, by the library */
+
+static size_t lines_of(struct bytes digest, size_t most) {
+    size_t end = digest.length < most ? digest.length : most;
+    while (end < digest.length && end > 0 && digest.at[end - 1] != '\n')
         end--;
     return end;
 }
 
-static bool fits(size_t notes, size_t digest) { return notes > 0 && notes <= MOST_PART && digest <= MOST_PART; }
+static size_t start_of_line(struct bytes digest, uint64_t line) {
+    struct lines lines = read_lines(digest.at, digest.length);
+    while (lines.number < line && next_line(&lines))
+        continue;
+    return lines.next;
+}
 
-/* As far as both parts are within the library's limit. Where the notes can be cut and the digest cannot, it has far more text than belongs
- * there: its first lines tell where that begins. */
-static struct cut next_cut(struct bytes notes, struct bytes digest) {
-    struct cut cut = {0, 0, false};
-    size_t at = 0, end, empty = 0, alone = notes.length <= MOST_PART ? notes.length : 0;
-    for (; at < notes.length && at <= MOST_PART; at = end) {
-        end = at + line_length(notes, at);
-        if (notes.at[end - 1] != '\n' || !is_blank(notes.at + at, end - at))
-            continue;
-        empty = empty_line(digest, empty);
-        if (fits(at, empty))
-            cut = (struct cut){at, empty, false};
-        empty += empty < digest.length;
-        if (fits(end, empty))
-            cut = (struct cut){end, empty, false};
-        if (end <= MOST_PART && alone < end)
-            alone = end;
+static struct judgement refused(const struct judging *judging, uint64_t answer) {
+    return (struct judgement){NOT_JUDGED, 0, rudignals_code_of(answer), judging->part.bytes_before + rudignals_number_of(answer)};
+}
+
+/* By so many bytes of the digest, or by all that is left of it; widened where it ends before the part does. */
+static struct judgement judge_against(struct judging *judging, size_t most) {
+    size_t shown = lines_of(judging->digest, most), end;
+    uint64_t answer = ask(judging, shown), line = rudignals_number_of(answer);
+    if (rudignals_code_of(answer) == RUDIGNALS_DONE)
+        return go_behind(judging, shown);
+    if (rudignals_code_of(answer) != RUDIGNALS_NOT_ACCEPTED)
+        return refused(judging, answer);
+    end = start_of_line((struct bytes){judging->digest.at, shown}, line);
+    if (end < shown && is_accepted(judging, end))
+        return go_behind(judging, end);
+    if (end < shown || shown == judging->digest.length)
+        return (struct judgement){NOT_ACCEPTED, judging->lines_before + line, 0, 0};
+    return most < MOST_LARGE ? judge_against(judging, most > MOST_LARGE / 2 ? MOST_LARGE : 2 * most) : refused(judging, (uint64_t)RUDIGNALS_LONG_DIGEST << 32);
+}
+
+/* With the last part stands all that is left. */
+static struct judgement judge_last(struct judging *judging) {
+    uint64_t answer = ask(judging, judging->digest.length);
+    switch (rudignals_code_of(answer)) {
+    case RUDIGNALS_DONE: return go_behind(judging, judging->digest.length);
+    case RUDIGNALS_NOT_ACCEPTED: return (struct judgement){NOT_ACCEPTED, judging->lines_before + rudignals_number_of(answer), 0, 0};
+    default: return refused(judging, answer);
     }
-    return cut.notes > 0 ? cut : (struct cut){alone, clipped(digest), clipped(digest) < digest.length};
 }
 
-static struct judgement judged(uint64_t answer, uint64_t lines_before, size_t bytes_before) {
-    uint32_t code = rudignals_code_of(answer), number = rudignals_number_of(answer);
-    switch (code) {
-    case RUDIGNALS_DONE: return (struct judgement){ACCEPTED, 0, 0, 0};
-    case RUDIGNALS_NOT_ACCEPTED: return (struct judgement){NOT_ACCEPTED, lines_before + number, 0, 0};
-    default: return (struct judgement){NOT_JUDGED, 0, code, bytes_before + number};
-    }
+static struct judgement judge_part(struct judging *judging) {
+    size_t end;
+    if (is_last(judging) && judging->digest.length <= MOST_LARGE)
+        return judge_last(judging);
+    end = end_by_blanks(judging);
+    if (end <= MOST_LARGE && is_accepted(judging, end))
+        return go_behind(judging, end);
+    return judge_against(judging, judging->part.length < MOST_PART ? MOST_PART : judging->part.length);
 }
 
-static struct bytes behind(struct bytes text, size_t count) {
-    return (struct bytes){text.at == NULL ? NULL : text.at + count, text.length - count};
+/* ---- part by part */
+
+/* A part whose digest is longer than the library takes is cut into shorter ones, as far as it can be. */
+static struct judgement judge_parts(struct judging *judging, size_t most) {
+    struct part before = judging->part;
+    enum found found = next_part_of(&judging->work, judging->block, judging->notes, most, &judging->part);
+    size_t length = judging->part.length;
+    struct judgement judgement;
+    if (found != PART)
+        return found == NO_PART ? GOOD : refused(judging, (uint64_t)RUDIGNALS_LONG << 32);
+    judgement = judge_part(judging);
+    if (judgement.acceptance != NOT_JUDGED || judgement.code != RUDIGNALS_LONG_DIGEST || length < 2)
+        return judgement;
+    judging->part = before;
+    return length / 2 < most ? judge_parts(judging, length / 2) : judgement;
 }
 
-static struct cut whole_or_cut(struct bytes notes, struct bytes digest) {
-    if (notes.length <= MOST_PART && digest.length <= MOST_PART)
-        return (struct cut){notes.length, digest.length, false};
-    return next_cut(notes, digest);
+/* Notes that are refused are not judged, wherever the place is: the rest of them is looked at. */
+static struct judgement unless_refused(struct judging *judging, struct judgement judgement) {
+    struct part *part = &judging->part;
+    bool keep = keeps_damage(judging->block);
+    enum found found;
+    while ((found = next_part_of(&judging->work, judging->block, judging->notes, MOST_PART, part)) == PART)
+        if (!keep && judgement.code != RUDIGNALS_TEXT && is_damaged(part->bytes, part->length))
+            judgement = (struct judgement){NOT_JUDGED, 0, RUDIGNALS_TEXT, part->bytes_before + first_damage(part->bytes, part->length, 0)};
+    return found == UNCUT ? refused(judging, (uint64_t)RUDIGNALS_LONG << 32) : judgement;
 }
 
-/* Where the notes have no place for a cut, the library says that they are too long. */
-static struct judgement judge_part(struct bytes block, struct bytes notes, struct bytes digest, struct cut cut, uint64_t lines_before, size_t bytes_before) {
-    size_t length = cut.notes == 0 ? notes.length : cut.notes;
-    struct judgement part = judged(rudignals_check(block.at, block.length, notes.at, length, digest.at, cut.digest), lines_before, bytes_before);
-    bool cut_short = part.acceptance == NOT_ACCEPTED && part.line == lines_before + feeds(digest.at, cut.digest);
-    bool stands = part.acceptance == ACCEPTED && cut.notes == 0 && cut.digest == 0 && digest.length > 0;
-    if ((cut_short && cut.clipped) || stands)
-        return (struct judgement){NOT_JUDGED, 0, RUDIGNALS_LONG_DIGEST, 0};
-    return part;
-}
-
+/* What is left of the digest after the last part cannot be right. */
 struct judgement judge(struct bytes block, struct bytes notes, struct bytes digest) {
-    struct judgement part;
-    uint64_t lines_before = 0;
-    size_t bytes_before = 0;
-    struct cut cut;
-    for (;;) {
-        cut = whole_or_cut(notes, digest);
-        part = judge_part(block, notes, digest, cut, lines_before, bytes_before);
-        if (part.acceptance != ACCEPTED || (cut.notes == notes.length && cut.digest == digest.length))
-            return part;
-        lines_before += feeds(digest.at, cut.digest);
-        bytes_before += cut.notes;
-        notes = behind(notes, cut.notes);
-        digest = behind(digest, cut.digest);
-    }
+    struct judging judging = {.block = block, .notes = notes, .digest = digest};
+    struct judgement judgement;
+    if (notes.length == 0)
+        judgement = judge_part(&judging);
+    else
+        do
+            judgement = judge_parts(&judging, MOST_PART);
+        while (judgement.acceptance == ACCEPTED && !is_last(&judging));
+    if (judgement.acceptance != ACCEPTED)
+        judgement = unless_refused(&judging, judgement);
+    else if (judging.digest.length > 0)
+        judgement = (struct judgement){NOT_ACCEPTED, judging.lines_before, 0, 0};
+    free_work(&judging.work);
+    return judgement;
 }

@@ -2,16 +2,10 @@
 #ifndef ACCEPT_H
 #define ACCEPT_H
 
-#include <stdbool.h>
-#include <stddef.h>
-#include <stdint.h>
+#include "buffer.h"
 
-struct bytes {
-    const uint8_t *at;
-    size_t length;
-};
-
-enum acceptance { ACCEPTED, NOT_ACCEPTED, NOT_JUDGED };
+/* As diff has it. */
+enum acceptance { ACCEPTED = 0, NOT_ACCEPTED = 1, NOT_JUDGED = 2 };
 
 struct judgement {
     enum acceptance acceptance;

@@ -154,7 +154,7 @@ const char *const PAGE_STYLE[] = {
     NULL,
 };
 
-const char PAGE_SCRIPT_HASH[] = "w1pyFFQOo3e7v2672ZCcy2YiOeKn7i7kcksgAsxP2cQ=";
+const char PAGE_SCRIPT_HASH[] = "18JjbUn3UiqpVITsR3Jl7y0StXvl/Vcygl+zVB1tqlY=";
 
 const char *const PAGE_SCRIPT[] = {
     "'use strict';\n",
@@ -200,7 +200,7 @@ const char *const PAGE_SCRIPT[] = {
     "};\n",
     "const under = e => {\n",
     "const a = e.target.closest('#digest a');\n",
-    "return a ? a.id - 1 : -1;\n",
+    "return a ? a.id - lines[0].id : -1;\n",
     "};\n",
     "if (lines.length) {\n",
     "for (const a of lines) a.tabIndex = -1;\n",
@@ -232,7 +232,7 @@ const char *const PAGE_SCRIPT[] = {
     "Home: () => go(0),\n",
     "End: () => go(lines.length - 1),\n",
     "n: () => {\n",
-    "const seen = lines.filter(a => a.matches('.d, .o')).map(a => a.id - 1);\n",
+    "const seen = lines.filter(a => a.matches('.d, .o')).map(a => a.id - lines[0].id);\n",
     "go(seen.find(at => at > here) ?\? seen[0]);\n",
     "},\n",
     "w: () => wall() ? leave() : location.hash = '#wall',\n",
@@ -259,7 +259,7 @@ const char *const PAGE_SCRIPT[] = {
     "const edges = () => {\n",
     "const column = width.getBoundingClientRect().width / width.textContent.length, seen = (digest.clientWidth + digest.scrollLeft) / column - 8;\n",
     "digest.classList.toggle('l', digest.scrollLeft > 0);\n",
-    "for (const chunk of near) for (const a of chunk.children) a.classList.toggle('m', columns(a.id - 1) > seen + .1);\n",
+    "for (const chunk of near) for (const a of chunk.children) a.classList.toggle('m', columns(a.id - lines[0].id) > seen + .1);\n",
     "};\n",
     "if (lines.length) {\n",
     "const sight = new IntersectionObserver(chunks => {\n",

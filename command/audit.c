@@ -261,9 +261,9 @@ const struct subcommand audit_subcommand = {
     .limits = "Give the options that the digests were made with, where prefixes or indents\n"
               "depend on them; width and goal do not matter.\n"
               "\n"
-              "Limits: files may have any length. Of notes with more than 65536 bytes without\n"
-              "an empty line, or 1024 words in a paragraph, it is told whether words are\n"
-              "missing; where none is, such a pair cannot be judged.\n",
+              LIMIT
+              "Of a longer one it is told whether words are missing; where none is, the pair\n"
+              "cannot be judged.\n",
     .statuses = "0 every pair is carried or laid out otherwise (with --strict:\n"
                 "carried); 1 text is missing or was added, or a file is missing; 2 something\n"
                 "could not be judged or written, or a wrong call",

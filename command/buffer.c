@@ -37,7 +37,7 @@ bool buffer_add(struct buffer *buffer, const void *bytes, size_t length) {
     return true;
 }
 
-/* The zero byte that the system puts behind the text is not counted. */
+/* The zero byte that the system puts after the text is not counted. */
 bool buffer_fill(struct buffer *buffer, const char *format, va_list values) {
     va_list again;
     int length;

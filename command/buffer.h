@@ -14,6 +14,12 @@
 #define PRINTS(sentence, values)
 #endif
 
+/* Bytes that stand somewhere. */
+struct bytes {
+    const uint8_t *at;
+    size_t length;
+};
+
 /* All zero is an empty one. */
 struct buffer {
     uint8_t *bytes;
@@ -21,7 +27,7 @@ struct buffer {
     size_t room;
 };
 
-/* Room for so many bytes behind those that are there. These answer false, with errno, and leave the bytes as they are, if there is no memory. */
+/* Room for so many bytes after those that are there. These answer false, with errno, and leave the bytes as they are, if there is no memory. */
 bool buffer_room(struct buffer *buffer, size_t more);
 bool buffer_add(struct buffer *buffer, const void *bytes, size_t length);
 bool buffer_print(struct buffer *buffer, const char *format, ...) PRINTS(2, 3);

@@ -1,4 +1,5 @@
 /* rudignals check: a digest that came with notes, checked against them. */
+#include "accept.h"
 #include "digest.h"
 #include "json.h"
 #include "lines.h"
@@ -9,39 +10,28 @@
 #include <inttypes.h>
 #include <string.h>
 
-/* As diff has it. */
-enum verdict { ACCEPTED = 0, NOT_ACCEPTED = 1, NOT_JUDGED = 2 };
-
-/* As much of a file as tells whether it is too long. */
-static bool read_file(struct window *window, const char *name) {
-    bool whole = open_window(window, name);
-    int reason;
-    if (whole) {
-        whole = fill_window(window);
-        reason = errno; /* closing may put another in its place */
-        close_window(window);
-        errno = reason;
-    }
+static bool read_file(struct buffer *buffer, const char *name) {
+    bool whole = read_whole(name, buffer);
     if (!whole)
         say_failure(label_of(name), errno);
     return whole;
 }
 
-/* Notes that are refused for a place in them are told as formatting tells them. */
-static void say_notes(const struct options *options, const char *name, struct window *notes, uint32_t code) {
+/* Notes that are refused are told as formatting tells them. */
+static void say_refused(const struct options *options, char **names, struct bytes notes, const struct judgement *judgement) {
     struct digest digest = {0};
-    if (code == RUDIGNALS_LONG) {
-        say("%s: has more than %u bytes; notes are checked as a whole", label_of(name), RUDIGNALS_MOST_NOTES);
-        return;
-    }
-    make_digest(&digest, options, notes);
-    say_refusal(label_of(name), &digest.refusal);
+    if (judgement->code == RUDIGNALS_LONG_DIGEST)
+        say("%s: the digest of the paragraph at line %lu of the notes has more than %u bytes", label_of(names[1]), 1 + feeds(notes.at, judgement->place), (unsigned)MOST_LARGE);
+    else if (!digest_bytes(&digest, options, notes))
+        say_refusal(label_of(names[0]), &digest.refusal);
+    else
+        say("%s: no memory to check it", label_of(names[1]));
     buffer_free(&digest.text);
 }
 
 /* A line of the digest, counted from 1: it is there and ended, there and not ended, or past the end. */
-static void say_line(const char *name, const struct window *digest, unsigned long line) {
-    struct lines lines = read_lines(digest->bytes, digest->length);
+static void say_line(const char *name, struct bytes digest, unsigned long line) {
+    struct lines lines = read_lines(digest.at, digest.length);
     while (lines.number < line && next_line(&lines))
         continue;
     if (lines.number < line)
@@ -53,24 +43,25 @@ static void say_line(const char *name, const struct window *digest, unsigned lon
 }
 
 /* The line is 0 unless one is to blame. */
-static enum verdict check_files(const struct options *options, char **names, unsigned long *line) {
-    static struct window notes, digest;
-    uint64_t answer;
-    if (!read_file(&notes, names[0]) || !read_file(&digest, names[1]))
+static enum acceptance check_files(const struct options *options, char **names, unsigned long *line) {
+    static struct buffer texts[2];
+    struct bytes notes, digest;
+    struct judgement judgement;
+    if (!read_file(&texts[0], names[0]) || !read_file(&texts[1], names[1]))
         return NOT_JUDGED;
-    answer = rudignals_check(options->block, options->block_len, notes.bytes, notes.length, digest.bytes, digest.length);
-    switch (rudignals_code_of(answer)) {
-    case RUDIGNALS_DONE: return ACCEPTED;
-    case RUDIGNALS_NOT_ACCEPTED:
-        *line = rudignals_number_of(answer) + 1ul;
-        say_line(names[1], &digest, *line);
-        return NOT_ACCEPTED;
-    case RUDIGNALS_LONG_DIGEST: say("%s: has more than %u bytes", label_of(names[1]), RUDIGNALS_MOST_NOTES); return NOT_JUDGED;
-    default: say_notes(options, names[0], &notes, rudignals_code_of(answer)); return NOT_JUDGED;
+    notes = (struct bytes){texts[0].bytes, texts[0].length};
+    digest = (struct bytes){texts[1].bytes, texts[1].length};
+    judgement = judge(block_of(options), notes, digest);
+    if (judgement.acceptance == NOT_ACCEPTED) {
+        *line = (unsigned long)judgement.line + 1;
+        say_line(names[1], digest, *line);
+    } else if (judgement.acceptance == NOT_JUDGED) {
+        say_refused(options, names, notes, &judgement);
     }
+    return judgement.acceptance;
 }
 
-static bool write_record(char **names, enum verdict verdict, unsigned long line) {
+static bool write_record(char **names, enum acceptance verdict, unsigned long line) {
     static const char *const VERDICT[] = {"accepted", "not accepted", "not judged"};
     struct buffer text = {0};
     bool well = buffer_print(&text, "{\"notes\":") && add_json_words(&text, names[0]) && buffer_print(&text, ",\"digest\":") && add_json_words(&text, names[1]) &&
@@ -84,7 +75,7 @@ static bool write_record(char **names, enum verdict verdict, unsigned long line)
 }
 
 static int run_check(const struct options *options) {
-    enum verdict verdict;
+    enum acceptance verdict;
     unsigned long line = 0;
     if (!options_accepted(options))
         return WRONG_CALL;
@@ -119,8 +110,7 @@ const struct subcommand check_subcommand = {
               "verdict (accepted, not accepted, not judged), line or null, why or null.\n"
               "Without it nothing is written.\n"
               "\n"
-              "Limits: NOTES and DIGEST have at most 65536 bytes each, and a paragraph at most\n"
-              "1024 words.\n",
+              LIMIT,
     .statuses = "0 accepted; 1 not accepted; 2 could not be judged: refused, not\n"
                 "read, not written or a wrong call",
     .draws = true,

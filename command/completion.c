@@ -16,7 +16,7 @@ static bool takes_file(const struct option_row *row) {
     return false;
 }
 
-/* The options of a row, and behind them the two that every one has. */
+/* The options of a row, and after them the two that every one has. */
 static int option_at(const struct subcommand *row, size_t number) {
     static const int MORE[] = {HELP, VERSION, 0};
     size_t i;

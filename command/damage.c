@@ -6,6 +6,8 @@
 
 #include "rudignals.h"
 
+#include <string.h>
+
 size_t first_damage(const uint8_t *bytes, size_t length, size_t at) {
     uint8_t block[RUDIGNALS_MOST_BLOCK];
     size_t block_len = rudignals_put_prefix(block, 0, RUDIGNALS_TAG_SKIP, NULL, 0), part, place;
@@ -22,6 +24,16 @@ size_t first_damage(const uint8_t *bytes, size_t length, size_t at) {
             at += place;
     }
     return length;
+}
+
+size_t damaged_lines(const uint8_t *bytes, size_t from, size_t to) {
+    size_t count = 0, at = first_damage(bytes, to, from);
+    const uint8_t *feed;
+    for (; at < to; count++) {
+        feed = memchr(bytes + at, '\n', to - at);
+        at = feed == NULL ? to : first_damage(bytes, to, (size_t)(feed - bytes) + 1);
+    }
+    return count;
 }
 
 bool is_damaged(const uint8_t *bytes, size_t length) { return first_damage(bytes, length, 0) < length; }

@@ -5,7 +5,7 @@
 
 #include <errno.h>
 
-/* Measures the part, makes room for just that much and writes it behind the digest so far. Where that room is not to be had the part is
+/* Measures the part, makes room for just that much and writes it after the digest so far. Where that room is not to be had the part is
  * refused for it. */
 static uint64_t ask(struct digest *digest, const struct options *options, const struct part *part) {
     uint64_t answer = measure_part(options, false, part), dashes = 0;
@@ -26,17 +26,30 @@ static void add_part(struct digest *digest, const struct options *options, const
         digest->text.length += rudignals_number_of(answer);
 }
 
-/* Behind what has no cut no lower code can follow. */
+/* After what has no cut no lower code can follow. */
 bool make_digest(struct digest *digest, const struct options *options, struct window *window) {
     struct part part = {0};
     enum found found;
     digest->text.length = 0;
     digest->refusal.code = RUDIGNALS_DONE;
-    while ((found = next_part(window, &part)) == PART)
+    while ((found = next_part(window, options, &part)) == PART)
         add_part(digest, options, &part);
     if (found == UNCUT)
         refuse_uncut(&digest->refusal, &part);
     return found != UNREAD;
+}
+
+/* The same of notes in memory; there is nothing to read. */
+bool digest_bytes(struct digest *digest, const struct options *options, struct bytes notes) {
+    struct part part = {0};
+    enum found found;
+    digest->text.length = 0;
+    digest->refusal.code = RUDIGNALS_DONE;
+    while ((found = next_part_of(&own_work, block_of(options), notes, MOST_PART, &part)) == PART)
+        add_part(digest, options, &part);
+    if (found == UNCUT)
+        refuse_uncut(&digest->refusal, &part);
+    return digest->refusal.code == RUDIGNALS_DONE;
 }
 
 static bool read_digest(const struct options *options, const char *name, struct window *window, struct digest *digest) {

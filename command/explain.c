@@ -1,6 +1,7 @@
 /* rudignals explain: why the lines of a file's digest end where they do. */
 #include "json.h"
 #include "lines.h"
+#include "nextmail.h"
 #include "output.h"
 #include "passes.h"
 #include "progress.h"
@@ -9,7 +10,6 @@
 
 #include <inttypes.h>
 #include <stdlib.h>
-#include <string.h>
 
 /* What is asked, and how many lines the parts before had. */
 struct question {
@@ -17,7 +17,7 @@ struct question {
     uint64_t line; /* from 0, as the library counts */
     bool found;
     uint64_t lines_before;
-    struct rudignals_record *index;
+    struct index index;
 };
 
 /* ---- a line and its reason */
@@ -94,12 +94,13 @@ static bool tell_line(const struct question *question, const struct options *opt
 
 static enum taken tell_one(struct question *question, const struct options *options, const struct part *part, const uint8_t *digest, size_t length) {
     struct lines lines = read_lines(digest, length);
+    uint8_t room[RUDIGNALS_MOST_BLOCK];
     uint64_t reason[6] = {0}, wanted = question->line - question->lines_before;
     while (next_line(&lines)) {
         if (lines.number - 1 < wanted)
             continue;
         question->found = true;
-        rudignals_explain(options->block, options->block_len, part->bytes, part->length, wanted, reason);
+        lent_explain(&own_work, block_of_part(block_of(options), part, room), (struct bytes){part->bytes, part->length}, wanted, reason);
         return tell_line(question, options, question->line + 1, reason, lines.line, lines.length) ? ENOUGH : BROKEN;
     }
     question->lines_before += lines.number;
@@ -108,42 +109,16 @@ static enum taken tell_one(struct question *question, const struct options *opti
 
 /* ---- all lines: piece by piece
  *
- * A call looks at all the notes that it is given, up to the line and behind it. So each piece is asked about by itself: what a piece becomes
+ * A call looks at all the notes that it is given, up to the line and after it. So each piece is asked about by itself: what a piece becomes
  * depends on its own lines and on next-mail alone (docs/RULES.md, Pieces and paragraphs). Next-mail matters where the flag mail is set, and
- * where it is false no paragraph is mail: then the piece is what it is without the flag. A paragraph has at most 1,024 lines, so the work goes
- * with the length of the notes. */
-
-static bool is_header(const uint8_t *line, size_t length) {
-    size_t i;
-    if (length >= 5 && memcmp(line, "From ", 5) == 0)
-        return true;
-    for (i = 0; i < length && line[i] >= 33 && line[i] <= 126 && line[i] != ':';)
-        i++;
-    return i > 0 && i < length && line[i] == ':';
-}
-
-/* Next-mail behind a piece, of which the kind of its first line's reason is known. With a prefix that is not empty no indent ends at 0. */
-static bool next_mail(const struct options *options, bool before, uint64_t kind, const uint8_t *piece, size_t length) {
-    const char *prefix = options->value['p'];
-    if (kind == RUDIGNALS_BLANK_LINE || kind == RUDIGNALS_PLAIN_LINE)
-        return kind == RUDIGNALS_BLANK_LINE;
-    return before && (prefix == NULL || *prefix == '\0') && is_header(piece, length);
-}
-
-/* The same options without the flag mail. The flags are the block's first field. */
-static struct options without_mail(const struct options *options) {
-    struct options same = *options;
-    if ((same.flags & RUDIGNALS_MAIL) != 0)
-        rudignals_put_number(same.block, 0, RUDIGNALS_TAG_FLAGS, same.flags & ~(unsigned)RUDIGNALS_MAIL);
-    return same;
-}
+ * where it is false no paragraph is mail: then the piece is what it is without the flag. */
 
 /* The lines of a piece, from the next one of the digest on. */
-static bool tell_piece(const struct question *question, const struct options *options, const uint8_t *piece, const struct rudignals_record *record, struct lines *lines,
+static bool tell_piece(const struct question *question, const struct options *options, struct bytes block, struct bytes piece, uint64_t count, struct lines *lines,
                        uint64_t *kind) {
     uint64_t line, reason[6] = {0};
-    for (line = 0; line < record->count && next_line(lines); line++) {
-        rudignals_explain(options->block, options->block_len, piece, (size_t)record->length, line, reason);
+    for (line = 0; line < count && next_line(lines); line++) {
+        lent_explain(&own_work, block, piece, line, reason);
         if (line == 0)
             *kind = reason[0];
         if (!tell_line(question, options, question->lines_before + lines->number, reason, lines->line, lines->length))
@@ -152,20 +127,20 @@ static bool tell_piece(const struct question *question, const struct options *op
     return true;
 }
 
-/* A part begins behind a blank line or at the file's start, where next-mail is true. */
-static enum taken tell_all(struct question *question, const struct passes *passes, const struct part *part, uint64_t filled, size_t length) {
+static enum taken tell_all(struct question *question, const struct passes *passes, const struct part *part, size_t length) {
     const struct options *options = passes->options;
-    struct options plain = without_mail(options);
+    uint8_t room[RUDIGNALS_MOST_BLOCK];
+    struct bytes block = block_of(options), plain = without_mail(block, room);
     struct lines lines = read_lines(passes->room.bytes, length);
-    bool mail = true;
+    bool mail = !part->no_mail;
     uint64_t i, kind = RUDIGNALS_BLANK_LINE;
-    for (i = 0; i < filled; i++) {
-        const struct rudignals_record *record = &question->index[i];
-        const uint8_t *piece = part->bytes + record->place;
+    for (i = 0; i < question->index.filled; i++) {
+        const struct rudignals_record *record = &question->index.records[i];
+        struct bytes piece = {part->bytes + record->place, (size_t)record->length};
         show_progress(part->bytes_before + (size_t)record->place, passes->window.size);
-        if (!tell_piece(question, mail ? options : &plain, piece, record, &lines, &kind))
+        if (!tell_piece(question, options, mail ? block : plain, piece, record->count, &lines, &kind))
             return BROKEN;
-        mail = next_mail(options, mail, kind, piece, (size_t)record->length);
+        mail = next_mail(block, mail, kind, piece);
     }
     question->lines_before += lines.number;
     return GO_ON;
@@ -175,25 +150,19 @@ static enum taken tell_all(struct question *question, const struct passes *passe
 
 static enum taken explain_part(void *state, struct passes *passes, const struct part *part, size_t length) {
     struct question *question = state;
-    const struct options *options = passes->options;
-    uint64_t filled, answer;
-    answer = rudignals_write_indexed(options->block, options->block_len, part->bytes, part->length, passes->room.bytes, length, question->index, part->length, &filled);
-    if (answer != length)
-        return not_as_before(passes);
+    if (!index_measured(passes, part, length, &question->index))
+        return BROKEN;
     if (question->one)
-        return tell_one(question, options, part, passes->room.bytes, length);
-    return tell_all(question, passes, part, filled, length);
+        return tell_one(question, passes->options, part, passes->room.bytes, length);
+    return tell_all(question, passes, part, length);
 }
 
 static bool explain_file(struct question *question, const struct options *options, const char *name) {
     static struct passes passes;
     bool whole = measure_file(&passes, options, name);
     if (whole) {
-        question->index = malloc(MOST_PART * sizeof *question->index);
-        if (question->index == NULL)
-            say("%s: no memory for the index", label_of(name));
-        whole = question->index != NULL && take_parts(&passes, explain_part, question);
-        free(question->index);
+        whole = take_parts(&passes, explain_part, question);
+        free_index(&question->index);
         close_file(&passes);
     }
     free_passes(&passes);
@@ -236,8 +205,7 @@ const struct subcommand explain_subcommand = {
               "in words, and its text or, where that is not UTF-8, text-hex. A file is\n"
               "explained whole or refused whole.\n"
               "\n"
-              "Limits: a file may have any length, but no more than 65536 bytes without\n"
-              "an empty line and no more than 1024 words in a paragraph.\n",
+              LIMIT,
     .statuses = "0 all was told; 1 something was refused, not read or not\n"
                 "written, or there is no such line; 2 a wrong call",
     .run = run_explain,

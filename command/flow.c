@@ -6,7 +6,7 @@
 
 #include <inttypes.h>
 
-/* What is told of a mail behind it. A line goes from part to part: they are cut at blank lines. */
+/* What is told of a mail after it. A line goes from part to part: they are cut at blank lines. */
 struct told {
     uint64_t dashes;
     size_t longest; /* line, in octets */
@@ -94,8 +94,7 @@ const struct subcommand flow_subcommand = {
               "line has over 998 octets, the notes attached; if they are refused the mail\n"
               "says so.\n"
               "\n"
-              "Limits: a file may have any length, but no more than 65536 bytes without\n"
-              "an empty line and no more than 1024 words in a paragraph.\n",
+              LIMIT,
     .statuses = "0 all was written; " STATUSES,
     .draws = true,
     .run = run_flow,

@@ -135,7 +135,7 @@ static int draw_until_ended(struct show *show, bool screen, bool hushed) {
     return end.written ? drawing.status : FAILED;
 }
 
-/* What was said while the screen was drawn on is said behind it. */
+/* What was said while the screen was drawn on is said after it. */
 int follow(struct show *show) {
     bool screen = show->text && view_of_output().terminal, hushed = screen && isatty(STDERR_FILENO);
     sigset_t set = watched();

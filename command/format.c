@@ -119,8 +119,7 @@ const struct subcommand format_subcommand = {
               "or none if one is refused or cannot be read; with --skip-refused a line that\n"
               "says so stands in its place.\n"
               "\n"
-              "Limits: a file may have any length, but no more than 65536 bytes without\n"
-              "an empty line and no more than 1024 words in a paragraph.\n",
+              LIMIT,
     .statuses = "0 all was formatted; 1 something was refused, not read or not\n"
                 "written; 2 a wrong call",
     .run = run_format,

@@ -32,7 +32,7 @@ struct view view_of_output(void) {
     return view;
 }
 
-/* ---- where the panel stands in a window */
+/* ---- where the panel is in a window */
 
 /* The cells and one line below them. */
 enum { LEAST_ROWS = ROWS + 1 };
@@ -69,7 +69,7 @@ static void put_colour(const struct canvas *canvas, const char *colour) {
         fputs(colour, canvas->out);
 }
 
-/* Terminals do not agree on the width of every character: behind one beyond ASCII the cursor is put to the next cell. */
+/* Terminals do not agree on the width of every character: after one beyond ASCII the cursor is put to the next cell. */
 static void draw_character(const struct canvas *canvas, uint32_t character, int next) {
     put_character(canvas->out, character);
     if (canvas->view->terminal && character > '~')
@@ -99,7 +99,7 @@ static void draw_cells(const struct canvas *canvas, int row) {
         put_colour(canvas, COLOUR[PLAIN]);
 }
 
-/* Beside the words of a failure the sides are another, and so is the left one of a row that goes on with the line above: no notes can feign
+/* Beside the words of a failure the sides are others, and so is the left one of a row that goes on with the line above: no notes can imitate
  * that. */
 static char side_of(const struct canvas *canvas, int row, bool left) {
     if (row >= ROWS - canvas->panel->bar)

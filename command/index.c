@@ -5,7 +5,6 @@
 #include "subcommand.h"
 
 #include <inttypes.h>
-#include <stdlib.h>
 
 /* What is asked, and what the parts before had. */
 struct search {
@@ -13,7 +12,7 @@ struct search {
     uint64_t line; /* from 0, as the library counts */
     bool found;
     uint64_t lines_before;
-    struct rudignals_record *index;
+    struct index index;
 };
 
 static bool show_record(const struct search *search, const struct part *part, const struct rudignals_record *record) {
@@ -39,41 +38,34 @@ static bool show_notes(const struct search *search, const struct part *part, con
     return well;
 }
 
-/* The records of a part, moved on by what stands before it; or, of the part that holds the line, the notes under it. The parts join by the
+/* The records of a part, moved on by what is before it; or, of the part that holds the line, the notes under it. The parts join by the
  * theorem `the-indexes-join'. */
-static enum taken show_part(struct search *search, const struct part *part, uint64_t filled) {
-    uint64_t found[2], i;
+static enum taken show_part(struct search *search, const struct part *part) {
+    const struct rudignals_record *records = search->index.records;
+    uint64_t found[2], filled = search->index.filled, i;
     if (search->one) {
-        search->found = rudignals_lookup(search->index, filled, filled, part->bytes, part->length, search->line - search->lines_before, found) == 1;
+        search->found = rudignals_lookup(records, filled, filled, part->bytes, part->length, search->line - search->lines_before, found) == 1;
         if (search->found)
             return show_notes(search, part, found) ? ENOUGH : BROKEN;
     }
     for (i = 0; !search->one && i < filled; i++)
-        if (!show_record(search, part, &search->index[i]))
+        if (!show_record(search, part, &records[i]))
             return BROKEN;
-    if (filled > 0)
-        search->lines_before += search->index[filled - 1].first + search->index[filled - 1].count;
+    search->lines_before += lines_of_index(&search->index);
     return GO_ON;
 }
 
-/* As many records as there are bytes always do. */
-static enum taken index_part(void *state, struct passes *passes, const struct part *part, size_t length) {
+static enum taken take_index(void *state, struct passes *passes, const struct part *part, size_t length) {
     struct search *search = state;
-    const struct options *options = passes->options;
-    uint64_t filled, answer;
-    answer = rudignals_write_indexed(options->block, options->block_len, part->bytes, part->length, passes->room.bytes, length, search->index, part->length, &filled);
-    return answer == length ? show_part(search, part, filled) : not_as_before(passes);
+    return index_measured(passes, part, length, &search->index) ? show_part(search, part) : BROKEN;
 }
 
 static bool index_file(struct search *search, const struct options *options, const char *name) {
     static struct passes passes;
     bool whole = measure_file(&passes, options, name);
     if (whole) {
-        search->index = malloc(MOST_PART * sizeof *search->index);
-        if (search->index == NULL)
-            say("%s: no memory for the index", label_of(name));
-        whole = search->index != NULL && take_parts(&passes, index_part, search);
-        free(search->index);
+        whole = take_parts(&passes, take_index, search);
+        free_index(&search->index);
         close_file(&passes);
     }
     free_passes(&passes);
@@ -113,8 +105,7 @@ const struct subcommand index_subcommand = {
               "line, its place and length and the notes, or, where they are not UTF-8,\n"
               "notes-hex. A file is shown whole or refused whole.\n"
               "\n"
-              "Limits: a file may have any length, but no more than 65536 bytes without\n"
-              "an empty line and no more than 1024 words in a paragraph.\n",
+              LIMIT,
     .statuses = "0 all was shown; 1 something was refused, not read or not\n"
                 "written, or there is no such line; 2 a wrong call",
     .run = run_index,

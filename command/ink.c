@@ -1,6 +1,6 @@
-/* The words of a text: what stands between blanks, the full White_Space set. A byte at which no character begins is part of a word.
+/* The words of a text: what is between blanks, the full White_Space set. A byte at which no character begins is part of a word.
  *
- * Of a line that is formatted the prefix is no word: it stands before each line of the digest again, however many those are. */
+ * Of a line that is formatted the prefix is no word: it is before each line of the digest again, however many those are. */
 #include "ink.h"
 
 #include "damage.h"
@@ -50,7 +50,7 @@ static bool all_ascii(const uint8_t *at, const uint8_t *end) {
     return at == end;
 }
 
-/* The place behind a prefix, or null: it stands at the line's start or, unless it is exact, behind the blanks there. The line's own blanks
+/* The place after a prefix, or null: it is at the line's start or, unless it is exact, after the blanks there. The line's own blanks
  * may be the prefix's first signs, so each place among them is tried. */
 static const uint8_t *behind_prefix(const uint8_t *line, const uint8_t *end, const uint8_t *prefix, size_t length, bool exact) {
     const uint8_t *at = line;

@@ -6,7 +6,7 @@
 #include <stddef.h>
 #include <stdint.h>
 
-/* What the options say of a line's first signs: which lines are formatted, and what stands before their words. Null is not given. */
+/* What the options say of a line's first signs: which lines are formatted, and what is before their words. Null is not given. */
 struct heads {
     const uint8_t *prefix, *skip;
     size_t prefix_len, skip_len;

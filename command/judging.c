@@ -101,7 +101,7 @@ static void drop_texts(struct audited *row) {
 
 /* ---- threads */
 
-/* No thread begins a pair that is so many behind the one to be handed over: the texts of a few are in memory, not of all. */
+/* No thread begins a pair that is so many after the one to be handed over: the texts of a few are in memory, not of all. */
 enum { MOST_AHEAD = 64, MOST_JOBS = 64 };
 
 struct work {

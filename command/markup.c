@@ -39,7 +39,7 @@ static uint32_t character_in(const uint8_t *bytes, size_t length) {
     return character;
 }
 
-/* A bar behind the character stands on the panel in the column that follows it. Each character is asked for once. */
+/* A bar after the character stands on the panel in the column that follows it. Each character is asked for once. */
 static unsigned columns_of(uint32_t character, const uint8_t *bytes, size_t length) {
     static uint8_t known[0x110000]; /* one more than its columns; 0: not asked for yet */
     uint32_t cells[RUDIGNALS_PANEL_CELLS], *row = cells + RUDIGNALS_PANEL_CELLS - RUDIGNALS_PANEL_COLUMNS;

@@ -19,7 +19,7 @@ struct matching {
     size_t missing, added; /* how many of the left and of the right have no match */
 };
 
-/* Compares the words of two texts. Words are matched from the front as far as they agree, what is behind that by a longest common
+/* Compares the words of two texts. Words are matched from the front as far as they agree, what is after that by a longest common
  * subsequence. Answers false without memory. */
 bool match(struct matching *matching, struct inks left, struct inks right);
 void free_matching(struct matching *matching);

@@ -1,6 +1,6 @@
 /* Notes mended in memory.
  *
- * What is mended, and how, is rudignals_mend's matter: each line by itself (P5). So notes are cut at line ends for it. A line that is longer
+ * What is mended, and how, is rudignals_mend's matter: each line by itself (RULES 14). So notes are cut at line ends for it. A line that is longer
  * than a call takes is cut anywhere; whether it is mended is decided for the whole of it before. */
 #include "mend.h"
 
@@ -25,7 +25,7 @@ size_t count_nameless(const uint8_t *bytes, size_t length) {
 static uint32_t places[MOST];
 static uint8_t changed[MOST];
 
-/* Puts the mended part behind the copy. There is room for the longest copy and list, so nothing but memory can be missing. */
+/* Puts the mended part after the copy. There is room for the longest copy and list, so nothing but memory can be missing. */
 static bool mend_part(struct buffer *copy, const uint8_t *part, size_t length, size_t *changes) {
     uint64_t answer;
     if (!buffer_room(copy, 2 * length + 1))

@@ -3,19 +3,14 @@
 #define MEND_H
 
 #include "buffer.h"
-#include "rudignals.h"
-
-/* A call of the library is given at most so many bytes of notes. Tests make it small, to have many parts. */
-#ifndef MOST_PART
-#define MOST_PART RUDIGNALS_MOST_NOTES
-#endif
+#include "limits.h"
 
 /* How many lines were mended, how many bytes of them were changed, and how many of these are 80 to 9F, for which ISO 8859-1 has no letter. */
 struct mended {
     size_t lines, bytes, nameless;
 };
 
-/* Notes come in from their front, in parts of any length, and go out mended. All zero at first; what goes out stands in memory line by line. */
+/* Notes come in from their front, in parts of any length, and go out mended. All zero at first; what goes out is in memory line by line. */
 struct mender {
     struct buffer raw;  /* the beginning of a line whose end has not come in */
     struct buffer copy; /* mended, and from `taken` on not out yet */

@@ -1,6 +1,6 @@
 /* A whole mail (RFC 5322, 2045, 2047, 3676).
  *
- * Nothing of the notes or of a file's name stands in a header as it is: what is not printable ASCII is written as encoded words, and so no
+ * Nothing of the notes or of a file's name is in a header as it is: what is not printable ASCII is written as encoded words, and so no
  * line end in it can begin a header of its own. */
 #define _GNU_SOURCE /* getentropy */
 #include "mime.h"
@@ -290,7 +290,7 @@ static bool add_attachment(struct buffer *out, const struct attachment *attachme
            add_file_name(out, attachment->name) && buffer_add(out, "\r\n\r\n", 4) && add_base64_lines(out, attachment->bytes, attachment->length);
 }
 
-/* The parts, each behind a line that no part has: it is chance, and no line of base64 or of quoted-printable has its first signs. */
+/* The parts, each after a line that no part has: it is chance, and no line of base64 or of quoted-printable has its first signs. */
 static bool add_parts(struct buffer *out, const struct mail *mail) {
     char hex[33];
     size_t i;

@@ -22,7 +22,7 @@ struct mail {
     size_t attached;
 };
 
-/* Puts the mail behind the buffer. Answers false, with errno, without memory or without chance for its number. */
+/* Puts the mail after the buffer. Answers false, with errno, without memory or without chance for its number. */
 bool add_mail(struct buffer *out, const struct mail *mail);
 /* Is this one address that can stand in a header: ASCII, with one @, or a name in UTF-8 and such an address in < >? */
 bool is_address(const char *text);

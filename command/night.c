@@ -2,8 +2,6 @@
 #define _POSIX_C_SOURCE 200809L
 #include "night.h"
 
-#include "cut.h"
-#include "lines.h"
 #include "say.h"
 #include "subcommand.h"
 
@@ -12,41 +10,6 @@
 #include <stdlib.h>
 #include <string.h>
 #include <sys/wait.h>
-
-/* ---- the digest of notes in memory */
-
-static bool write_digest_part(struct night *night, const struct part *part, uint64_t answer) {
-    struct buffer *text = &night->digest.text;
-    uint64_t dashes = 0;
-    if (!buffer_room(text, rudignals_number_of(answer)))
-        return false;
-    text->length += rudignals_number_of(write_part(night->options, false, part, text->bytes + text->length, rudignals_number_of(answer), &dashes));
-    return true;
-}
-
-/* Once something is refused no more is written, but a lower code may still come. Answers false without memory. */
-static bool digest_notes(struct night *night) {
-    struct refusal *refusal = &night->digest.refusal;
-    struct part part = {night->notes.bytes, 0, 0, 0};
-    uint64_t answer;
-    night->digest.text.length = 0;
-    refusal->code = RUDIGNALS_DONE;
-    while (part.bytes_before < night->notes.length) {
-        part.bytes = night->notes.bytes + part.bytes_before;
-        part.length = first_part(part.bytes, night->notes.length - part.bytes_before, true);
-        if (part.length == 0) {
-            refuse_uncut(refusal, &part);
-            return true;
-        }
-        answer = measure_part(night->options, false, &part);
-        refuse_part(refusal, &part, answer);
-        if (refusal->code == RUDIGNALS_DONE && !write_digest_part(night, &part, answer))
-            return false;
-        part.bytes_before += part.length;
-        part.lines_before += feeds(part.bytes, part.length);
-    }
-    return true;
-}
 
 /* ---- a night */
 
@@ -76,10 +39,10 @@ static void read_notes(struct night *night) {
         say_failure(night->name, errno);
         night->notes.length = 0;
         fail(night, NOT_READ);
-    } else if (!mend_read(night) || !digest_notes(night)) {
+    } else if (!mend_read(night)) {
         say_failure(night->name, ENOMEM);
         fail(night, NOT_READ);
-    } else if (night->digest.refusal.code != RUDIGNALS_DONE) {
+    } else if (!digest_bytes(&night->digest, night->options, (struct bytes){night->notes.bytes, night->notes.length})) {
         say_refusal(night->name, &night->digest.refusal);
         night->digest.text.length = 0;
         fail(night, REFUSED);
@@ -229,9 +192,8 @@ const struct subcommand night_subcommand = {
               "Where -c, -t, -m or -p is given the mail has the digest's own lines; else they\n"
               "flow.\n"
               "\n"
-              "Limits: a file may have any length, but no more than 65536 bytes without\n"
-              "an empty line and no more than 1024 words in a paragraph; a page shows at most\n"
-              "65536 lines or 4 MiB of digest.\n",
+              LIMIT
+              "Of a digest of more than 65536 lines or 4 MiB the page shows the last.\n",
     .statuses = "0 every night was made; " STATUSES,
     .run = run_night,
 };

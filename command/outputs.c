@@ -3,7 +3,6 @@
 #define _POSIX_C_SOURCE 200809L
 #include "night.h"
 
-#include "cut.h"
 #include "drawn.h"
 #include "json.h"
 #include "lines.h"
@@ -32,7 +31,7 @@ static const char *reason_of(const struct night *night) { return night->reason =
 
 /* ---- digest.txt */
 
-/* What stands in the place of a digest: the refusal, and the notes as they are. */
+/* What is in the place of a digest: the refusal, and the notes as they are. */
 static bool add_refusal(struct buffer *out, const struct night *night) {
     bool well = buffer_print(out, "%s\n%s\n", headline(night), reason_of(night));
     if (night->notes.length == 0)
@@ -64,20 +63,20 @@ static bool add_fixed(struct buffer *out, const struct buffer *text) {
     return well;
 }
 
+static struct bytes bytes_of(const struct buffer *buffer) { return (struct bytes){buffer->bytes, buffer->length}; }
+
 /* The options of mail: what the library refuses in a block for mail is laid out in fixed lines. */
 static bool add_flowed(struct buffer *out, const struct night *night) {
-    size_t at = 0, length;
     uint64_t answer, dashes = 0;
     struct part part = {0};
-    for (; at < night->notes.length; at += length) {
-        length = first_part(night->notes.bytes + at, night->notes.length - at, true);
-        part = (struct part){night->notes.bytes + at, length, 0, 0};
-        answer = length == 0 ? (uint64_t)RUDIGNALS_LONG << 32 : measure_part(night->options, true, &part);
+    enum found found;
+    while ((found = next_part_of(&own_work, block_of(night->options), bytes_of(&night->notes), MOST_PART, &part)) == PART) {
+        answer = measure_part(night->options, true, &part);
         if (rudignals_code_of(answer) != RUDIGNALS_DONE || !buffer_room(out, rudignals_number_of(answer)))
             return false;
         out->length += rudignals_number_of(write_part(night->options, true, &part, out->bytes + out->length, rudignals_number_of(answer), &dashes));
     }
-    return true;
+    return found == NO_PART;
 }
 
 static bool add_mail_text(struct buffer *out, const struct night *night) {
@@ -140,7 +139,7 @@ static bool make_mail(struct night *night, struct buffer *out) {
 
 /* ---- what is drawn: page.html, wall.svg, wall.html */
 
-/* Puts what was drawn behind the file. */
+/* Puts what was drawn after the file. */
 static bool add_sheet(struct buffer *out, struct sheet *sheet) {
     bool well = close_sheet(sheet) && buffer_add(out, sheet->bytes, sheet->length);
     free(sheet->bytes);
@@ -192,24 +191,21 @@ static bool add_records(struct buffer *out, const struct rudignals_record *index
 
 /* Part by part, as the notes were formatted: the records of one join on to those of the next. */
 static bool add_index(struct buffer *out, const struct night *night) {
-    struct rudignals_record *index = malloc((MOST_PART + 1) * sizeof *index);
+    struct index index = {0};
     struct buffer room = {0};
-    uint64_t filled = 0, lines = 0, answer;
-    size_t at = 0, length;
-    bool well = index != NULL;
-    for (; well && at < night->notes.length; at += length) {
-        struct part part = {night->notes.bytes + at, 0, 0, 0};
-        part.length = length = first_part(night->notes.bytes + at, night->notes.length - at, true);
+    struct part part = {0};
+    uint64_t lines = 0, answer;
+    bool well = true;
+    while (well && next_part_of(&own_work, block_of(night->options), bytes_of(&night->notes), MOST_PART, &part) == PART) {
         answer = measure_part(night->options, false, &part);
-        room.length = 0;
-        well = length > 0 && buffer_room(&room, rudignals_number_of(answer) + 1u);
+        well = buffer_room(&room, rudignals_number_of(answer) + 1u);
         if (well)
-            answer = rudignals_write_indexed(night->options->block, night->options->block_len, part.bytes, length, room.bytes, rudignals_number_of(answer), index, length, &filled);
-        well = well && rudignals_code_of(answer) == RUDIGNALS_DONE && add_records(out, index, filled, at, lines);
-        lines += well && filled > 0 ? index[filled - 1].first + index[filled - 1].count : 0;
+            answer = index_part(night->options, &part, room.bytes, rudignals_number_of(answer), &index);
+        well = well && rudignals_code_of(answer) == RUDIGNALS_DONE && add_records(out, index.records, index.filled, part.bytes_before, lines);
+        lines += well ? lines_of_index(&index) : 0;
     }
     buffer_free(&room);
-    free(index);
+    free_index(&index);
     return well;
 }
 

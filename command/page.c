@@ -6,8 +6,10 @@
 #include "page.h"
 
 #include "cut.h"
+#include "damage.h"
 #include "drawn.h"
 #include "lines.h"
+#include "nextmail.h"
 #include "output.h"
 #include "subcommand.h"
 
@@ -16,53 +18,60 @@
 
 /* ---- the pieces and lines of the digest */
 
-/* Behind the pieces so far: that of a record, whose part begins at `at` in the notes. */
-static bool add_piece(struct page *page, const struct rudignals_record *record, size_t at, size_t length) {
-    const struct piece *last = page->pieces_len == 0 ? NULL : &page->pieces[page->pieces_len - 1];
-    struct piece *piece = &page->pieces[page->pieces_len++];
+/* The piece of a record, whose part begins at `at` in the notes, after the last one. */
+static bool find_piece(const struct page *page, const struct rudignals_record *record, size_t at, size_t length, struct piece *last) {
     uint64_t part[2];
     if (rudignals_lookup(record, 1, 1, page->notes + at, length, record->first, part) == 0)
         return false;
-    piece->place = at + (size_t)part[0];
-    piece->length = (size_t)part[1];
-    piece->note = last == NULL ? 1 : last->note + feeds(page->notes + last->place, last->length);
-    piece->first = last == NULL ? 0 : last->first + last->count;
-    piece->count = (size_t)record->count;
+    *last = (struct piece){.place = at + (size_t)part[0],
+                           .length = (size_t)part[1],
+                           .note = last->note + feeds(page->notes + last->place, last->length),
+                           .first = last->first + last->count,
+                           .count = (size_t)record->count};
     return true;
 }
 
+/* As far as it is shown. */
+static void add_piece(struct page *page, struct piece piece) {
+    if (piece.first + piece.count <= page->above)
+        return;
+    piece.hidden = piece.first < page->above ? page->above - piece.first : 0;
+    piece.first += piece.hidden;
+    piece.count -= piece.hidden;
+    page->pieces[page->pieces_len++] = piece;
+}
+
 /* A part of the notes: its digest is written where it stands already, for the index beside it. */
-static bool index_part(struct page *page, size_t at, size_t length, size_t *digest_at) {
-    struct rudignals_record *index = malloc((length + 1) * sizeof *index);
-    uint64_t filled, i, answer;
-    bool well = index != NULL;
-    if (!well)
-        return false;
-    answer = rudignals_write_indexed(page->options->block, page->options->block_len, page->notes + at, length, page->digest->text.bytes + *digest_at,
-                                     page->digest->text.length - *digest_at, index, length, &filled);
-    well = rudignals_code_of(answer) == RUDIGNALS_DONE;
-    for (i = 0; well && i < filled; i++)
-        well = add_piece(page, &index[i], at, length);
+static bool add_pieces(struct page *page, const struct part *part, struct index *index, size_t *digest_at, struct piece *last) {
+    const struct buffer *text = &page->digest->text;
+    uint64_t answer = index_part(page->options, part, text->bytes + *digest_at, text->length - *digest_at, index), i;
+    bool well = rudignals_code_of(answer) == RUDIGNALS_DONE;
+    for (i = 0; well && i < index->filled; i++) {
+        well = find_piece(page, &index->records[i], part->bytes_before, part->length, last);
+        if (well)
+            add_piece(page, *last);
+    }
     *digest_at += rudignals_number_of(answer);
-    free(index);
     return well;
 }
 
 /* The parts are those that were formatted: the index of one joins on to the next (the theorem `the-indexes-join`). */
 static bool find_pieces(struct page *page) {
-    size_t at = 0, digest_at = 0, length;
-    for (; at < page->notes_len; at += length) {
-        length = first_part(page->notes + at, page->notes_len - at, true);
-        if (length == 0 || !index_part(page, at, length, &digest_at))
-            return false;
-    }
-    return true;
+    struct part part = {0};
+    struct index index = {0};
+    struct piece last = {.note = 1};
+    size_t digest_at = 0;
+    bool well = true;
+    while (well && next_part_of(&own_work, block_of(page->options), (struct bytes){page->notes, page->notes_len}, MOST_PART, &part) == PART)
+        well = add_pieces(page, &part, &index, &digest_at, &last);
+    free_index(&index);
+    return well;
 }
 
 static void find_lines(struct page *page) {
     const uint8_t *bytes = page->digest->text.bytes, *feed;
     uint64_t tab = tab_of(page->options);
-    size_t at = 0, i;
+    size_t at = page->shown_from, i;
     for (i = 0; i < page->lines_len; i++) {
         struct line *line = &page->lines[i];
         feed = memchr(bytes + at, '\n', page->digest->text.length - at);
@@ -83,20 +92,23 @@ enum { MOST_ASKED = 1 << 28 };
 static void explain_stretch(struct page *page, const struct piece *from, const struct piece *to) {
     size_t length = to->place + to->length - from->place, count = to->first + to->count - from->first, i;
     for (i = 0; i < count && length <= MOST_ASKED / count; i++) {
-        struct line *line = &page->lines[from->first + i];
-        uint64_t answer = rudignals_explain(page->options->block, page->options->block_len, page->notes + from->place, length, i, line->reason);
+        struct line *line = &page->lines[from->first - page->above + i];
+        uint64_t answer = lent_explain(&own_work, block_of(page->options), (struct bytes){page->notes + from->place, length}, from->hidden + i, line->reason);
         line->asked = rudignals_code_of(answer) == RUDIGNALS_DONE;
     }
 }
 
 static void explain_lines(struct page *page) {
     const struct piece *end = page->pieces + page->pieces_len, *from, *to;
+    bool begun = page->above > 0 && asks_for_mail(block_of(page->options)); /* next-mail is not known there */
     for (from = page->pieces; from < end; from = to + 1) {
         to = from;
         if (!parts_notes(page->notes + from->place, from->length))
             while (to + 1 < end && !parts_notes(page->notes + to[1].place, to[1].length))
                 to++;
-        explain_stretch(page, from, to);
+        if (!begun)
+            explain_stretch(page, from, to);
+        begun = false;
     }
 }
 
@@ -113,22 +125,36 @@ static bool read_page(struct page *page) {
     return true;
 }
 
-/* What a browser can show at once. Notes of 65,536 bytes have no more lines, but an indent of thousands of columns may have their digest be
- * longer. */
+/* What a browser can show at once: the last of a longer digest. */
 enum { MOST_LINES = 65536, MOST_BYTES = 4 << 20 };
 
-static bool fits_page(const struct page *page) {
-    if (page->lines_len <= MOST_LINES && page->digest->text.length <= MOST_BYTES)
-        return true;
-    say("%s: the digest has %lu lines and %lu bytes, and a page shows at most %d and %d; `rudignals format' writes it", page->label,
-        (unsigned long)page->lines_len, (unsigned long)page->digest->text.length, MOST_LINES, MOST_BYTES);
-    return false;
+static size_t line_before(const struct buffer *text, size_t end) {
+    do
+        end--;
+    while (end > 0 && text->bytes[end - 1] != '\n');
+    return end;
+}
+
+/* From the end of the digest up, as many lines as there is room for. Every line is ended. */
+static void choose_lines(struct page *page) {
+    const struct buffer *text = &page->digest->text;
+    size_t from = text->length, before;
+    page->lines_len = 0;
+    while (from > 0 && page->lines_len < MOST_LINES) {
+        before = line_before(text, from);
+        if (text->length - before > MOST_BYTES && page->lines_len > 0)
+            break;
+        from = before;
+        page->lines_len++;
+    }
+    page->shown_from = from;
+    page->above = feeds(text->bytes, from);
+    page->damaged_above = damaged_lines(text->bytes, 0, from);
 }
 
 enum outcome find_page(struct page *page, enum outcome outcome) {
-    page->lines_len = outcome == MADE ? feeds(page->digest->text.bytes, page->digest->text.length) : 0;
-    if (outcome == MADE && !fits_page(page))
-        outcome = REFUSED;
+    if (outcome == MADE)
+        choose_lines(page);
     if (outcome == MADE && !read_page(page)) {
         say("%s: no memory for the page", page->label);
         outcome = NOT_READ;
@@ -256,8 +282,8 @@ const struct subcommand page_subcommand = {
               "digest, because FILE is refused or cannot be read, the page says so, and shows\n"
               "the notes and the place in them.\n"
               "\n"
-              "Limits: no more than 65536 bytes without an empty line, 1024 words in a\n"
-              "paragraph, and 65536 lines or 4 MiB of digest.\n",
+              LIMIT
+              "Of a digest of more than 65536 lines or 4 MiB the page shows the last.\n",
     .statuses = "0 the page shows a digest; 1 something was refused, not read or\n"
                 "not written; 2 a wrong call",
     .draws = true,

@@ -39,6 +39,7 @@ struct piece {
     size_t place, length;
     unsigned long note;
     size_t first, count;
+    size_t hidden; /* so many of its lines stand above those that are shown, and do not count here */
 };
 
 struct page {
@@ -52,6 +53,8 @@ struct page {
     size_t pieces_len;
     struct line *lines;
     size_t lines_len;
+    size_t shown_from; /* in the digest */
+    size_t above, damaged_above; /* lines of the digest that are not shown: a page has no room for them */
     struct mended mended; /* before it was formatted; the notes are the mended ones */
     struct facts facts;
     struct panel panel;

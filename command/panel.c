@@ -77,8 +77,7 @@ const struct subcommand panel_subcommand = {
               "there and is no such drawing is not written over. With --follow a drawing that\n"
               "cannot be written, on a full disk say, is tried again, and told.\n"
               "\n"
-              "Limits: a file may have any length, but no more than 65536 bytes without\n"
-              "an empty line and no more than 1024 words in a paragraph.\n",
+              LIMIT,
     .statuses = "0 the digest was shown; 1 something was refused, not read or not\n"
                 "written; 2 a wrong call. With --follow it is that of the last drawing",
     .draws = true,

@@ -64,7 +64,7 @@ struct cell {
 };
 struct cell cell_at(const struct panel *panel, int row, int column);
 uint32_t below_at(const struct panel *panel, enum line_below line, int column);
-/* How many columns of the line are not blank behind it: 0 if there is none. */
+/* How many columns of the line are not blank after it: 0 if there is none. */
 int below_length(const struct panel *panel, enum line_below line);
 /* Writes a character in UTF-8; and as text of a picture or a page, escaped. */
 void put_character(FILE *out, uint32_t character);
@@ -73,7 +73,7 @@ void put_below_escaped(FILE *out, const struct panel *panel, enum line_below lin
 
 /* ---- runs.c: cells that are drawn as one text */
 
-/* How a character stands beside its neighbours: by itself, or in one text with those of its kind. */
+/* How a character is beside its neighbours: by itself, or in one text with those of its kind. */
 enum script { ALONE, JOINED, FROM_RIGHT };
 /* How many columns from this one on are one text: 1 if the cell stands by itself. */
 int run_length(const struct panel *panel, int row, int column, enum script *script);

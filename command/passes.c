@@ -36,12 +36,12 @@ static bool remember(struct passes *passes, size_t *most, const struct part *par
     return buffer_add(&passes->known, &known, sizeof known);
 }
 
-/* Once something is refused no more is remembered, but a lower code may still come; not behind what has no cut. */
+/* Once something is refused no more is remembered, but a lower code may still come; not after what has no cut. */
 static bool measure_parts(struct passes *passes, struct refusal *refusal, size_t *most) {
     struct part part = {0};
     enum found found;
     uint64_t answer;
-    while ((found = next_part(&passes->window, &part)) == PART) {
+    while ((found = next_part(&passes->window, passes->options, &part)) == PART) {
         answer = measure_part(passes->options, passes->mail, &part);
         if (rudignals_code_of(answer) != RUDIGNALS_DONE)
             refuse_part(refusal, &part, answer);
@@ -95,6 +95,17 @@ enum taken not_as_before(const struct passes *passes) {
     return BROKEN;
 }
 
+bool index_measured(struct passes *passes, const struct part *part, size_t length, struct index *index) {
+    uint64_t answer = index_part(passes->options, part, passes->room.bytes, length, index);
+    if (answer == length)
+        return true;
+    if (rudignals_code_of(answer) == RUDIGNALS_INDEX_FULL || rudignals_code_of(answer) == RUDIGNALS_WORK_ROOM)
+        say("%s: no memory for the index", passes->label);
+    else
+        not_as_before(passes);
+    return false;
+}
+
 static size_t parts_known(const struct passes *passes) { return passes->known.length / sizeof(struct known); }
 
 /* A part is looked at before it is written. */
@@ -111,7 +122,7 @@ bool take_parts(struct passes *passes, take_part *take, void *state) {
     enum taken taken = GO_ON;
     size_t number = 0;
     if (rewind_window(&passes->window))
-        while (taken == GO_ON && (found = next_part(&passes->window, &part)) == PART)
+        while (taken == GO_ON && (found = next_part(&passes->window, passes->options, &part)) == PART)
             taken = take_next(passes, &part, number++, take, state);
     if (taken != GO_ON)
         return taken == ENOUGH;
@@ -131,5 +142,5 @@ void free_passes(struct passes *passes) {
     buffer_free(&passes->kept);
     buffer_free(&passes->known);
     buffer_free(&passes->room);
-    free_mender(&passes->window.mender);
+    free_window(&passes->window);
 }

@@ -26,8 +26,10 @@ typedef enum taken take_part(void *state, struct passes *passes, const struct pa
 bool take_parts(struct passes *passes, take_part *take, void *state);
 /* A part that is not as it was measured: so the file was changed. */
 enum taken not_as_before(const struct passes *passes);
+/* Writes the part into passes->room, with its index. Says why, if it fails. */
+bool index_measured(struct passes *passes, const struct part *part, size_t length, struct index *index);
 
-/* Behind each file that was measured; and behind all of them. */
+/* After each file that was measured; and after all of them. */
 void close_file(struct passes *passes);
 void free_passes(struct passes *passes);
 

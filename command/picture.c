@@ -16,7 +16,7 @@ static void draw_rectangle(FILE *out, int x, int y, int width, int height, const
 
 /* ---- cells */
 
-/* Halves: the middle of one cell stands between two dots. */
+/* Halves: the middle of one cell is between two dots. */
 static void begin_text(FILE *out, int twice_x, int y, const char *class) {
     fprintf(out, "<text x=\"%d%s\" y=\"%d\"%s>", twice_x / 2, twice_x % 2 ? ".5" : "", y, class);
 }
@@ -38,7 +38,7 @@ static void draw_run(FILE *out, const struct panel *panel, int row, int column, 
     fputs("</text>\n", out);
 }
 
-/* A wide character stands in the middle of its two cells. */
+/* A wide character is in the middle of its two cells. */
 static void draw_cell(FILE *out, const struct panel *panel, int row, int column) {
     struct cell cell = cell_at(panel, row, column);
     bool wide = column + 1 < COLUMNS && cell_at(panel, row, column + 1).character == FILLER;

@@ -1,6 +1,7 @@
 /* What the library refuses, in words: what was given, the rule, and what to do. */
 #include "refusals.h"
 
+#include "limits.h"
 #include "say.h"
 
 #include <inttypes.h>
@@ -63,14 +64,11 @@ bool options_accepted(const struct options *options) {
 void say_refusal(const char *name, const struct refusal *at) {
     switch (at->code) {
     case RUDIGNALS_LONG:
-        say(AT "more than %u bytes from here on have no empty line; put one between paragraphs", name, at->line, at->column, RUDIGNALS_MOST_NOTES);
+        say(AT "more than %u bytes from here on are one paragraph or one line; part them by an empty line", name, at->line, at->column, (unsigned)MOST_LARGE);
         break;
     case RUDIGNALS_TEXT:
         say(AT "byte %02X begins no UTF-8 character; --keep leaves such a line as it is", name, at->line, at->column,
             (unsigned)at->byte);
-        break;
-    case RUDIGNALS_WORDS:
-        say(AT "the paragraph that begins here has more than %u words; part it by an empty line", name, at->line, at->column, RUDIGNALS_MOST_WORDS);
         break;
     default: say("%s: no memory for the formatted text", name);
     }

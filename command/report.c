@@ -46,7 +46,7 @@ static int days_of(int year, int month) {
     return DAYS[month - 1] + (leap && month == 2);
 }
 
-/* 2025-01-31, 2025/01/31 and their like, or 20250131; no digit before or behind it. */
+/* 2025-01-31, 2025/01/31 and their like, or 20250131; no digit before or after it. */
 static bool date_at(const char *at, struct day *day) {
     bool wide;
     if (!digits(at, 4, &day->year) || day->year < 1970 || day->year > 2199)
@@ -118,7 +118,7 @@ static size_t words_near(const struct side *side, size_t from, size_t number) {
     return from;
 }
 
-/* A line, its lost words in marks. `word` is the first of its words or of a later line; answers the first behind it. */
+/* A line, its lost words in marks. `word` is the first of its words or of a later line; answers the first after it. */
 static size_t put_marked(FILE *out, const struct side *side, const uint8_t *line, size_t length, size_t number, size_t word) {
     const uint8_t *at = line;
     const struct ink *ink;

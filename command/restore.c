@@ -20,7 +20,7 @@ struct entries {
     bool there;
 };
 
-/* `PLACE BYTE', a line feed behind it: what salvage writes. */
+/* `PLACE BYTE', a line feed after it: what salvage writes. */
 static bool read_entry(struct entries *list) {
     const char *line = (const char *)list->lines.line, *blank = memchr(line, ' ', list->lines.length);
     return blank != NULL && list->lines.fed && list->lines.length == (size_t)(blank - line) + 4 && read_number(line, (size_t)(blank - line), &list->place) &&
@@ -68,16 +68,19 @@ static bool restore_part(struct buffer *notes, struct entries *list, uint64_t fr
     return true;
 }
 
+/* A line of a mended copy has at most so many bytes. */
+enum { MOST_LINE = 2 * MOST_PART };
+
 static bool restore_window(const char *label, struct window *window, struct entries *list, struct buffer *notes) {
     size_t length;
     do {
-        if (!fill_window(window)) {
+        if (!fill_window(window, MOST_LINE)) {
             say_failure(label, errno);
             return false;
         }
-        length = lines_within(window, sizeof window->bytes);
+        length = lines_within(window, MOST_LINE);
         if (length == 0 && window->length > 0) {
-            say("%s: a line has more than %lu bytes; no mended copy has", label, (unsigned long)sizeof window->bytes);
+            say("%s: a line has more than %lu bytes; no mended copy has", label, (unsigned long)MOST_LINE);
             return false;
         }
         if (!restore_part(notes, list, notes->length, window->bytes, length))

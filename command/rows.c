@@ -71,15 +71,6 @@ static size_t end_of_text(struct stretch text, uint64_t tab, size_t *blank) {
     return end;
 }
 
-/* ---- damaged lines */
-
-static size_t damaged_in(const uint8_t *bytes, size_t from, size_t to) {
-    size_t count = 0, at = first_damage(bytes, to, from);
-    for (; at < to; count++)
-        at = first_damage(bytes, to, behind_line(bytes, to, at));
-    return count;
-}
-
 /* ---- folding */
 
 static uint64_t fold_into(struct buffer *out, const uint8_t *bytes, size_t length, uint64_t tab) {
@@ -98,7 +89,7 @@ static bool fold(struct buffer *out, const uint8_t *bytes, size_t length, uint64
     return rudignals_code_of(answer) == RUDIGNALS_DONE;
 }
 
-/* Does the line run past the panel? The mark is asked for; behind a line of 80 columns that ends in the mark's sign nothing is folded. */
+/* Does the line run past the panel? The mark is asked for; after a line of 80 columns that ends in the mark's sign nothing is folded. */
 static bool runs_over(const uint8_t *line, size_t length, uint64_t tab, struct buffer *room) {
     uint32_t cells[ROWS * COLUMNS];
     if (length <= COLUMNS && memchr(line, '\t', length) == NULL)
@@ -157,8 +148,8 @@ static void count_lines(struct rows *rows, struct stretch text, size_t top) {
     bool within = rows->count > 0 && rows->continued[0];
     size_t behind = within ? behind_line(text.bytes, text.length, top) : top;
     counts->above = feeds(text.bytes, top) + within;
-    counts->damaged_above = damaged_in(text.bytes, 0, behind);
-    counts->damaged = counts->damaged_above + damaged_in(text.bytes, behind, text.length);
+    counts->damaged_above = damaged_lines(text.bytes, 0, behind);
+    counts->damaged = counts->damaged_above + damaged_lines(text.bytes, behind, text.length);
     counts->lines = lines_in(text.bytes, text.length);
 }
 

@@ -63,7 +63,7 @@ static int run_asked(int argc, char **argv) {
     return run_named(argc - 1, argv + 1);
 }
 
-/* The name behind the last slash. */
+/* The name after the last slash. */
 static const char *name_in(const char *path) {
     const char *slash = strrchr(path, '/');
     return slash == NULL ? path : slash + 1;

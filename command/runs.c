@@ -18,7 +18,7 @@ static enum script script_of(uint32_t c) {
 /* Signs and digits stand in a word of any script. */
 static bool is_sign(uint32_t c) { return within(c, '!', '@') || within(c, '[', '`') || within(c, '{', '~') || within(c, 0xA1, 0xBF) || c == 0x2026; }
 
-/* What stands between two blanks, or up to a cell of another kind; nothing at all where a blank stands. */
+/* What is between two blanks, or up to a cell of another kind; nothing at all where a blank stands. */
 struct word {
     int end;
     bool from_right, digits, other; /* what it has: other letters are neither signs nor written from the right */
@@ -61,7 +61,7 @@ static bool is_open_before(const struct panel *panel, int row, int column) {
     return open > 0;
 }
 
-/* A bracket that was opened before the words closes behind them. */
+/* A bracket that was opened before the words closes after them. */
 static int before_closing(const struct panel *panel, int row, int column, int end) {
     int open = 0, at;
     if (!is_open_before(panel, row, column))
@@ -71,7 +71,7 @@ static int before_closing(const struct panel *panel, int row, int column, int en
     return open < 0 ? at - 1 : end;
 }
 
-/* Words that are written from the right, one blank apart, and numbers behind them: a person reads them together. Of a word that has other
+/* Words that are written from the right, one blank apart, and numbers after them: a person reads them together. Of a word that has other
  * letters too, only those up to them. */
 static int end_from_right(const struct panel *panel, int row, int column) {
     struct word word = word_at(panel, row, column);

@@ -1,6 +1,6 @@
 /* rudignals salvage: notes in ISO 8859-1 made readable, with a list of what was changed.
  *
- * Lines are mended one by one (P5), so a file of any length is mended in parts that end with a line. All is in memory before a byte is
+ * Lines are mended one by one (RULES 14), so a file of any length is mended in parts that end with a line. All is in memory before a byte is
  * written. The list goes out first: a copy without its list could not be undone. Where the copy does not arrive the list is taken back. */
 #define _POSIX_C_SOURCE 200809L
 #include "listed.h"
@@ -39,7 +39,7 @@ static bool mend_window(const char *label, struct window *window, struct buffer 
     unsigned long place = 0;
     size_t length;
     do {
-        if (!fill_window(window)) {
+        if (!fill_window(window, 2 * MOST_PART)) {
             say_failure(label, errno);
             return false;
         }

@@ -11,7 +11,7 @@ enum { WELL = 0, FAILED = 1, WRONG_CALL = 2 };
 extern const char *called;
 extern const char *subject;
 
-/* One line on standard error, behind the name; nothing while the command is silent, since it draws on that terminal. What could act on a
+/* One line on standard error, after the name; nothing while the command is silent, since it draws on that terminal. What could act on a
  * terminal or look like another line is written out, wherever it goes. */
 void say(const char *sentence, ...) PRINTS(1, 2);
 extern bool silent;
@@ -21,7 +21,7 @@ const char *last_said(void);
 char *words(const char *sentence, ...) PRINTS(1, 2);
 /* A stream that failed, and the system's reason. */
 void say_failure(const char *name, int reason);
-/* Behind the words for a wrong call: where to read on. Answers the exit status. */
+/* After the words for a wrong call: where to read on. Answers the exit status. */
 int wrong_call(void);
 
 #endif

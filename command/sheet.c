@@ -92,6 +92,9 @@ static void put_note_lines(FILE *out, const uint8_t *bytes, size_t length, size_
 
 /* ---- the digest */
 
+/* The line of that number, from 0. */
+static const struct line *line_of(const struct page *page, size_t number) { return &page->lines[number - page->above]; }
+
 static bool is_damaged(const struct page *page, const struct line *line) {
     (void)page;
     return line->look.damaged > 0;
@@ -115,7 +118,7 @@ static void put_ruler(FILE *out, uint64_t goal, uint64_t width) {
 }
 
 static void put_digest_line(FILE *out, const struct page *page, size_t number, const struct piece *piece) {
-    const struct line *line = &page->lines[number];
+    const struct line *line = line_of(page, number);
     const char *class = is_damaged(page, line) ? " class=d" : is_over(page, line) ? " class=o" : "";
     fprintf(out, "<a id=%zu%s href=#n%lu>", number + 1, class, piece->note);
     put_line(out, page->digest->text.bytes + line->at, line->length, tab_of(page->options));
@@ -139,7 +142,7 @@ static bool is_alike(const struct page *page, const struct piece *a, const struc
 static size_t told_together(const struct page *page, const struct piece *piece) {
     const struct piece *end = page->pieces + page->pieces_len;
     size_t count = 1;
-    if (!is_blank(page, &page->lines[piece->first]))
+    if (!is_blank(page, line_of(page, piece->first)))
         return 1;
     while (piece + count < end && count < MOST_TOGETHER && is_alike(page, piece, piece + count))
         count++;
@@ -151,17 +154,17 @@ enum { CHUNK = 50 };
 
 static void put_digest_lines(FILE *out, const struct page *page) {
     const struct piece *piece = page->pieces, *next;
-    size_t put = 0;
+    size_t put = page->above;
     fputs("<div id=digest role=region aria-label='The digest, line by line' tabindex=-1><pre>", out);
     put_ruler(out, goal_of(page->options), width_of(page->options));
     for (; piece < page->pieces + page->pieces_len; piece = next) {
         next = piece + told_together(page, piece);
         while (put < next[-1].first + next[-1].count) {
-            fputs(put == 0 ? "<span class=k>" : put % CHUNK == 0 ? "</span><span class=k>" : "", out);
+            fputs(put == page->above ? "<span class=k>" : (put - page->above) % CHUNK == 0 ? "</span><span class=k>" : "", out);
             put_digest_line(out, page, put++, piece);
         }
     }
-    fputs(put == 0 ? "</pre></div>\n" : "</span></pre></div>\n", out);
+    fputs(put == page->above ? "</pre></div>\n" : "</span></pre></div>\n", out);
 }
 
 /* ---- what each line comes from, and why it ends */
@@ -177,7 +180,7 @@ static size_t prefix_length(const uint8_t *bytes, size_t length, const char *typ
     return size <= length && memcmp(bytes, prefix, size) == 0 ? size : length;
 }
 
-/* The columns of the word with which a line of the digest begins, behind its indent and prefix. A blank of any kind ends it, so that it is
+/* The columns of the word with which a line of the digest begins, after its indent and prefix. A blank of any kind ends it, so that it is
  * never taken for longer than it is. */
 static uint64_t first_word(const struct page *page, const struct line *line) {
     const uint8_t *bytes = page->digest->text.bytes + line->at, *end = bytes + line->length;
@@ -191,13 +194,13 @@ static uint64_t first_word(const struct page *page, const struct line *line) {
 
 /* Whatever the gap before the next word would have been, it has a column or more. */
 static bool next_did_not_fit(const struct page *page, size_t number) {
-    const struct line *line = &page->lines[number];
-    return number + 1 < page->lines_len && line->reason[1] + 1 + first_word(page, line + 1) > width_of(page->options);
+    const struct line *line = line_of(page, number);
+    return number + 1 < page->above + page->lines_len && line->reason[1] + 1 + first_word(page, line + 1) > width_of(page->options);
 }
 
 /* What a person wants to know; the breaker's numbers are another matter. */
 static const char *plain_reason(const struct page *page, size_t number) {
-    const struct line *line = &page->lines[number];
+    const struct line *line = line_of(page, number);
     if (!line->asked)
         return "Not asked: too many lines stand here without a blank line.";
     switch (line->reason[0]) {
@@ -233,7 +236,7 @@ static void put_numbers(FILE *out, const struct page *page, const struct line *l
 }
 
 static void put_reason(FILE *out, const struct page *page, size_t number) {
-    const struct line *line = &page->lines[number];
+    const struct line *line = line_of(page, number);
     fprintf(out, "<p id=r%zu><a href=#%zu>Line ", number + 1, number + 1);
     put_count(out, number + 1);
     fputs("</a> <small>", out);
@@ -287,7 +290,7 @@ static void put_blank_lines(FILE *out, const struct page *page, const struct pie
     fprintf(out, "<section id=n%lu><p id=r%zu><a href=#%zu>", piece->note, piece->first + 1, piece->first + 1);
     put_span(out, piece->first + 1, count, "Line", "Lines");
     fputs("</a> <small>", out);
-    put_counted(out, page->lines[piece->first].look.columns, "column", "columns");
+    put_counted(out, line_of(page, piece->first)->look.columns, "column", "columns");
     fputs("</small> <em>Blank lines of the notes.</em>\n", out);
     put_place(out, page, piece, count, count * piece->length);
     fprintf(out, "<ol start=%lu>", piece->note);
@@ -339,8 +342,8 @@ static void put_links(FILE *out, const struct page *page, chosen_line *chosen) {
     for (i = 0; i < page->lines_len && put < MOST_LINKS; i++) {
         if (!chosen(page, &page->lines[i]))
             continue;
-        fprintf(out, "%s<a href=#%zu>", put++ == 0 ? ": line " : ", ", i + 1);
-        put_count(out, i + 1);
+        fprintf(out, "%s<a href=#%zu>", put++ == 0 ? ": line " : ", ", page->above + i + 1);
+        put_count(out, page->above + i + 1);
         fputs("</a>", out);
         if (chosen == is_over)
             fprintf(out, " (%" PRIu64 " columns)", page->lines[i].look.columns);
@@ -388,8 +391,20 @@ static void put_mended(FILE *out, const struct mended *mended) {
     }
 }
 
+/* Nothing is left out silently. */
+static void put_above(FILE *out, const struct page *page) {
+    fputs("<li class=a><strong>", out);
+    put_counted(out, page->above, "line above is not on this page", "lines above are not on this page");
+    fputs("</strong>", out);
+    if (page->damaged_above > 0) {
+        fputs(", ", out);
+        put_counted(out, page->damaged_above, "of them damaged", "of them damaged");
+    }
+    fputs(": it has room for the last of the digest. rudignals format writes all of it.\n", out);
+}
+
 static void put_warnings(FILE *out, const struct page *page) {
-    if (count_lines(page, is_damaged) + count_lines(page, is_over) + count_lines(page, was_not_asked) + page->mended.lines == 0) {
+    if (count_lines(page, is_damaged) + count_lines(page, is_over) + count_lines(page, was_not_asked) + page->mended.lines + page->above == 0) {
         put_calm(out, page);
         return;
     }
@@ -399,6 +414,8 @@ static void put_warnings(FILE *out, const struct page *page) {
         put_mended(out, &page->mended);
         fputs("\n", out);
     }
+    if (page->above > 0)
+        put_above(out, page);
     put_warning(out, page, is_damaged, "d", "damaged line, kept as it is", "damaged lines, kept as they are");
     put_warning(out, page, is_over, "o", "line over the width", "lines over the width");
     put_warning(out, page, was_not_asked, "n", "line whose end was not asked about", "lines whose ends were not asked about");
@@ -411,7 +428,7 @@ static void put_title(FILE *out, const struct page *page) {
     fputs("<header id=top>\n<h1>Digest of <span class=name>", out);
     put_raw(out, (const uint8_t *)page->label, strlen(page->label), NOWHERE);
     fputs("</span></h1>\n<p>", out);
-    put_counted(out, page->lines_len, "line", "lines");
+    put_counted(out, page->above + page->lines_len, "line", "lines");
     fputs(" from ", out);
     put_counted(out, page->notes_len, "byte", "bytes");
     fputs(" of notes</p>\n<nav aria-label='This page'><a href=#digest>Digest</a> <a href=#notes>Notes</a> <a href=#wall>Wall panel</a></nav>\n</header>\n", out);
@@ -433,7 +450,7 @@ void put_page(FILE *out, const struct page *page) {
     put_end(out);
 }
 
-/* The place with some lines before and behind it. */
+/* The place with some lines before and after it. */
 static void put_excerpt(FILE *out, const struct page *page, const struct refusal *refusal) {
     size_t from = refusal->place, to, before = 0, i;
     for (; from > 0 && (page->notes[from - 1] != '\n' || before < 3); from--)

@@ -27,7 +27,7 @@ static bool read_window(struct window *window, const struct options *options, st
         return false;
     while (digest->refusal.code != RUDIGNALS_DONE && !window->ended) {
         window->length = 0;
-        if (!fill_window(window))
+        if (!fill_window(window, MOST_PART))
             return false;
     }
     return true;
@@ -75,7 +75,7 @@ static bool is_hopeless(int reason) {
     return false;
 }
 
-/* It is told in every drawing that follows, as long as it lasts and for an hour behind. */
+/* It is told in every drawing that follows, as long as it lasts and for an hour after. */
 enum { TOLD = 3600 };
 
 static void forget_trouble(struct trouble *trouble) {
@@ -189,7 +189,7 @@ static void tell_small(struct drawing *drawing, const struct view *view) {
     drawing->status = FAILED;
 }
 
-/* Behind the last line of a screen stands no line feed, which would move it. */
+/* After the last line of a screen stands no line feed, which would move it. */
 static void draw_output(struct show *show, struct drawing *drawing, const struct panel *panel, bool whole_screen) {
     struct view view = view_of_output();
     bool screen = whole_screen && view.terminal;

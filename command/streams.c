@@ -6,6 +6,7 @@
 
 #include <errno.h>
 #include <fcntl.h>
+#include <stdlib.h>
 #include <string.h>
 #include <sys/stat.h>
 #include <unistd.h>
@@ -26,7 +27,11 @@ bool open_window(struct window *window, const char *name) {
     struct buffer *kept = window->kept;
     struct mender mender = window->mender;
     bool mends = window->mends;
+    uint8_t *bytes = window->bytes;
+    size_t room = window->room;
     memset(window, 0, sizeof *window);
+    window->bytes = bytes;
+    window->room = room;
     window->kept = kept;
     window->mends = mends;
     window->mender = mender;
@@ -78,12 +83,23 @@ static bool read_mended(struct window *window, uint8_t *to, size_t most, size_t 
     return true;
 }
 
-bool fill_window(struct window *window) {
+static bool widen(struct window *window, size_t wanted) {
+    uint8_t *wider = wanted <= window->room ? window->bytes : realloc(window->bytes, wanted);
+    if (wider == NULL)
+        return false;
+    window->bytes = wider;
+    window->room = wanted <= window->room ? window->room : wanted;
+    return true;
+}
+
+bool fill_window(struct window *window, size_t wanted) {
     size_t got;
     show_progress(window->read, window->size);
-    while (!window->ended && window->length < sizeof window->bytes) {
+    if (!widen(window, wanted))
+        return false;
+    while (!window->ended && window->length < wanted) {
         uint8_t *to = window->bytes + window->length;
-        size_t most = sizeof window->bytes - window->length;
+        size_t most = wanted - window->length;
         if (!(window->mends ? read_mended(window, to, most, &got) : read_next(window, to, most, &got)))
             return false;
         window->ended = got == 0;
@@ -94,12 +110,19 @@ bool fill_window(struct window *window) {
 
 void drop_bytes(struct window *window, size_t count) {
     window->length -= count;
-    memmove(window->bytes, window->bytes + count, window->length);
+    if (count > 0)
+        memmove(window->bytes, window->bytes + count, window->length);
 }
 
 void close_window(struct window *window) {
     if (window->opened)
         close(window->file);
+}
+
+void free_window(struct window *window) {
+    free(window->bytes);
+    free_mender(&window->mender);
+    *window = (struct window){0};
 }
 
 /* A short file is kept too: so nobody can change it between the two. */
@@ -129,7 +152,7 @@ bool read_whole(const char *name, struct buffer *buffer) {
     if (!open_window(&window, name))
         return false;
     do {
-        well = fill_window(&window);
+        well = fill_window(&window, MOST_PART);
         window.length = 0;
     } while (well && !window.ended);
     reason = errno; /* closing may put another in its place */

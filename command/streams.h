@@ -10,12 +10,12 @@
 /* How a file is called in what is said of it: `-' is standard input. */
 const char *label_of(const char *name);
 
-/* A file's bytes from some place on: a blank line that begins within the first part is seen whole, unless it is longer than any part. */
+/* A file's bytes from some place on. All zero at first; the room is kept from file to file. */
 struct window {
     int file;
     bool opened; /* by us: standard input is not, and stays open */
-    uint8_t bytes[2 * MOST_PART];
-    size_t length;
+    uint8_t *bytes;
+    size_t length, room;
     bool ended;          /* no byte follows */
     struct buffer *kept; /* what was read so far is kept there, if it is not null */
     size_t read, size;   /* so many bytes were read, of so many; 0: nobody knows */
@@ -29,16 +29,19 @@ struct window {
 
 /* Opens a file, `-' being standard input; `kept` and `mends` are the caller's to set before. These answer false, with errno, if that fails. */
 bool open_window(struct window *window, const char *name);
-bool fill_window(struct window *window);
+/* So many bytes, or all up to the file's end. With twice as many as a part has, a blank line that begins within the part is seen whole, unless it
+ * is longer than any part. */
+bool fill_window(struct window *window, size_t wanted);
 void drop_bytes(struct window *window, size_t count);
 void close_window(struct window *window);
+void free_window(struct window *window);
 
 /* A file that was read to its end is read again from its front: a regular one from the disk, so that memory does not grow with it, any other
  * from what was kept, which keep_if_needed provides for. */
 void keep_if_needed(struct window *window, struct buffer *kept);
 bool rewind_window(struct window *window);
 
-/* All of a file behind the buffer. */
+/* All of a file after the buffer. */
 bool read_whole(const char *name, struct buffer *buffer);
 
 #endif

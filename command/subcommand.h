@@ -27,6 +27,8 @@ const struct subcommand *subcommand_of(const struct subcommand *const *table, co
 /* Says that there is none, and which may have been meant. Answers the exit status. */
 int no_such_subcommand(const struct subcommand *const *table, const char *name);
 
+/* All that is asked of files. */
+#define LIMIT "Limits: a file may have any length, a paragraph or a line at most 1048576\nbytes.\n"
 /* The words of most exit statuses. */
 #define STATUSES "1 something was refused, not read or\nnot written; 2 a wrong call"
 

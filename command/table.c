@@ -1,4 +1,4 @@
-/* The subcommands. NAME_subcommand stands in NAME.c. */
+/* The subcommands. NAME_subcommand is in NAME.c. */
 #include "table.h"
 
 extern const struct subcommand format_subcommand, panel_subcommand, index_subcommand, explain_subcommand, page_subcommand, salvage_subcommand,

@@ -1,4 +1,4 @@
-/* The subcommands, as the list of them shows them; null behind the last. */
+/* The subcommands, as the list of them shows them; null after the last. */
 #ifndef TABLE_H
 #define TABLE_H
 

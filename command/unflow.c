@@ -28,7 +28,7 @@ static size_t fixed_within(const struct window *window) {
 static bool read_mail(const char *label, struct window *window, struct buffer *read) {
     size_t length;
     do {
-        if (!fill_window(window)) {
+        if (!fill_window(window, 2 * MOST_PART)) {
             say_failure(label, errno);
             return false;
         }

@@ -6,8 +6,8 @@
 
 #include "buffer.h"
 #include "damage.h"
+#include "limits.h"
 #include "lines.h"
-#include "rudignals.h"
 
 #include <stdlib.h>
 #include <string.h>
@@ -184,7 +184,7 @@ static size_t indent_length(const uint8_t *line, size_t length) {
     return at;
 }
 
-/* Would the digest be right up to behind the line, if the line were another? Tried with the digest up to there. */
+/* Would the digest be right up to after the line, if the line were another? Tried with the digest up to there. */
 static bool would_go_on(const struct terms *terms, struct bytes notes, struct bytes digest, uint64_t number, const struct text_line *line, const struct bytes *parts, size_t count) {
     size_t before = (size_t)(line->at - digest.at), length = before, i;
     uint8_t *tried;
@@ -304,9 +304,9 @@ static struct finding unjudged(const struct judgement *judgement, struct bytes n
     unsigned long line = 1 + feeds(notes.at, judgement->place);
     free(finding.why);
     switch (judgement->code) {
-    case RUDIGNALS_LONG: finding.why = phrase("line %lu of the notes begins more than %u bytes without an empty line", line, RUDIGNALS_MOST_NOTES); break;
-    case RUDIGNALS_WORDS: finding.why = phrase("line %lu of the notes begins a paragraph of more than %u words", line, RUDIGNALS_MOST_WORDS); break;
-    case RUDIGNALS_LONG_DIGEST: finding.why = phrase("the digest has more than %u bytes without an empty line", RUDIGNALS_MOST_NOTES); break;
+    case RUDIGNALS_LONG: finding.why = phrase("line %lu of the notes begins a paragraph of more than %u bytes", line, (unsigned)MOST_LARGE); break;
+    case RUDIGNALS_LONG_DIGEST: finding.why = phrase("line %lu of the notes begins a paragraph whose digest has more than %u bytes", line, (unsigned)MOST_LARGE); break;
+    case RUDIGNALS_WORK_ROOM: finding.why = phrase("there is no memory to check it"); break;
     default: finding.why = phrase("the library refuses it with code %u", (unsigned)judgement->code);
     }
     return finding;

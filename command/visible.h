@@ -4,7 +4,7 @@
 
 #include "buffer.h"
 
-/* Puts the bytes behind the buffer with all that would act, or cannot be seen, written out: a control character as ^[, a character that
+/* Puts the bytes after the buffer with all that would act, or cannot be seen, written out: a control character as ^[, a character that
  * changes the direction or begins a line as <U+202E>, a byte of no character as <9B>. Line feeds and tabs stay, and carriage returns before
  * line feeds. Answers false without memory. */
 bool add_visible(struct buffer *buffer, const void *bytes, size_t length);

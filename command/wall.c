@@ -213,7 +213,7 @@ void put_failure(struct panel *panel, const struct facts *facts, enum outcome ou
 
 /* ---- a drawing that could not be written */
 
-/* In the one line, behind time and counts, in the place of the file's name; what does not fit is cut as the library cuts. */
+/* In the one line, after time and counts, in the place of the file's name; what does not fit is cut as the library cuts. */
 static void put_brief_trouble(struct panel *panel, const struct trouble *trouble) {
     uint32_t cells[ROWS * COLUMNS], *row = cells + (ROWS - 1) * COLUMNS, *brief = panel->below[BRIEF];
     int room = COLUMNS - panel->counted, last;

@@ -11,7 +11,7 @@
 #include <sys/stat.h>
 #include <unistd.h>
 
-/* A name with its folder; without one it stands in the folder where we are. */
+/* A name with its folder; without one it is in the folder where we are. */
 static size_t folder_length(const char *name) {
     const char *slash = strrchr(name, '/');
     return slash == NULL ? 0 : (size_t)(slash - name) + 1;
@@ -154,6 +154,25 @@ static void unguard(void) {
     left_behind = NULL;
 }
 
+/* A file beside and the guard that removes it come as one: none of these signals is taken between the two. */
+static int guarded_file(char *path) {
+    sigset_t ending, mask;
+    size_t i;
+    int file, reason;
+    sigemptyset(&ending);
+    for (i = 0; i < ENDINGS; i++)
+        sigaddset(&ending, ENDING[i]);
+    if ((errno = pthread_sigmask(SIG_BLOCK, &ending, &mask)) != 0)
+        return -1;
+    file = mkstemp(path);
+    reason = errno;
+    if (file >= 0)
+        guard(path);
+    pthread_sigmask(SIG_SETMASK, &mask, NULL);
+    errno = reason;
+    return file;
+}
+
 /* ---- the file */
 
 /* The name beside is short, so that a long one in that place does not matter. */
@@ -161,12 +180,11 @@ static bool begin_beside(struct whole *whole, const struct stat *old) {
     static const char BESIDE[] = ".rudignals-XXXXXX";
     if (!name_in(&whole->beside, (char *)whole->path.bytes, BESIDE, sizeof BESIDE - 1))
         return false;
-    whole->file = mkstemp((char *)whole->beside.bytes);
+    whole->file = guarded_file((char *)whole->beside.bytes);
     if (whole->file < 0) {
         buffer_free(&whole->beside);
         return false;
     }
-    guard((char *)whole->beside.bytes);
     return put_like(whole->file, old);
 }
 

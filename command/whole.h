@@ -7,7 +7,7 @@
 /* Puts the bytes into the file of that name: who reads it sees what it had or all of this, and so does who looks after the power failed. A link
  * stays, and the file that it names is written. A file that was there keeps its mode; a new one's is 666 less the umask. What is no regular
  * file, a device or a pipe, is written to as it is. Answers false, with errno, if that fails; then the file is as it was, and nothing is left
- * behind. */
+ * after. */
 bool write_whole(const char *name, const void *bytes, size_t length);
 /* The same for a file that is not there yet; EEXIST if one is. */
 bool write_new(const char *name, const void *bytes, size_t length);

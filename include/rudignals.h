@@ -229,19 +229,19 @@ uint64_t rudignals_format(const uint8_t *options, size_t options_len, const uint
 /* ---- Large notes ------------------------------------------------------------------------------------------------------------------------ */
 
 /* Notes of up to RUDIGNALS_MOST_LARGE bytes, with paragraphs of any number of words, in working room that the program lends. Each of these
- * calls answers as the call without _large does, but for this:
+ * calls answers as the call without _large in its name does, except for this:
  *
  *    2 long, 9 long digest
  *               Above RUDIGNALS_MOST_LARGE bytes.
- *    4 words    Never given. In its place in the order:
- *   12 work     work has fewer numbers than the call needs. N is how many it needs: with so many the same call does not answer 12. The
- *               output, the index and the reason are unchanged, *filled and *dashes are 0.
- *    5 room     The rudignals_measure_large, rudignals_write_large, rudignals_write_indexed_large and rudignals_flow_large calls answer 5 with
- *               N 4294967295 for a digest of more bytes than that.
+ *    4 words    Never given. Code 12 has its place in the order.
+ *   12 work     The working room is smaller than the call needs. N is how many numbers it needs: with so many the same call does not answer
+ *               12. The output, the index and the reason are unchanged; *filled and *dashes are 0.
+ *    5 room     Also for a digest of more than 4294967295 bytes, which no number N can tell: N is then 4294967295. rudignals_measure_large answers
+ *               it too.
  *
  * work is an array of work_len numbers of 32 bits, with any content. What it holds afterwards is not promised. N of 12 depends on the call, the
- * options and the notes alone. So a program calls with no room, lends what it is told and calls again; or it lends RUDIGNALS_WORK(notes_len)
- * numbers at once, with which no call answers 12. */
+ * options and the notes alone. So a program calls with no room, lends N numbers and calls again; or it lends RUDIGNALS_WORK(notes_len) numbers at
+ * once, with which no call answers 12. */
 #define RUDIGNALS_MOST_LARGE 1048576u    /* bytes of notes, and of a digest that is checked, for these calls */
 #define RUDIGNALS_WORK(notes_len) ((size_t)8 * ((size_t)(notes_len) + 1)) /* numbers, for notes of up to RUDIGNALS_MOST_LARGE bytes */
 

@@ -46,7 +46,7 @@ addEventListener('DOMContentLoaded', () => {
   };
   const under = e => {
     const a = e.target.closest('#digest a');
-    return a ? a.id - 1 : -1;
+    return a ? a.id - lines[0].id : -1;
   };
 
   if (lines.length) {
@@ -82,7 +82,7 @@ addEventListener('DOMContentLoaded', () => {
     Home: () => go(0),
     End: () => go(lines.length - 1),
     n: () => {
-      const seen = lines.filter(a => a.matches('.d, .o')).map(a => a.id - 1);
+      const seen = lines.filter(a => a.matches('.d, .o')).map(a => a.id - lines[0].id);
       go(seen.find(at => at > here) ?? seen[0]);
     },
     w: () => wall() ? leave() : location.hash = '#wall',
@@ -112,7 +112,7 @@ addEventListener('DOMContentLoaded', () => {
   const edges = () => {
     const column = width.getBoundingClientRect().width / width.textContent.length, seen = (digest.clientWidth + digest.scrollLeft) / column - 8;
     digest.classList.toggle('l', digest.scrollLeft > 0);
-    for (const chunk of near) for (const a of chunk.children) a.classList.toggle('m', columns(a.id - 1) > seen + .1);
+    for (const chunk of near) for (const a of chunk.children) a.classList.toggle('m', columns(a.id - lines[0].id) > seen + .1);
   };
   if (lines.length) {
     const sight = new IntersectionObserver(chunks => {

@@ -1,5 +1,6 @@
 """Every subcommand on whatever may come: files of all kinds, odd names, and outputs that take nothing."""
 import os
+import re
 import shutil
 import subprocess
 
@@ -149,7 +150,7 @@ LARGE = 100_000_000
 def large(folder):
     """Files of 100 MB: notes that format writes as they are, so that the others can be told by hand. Memory does not grow with a regular file:
     40 MB of addresses do, and the program takes some of them itself. `explain' of every line is tried on 7 MB, which are 200,000 lines; `page'
-    and `check' are bounded and refuse."""
+    shows the last."""
     one = b"The valve at the north gate opened late, and pump 7 was started by day.\n\n"
     count = LARGE // len(one) + 1
     with open(folder / "large", "wb") as out:
@@ -180,8 +181,10 @@ def large(folder):
     bounded(arguments("salvage", "large", folder), one, len(notes))
     bounded(arguments("restore", "large", folder), one, len(notes))
     expect("panel of 100 MB", run(["panel", "large"], b"", calls.RUDIGNALS, cwd=folder)[0], 0)
-    expect("page of 100 MB", run(["page", "large"], b"", calls.RUDIGNALS, cwd=folder)[0], 1)
-    expect("check of 100 MB", run(["check", "large", "large"], b"", calls.RUDIGNALS, cwd=folder), (2, b"", "rudignals: large: has more than 65536 bytes; notes are checked as a whole\n"))
+    status, page, words = run(["page", "large"], b"", calls.RUDIGNALS, cwd=folder)
+    above = re.search(rb"<strong>([\d,]+) lines above are not on this page</strong>", page)
+    expect("page of 100 MB", (status, words, above and int(above[1].replace(b",", b"")), page.count(b"<a id=")), (0, "", lines - 65536, 65536))
+    expect("check of 100 MB", run(["check", "large", "large"], b"", calls.RUDIGNALS, cwd=folder), (0, b"", ""))
     os.truncate(folder / "large", len(one) * 100_000)
     bounded(["explain", "large"], f"{200000:4d}  blank line".ljust(55).encode() + b"|\n", None)
 

@@ -66,7 +66,7 @@ def frame(rows, counted, dated="standard input", failure=()):
 WIDE = "三号\U00020000"
 ON = "\0"
 
-# A line, the options, its row with --cut, how many lines are damaged and how many are cut; all by hand from P7 of document 02.
+# A line, the options, its row with --cut, how many lines are damaged and how many are cut; all by hand from RULES 15.
 LINES = [
     ("plain", b"pump 2", [], "pump 2", 0, 0),
     ("a tab", b"a\tb", [], "a       b", 0, 0),
@@ -272,7 +272,7 @@ def refused():
     rows = [str(i) for i in range(5, 25)] + ["z" * 79 + "+"]
     wanted = frame(rows, "refused: 31 lines, 1 damaged, 1 cut; above: 8 lines, 1 damaged; 2 blank below", failure=REASON)
     expect("the same, cut", shown(["--cut"], notes), (1, wanted, said))
-    long = b"a" * 65537 + b"\n" + b"\n".join(b"line %d" % i for i in range(40000))
+    long = b"a" * 1048577 + b"\n" + b"\n".join(b"line %d" % i for i in range(40000))
     status, output, errors = shown([], long)
     lines = output.split("\n")
     expect("too long: to the end", (status, lines[21][1:12], bar_of(output)[-1]), (1, "line 39999 ", WITH_NOTES))

@@ -1,10 +1,18 @@
 """The command against the Rust original: whole files of some MB, and short notes in small parts. Left out where the Rust is not at hand."""
+import gzip
+import os
+import pathlib
 import random
 import subprocess
+import zlib
 
 from . import texts
-from .calls import FMT, ROOT, SOURCES, expect_same, link, run
+from .calls import FMT, ROOT, SOURCES, expect, expect_same, link, run
 from .short import cut_to, rows_of
+from .words import DAMAGED
+
+EVERY_FILE = "RUDIGNALS_EVERY_FILE" in os.environ  # not a sample of the machine's files; set by command/test
+MACHINE = ["/usr/share/doc", "/usr/share/man", "/usr/share/common-licenses", "/etc"]
 
 ORACLE = str(ROOT / "target/oracle/oracle")
 
@@ -70,6 +78,66 @@ def short_notes(folder, most, seed, count):
     program = link(folder, "tiny", f"-DMOST_PART={most}u", *SOURCES)
     answers = subprocess.run([ORACLE, "cases", "random", str(seed), str(count)], stdout=subprocess.PIPE, check=True, text=True).stdout
     cut_to(most, rows_of(answers), program, 600)
+
+
+def machine_file(found, folder, number):
+    """A file of text, unpacked, or None: what has a zero byte is no text, and what this user may not read is left out."""
+    try:
+        text = gzip.open(found).read() if found.suffix == ".gz" else found.read_bytes()
+    except (OSError, EOFError, zlib.error):
+        return None
+    if b"\0" in text:
+        return None
+    path = folder / f"{number}"
+    path.write_bytes(text)
+    return path, text
+
+
+def is_whole(text):
+    try:
+        text.decode("utf-8")
+    except UnicodeDecodeError:
+        return False
+    return True
+
+
+def machine_batches(folder, step):
+    """The files in heaps of 4 MB, each with its place; every so many alone."""
+    heap, size, number = [], 0, 0
+    for root in MACHINE:
+        for found in sorted(path for path in pathlib.Path(root).rglob("*") if not path.is_symlink() and path.is_file()):
+            number += 1
+            made = machine_file(found, folder, number) if number % step == 0 else None
+            if made is None:
+                continue
+            heap.append((found, *made))
+            size += len(made[1])
+            if size > 4000000:
+                yield heap
+                heap, size = [], 0
+    yield heap
+
+
+def machine(folder):
+    """Text files of this machine, each as a file of its own, an empty line between two; the original is shown all of them in one. None may be
+    refused but for damage."""
+    (folder / "blank").write_bytes(b"\n")
+    files = damaged = size = 0
+    for heap in machine_batches(folder, 1 if EVERY_FILE else 100):
+        good = [(path, text) for _, path, text in heap if is_whole(text)]
+        joined = b"".join((text if text.endswith(b"\n") or not text else text + b"\n") + b"\n" for _, text in good)
+        for arguments in OPTIONS:
+            status, output, errors = run([*arguments, *[name for path, _ in good for name in (path, folder / "blank")]])
+            expect_same(f"files from {heap[0][0]} on under {arguments} {errors[:300]}", b"%d " % status + output, b"0 " + rust_on(arguments, joined))
+        for found, path, text in heap:
+            if not is_whole(text):
+                status, output, errors = run([path])
+                expect(f"{found}, which is damaged", (status, output, DAMAGED in errors), (1, b"", True))
+                damaged += 1
+            size += len(text)
+            path.unlink()
+        files += len(good)
+    print(f"command: {files} text files of this machine under {len(OPTIONS)} sets of options, {size} bytes, {damaged} more refused for damage", flush=True)
 
 
 def run_all(folder):

@@ -9,6 +9,7 @@ import time
 
 from .calls import ROOT, RUDIGNALS, expect, expect_same, run
 from .salvage import mended
+from .words import LONG
 
 
 def say_of(notes, label="standard input"):
@@ -119,16 +120,18 @@ def as_iconv_has_it():
         expect_same("as iconv", run(["format", "--salvage"], notes, RUDIGNALS)[1], run(["format"], other, RUDIGNALS)[1])
 
 
+CROWD = b"a " * 524289  # more than a paragraph may have
+
+
 def places():
     """The place of a refusal is that of the file as it is: line and column."""
-    crowd = b"a " * 1025
-    for notes, place in (b"\xe9\xe9\n\n" + crowd, "line 3, column 1: the paragraph that begins here has more than 1024 words"), (b"\xe9 b\nc\n\n\xb0 " + crowd + b"\n", "line 4, column 1: the paragraph that begins here has more than 1024 words"):
+    for notes, place in (b"\xe9\xe9\n\n" + CROWD, f"line 3, column 1: {LONG}"), (b"\xe9 b\nc\n\n\xb0 " + CROWD + b"\n", f"line 4, column 1: {LONG}"):
         for name in "format", "flow", "panel", "page":
             status, _, words = run([name, "--salvage"], notes, RUDIGNALS)
             expect(f"{name}: {place}", (status, f"rudignals: standard input: {place}" in words), (1, True))
-    # 40,000 bytes without an empty line, of which the copy has 80,000
-    status, _, words = run(["format", "--salvage"], b"ok \xe9\n\n" + (b"\xe9" * 39 + b"\n") * 1000, RUDIGNALS)
-    expect("a copy that is too long", (status, "line 3, column 1: more than 65536 bytes from here on have no empty line" in words), (1, True))
+    # 640,000 bytes without an empty line, of which the copy has 1,264,000
+    status, _, words = run(["format", "--salvage"], b"ok \xe9\n\n" + (b"\xe9" * 39 + b"\n") * 16000, RUDIGNALS)
+    expect("a copy that is too long", (status, f"line 3, column 1: {LONG}" in words), (1, True))
 
 
 # Notes in parts of so many bytes, mended, with the counts behind them on standard error.
@@ -200,11 +203,11 @@ def on_page_and_wall(folder):
     expect("the page shows the copy", "41\u00b0C".encode() in page and b"class=d" not in page, True)
     expect("and its wall panel says so", b"mended: 2 lines, 3 bytes; 3 lines, none damaged" in page, True)
     expect("nothing is said of notes that were not mended", b"class=m>" in run(["page", "--salvage"], b"ok\n", RUDIGNALS)[1], False)
-    status, page, said = run(["page", "--salvage"], notes + b"\n" + b"a " * 1025, RUDIGNALS)
+    status, page, said = run(["page", "--salvage"], notes + b"\n" + CROWD, RUDIGNALS)
     expect("a refused page says so", (status, b"2 lines of the notes mended" in page, b"as they were mended" in page, b"line 5, column 1" in page, words in said), (1, True, True, True, True))
     status, drawn, said = run(["panel", "--salvage"], notes, RUDIGNALS)
     expect("the wall", (status, said, b"mended: 2 lines, 3 bytes; 3 lines, none damaged" in drawn, "41\u00b0C".encode() in drawn), (0, words, True, True))
-    status, drawn, said = run(["panel", "--salvage"], notes + b"\n" + b"a " * 1025, RUDIGNALS)
+    status, drawn, said = run(["panel", "--salvage"], notes + b"\n" + CROWD, RUDIGNALS)
     expect("a refused wall", (status, b"mended: 2 lines, 3 bytes" in drawn, words in said), (1, True, True))
 
 

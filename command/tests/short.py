@@ -62,7 +62,7 @@ OTHERWISE = [
     (["-40", "-w", "16"], WIDE, b"aaaa bbbb cccc\ndddd eeee ffff\ngggg\n"),
 ]
 
-# likewise for what document 01 adds; the digests of the last three are longer than the notes, up to a hundred times
+# likewise for what RULES adds; the digests of the last three are longer than the notes, up to a hundred times
 OURS = [
     (["-q", "-w", "6", "--glue"], b"aaa\xc2\xa0bbb\n", b"aaa\xc2\xa0bbb\n"),
     (["-u"], b"a.\xc2\xa0b\n", b"a.  b\n"),
@@ -113,19 +113,9 @@ def committed():
     return rows_of((ROOT / "crates/replay/data/vectors.txt").read_text())
 
 
-def longest_stretch(notes):
-    """The most bytes without a line of ASCII's blanks alone, or in such a line. A last line without a line feed is not one."""
-    *lines, last = notes.split(b"\n")
-    most = length = 0
-    for line in lines:
-        length = length + len(line) + 1 if line.strip(b" \t\r\v\f") else 0
-        most = max(most, length, len(line) + 1)
-    return max(most, length + len(last))
-
-
 def cut_to(size, rows, program, count):
-    """The command built for parts of so many bytes, on notes that are longer and may be cut into such."""
-    fitting = [row for row in rows if size < len(row[1]) and longest_stretch(row[1]) <= size]
+    """The command built for parts of so many bytes, on notes that are longer."""
+    fitting = [row for row in rows if size < len(row[1])]
     for arguments, notes, output in fitting[:count]:
         expect(f"{arguments} in parts of {size} on {notes[:60]}", run(["format", *arguments], notes, program), (0, output, ""))
 

@@ -4,8 +4,7 @@ import re
 from .calls import FMT, RUDIGNALS, expect, run
 
 DAMAGED = "begins no UTF-8 character; --keep leaves such a line as it is\n"
-MANY = "the paragraph that begins here has more than 1024 words; part it by an empty line\n"
-LONG = "more than 65536 bytes from here on have no empty line; put one between paragraphs\n"
+LONG = "more than 1048576 bytes from here on are one paragraph or one line; part them by an empty line\n"
 HINT = "Try 'fmt --help'.\n"
 
 # options that are refused, and the words for it
@@ -44,11 +43,11 @@ REFUSED_NOTES = [
     ([], b"a\r\n\tb\xc3\xa9 \xb0x\n\xff", "line 2, column 5: byte B0 " + DAMAGED),
     ([], "a\n\n中e\u0301\U0001f600".encode() + b"\xed\xa0\x80\n", "line 3, column 5: byte ED " + DAMAGED),
     ([], b"a \xc3\n", "line 1, column 3: byte C3 " + DAMAGED),
-    ([], b"a" * 65537, "line 1, column 1: " + LONG),
-    (["--keep"], b"\xb0" * 70000, "line 1, column 1: " + LONG),
-    ([], b"x\n\nb\n" + b"a " * 1024 + b"\n", "line 3, column 1: " + MANY),
-    (["--keep"], b"\xb0\n" + b"a\n" * 1025, "line 2, column 1: " + MANY),
-    (["-s"], b"a\n" * 2000 + b"a " * 1025, "line 2001, column 1: " + MANY),
+    ([], b"a" * 1048577, "line 1, column 1: " + LONG),
+    (["--keep"], b"\xb0" * 1100000, "line 1, column 1: " + LONG),
+    ([], b"x\n\nb\n" + b"a " * 524288 + b"\n", "line 3, column 1: " + LONG),
+    (["--keep"], b"\xb0\n" + b"a\n" * 524289, "line 2, column 1: " + LONG),
+    (["-s"], b"a\n" * 2000 + b"a " * 524289, "line 2001, column 1: " + LONG),
 ]
 
 # calls that are wrong, and the words for it
@@ -97,7 +96,7 @@ def helps():
         text = help_text(FMT, [asked], "Usage: fmt" + usage)
     for letter in "ctmsupPxXwgqThV":
         expect(f"--help tells of -{letter}", f"\n  -{letter}, --" in text, True)
-    for words in "--keep", "--glue", "--sentence-characters", "65536 bytes", "1024 words", "6 to 1000", "3 to 940", "255 bytes", "last value", "Exit status: 0":
+    for words in "--keep", "--glue", "--sentence-characters", "1048576\nbytes", "6 to 1000", "3 to 940", "255 bytes", "last value", "Exit status: 0":
         expect(f"--help tells of {words}", words in text.replace("\n", " "), True)
 
 

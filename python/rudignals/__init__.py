@@ -10,7 +10,7 @@ A text is str or bytes, and the result is of the same type: str goes in and out 
 the names of the command's long options, with `_` for `-`; None means that an option was not given. The library alone says whether they are right. What it refuses is
 raised as Refused, with code, place, line, column and the words that the command says.
 
-Offsets are in bytes, and lines of a digest are counted from 0. Threads may call at the same time: the library keeps no state, and the interpreter's lock is
+Notes may have any length, but at most 1,048,576 bytes without an empty line. Offsets are in bytes, and lines of a digest are counted from 0. Threads may call at the same time: the library keeps no state, and the interpreter's lock is
 released during a call.
 """
 from __future__ import annotations
@@ -19,7 +19,7 @@ import ctypes
 import itertools
 import typing
 
-from ._library import MOST_NOTES, PANEL_COLUMNS, PANEL_ROWS, Code, RecordStruct, call, number_of, slice_of, version
+from ._library import MOST_NOTES, PANEL_COLUMNS, PANEL_ROWS, Code, RecordStruct, call, call_for, most_for, number_of, slice_of, version
 from ._options import Options, block_of, bytes_of
 from ._options import number_of as _option_number
 from ._parts import parts_of_copy, parts_of_lines, parts_of_mail, parts_of_notes
@@ -54,8 +54,9 @@ def _like(text: Text, made: bytes) -> Text:
     return made.decode("utf-8") if isinstance(text, str) else made
 
 
-def _refused(code: Code, number: int, options: Options, block: bytes, notes: bytes, at: int) -> Refused:
-    return options_refused(number, options, block) if code == Code.OPTIONS else notes_refused(code, number, notes, at)
+def _refused(name: str, code: Code, number: int, options: Options, block: bytes, notes: bytes, at: int) -> Refused:
+    """What a call refuses, of notes of which the part from `at` on was given to it."""
+    return options_refused(number, options, block) if code == Code.OPTIONS else notes_refused(code, number, notes, at, most_for(name))
 
 
 # ---- formatting
@@ -67,13 +68,15 @@ def measure(text: str | bytes, **options: typing.Unpack[Options]) -> int:
     4
     """
     notes, block = bytes_of(text), block_of(options)
-    return sum(_measured(options, block, notes, at, part) for at, part in parts_of_notes(notes))
+    return sum(_measured(options, block, notes, at, part) for at, part in parts_of_notes(notes, most_for("measure")))
 
 
 def _measured(options: Options, block: bytes, notes: bytes, at: int, part: bytes) -> int:
-    code, number = call("measure", *slice_of(block), *slice_of(part))
+    code, number = call_for(part, "measure", *slice_of(block), *slice_of(part))
+    if code == Code.ROOM:  # of large notes: no answer could say how long it is
+        raise Refused("the digest has more than 4294967295 bytes", code, number)
     if code != Code.DONE:
-        raise _refused(code, number, options, block, notes, at)
+        raise _refused("measure", code, number, options, block, notes, at)
     return number
 
 
@@ -84,9 +87,9 @@ def format(text: Text, **options: typing.Unpack[Options]) -> Text:
     'a. b\\n'
     """
     notes, block, out = bytes_of(text), block_of(options), []
-    for at, part in parts_of_notes(notes):
+    for at, part in parts_of_notes(notes, most_for("write")):
         output = ctypes.create_string_buffer(_measured(options, block, notes, at, part))
-        call("write", *slice_of(block), *slice_of(part), *slice_of(output))
+        call_for(part, "write", *slice_of(block), *slice_of(part), *slice_of(output))
         out.append(output.raw)
     return _like(text, b"".join(out))
 
@@ -94,9 +97,11 @@ def format(text: Text, **options: typing.Unpack[Options]) -> Text:
 def _indexed(options: Options, block: bytes, notes: bytes, at: int, part: bytes) -> list[Record]:
     """The records of a part: the first call tells how many there are."""
     filled, output = ctypes.c_uint64(), ctypes.create_string_buffer(_measured(options, block, notes, at, part))
-    _, pieces = call("write_indexed", *slice_of(block), *slice_of(part), *slice_of(output), None, 0, ctypes.byref(filled))
-    records = (RecordStruct * pieces)()
-    call("write_indexed", *slice_of(block), *slice_of(part), *slice_of(output), *slice_of(records), ctypes.byref(filled))
+    code, pieces = call_for(part, "write_indexed", *slice_of(block), *slice_of(part), *slice_of(output), None, 0, ctypes.byref(filled))
+    if code not in (Code.DONE, Code.INDEX_FULL):
+        raise _refused("write_indexed", code, pieces, options, block, notes, at)
+    records = (RecordStruct * (pieces if code == Code.INDEX_FULL else 0))()
+    call_for(part, "write_indexed", *slice_of(block), *slice_of(part), *slice_of(output), *slice_of(records), ctypes.byref(filled))
     return [Record(r.place, r.length, r.first, r.count) for r in itertools.islice(records, filled.value)]
 
 
@@ -110,7 +115,7 @@ def index(text: str | bytes, **options: typing.Unpack[Options]) -> list[Record]:
     Record(place=5, length=2, first=2, count=1)
     """
     notes, block, found, lines = bytes_of(text), block_of(options), list[Record](), 0
-    for at, part in parts_of_notes(notes):
+    for at, part in parts_of_notes(notes, most_for("write_indexed")):
         records = _indexed(options, block, notes, at, part)
         found += [Record(at + r.place, r.length, lines + r.first, r.count) for r in records]
         lines += records[-1].first + records[-1].count if records else 0
@@ -138,18 +143,18 @@ def explain(text: str | bytes, line: int, **options: typing.Unpack[Options]) -> 
     NotFit(column=10, gap=1, added=0, word=1)
     """
     notes, block, reason, before = bytes_of(text), block_of(options), (ctypes.c_uint64 * 6)(), 0
-    for at, part in parts_of_notes(notes):
-        code, number = call("explain", *slice_of(block), *slice_of(part), max(line - before, -1) % (1 << 64), reason)
+    for at, part in parts_of_notes(notes, most_for("explain")):
+        code, number = call_for(part, "explain", *slice_of(block), *slice_of(part), max(line - before, -1) % (1 << 64), reason)
         if code == Code.DONE:
             return reason_of(list(reason))
         if code != Code.NO_LINE:
-            raise _refused(code, number, options, block, notes, at)
+            raise _refused("explain", code, number, options, block, notes, at)
         before += number
     raise Refused(f"there is no line {line + 1}: the digest has {before} line{'' if before == 1 else 's'}", Code.NO_LINE, before)
 
 
 def check(text: str | bytes, digest: str | bytes, **options: typing.Unpack[Options]) -> int | None:
-    """None if a digest carries its notes; else the first of its lines that cannot be right. Both are taken as a whole: 65,536 bytes at most.
+    """None if a digest carries its notes; else the first of its lines that cannot be right. Each has at most 1,048,576 bytes.
 
     >>> print(rudignals.check("a b\\n", "a\\nb\\n"))
     None
@@ -157,13 +162,13 @@ def check(text: str | bytes, digest: str | bytes, **options: typing.Unpack[Optio
     1
     """
     notes, made, block = bytes_of(text), bytes_of(digest), block_of(options)
-    code, number = call("check", *slice_of(block), *slice_of(notes), *slice_of(made))
+    code, number = call_for(notes, "check", *slice_of(block), *slice_of(notes), *slice_of(made))
     if code == Code.LONG:
-        raise Refused(f"has more than {MOST_NOTES} bytes; notes are checked as a whole", code, number)
+        raise Refused(f"the notes have more than {most_for('check')} bytes", code, number)
     if code == Code.LONG_DIGEST:
-        raise Refused(f"has more than {MOST_NOTES} bytes", code, number)
+        raise Refused(f"the digest has more than {most_for('check')} bytes", code, number)
     if code not in (Code.DONE, Code.NOT_ACCEPTED):
-        raise _refused(code, number, options, block, notes, 0)
+        raise _refused("check", code, number, options, block, notes, 0)
     return number if code == Code.NOT_ACCEPTED else None
 
 
@@ -259,14 +264,14 @@ def flow(text: Text, **options: typing.Unpack[Options]) -> Text:
     'a b\\r\\n'
     """
     notes, block, out, dashes = bytes_of(text), block_of(options), [], ctypes.c_uint64()
-    for at, part in parts_of_notes(notes):
-        code, number = call("flow", *slice_of(block), *slice_of(part), None, 0, ctypes.byref(dashes))
+    for at, part in parts_of_notes(notes, most_for("flow")):
+        code, number = call_for(part, "flow", *slice_of(block), *slice_of(part), None, 0, ctypes.byref(dashes))
         if code == Code.OPTIONS and call("measure", *slice_of(block), None, 0)[0] == Code.DONE:
             raise Refused("mail takes no prefix, crown margin, tagged paragraphs or headers", code, number)
         if code not in (Code.DONE, Code.ROOM):
-            raise _refused(code, number, options, block, notes, at)
+            raise _refused("flow", code, number, options, block, notes, at)
         output = ctypes.create_string_buffer(number)
-        call("flow", *slice_of(block), *slice_of(part), *slice_of(output), ctypes.byref(dashes))
+        call_for(part, "flow", *slice_of(block), *slice_of(part), *slice_of(output), ctypes.byref(dashes))
         out.append(output.raw)
     return _like(text, b"".join(out))
 

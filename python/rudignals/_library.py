@@ -7,6 +7,7 @@ import os
 import typing
 
 MOST_NOTES = 65536
+MOST_LARGE = 1048576
 MOST_COPY = 2 * MOST_NOTES
 PANEL_ROWS, PANEL_COLUMNS = 24, 80
 
@@ -54,6 +55,7 @@ def _load() -> ctypes.CDLL:
         "measure": part * 2, "write": part * 3, "write_indexed": [*part * 4, put], "lookup": [*part, number, *part, number, put], "explain": [*part * 2, number, put], "check": part * 3,
         "panel": [*part, number, put], "fold": [*part, number, number, *part], "mend": part * 4, "restore": part * 4, "flow": [*part * 3, put], "unflow": part * 2,
     }
+    calls.update({f"{name}_large": [*calls[name], *part] for name in ("measure", "write", "write_indexed", "explain", "flow", "check") if hasattr(library, f"rudignals_{name}_large")})
     for name, arguments in calls.items():
         function = getattr(library, f"rudignals_{name}")
         function.argtypes, function.restype = arguments, ctypes.c_uint64
@@ -85,6 +87,20 @@ def call(name: str, *arguments: typing.Any) -> tuple[Code, int]:
     """The code and the number that a call answers."""
     code, number = divmod(number_of(name, *arguments), 1 << 32)
     return Code(code), number
+
+
+def most_for(name: str) -> int:
+    """How many bytes of notes a call takes, in lent working room where the library has such a call."""
+    return MOST_LARGE if hasattr(_library, f"rudignals_{name}_large") else MOST_NOTES
+
+
+def call_for(notes: bytes, name: str, *arguments: typing.Any) -> tuple[Code, int]:
+    """The call for these notes: the small one and, where it refuses for length or words, the large one with working room that is always enough."""
+    code, number = call(name, *arguments)
+    if code in (Code.LONG, Code.WORDS, Code.LONG_DIGEST) and len(notes) <= most_for(name) == MOST_LARGE:
+        work = (ctypes.c_uint32 * (8 * (len(notes) + 1)))()
+        code, number = call(f"{name}_large", *arguments, *slice_of(work))
+    return code, number
 
 
 def slice_of(elements: bytes | ctypes.Array[typing.Any]) -> tuple[typing.Any, int]:

@@ -53,8 +53,8 @@ def _cut(text: bytes, most: int, cut: typing.Callable[[bytes, int, int], int]) -
         yield at, text[at:]
 
 
-def parts_of_notes(notes: bytes) -> Parts:
-    return _cut(notes, MOST_NOTES, _blank_cut)
+def parts_of_notes(notes: bytes, most: int) -> Parts:
+    return _cut(notes, most, _blank_cut)
 
 
 def parts_of_mail(mail: bytes) -> Parts:

@@ -3,7 +3,7 @@ from __future__ import annotations
 
 import typing
 
-from ._library import MOST_NOTES, Code
+from ._library import Code
 from ._options import NUMBERS, PREFIXES, Options, bytes_of
 
 
@@ -62,11 +62,11 @@ def refused_at(code: Code, number: int, notes: bytes, place: int, words: str) ->
     return Refused(f"line {line}, column {column}: {words}", code, number, place, line, column)
 
 
-def notes_refused(code: Code, number: int, notes: bytes, before: int) -> Refused:
-    """The refusal of a part of the notes that begins at the offset `before`."""
+def notes_refused(code: Code, number: int, notes: bytes, before: int, most: int) -> Refused:
+    """The refusal of a part of the notes that begins at the offset `before`, by a call that takes `most` bytes."""
     if code == Code.TEXT:
         place = before + number
         return refused_at(code, number, notes, place, f"byte {notes[place]:02X} begins no UTF-8 character; --keep leaves such a line as it is")
     if code == Code.WORDS:
         return refused_at(code, number, notes, before + number, "the paragraph that begins here has more than 1024 words; part it by an empty line")
-    return refused_at(code, number, notes, before, f"more than {MOST_NOTES} bytes from here on have no empty line; put one between paragraphs")
+    return refused_at(code, number, notes, before, f"more than {most} bytes from here on have no empty line; put one between paragraphs")

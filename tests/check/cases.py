@@ -1,4 +1,4 @@
-"""Cases by hand from P11's words: options, notes, digest, code, N."""
+"""Cases by hand from the words of RULES 18: options, notes, digest, code, N."""
 from model import Options
 
 plain = Options()
@@ -97,7 +97,7 @@ CASES = [
     (Options(mail=True), b"To: a\n c\n", b"To:\na c\n", 10, 1),
     # width and breaker do not matter
     (Options(width=10, quick=True), b"aaaa bbbbbb c\n", b"aaaa bbbbbb c\n", 0, 0),
-    # glue, by P2's rule: between two inks U+00A0 is ink; beside another blank, or at a line's edge, it is blank
+    # glue, by the rule of RULES 4.4: between two inks U+00A0 is ink; beside another blank, or at a line's edge, it is blank
     (glue, b"4.2" + S + b"K x\n", b"4.2" + S + b"K x\n", 0, 0),
     (glue, b"4.2" + S + b"K x\n", b"4.2 K x\n", 10, 0),
     (glue, b"a b\n", b"a" + S + b"b\n", 10, 0),
@@ -115,7 +115,7 @@ CASES = [
     (Options(glue=True, prefix=b">"), b">" + S + b"a\n>" + S + b"b\n", b">" + S + b"a " + b"b\n", 10, 0),
     (Options(glue=True, prefix=b">"), b">" + S + b"a\n>" + S + b"b\n", b">" + S + b"a" + S + b"b\n", 10, 0),
     (Options(glue=True, prefix=b">"), b">" + S + b"a\n>" + S + b"b\n", b">" + S + b"a" + S + S + b"b\n", 10, 0),
-    # P4: words of any script; every blank of the White_Space set parts words; U+200B is no blank
+    # RULES 4.3: words of any script; every blank of the White_Space set parts words; U+200B is no blank
     (plain, "\u6f22 \u5b57\n".encode(), "\u6f22\u3000\u5b57\n".encode(), 0, 0),
     (plain, "\u6f22 \u5b57\n".encode(), "\u6f22\n\u5b57\n".encode(), 0, 0),
     (plain, "\u6f22 \u5b57\n".encode(), "\u6f22\u5b57\n".encode(), 10, 0),

@@ -1,4 +1,4 @@
-"""The library's calls that the tests of P11 make."""
+"""The library's calls that the tests of checking make."""
 import ctypes
 
 

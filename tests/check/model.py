@@ -1,4 +1,4 @@
-"""What request P11 of document 02 asks, from the words of documents 01 and 02 alone; nothing is shared with the library.
+"""What RULES 18 asks, from the words of RULES alone; nothing is shared with the library.
 
 The notes are read into pieces, the pieces become a small machine that spells every acceptable digest, and a digest is read by all of
 that machine's ways at once. So nothing is decided here by looking ahead or by taking the longest: a line can be continued if one way is
@@ -8,7 +8,7 @@ Widths are of Python's own Unicode version; the texts of the tests have no chara
 """
 import unicodedata
 
-# P4: the White_Space set
+# RULES 4.3: the White_Space set
 BLANKS = {9, 10, 11, 12, 13, 0x20, 0x85, 0xA0, 0x1680, *range(0x2000, 0x200B), 0x2028, 0x2029, 0x202F, 0x205F, 0x3000}
 NO_BREAK = 0xA0
 
@@ -37,7 +37,7 @@ class Options:
     FLAGS = ["crown", "tagged", "mail", "split", "uniform", "quick", "exact_prefix", "exact_skip", "keep", "glue", "characters"]
 
     def block(self):
-        """The option block, document 01."""
+        """The option block, RULES 3."""
         g, out = self.given, b""
         flags = sum(1 << i for i, name in enumerate(self.FLAGS) if g.get(name))
         for tag, value in [(1, flags), (2, g.get("width")), (3, g.get("goal")), (4, g.get("tab"))]:
@@ -78,7 +78,7 @@ class Glyph:
 
 
 def glyphs(line, glue):
-    """The characters of a line; with glue on, which U+00A0 are blank, by P2's rule."""
+    """The characters of a line; with glue on, which U+00A0 are blank, by the rule of RULES 4.4."""
     found, at = [], 0
     while at < len(line):
         c = character(line, at)

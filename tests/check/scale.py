@@ -36,7 +36,7 @@ def run(words, notes):
 
 
 def by_rust(oracle, o, notes):
-    """The Rust knows neither keep nor glue nor P13's bit; fmt and par know fewer."""
+    """The Rust knows neither keep nor glue nor the bit of sentence characters; fmt and par know fewer."""
     if not os.access(oracle, os.X_OK) or o.keep or o.glue or o.characters:
         return None
     g, words = o.given, [oracle, "fmt", "--build", "cube"]

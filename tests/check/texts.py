@@ -1,4 +1,4 @@
-"""Options and notes by chance: what operators write, with every kind of line that document 01 knows."""
+"""Options and notes by chance: what operators write, with every kind of line that RULES knows."""
 from model import Options
 
 S = "\u00a0"

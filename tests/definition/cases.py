@@ -1,4 +1,4 @@
-"""What the Rust does not have, by hand from document 01's words: refusals, keep and glue; and document 01's trial texts.
+"""What the Rust does not have, by hand from the words of RULES: refusals, keep and glue; and the examples of RULES 10.
 
 Each case: option block, notes, length of the output slice (which holds `.` before the call), code, N, output afterwards (bytes, or
 SAME: unchanged, or ZERO: all zero).
@@ -60,7 +60,7 @@ def prefix_of(text):
 w10 = number(2, 10)
 quick10 = flags(QUICK) + w10
 
-# document 01, "Trial texts", all sixteen
+# the sixteen trial texts, all of them examples of RULES
 TRIALS = [
     kept(b"", b"", b""),
     kept(b"", b" \t\n", b"\n"),
@@ -158,7 +158,7 @@ CASES = TRIALS + [
     kept(keep, b"a\nb\n\xb0  x \nc\nd\n", b"a b\n\xb0  x \nc d\n"),
     kept(keep, b"a\xc3\nb\n", b"a\xc3\nb\n"),
     kept(keep, b"\xc2\xad\n\xe2\x82\xac\n", b"\xc2\xad \xe2\x82\xac\n"),
-    # document 02, P4: every character of RFC 3629, noncharacters too; two columns, one, none
+    # RULES 4.2: every character of RFC 3629, noncharacters too; two columns, one, none
     *(kept(b"", (c + "\n").encode(), (c + "\n").encode()) for c in "\u00ad\u0300\u07ff\u0800\ud7ff\ue000\ufffd\uffff\U00010000\U0010ffff"),
     kept(quick10, "中中 中中 c\n".encode(), "中中 中中\nc\n".encode()),
     kept(quick10, "中中 中中a c\n".encode(), "中中 中中a\nc\n".encode()),
@@ -187,7 +187,7 @@ CASES = TRIALS + [
     kept(b"", b"\xc2\xa0\n", b"\n"),
     kept(quick10, b"aaaa bb\xc2\xa0bbb c\n", b"aaaa bb\nbbb c\n"),
     kept(field(5, b">"), b">\xc2\xa0a\n>\xc2\xa0b\n", b">\xc2\xa0a b\n"),
-    # document 02, P2: ordinary between two characters that are no blanks, in a run as well; a column each, and part of its word
+    # RULES 4.4: ordinary between two characters that are no blanks, in a run as well; a column each, and part of its word
     glued([UNIFORM], b"", b"4.2~K\n", b"4.2~K\n"),
     glued([UNIFORM], b"", b"a~~b ~~~c\n", b"a~~b c\n"),
     glued([QUICK], w10, b"aaaa bb~bbb c\n", b"aaaa\nbb~bbb c\n"),
@@ -256,7 +256,7 @@ CASES = TRIALS + [
     glued([KEEP], b"", b"a~\xb0\n~b\n~c\n", b"a~\xb0\n~b c\n"),
     glued([KEEP], b"", b"~\xb0\n\xb0~\n~\n\xc2\n", b"~\xb0\n\xb0~\n\n\xc2\n"),
     glued([KEEP, UNIFORM], b"", b"a~b\n\xc3~\nc ~d\n", b"a~b\n\xc3~\nc d\n"),
-    # document 02, P13: one blank of two bytes is over one by bytes, not by characters; two blanks and a tab part sentences by either
+    # RULES 6.2: one blank of two bytes is over one by bytes, not by characters; two blanks and a tab part sentences by either
     *(
         kept(flags(UNIFORM, *more), b"a" + end + gap + b"b\n", b"a" + end + (b"  b\n" if wide else b" b\n"))
         for more, lone in (((), True), ((CHARACTERS,), False))

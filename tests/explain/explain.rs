@@ -19,7 +19,7 @@ mod width;
 
 use model::Original;
 use parts::asked;
-use parts::calls::rudignals_explain;
+use parts::calls::{rudignals_explain, rudignals_explain_large};
 use parts::guard::Answer;
 use parts::texts::Rng;
 use std::process::exit;
@@ -54,7 +54,22 @@ fn explain(block: &[u8], notes: &[u8], line: u64, tamper: &str) -> (u64, u64, Re
     (code, number, reason)
 }
 
-const TAMPERS: [&str; 10] = ["kind", "exchanged", "term", "cost", "column", "rest", "kept", "lines", "done", "eight"];
+/// The large call with so much room; what stands behind it must stay.
+fn explain_large(block: &[u8], notes: &[u8], line: u64, numbers: usize, tamper: &str) -> (u64, u64, Reason) {
+    let mut reason = BEFORE;
+    let mut work = vec![0xb7b7_b7b7u32; numbers + 8];
+    let answer = unsafe { rudignals_explain_large(block.as_ptr(), block.len(), notes.as_ptr(), notes.len(), line, reason.as_mut_ptr(), work.as_mut_ptr(), numbers) };
+    assert!(work[numbers..].iter().all(|n| *n == 0xb7b7_b7b7), "a number behind the lent room has changed");
+    let (mut code, mut number) = (answer >> 32, answer & 0xffff_ffff);
+    match tamper {
+        "room" if code == 12 => number += 1,
+        "twelve" if code == 12 => code = 8,
+        _ => {}
+    }
+    (code, number, reason)
+}
+
+const TAMPERS: [&str; 12] = ["kind", "exchanged", "term", "cost", "column", "rest", "kept", "lines", "done", "eight", "room", "twelve"];
 
 fn hex(bytes: &[u8]) -> String {
     if bytes.is_empty() { "-".to_string() } else { bytes.iter().map(|b| format!("{b:02x}")).collect() }
@@ -87,6 +102,25 @@ impl Run {
             self.differ += 1;
             if self.differ <= 3 {
                 println!("differ: line {line}: {told:?}, expected {expected:?}\nreplay: {} {}", hex(block), hex(notes));
+            }
+        }
+        if expected.0 != 2 && expected.0 != 4 {
+            self.check_large(block, notes, line, expected);
+        }
+    }
+
+    /// The same of the large call: with no room 12 tells what is needed, seven or fifteen numbers for each word of the longest paragraph; with one
+    /// number less it is still refused, and with so many it answers as the small one.
+    fn check_large(&mut self, block: &[u8], notes: &[u8], line: u64, expected: (u64, u64, Reason)) {
+        let none = explain_large(block, notes, line, 0, &self.tamper);
+        let needed = if none.0 == 12 { none.1 as usize } else { 0 };
+        let told = explain_large(block, notes, line, needed, &self.tamper);
+        let short = if needed == 0 { expected } else { (12, needed as u64, BEFORE) };
+        let less = if needed == 0 { expected } else { explain_large(block, notes, line, needed - 1, &self.tamper) };
+        if told != expected || none != short || less != short || (needed % 7 != 0 && needed % 15 != 0) {
+            self.differ += 1;
+            if self.differ <= 3 {
+                println!("differ: line {line} in {needed} numbers: {told:?}, expected {expected:?}; with less {less:?}, with none {none:?}\nreplay: {} {}", hex(block), hex(notes));
             }
         }
     }
@@ -149,7 +183,7 @@ const QUICK: u16 = 32;
 const KEEP: u16 = 256;
 const CHARACTERS: u16 = 1024;
 
-/// Worked out by hand from documents 01 and 02.
+/// Worked out by hand from RULES.
 fn hand() -> i32 {
     let mut run = Run::new(1, "none");
     let end = [0; 6];
@@ -166,7 +200,7 @@ fn hand() -> i32 {
         (block(QUICK | UNIFORM, 6, 0), b"a b.\nccc\n", vec![[3, 4, 0, 2, 3, 0], end]),
         // mail counts as uniform and quick; a word's width is its bytes
         (block(MAIL, 10, 0), "To: aaa \u{e9}\u{e9}\u{e9}\n c\n".as_bytes(), vec![[3, 7, 0, 1, 6, 0], end]),
-        // P6's own example: width 8 has the goal 5, stretch 3. Line 1 is `ccc`, three columns: t counts the added space of a fresh line
+        // the example of RULES 13: width 8 has the goal 5, stretch 3. Line 1 is `ccc`, three columns: t counts the added space of a fresh line
         (block(UNIFORM, 8, 0), b"aaa bbb ccc ddd eee fff ggg\n", vec![]),
         // one word to a line, each too wide: nothing stays, and the break is forced after it
         (block(0, 2, 2), b"aaaa bbbb c\n", vec![]),
@@ -181,10 +215,10 @@ fn hand() -> i32 {
         }
         run.ask(block, notes);
     }
-    // P6: line 1 of the example has t 4
+    // RULES 13: line 1 of the example has t 4
     let (code, _, reason) = explain(&block(UNIFORM, 8, 0), b"aaa bbb ccc ddd eee fff ggg\n", 1, "none");
     if (code, reason[0], reason[1]) != (0, 4, 4) {
-        println!("differ: the example of P6: {code} {reason:?}");
+        println!("differ: the example of RULES 13: {code} {reason:?}");
         run.differ += 1;
     }
     // codes 1 to 4 come before 8
@@ -194,6 +228,20 @@ fn hand() -> i32 {
     let words = "\n".to_string() + &"a ".repeat(1025);
     run.check(&[], words.as_bytes(), 0, (4, 1, BEFORE));
     run.check(&[], words.as_bytes(), u64::MAX, (4, 1, BEFORE));
+    // the large call takes them: 1,025 words of fifteen numbers, or seven; notes of 1,048,576 bytes and not of one more
+    run.check_large(&[], words.as_bytes(), 0, (0, 0, [2, 0, 0, 0, 0, 0]));
+    for (block, needed) in [(block(0, 0, 0), 1025 * 15), (block(QUICK, 0, 0), 1025 * 7)] {
+        for (numbers, code) in [(needed, 0), (needed - 1, 12)] {
+            let told = explain_large(&block, words.as_bytes(), 0, numbers, "none");
+            if (told.0, told.1) != (code, if code == 12 { needed as u64 } else { 0 }) {
+                println!("differ: 1,025 words in {numbers} numbers: {told:?}");
+                run.differ += 1;
+            }
+        }
+    }
+    run.check_large(&[], &[b'\n'; 1048576], 1048575, (0, 0, [2, 0, 0, 0, 0, 0]));
+    run.check_large(&[], &[b'\n'; 1048576], 1048576, (8, 1048576, BEFORE));
+    run.check_large(&[], &[b'\n'; 1048577], 0, (2, 0, BEFORE));
     run.told("by hand")
 }
 

@@ -1,4 +1,4 @@
-"""P10 from the paper alone: what the writer writes and the reader reads, with document 01's rules for quick and uniform digests.
+"""RULES 17 alone: what the writer writes and the reader reads, with the rules for quick and uniform digests (RULES 6 and 7).
 
 Nothing here was taken from the library's code or from its definitions. Written for lines of bytes, one rule after the other.
 """
@@ -7,7 +7,7 @@ MOST_BYTES, MOST_WORDS = 65536, 1024
 SOFT, MARK, SEPARATOR = b" ", b">", b"-- "
 
 
-# ---- document 01: lines
+# ---- RULES 4.5: lines
 
 
 def lines(text):
@@ -66,11 +66,11 @@ def unflow(text, room):
     return 0, len(out), out
 
 
-# ---- document 01 for what the writer writes: uniform, quick, without prefix, crown, tagged and mail
+# ---- RULES 4 to 7 for what the writer writes: uniform, quick, without prefix, crown, tagged and mail
 
 
 def character(data, at):
-    """The character at a place and the bytes that it takes, or None where none of UTF-8 begins (document 02, P4)."""
+    """The character at a place and the bytes that it takes, or None where none of UTF-8 begins (RULES 4.2)."""
     for size in (1, 2, 3, 4):
         try:
             return ord(data[at : at + size].decode("utf-8")), size
@@ -94,7 +94,7 @@ def glyphs(line, glue):
     def is_blank(n, code):
         if not glue or code != 0xA0:
             return code in WHITE_SPACE
-        # document 02, P2: the nearest characters on both sides that are no U+00A0 are there and no blanks
+        # RULES 4.4: the nearest characters on both sides that are no U+00A0 are there and no blanks
         before = [c for k, c in others if k < n][-1:]
         behind = [c for k, c in others if k > n][:1]
         return not (before and behind and before[0] not in WHITE_SPACE and behind[0] not in WHITE_SPACE)
@@ -111,7 +111,7 @@ def columns(tab, indent):
 
 
 class Options:
-    """What the writer's rules ask of a block, with the defaults of document 01."""
+    """What the writer's rules ask of a block, with the defaults of RULES 3."""
 
     def __init__(self, width=79, tab=8, split=False, keep=False, glue=False, characters=False, skip=None, exact_skip=False):
         self.width, self.tab, self.split, self.keep, self.glue, self.characters = width, tab or 1, split, keep, glue, characters
@@ -136,7 +136,7 @@ def classified(line, o):
 
 
 def words_of(found, o):
-    """The words of a line: bytes, characters, the blank before each in bytes (or characters: P13), whether it ends in punctuation."""
+    """The words of a line: bytes, characters, the blank before each in bytes (or characters: RULES 6.2), whether it ends in punctuation."""
     words, gap, at = [], 0, 0
     while at < len(found):
         end = at
@@ -173,7 +173,7 @@ def pieces(notes, o):
 
 
 def broken(indent_columns, rows, width):
-    """The lines of a paragraph, each a list of what stands between the words and of the words: quick, with document 01's added space."""
+    """The lines of a paragraph, each a list of what stands between the words and of the words: quick, with the added space of RULES 6.5."""
     done, line, column, punct = [], [], 0, False
     for row in rows:
         for number, (text, size, gap, ends) in enumerate(row):
@@ -193,7 +193,7 @@ def broken(indent_columns, rows, width):
     return done + [line]
 
 
-# ---- the writer: document 02, P10
+# ---- the writer: RULES 17
 
 
 def flowed_piece(piece, o):

@@ -316,6 +316,56 @@ static void most_mail(void) {
     CHECK(most_read > 0); /* two bytes for each would not be enough */
 }
 
+/* ---- the calls in lent working room: null room, code 12 and what it leaves, the room that is always enough */
+
+static uint32_t room[RUDIGNALS_WORK(16)]; /* a constant expression */
+
+static void lent_room(void) {
+    uint8_t output[8];
+    uint64_t filled = 5, dashes = 5, reason[6] = {9, 9, 9, 9, 9, 9};
+    struct rudignals_record index[2];
+    uint32_t need;
+    memset(output, MARK, sizeof output);
+    memset(index, MARK, sizeof index);
+    CHECK(rudignals_measure_large(NULL, 0, NULL, 0, NULL, 0) == told(RUDIGNALS_DONE, 0));
+    need = rudignals_number_of(rudignals_measure_large(NULL, 0, NOTES, NOTES_LEN, NULL, 0));
+    CHECK(need > 0 && need <= RUDIGNALS_WORK(NOTES_LEN));
+    CHECK(rudignals_measure_large(NULL, 0, NOTES, NOTES_LEN, room, need - 1) == told(RUDIGNALS_WORK_ROOM, need));
+    CHECK(rudignals_measure_large(NULL, 0, NOTES, NOTES_LEN, room, need) == told(RUDIGNALS_DONE, 6));
+    CHECK(rudignals_write_large(NULL, 0, NOTES, NOTES_LEN, output, sizeof output, NULL, 0) == told(RUDIGNALS_WORK_ROOM, need));
+    CHECK(rudignals_code_of(rudignals_write_indexed_large(NULL, 0, NOTES, NOTES_LEN, output, sizeof output, index, 2, &filled, NULL, 0)) == RUDIGNALS_WORK_ROOM && filled == 0);
+    CHECK(rudignals_code_of(rudignals_explain_large(NULL, 0, NOTES, NOTES_LEN, 0, reason, NULL, 0)) == RUDIGNALS_WORK_ROOM && reason[0] == 9 && reason[5] == 9);
+    CHECK(rudignals_code_of(rudignals_flow_large(NULL, 0, NOTES, NOTES_LEN, output, sizeof output, &dashes, NULL, 0)) == RUDIGNALS_WORK_ROOM && dashes == 0);
+    CHECK(rudignals_code_of(rudignals_check_large(NULL, 0, NOTES, NOTES_LEN, output, 0, NULL, 0)) == RUDIGNALS_WORK_ROOM);
+    CHECK(all_are(output, sizeof output, MARK) && all_are((const uint8_t *)index, sizeof index, MARK));
+    CHECK(rudignals_write_large(NULL, 0, NOTES, NOTES_LEN, output, 5, room, RUDIGNALS_WORK(NOTES_LEN)) == told(RUDIGNALS_ROOM, 6));
+    CHECK(all_are(output, 5, 0));
+    CHECK(rudignals_write_large(NULL, 0, NOTES, NOTES_LEN, output, sizeof output, room, RUDIGNALS_WORK(NOTES_LEN)) == told(RUDIGNALS_DONE, 6));
+    CHECK(memcmp(output, DIGEST, 6) == 0);
+    CHECK(rudignals_write_indexed_large(NULL, 0, NOTES, NOTES_LEN, output, sizeof output, index, 2, &filled, room, RUDIGNALS_WORK(NOTES_LEN)) == told(RUDIGNALS_DONE, 6));
+    CHECK(filled == 1 && index[0].place == 0 && index[0].length == 6 && index[0].first == 0 && index[0].count == 1);
+    CHECK(rudignals_explain_large(NULL, 0, NOTES, NOTES_LEN, 0, reason, room, RUDIGNALS_WORK(NOTES_LEN)) == told(RUDIGNALS_DONE, 0) && reason[0] == RUDIGNALS_END_OF_PARAGRAPH);
+    CHECK(rudignals_flow_large(NULL, 0, NOTES, NOTES_LEN, output, sizeof output, &dashes, room, RUDIGNALS_WORK(NOTES_LEN)) == told(RUDIGNALS_DONE, 7));
+    CHECK(rudignals_check_large(NULL, 0, NOTES, NOTES_LEN, (const uint8_t *)DIGEST, 6, room, RUDIGNALS_WORK(NOTES_LEN)) == told(RUDIGNALS_DONE, 0));
+}
+
+/* Words of one letter, one byte between two: the digest is as long as the notes. */
+static void large_notes(void) {
+    static uint8_t notes[RUDIGNALS_MOST_LARGE + 1];
+    uint32_t *work = (uint32_t *)malloc(RUDIGNALS_WORK(RUDIGNALS_MOST_LARGE) * sizeof *work);
+    size_t i;
+    if (work == NULL)
+        abort();
+    for (i = 0; i < sizeof notes; i++)
+        notes[i] = i % 2 == 0 ? 'a' : ' ';
+    CHECK(rudignals_measure(NULL, 0, notes, 70000) == told(RUDIGNALS_LONG, 0));
+    CHECK(rudignals_measure_large(NULL, 0, notes, 70000, work, RUDIGNALS_WORK(70000)) == told(RUDIGNALS_DONE, 70000));
+    CHECK(rudignals_measure_large(NULL, 0, notes, RUDIGNALS_MOST_LARGE, work, RUDIGNALS_WORK(RUDIGNALS_MOST_LARGE)) == told(RUDIGNALS_DONE, RUDIGNALS_MOST_LARGE));
+    CHECK(rudignals_measure_large(NULL, 0, notes, RUDIGNALS_MOST_LARGE + 1, work, RUDIGNALS_WORK(RUDIGNALS_MOST_LARGE)) == told(RUDIGNALS_LONG, 0));
+    CHECK(rudignals_check_large(NULL, 0, NOTES, NOTES_LEN, notes, RUDIGNALS_MOST_LARGE + 1, work, 1000) == told(RUDIGNALS_LONG_DIGEST, 0));
+    free(work);
+}
+
 /* ---- what answers text */
 
 static void words(void) {
@@ -348,6 +398,8 @@ int main(void) {
     most();
     most_mail();
     checked();
+    lent_room();
+    large_notes();
     words();
     version();
     printf("header: %lu checks, version %s\n", checks, RUDIGNALS_VERSION);

@@ -1,7 +1,7 @@
 /* Writing with an index, and the lookup, through the library, against a model of its own: indexed hand | scale SEED COUNT | long SEED COUNT | tamper FAULT |
  * time
  *
- * The model is written from P3's words and document 01's on lines and paragraphs, for ASCII notes and the options empty, quick and split: a
+ * The model is written from the words of RULES 12, and those of RULES 4 and 5 on lines and paragraphs, for ASCII notes and the options empty, quick and split: a
  * blank line is a piece; other lines join as long as their indents agree. A piece's lines are counted in what rudignals_write makes of its
  * bytes alone, its place and length in the notes. Lookups are modelled with sums of 128 bits. Every call is made once more with the room that the
  * model says it needs, which lies before a page that cannot be touched, with one number less, and with none. */

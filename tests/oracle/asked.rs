@@ -361,6 +361,80 @@ pub fn quick_notes(r: &mut Rng) -> Asked {
     (opts.block(), notes.into_bytes())
 }
 
+/// A word of so many letters, with a mark at its end now and then.
+fn letters(r: &mut Rng, count: usize) -> String {
+    let mut word: String = (0..count).map(|_| (b'a' + r.below(26) as u8) as char).collect();
+    if count > 1 && r.chance(25) {
+        word.pop();
+        word += [".", "?", "!", ","][r.below(4)];
+    }
+    word
+}
+
+/// Lines of ASCII at the edges of quick's walk: words that end at the width, or one before or behind it, with one to three spaces at the
+/// cut; a last word alone; a tab or a letter of two bytes about the eighth byte of a line; spaces at a line's end.
+fn edges(r: &mut Rng, width: usize) -> String {
+    let mut text = String::new();
+    for _ in 0..1 + r.below(6) {
+        let mut line = String::new();
+        let end = (width + r.below(3)).saturating_sub(1).max(1) * (1 + r.below(3));
+        while line.len() < end {
+            let room = end - line.len();
+            let most = if r.chance(30) { room } else { room.min(9) };
+            let count = 1 + r.below(most);
+            line += &letters(r, count);
+            if line.len() < end {
+                line += ["", " ", " ", " ", "  ", "   "][r.below(6)];
+            }
+        }
+        match r.below(10) {
+            0 => line.insert(line.len().min(5 + r.below(5)), '\t'),
+            1 => line.insert(line.len().min(5 + r.below(5)), 'é'),
+            2 => {
+                let count = 1 + r.below(width + 2);
+                line = letters(r, count);
+            }
+            3 => line += &" ".repeat(1 + r.below(3)),
+            _ => {}
+        }
+        text += &line;
+        text += if r.chance(8) { "\r\n" } else { "\n" };
+        if r.chance(10) {
+            text += "\n";
+        }
+    }
+    text
+}
+
+/// A paragraph of just so many words of one letter, or of just so many bytes: about the most words, and the bytes that show that they are no
+/// more.
+fn many(r: &mut Rng) -> String {
+    if r.chance(50) {
+        let count = 1022 + r.below(4);
+        return (0..count).map(|n| if n % 31 == 30 { "a\n" } else { "a " }).collect();
+    }
+    let bytes = [95, 96, 97, 1023, 1024, 1025, 2047, 2048, 2049][r.below(9)];
+    let mut text = String::new();
+    while text.len() < bytes {
+        let count = 1 + r.below(8);
+        text += &letters(r, count);
+        text += if r.chance(12) { "\n" } else { " " };
+    }
+    text.truncate(bytes);
+    text
+}
+
+/// Quick at the edges of its lines, and paragraphs about the most words.
+fn at_the_edges(r: &mut Rng) -> Asked {
+    let most = r.below(3);
+    let mut opts = random_options(r, [6, 12, 40][most]);
+    flagged(r, &mut opts, QUICK, 90);
+    flagged(r, &mut opts, UNIFORM, 10);
+    let width = opts.width.unwrap_or(75) as usize;
+    let notes = if r.chance(10) { many(r) } else { edges(r, width) };
+    (opts.block(), notes.into_bytes())
+}
+
 fn long(r: &mut Rng) -> Asked {
     let mut opts = random_options(r, 90);
     flagged(r, &mut opts, KEEP, 20);
@@ -387,7 +461,8 @@ pub fn random(seed: u64) -> impl Iterator<Item = (&'static str, Asked)> {
         Some(match r.below(1000) {
             0..=549 => ("random", of(case(&mut r))),
             550..=779 => ("random, keep or glue", keep_or_glue(&mut r)),
-            780..=989 => ("random, broken blocks", broken(&mut r)),
+            780..=949 => ("random, broken blocks", broken(&mut r)),
+            950..=989 => ("random, edges of lines", at_the_edges(&mut r)),
             _ => ("random, long", long(&mut r)),
         })
     })

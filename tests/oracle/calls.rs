@@ -53,6 +53,16 @@ extern "C" {
     ) -> u64;
     pub fn rudignals_lookup(index: *const Record, records: usize, filled: u64, notes: *const u8, notes_len: usize, line: u64, part: *mut u64) -> u64;
     pub fn rudignals_explain(options: *const u8, options_len: usize, notes: *const u8, notes_len: usize, line: u64, reason: *mut u64) -> u64;
+    pub fn rudignals_explain_large(
+        options: *const u8,
+        options_len: usize,
+        notes: *const u8,
+        notes_len: usize,
+        line: u64,
+        reason: *mut u64,
+        work: *mut u32,
+        work_len: usize,
+    ) -> u64;
     pub fn rudignals_panel(digest: *const u8, digest_len: usize, tab: u64, cells: *mut u32) -> u64;
     pub fn rudignals_fold(text: *const u8, text_len: usize, tab: u64, columns: u64, output: *mut u8, output_len: usize) -> u64;
 }

@@ -19,7 +19,7 @@ fn with_prefix(flags: u16, prefix: &str) -> Opts {
     Opts { prefix: Some(prefix.to_string()), ..opts(flags, 0, 0) }
 }
 
-/// The trial texts of document 01 that the original can do (keep is ours), and
+/// The examples of RULES 10 that the original can do (keep is ours), and
 /// the smallest texts that tell apart readings of its rules.
 pub fn trials() -> Vec<(Opts, &'static str, &'static str)> {
     vec![
@@ -114,7 +114,7 @@ fn telling() -> Vec<Case> {
     short.chain(long).map(|(opts, notes)| Case { opts, notes }).collect()
 }
 
-/// Every boundary of document 01, each under a few texts that reach it.
+/// Every boundary of RULES, each under a few texts that reach it.
 fn boundaries() -> Vec<Case> {
     let mut cases = Vec::new();
     let mut add = |opts: &Opts, texts: &[&str]| {

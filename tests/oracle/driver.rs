@@ -75,7 +75,7 @@ fn answer(case: &Case) -> Vec<u8> {
     }
 }
 
-/// Document 01's conditions for code 0, apart from room. The words of a
+/// The conditions of RULES 2.2 for code 0, apart from room. The words of a
 /// paragraph are counted generously, from blank line to blank line.
 fn assert_accepted(case: &Case) {
     let opts = &case.opts;
@@ -265,7 +265,7 @@ fn widths(checks: &mut Checks) {
     }
 }
 
-/// Words of width 0 (document 02, P4). The amended build differs from the cube in their W at stretch 1 and nowhere else; their terms are
+/// Words of width 0 (RULES 8.4). The amended build differs from the cube in their W at stretch 1 and nowhere else; their terms are
 /// near the exact ones; and the smallest text on which it shows.
 fn widthless(checks: &mut Checks) {
     use fmt_amended::linebreak::compute_demerits as amended;

@@ -1,4 +1,4 @@
-//! Glue (document 02, P2), by the paper's words. The original has none, so it is shown notes that the paper treats alike.
+//! Glue, by the words of RULES 4.4. The original has none, so it is shown notes that RULES treats alike.
 //!
 //! U+00A0 is ordinary only if the nearest characters on its line, left and right, skipping further U+00A0, are both there and not blanks.
 //! An ordinary one is shown as a letter of as many bytes that occurs nowhere else; any other is left, since the original has it as a blank.

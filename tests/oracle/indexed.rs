@@ -1,4 +1,4 @@
-//! Writing with an index against the original (document 02, P3): the pieces are the original's own paragraphs and lines, their output lines
+//! Writing with an index against the original (RULES 12): the pieces are the original's own paragraphs and lines, their output lines
 //! the line feeds that it writes for each. Every answer, every byte of the output, every record and the count filled; and lookups.
 
 use crate::model::Original;

@@ -1,12 +1,12 @@
-//! The right answer to any call. Refusals are worked out here, from document 01's words alone; digests, paragraphs and their words are
+//! The right answer to any call. Refusals are worked out here, from the words of RULES alone; digests, paragraphs and their words are
 //! the original's.
 //!
-//! The original has neither keep nor glue, so it is shown notes that document 01 treats alike:
+//! The original has neither keep nor glue, so it is shown notes that RULES treats alike:
 //! - Glue: the head of `glue.rs` says what is shown for U+00A0; the digest is turned back.
 //! - Keep: a damaged line is a plain line, as is a line with the skip prefix. In its place the original is shown a line that begins with
 //!   the skip prefix (or, where none is given or it has a line feed and so is never found, with a character that occurs nowhere else),
 //!   and in the digest that line is turned back into the damaged one.
-//! - Blanks counted by characters where sentences part (document 02, P13), which shows under uniform alone: there a blank of two bytes
+//! - Blanks counted by characters where sentences part (RULES 6.2), which shows under uniform alone: there a blank of two bytes
 //!   or three that stands alone between two words is shown as a form feed, a blank of one byte. Uniform drops both, so nothing is turned back. Two blanks
 //!   or more are over one by either rule, and a tab parts sentences by either.
 

@@ -1,4 +1,4 @@
-//! The options of one case, as document 01's option block and as the original's
+//! The options of one case, as the option block of RULES 3 and as the original's
 //! arguments.
 
 use crate::glue::StandIns;

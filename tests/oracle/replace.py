@@ -60,7 +60,7 @@ CUBE = [
     ("linebreak.rs", 3, ".powf(3f32)", ".cube()"),
     ("linebreak.rs", 1, "use std::mem;\n", "use std::mem;\nuse uucore::Cube;\n"),
 ]
-# Document 02, P4: at stretch 1 the W of a word of width 0 is 0. The original divides 1 by 0 there.
+# RULES 8.4: at stretch 1 the W of a word of width 0 is 0. The original divides 1 by 0 there.
 AMENDED = [
     ("linebreak.rs", 1, "if wlen >= stretch {", "if wlen >= stretch || stretch == 1 {"),
 ]

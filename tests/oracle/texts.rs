@@ -1,4 +1,4 @@
-//! Random options and random texts in the domain that document 01 accepts, made
+//! Random options and random texts in the domain that RULES accepts, made
 //! from a seed by a generator of our own: the same on every machine.
 
 use crate::options::*;

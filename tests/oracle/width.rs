@@ -1,4 +1,4 @@
-//! Quick keeps to the width (document 02, P9), tried by runs: the columns of every output line of a paragraph that is not mail, counted afresh
+//! Quick keeps to the width (RULES 21.7), tried by runs: the columns of every output line of a paragraph that is not mail, counted afresh
 //! from the line's bytes, exceed the width only if the line holds a single word, or a blank between two of its words, no tab, that takes
 //! another number of columns than one.
 //!

@@ -10,7 +10,7 @@ ATTRIBUTES = {  # of each element that a page may have: the attributes, and what
     "header": {"id": "top", "class": "bar", "role": "alert"}, "h1": {}, "h2": {}, "h3": {}, "strong": {}, "small": {"class": "[xy]"}, "em": {}, "ul": {}, "br": {}, "kbd": {}, "mark": {},
     "nav": {"aria-label": "This page"}, "main": {"id": "failed"}, "footer": {}, "b": {"class": r"w\d+"}, "div": {"id": "digest", "role": "region", "aria-label": "The digest, line by line", "tabindex": "-1"},
     "section": {"id": f"n{NUMBER}|seen|wall", "aria-label": "Not to be missed|The wall panel"}, "aside": {"id": "notes", "aria-label": ".*", "tabindex": "-1"},
-    "p": {"id": f"r{NUMBER}|cut|calm", "class": "hint|bar|e", "role": "alert"}, "pre": {"tabindex": "0"}, "ol": {"start": NUMBER}, "li": {"class": "[donm]|at"},
+    "p": {"id": f"r{NUMBER}|cut|calm", "class": "hint|bar|e", "role": "alert"}, "pre": {"tabindex": "0"}, "ol": {"start": NUMBER}, "li": {"class": "[adonm]|at"},
     "a": {"id": NUMBER, "class": "[do]", "href": f"#(n?{NUMBER}|digest|notes|wall|top)"}, "span": {"class": "name|k|goal|width|ruler|bar|g|mouse|touch"},
     "i": {"class": r"w\d+( r)?|w1 [do]", "id": "end"}, "u": {"class": r"[cd] w\d+|[cdeqzt]", "data-x": r"[0-9A-F \n]+"},
 }

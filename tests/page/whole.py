@@ -5,7 +5,7 @@ import subprocess
 
 from reader import Page
 
-# What is typed, and the option block that it makes, by document 01.
+# What is typed, and the option block that it makes, by RULES 3.
 OPTIONS = [
     ([], b""),
     (["-q"], b"\1\0\2\0\x20"),
@@ -40,7 +40,7 @@ def random_notes(chance):
     return b"".join(parts)
 
 
-# The columns of the words among PIECES, by hand: document 02, P4 and P7. The others are blanks, which are no words.
+# The columns of the words among PIECES, by hand: RULES 4.2 and 15. The others are blanks, which are no words.
 WORDS = {"a": 1, "bc": 2, "pump": 4, "tripped.": 8, "restarted": 9, "a-very-long-word-that-fits-in-no-line": 37, "\u4e09\u53f7": 4, "e\u0301": 1, "\u0928\u092e\u0938\u094d\u0924\u0947": 4, "\U0001f527": 2,
          "\u0416\u0443\u043a": 3, "\u05d0\u05d1": 2, "<b>": 3, "&amp;": 5, "'": 1, '"': 1, "</pre>": 6, "\0": 1, "\x1b[31m": 5, "\x7f": 1, "\u009b": 1, "\u00ad": 1, "\u202e": 0, "\u2066": 0, "\u200b": 0, "\ufeff": 0,
          "\u200d": 0, "\ufffd": 1, "\ufffe": 1, "\u0301": 0, "To:": 3, "From": 4, ">": 1, "\u1160": 0, "\U000e0041": 0}
@@ -81,7 +81,7 @@ def together(index, notes, reasons):
 
 
 def margins(width, goal):
-    """Document 01, width and goal."""
+    """RULES 3.4, width and goal."""
     if width is None and goal is None:
         return 74, 79
     if goal is None:
@@ -181,7 +181,7 @@ def is_damaged(line):
     return False
 
 
-# A line, and the columns that it takes, by hand: document 02, P4 and P7. Tabs are at 8.
+# A line, and the columns that it takes, by hand: RULES 4.2 and 15. Tabs are at 8.
 COLUMNS = [(b"pump 2", 6), ("a\u4e09\u53f7b".encode(), 6), ("e\u0301x".encode(), 2), (b"a\tb", 9), (b"a\t", 1), ("a\t\u0301".encode(), 1), (b"41\xb0C", 4), ("a\u202eb".encode(), 2), (b"\x1b[0m", 4), ("\u0928\u092e\u0938\u094d\u0924\u0947".encode(), 4),
            ("\U0001f469\u200d\U0001f527".encode(), 4), ("\u00ad".encode(), 1), ("\u1112\u119e\u11ab".encode(), 2), (b"x" * 80, 80), ("\u05d0\u05d1".encode(), 2)]
 
@@ -197,13 +197,11 @@ def columns(command, tell):
 FAILURES = [
     ([], b"ok\n\n41\xb0C\nend\n", 1, "REFUSED", "line 3, column 3: byte B0 begins no UTF-8 character", (b"ok\n\n41\xb0C\nend\n", b"\xb0")),
     ([], b"x\n" * 9 + b"\xff\xff\n" + b"y\n" * 9, 1, "REFUSED", "line 10, column 1", (b"x\n" * 3 + b"\xff\xff\n" + b"y\n" * 3, b"\xff")),
-    ([], b"\n" + b"a " * 1025 + b"\n", 1, "REFUSED", "more than 1024 words", (b"\n" + b"a " * 1025 + b"\n", None)),
-    ([], b"a" * 65537, 1, "REFUSED", "more than 65536 bytes", (b"a" * 65537, None)),
+    ([], b"\n" + b"a " * 524289 + b"\n", 1, "REFUSED", "more than 1048576 bytes", None),
     (["-w", "5"], b"a\n", 2, "REFUSED: there may be notes", "--width 5: must be 6 to 1000 without --goal", None),
     (["none"], b"", 1, "NOT READ", "none: No such file or directory", None),
     (["a", "b"], b"", 2, "NOT READ", "the page shows one file, and 2 are named", None),
     (["--no-such"], b"", 2, "NOT READ", "said why on standard error", None),
-    ([], b" " * 60000 + b"a " * 1000, 1, "REFUSED", "a page shows at most 65536 and 4194304", None),
 ]
 
 
@@ -239,6 +237,23 @@ def edges(command, tell):
     long = b"filler words\nof a long night\n\n" * 3000 + b"the\nend\n"
     page = command.page([], long)[1]
     tell("a file over 65,536 bytes", (page.faults, page.all_notes() == long, page.digest() == command.run(["format"], long).stdout), ([], True, True))
+
+
+def above(command, tell):
+    """Of a digest that no page has room for the last lines are shown, with their numbers, their notes and their reasons; the others are counted."""
+    tail = b"a\nb\n\n" * 20000
+    for arguments, notes, count in (["--keep"], b"41\xb0C\n\n" * 3 + b"c\n\n" * 20000 + tail, 80006), (["-m", "--keep"], b"41\xb0C\n\n" * 3 + b"c\n\n" * 20000 + tail, 80006):
+        status, page, _ = command.page(arguments, notes)
+        hidden = count - 65536
+        tell("a long digest", (status, page.faults, len(page.lines), page.lines[0][0], page.lines[-1][0]), (0, [], 65536, hidden + 1, count))
+        tell("a long digest: what is above", page.warned["a"][0].strip(), f"{hidden:,} lines above are not on this page, 3 of them damaged: it has room for the last of the digest. rudignals format writes all of it.")
+        tell("a long digest: its end", page.digest(), command.run(["format", *arguments], notes).stdout.split(b"\n", hidden)[-1])
+        tell("a long digest: its notes", notes.endswith(page.all_notes()) and len(page.all_notes()) > len(tail), True)
+    # one paragraph, of which the last lines are shown
+    wide = b" " * 60000 + b"a " * 1000
+    status, page, _ = command.page([], wide)
+    tell("a wide digest", (status, page.faults, len(page.lines), page.lines[-1][0], page.warned["a"][0].split(" lines")[0]), (0, [], 69, 1000, "931"))
+    tell("a wide digest: why its lines end", [words for _, (_, reasons, _, _) in list(page.pieces.items()) for _, words, _, _ in list(reasons.values())[-1:]], ["Its paragraph ends here."])
 
 
 # Of every kind that a wall folds: a damaged line, words without blanks, an address; more rows than there are; and a wall without a digest.
@@ -306,6 +321,7 @@ def run_all(command, tell, seed, count):
     failures(command, tell)
     edges(command, tell)
     wall_view(command, tell)
+    above(command, tell)
     faults(command, tell)
     for arguments, block in OPTIONS:
         for _ in range(count):

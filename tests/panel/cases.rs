@@ -1,4 +1,4 @@
-//! By hand from document 02's words: digest, tab width, code, and the rows that are not blank, from the left. U+0000 is a filler.
+//! By hand from the words of RULES: digest, tab width, code, and the rows that are not blank, from the left. U+0000 is a filler.
 
 pub type Case = (&'static str, Vec<u8>, u64, u64, Vec<(usize, String)>);
 

@@ -1,4 +1,4 @@
-//! The wall panel by document 02's words (P7), written for this test alone: the cells that a digest shows, and the code.
+//! The wall panel by the words of RULES 15, written for this test alone: the cells that a digest shows, and the code.
 
 pub const ROWS: usize = 24;
 pub const COLUMNS: usize = 80;

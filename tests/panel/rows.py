@@ -1,4 +1,4 @@
-"""What a wall shows of a text, written from the words of P7 and of folding for this test alone: rows, marks, and the words that count."""
+"""What a wall shows of a text, written from the words of RULES 15 and of folding for this test alone: rows, marks, and the words that count."""
 
 ROWS, COLUMNS = 24, 80
 

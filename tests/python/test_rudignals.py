@@ -223,7 +223,8 @@ class Laws(unittest.TestCase):
                 call()
         for call, words in ((lambda: rudignals.panel("a", 101), "--tab-width 101: must be 0 to 100"), (lambda: rudignals.fold("a", 0), "columns 0: must be 1 to 1000"),
                             (lambda: rudignals.fold("a", 5, -1), "--tab-width -1: must be 0 to 100"), (lambda: rudignals.flow("a", prefix=">"), "mail takes no prefix, .*"),
-                            (lambda: rudignals.explain("a\n", 1), "there is no line 2: the digest has 1 line"), (lambda: rudignals.check("a", "b" * 65537), "has more than 65536 bytes")):
+                            (lambda: rudignals.explain("a\n", 1), "there is no line 2: the digest has 1 line"), (lambda: rudignals.check("a", "b" * 1048577), "the digest has more than [0-9]+ bytes"),
+                            (lambda: rudignals.check("b" * 1048577, "a"), "the notes have more than [0-9]+ bytes")):
             with self.assertRaisesRegex(rudignals.Refused, f"^{words}$"):
                 call()
 
@@ -237,7 +238,7 @@ class Laws(unittest.TestCase):
 
 
 class LongNotes(unittest.TestCase):
-    notes = (b"word " * 20 + b"\n\n") * 2000
+    notes = (b"word " * 20 + b"\n\n") * 20000
 
     def test_format_and_index(self):
         self.assertEqual(rudignals.format(self.notes, width=30), by_command("format", self.notes, {"width": 30})[1])
@@ -245,11 +246,41 @@ class LongNotes(unittest.TestCase):
         lines = "".join(f'{{"place":{r.place},"length":{r.length},"first":{r.first + 1},"count":{r.count}}}\n' for r in rudignals.index(self.notes, width=30))
         self.assertEqual(lines.encode(), by_command("index", self.notes, {"width": 30}, "--json")[1])
 
+    @unittest.skipUnless(_library.most_for("write") == _library.MOST_LARGE, "the library has no large calls")
+    def test_large_paragraphs(self):
+        """Paragraphs of more words and bytes than a small call takes: as quick digests can be foretold, word by word."""
+        words = [b"w%d" % (n * 7919 % 100000) for n in range(60000)]
+        lines, line = [], b""
+        for word in words:
+            if line and len(line) + 1 + len(word) > 40:
+                lines.append(line)
+                line = b""
+            line += (b" " if line else b"") + word
+        digest = b"".join(line + b"\n" for line in [*lines, line])
+        notes = b" ".join(words) + b"\n"
+        self.assertGreater(len(notes), 300_000)
+        self.assertEqual(rudignals.format(notes, width=40, quick=True), digest)
+        self.assertEqual(rudignals.measure(notes, width=40, quick=True), len(digest))
+        if _library.most_for("write_indexed") == _library.MOST_LARGE:
+            self.assertEqual(rudignals.index(notes, width=40, quick=True), [(0, len(notes), 0, digest.count(b"\n"))])
+        self.assertEqual(rudignals.explain(notes, digest.count(b"\n") - 1, width=40, quick=True), rudignals.EndOfParagraph())
+        self.assertIsNone(rudignals.check(notes, digest))
+        self.assertEqual(rudignals.check(notes, digest.replace(b"w7919 ", b"w7918 ", 1)), 0)
+        self.assertEqual(rudignals.flow(notes, width=40), digest.replace(b"\n", b" \r\n")[:-3] + b"\r\n")
+        kept = rudignals.format(notes)
+        self.assertEqual(kept.split(), words)
+
+    def test_too_large(self):
+        notes = b"a\n\n" + b"b " * 600_000
+        with self.assertRaisesRegex(rudignals.Refused, f"^line 3, column 1: more than {_library.most_for('measure')} bytes from here on have no empty line; put one between paragraphs$") as caught:
+            rudignals.format(notes)
+        self.assertEqual((caught.exception.code, caught.exception.place), (rudignals.Code.LONG, 3))
+
     def test_refused_far_in(self):
         with self.assertRaises(rudignals.Refused) as caught:
             rudignals.format(self.notes + b"\xb0\n")
         told = caught.exception
-        self.assertEqual((told.code, told.place, told.line, told.column), (rudignals.Code.TEXT, len(self.notes), 4001, 1))
+        self.assertEqual((told.code, told.place, told.line, told.column), (rudignals.Code.TEXT, len(self.notes), 40001, 1))
 
     def test_explain_far_in(self):
         last = rudignals.format(self.notes, width=30, quick=True).count(b"\n") - 1

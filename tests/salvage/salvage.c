@@ -1,4 +1,4 @@
-/* Mending and restoring through the library, beside a model written from P5's words: by hand, at scale, and on texts given.
+/* Mending and restoring through the library, beside a model written from the words of RULES 14: by hand, at scale, and on texts given.
  *
  *   salvage hand                 cases by hand
  *   salvage scale SEED COUNT     generated texts, every room and list that matters for each
@@ -302,7 +302,7 @@ static void try_text(const uint8_t *notes, size_t n)
     }
 }
 
-/* ---- by hand: notes, copy, places and bytes as P5 has them */
+/* ---- by hand: notes, copy, places and bytes as RULES 14 has them */
 
 struct hand {
     const char *notes, *copy;

@@ -1,5 +1,5 @@
--- A text that begins with characters of a kind, as their numbers and what is behind them: by their octets, by the text's glyphs, and before
--- a line feed, behind which nothing matters.
+-- A text that begins with characters of a kind, as their numbers and what is after them: by their octets, by the text's glyphs, and before
+-- a line feed, after which nothing matters.
 use mathlib.Core.Path.{_≡_, refl, sym, ap, _∙_}
 use mathlib.Core.Bool.{Bool, true, false, cond, not, false≢true, true≢false, and-eq-true-iff}
 use mathlib.Core.List.{List, [], _∷_, _++_, append-assoc, map}
@@ -115,7 +115,7 @@ module _ (kind : ℕ → Bool) (no-damage : kind 0xFFFD ≡ false) (no-feed : ki
   abbrev ofKind : Glyph → Bool
   ofKind g = kind (g .code)
 
-  -- a text begins with characters of the kind, and behind them with none
+  -- a text begins with characters of the kind, and after them with none
   pub record Begins (xs : List ℕ) : Type 0 where
     pub codes : List ℕ
     pub rest : List ℕ
@@ -186,7 +186,7 @@ module _ (kind : ℕ → Bool) (no-damage : kind 0xFFFD ≡ false) (no-feed : ki
       let k = and-eq-true-iff (kind c) (every kind codes) .0 (rw every-cons at e) in
       rw (joined-cons encode c codes, every-append noFeed (encode c) (octets codes), encode-feedless c (kind-other c (k .0)), octets-feedless codes (k .1))
 
-  -- what stops them does not hang on what stands behind a line feed
+  -- what stops them does not depend on what is after a line feed
   pub stops-before : (left below others : List ℕ) → while ofKind (characters (left ++ 10 ∷ below)) ≡ [] → while ofKind (characters (left ++ 10 ∷ others)) ≡ []
   stops-before left below others s = go (begins-of (left ++ 10 ∷ others))
     where

@@ -1,6 +1,6 @@
 -- What a matcher decides: it takes exactly the parts of a language from the front of a digest; and where it finds a fault, the lines before it
--- can be continued to a part of the language, and no digest with the same lines up to that one is matched. Matchers one behind the other, and
--- one of two by whether a line feed stands in front, decide what their languages come to.
+-- can be continued to a part of the language, and no digest with the same lines up to that one is matched. Matchers one after the other, and
+-- one of two by whether a line feed is in front, decide what their languages come to.
 use mathlib.Core.Path.{_≡_, refl, sym, ap, _∙_}
 use mathlib.Core.Bool.{Bool, true, false, cond}
 use mathlib.Core.List.{List, [], _∷_, _++_, append-assoc}
@@ -137,7 +137,7 @@ feed-faults xs n m e = go (begins lineFeed xs) refl e
 pub decides-feed : Decides (Is lineFeed) matchFeed
 decides-feed = record { found = feed-found; finds = feed-finds; example = lineFeed; some = refl; faults = feed-faults }
 
--- ---- one behind the other
+-- ---- one after the other
 
 module _ (L₁ L₂ : Language) (M₁ M₂ : Matcher) (d₁ : Decides L₁ M₁) (d₂ : Decides L₂ M₂) where
   abbrev Both : Matcher
@@ -209,7 +209,7 @@ module _ (L₁ L₂ : Language) (M₁ M₂ : Matcher) (d₁ : Decides L₁ M₁)
     faults = then-faults;
   }
 
--- ---- one of two, by whether a line feed stands in front
+-- ---- one of two, by whether a line feed is in front
 
 module _ (L₁ L₂ : Language) (M₁ M₂ : Matcher) (d₁ : Decides L₁ M₁) (d₂ : Decides L₂ M₂)
     (feed : (part rest : List ℕ) → L₁ part → begins lineFeed (part ++ rest) ≡ true)

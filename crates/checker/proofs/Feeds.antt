@@ -1,4 +1,4 @@
--- Lines by their line feeds: counts, the first lines of a text, and what does not hang on what stands behind a line feed.
+-- Lines by their line feeds: counts, the first lines of a text, and what does not depend on what is after a line feed.
 use mathlib.Core.Path.{_≡_, refl, sym, ap, ap₂, _∙_}
 use mathlib.Core.Bool.{Bool, true, false, false≢true, and-eq-true-iff}
 use mathlib.Core.List.{List, [], _∷_, _++_}
@@ -46,7 +46,7 @@ pub feedless-feeds : (p : List ℕ) → Feedless p → feeds p ≡ 0
 feedless-feeds [] h = feeds-nil
 feedless-feeds (x ∷ p) h = let k = feedless-cons x p h in feeds-same x p (k .0) ∙ feedless-feeds p (k .1)
 
--- ---- what a feedless text begins, it begins by what stands before the next line feed
+-- ---- what a feedless text begins, it begins by what is before the next line feed
 
 pub begins-feed : (p body ys : List ℕ) → Feedless p → begins p (body ++ 10 ∷ ys) ≡ begins p body
 unfolding begins
@@ -59,7 +59,7 @@ begins-feed (a ∷ p) (x ∷ body) ys h = go (eqb a x) refl (begins-feed p body 
     go true e ih = ih
     go false e ih = refl
 
--- a text that stands before a line feed as a whole, or a part of what stands there
+-- a text that is before a line feed as a whole, or a part of what stands there
 pub record Inside (p r body ys : List ℕ) : Type 0 where
   pub left : List ℕ
   pub body-is : body ≡ p ++ left
@@ -73,7 +73,7 @@ feedless-inside (a ∷ p) r (x ∷ body) ys h e =
     let z : a ≡ x = cc in
     record { left = k .left; body-is = ap₂ (λ (y : ℕ) (l : List ℕ). y ∷ l) (sym z) (k .body-is); rest-is = k .rest-is }
 
--- whether a text begins with a line feed does not hang on what stands behind one
+-- whether a text begins with a line feed does not depend on what is after one
 pub feed-first : (a b ys zs : List ℕ) → begins lineFeed (a ++ (b ++ 10 ∷ ys)) ≡ begins lineFeed (a ++ (b ++ 10 ∷ zs))
 unfolding begins
 feed-first [] [] ys zs = refl
@@ -96,7 +96,7 @@ first-same : (k x : ℕ) (xs : List ℕ) → eqb x 10 ≡ false → firstLines (
 unfolding firstLines
 first-same k x xs h = rw (h, firstLines)
 
--- the lines that begin in a text, with one more that ends behind it
+-- the lines that begin in a text, with one more that ends after it
 pub first-behind : (a ys : List ℕ) → firstLines (suc (feeds a)) (a ++ ys) ≡ a ++ firstLines 1 ys
 first-behind [] ys = rw feeds-nil
 first-behind (x ∷ a) ys = go (eqb x 10) refl (first-behind a ys)
@@ -111,7 +111,7 @@ unfolding firstLines
 first-line [] ys h = refl
 first-line (x ∷ body) ys h = let k = feedless-cons x body h in first-same 0 x (body ++ 10 ∷ ys) (k .0) ∙ ap (λ (l : List ℕ). x ∷ l) (first-line body ys (k .1))
 
--- lines that end in the front part of a text are lines of that part, and the part goes on behind them
+-- lines that end in the front part of a text are lines of that part, and the part goes on after them
 pub record Within (k : ℕ) (a ys : List ℕ) : Type 0 where
   pub left : List ℕ
   pub part-is : a ≡ firstLines k (a ++ ys) ++ left
@@ -130,7 +130,7 @@ first-within (suc k) (x ∷ a) ys h = go (eqb x 10) refl (first-within k a ys) (
         let w = same (omega (arith, feeds-same x a e)) in
         record { left = w .left; part-is = ap (λ (l : List ℕ). x ∷ l) (w .part-is) ∙ ap (λ (l : List ℕ). l ++ w .left) (sym (first-same k x (a ++ ys) e)) }
 
--- a text with a line feed is its first line and what is behind
+-- a text with a line feed is its first line and what is after
 pub record FirstLine (xs : List ℕ) : Type 0 where
   pub body : List ℕ
   pub below : List ℕ

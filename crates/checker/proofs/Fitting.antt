@@ -1,5 +1,5 @@
--- The words of an undamaged line fit: behind any U+00A0 of its own in front a word has a character that is no blank. With glue on, an
--- ordinary U+00A0 has ink behind it.
+-- The words of an undamaged line fit: after any U+00A0 of its own in front a word has a character that is no blank. With glue on, an
+-- ordinary U+00A0 has ink after it.
 use mathlib.Core.Path.{_≡_, refl, sym, ap, _∙_, subst⁻¹}
 use mathlib.Core.Bool.{Bool, true, false, cond, not, _&&_, false≢true, true≢false, and-eq-true-iff}
 use mathlib.Core.List.{List, [], _∷_, _++_, append-assoc}
@@ -66,7 +66,7 @@ abbrev InkFirst : List Glyph → Type 0
 InkFirst [] = ⊥
 InkFirst (g ∷ gs) = g .blank ≡ false
 
--- behind U+00A0 that is ink stands ink
+-- after U+00A0 that is ink stands ink
 abbrev Anchored : List Glyph → Type 0
 Anchored [] = Unit {0}
 Anchored (g ∷ gs) = (noBreak g ≡ true → g .blank ≡ false → InkFirst gs) × Anchored gs
@@ -98,7 +98,7 @@ ordinary-good g s h = record {
   feedless = s .feedless;
 }
 
--- a character by itself, with a line behind it
+-- a character by itself, with a line after it
 line-more : (glue : Bool) (g : Glyph) (gs : List Glyph) → Sound g → Line glue gs → Line glue (g ∷ gs)
 line-more glue g gs s l = record { good = (sound-good glue g s, l .good); anchored = (λ n b. absurd (true≢false (sym (no-break-blank g s n) ∙ b)), l .anchored) }
 
@@ -146,7 +146,7 @@ unfolding glyphs
 glyphs-line true text e f = glued-line false (characters text) (characters-sound text (sym (every-good true text) ∙ e) f)
 glyphs-line false text e f = characters-line (characters text) (characters-sound text e f)
 
--- ---- what is behind a place of a line
+-- ---- what is after a place of a line
 
 line-tail : (glue : Bool) (g : Glyph) (gs : List Glyph) → Line glue (g ∷ gs) → Line glue gs
 line-tail glue g gs l = record { good = l .good .1; anchored = l .anchored .1 }

@@ -1,4 +1,4 @@
--- A word behind a gap: what is matched is a gap and the word, wherever the word is one that notes can have.
+-- A word after a gap: what is matched is a gap and the word, wherever the word is one that notes can have.
 use mathlib.Core.Path.{_≡_, refl, sym, ap, ap₂, _∙_}
 use mathlib.Core.Bool.{Bool, true, false, cond, not, _&&_, _||_, and-false, false≢true, true≢false, and-eq-true-iff}
 use mathlib.Core.List.{List, [], _∷_, _++_, append-assoc, map}
@@ -26,7 +26,7 @@ use Rattle.checker.proofs.Feeds.{feedless-inside, feedless-first, feeds
 use Rattle.checker.proofs.Decides.{Language, Took, Faults, Decides, Is, on-fault, decides-text, decides-same}
 use Rattle.checker.proofs.Codes.{Character, encode-some, glyphOf, octets, extent-codes, Begins, begins-of, kind-glyphs, other-stops, octets-feedless, stops-before, space-characters, no-break-space, space-space, space-octets, feed-no-space, ink-no-break}
 
--- a word that notes can have: no line feed; behind any U+00A0 of its own in front, which it has with glue on alone, a character that is no blank
+-- a word that notes can have: no line feed; after any U+00A0 of its own in front, which it has with glue on alone, a character that is no blank
 pub record Fits (glue : Bool) (w : List ℕ) : Type 0 where
   pub feedless : Feedless w
   pub count : ℕ
@@ -103,7 +103,7 @@ parting-none : (glue : Bool) → parting glue [] ≡ 0
 unfolding parting
 parting-none glue = refl
 
--- the codes up to the last that parts, and U+00A0 behind it
+-- the codes up to the last that parts, and U+00A0 after it
 record Parts (glue : Bool) (codes : List ℕ) : Type 0 where
   front : List ℕ
   back : ℕ
@@ -126,7 +126,7 @@ parts-of glue (c ∷ codes) a = go (ltb 0 (parting glue (map glyphOf codes))) (s
     here : (t u : Bool) → ltb 0 (parting glue (map glyphOf codes)) ≡ t → soft glue c ≡ u → parting glue (map glyphOf (c ∷ codes)) ≡ cond (t || not u) (length (encode c) + parting glue (map glyphOf codes)) 0
     here t u et eu = parting-more glue (glyphOf c) (map glyphOf codes) ∙ rw (et, eu)
 
-    -- with a part behind it
+    -- with a part after it
     more : (u : Bool) → ltb 0 (parting glue (map glyphOf codes)) ≡ true → soft glue c ≡ u → Parts glue codes → Parts glue (c ∷ codes)
     more u t g p =
         let k = here true u t g in
@@ -170,7 +170,7 @@ parts-of glue (c ∷ codes) a = go (ltb 0 (parting glue (map glyphOf codes))) (s
           some = λ h. absurd (omega (arith, k));
         }
 
--- a gap's blanks part, whatever stands behind them
+-- a gap's blanks part, whatever is after them
 parting-some : (glue : Bool) (codes : List ℕ) (gs : List Glyph) → All Character codes → every (soft glue) codes ≡ false → 0 < parting glue (map glyphOf codes ++ gs)
 parting-some glue [] gs a e = absurd (true≢false (sym (every-nil (soft glue)) ∙ e))
 parting-some glue (c ∷ codes) gs a e = rw (parting-more glue (glyphOf c) (map glyphOf codes ++ gs)) (go (soft glue c) refl (parting-some glue codes gs (a .1)))
@@ -186,7 +186,7 @@ parting-some glue (c ∷ codes) gs a e = rw (parting-more glue (glyphOf c) (map 
         pick true = let s = encode-some c (a .0) [] in omega arith
         pick false = let s = encode-some c (a .0) [] in omega arith
 
--- and no more than they are: U+00A0 behind them does not
+-- and no more than they are: U+00A0 after them does not
 parting-least : (glue : Bool) (gs hs : List Glyph) → parting glue hs ≡ 0 → parting glue (gs ++ hs) ≤ extent gs
 unfolding extent
 parting-least glue [] hs h = omega arith
@@ -239,7 +239,7 @@ module _ (glue : Bool) (w : List ℕ) (f : Fits glue w) where
   unfolding spaces
   spaces-are xs = spaces-codes xs .glyphs-are
 
-  -- the gap that stands before the word, where the tests hold
+  -- the gap that is before the word, where the tests hold
   gap-before : (xs codes left : List ℕ) → All Character codes → every spaceCode codes ≡ true → xs ≡ octets codes ++ left
       → 0 < parting glue (map glyphOf codes) → parting glue (map glyphOf codes) + length own ≤ length (octets codes)
       → (gap : List ℕ) × Spaces glue gap × (xs ≡ gap ++ drop (length (octets codes) - length own) xs)
@@ -337,7 +337,7 @@ module _ (glue : Bool) (w : List ℕ) (f : Fits glue w) where
       go true b h = on-fault (rw b at h)
       go false b h = rw (begins-feed w left others (f .feedless), b)
 
-  -- the tests and the word's place are the same with anything else behind the line
+  -- the tests and the word's place are the same with anything else after the line
   spaced-never : (body below others : List ℕ) (n k : ℕ) → matchSpaced glue w (body ++ 10 ∷ below) n ≡ fault n → matchSpaced glue w (body ++ 10 ∷ others) k ≡ fault k
   spaced-never body below others n k e =
       let b = spaces-codes (body ++ 10 ∷ below) in

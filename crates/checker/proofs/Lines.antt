@@ -1,4 +1,4 @@
--- A paragraph's lines: words one behind the other, each behind a gap or on a line of its own, are the words cut into lines.
+-- A paragraph's lines: words one after the other, each after a gap or on a line of its own, are the words cut into lines.
 use mathlib.Core.Path.{_≡_, refl, sym, ap, ap₂, _∙_}
 use mathlib.Core.Bool.{Bool}
 use mathlib.Core.List.{List, [], _∷_, _++_, append-assoc}
@@ -19,7 +19,7 @@ use Rattle.checker.specs.Matching.{matchText, matchFeed, matchSpaced, ma
 use Rattle.checker.proofs.Decides.{Language, Decides, Is, decides-text, decides-feed, decides-then, decides-either, decides-same}
 use Rattle.checker.proofs.Gaps.{Fits, WordFits, decides-spaced, gap-no-feed}
 
--- the next word: on a line of its own, or behind a gap
+-- the next word: on a line of its own, or after a gap
 abbrev Next : Bool → List ℕ → List ℕ → Language
 Next glue indent w part = Then (Is lineFeed) (Is (indent ++ w)) part ⊎ Then (Gap glue) (Is w) part
 
@@ -178,7 +178,7 @@ module _ (glue : Bool) (indent : List ℕ) where
     second = spread here separators (omega arith) (e .1) ws more r;
   }
 
-  -- a line, behind what its first word stands behind, before words that begin a line
+  -- a line, after what its first word is after, before words that begin a line
   line-in : (before : List ℕ) (l : Cut) → LineOf glue before l → (ws : List Word) (more : List ℕ) → Rest glue indent ws (lineFeed ++ more)
       → (w : Word) × (vs : List Word) × (rest : List ℕ) × (l .words ≡ w ∷ vs) × (l .bytes ++ more ≡ (before ++ w .text) ++ rest) × Rest glue indent (vs ++ ws) rest
   unfolding laidOut

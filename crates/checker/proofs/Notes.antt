@@ -1,4 +1,4 @@
--- The pieces of notes fit: no line feed stands in a plain line or an indent, and a paragraph's words are those of undamaged lines.
+-- The pieces of notes fit: no line feed is in a plain line or an indent, and a paragraph's words are those of undamaged lines.
 use mathlib.Core.Path.{_≡_, refl, sym, ap, _∙_, subst⁻¹}
 use mathlib.Core.Bool.{Bool, true, false, _||_}
 use mathlib.Core.List.{List, [], _∷_, map}

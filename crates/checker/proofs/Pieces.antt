@@ -1,4 +1,4 @@
--- The pieces of notes, one behind the other, are decided, wherever they are such as notes can have.
+-- The pieces of notes, one after the other, are decided, wherever they are such as notes can have.
 use mathlib.Core.Path.{_≡_, refl, ap, _∙_}
 use mathlib.Core.List.{List, [], _∷_, _++_}
 use Prim.Native.Nat.{ℕ, _+_, _<_}

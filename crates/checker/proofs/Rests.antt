@@ -1,4 +1,4 @@
--- The words of a table, matched one behind the other.
+-- The words of a table, matched one after the other.
 use mathlib.Core.Path.{_≡_, refl, sym, ap, _∙_}
 use mathlib.Core.Bool.{Bool}
 use mathlib.Core.List.{List, _++_}

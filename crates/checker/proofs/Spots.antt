@@ -22,7 +22,7 @@ use Rattle.checker.specs.declared.Matched.{Matched}
 use Rattle.checker.specs.declared.Matched.the-variants.{On, Fault}
 use Rattle.checker.specs.declared.Gap.{Gap}
 
--- ---- one behind the other
+-- ---- one after the other
 
 module _ {digest : List ℕ} {m : Match} {r : Matched} (a : Matches digest m r) where
   pub fault-is : {line : ℕ} → r ≡ Fault line → m ≡ fault line

@@ -1,4 +1,4 @@
--- What P11 claims of the checker, about all notes and all digests.
+-- What RULES 18 claims of the checker, about all notes and all digests.
 use mathlib.Core.Path.{_≡_}
 use mathlib.Core.List.{List}
 use Prim.Native.Nat.{ℕ}

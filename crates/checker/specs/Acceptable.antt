@@ -1,4 +1,4 @@
--- Document 02, P11: the digests that are acceptable for notes. Their plain and blank lines are those that document 01 emits, and each
+-- RULES 18.1: the digests that are acceptable for notes. Their plain and blank lines are those that RULES 9 emits, and each
 -- paragraph's lines carry its words once each, in order.
 use mathlib.Core.Path.{_≡_}
 use mathlib.Core.Bool.{Bool}
@@ -26,11 +26,11 @@ abbrev pub cutBytes : Cut → List ℕ
 cutBytes l = l .bytes
 
 -- every such line is its right indent, one or more words with at least one blank between two, and a line feed, with nothing else. (`InOrder`
--- says so of what stands between two words; `Gap` are blank characters, read by P2's rule.)
+-- says so of what is between two words; `Gap` are blank characters, read by the rule of RULES 4.4.)
 abbrev pub LineOf : Bool → List ℕ → Cut → Type 0
 LineOf glue indent l = InOrder (Gap glue) indent (l .words) (l .bytes)
 
--- a paragraph's words are cut into lines, each word once and in order: the first line behind the first indent, the others behind the indent
+-- a paragraph's words are cut into lines, each word once and in order: the first line after the first indent, the others after the indent
 pub record Carries (glue : Bool) (first indent : List ℕ) (words : List Word) (bytes : List ℕ) : Type 0 where
   pub line : Cut
   pub others : List Cut
@@ -45,7 +45,7 @@ PieceIn o blankLine bytes = bytes ≡ lineFeed
 PieceIn o (plainLine line) bytes = bytes ≡ line ++ lineFeed
 PieceIn o (paragraph p) bytes = Carries (o .glue) (p .first .bytes) (p .indent .bytes) (wordsOf o p) bytes
 
--- bytes that are a part and a rest behind it
+-- bytes that are a part and a rest after it
 pub record Then (P Q : List ℕ → Type 0) (bytes : List ℕ) : Type 0 where
   pub part : List ℕ
   pub rest : List ℕ
@@ -53,7 +53,7 @@ pub record Then (P Q : List ℕ → Type 0) (bytes : List ℕ) : Type 0 where
   pub first : P part
   pub second : Q rest
 
--- and of pieces, one behind the other, with nothing else
+-- and of pieces, one after the other, with nothing else
 abbrev pub PiecesIn : Opts → List Piece → List ℕ → Type 0
 PiecesIn o [] bytes = bytes ≡ []
 PiecesIn o (q ∷ qs) bytes = Then (PieceIn o (q .kind)) (PiecesIn o qs) bytes

@@ -17,14 +17,14 @@ use Rattle.output.specs.Emission.{lineFeed}
 pub data Match : Type 0 where
   -- what is left of the digest, and the line in which it begins
   on : List ℕ → ℕ → Match
-  -- no acceptable digest continues this line
+  -- no acceptable digest begins with the lines up to this one
   fault : ℕ → Match
 
 abbrev pub andThen : Match → (List ℕ → ℕ → Match) → Match
 andThen (on xs n) f = f xs n
 andThen (fault n) f = fault n
 
--- bytes that have to stand there, no line feed among them; and a line feed, behind which the next line begins
+-- bytes that have to stand there, no line feed among them; and a line feed, after which the next line begins
 unfoldable pub matchText : List ℕ → List ℕ → ℕ → Match
 matchText text xs n = cond (begins text xs) (on (drop (length text) xs) n) (fault n)
 
@@ -34,7 +34,7 @@ matchFeed xs n = cond (begins lineFeed xs) (on (drop 1 xs) (suc n)) (fault n)
 unfoldable pub matchLine : List ℕ → List ℕ → ℕ → Match
 matchLine text xs n = andThen (matchText text xs n) matchFeed
 
--- ---- a gap and the word behind it
+-- ---- a gap and the word after it
 
 -- a blank character of a digest's line
 abbrev pub isSpace : Glyph → Bool
@@ -44,7 +44,7 @@ isSpace g = spaceCode (g .code)
 unfoldable pub spaces : List ℕ → List Glyph
 spaces xs = while isSpace (characters xs)
 
--- with glue on, U+00A0 parts words only beside another blank (P2)
+-- with glue on, U+00A0 parts words only beside another blank (RULES 4.4)
 abbrev pub soft : Bool → ℕ → Bool
 soft glue c = glue && eqb c 0xA0
 
@@ -57,20 +57,20 @@ parting glue (g ∷ gs) = cond (ltb 0 (parting glue gs) || not (soft glue (g .co
 unfoldable pub lead : List ℕ → ℕ
 lead w = extent (while noBreak (characters w))
 
--- the word behind a gap: it begins where the blanks end, or so much earlier as it has U+00A0 of its own in front
+-- the word after a gap: it begins where the blanks end, or so much earlier as it has U+00A0 of its own in front
 unfoldable pub matchSpaced : Bool → List ℕ → List ℕ → ℕ → Match
 matchSpaced glue w xs n =
     let gs = spaces xs in
     let start = extent gs - lead w in
     cond (ltb 0 (parting glue gs) && leb (parting glue gs + lead w) (extent gs)) (matchText w (drop start xs) n) (fault n)
 
--- the next word of a paragraph: on a line of its own behind the indent, or behind a gap
+-- the next word of a paragraph: on a line of its own after the indent, or after a gap
 unfoldable pub matchNext : Bool → List ℕ → List ℕ → List ℕ → ℕ → Match
 matchNext glue indent w xs n = cond (begins lineFeed xs) (andThen (matchFeed xs n) (matchText (indent ++ w))) (matchSpaced glue w xs n)
 
 -- ---- pieces
 
--- the words behind the first, and the line feed
+-- the words after the first, and the line feed
 unfoldable pub matchRest : Bool → List ℕ → List Word → List ℕ → ℕ → Match
 matchRest glue indent [] xs n = matchFeed xs n
 matchRest glue indent (w ∷ ws) xs n = andThen (matchNext glue indent (w .text) xs n) (matchRest glue indent ws)

@@ -1,4 +1,4 @@
--- Document 02, P11: the line that is named of a digest that is not acceptable, the first that cannot be continued to an acceptable digest.
+-- RULES 18.1: the line that is named of a digest that is not acceptable, the first that cannot be continued to an acceptable digest.
 use mathlib.Core.Bool.{true, false}
 use mathlib.Core.List.{List, [], _∷_, _++_}
 use Prim.Native.Nat.{ℕ, zero, suc, _<_}
@@ -21,7 +21,7 @@ pub record Continued (Good : List ℕ → Type 0) (digest : List ℕ) (n : ℕ) 
   pub more : List ℕ
   pub good : Good (firstLines (suc n) digest ++ more)
 
--- Line n is the first that cannot be continued. Behind the last ended line of a digest stands a line that is not ended, or none: that one
+-- Line n is the first that cannot be continued. After the last ended line of a digest stands a line that is not ended, or none: that one
 -- cannot be continued, so there is always such a line. Where there is none, the digest is cut short, and n is the line past its end.
 pub record Named (Good : List ℕ → Type 0) (digest : List ℕ) (n : ℕ) : Type 0 where
   pub refused : Good digest → ⊥

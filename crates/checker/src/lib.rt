@@ -17,7 +17,7 @@ pub struct Spot {
     pub line: usize,
 }
 
-// Where matching goes on, or the line that no acceptable digest continues.
+// Where matching goes on, or the first line with which no acceptable digest can go on.
 pub enum Matched {
     On(Spot),
     Fault(usize),
@@ -63,7 +63,7 @@ pub fn match_words(
     }
 }
 
-// The words behind the first, and the line feed at the end.
+// The words after the first, and the line feed at the end.
 fn match_rest(
     notes: &[u8],
     table: &[u32],
@@ -95,7 +95,7 @@ fn match_rest(
     match_feed(digest, p)
 }
 
-// The next word: on a line of its own behind the indent, or behind a gap.
+// The next word: on a line of its own after the indent, or after a gap.
 fn match_next(
     word: &[u8],
     notes: &[u8],
@@ -113,7 +113,7 @@ fn match_next(
     }
 }
 
-// A word behind an indent.
+// A word after an indent.
 fn match_behind(word: &[u8], notes: &[u8], m: Margin, digest: &[u8], p: Spot) -> Matched
     requires { ⌜ MarginFits (now notes) m × SpotIn (now digest) p ⌝ }
     ensures { λ r. ⌜ Matches (now (digest .entry)) (matchText (marginOf (now (notes .entry)) m ++ now (word .entry)) (drop (p .at) (now (digest .entry))) (p .line)) r ⌝ }
@@ -124,7 +124,7 @@ fn match_behind(word: &[u8], notes: &[u8], m: Margin, digest: &[u8], p: Spot) ->
     }
 }
 
-// An indent: its bytes, and up to four spaces behind them.
+// An indent: its bytes, and up to four spaces after them.
 fn match_margin(notes: &[u8], m: Margin, digest: &[u8], p: Spot) -> Matched
     requires { ⌜ MarginFits (now notes) m × SpotIn (now digest) p ⌝ }
     ensures { λ r. ⌜ Matches (now (digest .entry)) (matchText (marginOf (now (notes .entry)) m) (drop (p .at) (now (digest .entry))) (p .line)) r ⌝ }
@@ -146,7 +146,7 @@ fn match_spaces(count: usize, digest: &[u8], p: Spot) -> Matched
     match_text(&spaces[..count], digest, p)
 }
 
-// A word behind a gap. Where it begins with U+00A0 of its own, it begins so much before the blanks end.
+// A word after a gap. Where it begins with U+00A0 of its own, it begins so much before the blanks end.
 fn match_spaced(word: &[u8], glue: bool, digest: &[u8], p: Spot) -> Matched
     requires { ⌜ SpotIn (now digest) p ⌝ }
     ensures { λ r. ⌜ Matches (now (digest .entry)) (matchSpaced glue (now (word .entry)) (drop (p .at) (now (digest .entry))) (p .line)) r ⌝ }
@@ -229,7 +229,7 @@ fn own_no_breaks(word: &[u8]) -> usize
     }
 }
 
-// A line feed, behind which the next line begins.
+// A line feed, after which the next line begins.
 fn match_feed(digest: &[u8], p: Spot) -> Matched
     requires { ⌜ SpotIn (now digest) p ⌝ }
     ensures { λ r. ⌜ Matches (now (digest .entry)) (matchFeed (drop (p .at) (now (digest .entry))) (p .line)) r ⌝ }

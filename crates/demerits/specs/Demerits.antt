@@ -1,4 +1,4 @@
--- Document 01, "Knuth-Plass": ratio, the three terms and the cost of a break, in f32 with each operation rounded.
+-- RULES 8.4: ratio, the three terms and the cost of a break, in f32 with each operation rounded.
 -- A float of the kit is `nan`, `inf s` or `fin s m e`: the number m × 2^e, below zero if s. `up e` is 2^e where e is at least 0 and else 1;
 -- `down e` is 2^-e where e is below 0 and else 1. `mul binary32`, `sub`, `div` and `ofInt` round once, to the nearest f32.
 use mathlib.Core.Bool.{false, cond, _||_}
@@ -43,7 +43,7 @@ ratio goal t stretch = cond (eqb t goal) noRatio (div binary32 (ofInt binary32 (
 abbrev pub lineTerm : Float → ℕ
 lineTerm r = term 100 r
 
--- W = 0 if word ≥ stretch, and at stretch 1 (document 02, P4: a word may have width 0); else 300 × |cube((stretch − word)/(stretch − 1))|
+-- W = 0 if word ≥ stretch, and at stretch 1 (RULES 8.4: a word may have width 0); else 300 × |cube((stretch − word)/(stretch − 1))|
 unfoldable pub wordTerm : ℕ → ℕ → ℕ
 wordTerm stretch word = cond (leb stretch word || leb stretch 1) 0 (term 300 (div binary32 (float (stretch - word)) (float (stretch - 1))))
 

@@ -1,2 +1,2 @@
--- Texts and numbers of the papers, computed.
+-- Texts and numbers of RULES, computed.
 pub mod Examples

@@ -36,7 +36,7 @@ fn abs(x: f32) -> f32
     x
 }
 
-// How many of an f32's 24 digits stand behind the point. A value below 1 has no whole part: all of them do.
+// How many of an f32's 24 digits stand after the point. A value below 1 has no whole part: all of them do.
 fn places(exponent: u32) -> u32
     requires { ⌜ exponent ≤ 150 ⌝ }
     ensures { λ r. ⌜ r ≡ B.places exponent ⌝ }
@@ -47,7 +47,7 @@ fn places(exponent: u32) -> u32
     150 - exponent
 }
 
-// The whole part of x, from its own bits: the exponent, and 23 digits behind a first one that is not written.
+// The whole part of x, from its own bits: the exponent, and 23 digits after a first one that is not written.
 pub fn trunc(x: f32) -> u16
     requires { ⌜ T (B.atMost B.mostTruncated x) ⌝ }
     ensures { λ r. ⌜ r ≡ S.whole x ⌝ }
@@ -107,7 +107,7 @@ fn less(a: usize, b: usize) -> usize
     a - b
 }
 
-// W, for the width of the line's last word. A word of the stretch or more leaves 0 to divide. At a stretch of 1 nothing is divided by 0, and W is 0, whatever the word.
+// W, for the width of the line's last word. W is 0 for a word as wide as the stretch or wider, and for every word where the stretch is 1, so that nothing is divided by 0.
 // In the original: `compute_demerits`.
 pub fn word_term(stretch: usize, word: usize) -> u16
     requires { ⌜ stretch ≤ 1000 ⌝ }

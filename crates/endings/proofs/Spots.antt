@@ -118,7 +118,7 @@ spot-is-last (ended x ∷ ns) i left h = by (eqb left 0) refl h (spot-is-last ns
       let l = r .0 in
       (omega arith, behind-first Paragraph x (endings ns) left n ∙ r .1)
 
--- so many lines behind the paragraph's
+-- so many lines after the paragraph's
 pub spot-is-behind : (ns : List Next) (i left r : ℕ) → spotOf (breaks ns) i left ≡ Behind r → left ≡ r + length (endings ns)
 unfolding spotOf breaks endings
 spot-is-behind [] i left r h = by (eqb left 0) refl h where

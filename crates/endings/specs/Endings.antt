@@ -1,4 +1,4 @@
--- Document 02, P6: why a line ends where it does, and a broken paragraph as its lines, each with the way it ended.
+-- RULES 13: why a line ends where it does, and a broken paragraph as its lines, each with the way it ended.
 use mathlib.Core.Bool.{Bool, true, false}
 use mathlib.Core.List.{List, [], _∷_}
 use Prim.Native.Nat.{ℕ}
@@ -15,8 +15,8 @@ numbersOf (Chosen t l w d cost) = 4 ∷ t ∷ l ∷ w ∷ d ∷ cost ∷ []
 numbersOf Before = 5 ∷ 0 ∷ 0 ∷ 0 ∷ 0 ∷ 0 ∷ []
 numbersOf After = 6 ∷ 0 ∷ 0 ∷ 0 ∷ 0 ∷ 0 ∷ []
 
--- What becomes of a word behind a paragraph's first: it goes on the line, or the line before it has ended so, and it starts a new one.
--- A broken paragraph is its words and, for each word behind the first, what becomes of it.
+-- What becomes of a word after a paragraph's first: it goes on the line, or the line before it has ended so, and it starts a new one.
+-- A broken paragraph is its words and, for each word after the first, what becomes of it.
 pub data Next : Type 0 where
   goesOn : Next
   ended : Ending → Next

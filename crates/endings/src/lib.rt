@@ -7,7 +7,7 @@ ghost use Rattle.records.specs.Contracts.Marks.{breaksOf};
 ghost use Rattle.endings.specs.Endings.{numbersOf};
 ghost use Rattle.endings.specs.Contracts.Spots.{spotOf};
 
-// Why a line ends where it does: with its paragraph; as a plain or a blank line of the notes; since the next word would not fit behind
+// Why a line ends where it does: with its paragraph; as a plain or a blank line of the notes; since the next word would not fit after
 // the column, with the gap and the added space before it; by a break that was chosen, with the line's columns t, the terms L, W and D
 // and the cost of the offer that became the break; by a break that was forced, before the next word or after the last.
 pub enum Ending {
@@ -78,7 +78,7 @@ pub fn put(e: Ending, reason: &mut [u64; 6])
     }
 }
 
-// Where a line of a paragraph stands: it ends before a word; it is the last; or it is so many lines behind the paragraph's.
+// Where a line of a paragraph stands: it ends before a word; it is the last; or it is so many lines after the paragraph's.
 pub enum Spot {
     Before(usize),
     Last,

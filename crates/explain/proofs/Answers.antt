@@ -48,7 +48,7 @@ use Rattle.explain.proofs.Seeking.{all-endings, seeking-stopped, course
 
 -- ---- at the end of the notes
 
--- behind all lines the one asked for was among them, or there are so many
+-- after all lines the one asked for was among them, or there are so many
 all-passed : (es : List Ending) (line : ℕ) → (asking line (passed es (Behind line)) ≡ lookUp line es) × (linesAhead (passed es (Behind line)) ≤ line)
 unfolding passed
 all-passed es line = go (ltb line (length es)) refl

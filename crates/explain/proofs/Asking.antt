@@ -30,7 +30,7 @@ breaks-are true g ws = breaks-are-quick's g ws
 breaks-are false g ws = breaks-are-the-best g ws
 
 -- there is a mark for each word
--- the line asked for is one of those passed, or stands so many lines behind them
+-- the line asked for is one of those passed, or stands so many lines after them
 passed-here : (es : List Ending) (left : ℕ) (e : Ending) → left < length es → e ≡ getD es left Paragraph → Told e ≡ passed es (Behind left)
 unfolding passed
 passed-here es left e h is = sym (rw (lt-ltb left (length es) h, ← is))
@@ -90,6 +90,6 @@ module _ (fast : Bool) (g : Setting) (line : ℕ) (ws : List Word) (marked : Lis
   pub before-some : (e : ℕ) → Before e ≡ spotOf marked 1 line → 1 ≤ e
   before-some e h = spot-ends (linesBy fast g ws) 1 line e (as-lines (Before e) h) .from
 
-  -- nor behind the last
+  -- nor after the last
   pub before-within : (e : ℕ) → Before e ≡ spotOf marked 1 line → e < 1 + length (linesBy fast g ws)
   before-within e h = spot-ends (linesBy fast g ws) 1 line e (as-lines (Before e) h) .within

@@ -44,7 +44,7 @@ module _ (g : Setting) where
       (linesFrom g (g .indent + w .width) (w .endsPunct) ws) (linesFrom g (reached g column punct w) (w .endsPunct) ws) (length ws)
       (quick-length (g .indent + w .width) (w .endsPunct) ws) (quick-length (reached g column punct w) (w .endsPunct) ws)
 
--- something becomes of each word behind the first
+-- something becomes of each word after the first
 pub lines-length : (fast : Bool) (g : Setting) (w : Word) (ws : List Word) → length (linesBy fast g (w ∷ ws)) ≡ length ws
 unfolding quickLines bestLines
 lines-length true g w ws = quick-length g (g .first + w .width) false ws

@@ -1,4 +1,4 @@
--- The digest up to the end of a line ends where that line's reason says (document 02, P6).
+-- The digest up to the end of a line ends where that line's reason says (RULES 13).
 use mathlib.Core.Path.{_≡_, refl, sym, ap, subst⁻¹, _∙_}
 use mathlib.Core.Bool.{Bool, true, false, _||_}
 use mathlib.Core.List.{List, [], _∷_, _++_, append-nil, append-assoc}
@@ -38,7 +38,7 @@ fed-cons l ls = joined-cons (λ (x : List ℕ). x ++ lineFeed) l ls
 fed-nil : fed [] ≡ []
 fed-nil = joined-nil (λ (x : List ℕ). x ++ lineFeed)
 
--- a line behind others
+-- a line after others
 pub reason-behind : (es fs : List Ending) (i : ℕ) → length es ≤ i → reasonAt (es ++ fs) i ≡ reasonAt fs (i - length es)
 reason-behind [] fs i h = let z : i ≡ i - 0 = omega arith in ap (λ (k : ℕ). reasonAt fs k) z
 reason-behind (e ∷ es) fs zero h = absurd (omega arith)
@@ -194,7 +194,7 @@ module _ (o : Opts) where
     ends = kind-ends (q .kind) (q .lines) i r h;
   }
 
-  -- a line of those behind it
+  -- a line of those after it
   behind-ends : (q : Piece) (qs : List Piece) (e : Ending) (front : List ℕ) → EndsThere o qs e front → EndsThere o (q ∷ qs) e (pieceOutput o q ++ front)
   behind-ends q qs e front u = record {
     before = q ∷ u .before;
@@ -209,7 +209,7 @@ module _ (o : Opts) where
     ends = u .ends;
   }
 
-  -- the reason and the lines up to there, of one piece and those behind it
+  -- the reason and the lines up to there, of one piece and those after it
   module _ (q : Piece) (qs : List Piece) (i : ℕ) where
     abbrev reasons : List Ending
     reasons = joined (pieceEndings o) qs

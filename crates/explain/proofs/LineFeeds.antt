@@ -23,7 +23,7 @@ use Rattle.explain.specs.Theorems.LineFeeds.{linesFrom, fed, textLines, 
 use Rattle.explain.proofs.Asking.{breaks-are}
 use Rattle.explain.proofs.Counting.{lines-length}
 
--- the output behind a line that stands so far
+-- the output after a line that stands so far
 rest-is-lines : (uniform : Bool) (indent line : List ℕ) (punct : Bool) (bs : List Bool) (ws : List Word)
     → line ++ emitRest uniform indent punct bs ws ≡ fed (linesFrom uniform indent line punct bs ws)
 unfolding emitRest linesFrom joined

@@ -1,4 +1,4 @@
--- Document 02, P6: what the explaining call answers.
+-- RULES 13: what the explaining call answers.
 use mathlib.Core.Bool.{cond}
 use mathlib.Core.List.{List}
 use Prim.Native.Nat.{ℕ, _+_, _*_, _^_}

@@ -1,4 +1,4 @@
--- Document 02, P6: the lines of the digest, each with the way it ended.
+-- RULES 13: the lines of the digest, each with the way it ended.
 use mathlib.Core.Bool.{Bool, true, false, _||_}
 use mathlib.Core.List.{List, [], _∷_}
 use Prim.Native.Nat.{ℕ}

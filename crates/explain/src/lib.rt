@@ -22,7 +22,7 @@ ghost use Rattle.paragraphs.specs.Contracts.Steps.{roomFor, Roomy, Placed};
 ghost use Rattle.walk.specs.Digest.{mostWords};
 ghost use Rattle.walk.specs.Contracts.Course.{Admitted};
 ghost use Rattle.explain.specs.Reasons.{linesBy};
-ghost use Rattle.formatter.specs.Format.{document01};
+ghost use Rattle.formatter.specs.Format.{ownRoom};
 ghost use Rattle.formatter.specs.Work.{lending};
 ghost use Rattle.explain.specs.Explain.{explaining};
 ghost use Rattle.explain.specs.declared.Asked.the-variants.{Behind};
@@ -36,7 +36,7 @@ pub enum Explained {
     NoLine(usize),
 }
 
-// The line asked for: it is known why it ends, or it stands so many lines behind those that were passed.
+// The line asked for: it is known why it ends, or it stands so many lines after those that were passed.
 pub enum Asked {
     Told(Ending),
     Behind(usize),
@@ -49,7 +49,7 @@ pub struct Seek {
     pub asked: Asked,
 }
 
-// What came of a piece: the search goes on behind it, or it is a paragraph of more words than there is room for.
+// What came of a piece: the search goes on after it, or it is a paragraph of more words than there is room for.
 pub enum Passed {
     On(Seek),
     Over,
@@ -69,7 +69,7 @@ enum Sought {
 
 // Why an output line ends, counted from 0: 1 to 4 are refused as measuring does, then 8.
 pub fn explain(block: &[u8], notes: &[u8], line: u64) -> Explained
-    ensures { λ r. ⌜ r ≡ told (explaining document01 (now (block .entry)) (now (notes .entry)) line) ⌝ }
+    ensures { λ r. ⌜ r ≡ told (explaining ownRoom (now (block .entry)) (now (notes .entry)) line) ⌝ }
 {
     match formatter::admit(block, notes) {
         Admission::Refused(r) => Explained::Refused(r),
@@ -87,7 +87,7 @@ pub fn explain_large(block: &[u8], notes: &[u8], line: u64, work: &mut [u32]) ->
     }
 }
 
-// The answer's code stands in the upper 32 bits of its number, what it tells in the lower.
+// The answer's code is in the upper 32 bits of its number, what it tells in the lower.
 const UPPER: u64 = 4294967296;
 
 // The reply's number, and the kind and its numbers; on a refusal they are left as they are.
@@ -108,7 +108,7 @@ pub fn tell(x: Explained, reason: &mut [u64; 6]) -> u64
 // The line sought from the start of the notes on.
 fn explain_line(o: Options, block: &[u8], notes: &[u8], line: usize) -> Explained
     requires { ⌜ Admitted (now block) (now notes) o ⌝ }
-    ensures { λ r. ⌜ r ≡ told (leftOf document01 (meant (now (block .entry)) o) (now (notes .entry)) line) ⌝ }
+    ensures { λ r. ⌜ r ≡ told (leftOf ownRoom (meant (now (block .entry)) o) (now (notes .entry)) line) ⌝ }
 {
     let start = Seek {
         at: 0,
@@ -238,7 +238,7 @@ fn seek_with(o: Options, block: &[u8], notes: &[u8], from: Seek, work: &mut [u32
     Course::End(asked)
 }
 
-// Behind the piece at a place.
+// After the piece at a place.
 fn pass_piece(o: Options, block: &[u8], notes: &[u8], s: Seek, work: &mut [u32]) -> Passed
     requires { ⌜ Admitted (now block) (now notes) o × (s .at < length (now notes)) ⌝ }
     ensures { λ r. ⌜ PiecePassed (roomFor (o .quick) (length (now (work .entry)))) (meant (now (block .entry)) o) (now (notes .entry)) s r ⌝ }
@@ -260,7 +260,7 @@ fn pass_piece(o: Options, block: &[u8], notes: &[u8], s: Seek, work: &mut [u32])
     }
 }
 
-// Behind one line that ends so.
+// After one line that ends so.
 fn pass_line(a: Asked, e: Ending) -> Asked
     ensures { λ r. ⌜ r ≡ passed (e ∷ []) a ⌝ }
 {
@@ -275,7 +275,7 @@ fn pass_line(a: Asked, e: Ending) -> Asked
     }
 }
 
-// Behind a paragraph, unless it has more words than the tables have room for. Once it is known why the line ends, words are only counted.
+// After a paragraph, unless it has more words than the tables have room for. Once it is known why the line ends, words are only counted.
 fn pass_paragraph(
     notes: &[u8],
     at: usize,

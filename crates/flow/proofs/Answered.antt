@@ -1,4 +1,4 @@
--- The answers, case by case: what each refusal and what was sent leave behind.
+-- The answers, case by case: what each refusal and what was sent leave after.
 use mathlib.Core.Path.{_≡_, refl, sym, ap, _∙_}
 use mathlib.Core.Bool.{Bool, true, false, false≢true}
 use mathlib.Core.List.{List}
@@ -24,7 +24,7 @@ use Rattle.walk.proofs.Loop.{all-long}
 use Rattle.walk.proofs.Lent.{enough}
 use Rattle.walk.proofs.Unique.{nowhere-else}
 use Rattle.formatter.specs.Answers.{Answer, done, options, long, text, words, room, work, code, outputAfter}
-use Rattle.formatter.specs.Format.{Limits, document01, damageIn, within, withWork, withText, withNotes, withBlock, mostTold, measuring}
+use Rattle.formatter.specs.Format.{Limits, ownRoom, damageIn, within, withWork, withText, withNotes, withBlock, mostTold, measuring}
 use Rattle.formatter.specs.Work.{lending}
 use Rattle.formatter.specs.Contracts.Call.{told, replyNumber, Refuses, Admits}
 use Rattle.formatter.specs.declared.Reply.{Reply}
@@ -53,14 +53,14 @@ module _ (room-is : ℕ) (full : room-is ≡ mostWords) (o : Opts) (notes out ou
 
   -- too many words: all zero
   pub words-answer : {place : ℕ} {clear : List ℕ} → r ≡ Stopped place → clear ≡ replicate (length out′) 0
-      → Sends (leftOf document01 o notes (length out)) (leftDashes document01 o notes (length out)) out (record { reply = Words place; dashes = 0 }) clear
+      → Sends (leftOf ownRoom o notes (length out)) (leftDashes ownRoom o notes (length out)) out (record { reply = Words place; dashes = 0 }) clear
   unfolding outputAfter
   words-answer {place} {clear} e z =
       let s = stopped-of e in
       rw (s .0) (record { is = refl; output = z ∙ ap (λ (n : ℕ). replicate n 0) (s .1); counts = refl; small = omega (arith, s .2, short) })
 
   -- all of it fits
-  pub done-answer : {n k : ℕ} → r ≡ All n k → n ≤ length out′ → Sends (leftOf document01 o notes (length out)) (leftDashes document01 o notes (length out)) out (record { reply = Done n; dashes = k }) out′
+  pub done-answer : {n k : ℕ} → r ≡ All n k → n ≤ length out′ → Sends (leftOf ownRoom o notes (length out)) (leftDashes ownRoom o notes (length out)) out (record { reply = Done n; dashes = k }) out′
   unfolding outputAfter
   done-answer {n} {k} e h =
       let w = all-of e in
@@ -72,7 +72,7 @@ module _ (room-is : ℕ) (full : room-is ≡ mostWords) (o : Opts) (notes out ou
 
   -- it does not: all zero
   pub room-answer : {n k : ℕ} {clear : List ℕ} → r ≡ All n k → length out′ < n → clear ≡ replicate (length out′) 0
-      → Sends (leftOf document01 o notes (length out)) (leftDashes document01 o notes (length out)) out (record { reply = Room n; dashes = 0 }) clear
+      → Sends (leftOf ownRoom o notes (length out)) (leftDashes ownRoom o notes (length out)) out (record { reply = Room n; dashes = 0 }) clear
   unfolding outputAfter
   room-answer {n} {k} {clear} e h z =
       let w = all-of e in
@@ -117,7 +117,7 @@ module _ (l : Limits) (sound : Sound l) (block notes : List ℕ) where
   unfolding outputAfter
   unfit-answer out h n = told-sends out (options (length block)) (Faulty (length block)) (unfit-told (length out) h) refl refl (omega (arith, n))
 
-  -- refusals of the writing call: they do not hang on what would become of the digest
+  -- refusals of the writing call: they do not depend on what would become of the digest
   module _ (fit : refusedFor block ≡ false) where
     refused-told : (space : ℕ) (a : Answer) → ((then : List ℕ → Answer) → withBlock l then block notes (readBlock block) ≡ a) → code a ≤ 3 → Told space a
     unfolding flow dashesOf mailed refusedFor meant

@@ -1,4 +1,4 @@
--- What a piece's lines are read as: a paragraph comes back as its lines with a space between them, but it ends behind a line `--`.
+-- What a piece's lines are read as: a paragraph comes back as its lines with a space between them, but it ends after a line `--`.
 use mathlib.Core.Path.{_≡_, refl, sym, ap, _∙_}
 use mathlib.Core.Bool.{Bool, true, false, cond, not, _&&_, and-eq-true-iff, false≢true}
 use mathlib.Core.List.{List, [], _∷_, _++_, append-assoc}

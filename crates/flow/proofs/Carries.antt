@@ -47,7 +47,7 @@ module _ (glue : Bool) (first indent : List ℕ) where
     is = rw (p .is) (sym (spelt-more (p .front ∷ p .between) ws s w (sym (p .one-less))));
   }
 
-  -- ---- what stands before a word that goes on its line
+  -- ---- what is before a word that goes on its line
 
   -- spaces among blanks are no U+00A0
   spaces-other : (n : ℕ) (codes : List ℕ) → 0 < n → every (λ c. eqb c 0xA0) (replicate n 32 ++ codes) ≡ false
@@ -65,7 +65,7 @@ module _ (glue : Bool) (first indent : List ℕ) where
         other = λ g. spaces-other n (h .codes) (added-some true (w .newLine) (w .sentenceStart) punct refl);
       })
 
-  -- ---- line by line: behind `pre` stands the line so far, and both spell the words so far
+  -- ---- line by line: after `pre` stands the line so far, and both spell the words so far
 
   abbrev backAs : List ℕ → List (List ℕ) → List (List ℕ)
   backAs pre [] = []

@@ -1,4 +1,4 @@
--- A paragraph's lines are the digest's: each with a line feed behind it, joined, they are what document 01 emits.
+-- A paragraph's lines are the digest's: each with a line feed after it, joined, they are what RULES 9 emits.
 use mathlib.Core.Path.{_≡_, _∙_}
 use mathlib.Core.Bool.{Bool, true, false}
 use mathlib.Core.List.{List, [], _∷_, _++_, append-assoc, append-nil}

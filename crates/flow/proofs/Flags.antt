@@ -38,7 +38,7 @@ module _ (block : List ℕ) where
       go true e = absurd (true≢false (sym w ∙ well-order block at previous h (getD block at 0) (at + 3 + number (drop (at + 1) block)) refl refl (leb-true (getD block at 0) previous e)))
       go false e = leb-false (getD block at 0) previous e
 
-  -- behind a field there are no flags
+  -- after a field there are no flags
   none-behind : (k at previous : ℕ) → length block ≤ at + k → 1 ≤ previous → firstFault (rest block at previous) ≡ Nowhere → partOf 1 (rest block at previous) ≡ Absent
   none-behind zero at previous h p f = part-none block at previous 1 (omega arith)
   none-behind (suc k) at previous h p f = go (ltb at (length block)) refl (none-behind k)

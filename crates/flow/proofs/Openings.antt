@@ -1,4 +1,4 @@
--- How a line begins is known by its first five bytes, and by a space behind them.
+-- How a line begins is known by its first five bytes, and by a space after them.
 use mathlib.Core.Path.{_≡_, refl, sym, ap, _∙_}
 use mathlib.Core.Bool.{Bool, true, false, cond}
 use mathlib.Core.List.{List, [], _∷_, _++_, append-nil}

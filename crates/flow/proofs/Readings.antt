@@ -20,7 +20,7 @@ use Rattle.unflow.specs.Unflow.{goesOn, Paragraph, paragraphsFrom, paragraphs, 
 use Rattle.flow.specs.Flow.{sent}
 use Rattle.flow.specs.Theorems.ReadBack.{flows, readFrom, read, unquoted}
 
--- a line as it stands in the mail, without its line end
+-- a line as it is in the mail, without its line end
 abbrev pub asSent : List ℕ → List ℕ
 asSent t = stuffing t ++ t
 
@@ -30,7 +30,7 @@ drop-behind : (a : List ℕ) (x : ℕ) (rest : List ℕ) → drop (suc (length a
 drop-behind [] x rest = refl
 drop-behind (y ∷ a) x rest = drop-behind a x rest
 
--- a line without a line feed, behind which CR LF stands
+-- a line without a line feed, after which CR LF stands
 mail-line : (t rest : List ℕ) → every noFeed t ≡ true → mailLines ((t ++ 13 ∷ []) ++ 10 ∷ rest) ≡ t ∷ mailLines rest
 unfolding mailLines linesOf firstLine
 mail-line t rest f =

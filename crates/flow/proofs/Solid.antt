@@ -85,7 +85,7 @@ glyph-inked xs h = let r = glyph-read xs h in record { some = r .isSound .some; 
     other true k b = absurd (true≢false (sym (ap whiteSpace (eqb-true (glyph xs .code) 32 k)) ∙ b))
     other false k b = refl
 
--- P2: U+00A0 that is made ordinary is another character than U+0020
+-- RULES 4.4: U+00A0 that is made ordinary is another character than U+0020
 ordinary-inked : (g : Glyph) → noBreak g ≡ true → Inked g → Inked (ordinary g)
 ordinary-inked g n i = record { some = i .some; ends = i .ends; other = λ b. ap (λ (c : ℕ). eqb c 32) (eqb-true (g .code) 0xA0 n) }
 

@@ -1,4 +1,4 @@
--- P10's round trip, in the customer's sentences. Each statement is about the definitions of specs/ alone, no code, and is proved with
+-- The round trip of mail (RULES 17), in plain sentences. Each statement is about the definitions of specs/ alone, no code, and is proved with
 -- nothing assumed. Its words: `flowed` and `paragraphLines` (specs/Flow), `paragraphs`, `mailLines` and `unflow` (unflow/specs/Unflow),
 -- `cameBack`, `back` and `Carry` (specs/Theorems/ReadBack), `All` and `∈` (lists/specs/Theorems/All), `joined` (lists/specs/Runs).
 use mathlib.Core.Path.{_≡_, refl, sym, ap, _∙_, subst}
@@ -82,7 +82,7 @@ module _ (o : Opts) (notes : List ℕ) where
 
 -- ---- each paragraph's words in order
 
--- The texts that a paragraph comes back as spell its words, each once and in order: behind its first indent, or its indent, and between
+-- The texts that a paragraph comes back as spell its words, each once and in order: after its first indent, or its indent, and between
 -- two words stand blanks only, at least one, or a space and its indent.
 pub its-words-come-back-in-order : (o : Opts) (notes : List ℕ) (q : Piece) (p : Paragraph)
     → q ∈ pieces o notes
@@ -127,7 +127,7 @@ each-piece-once-and-each-such-line o notes = counted o (pieces o notes) (pieces-
 
 -- ---- the lines are the digest's
 
--- A paragraph's lines, each with a line feed behind it, are its output by document 01, where uniform is on.
+-- A paragraph's lines, each with a line feed after it, are its output by RULES 9, where uniform is on.
 pub its-lines-are-the-digest's : (o : Opts) (notes : List ℕ) (q : Piece) (p : Paragraph)
     → q ∈ pieces o notes
     → q .kind ≡ paragraph p

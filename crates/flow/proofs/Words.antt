@@ -26,7 +26,7 @@ use Rattle.flow.specs.Flow.{linesFrom, brokenInto, isDashed, softened, a
 use Rattle.flow.specs.Contracts.Words.{lineEnd, spaceIf, some, opened, nextSent, nextDashed, restSent, restDashes, wordsSent, wordsDashes, mostSent}
 use Rattle.flow.proofs.Carries.{lines-some}
 
--- ---- a line that goes on behind a space
+-- ---- a line that goes on after a space
 
 pub not-three : (xs : List ℕ) → (length xs ≡ 3 → ⊥) → isDashes xs ≡ false
 unfolding isDashes
@@ -43,14 +43,14 @@ not-dashed (a ∷ []) rest = go (eqb 0x2D a)
     go false = refl
 not-dashed (a ∷ b ∷ line) rest = not-three ((a ∷ b ∷ (line ++ space ∷ rest)) ++ space ∷ []) (λ e. omega (arith, e, length-append (line ++ space ∷ rest) (space ∷ []), length-append line (space ∷ rest)))
 
--- and it is stuffed or not, whatever stands behind the space
+-- and it is stuffed or not, whatever is after the space
 soft-stuffing : (line rest : List ℕ) → stuffing (line ++ space ∷ rest) ≡ stuffing (line ++ space ∷ [])
 unfolding endsInSpace
 soft-stuffing line rest =
     ap stuffing (sym (append-assoc line (space ∷ []) rest))
     ∙ stuffing-soft (line ++ space ∷ []) rest (ends-append line (space ∷ []) (omega arith))
 
--- what stands before a word that goes on its line begins with a space
+-- what is before a word that goes on its line begins with a space
 space-first : (punct : Bool) (w : Word) → (rest : List ℕ) × (spaceBefore true punct w ≡ space ∷ rest)
 unfolding spaceBefore
 space-first punct w = go _ (added-some true (w .newLine) (w .sentenceStart) punct refl)

@@ -78,11 +78,11 @@ run-together glue s = go (s .front) (s .between) (s .one-less) (s .each) (s .is)
     go front [] h a i = omega arith
     go front (b ∷ bs) h a i = none b (let n = ap length i in let k = length-append front (97 ∷ b ++ 98 ∷ []) in let l = length-append b (98 ∷ []) in omega arith) (a .0)
 
--- words that stand in no text
+-- words that are in no text
 none-carried : (glue : Bool) (first indent : List ℕ) (w : Word) (ws : List Word) → Carry glue first indent (w ∷ ws) [] → ⊥
 none-carried glue first indent w ws e = let n = ap length e in omega arith
 
--- a word too many behind those of the only text
+-- a word too many after those of the only text
 one-left : (glue : Bool) → Carry glue [] [] (word (97 ∷ []) ∷ word (98 ∷ []) ∷ []) ((97 ∷ []) ∷ []) → ⊥
 unfolding spelt
 one-left glue c = go (c .0) (c .1) (c .2) (c .3) (c .4)

@@ -1,4 +1,4 @@
--- Document 02, P10: what the writer answers. It refuses a well-formed block with prefix, crown, tagged or mail; its other refusals are
+-- RULES 17.1: what the writer answers. It refuses a well-formed block with prefix, crown, tagged or mail; its other refusals are
 -- those of the writing call, in their order, with what is sent in the digest's place.
 use mathlib.Core.Bool.{Bool, true, false, cond, _||_}
 use mathlib.Core.List.{List}
@@ -40,7 +40,7 @@ abbrev pub sentBlock : Limits → ℕ → List ℕ → List ℕ → Block → An
 sentBlock l space block notes (Fault place) = options place
 sentBlock l space block notes (Accepted o) = elim (unfit block) [ true ↦ options (length block) | false ↦ sentNotes l space (mailed (meant block o)) notes ]
 
--- what is answered with an output slice of so many bytes; its number and the output afterwards are those of document 01's answers
+-- what is answered with an output slice of so many bytes; its number and the output afterwards are those of the answers of RULES 2
 unfoldable pub flow : Limits → List ℕ → List ℕ → ℕ → Answer
 flow l block notes space = sentBlock l space block notes (readBlock block)
 

@@ -1,4 +1,4 @@
--- Document 02, P10: a digest by mail, as format=flowed. Its lines are those that document 01 gives with quick and uniform on; what is
+-- RULES 17.1: a digest by mail, as format=flowed. Its lines are those that RULES 9 gives with quick and uniform on; what is
 -- said here is how they are sent.
 use mathlib.Core.Bool.{Bool, true, false, cond, _||_}
 use mathlib.Core.List.{List, [], _∷_, _++_}
@@ -34,9 +34,9 @@ mailed o = record {
   skip = o .skip;
 }
 
--- ---- a paragraph's lines, without line ends: words behind an indent, and a new line where the breaks say so
+-- ---- a paragraph's lines, without line ends: words after an indent, and a new line where the breaks say so
 
--- from a line on that has come to `line`: document 01's emission, line by line (proofs/Theorems, `its-lines-are-the-digest's`)
+-- from a line on that has come to `line`: the output of RULES 9, line by line (proofs/Theorems, `its-lines-are-the-digest's`)
 unfoldable pub linesFrom : List ℕ → List ℕ → Bool → List Bool → List Word → List (List ℕ)
 linesFrom indent line previousPunct breaks [] = line ∷ []
 linesFrom indent line previousPunct [] (w ∷ ws) = linesFrom indent (line ++ (spaceBefore true previousPunct w ++ w .text)) (w .endsPunct) [] ws

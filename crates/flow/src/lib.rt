@@ -27,7 +27,7 @@ ghost use Rattle.paragraphs.specs.Contracts.Steps.{roomFor, settingFor, Placed}
 ghost use Rattle.unflow.specs.Flowed.{stuffing, isDashes};
 ghost use Rattle.pieces.specs.Pieces.{pieces};
 ghost use Rattle.walk.specs.Work.{workFor};
-ghost use Rattle.formatter.specs.Format.{document01};
+ghost use Rattle.formatter.specs.Format.{ownRoom};
 ghost use Rattle.formatter.specs.Work.{lending};
 ghost use Rattle.flow.specs.Flow.{plainSent, trimmed, sent, flowed, dashesIn};
 ghost use Rattle.flow.specs.Answers.{flagsOf, sentIn, flow as flowOf, dashesOf};
@@ -48,7 +48,7 @@ struct Cursor {
     dashes: usize,
 }
 
-// What came of a piece: the work goes on behind it, or it is a paragraph of too many words.
+// What came of a piece: the work goes on after it, or it is a paragraph of too many words.
 enum Step {
     On(Cursor),
     Over,
@@ -75,7 +75,7 @@ struct Turn {
 
 // Writes the notes as mail. A block that the writer does not take is refused before the notes are looked at.
 pub fn flow(block: &[u8], notes: &[u8], out: &mut [u8]) -> Outcome
-    ensures { λ r. ⌜ Sends (flowOf document01 (now (block .entry)) (now (notes .entry)) (length (now (out .entry)))) (dashesOf document01 (now (block .entry)) (now (notes .entry)) (length (now (out .entry)))) (now (out .entry)) r (now (out .exit)) ⌝ }
+    ensures { λ r. ⌜ Sends (flowOf ownRoom (now (block .entry)) (now (notes .entry)) (length (now (out .entry)))) (dashesOf ownRoom (now (block .entry)) (now (notes .entry)) (length (now (out .entry)))) (now (out .entry)) r (now (out .exit)) ⌝ }
 {
     if is_unfit(block) {
         return Outcome {
@@ -181,7 +181,7 @@ const QUICK_MOST: usize = 7168;
 // Writes what fits of the notes, and counts what is needed.
 fn send_notes(o: Options, block: &[u8], notes: &[u8], out: &mut [u8]) -> Outcome
     requires { ⌜ Ready (now block) (now notes) o ⌝ }
-    ensures { λ r. ⌜ Sends (leftOf document01 (meant (now (block .entry)) o) (now (notes .entry)) (length (now (out .entry)))) (leftDashes document01 (meant (now (block .entry)) o) (now (notes .entry)) (length (now (out .entry)))) (now (out .entry)) r (now (out .exit)) ⌝ }
+    ensures { λ r. ⌜ Sends (leftOf ownRoom (meant (now (block .entry)) o) (now (notes .entry)) (length (now (out .entry)))) (leftDashes ownRoom (meant (now (block .entry)) o) (now (notes .entry)) (length (now (out .entry)))) (now (out .entry)) r (now (out .exit)) ⌝ }
 {
     let mut work = [0u32; QUICK_MOST];
     match send_pieces(o, block, notes, out, &mut work) {
@@ -377,7 +377,7 @@ fn layout_of(first: Margin, indent: Margin) -> Layout
     }
 }
 
-// A paragraph of n words, broken where the marks say, written behind at bytes.
+// A paragraph of n words, broken where the marks say, written after at bytes.
 fn emit(notes: &[u8], table: &[u32], n: usize, l: Layout, out: &mut [u8], at: usize) -> Turn
     requires { ⌜ Laid (now notes) (now table) n l × (at < 2 ^ 62) ⌝ }
     ensures { λ r. ⌜ ParagraphSent (now (notes .entry)) (now (table .entry)) n l (now (out .entry)) at (now (out .exit)) r ⌝ }
@@ -395,7 +395,7 @@ fn emit(notes: &[u8], table: &[u32], n: usize, l: Layout, out: &mut [u8], at: us
     emit_rest(notes, table, n, l, t, out)
 }
 
-// The words behind the first, and the end of the last line.
+// The words after the first, and the end of the last line.
 fn emit_rest(notes: &[u8], table: &[u32], n: usize, l: Layout, head: Turn, out: &mut [u8]) -> Turn
     requires { ⌜ Laid (now notes) (now table) n l × (head .at < 2 ^ 63) × (head .dashes ≡ 0) ⌝ }
     ensures { λ r. ⌜ RestSent (now (notes .entry)) (now (table .entry)) n (l .indent) (now (out .entry)) head (now (out .exit)) r ⌝ }
@@ -421,7 +421,7 @@ fn emit_rest(notes: &[u8], table: &[u32], n: usize, l: Layout, head: Turn, out: 
     }
 }
 
-// A word with what stands before it; more tells whether there are words behind it.
+// A word with what is before it; more tells whether there are words after it.
 fn put_next(
     notes: &[u8],
     w: Word,
@@ -502,7 +502,7 @@ fn put_opened(
     k + output::put_first(notes, from, to, m, &mut rest[place..])
 }
 
-// How a line begins with an indent and a word: all that counts are its first five bytes, and a space behind them if there is more.
+// How a line begins with an indent and a word: all that counts are its first five bytes, and a space after them if there is more.
 fn opening_of(notes: &[u8], m: Margin, from: usize, to: usize, more: bool) -> Opening
     requires { ⌜ (from ≤ to) × (to ≤ length (now notes)) × MarginIn (length (now notes)) m × (length (now notes) < 2 ^ 32) ⌝ }
     ensures { λ r. ⌜ Opens more (marginOf (now (notes .entry)) m ++ slice from to (now (notes .entry))) r ⌝ }
@@ -513,7 +513,7 @@ fn opening_of(notes: &[u8], m: Margin, from: usize, to: usize, more: bool) -> Op
     judged(&front, n, more)
 }
 
-// The same of a line whose first bytes stand at the front of an array, with a space behind them.
+// The same of a line whose first bytes stand at the front of an array, with a space after them.
 fn judged(front: &[u8], n: usize, more: bool) -> Opening
     requires { ⌜ n < length (now front) ⌝ }
     ensures { λ r. ⌜ (replicate (r .spaces) 32 ≡ stuffing (take (n + cond more 1 0) (now (front .entry)))) × (r .spaces ≤ 1) × (r .dashed ≡ isDashes (take (n + 1) (now (front .entry)))) ⌝ }
@@ -526,7 +526,7 @@ fn judged(front: &[u8], n: usize, more: bool) -> Opening
     }
 }
 
-// Writes a plain line, or a blank one, which has no bytes of its own, behind at bytes.
+// Writes a plain line, or a blank one, which has no bytes of its own, after at bytes.
 fn send_line(notes: &[u8], from: usize, to: usize, out: &mut [u8], at: usize) -> usize
     requires { ⌜ (from ≤ to) × (to ≤ length (now notes)) × (length (now notes) < 2 ^ 32) × (at < 2 ^ 62) ⌝ }
     ensures { λ r. ⌜ Wrote (now (out .entry)) at (sent (plainSent (slice from to (now (notes .entry))))) (now (out .exit)) r × (r ≤ at + (to - from) + 3) ⌝ }

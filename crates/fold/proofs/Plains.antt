@@ -1,4 +1,4 @@
--- Bytes from 20 to 7E, one run behind another.
+-- Bytes from 20 to 7E, one run after another.
 use mathlib.Core.Path.{_≡_, refl}
 use mathlib.Core.Bool.{Bool, true, false}
 use mathlib.Core.List.{List}

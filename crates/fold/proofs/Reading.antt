@@ -1,4 +1,4 @@
--- Folding reads a text as the panel does: what stands at its front has as many bytes, and takes as many columns.
+-- Folding reads a text as the panel does: what is at its front has as many bytes, and takes as many columns.
 use mathlib.Core.Path.{_≡_, refl}
 use mathlib.Core.Bool.{Bool, true, false, cond, _&&_, _||_, and-eq-true-iff}
 use mathlib.Core.List.{List}

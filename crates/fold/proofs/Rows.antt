@@ -1,4 +1,4 @@
--- The rows of a line from a place on: the first by its end, and those behind it; what is written of them; and how much that is.
+-- The rows of a line from a place on: the first by its end, and those after it; what is written of them; and how much that is.
 use mathlib.Core.Path.{_≡_, refl, sym, ap, _∙_}
 use mathlib.Core.Bool.{Bool, true, false}
 use mathlib.Core.List.{List, [], _∷_, _++_}
@@ -19,7 +19,7 @@ use Rattle.fold.specs.Fold.{stays, staying, firstRow, rowsOf, feed, byte
 use Rattle.fold.specs.Contracts.Steps.{rowEnd}
 use Rattle.fold.proofs.Stays.{staying-more, staying-end}
 
--- ---- characters cut behind some of them
+-- ---- characters cut after some of them
 
 bytes-extent : (gs : List Glyph) → length (bytesOf gs) ≡ extent gs
 unfolding bytesOf extent joined
@@ -81,7 +81,7 @@ module _ (tab columns : ℕ) where
     abbrev rowsAt : ℕ → List (List Glyph)
     rowsAt at = rowsOf tab columns (characters (drop at line))
 
-    -- a row at a place, and those behind it
+    -- a row at a place, and those after it
     record RowHere (at end : ℕ) : Type 0 where
       row : List Glyph
       first : rowsAt at ≡ row ∷ rowsAt end

@@ -25,7 +25,7 @@ module _ (tab columns : ℕ) where
   abbrev pub lineIs : List ℕ → ℕ → List ℕ
   lineIs raw size = inRows (rowsOf tab columns (characters (take size raw))) ++ drop size raw
 
-  -- its rows, and behind them its line end
+  -- its rows, and after them its line end
   pub line-written : {o o₁ o₂ : List ℕ} {k r : ℕ} (raw : List ℕ) (size : ℕ) → size ≤ length raw
       → Wrote o 0 (inRows (rowsOf tab columns (characters (take size raw)))) o₁ k × (k ≤ 2 * length (take size raw))
       → Wrote o₁ k (slice size (length raw) raw) o₂ r

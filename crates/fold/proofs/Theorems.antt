@@ -1,4 +1,4 @@
--- What folding promises, in the customer's sentences. Each statement is about the definitions of specs/ alone, no code, and is proved with
+-- What folding promises, in plain sentences. Each statement is about the definitions of specs/ alone, no code, and is proved with
 -- nothing assumed. `rowsOf`, `folded` and `fold` stand in specs/Fold.antt, `fits`, `marked` and `unadded` in specs/Theorems/Rows.antt.
 use mathlib.Core.Path.{_≡_, refl, sym, ap, ap₂, _∙_}
 use mathlib.Core.Bool.{Bool, true, false, cond, _&&_, _||_, false≢true, and-eq-true-iff}
@@ -79,7 +79,7 @@ module _ (tab : ℕ) (some : 1 ≤ tab) where
     unfolding stays
     stays-narrow column g h e = rw (lt-leb (columnBehind tab column g) columns (still-past column g h)) at e
 
-    -- behind a character within the columns none goes past them
+    -- after a character within the columns none goes past them
     stay-within : (column : ℕ) (gs : List Glyph) → All Tabbed gs → column ≤ columns → columnsOf tab column (staying tab columns column gs) ≤ columns
     unfolding staying columnsOf
     stay-within column [] t h = h
@@ -90,7 +90,7 @@ module _ (tab : ℕ) (some : 1 ≤ tab) where
         go true e i = rw (staying-more tab columns column g gs e) (i (columnBehind tab column g) (stays-within column g (t .0) h e))
         go false e i = rw (staying-end tab columns column g gs e) h
 
-    -- behind one that goes past them all have width 0
+    -- after one that goes past them all have width 0
     stay-past-columns : (column : ℕ) (gs : List Glyph) → All Tabbed gs → columns < column → every hasNoWidth (staying tab columns column gs) ≡ true
     unfolding staying
     stay-past-columns column [] t h = every-nil hasNoWidth
@@ -121,7 +121,7 @@ module _ (tab : ℕ) (some : 1 ≤ tab) where
             or-true true = refl
             or-true false = refl
 
-    -- Every row takes at most the columns, or holds a single character wider than they are, with ones of width 0 behind it.
+    -- Every row takes at most the columns, or holds a single character wider than they are, with ones of width 0 after it.
     pub every-row-fits : (text : List ℕ) → All (λ row. fits tab columns row ≡ true) (rowsOf tab columns (characters text))
     unfolding rowsOf each piece
     every-row-fits text =
@@ -185,7 +185,7 @@ module _ (tab columns : ℕ) where
       let p = and-eq-true-iff (every noFeed (bytesOf row)) (every noFeed (joined bytesOf rows)) .0 (sym (every-append noFeed (bytesOf row) (joined bytesOf rows)) ∙ f) in
       (p .0, rows-feedless rows (p .1))
 
-  -- No row has a line feed in it: the rows are what stands between the line feeds of the output.
+  -- No row has a line feed in it: the rows are what is between the line feeds of the output.
   pub no-row-has-a-line-feed : (text : List ℕ) → All (λ (l : Line). All (λ row. every noFeed (bytesOf row) ≡ true) (rowsOf tab columns (characters (l .text)))) (linesOf text)
   no-row-has-a-line-feed text =
       all-weaken (λ (l : Line). every noFeed (l .text) ≡ true) (λ (l : Line). All (λ row. every noFeed (bytesOf row) ≡ true) (rowsOf tab columns (characters (l .text))))

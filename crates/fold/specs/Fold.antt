@@ -1,4 +1,4 @@
--- Folding, for the wall: a text in rows of at most so many columns. Its lines are those of document 01, and its characters are read as on
+-- Folding, for the wall: a text in rows of at most so many columns. Its lines are those of RULES 4.5, and its characters are read as on
 -- the panel: a tab goes to the next stop, a wide one takes 2 columns, one of width 0 none, every other 1, and so does a byte at which no
 -- well-formed character begins. (proofs/Reading shows that the columns are the panel's.)
 use mathlib.Core.Bool.{Bool, true, false, cond, _||_}

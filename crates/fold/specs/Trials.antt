@@ -1,3 +1,3 @@
--- Worked texts: no part of what must be believed, they show that the definition says what the paper does.
+-- Worked texts: no part of what must be believed, they show that the definition says what RULES says.
 pub mod Folded
 pub mod Refuted

@@ -22,7 +22,7 @@ pub enum Folding {
     Room(usize),
 }
 
-// A place of a line, and the column that it stands at on its row.
+// A place of a line, and the column that it is at on its row.
 struct Spot {
     at: usize,
     column: usize,
@@ -52,7 +52,7 @@ pub fn fold(text: &[u8], tab: u64, columns: u64, out: &mut [u8]) -> Folding
     Folding::Room(needed)
 }
 
-// The answer's code stands in the upper 32 bits of its number, what it tells in the lower.
+// The answer's code is in the upper 32 bits of its number, what it tells in the lower.
 const UPPER: u64 = 4294967296;
 
 pub fn folding_number(a: Folding) -> u64
@@ -84,7 +84,7 @@ fn put_lines(text: &[u8], tab: usize, columns: usize, out: &mut [u8]) -> usize
     k
 }
 
-// A line in rows, and its line end as it is, which stands behind `size` bytes.
+// A line in rows, and its line end as it is, which is after `size` bytes.
 fn put_line(raw: &[u8], size: usize, tab: usize, columns: usize, rest: &mut [u8]) -> usize
     requires { ⌜ (size ≤ length (now raw)) × (length (now raw) ≤ 1073741824) × (1 ≤ tab) × (tab ≤ 100) × (columns ≤ 1000) ⌝ }
     ensures { λ r. ⌜ Wrote (now (rest .entry)) 0 (inRows (rowsOf tab columns (characters (take size (now (raw .entry))))) ++ drop size (now (raw .entry))) (now (rest .exit)) r × (r ≤ 2 * length (now (raw .entry))) ⌝ }
@@ -182,7 +182,7 @@ fn plain_end(line: &[u8], from: usize, most: usize) -> usize
     i
 }
 
-// On over such bytes before an end, as long as the next eight are: eight tests without a branch between them are as quick as one.
+// Passes such bytes eight at a time, up to an end: eight tests without a branch between them are as quick as one.
 fn plain_eights(line: &[u8], from: usize, end: usize) -> usize
     requires { ⌜ (from ≤ end) × (end ≤ length (now line)) ⌝ }
     ensures { λ r. ⌜ Plain (now (line .entry)) from r × (r ≤ end) ⌝ }
@@ -225,7 +225,7 @@ fn is_plain(b: u8) -> bool
     (0x20 <= b) & (b < 0x7F)
 }
 
-// The spot behind the character at a place, which begins at a column. A damaged byte is one by itself.
+// The spot after the character at a place, which begins at a column. A damaged byte is one by itself.
 fn behind(line: &[u8], at: usize, column: usize, tab: usize) -> Spot
     requires { ⌜ (at < length (now line)) × (column ≤ 1000) × (1 ≤ tab) × (tab ≤ 100) ⌝ }
     ensures { λ r. ⌜ Behind tab (now (line .entry)) at column r ⌝ }
@@ -242,7 +242,7 @@ fn behind(line: &[u8], at: usize, column: usize, tab: usize) -> Spot
     }
 }
 
-// The column behind a character: a tab goes to the next stop.
+// The column after a character: a tab goes to the next stop.
 fn column_behind(column: usize, code: u32, tab: usize) -> usize
     requires { ⌜ (column ≤ 1000) × (1 ≤ tab) × (tab ≤ 100) ⌝ }
     ensures { λ r. ⌜ (r ≡ cond (eqb code 9) (nextStop tab column) (column + widthOf code)) × (r ≤ column + 100) ⌝ }

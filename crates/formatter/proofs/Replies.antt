@@ -1,4 +1,4 @@
--- The replies, case by case: what each refusal and a digest leave behind, and what measuring tells.
+-- The replies, case by case: what each refusal and a digest leave after, and what measuring tells.
 use mathlib.Core.Path.{_≡_, refl, sym, ap, _∙_}
 use mathlib.Core.List.{List}
 use Prim.Native.Nat.{ℕ, _≤_, _<_, max}
@@ -18,7 +18,7 @@ use Rattle.output.specs.Contracts.Sink.{Wrote}
 use Rattle.output.proofs.Sink.{written-fits, wrote-length}
 use Rattle.formatter.specs.Answers.{Answer, done, options, long, text, room, work, outputAfter}
 use Rattle.walk.specs.Digest.{mostWords, digest, longParagraph}
-use Rattle.formatter.specs.Format.{Words, Limits, document01, within, withWork, withText, damageIn, withNotes, withBlock, withDigest, mostTold, measured, measuring, inRoom, writing}
+use Rattle.formatter.specs.Format.{Words, Limits, ownRoom, within, withWork, withText, damageIn, withNotes, withBlock, withDigest, mostTold, measured, measuring, inRoom, writing}
 use Rattle.formatter.specs.Work.{mostLent, lending}
 use Rattle.walk.specs.Work.{workFor}
 use Rattle.walk.specs.Contracts.Course.{Finished}
@@ -41,12 +41,12 @@ module _ (o : Opts) (notes out out′ : List ℕ) (r : Ended) (f : Finished most
   stopped-of e = rw e at f
 
   -- too many words: all zero
-  pub words-answer : {place : ℕ} → r ≡ Stopped place → Answers (leftOf document01 o notes (withDigest (length out))) out (Many place) out′
+  pub words-answer : {place : ℕ} → r ≡ Stopped place → Answers (leftOf ownRoom o notes (withDigest (length out))) out (Many place) out′
   unfolding outputAfter
   words-answer e = let s = stopped-of e in rw (s .0) (record { is = refl; output = s .1 })
 
   -- the digest fits
-  pub done-answer : {n : ℕ} → r ≡ All n → n ≤ length out′ → Answers (leftOf document01 o notes (withDigest (length out))) out (Done n) out′
+  pub done-answer : {n : ℕ} → r ≡ All n → n ≤ length out′ → Answers (leftOf ownRoom o notes (withDigest (length out))) out (Done n) out′
   unfolding outputAfter
   done-answer {n} e h =
       let w = all-of e in
@@ -57,7 +57,7 @@ module _ (o : Opts) (notes out out′ : List ℕ) (r : Ended) (f : Finished most
 
   -- it does not: all zero
   pub room-answer : {n : ℕ} {clear : List ℕ} → r ≡ All n → length out′ < n → clear ≡ replicate (length out′) 0
-      → Answers (leftOf document01 o notes (withDigest (length out))) out (Room n) clear
+      → Answers (leftOf ownRoom o notes (withDigest (length out))) out (Room n) clear
   unfolding outputAfter
   room-answer {n} e h z =
       let w = all-of e in
@@ -67,10 +67,10 @@ module _ (o : Opts) (notes out out′ : List ℕ) (r : Ended) (f : Finished most
       rw (w .0, lt-leb (length (digest o notes)) (length out) over) (record { is = ap Room c; output = z ∙ ap (λ (k : ℕ). replicate k 0) l })
 
   -- measured: the same without an output
-  pub words-measured : {place : ℕ} → r ≡ Stopped place → Many place ≡ told (leftOf document01 o notes done)
+  pub words-measured : {place : ℕ} → r ≡ Stopped place → Many place ≡ told (leftOf ownRoom o notes done)
   words-measured e = rw (stopped-of e .0)
 
-  pub done-measured : {n : ℕ} → r ≡ All n → Done n ≡ told (leftOf document01 o notes done)
+  pub done-measured : {n : ℕ} → r ≡ All n → Done n ≡ told (leftOf ownRoom o notes done)
   done-measured {n} e =
       let w = all-of e in
       let c : n ≡ length (digest o notes) = omega (arith, w .1 .count) in

@@ -62,7 +62,7 @@ pub written-at-once : (l : Limits) (block notes : List ℕ) (space : ℕ) → wr
 unfolding writing measuring
 written-at-once l block notes space = block-at-once l (inRoom space) (in-room-keeps space) (measured (l .words)) block notes (readBlock block)
 
--- Together they do what the old call did, for all inputs: it has limits such as document 01's.
+-- Together they do what the old call did, for all inputs: it has limits such as those of RULES 2.2.
 pub together-they-do-what-the-old-call-did : (bytes most : ℕ) (block notes : List ℕ) (space : ℕ) → writing (limited bytes most) block notes space ≡ answer (limited bytes most) block notes space
 unfolding answer
 together-they-do-what-the-old-call-did bytes most block notes space = written-at-once (limited bytes most) block notes space

@@ -20,7 +20,7 @@ use Rattle.formatter.specs.declared.Reply.{Reply}
 use Rattle.formatter.specs.declared.Admission.{Admission}
 use Rattle.formatter.specs.declared.Admission.the-variants.{Refused, Passed}
 
--- where none of codes 1 to 3 is due, what is answered hangs on the digest or has a later code: it is no refusal of theirs
+-- where none of codes 1 to 3 is due, what is answered depends on the digest or has a later code: it is no refusal of theirs
 pub later : (w : Words) (o : Opts) (notes : List ℕ) → 4 ≤ code (within w (λ d. words 0) o notes)
 later (upTo most) o notes = go (longParagraph most o 0 (pieces o notes))
   where
@@ -47,7 +47,7 @@ admission-unique l block notes (Passed o) (Passed p) h k =
 pub admission-within-unique : (bytes : ℕ) (block notes : List ℕ) (a b : Admission) → AdmitsWithin bytes block notes a → AdmitsWithin bytes block notes b → a ≡ b
 admission-within-unique bytes block notes a b h k = admission-unique (record { bytes = bytes; words = upTo 0 }) block notes a b (h (upTo 0)) (k (upTo 0))
 
--- where none of the codes is due, what is answered hangs on the digest
+-- where none of the codes is due, what is answered depends on the digest
 lent-hangs : (lends : ℕ) (block notes d : List ℕ) {r : Reply} → AdmitsLent lends block notes (Refused r) → ((then : List ℕ → Answer) → withBlock (lending lends) then block notes (readBlock block) ≡ then d) → {A : Type 0} → A
 lent-hangs lends block notes d h k =
     let a = ap code (sym (h .whole-is (λ x. words 0)) ∙ k (λ x. words 0)) in

@@ -1,5 +1,5 @@
 -- What an answer tells has no more than 32 bits: a fault's place is small, other places lie in the notes, and a digest has at most 1,040 bytes
--- for each byte of the notes, if no paragraph has more words than document 01 allows; if working room is lent for more, a longer digest
+-- for each byte of the notes, if no paragraph has more words than RULES 2.2 allows; if working room is lent for more, a longer digest
 -- is refused. So code and value can be read back from the number.
 use mathlib.Core.Path.{_≡_, refl, sym, ap, _∙_}
 use mathlib.Core.Bool.{Bool, true, false, cond, _||_}
@@ -30,7 +30,7 @@ use Rattle.words.specs.Words.{wordsOf}
 use Rattle.output.specs.Emission.{lineFeed}
 use Rattle.formatter.specs.Answers.{Answer, done, options, long, text, words, room, work, code, value, numbered}
 use Rattle.walk.specs.Digest.{mostWords, outputOf, extentOf, tooMany, digest, longParagraph}
-use Rattle.formatter.specs.Format.{Words, upTo, lent, Limits, mostBytes, document01, withWords, within, withText, damageIn, withNotes, withBlock, answer, finding, mostTold, measured, measuring, writing}
+use Rattle.formatter.specs.Format.{Words, upTo, lent, Limits, mostBytes, ownRoom, withWords, within, withText, damageIn, withNotes, withBlock, answer, finding, mostTold, measured, measuring, writing}
 use Rattle.walk.specs.Contracts.Course.{outputFrom, longFrom, FirstPiece}
 use Rattle.formatter.specs.Contracts.Call.{told, replyNumber}
 use Rattle.formatter.proofs.Together.{together-they-do-what-the-old-call-did, what-is-refused-is-measured-so, what-is-found-is-measured, in-room-value}
@@ -133,7 +133,7 @@ long-fewer most more o place (q ∷ qs) h e = go (tooMany most o (q .kind)) refl
 
 -- ---- limits
 
--- with which N can be told: no more notes than the code is proved for; and no more words to a paragraph than document 01 has, or a need that
+-- with which N can be told: no more notes than the code is proved for; and no more words to a paragraph than RULES 2.2 has, or a need that
 -- can be told
 abbrev pub Modest : Words → ℕ → Type 0
 Modest (upTo most) bytes = most ≤ mostWords
@@ -143,8 +143,8 @@ pub record Sound (l : Limits) : Type 0 where
   pub short : l .bytes ≤ mostLarge
   pub modest : Modest (l .words) (l .bytes)
 
-pub document01-sound : Sound document01
-document01-sound = record { short = omega arith; modest = omega arith }
+pub ownRoom-sound : Sound ownRoom
+ownRoom-sound = record { short = omega arith; modest = omega arith }
 
 -- ---- what is refused, and what becomes of the digest
 
@@ -240,10 +240,10 @@ pub measuring-tells-code-and-value : (l : Limits) → Sound l → (block notes :
 unfolding numbered
 measuring-tells-code-and-value l sound block notes = reads-back (code (measuring l block notes)) (value (measuring l block notes)) (measured-value l sound block notes)
 
--- .. and so from that of the call that document 01 has.
+-- .. and so from that of the call that RULES 2.2 has.
 pub the-answer-tells-code-and-value : (block notes : List ℕ) (space : ℕ)
-    → (numbered (answer document01 block notes space) / 2 ^ 32 ≡ code (answer document01 block notes space)) × (numbered (answer document01 block notes space) % 2 ^ 32 ≡ value (answer document01 block notes space))
-the-answer-tells-code-and-value block notes space = rw (← together-they-do-what-the-old-call-did mostBytes mostWords block notes space) (writing-tells-code-and-value document01 document01-sound block notes space)
+    → (numbered (answer ownRoom block notes space) / 2 ^ 32 ≡ code (answer ownRoom block notes space)) × (numbered (answer ownRoom block notes space) % 2 ^ 32 ≡ value (answer ownRoom block notes space))
+the-answer-tells-code-and-value block notes space = rw (← together-they-do-what-the-old-call-did mostBytes mostWords block notes space) (writing-tells-code-and-value ownRoom ownRoom-sound block notes space)
 
 -- ---- the code's number
 

@@ -1,4 +1,4 @@
--- Document 01, "What is bought": the answers, their numbers, and the output afterwards.
+-- RULES 2.1: the answers, their numbers, and the output afterwards.
 use mathlib.Core.List.{List, _++_}
 use Prim.Native.Nat.{ℕ, _+_, _*_, _^_}
 use lib.ListN.{length, drop, replicate}

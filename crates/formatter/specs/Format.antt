@@ -1,4 +1,4 @@
--- Document 01, "What is bought": from option block, notes and output slice to the answer.
+-- RULES 2.2: from option block, notes and output slice to the answer.
 use mathlib.Core.Bool.{Bool, true, false, cond}
 use mathlib.Core.List.{List}
 use Prim.Native.Nat.{ℕ}
@@ -30,12 +30,12 @@ pub record Limits : Type 0 where
 abbrev pub limited : ℕ → ℕ → Limits
 limited bytes most = record { bytes = bytes; words = upTo most }
 
--- document 01's: 65,536 bytes and 1,024 words
+-- those of the calls that have their own room (RULES 2.2): 65,536 bytes and 1,024 words
 abbrev pub mostBytes : ℕ
 mostBytes = 65536
 
-abbrev pub document01 : Limits
-document01 = limited mostBytes mostWords
+abbrev pub ownRoom : Limits
+ownRoom = limited mostBytes mostWords
 
 -- ---- the answers: the lowest number wins. `then` is what is answered with the digest, where nothing before it is refused
 
@@ -72,13 +72,13 @@ withDigest space bytes = cond (leb (length bytes) space) (done bytes) (room (len
 unfoldable pub answer : Limits → List ℕ → List ℕ → ℕ → Answer
 answer l block notes space = withBlock l (withDigest space) block notes (readBlock block)
 
--- ---- P1: room asked first, then written
+-- ---- RULES 11: room asked first, then written
 
 -- what is found in the notes, whatever is to become of it: the digest, or what is refused before it
 unfoldable pub finding : Limits → List ℕ → List ℕ → Answer
 finding l block notes = withBlock l done block notes (readBlock block)
 
--- N has 32 bits. With no more words to a paragraph than document 01 has no digest is longer (proofs/Values, `digest-most`); with more, one that
+-- N has 32 bits. With no more words to a paragraph than RULES 2.2 has no digest is longer (proofs/Values, `digest-most`); with more, one that
 -- is longer is refused for want of room
 abbrev pub mostTold : ℕ
 mostTold = 4294967295

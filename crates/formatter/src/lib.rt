@@ -13,7 +13,7 @@ ghost use Rattle.walk.specs.Digest.{digest};
 ghost use Rattle.walk.specs.Work.{workFor};
 ghost use Rattle.walk.specs.Contracts.Course.{Admitted};
 ghost use Rattle.formatter.specs.Answers.{done};
-ghost use Rattle.formatter.specs.Format.{Words, document01, damageIn, withDigest, measured, measuring, inRoom, writing};
+ghost use Rattle.formatter.specs.Format.{Words, ownRoom, damageIn, withDigest, measured, measuring, inRoom, writing};
 ghost use Rattle.formatter.specs.Work.{lending};
 ghost use Rattle.formatter.specs.Contracts.Call.{told, replyNumber, Answers, leftOf, AdmitsNotes, Admits, AdmitsWithin, AdmitsWork, AdmitsLent};
 
@@ -35,7 +35,7 @@ pub enum Admission {
     Passed(Options),
 }
 
-// The answer's code stands in the upper 32 bits of its number, what it tells in the lower.
+// The answer's code is in the upper 32 bits of its number, what it tells in the lower.
 const UPPER: u64 = 4294967296;
 
 // The answer's number.
@@ -56,7 +56,7 @@ pub fn number_of(a: Reply) -> u64
 
 // What measuring replies: the lowest code wins.
 pub fn measure(block: &[u8], notes: &[u8]) -> Reply
-    ensures { λ r. ⌜ r ≡ told (measuring document01 (now (block .entry)) (now (notes .entry))) ⌝ }
+    ensures { λ r. ⌜ r ≡ told (measuring ownRoom (now (block .entry)) (now (notes .entry))) ⌝ }
 {
     match admit(block, notes) {
         Admission::Refused(r) => r,
@@ -66,7 +66,7 @@ pub fn measure(block: &[u8], notes: &[u8]) -> Reply
 
 // What writing replies, likewise.
 pub fn write(block: &[u8], notes: &[u8], out: &mut [u8]) -> Reply
-    ensures { λ r. ⌜ Answers (writing document01 (now (block .entry)) (now (notes .entry)) (length (now (out .entry)))) (now (out .entry)) r (now (out .exit)) ⌝ }
+    ensures { λ r. ⌜ Answers (writing ownRoom (now (block .entry)) (now (notes .entry)) (length (now (out .entry)))) (now (out .entry)) r (now (out .exit)) ⌝ }
 {
     match admit(block, notes) {
         Admission::Refused(r) => r,
@@ -76,7 +76,7 @@ pub fn write(block: &[u8], notes: &[u8], out: &mut [u8]) -> Reply
 
 // Codes 1 to 3, or the options with which the notes are to be formatted.
 pub fn admit(block: &[u8], notes: &[u8]) -> Admission
-    ensures { λ r. ⌜ Admits document01 (now (block .entry)) (now (notes .entry)) r ⌝ }
+    ensures { λ r. ⌜ Admits ownRoom (now (block .entry)) (now (notes .entry)) r ⌝ }
 {
     admit_within(block, notes, MOST_BYTES)
 }
@@ -123,7 +123,7 @@ fn damage_in(keep: bool, notes: &[u8]) -> Found
 // Measures the notes: the pieces are put into no room at all.
 fn measure_notes(o: Options, block: &[u8], notes: &[u8]) -> Reply
     requires { ⌜ Admitted (now block) (now notes) o ⌝ }
-    ensures { λ r. ⌜ r ≡ told (leftOf document01 (meant (now (block .entry)) o) (now (notes .entry)) done) ⌝ }
+    ensures { λ r. ⌜ r ≡ told (leftOf ownRoom (meant (now (block .entry)) o) (now (notes .entry)) done) ⌝ }
 {
     let mut none = [0u8; 0];
     match walk::put_all(o, block, notes, &mut none) {
@@ -135,7 +135,7 @@ fn measure_notes(o: Options, block: &[u8], notes: &[u8]) -> Reply
 // Writes the notes' digest.
 fn write_notes(o: Options, block: &[u8], notes: &[u8], out: &mut [u8]) -> Reply
     requires { ⌜ Admitted (now block) (now notes) o ⌝ }
-    ensures { λ r. ⌜ Answers (leftOf document01 (meant (now (block .entry)) o) (now (notes .entry)) (withDigest (length (now (out .entry))))) (now (out .entry)) r (now (out .exit)) ⌝ }
+    ensures { λ r. ⌜ Answers (leftOf ownRoom (meant (now (block .entry)) o) (now (notes .entry)) (withDigest (length (now (out .entry))))) (now (out .entry)) r (now (out .exit)) ⌝ }
 {
     match walk::put_all(o, block, notes, out) {
         Ended::Stopped(place) => Reply::Words(place),

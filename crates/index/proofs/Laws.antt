@@ -1,4 +1,4 @@
--- The search for the record that holds a line: what it has come to behind so many records.
+-- The search for the record that holds a line: what it has come to after so many records.
 use mathlib.Core.Path.{_≡_, refl}
 use mathlib.Core.Bool.{Bool, true, false, cond}
 use mathlib.Core.List.{List, [], _∷_}
@@ -74,7 +74,7 @@ within-most filled records n e = go (leb filled records) refl e
     go true h k = let l = leb-true filled records h in (omega (arith, k, l), omega (arith, k))
     go false h k = (omega (arith, k), omega (arith, k))
 
--- what is left of the first n records behind i of them
+-- what is left of the first n records after i of them
 abbrev pub restFrom : ℕ → ℕ → List Record → ℕ → ℕ → Part
 restFrom size line index n i = partUnder size line (drop i (take n index))
 

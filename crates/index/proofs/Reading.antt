@@ -48,7 +48,7 @@ module _ (table : List ℕ) where
 
 -- ---- n records
 
--- the last of n records behind a record: that record itself where n is 0
+-- the last of n records after a record: that record itself where n is 0
 abbrev pub lastRead : List Bool → ℕ → Record → Record
 lastRead marks zero r = r
 lastRead marks (suc n) r = lastRead marks n (recordAfter marks r)

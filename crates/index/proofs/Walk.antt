@@ -4,7 +4,7 @@
 --     P, part-ty, part-typed, P-makes     the same of `Part`, which a walk returns
 --     looks-in, shuts-in              a `&[Record]` is looked into, for its token, and shut
 --     takes-out                       record i is taken out of a row, to be read or stored to: [its cell; what it owns; the others]
---     puts-back, puts-in              it is put back as it was; v, which stands in its cell now, is put in its place
+--     puts-back, puts-in              it is put back as it was; v, which is in its cell now, is put in its place
 --     place-at                        where record i lies, as the code computes it, is its place in the row
 --     meets-by                        a walk from each choice of lifetimes, shares and arguments is the theorem at the MIR
 -- Definitions assume nothing, the steps `Given`.

@@ -1,4 +1,4 @@
--- Document 02, P3: asked with the count filled and an output line number, the index hands back the notes part of the first record that
+-- RULES 12.3: asked with the count filled and an output line number, the index hands back the notes part of the first record that
 -- holds that line, or none. The list may have any content, so sums are those of whole numbers.
 use mathlib.Core.Bool.{Bool, true, false, cond, _&&_}
 use mathlib.Core.List.{List, [], _∷_}

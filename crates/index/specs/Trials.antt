@@ -1,2 +1,2 @@
--- Worked lookups: no part of what must be believed, they show that the definition says what the paper does.
+-- Worked lookups: no part of what must be believed, they show that the definition says what RULES says.
 pub mod Lookups

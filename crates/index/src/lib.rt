@@ -116,7 +116,7 @@ pub fn tell(p: Part, part: &mut [u64; 2]) -> u64
     }
 }
 
-// Stores the n records that the marks tell. What stands behind the marks does not matter.
+// Stores the n records that the marks tell. What is after the marks does not matter.
 pub fn store_records(index: &mut [Record], n: usize, marks: &[u32])
     requires { ⌜ n ≤ length (now index) ⌝ }
     ensures { λ _. ⌜ now (index .exit) ≡ readFrom (marksIn (front (now (marks .entry)))) n noRecord ++ drop n (now (index .entry)) ⌝ }
@@ -133,7 +133,7 @@ pub fn store_records(index: &mut [Record], n: usize, marks: &[u32])
 // So many numbers have room for two marks for each byte of the longest notes.
 const MOST_NUMBERS: usize = 65536;
 
-// The record behind a record, as the marks tell it.
+// The record after a record, as the marks tell it.
 fn next_record(marks: &[u32], r: Record) -> Record
     requires { ⌜ behind r ≤ 32 * length (front (now marks)) ⌝ }
     ensures { λ s. ⌜ s ≡ recordAfter (marksIn (front (now (marks .entry)))) r ⌝ }

@@ -25,7 +25,7 @@ use Rattle.walk.proofs.Lent.{enough}
 use Rattle.walk.proofs.Work.{work-most}
 use Rattle.walk.proofs.Steps.{ready-kept}
 use Rattle.paragraphs.specs.Contracts.Steps.{roomFor}
-use Rattle.formatter.specs.Format.{Limits, mostBytes, document01, withWords, withBlock, finding, mostTold}
+use Rattle.formatter.specs.Format.{Limits, mostBytes, ownRoom, withWords, withBlock, finding, mostTold}
 use Rattle.formatter.specs.Contracts.Call.{Admits, told as replied}
 use Rattle.formatter.specs.declared.Reply.{Reply}
 use Rattle.formatter.specs.declared.Admission.the-variants.{Refused, Passed}
@@ -105,7 +105,7 @@ module _ (most : ℕ) (o : Opts) (notes out : List ℕ) where
 
 -- ---- the families
 
--- with document 01's limits no digest is longer than N can tell
+-- with the limits of RULES 2.2 no digest is longer than N can tell
 module _ (block notes : List ℕ) (o : Options) (ready : Admitted block notes o) (short : length notes ≤ mostBytes) (space records : ℕ) where
   digest-told : longParagraph mostWords (meant block o) 0 (pieces (meant block o) notes) ≡ Nowhere → length (digest (meant block o) notes) ≤ mostTold
   unfolding meant
@@ -114,11 +114,11 @@ module _ (block notes : List ℕ) (o : Options) (ready : Admitted block notes o)
       let d = digest-most (meant block o) notes (k .tabLeast) (k .tabMost) (ready .short) (k .splitClears) e in
       omega (arith, d, short)
 
-  pub found-document01 : foundOf mostWords (meant block o) notes space records ≡ leftOf document01 (meant block o) notes space records
-  found-document01 = go (longParagraph mostWords (meant block o) 0 (pieces (meant block o) notes)) refl
+  pub found-ownRoom : foundOf mostWords (meant block o) notes space records ≡ leftOf ownRoom (meant block o) notes space records
+  found-ownRoom = go (longParagraph mostWords (meant block o) 0 (pieces (meant block o) notes)) refl
     where
       go : (f : Found) → longParagraph mostWords (meant block o) 0 (pieces (meant block o) notes) ≡ f
-          → inIndex numbering space records (indexOf (meant block o) notes) (withWords measured (meant block o) notes f) ≡ inIndex (document01 .words) space records (indexOf (meant block o) notes) (withWords measured (meant block o) notes f)
+          → inIndex numbering space records (indexOf (meant block o) notes) (withWords measured (meant block o) notes f) ≡ inIndex (ownRoom .words) space records (indexOf (meant block o) notes) (withWords measured (meant block o) notes f)
       go (At place) e = refl
       go Nowhere e = rw (le-leb (length (digest (meant block o) notes)) mostTold (digest-told e))
 
@@ -149,8 +149,8 @@ small-room true marks n e = omega (arith, e)
 small-room false marks n e = omega (arith, e)
 
 pub small-indexes : (block notes : List ℕ) (o : Options) → Admitted block notes o → length notes ≤ mostBytes → (space records : ℕ) {most : ℕ} {out out′ table : List ℕ} {r : Filled} → most ≡ mostWords
-    → Indexes (foundOf most (meant block o) notes space records) out r out′ table → Indexes (leftOf document01 (meant block o) notes space records) out r out′ table
-small-indexes block notes o ready short space records e i = rw (← found-document01 block notes o ready short space records) (rw e at i)
+    → Indexes (foundOf most (meant block o) notes space records) out r out′ table → Indexes (leftOf ownRoom (meant block o) notes space records) out r out′ table
+small-indexes block notes o ready short space records e i = rw (← found-ownRoom block notes o ready short space records) (rw e at i)
 
 -- the greater of two, where it is more than the first
 pub need-is : (least most n : ℕ) → n ≡ max least most → least < n → n ≡ most

@@ -66,7 +66,7 @@ count-one t f = count-more t [] f ∙ ap suc count-none
 abbrev Between : ℕ → ℕ → Type 0
 Between most n = (1 ≤ n) × (n ≤ most)
 
--- a word behind a line that stands so far, on the same line and on the next
+-- a word after a line that stands so far, on the same line and on the next
 goes-on : (line space text rest : List ℕ) (n : ℕ) → Between n (count ((line ++ (space ++ text)) ++ rest)) → Between (suc n) (count (line ++ (space ++ (text ++ rest))))
 goes-on line space text rest n r =
     let e = ap count (ap (λ (xs : List ℕ). line ++ xs) (sym (append-assoc space text rest)) ∙ sym (append-assoc line (space ++ text) rest)) in

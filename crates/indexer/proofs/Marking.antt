@@ -1,4 +1,4 @@
--- What is spelled as the pieces are written: behind the gaps of the pieces so far come those of the next.
+-- What is spelled as the pieces are written: after the gaps of the pieces so far come those of the next.
 use mathlib.Core.Path.{_≡_, refl, sym, ap, _∙_}
 use mathlib.Core.Bool.{Bool, true, false}
 use mathlib.Core.List.{List, [], _∷_, _++_, append-assoc, append-nil}
@@ -90,7 +90,7 @@ wrote-there out out′ d n n′ w h =
 
 -- ---- the loop
 
--- k pieces stand before the cursor; where their output fits, their gaps are spelled, and behind these there is no mark
+-- k pieces stand before the cursor; where their output fits, their gaps are spelled, and after these there is no mark
 pub record Marking (o : Opts) (notes : List ℕ) (size marks : ℕ) (c : Cursor) (k line : ℕ) (gaps : List ℕ) : Type 0 where
   pub before : List Piece
   pub all : before ++ piecesFrom o (c .mail) notes (c .at) ≡ pieces o notes
@@ -236,7 +236,7 @@ front-cleared marks work cleared h e =
     let d = length-drop marks work in
     (e ∙ ap (λ (k : ℕ). replicate k 0) l, omega (arith, l, n, a, d, h))
 
--- what stands in front of the part is as it was
+-- what is in front of the part is as it was
 pub front-kept : (marks k : ℕ) (work part : List ℕ) → marks ≤ length work → take marks (putMid marks k work part) ≡ take marks work
 front-kept marks k work part h = take-put marks k work part h
 

@@ -1,4 +1,4 @@
--- Document 02, P3: the answers of the writing call with an index, their numbers, and what each leaves in the output, in the records and in
+-- RULES 12.2: the answers of the writing call with an index, their numbers, and what each leaves in the output, in the records and in
 -- the count of those filled.
 use mathlib.Core.List.{List, _++_}
 use Prim.Native.Nat.{ℕ, _+_, _*_, _^_}
@@ -58,7 +58,7 @@ outputAfter (full pieces) output = replicate (length output) 0
 outputAfter (room needed) output = replicate (length output) 0
 outputAfter (work needed) output = output
 
--- the records afterwards: the index and those behind it unchanged; on a refusal all unchanged
+-- the records afterwards: the index and those after it unchanged; on a refusal all unchanged
 unfoldable pub recordsAfter : Indexed → List Record → List Record
 recordsAfter (done digest index) records = index ++ drop (length index) records
 recordsAfter (options place) records = records

@@ -1,4 +1,4 @@
--- Document 02, P3: the index kept beside the output: for each paragraph, plain line and blank line one record with its place and length in
+-- RULES 12.1: the index kept beside the output: for each paragraph, plain line and blank line one record with its place and length in
 -- the notes, its first output line and its count of output lines.
 use mathlib.Core.List.{List, [], _∷_}
 use Prim.Native.Nat.{ℕ, _+_}

@@ -1,4 +1,4 @@
--- Document 02, P3: what the writing call with an index answers. Measuring tells 1 to 4; then comes 6, given exactly when there are more
+-- RULES 12.2: what the writing call with an index answers. Measuring tells 1 to 4; then comes 6, given exactly when there are more
 -- pieces than records; then 5.
 use mathlib.Core.Bool.{cond}
 use mathlib.Core.List.{List, []}

@@ -15,7 +15,7 @@ ghost use Rattle.lines.specs.Lines.{linesOf};
 ghost use Rattle.lines.specs.Contracts.Places.{mostLarge};
 ghost use Rattle.paragraphs.specs.Contracts.Steps.{roomFor};
 ghost use Rattle.walk.specs.Contracts.Course.{Admitted, CursorIn};
-ghost use Rattle.formatter.specs.Format.{mostBytes, document01};
+ghost use Rattle.formatter.specs.Format.{mostBytes, ownRoom};
 ghost use Rattle.indexer.specs.Indexing.{marksFor, indexLending, indexing};
 ghost use Rattle.indexer.specs.Contracts.Noting.{PieceStepped, Parted, Spells, Spelt, Noted, Indexes, Marked, refusedAs, leftOf, foundOf, toldNumber, toldFilled};
 
@@ -53,7 +53,7 @@ pub fn write_marked(
     work: &mut [u32],
 ) -> Told
     requires { ⌜ length (now work) ≡ 19456 ⌝ }
-    ensures { λ t. ⌜ Marked (indexing document01 (now (block .entry)) (now (notes .entry)) (length (now (out .entry))) records) records (now (out .entry)) (now (out .exit)) (now (filled .exit)) (now (work .exit)) t ⌝ }
+    ensures { λ t. ⌜ Marked (indexing ownRoom (now (block .entry)) (now (notes .entry)) (length (now (out .entry))) records) records (now (out .entry)) (now (out .exit)) (now (filled .exit)) (now (work .exit)) t ⌝ }
 {
     tell(write_pieces(block, notes, out, records, work), filled)
 }
@@ -94,7 +94,7 @@ fn write_pieces(
     work: &mut [u32],
 ) -> Filled
     requires { ⌜ length (now work) ≡ 19456 ⌝ }
-    ensures { λ r. ⌜ Indexes (indexing document01 (now (block .entry)) (now (notes .entry)) (length (now (out .entry))) records) (now (out .entry)) r (now (out .exit)) (now (work .exit)) ⌝ }
+    ensures { λ r. ⌜ Indexes (indexing ownRoom (now (block .entry)) (now (notes .entry)) (length (now (out .entry))) records) (now (out .entry)) r (now (out .exit)) (now (work .exit)) ⌝ }
 {
     match formatter::admit(block, notes) {
         Admission::Refused(r) => refused(r),
@@ -102,7 +102,7 @@ fn write_pieces(
     }
 }
 
-// With lent room 12 stands in the place of 4.
+// With lent room 12 is in the place of 4.
 fn write_lent(
     block: &[u8],
     notes: &[u8],
@@ -154,7 +154,7 @@ fn index_notes(
     work: &mut [u32],
 ) -> Filled
     requires { ⌜ Admitted (now block) (now notes) o × (length (now notes) ≤ mostBytes) × (length (now work) ≡ 19456) ⌝ }
-    ensures { λ r. ⌜ Indexes (leftOf document01 (meant (now (block .entry)) o) (now (notes .entry)) (length (now (out .entry))) records) (now (out .entry)) r (now (out .exit)) (now (work .exit)) ⌝ }
+    ensures { λ r. ⌜ Indexes (leftOf ownRoom (meant (now (block .entry)) o) (now (notes .entry)) (length (now (out .entry))) records) (now (out .entry)) r (now (out .exit)) (now (work .exit)) ⌝ }
 {
     let marks = marks_for(notes.len());
     let end = marks + paragraphs::numbers_for(o.quick, MOST_WORDS);
@@ -190,7 +190,7 @@ fn index_lent(
 const MOST_TOLD: usize = 4294967295;
 
 // Writes the digest, and tells whether there is room for its records and for itself. The first numbers of the room are for marks, those
-// behind them for words.
+// after them for words.
 fn index_with(
     o: Options,
     block: &[u8],
@@ -266,7 +266,7 @@ fn note_pieces(
 }
 
 // The gaps of the piece between two cursors, whose first output line is given: its length and its count of output lines. It tells the line
-// behind it. Of a digest that does not fit nothing need be spelled, since the call is refused.
+// after it. Of a digest that does not fit nothing need be spelled, since the call is refused.
 fn spell(gaps: &mut [u32], out: &[u8], c: Cursor, d: Cursor, line: usize) -> usize
     requires { ⌜ Spells (now gaps) (now out) c d line ⌝ }
     ensures { λ r. ⌜ Spelt (now (gaps .entry)) (now (out .entry)) c d line (now (gaps .exit)) r ⌝ }
@@ -325,7 +325,7 @@ fn count_lines(s: &[u8]) -> usize
     n
 }
 
-// The answer's code stands in the upper 32 bits of its number, what it tells in the lower.
+// The answer's code is in the upper 32 bits of its number, what it tells in the lower.
 const UPPER: u64 = 4294967296;
 
 // The reply's number.

@@ -1,4 +1,4 @@
--- What the call answers, by what the digest has come to behind the last piece, or by what is told before.
+-- What the call answers, by what the digest has come to after the last piece, or by what is told before.
 use mathlib.Core.Path.{_≡_, refl, sym, ap, _∙_}
 use mathlib.Core.Bool.{Bool, true, false, cond}
 use mathlib.Core.List.{List}
@@ -9,7 +9,7 @@ use lib.ListN.{length, drop}
 use borrow.Author.Tests.{le-ltb, lt-ltb, ltb-true, ltb-false}
 use Rattle.lists.proofs.Views.{drop-here, drop-none}
 use Rattle.text.specs.declared.Found.{Found}
-use Rattle.text.specs.declared.Found.the-variants.{At, Nowhere}
+use Rattle.text.specs.declared.Found.the-variants.{At}
 use Rattle.options.specs.Opts.{Opts, meant}
 use Rattle.options.specs.OptionBlock.{readBlock}
 use Rattle.options.specs.declared.Options.{Options}

@@ -67,7 +67,7 @@ module _ (most : ℕ) (o : Opts) (notes : List ℕ) (c : Stand) where
         ∙ ap (λ (n : ℕ). elim (tooMany most o (g .piece .kind)) as (λ x. Found) [ true ↦ At (c .at) | false ↦ longParagraph most o n (piecesFrom o state notes next) ]) (g .extent)
         ∙ ap (λ (x : Bool). elim x as (λ y. Found) [ true ↦ At (c .at) | false ↦ longParagraph most o next (piecesFrom o state notes next) ]) (ap (tooMany most o) (g .is) ∙ e)
 
--- ---- behind what is matched
+-- ---- after what is matched
 
 module _ {digest : List ℕ} {m : Matched} (h : MatchedIn digest m) where
   stands : Matches digest (matched digest m) m
@@ -171,7 +171,7 @@ module _ (o : Opts) where
   match-none (on xs n) = refl
   match-none (fault n) = refl
 
--- what is left where the work stands at c, of what the digest had come to first
+-- what is left where the work is at c, of what the digest had come to first
 pub record Going (most : ℕ) (o : Opts) (notes digest : List ℕ) (first : Matched) (c : Stand) : Type 0 where
   pub within : c .at ≤ length notes
   pub inside : MatchedIn digest (c .matched)

@@ -1,4 +1,4 @@
--- What P11 claims of the call, about all blocks, notes and digests: from what it claims of the checker (checker/proofs/Theorems).
+-- What RULES 18 claims of the call, about all blocks, notes and digests: from what it claims of the checker (checker/proofs/Theorems).
 use mathlib.Core.Path.{_≡_, refl, sym, ap, _∙_}
 use mathlib.Core.Bool.{Bool, true, false, cond}
 use mathlib.Core.List.{List}

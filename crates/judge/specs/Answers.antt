@@ -1,9 +1,9 @@
--- Document 02, P11: the answers of the checking call, and their numbers. (The call writes nothing.)
+-- RULES 18.2: the answers of the checking call, and their numbers. (The call writes nothing.)
 use Prim.Native.Nat.{ℕ, _+_, _*_, _^_}
 use Rattle.judge.specs.declared.Judgement.{Judgement}
 use Rattle.judge.specs.declared.Judgement.the-variants.{Accepted, Options, Long, Text, Words, LongDigest, Line, Work}
 
--- code and N: 1 to 4 as document 01 has them for the notes, 9 for a digest over 65,536 bytes, 10 and the number of the line that is named; where
+-- code and N: 1 to 4 as RULES 2.2 has them for the notes, 9 for a digest over 65,536 bytes, 10 and the number of the line that is named; where
 -- working room is lent, 12 and the room needed in the place of 4
 abbrev pub code : Judgement → ℕ
 code Accepted = 0

@@ -1,4 +1,4 @@
--- Document 02, P11: what the checking call answers. Measuring tells 1 to 4 for the notes, in their order; then come 9 and 10.
+-- RULES 18.2: what the checking call answers. Measuring tells 1 to 4 for the notes, in their order; then come 9 and 10.
 use mathlib.Core.Bool.{cond}
 use mathlib.Core.List.{List}
 use Prim.Native.Nat.{ℕ}

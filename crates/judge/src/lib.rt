@@ -16,7 +16,7 @@ ghost use Rattle.output.specs.Contracts.Writers.{marginOf};
 ghost use Rattle.walk.specs.Contracts.Course.{Admitted};
 ghost use Rattle.checker.specs.Matching.{andThen, matchLine, matchWords};
 ghost use Rattle.checker.specs.Contracts.Places.{matched, MatchedIn, Matches, MarginFits, Matchable};
-ghost use Rattle.formatter.specs.Format.{document01};
+ghost use Rattle.formatter.specs.Format.{ownRoom};
 ghost use Rattle.formatter.specs.Work.{lending};
 ghost use Rattle.judge.specs.Answers.{numbered};
 ghost use Rattle.judge.specs.Checking.{checking};
@@ -41,13 +41,13 @@ struct Stand {
     matched: Matched,
 }
 
-// What came of a piece: the work goes on behind it, or it is a paragraph of too many words.
+// What came of a piece: the work goes on after it, or it is a paragraph of too many words.
 enum Step {
     On(Stand),
     Over,
 }
 
-// What came of the notes: what the digest has come to behind the last piece, or the place of the first paragraph that has too many words.
+// What came of the notes: what the digest has come to after the last piece, or the place of the first paragraph that has too many words.
 enum Course {
     Through(Matched),
     Stopped(usize),
@@ -63,7 +63,7 @@ const MOST_NUMBERS: usize = 7168;
 
 // Checks a digest: 1, 2, 3, 4, 9 and 10 are the refusals, in this order.
 pub fn check(block: &[u8], notes: &[u8], digest: &[u8]) -> Judgement
-    ensures { λ r. ⌜ r ≡ checking document01 (now (block .entry)) (now (notes .entry)) (now (digest .entry)) ⌝ }
+    ensures { λ r. ⌜ r ≡ checking ownRoom (now (block .entry)) (now (notes .entry)) (now (digest .entry)) ⌝ }
 {
     match formatter::admit(block, notes) {
         Admission::Refused(r) => refused(r),
@@ -99,7 +99,7 @@ fn refused(r: Reply) -> Judgement
 // 4, 9 and 10, with the options of an accepted block. The table of a paragraph's words is lent from here on.
 fn check_notes(o: Options, block: &[u8], notes: &[u8], digest: &[u8]) -> Judgement
     requires { ⌜ Admitted (now block) (now notes) o ⌝ }
-    ensures { λ r. ⌜ r ≡ leftOf document01 (meant (now (block .entry)) o) (now (notes .entry)) (now (digest .entry)) ⌝ }
+    ensures { λ r. ⌜ r ≡ leftOf ownRoom (meant (now (block .entry)) o) (now (notes .entry)) (now (digest .entry)) ⌝ }
 {
     let mut table = [0u32; MOST_NUMBERS];
     match match_pieces(
@@ -146,7 +146,7 @@ fn begin(bytes: usize, size: usize) -> Matched
     Matched::On(Spot { at: 0, line: 0 })
 }
 
-// What is told of a digest of so many bytes that has come to m behind the last piece: nothing may be left of it.
+// What is told of a digest of so many bytes that has come to m after the last piece: nothing may be left of it.
 fn judge(bytes: usize, size: usize, m: Matched) -> Judgement
     ensures { λ r. ⌜ r ≡ judgedBy bytes size m ⌝ }
 {
@@ -241,7 +241,7 @@ fn match_piece(
     }
 }
 
-// A line behind what is matched, if all before it is.
+// A line after what is matched, if all before it is.
 fn line_behind(text: &[u8], digest: &[u8], m: Matched) -> Matched
     requires { ⌜ MatchedIn (now digest) m ⌝ }
     ensures { λ r. ⌜ Matches (now (digest .entry)) (andThen (matched (now (digest .entry)) m) (matchLine (now (text .entry)))) r ⌝ }
@@ -252,7 +252,7 @@ fn line_behind(text: &[u8], digest: &[u8], m: Matched) -> Matched
     }
 }
 
-// A paragraph's words behind what is matched, if all before them is.
+// A paragraph's words after what is matched, if all before them is.
 fn words_behind(
     notes: &[u8],
     table: &[u32],
@@ -272,7 +272,7 @@ fn words_behind(
     }
 }
 
-// The answer's code stands in the upper 32 bits of its number, what it tells in the lower.
+// The answer's code is in the upper 32 bits of its number, what it tells in the lower.
 const UPPER: u64 = 4294967296;
 
 // The answer's number.

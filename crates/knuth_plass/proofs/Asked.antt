@@ -1,4 +1,4 @@
--- The break that starts a line with a word: whether it stands before it, and what made it.
+-- The break that starts a line with a word: whether it is before it, and what made it.
 use mathlib.Core.Path.{_≡_, refl, sym, subst, ap, _∙_}
 use mathlib.Core.Bool.{Bool, true, false, cond, _||_}
 use mathlib.Core.List.{List, [], _∷_}

@@ -67,7 +67,7 @@ module _ (g : Setting) (i p s : ℕ) (w : Word) (plain : w .before ≡ Absent) w
   staying-view [] h = refl
   staying-view (e ∷ es) h = staying-by e es (leb (reachOf g x e) (g .width)) refl (h .0) (staying-view es (h .1))
 
--- ---- bases ascend: what stays is behind what leaves
+-- ---- bases ascend: what stays is after what leaves
 
 fitting-all : (g : Setting) (x m : ℕ) (es : List Break) → x + g .indent - m ≤ g .width → Above m es → fitting g x es ≡ es
 unfolding fitting
@@ -431,7 +431,7 @@ low-never g sentence i p es (w ∷ ws) h =
       low-never g (sentenceBehind w ws) (suc i) x (intervalRound g (isLast ws) i p x (gapBehind ws) w es) ws (round-low g i p s (gapBehind ws) w (isLast ws) es h),
     )
 
--- the indent is no more than the first line with its first word and the gap behind it
+-- the indent is no more than the first line with its first word and the gap after it
 pub first-never : (g : Setting) (w : Word) (ws : List Word) → g .indent ≤ g .first + w .width + gapBehind ws → NeverFalls g false 1 (g .first + w .width) (firstEntry g ∷ []) ws
 first-never g w ws h = low-never g false 1 (g .first + w .width) (firstEntry g ∷ []) ws (h, tt)
 

@@ -1,4 +1,4 @@
--- The table's records stay sound: one is stored again, one comes behind the last, and a round later the bounds are wider.
+-- The table's records stay sound: one is stored again, one comes after the last, and a round later the bounds are wider.
 use mathlib.Core.Path.{_≡_, refl}
 use mathlib.Core.Bool.{Bool, true, false}
 use Prim.Native.Nat.{ℕ, suc, _≤_, _<_}

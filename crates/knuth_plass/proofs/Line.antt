@@ -1,4 +1,4 @@
--- A break's line with the word on it: its columns, and what the break offers behind the word.
+-- A break's line with the word on it: its columns, and what the break offers after the word.
 use mathlib.Core.Path.{_≡_, refl, sym, subst}
 use mathlib.Core.Bool.{Bool, true, false, cond}
 use mathlib.Core.List.{List}

@@ -12,7 +12,7 @@ use Rattle.knuth_plass.specs.KnuthPlass.{Place}
 use Rattle.knuth_plass.specs.Contracts.Table.{Tables, Sized, Stored, placeOf, pathIn, pathTo, breakIn, withBreak, seen, breakMeant, Leads}
 use Rattle.knuth_plass.proofs.Table.{read-back, read-other}
 
--- two records that stand at the same place and lead to the same one
+-- two records that are at the same place and lead to the same one
 pub record Alike (a b : Record) : Type 0 where
   pub place : placeOf a ≡ placeOf b
   pub previous : a .previous ≡ b .previous

@@ -118,7 +118,7 @@ least-begins t k size h = rw (span-here t k size h)
 pub least-goes : (t : Tables) (m k size : ℕ) → k < size → leastFrom (breakMeant t (lesserIn t m k)) (span t (k + 1) (size - (k + 1))) ≡ leastFrom (breakMeant t m) (span t k (size - k))
 least-goes t m k size h = rw (span-here t k size h) (sym (least-next t m k (span t (k + 1) (size - (k + 1)))))
 
--- a record stored behind the last: those below it are as they were
+-- a record stored after the last: those below it are as they were
 pub span-same : (t u : Tables) (k n : ℕ) → ((j : ℕ) → j < k + n → breakMeant u j ≡ breakMeant t j) → span u k n ≡ span t k n
 unfolding span
 span-same t u k zero h = refl

@@ -286,7 +286,7 @@ module _ (l : List ℕ) (i k x : ℕ) (b : Record) (is : b ≡ lessened k (break
   kept-other : (j : ℕ) → (j ≡ i → ⊥) → recordAt (withLine l i (extended x b)) j ≡ recordAt l j
   kept-other j ne = same-record l (withLine l i (extended x b)) j (λ a h two. line-beside l i (extended x b) (j * 8 + a) (λ m g e. ne (omega arith)))
 
-  -- it is stored, and its number stands behind those that stay
+  -- it is stored, and its number is after those that stay
   pub table-kept : (m n : ℕ) (l₁ : List ℕ) → l₁ ≡ withActive (withLine l i (extended x b)) m n → tableIn l₁ ≡ withBreak (tableIn l) i (extended x b)
   table-kept m n l₁ e =
       rw (e, table-active (withLine l i (extended x b)) m n) (table-set l (withLine l i (extended x b)) (length-line l i (extended x b)) i room (extended x b) kept-here kept-other)

@@ -1,4 +1,4 @@
--- The slice that is lent to the rounds: words in front, break records behind them. A part comes home into its place, and the rest is as it was.
+-- The slice that is lent to the rounds: words in front, break records after them. A part comes home into its place, and the rest is as it was.
 use mathlib.Core.Path.{_≡_, refl, sym, ap, _∙_}
 use mathlib.Core.Bool.{Bool, false}
 use mathlib.Core.List.{List, _++_}

@@ -1,4 +1,4 @@
--- Document 02, P6: the lines of Knuth-Plass, each with what made the break that ended it. A round makes at most one break, at its own
+-- RULES 13: the lines of Knuth-Plass, each with what made the break that ended it. A round makes at most one break, at its own
 -- word: so what made a break of the path is told by the round of its word.
 use mathlib.Core.Bool.{Bool, true, false, cond}
 use mathlib.Core.List.{List, [], _∷_, map}
@@ -38,7 +38,7 @@ abbrev pub forced : List Place → Ending
 forced [] = Paragraph
 forced (k ∷ ks) = cond (k .before) Before After
 
--- An offer that became the break, behind the last word with the end of the paragraph; or, where nothing stays, the break that is begun
+-- An offer that became the break, after the last word with the end of the paragraph; or, where nothing stays, the break that is begun
 -- again with. (Where breaks stay and none offers, no break is made, and this is not read.)
 abbrev pub makerOf : Setting → Bool → ℕ → ℕ → Word → List Break → Offer → List Break → Ending
 makerOf g lastWord i s w active (offer b) stayed = cond lastWord Paragraph (chosenOf g i s w (b .demerits) active)
@@ -67,7 +67,7 @@ makersOf g (w ∷ ws) = Paragraph ∷ makersFrom g false 1 (record { breaks = fi
 abbrev pub startOf : Place → ℕ
 startOf k = cond (k .before) (k .word) (suc (k .word))
 
--- what becomes of the i-th word: it starts a line where a break of the path stands before it, or after the word before it
+-- what becomes of the i-th word: it starts a line where a break of the path is before it, or after the word before it
 unfoldable pub nextAt : List Ending → ℕ → List Place → Next
 nextAt makers i [] = goesOn
 nextAt makers i (k ∷ ks) = elim (eqb (startOf k) i) [ true ↦ ended (getD makers (k .word) Paragraph) | false ↦ nextAt makers i ks ]

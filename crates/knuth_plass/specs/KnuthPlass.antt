@@ -1,4 +1,4 @@
--- Document 01, "Knuth-Plass": one round for each word behind the first, over the active breaks in order; the least path.
+-- RULES 8: one round for each word after the first, over the active breaks in order; the least path.
 use mathlib.Core.Bool.{Bool, true, false, cond, not, _&&_, _||_}
 use mathlib.Core.List.{List, [], _∷_, _++_, map}
 use Prim.Native.Nat.{ℕ, suc, _+_, _-_}
@@ -125,7 +125,7 @@ pub record Active : Type 0 where
   pub reduction : ℕ
 
 -- What a round ends with. There are two lists of breaks: `active` are those that the round began with, less the last reduction; the
--- other are those that it leaves, the staying ones and the new one behind them. If it leaves none, it restarts from the least of
+-- other are those that it leaves, the staying ones and the new one after them. If it leaves none, it restarts from the least of
 -- `active`, and the reduction is 0. Else the reduction is the least demerits of `active`: of all that were active when it began, also
 -- of those that do not stay.
 abbrev pub settled : Setting → ℕ → ℕ → Word → List Break → List Break → Active
@@ -145,8 +145,8 @@ abbrev pub isLast : List Word → Bool
 isLast [] = true
 isLast (w ∷ ws) = false
 
--- The sentence mark of the word behind v, worked out in the round of v: its own sentence-start, or (it is new-line and v ends-punct).
--- Behind the last word there is no round, and the mark is never read: either value would do.
+-- The sentence mark of the word after v, worked out in the round of v: its own sentence-start, or (it is new-line and v ends-punct).
+-- After the last word there is no round, and the mark is never read: either value would do.
 abbrev pub sentenceBehind : Word → List Word → Bool
 sentenceBehind v [] = true
 sentenceBehind v (w ∷ ws) = w .sentenceStart || w .newLine && v .endsPunct
@@ -164,7 +164,7 @@ pathOf g (w ∷ ws) = least (roundsFrom g false 1 (record { breaks = firstBreak 
 
 -- ---- the breaks by word
 
--- a new line starts with the i-th word: a break stands before it, or after the word before it
+-- a new line starts with the i-th word: a break is before it, or after the word before it
 unfoldable pub startsLine : ℕ → List Place → Bool
 startsLine i [] = false
 startsLine i (k ∷ ks) = cond (k .before) (eqb (k .word) i) (eqb (suc (k .word)) i) || startsLine i ks
@@ -173,7 +173,7 @@ unfoldable pub marksFrom : List Place → ℕ → List Word → List Bool
 marksFrom path i [] = []
 marksFrom path i (w ∷ ws) = startsLine i path ∷ marksFrom path (suc i) ws
 
--- For each word behind the first: does a new line start with it? A break behind the last word adds nothing: no word has its number.
+-- For each word after the first: does a new line start with it? A break after the last word adds nothing: no word has its number.
 -- (A paragraph has a word: the first line is not read.)
 unfoldable pub bestBreaks : Setting → List Word → List Bool
 bestBreaks g [] = []

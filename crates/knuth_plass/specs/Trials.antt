@@ -1,2 +1,2 @@
--- Words of the papers, broken by computing.
+-- Words of RULES, broken by computing.
 pub mod Widthless

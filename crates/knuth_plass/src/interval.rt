@@ -3,6 +3,18 @@
 use super::Best;
 use super::Break;
 use super::Turn;
+use super::store::bits_of;
+use super::store::get_break;
+use super::store::lesser;
+use super::store::number;
+use super::store::store_break;
+use super::turns::NOTHING;
+use super::turns::either;
+use super::turns::extended;
+use super::turns::offered;
+use super::turns::restarted;
+use super::turns::sentence_behind;
+use super::turns::turn_of;
 use records::Before;
 use records::Word;
 use spacing::Setting;
@@ -37,7 +49,7 @@ fn has_tab(w: Word) -> bool
     }
 }
 
-// Whether no word behind the first has a tab in its gap, and the whole paragraph on one line is short enough for a record.
+// Whether no word after the first has a tab in its gap, and the whole paragraph on one line is short enough for a record.
 fn fits_one_line(work: &[u32], n: usize, first: usize) -> bool
     requires { ⌜ (first < 2 ^ 31) × (n ≤ T.mostWords) × Holds n (now work) ⌝ }
     ensures { λ r. ⌜ (r ≡ true → I.OneLine first n (now (work .entry))) ⌝ }
@@ -87,7 +99,7 @@ fn pass(breaks: &[u32], g: Setting, x: usize, head: usize, size: usize) -> usize
     let end = x + g.indent;
     let mut k = head;
     while k < size {
-        if end <= g.width + super::number(breaks, k, 6) {
+        if end <= g.width + number(breaks, k, 6) {
             return k;
         }
         k += 1;
@@ -103,13 +115,13 @@ fn first_least(breaks: &[u32], head: usize, size: usize) -> usize
     let mut found = head;
     let mut k = head + 1;
     while k < size {
-        found = super::lesser(breaks, found, k);
+        found = lesser(breaks, found, k);
         k += 1;
     }
     found
 }
 
-// The best offer of a break after the word. Bases ascend: behind a line that is too short to end here all are.
+// The best offer of a break after the word. Bases ascend: after a line that is too short to end here all are.
 fn best_offer(breaks: &[u32], g: Setting, turn: Turn, x: usize, head: usize, size: usize) -> Best
     requires { ⌜ I.Stay g turn x head size (T.tableIn (now breaks)) ⌝ }
     ensures { λ r. ⌜ I.BestOffered g turn x head size (T.tableIn (now (breaks .entry))) r ⌝ }
@@ -117,18 +129,18 @@ fn best_offer(breaks: &[u32], g: Setting, turn: Turn, x: usize, head: usize, siz
     let minimum = g.goal - (g.width - g.goal);
     let end = x + g.indent;
     let mut best = Best {
-        total: super::NOTHING,
+        total: NOTHING,
         previous: 0,
         ratio: 0.0,
     };
     let mut k = head;
     while k < size {
-        let b = super::get_break(breaks, k);
+        let b = get_break(breaks, k);
         let t = end - b.columns;
         if t < minimum {
             return best;
         }
-        best = super::offered(g, turn, k, b, t, best);
+        best = offered(g, turn, k, b, t, best);
         k += 1;
     }
     best
@@ -164,7 +176,7 @@ fn viewed(g: Setting, i: usize, p: usize, n: usize, b: Break) -> Break
     ensures { λ r. ⌜ r ≡ I.viewOf g i p n b ⌝ }
 {
     let fresh = is_fresh(i, n, b);
-    let columns = super::either(fresh, g.indent, columns_from(b.columns, p + g.indent));
+    let columns = either(fresh, g.indent, columns_from(b.columns, p + g.indent));
     Break {
         previous: b.previous,
         word: b.word,
@@ -176,7 +188,7 @@ fn viewed(g: Setting, i: usize, p: usize, n: usize, b: Break) -> Break
     }
 }
 
-// The base of a new break: where its word begins, or behind the word and the gap after it, which does not count on a fresh line.
+// The base of a new break: where its word begins, or after the word and the gap after it, which does not count on a fresh line.
 fn base_of(before: bool, x: usize, width: usize, gap: usize) -> usize
     requires { ⌜ (width ≤ x) × (x + gap < 2 ^ 32) ⌝ }
     ensures { λ r. ⌜ r ≡ cond before (x - width) (x + gap) ⌝ }
@@ -195,9 +207,9 @@ fn again(breaks: &[u32], g: Setting, turn: Turn, s: Interval, x: usize, gap: usi
 {
     let w = turn.word;
     let n = first_least(breaks, s.head, s.size);
-    let least = viewed(g, turn.number, s.line, n, super::get_break(breaks, n));
-    let b = super::restarted(g, turn, n, least);
-    super::extended(b, base_of(b.before, x, w.width, gap))
+    let least = viewed(g, turn.number, s.line, n, get_break(breaks, n));
+    let b = restarted(g, turn, n, least);
+    extended(b, base_of(b.before, x, w.width, gap))
 }
 
 // The break that the best offer is, after word i.
@@ -210,7 +222,7 @@ fn made(best: Best, i: usize, base: usize) -> Break
         word: i,
         before: false,
         demerits: best.total,
-        ratio: super::bits_of(best.ratio),
+        ratio: bits_of(best.ratio),
         columns: base,
         fresh: false,
     }
@@ -237,9 +249,9 @@ fn round(
     let line = s.line + word.after + space + word.width;
     let head = pass(breaks, g, line, s.head, size);
     if head == size {
-        let turn = super::turn_of(g, word, i, space, last);
+        let turn = turn_of(g, word, i, space, last);
         let b = again(breaks, g, turn, s, line, gap);
-        super::store_break(breaks, size, b);
+        store_break(breaks, size, b);
         return Interval {
             head: size,
             size: size + 1,
@@ -247,16 +259,16 @@ fn round(
         };
     }
     if last {
-        // The last line costs nothing: what is offered behind it changes no path.
+        // The last line costs nothing: what is offered after it changes no path.
         return Interval { head, size, line };
     }
-    if line + g.indent < g.goal - (g.width - g.goal) + super::number(breaks, head, 6) {
+    if line + g.indent < g.goal - (g.width - g.goal) + number(breaks, head, 6) {
         return Interval { head, size, line };
     }
-    let turn = super::turn_of(g, word, i, space, last);
+    let turn = turn_of(g, word, i, space, last);
     let best = best_offer(breaks, g, turn, line, head, size);
     let b = made(best, i, line + gap);
-    super::store_break(breaks, size, b);
+    store_break(breaks, size, b);
     Interval {
         head,
         size: size + 1,
@@ -266,7 +278,7 @@ fn round(
 
 // ---- a paragraph
 
-// The gap before the word behind word i, of n.
+// The gap before the word after word i, of n.
 fn gap_behind(work: &[u32], n: usize, i: usize) -> usize
     requires { ⌜ (i < n) × Holds n (now work) × (n ≤ T.mostWords) ⌝ }
     ensures { λ r. ⌜ r ≡ I.gapAfter n i (now (work .entry)) ⌝ }
@@ -279,7 +291,7 @@ fn gap_behind(work: &[u32], n: usize, i: usize) -> usize
     w.after
 }
 
-// One round for each word behind the first.
+// One round for each word after the first.
 // In the original: `find_kp_breakpoints`.
 fn rounds(g: Setting, work: &mut [u32], n: usize) -> Interval
     requires { ⌜ R.Limits g × (1 ≤ n) × R.Lent n (now work) × R.AllNarrow n (now work) × I.Regular g n (now work) ⌝ }
@@ -297,7 +309,7 @@ fn rounds(g: Setting, work: &mut [u32], n: usize) -> Interval
         columns: g.indent,
         fresh: false,
     };
-    super::store_break(&mut work[base..end], 0, first);
+    store_break(&mut work[base..end], 0, first);
     let mut s = Interval {
         head: 0,
         size: 1,
@@ -318,7 +330,7 @@ fn rounds(g: Setting, work: &mut [u32], n: usize) -> Interval
             s,
             &mut work[base..end],
         );
-        sentence = super::sentence_behind(work, n, i);
+        sentence = sentence_behind(work, n, i);
         i += 1;
     }
     s

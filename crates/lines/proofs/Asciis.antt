@@ -24,7 +24,7 @@ module _ {s : List ℕ} {from : ℕ} where
   pub run-none : from ≤ length s → AsciiBody s from from
   run-none h = record { ascii = ascii-none h; same = refl }
 
-  -- one run behind another
+  -- one run after another
   pub run-more : {i to : ℕ} → AsciiBody s from i → AsciiBody s i to → AsciiBody s from to
   run-more a b = record { ascii = ascii-more (a .ascii) (b .ascii); same = a .same ∙ b .same }
 

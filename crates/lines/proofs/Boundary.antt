@@ -1,5 +1,5 @@
 -- A text that ends in a line feed is a boundary of lines: its lines, and then the lines of what follows it. And a text may be cut where a
--- line begins: the lines before the cut are those of their own bytes, and so are the lines behind it.
+-- line begins: the lines before the cut are those of their own bytes, and so are the lines after it.
 use mathlib.Core.Path.{_≡_, refl, sym, ap}
 use mathlib.Core.Bool.{Bool, true, false, not}
 use mathlib.Core.List.{List, [], _∷_, _++_}
@@ -32,7 +32,7 @@ closed-drop (suc n) [] c = c
 closed-drop (suc n) (x ∷ []) c = closed-drop n [] tt
 closed-drop (suc n) (x ∷ y ∷ r) c = closed-drop n (y ∷ r) c
 
--- an ended first line stays what it is with more behind the text
+-- an ended first line stays what it is with more after the text
 module _ (a b : List ℕ) (h : length (body a) < length a) where
   body-append : body (a ++ b) ≡ body a
   unfolding body

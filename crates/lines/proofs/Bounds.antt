@@ -1,4 +1,4 @@
--- Columns stay small: at most 100 for each byte, whatever the tab width. And a line's glyphs in two parts: the second stands behind the
+-- Columns stay small: at most 100 for each byte, whatever the tab width. And a line's glyphs in two parts: the second is after the
 -- bytes of the first.
 use mathlib.Core.Path.{_≡_, refl, sym, ap, _∙_}
 use mathlib.Core.Bool.{Bool, true, false, cond}
@@ -72,7 +72,7 @@ module _ (tab : ℕ) (least : 1 ≤ tab) where
 
 -- ---- a line's glyphs parted
 
--- the second part of a line's characters stands behind the bytes of the first
+-- the second part of a line's characters is after the bytes of the first
 parted-none : (a b : List Glyph) → a ++ b ≡ [] → characters (drop {A = ℕ} (extent a) []) ≡ b
 unfolding extent
 parted-none [] b e = characters-past [] 0 (omega arith) ∙ sym e
@@ -90,7 +90,7 @@ parted-more ys n rest (g ∷ a) b e =
 characters-parted : (line : List ℕ) (a b : List Glyph) → a ++ b ≡ characters line → characters (drop (extent a) line) ≡ b
 characters-parted = characters-induct (λ ys gs. (a b : List Glyph) → a ++ b ≡ gs → characters (drop (extent a) ys) ≡ b) parted-none parted-more
 
--- and so does that of its glyphs, classed by whether ink stands before it
+-- and so does that of its glyphs, classed by whether ink is before it
 pub parted : (glue : Bool) (line : List ℕ) (a b : List Glyph) → a ++ b ≡ glyphs glue line → (ink : Bool) × (b ≡ settle glue ink (characters (drop (extent a) line)))
 parted glue line a b e =
     let c = settle-cut glue false (characters line) a b (e ∙ glyphs-settle glue line) in

@@ -37,7 +37,7 @@ unfolding behindAll
 from-start tab gs = ap (λ (n : ℕ). record { at = n; column = columnsOf tab 0 gs }) (omega arith)
 
 module _ (tab size : ℕ) (gs : List Glyph) (place : ℕ) (m r : Spot) where
-  -- from the spots at the prefix's end and behind the blanks there
+  -- from the spots at the prefix's end and after the blanks there
   pub shape-is : m ≡ behindAll tab lineStart (glyphsBefore (place + size) gs) → r ≡ behindAll tab m (while isBlank (glyphsFrom (place + size) gs))
       → _≡_ {A = Shape} (record { «prefix_place» = place; «indent_end» = r .at; «indent_length» = r .column; «prefix_length» = m .column }) (shapeAt tab size gs place)
   unfolding shapeAt
@@ -55,7 +55,7 @@ shape-bare tab gs r e = shape-is tab 0 gs 0 lineStart r (rw upTo-zero (behind-no
 
 -- ---- classes
 
--- a prefix that is found, and the spots at its end and behind the blanks there
+-- a prefix that is found, and the spots at its end and after the blanks there
 module _ (glue : Bool) (tab size place : ℕ) (line : List ℕ) (m r : Spot) (f : Found)
     (found : f ≡ At place) (b : BehindPlace tab line (place + size) m) (w : BehindBlanks tab line (glyphsBehind glue line (place + size) (m .at)) m r) where
   -- the line's glyphs before the prefix's end, and from it on
@@ -109,7 +109,7 @@ module _ (o : Opts) (line : List ℕ) where
         class-with : (t : Text) → o .prefix ≡ t → classAt (o .tab) (prefixSize t) (glyphs (o .glue) line) (prefixFound (o .exactPrefix) t line (glyphs (o .glue) line)) ≡ classify o line
         class-with t h = ap (λ (u : Text). classAt (o .tab) (prefixSize u) (glyphs (o .glue) line) (prefixFound (o .exactPrefix) u line (glyphs (o .glue) line))) (sym h) ∙ class-prefixed
 
-        -- without a prefix, from the spot behind the line's first blanks
+        -- without a prefix, from the spot after the line's first blanks
         pub class-bare : (r : Spot) → o .prefix ≡ absent → r ≡ behindAll (o .tab) lineStart (while isBlank (glyphs (o .glue) line))
             → Formatted (record { «prefix_place» = 0; «indent_end» = r .at; «indent_length» = r .column; «prefix_length» = 0 }) ≡ classify o line
         class-bare r h e = ap Formatted (shape-bare (o .tab) (glyphs (o .glue) line) r e) ∙ rw (from-zero (glyphs (o .glue) line), ink) at (class-with absent h)

@@ -1,5 +1,5 @@
--- Columns counted afresh from bytes: glyphs written one behind the other take the columns that they take as glyphs. So does the indent of a
--- formatted line, behind which stands a character that is no blank.
+-- Columns counted afresh from bytes: glyphs written one after the other take the columns that they take as glyphs. So does the indent of a
+-- formatted line, after which stands a character that is no blank.
 use mathlib.Core.Path.{_≡_, refl, sym, ap, _∙_}
 use mathlib.Core.Bool.{Bool, true, false, cond, not, _||_, and-eq-true-iff}
 use mathlib.Core.List.{List, [], _∷_, _++_, append-assoc}
@@ -63,7 +63,7 @@ good-spell (g ∷ gs) a e =
     let h = and-eq-true-iff (not (g .damaged)) (every isGood gs) .0 (rw every-cons at e) in
     (a .0 (not-true (g .damaged) (h .0)), good-spell gs (a .1) (h .1))
 
--- A formatted line: its indent, and behind it a character that is no blank.
+-- A formatted line: its indent, and after it a character that is no blank.
 pub record Indented (o : Opts) (line : List ℕ) (s : Shape) : Type 0 where
   pub front : List Glyph
   pub rest : List Glyph
@@ -73,7 +73,7 @@ pub record Indented (o : Opts) (line : List ℕ) (s : Shape) : Type 0 where
   pub ink : while isBlank rest ≡ []
   pub spell : All Spells (front ++ rest)
 
--- behind leading blanks no blank leads
+-- after leading blanks no blank leads
 none-leads : (gs : List Glyph) → while isBlank (behind isBlank gs) ≡ []
 none-leads gs = go (behind isBlank gs) refl
   where
@@ -137,6 +137,6 @@ module _ (o : Opts) (line : List ℕ) (s : Shape) (i : Indented o line s) where
       ap (λ (l : List ℕ). take (s .«indent_end») l) (sym (glyphs-joined (o .glue) line) ∙ ap (joined bytesIn) (i .parts) ∙ joined-append bytesIn (i .front) (i .rest))
       ∙ rw (← i .end, extent-joined (i .front)) (take-append-seam (joined bytesIn (i .front)) (joined bytesIn (i .rest)))
 
-  -- the indent's bytes take its columns, whatever stands behind them
+  -- the indent's bytes take its columns, whatever is after them
   pub indent-columns : (ys : List ℕ) → columnsOf (o .tab) 0 (characters (take (s .«indent_end») line ++ ys)) ≡ columnsOf (o .tab) (s .«indent_length») (characters ys)
   indent-columns ys = rw (indent-bytes, ← i .columns) (columns-again (o .tab) 0 (i .front) ys (all-front _ (i .front) (i .rest) (i .spell)))

@@ -1,5 +1,5 @@
--- A line's glyphs and its characters: cut at a place, both are cut alike and take the same columns, and U+00A0 behind the cut is classed
--- by what stands before it.
+-- A line's glyphs and its characters: cut at a place, both are cut alike and take the same columns, and U+00A0 after the cut is classed
+-- by what is before it.
 use mathlib.Core.Path.{_≡_, refl, sym, ap, _∙_}
 use mathlib.Core.Bool.{Bool, true, false, cond}
 use mathlib.Core.List.{List, [], _∷_, _++_}
@@ -77,7 +77,7 @@ module _ (glue : Bool) where
           let z : place ≡ 0 = omega (arith, ltb-false 0 place h) in
           rw (z, from-zero (settle glue ink (g ∷ gs)), upTo-zero (g ∷ gs), from-zero (g ∷ gs), after-none ink)
 
--- cut anywhere: the characters of the front have its extent, and those behind it are classed behind them
+-- cut anywhere: the characters of the front have its extent, and those after it are classed after them
 pub record Cut (glue ink : Bool) (gs a b : List Glyph) : Type 0 where
   pub front : List Glyph
   pub back : List Glyph

@@ -1,4 +1,4 @@
--- Where a line has ink: an empty line is blank, a damaged one plain, and a formatted one has a non-blank at or behind its indent's end.
+-- Where a line has ink: an empty line is blank, a damaged one plain, and a formatted one has a non-blank at or after its indent's end.
 use mathlib.Core.Path.{_≡_, refl, sym, ap, _∙_}
 use mathlib.Core.Bool.{Bool, true, false, cond, _||_}
 use mathlib.Core.List.{List, [], _∷_, _++_, append-assoc}
@@ -45,7 +45,7 @@ upTo-from place (g ∷ gs) = go (eqb place 0) (upTo-from (place - length (g .byt
     go true h = refl
     go false h = ap (λ (l : List Glyph). g ∷ l) h
 
--- from where some glyphs end: the glyphs behind them
+-- from where some glyphs end: the glyphs after them
 pub from-extent : (front rest : List Glyph) → All Sound front → glyphsFrom (extent front) (front ++ rest) ≡ rest
 unfolding extent glyphsFrom
 from-extent [] rest s = from-zero rest
@@ -56,7 +56,7 @@ from-extent (g ∷ front) rest s =
 
 -- ---- a formatted line
 
--- what is at or behind the indent's end: the glyphs behind the prefix without their leading blanks
+-- what is at or after the indent's end: the glyphs after the prefix without their leading blanks
 from-indent : (o : Opts) (line : List ℕ) (place : ℕ)
     → (let gs = glyphs (o .glue) line in glyphsFrom (shapeAt (o .tab) (prefixSize (o .prefix)) gs place .«indent_end») gs ≡ behind isBlank (glyphsFrom (place + prefixSize (o .prefix)) gs))
 unfolding shapeAt

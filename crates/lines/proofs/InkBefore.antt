@@ -1,4 +1,4 @@
--- What stands before a place, read from the line's start; and the margin: whether U+00A0 at its end is ordinary, and else only blanks there
+-- What is before a place, read from the line's start; and the margin: whether U+00A0 at its end is ordinary, and else only blanks there
 -- are looked for.
 use mathlib.Core.Path.{_≡_, refl, sym, ap, _∙_}
 use mathlib.Core.Bool.{Bool, true, false, not, _&&_, and-eq-true-iff}
@@ -23,7 +23,7 @@ use Rattle.lines.specs.declared.Spot.{Spot}
 use Rattle.lines.proofs.Measures.{behind-none, upTo-zero, upTo-more}
 use Rattle.lines.proofs.Glued.{after-none, after-cons}
 
--- ---- what is left to read up to the place, behind ink or not, decides what the whole does
+-- ---- what is left to read up to the place, after ink or not, decides what the whole does
 
 pub record InkLeft (line : List ℕ) (place i : ℕ) (ink : Bool) : Type 0 where
   pub within : i ≤ length line

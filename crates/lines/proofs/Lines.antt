@@ -185,7 +185,7 @@ rest-lines : (xs : List ℕ) → 0 < length xs → linesOf xs ≡ firstLine xs �
 unfolding linesOf firstLine
 rest-lines xs h = rw (← drop-counted (suc (length (body xs))) xs) (each-step _ firstLine xs h)
 
--- a line at a place, and the next behind it
+-- a line at a place, and the next after it
 pub record LineHere (notes : List ℕ) (at : ℕ) (e : Extent) : Type 0 where
   pub first : linesOf (drop at notes) ≡ firstLine (drop at notes) ∷ linesOf (drop (at + e .whole) notes)
   pub text : firstLine (drop at notes) .text ≡ slice at (at + e .text) notes

@@ -1,4 +1,4 @@
--- Measuring: the column behind a character, the spot behind glyphs, and the glyphs before and from a place, one glyph at a time.
+-- Measuring: the column after a character, the spot after glyphs, and the glyphs before and from a place, one glyph at a time.
 use mathlib.Core.Path.{_≡_, refl, sym, ap, _∙_}
 use mathlib.Core.Bool.{Bool, true, cond}
 use mathlib.Core.List.{List, [], _∷_, _++_}
@@ -39,7 +39,7 @@ width-is column tab code w h e = rw (ne-eqb code 9 h, e)
 pub narrow : (code w : ℕ) → w ≡ widthOf code → w ≤ 2
 narrow code w e = rw e (at-most-two code)
 
--- ---- behind glyphs
+-- ---- after glyphs
 
 pub behind-none : (tab : ℕ) (m : Spot) → m ≡ behindAll tab m []
 unfolding behindAll extent columnsOf
@@ -76,7 +76,7 @@ module _ (place : ℕ) (g : Glyph) (gs : List Glyph) (some : 0 < place) where
   unfolding glyphsFrom
   from-more = rw (ne-eqb place 0 (omega arith), glyphsFrom)
 
--- ---- one glyph on: r is the spot behind the glyph at m
+-- ---- one glyph on: r is the spot after the glyph at m
 
 module _ (tab : ℕ) (line : List ℕ) (m r : Spot) (ins : Inside line m) where
   -- from the answer of char_at or glyph_at and of column_behind

@@ -11,7 +11,7 @@ use Rattle.lists.specs.Runs.{begins}
 use Rattle.lists.proofs.Runs.{begins-front}
 use Rattle.lists.proofs.RunsAt.{begins-within, begins-done, begins-more}
 
--- the byte at a place and the n behind it are the same in both
+-- the byte at a place and the n after it are the same in both
 unfoldable pub sameAt : List ℕ → List ℕ → ℕ → ℕ → Bool
 sameAt p s i zero = eqb (getD s i 0) (getD p i 0)
 sameAt p s i (suc n) = sameAt p s i n && eqb (getD s (i + suc n) 0) (getD p (i + suc n) 0)

@@ -47,7 +47,7 @@ module _ {tab : ℕ} {line : List ℕ} {place : ℕ} where
 
 -- ---- where the blanks end
 
--- no blank stands at a place of a line
+-- no blank is at a place of a line
 pub record NoBlank (glue : Bool) (line : List ℕ) (at : ℕ) : Type 0 where
   pub none : while isBlank (glyphs glue (drop at line)) ≡ []
   pub ends : every isBlank (glyphs glue (drop at line)) ≡ eqb at (length line)
@@ -138,7 +138,7 @@ module _ {glue : Bool} {tab : ℕ} {line : List ℕ} {m₀ : Spot} where
   pub blanks-then : {m r : Spot} {code : ℕ} → Behind tab line m r → Here true line (m .at) code (r .at) → LeftBlanks glue tab line m₀ m → LeftBlanks glue tab line m₀ r
   blanks-then st h l = record { spot = sym (blanks-on _ _ _ _ st glue h) ∙ l .spot; blank = sym (every-on _ _ _ _ st glue h) ∙ l .blank }
 
-  -- tabs behind a tab stop, each a stop further
+  -- tabs after a tab stop, each a stop further
   pub tabs-then : (m : Spot) (k n : ℕ) → 1 ≤ tab → tab ≤ 100 → m .column ≡ k * tab → m .at + n ≤ length line → ((i : ℕ) → m .at ≤ i → i < m .at + n → getD line i 0 ≡ 9) → Inside line m → LeftBlanks glue tab line m₀ m
       → Reached glue tab line m₀ (m .at + n) (m .column + n * tab)
   tabs-then m k zero some few e h all ins l =
@@ -154,7 +154,7 @@ module _ {glue : Bool} {tab : ℕ} {line : List ℕ} {m₀ : Spot} where
       behind-char tab line (record { at = m .at + n; column = m .column + n * tab }) (record { at = m .at + n + 1; column = m .column + n * tab + tab }) (t .0) here (ap (λ (x : ℕ). x + n * tab + tab) e ∙ stop-on tab k n some ∙ ap (λ (x : ℕ). nextStop tab (x + n * tab)) (sym e)) (omega arith) in
       rw (z, y) (b .inside, blanks-then b here (t .1))
 
-  -- a blank, and behind a tab the tabs that follow it
+  -- a blank, and after a tab the tabs that follow it
   pub blanks-tabs : {m r : Spot} {code : ℕ} (end : ℕ) → 1 ≤ tab → tab ≤ 100 → Behind tab line m r → Here true line (m .at) code (r .at) → r .column ≡ cond (eqb code 9) (nextStop tab (m .column)) (m .column + widthOf code)
       → BehindTabs line code (r .at) end → LeftBlanks glue tab line m₀ m
       → Reached glue tab line m₀ end (r .column + (end - r .at) * tab)

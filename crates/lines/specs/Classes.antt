@@ -1,4 +1,4 @@
--- Document 01, "Characters and lines": the classes of lines, prefixes and indents.
+-- RULES 4.6 to 4.8: the classes of lines, prefixes and indents.
 use mathlib.Core.Bool.{Bool, true, false, cond, not, _&&_, _||_}
 use mathlib.Core.List.{List, [], _∷_, _++_}
 use Prim.Native.Nat.{ℕ, _+_, _-_, _*_, _/_}
@@ -14,7 +14,7 @@ use Rattle.lines.specs.declared.Class.{Class}
 use Rattle.lines.specs.declared.Class.the-variants.{Blank, Plain, Formatted}
 
 -- Places are counted in bytes, and a line is a list of glyphs, each of one byte or more: a place cuts the list where so many bytes
--- have gone by. Every place that is asked for below is where a glyph begins. (Inside a glyph it would count as behind it.)
+-- have gone by. Every place that is asked for below is where a glyph begins. (Inside a glyph it would count as after it.)
 -- The glyphs before a place, and those from it on:
 unfoldable pub glyphsBefore : ℕ → List Glyph → List Glyph
 glyphsBefore place [] = []
@@ -24,11 +24,11 @@ unfoldable pub glyphsFrom : ℕ → List Glyph → List Glyph
 glyphsFrom place [] = []
 glyphsFrom place (g ∷ gs) = elim (eqb place 0) [ true ↦ g ∷ gs | false ↦ glyphsFrom (place - length (g .bytes)) gs ]
 
--- the next tab stop behind a column: always at least one column on
+-- the next tab stop after a column: always at least one column on
 unfoldable pub nextStop : ℕ → ℕ → ℕ
 nextStop tab column = (column / tab + 1) * tab
 
--- the column behind a glyph, a tab going to the next stop; and behind glyphs
+-- the column after a glyph, a tab going to the next stop; and after glyphs
 unfoldable pub columnBehind : ℕ → ℕ → Glyph → ℕ
 columnBehind tab column g = cond (isTab g) (nextStop tab column) (column + g .width)
 
@@ -67,7 +67,7 @@ abbrev pub somewhere : Found → Bool
 somewhere (At place) = true
 somewhere Nowhere = false
 
--- A formatted line with a prefix of so many bytes at a place: the indent ends at the first non-blank at or behind the prefix's end.
+-- A formatted line with a prefix of so many bytes at a place: the indent ends at the first non-blank at or after the prefix's end.
 -- Prefix place and indent end are places, in bytes; indent length and prefix length are columns.
 unfoldable pub shapeAt : ℕ → ℕ → List Glyph → ℕ → Shape
 shapeAt tab size gs place =
@@ -81,7 +81,7 @@ shapeAt tab size gs place =
       «prefix_length» = columnsOf tab 0 toPrefixEnd;
     }
 
--- prefix not found, only blanks behind the prefix, or skip prefix found: plain; else formatted
+-- prefix not found, only blanks after the prefix, or skip prefix found: plain; else formatted
 abbrev pub classBehind : Opts → List ℕ → List Glyph → Found → Class
 classBehind o line gs Nowhere = Plain
 classBehind o line gs (At place) =

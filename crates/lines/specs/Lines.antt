@@ -1,4 +1,4 @@
--- Document 01, "Characters and lines": lines end at a line feed; a carriage return just before it goes too. A last line without a
+-- RULES 4.5: lines end at a line feed; a carriage return just before it goes too. A last line without a
 -- line feed counts and keeps its carriage return.
 use mathlib.Core.Bool.{Bool, cond, not}
 use mathlib.Core.List.{List, [], _∷_}
@@ -25,7 +25,7 @@ withoutReturn [] = []
 withoutReturn (x ∷ []) = cond (eqb x 13) [] (x ∷ [])
 withoutReturn (x ∷ y ∷ xs) = x ∷ withoutReturn (y ∷ xs)
 
--- the first line: a line feed stands behind its body, or the text ends there
+-- the first line: a line feed is after its body, or the text ends there
 unfoldable pub firstLine : List ℕ → Line
 firstLine xs =
     let b = body xs in

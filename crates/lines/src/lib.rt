@@ -45,7 +45,7 @@ pub struct ClassedExtent {
     pub class: Class,
 }
 
-// A place of a line, and the column that it stands at.
+// A place of a line, and the column that it is at.
 struct Spot {
     at: usize,
     column: usize,
@@ -99,7 +99,7 @@ fn body_end(s: &[u8], from: usize) -> usize
     requires { ⌜ from ≤ length (now s) ⌝ }
     ensures { λ r. ⌜ (r ≡ bodyEnd (now (s .entry)) from) × (r ≤ length (now (s .entry))) ⌝ }
 {
-    // Behind a line's ASCII it is most often here.
+    // After a line's ASCII it is most often here.
     if ends_body(s, from) {
         return from;
     }
@@ -174,7 +174,7 @@ fn ascii_body(s: &[u8]) -> usize
     i
 }
 
-// On over such bytes, as long as the next eight are.
+// Passes such bytes, eight at a time.
 fn ascii_eights(s: &[u8]) -> usize
     ensures { λ r. ⌜ AsciiBody (now (s .entry)) 0 r ⌝ }
 {
@@ -223,7 +223,7 @@ fn without_return(body: &[u8]) -> usize
     if body[last] == 13 { last } else { body.len() }
 }
 
-// Whether p stands at the front of s. Its last byte is tried first: among blanks that alone tells most places.
+// Whether p is at the front of s. Its last byte is tried first: among blanks that alone tells most places.
 // In the original: `FileLines::match_prefix_generic`.
 pub fn begins(p: &[u8], s: &[u8]) -> bool
     ensures { λ r. ⌜ r ≡ begins (now (p .entry)) (now (s .entry)) ⌝ }
@@ -287,7 +287,7 @@ fn are_same(p: &[u8], s: &[u8], i: usize) -> bool
 }
 
 // The class of a line's text, which may be known to be ASCII. Plain are a damaged line, a skipped one, and one without its prefix or
-// with only blanks behind it.
+// with only blanks after it.
 // In the original: `FileLines::next`.
 fn classify(line: &[u8], ascii: bool, o: Options, block: &[u8]) -> Class
     requires { ⌜ Usable (now block) o × (length (now line) ≤ mostLarge) × (ascii ≡ true → Ascii (now line) 0 (length (now line))) ⌝ }
@@ -320,7 +320,7 @@ fn classify(line: &[u8], ascii: bool, o: Options, block: &[u8]) -> Class
     behind_prefix(line, &block[start..end], o.exact, tab, glue)
 }
 
-// Whether nothing but blanks stands in a line. A byte below 0x80, as most are, is a character by itself.
+// Whether nothing but blanks is in a line. A byte below 0x80, as most are, is a character by itself.
 fn is_all_blank(line: &[u8]) -> bool
     ensures { λ r. ⌜ ((glue : Bool) → r ≡ every isBlank (glyphs glue (now (line .entry)))) ⌝ }
 {
@@ -402,7 +402,7 @@ fn wide(b: u8) -> u32
     b as u32
 }
 
-// The class of a line by its prefix, which must be there with more than blanks behind it.
+// The class of a line by its prefix, which must be there with more than blanks after it.
 // In the original: `FileLines::match_prefix`.
 fn behind_prefix(line: &[u8], p: &[u8], exact: bool, tab: usize, glue: bool) -> Class
     requires { ⌜ (length (now line) ≤ mostLarge) × (1 ≤ tab) × (tab ≤ 100) ⌝ }
@@ -472,7 +472,7 @@ fn behind_margin(line: &[u8], end: usize, margin: Spot, tab: usize, glue: bool) 
     over_blanks(line, margin, tab)
 }
 
-// Whether an ordinary U+00A0 stands where the prefix ends, at a place: glue is on, and ink is behind the run of them and before the end.
+// Whether an ordinary U+00A0 is where the prefix ends, at a place: glue is on, and ink is after the run of them and before the end.
 fn is_glued(line: &[u8], end: usize, at: usize, glue: bool) -> bool
     requires { ⌜ (end ≤ length (now line)) × (at ≤ length (now line)) ⌝ }
     ensures { λ r. ⌜ r ≡ gluedAt glue (now (line .entry)) end at ⌝ }
@@ -519,7 +519,7 @@ fn has_ink_before(line: &[u8], place: usize) -> bool
     ink
 }
 
-// On from a spot over the blanks that stand there; before ink U+00A0 is one whatever glue says. None stands at the line's end.
+// On from a spot over the blanks that stand there; before ink U+00A0 is one whatever glue says. None is at the line's end.
 // In the original: `FileLines::compute_indent`.
 fn over_blanks(line: &[u8], from: Spot, tab: usize) -> Spot
     requires { ⌜ Inside (now line) from × (length (now line) ≤ mostLarge) × (1 ≤ tab) × (tab ≤ 100) ⌝ }
@@ -531,7 +531,7 @@ fn over_blanks(line: &[u8], from: Spot, tab: usize) -> Spot
         let Glyph::Blank { code, next } = text::glyph_at(line, at) else {
             return spot;
         };
-        // Behind a tab each further one goes on by a whole stop.
+        // After a tab each further one goes on by a whole stop.
         let end = behind_tabs(line, code, next);
         spot = Spot {
             at: end,
@@ -540,7 +540,7 @@ fn over_blanks(line: &[u8], from: Spot, tab: usize) -> Spot
     }
 }
 
-// The place behind a blank, and if it is a tab behind those that follow it.
+// The place after a blank, and if it is a tab after those that follow it.
 fn behind_tabs(line: &[u8], code: u32, next: usize) -> usize
     requires { ⌜ next ≤ length (now line) ⌝ }
     ensures { λ r. ⌜ BehindTabs (now (line .entry)) code next r ⌝ }
@@ -566,7 +566,7 @@ fn tabs_end(line: &[u8], from: usize) -> usize
     i
 }
 
-// The spot behind the characters that begin before a place.
+// The spot after the characters that begin before a place.
 // In the original: `FileLines::compute_indent`.
 fn measure_to(line: &[u8], place: usize, tab: usize) -> Spot
     requires { ⌜ (place ≤ length (now line)) × (length (now line) ≤ mostLarge) × (1 ≤ tab) × (tab ≤ 100) ⌝ }
@@ -579,7 +579,7 @@ fn measure_to(line: &[u8], place: usize, tab: usize) -> Spot
     spot
 }
 
-// The spot behind the character at a spot. A damaged byte is one by itself.
+// The spot after the character at a spot. A damaged byte is one by itself.
 // In the original: `FileLines::compute_indent`.
 fn behind(line: &[u8], spot: Spot, tab: usize) -> Spot
     requires { ⌜ Inside (now line) spot × (spot .at < length (now line)) × (length (now line) ≤ mostLarge) × (1 ≤ tab) × (tab ≤ 100) ⌝ }
@@ -606,7 +606,7 @@ fn behind(line: &[u8], spot: Spot, tab: usize) -> Spot
     }
 }
 
-// The column behind a character: a tab goes to the next stop.
+// The column after a character: a tab goes to the next stop.
 // In the original: `FileLines::compute_indent`.
 fn column_behind(column: usize, code: u32, tab: usize) -> usize
     requires { ⌜ (column ≤ mostColumns) × (1 ≤ tab) × (tab ≤ 100) ⌝ }

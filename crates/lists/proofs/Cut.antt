@@ -14,11 +14,11 @@ use Rattle.lists.proofs.Walk.{last, walk-nil, last-nil, walk-step, last
 use Rattle.lists.proofs.Extents.{walk-joined}
 use Rattle.lists.proofs.Parts.{joined-nil, joined-cons, joined-append}
 
--- Items hold what their strides take, and a stride is the same without the elements behind those that it takes.
+-- Items hold what their strides take, and a stride is the same without the elements after those that it takes.
 module _ {A B S : Type 0} (stride : S → List A → Stride B S) (held : B → List A)
     (holds : (s : S) (xs : List A) → 0 < length xs → held (stride s xs .item) ≡ take (suc (stride s xs .more)) xs)
     (keeps : (s : S) (a b : List A) → stride s (a ++ b) .more < length a → stride s a ≡ stride s (a ++ b)) where
-  -- the first stride, where the elements behind those that it takes are j and b: without b it is the same, and it leaves j
+  -- the first stride, where the elements after those that it takes are j and b: without b it is the same, and it leaves j
   module _ (s : S) (x : A) (r j b : List A) (left : drop (stride s (x ∷ r) .more) r ≡ j ++ b) where
     abbrev more : ℕ
     more = stride s (x ∷ r) .more

@@ -30,7 +30,7 @@ module _ {A B S : Type 0} (stride : S → List A → Stride B S) where
     pub walk-joined : (s : S) (xs : List A) → joined held (walk stride s xs) ≡ xs
     walk-joined s xs = joined-upto (length xs) s xs (omega arith)
 
-  -- P is what each stride gives of a list that is Fit; and behind a stride a list is Fit
+  -- P is what each stride gives of a list that is Fit; and after a stride a list is Fit
   module _ (P : B → Type 0) (Fit : List A → Type 0) (fit-drop : (n : ℕ) (xs : List A) → Fit xs → Fit (drop n xs))
       (gives : (s : S) (xs : List A) → 0 < length xs → Fit xs → P (stride s xs .item)) where
     all-upto : (k : ℕ) (s : S) (xs : List A) → length xs ≤ k → Fit xs → All P (walk stride s xs)

@@ -1,4 +1,4 @@
--- The front of a list, and what is behind it, by the count of elements that the front really has.
+-- The front of a list, and what is after it, by the count of elements that the front really has.
 use mathlib.Core.Path.{_≡_, refl, sym, ap, _∙_}
 use mathlib.Core.List.{List, [], _∷_}
 use Prim.Native.Nat.{ℕ, zero, suc, _+_, _-_, _≤_}

@@ -1,4 +1,4 @@
--- Lists one behind the other: two parts that lie side by side, and another order of joining.
+-- Lists one after the other: two parts that lie side by side, and another order of joining.
 use mathlib.Core.Path.{_≡_, sym, ap, _∙_}
 use mathlib.Core.List.{List, _++_, append-assoc}
 use Prim.Native.Nat.{ℕ, _≤_}

@@ -1,4 +1,4 @@
--- Lists end to end: a leading run and what is behind it are the list; runs, `every` and `joined` of two lists, and of lists of lists.
+-- Lists end to end: a leading run and what is after it are the list; runs, `every` and `joined` of two lists, and of lists of lists.
 use mathlib.Core.Path.{_≡_, refl, sym, ap}
 use mathlib.Core.Bool.{Bool, true, false, _&&_}
 use mathlib.Core.List.{List, [], _∷_, _++_, append-assoc}
@@ -28,7 +28,7 @@ module _ {A : Type 0} (test : A → Bool) where
       go true e = every-more test x xs e
       go false e = every-end test x xs e
 
-  -- a leading run and what is behind it are the list
+  -- a leading run and what is after it are the list
   pub while-behind : (xs : List A) → while test xs ++ behind test xs ≡ xs
   while-behind [] = rw (while-nil, behind-nil)
   while-behind (x ∷ xs) = go (test x) refl (while-behind xs)
@@ -37,7 +37,7 @@ module _ {A : Type 0} (test : A → Bool) where
       go true e h = rw (while-more test x xs e, behind-more test x xs e, h)
       go false e h = rw (while-end test x xs e, behind-end test x xs e)
 
-  -- a run that ends inside a list is the same with more behind the list
+  -- a run that ends inside a list is the same with more after the list
   pub while-append : (xs ys : List A) → length (while test xs) < length xs → while test (xs ++ ys) ≡ while test xs
   while-append [] ys h = absurd (omega (arith, ap length while-nil))
   while-append (x ∷ xs) ys h = go (test x) refl (while-append xs ys)

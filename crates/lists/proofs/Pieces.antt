@@ -7,7 +7,7 @@ use Rattle.lists.specs.Walk.{each}
 use Rattle.lists.proofs.Walk.{each-nil, each-step}
 
 module _ {A B : Type 0} (cut : List A → ℕ) (f : List A → B) where
-  -- what holds of nothing, and of a list if it holds of what is behind its first piece, holds of every list
+  -- what holds of nothing, and of a list if it holds of what is after its first piece, holds of every list
   module _ (P : List A → List B → Type 0) (none : P [] [])
       (more : (xs : List A) → 0 < length xs → P (drop (suc (cut xs)) xs) (each cut f (drop (suc (cut xs)) xs)) → P xs (f xs ∷ each cut f (drop (suc (cut xs)) xs))) where
     upto : (k : ℕ) (xs : List A) → length xs ≤ k → P xs (each cut f xs)

@@ -1,4 +1,4 @@
--- What is behind a leading run, by the run's length and by its first element.
+-- What is after a leading run, by the run's length and by its first element.
 use mathlib.Core.Path.{_≡_, refl, sym, ap, _∙_}
 use mathlib.Core.Bool.{Bool, true, false}
 use mathlib.Core.List.{List, [], _∷_}

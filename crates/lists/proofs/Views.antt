@@ -1,4 +1,4 @@
--- A list from a place on, as the code's indices see it: nothing, or the element at the place and the list behind it.
+-- A list from a place on, as the code's indices see it: nothing, or the element at the place and the list after it.
 use mathlib.Core.Path.{_≡_, refl, ap}
 use mathlib.Core.List.{List, [], _∷_}
 use Prim.Native.Nat.{ℕ, zero, suc, _+_, _-_, _≤_, _<_}

@@ -62,7 +62,7 @@ module _ {A B S : Type 0} (stride : S → List A → Stride B S) where
       walk-step s (drop i x) (simp length-drop (omega arith))
       ∙ ap (λ (l : List A). stride s (drop i x) .item ∷ walk stride (stride s (drop i x) .state) l) (drop-drop (suc (stride s (drop i x) .more)) i x ∙ ap (λ (n : ℕ). drop n x) (sym e))
 
-  -- a list that its strides do not look past: what stands behind it is a walk of its own, from the state that it ends in
+  -- a list that its strides do not look past: what is after it is a walk of its own, from the state that it ends in
   module _ (Whole : List A → Type 0) (b : List A)
       (stays : (s : S) (a : List A) → Whole a → 0 < length a → (stride s (a ++ b) ≡ stride s a) × (stride s a .more < length a) × Whole (drop (suc (stride s a .more)) a)) where
     append-upto : (k : ℕ) (s : S) (a : List A) → length a ≤ k → Whole a → walk stride s (a ++ b) ≡ walk stride s a ++ walk stride (last s a) b

@@ -1,4 +1,4 @@
--- Leading runs: the elements at the front that satisfy a test, and what is behind them. And: all of a list satisfies a test, a list begins another.
+-- Leading runs: the elements at the front that satisfy a test, and what is after them. And: all of a list satisfies a test, a list begins another.
 use mathlib.Core.Bool.{Bool, true, false}
 use mathlib.Core.List.{List, [], _∷_, _++_}
 use Prim.Native.Nat.{ℕ}
@@ -17,7 +17,7 @@ module _ {A : Type 0} (test : A → Bool) where
   every [] = true
   every (x ∷ xs) = elim (test x) [ true ↦ every xs | false ↦ false ]
 
--- p stands at the front of xs
+-- p is at the front of xs
 unfoldable pub begins : List ℕ → List ℕ → Bool
 begins [] xs = true
 begins (a ∷ p) [] = false

@@ -24,7 +24,7 @@ module _ {A B S : Type 0} (stride : S → List A → Stride B S) where
   walk s xs = walkUpTo (length xs) s xs
 
 -- A walk without a state, by two functions of what is left: `f` gives the item, and `cut` counts the elements that are taken besides
--- the first. So it is f of the list, then f of what is behind the first suc (cut xs) elements, and so on: proofs/Walk, `each-step`.
+-- the first. So it is f of the list, then f of what is after the first suc (cut xs) elements, and so on: proofs/Walk, `each-step`.
 module _ {A B : Type 0} (cut : List A → ℕ) (f : List A → B) where
   unfoldable pub piece : Unit {0} → List A → Stride B (Unit {0})
   piece u xs = record { item = f xs; more = cut xs; state = u }

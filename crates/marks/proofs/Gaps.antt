@@ -1,4 +1,4 @@
--- How far the next mark is: the marks of a word, then of the words behind it.
+-- How far the next mark is: the marks of a word, then of the words after it.
 use mathlib.Core.Path.{_≡_, refl, sym, ap, ap₂, _∙_, subst}
 use mathlib.Core.Bool.{Bool, false}
 use mathlib.Core.List.{List, [], _∷_, _++_}
@@ -25,7 +25,7 @@ bits-from (suc n) (suc j) v =
     let e : 1 + j ≡ suc j = omega arith in
     bits-from n j (v / 2) ∙ ap₂ bitsOf (sym (suc-sub-suc n j)) (shr-shr v 1 j ∙ ap (λ (k : ℕ). v / 2 ^ k) e)
 
--- how far a mark is that is m behind n places without one
+-- how far a mark is that is m after n places without one
 abbrev pub further : ℕ → ℕ → ℕ
 further n zero = 0
 further n (suc m) = suc (n + m)

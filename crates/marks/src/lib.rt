@@ -1,4 +1,4 @@
-// Marks on places, kept as the bits of 32-bit words: 131,072 places take 16 KiB. Numbers that are noted one behind another are the gaps
+// Marks on places, kept as the bits of 32-bit words: 131,072 places take 16 KiB. Numbers that are noted one after another are the gaps
 // between marks.
 ghost use mathlib.Core.Path.{_≡_};
 ghost use mathlib.Core.Bool.{true, false};

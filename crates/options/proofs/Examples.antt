@@ -1,4 +1,4 @@
--- The worked examples of document 01, "Option block", by computation.
+-- The worked examples of RULES 3, by computation.
 use mathlib.Core.Path.{_≡_, refl}
 use mathlib.Core.Bool.{Bool, true, false}
 use mathlib.Core.List.{List, [], _∷_}

@@ -33,7 +33,7 @@ module _ (f : Field) (fs : List Field) where
   unfolding partOf
   part-others t e = rw (ne-eqb (tagOf f) t e, partOf)
 
--- the fields from a place on, behind one with the tag `previous`
+-- the fields from a place on, after one with the tag `previous`
 unfoldable pub rest : List ℕ → ℕ → ℕ → List Field
 rest block at previous = walk nextField (record { place = at; previous = previous }) (drop at block)
 

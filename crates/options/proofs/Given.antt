@@ -46,7 +46,7 @@ module _ (block : List ℕ) (at previous : ℕ) (more : at < length block) (tag 
       let w = well-value block at previous more tag end tags ends ascends whole in
       record { ordered = h; inside = whole; isAllowed = rw (s, well) at (sym w) }
 
--- the fields from a place on, one after the other: none left, a faulty one, or a well-formed one and those behind it
+-- the fields from a place on, one after the other: none left, a faulty one, or a well-formed one and those after it
 data From (block : List ℕ) : ℕ → ℕ → Type 0 where
   none : {at previous : ℕ} → length block ≤ at → From block at previous
   faulty : {at previous : ℕ} → at < length block → wellFormed (fieldAt block at previous) ≡ false → From block at previous

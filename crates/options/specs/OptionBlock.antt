@@ -1,4 +1,4 @@
--- Document 01, "Option block": tagged fields, each a one-byte tag, a two-byte length and a value; the faults; width and goal.
+-- RULES 3: tagged fields, each a one-byte tag, a two-byte length and a value; the faults; width and goal.
 -- A value that is given is kept as the places in the block between which it stands, `Given start end`: so the code hands it on. A number
 -- is read there by `number (drop start block)`, and a prefix's bytes by `meant` in Opts, whose options all later sections read.
 use mathlib.Core.Bool.{Bool, true, false, cond, not, _&&_, _||_}
@@ -36,8 +36,8 @@ sizeOf f = number (drop 1 (f .bytes))
 unfoldable pub valueOf : Field → List ℕ
 valueOf f = take (sizeOf f) (drop 3 (f .bytes))
 
--- The fields in order: each begins behind the one before it, and takes its tag and, besides, two bytes of length and its value. (The walk
--- goes on behind a faulty field too, but only the first fault counts.)
+-- The fields in order: each begins after the one before it, and takes its tag and, besides, two bytes of length and its value. (The walk
+-- goes on after a faulty field too, but only the first fault counts.)
 pub record Start : Type 0 where
   pub place : ℕ
   pub previous : ℕ
@@ -50,7 +50,7 @@ nextField s xs =
 unfoldable pub fields : List ℕ → List Field
 fields block = walk nextField (record { place = 0; previous = 0 }) block
 
--- the flags: bit 0, the lowest, to bit 10 (document 02, P13); others zero
+-- the flags: bit 0, the lowest, to bit 10 (RULES 3.2); others zero
 abbrev pub flagBits : ℕ
 flagBits = 11
 

@@ -23,7 +23,7 @@ pub record Opts : Type 0 where
   pub exactSkip : Bool
   pub keep : Bool
   pub glue : Bool
-  -- sentence-start counts blanks by characters, not by bytes (document 02, P13)
+  -- sentence-start counts blanks by characters, not by bytes (RULES 3.2)
   pub characters : Bool
   pub width : ℕ
   pub goal : ℕ

@@ -46,7 +46,7 @@ module _ (uniform : Bool) (indent : List ℕ) where
 pub emitted-most : (notes table : List ℕ) (n : ℕ) (l : Layout) → length (emitted notes table n l) ≤ mostEmitted notes table n l
 emitted-most notes table n l = emit-most (l .uniform) (marginOf notes (l .indent)) (marginOf notes (l .first)) (breaksOf n table) (wordsIn notes n table)
 
--- so is the place behind it
+-- so is the place after it
 pub with-most : (notes table : List ℕ) (n : ℕ) (l : Layout) {o o′ : List ℕ} {at r : ℕ} → Wrote o at (emitted notes table n l) o′ r
     → Wrote o at (emitted notes table n l) o′ r × (r ≤ at + mostEmitted notes table n l)
 with-most notes table n l w = (w, omega (arith, w .count, emitted-most notes table n l))

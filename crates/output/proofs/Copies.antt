@@ -56,7 +56,7 @@ four-here text at h =
 pub byte-to : (o : List ℕ) (n n′ x : ℕ) → n < length o → n′ ≡ n + 1 → Wrote o n (x ∷ []) (set o n x) n′
 byte-to o n n′ x h e = rw e (wrote-byte o n x h)
 
--- a block, and one behind it
+-- a block, and one after it
 pub block-behind : {o o′ o″ : List ℕ} (text : List ℕ) (at k m : ℕ) → at + (k + m) ≤ length text → Wrote o at (slice at (at + k) text) o′ (at + k)
     → Wrote o′ (at + k) (slice (at + k) (at + k + m) text) o″ (at + k + m) → Wrote o at (slice at (at + (k + m)) text) o″ (at + (k + m))
 block-behind text at k m h p q =

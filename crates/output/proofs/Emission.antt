@@ -21,7 +21,7 @@ use Rattle.output.specs.Contracts.Writers.{marginOf, placed, Laid, emitt
 use Rattle.output.proofs.Sink.{wrote-then}
 use Rattle.output.proofs.Writers.{margin-most}
 
--- ---- one word, and the notes behind it
+-- ---- one word, and the notes after it
 
 module _ (notes : List ℕ) (w : Record) (added : ℕ) (indent : List ℕ) (within : Within (length notes) w) where
   pub joined : placed false added indent (meaning notes w) ≡ replicate added 32 ++ slice (w .from) (w .end) notes

@@ -12,7 +12,7 @@ use Rattle.spacing.proofs.Added.{added-some}
 use Rattle.output.specs.Emission.{lineFeed, spaceBefore, emitRest, emit}
 use Rattle.output.specs.Theorems.Order.{laidOut, InOrder}
 
--- what stands before a word on its line is at least one byte, if blanks stand before it where no space is added
+-- what is before a word on its line is at least one byte, if blanks stand before it where no space is added
 pub space-some : (uniform previousPunct : Bool) (w : Word) → (uniform ≡ false → w .newLine ≡ false → 0 < length (w .blanks)) → 0 < length (spaceBefore uniform previousPunct w)
 unfolding spaceBefore
 space-some uniform previousPunct w gap = rw (length-append, length-replicate) (go uniform (w .newLine) refl refl)
@@ -26,11 +26,11 @@ space-some uniform previousPunct w gap = rw (length-append, length-replicate) (g
     go false false e f = let h = gap e f in omega arith
 
 module _ (Separates : List ℕ → Type 0) (uniform : Bool) (indent : List ℕ) (fresh : Separates (lineFeed ++ indent)) where
-  -- what stands before a word on its line separates
+  -- what is before a word on its line separates
   abbrev Spaced : Word → Type 0
   Spaced w = (previousPunct : Bool) → Separates (spaceBefore uniform previousPunct w)
 
-  -- the words behind the first, a separator before each
+  -- the words after the first, a separator before each
   record Behind (ws : List Word) (bytes : List ℕ) : Type 0 where
     separators : List (List ℕ)
     as-many : length ws ≡ length separators

@@ -1,4 +1,4 @@
--- The laws of `paint`, `written`, `Wrote` and `Left`: pieces behind one another, a byte, a lent part that comes home, what does not fit.
+-- The laws of `paint`, `written`, `Wrote` and `Left`: pieces after one another, a byte, a lent part that comes home, what does not fit.
 use mathlib.Core.Path.{_≡_, refl, sym, ap, _∙_}
 use mathlib.Core.List.{List, [], _∷_, _++_, append-nil}
 use Prim.Native.Nat.{ℕ, zero, suc, min, _+_, _-_, _≤_, _<_}
@@ -33,7 +33,7 @@ pub written-past : (n : ℕ) (o d : List ℕ) → length o ≤ n → written n o
 unfolding paint written
 written-past n o d h = rw (drop-of-length-le o {i = n} h, take-all n o h) (append-nil o)
 
--- a piece, and one behind it
+-- a piece, and one after it
 paint-append : (d e o : List ℕ) → written (length d) (paint d o) e ≡ paint (d ++ e) o
 unfolding paint written
 paint-append [] e o = rw paint-nil
@@ -66,7 +66,7 @@ pub written-fits : (n : ℕ) (o d : List ℕ) → n + length d ≤ length o → 
 unfolding written
 written-fits n o d h = rw (paint-fits d (drop n o) (simp length-drop (omega arith)))
 
--- ---- Wrote: a byte, a piece behind another, nothing
+-- ---- Wrote: a byte, a piece after another, nothing
 
 pub wrote-nil : (o : List ℕ) (n : ℕ) → Wrote o n [] o n
 wrote-nil o n = record { count = omega arith; bytes = sym (written-nil n o) }

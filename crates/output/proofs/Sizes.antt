@@ -1,4 +1,4 @@
--- How many bytes emission has: an indent, a word with what stands before it, and the words of a table one by one.
+-- How many bytes emission has: an indent, a word with what is before it, and the words of a table one by one.
 use mathlib.Core.Path.{_≡_, sym, ap, _∙_}
 use mathlib.Core.Bool.{Bool, true, false, cond}
 use mathlib.Core.List.{List, _++_}
@@ -54,7 +54,7 @@ module _ {notes table : List ℕ} {n : ℕ} {l : Layout} (laid : Laid notes tabl
         rw (a, f) (ap length (rest-turn laid got more punct) ∙ length-append (placed (markIn table i) (addedSpace (l .uniform) (w .first) (w .sentence) punct) (marginOf notes (l .indent)) (meaning notes w)) (emittedFrom notes table n l (w .punct) (i + 1))) in
         omega (arith, p, s, h)
 
-  -- the first word, bare behind the first indent
+  -- the first word, bare after the first indent
   pub size-first : {w : Record} (k : ℕ) → Got table 0 w → k ≡ l .first .end - l .first .start + l .first .more → k + (w .end - w .start) + length (emittedFrom notes table n l false 1) ≡ length (emitted notes table n l)
   unfolding meaning
   size-first {w} k got e =

@@ -1,4 +1,4 @@
--- Two results that keep a writer's promise are equal: every byte of the output, and the place behind what was written.
+-- Two results that keep a writer's promise are equal: every byte of the output, and the place after what was written.
 use mathlib.Core.Path.{_≡_, sym, _∙_}
 use mathlib.Core.List.{List}
 use Prim.Native.Nat.{ℕ}

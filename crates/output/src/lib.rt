@@ -245,7 +245,7 @@ pub fn put_feed(rest: &mut [u8]) -> usize
     1
 }
 
-// An indent: its bytes, and further spaces behind them.
+// An indent: its bytes, and further spaces after them.
 pub fn put_margin(notes: &[u8], m: Margin, rest: &mut [u8]) -> usize
     requires { ⌜ MarginIn (length (now notes)) m ⌝ }
     ensures { λ r. ⌜ Wrote (now (rest .entry)) 0 (marginOf (now (notes .entry)) m) (now (rest .exit)) r ⌝ }
@@ -255,7 +255,7 @@ pub fn put_margin(notes: &[u8], m: Margin, rest: &mut [u8]) -> usize
     k + put_spaces(m.more, &mut rest[place..])
 }
 
-// A new line: a line feed, and the indent behind it.
+// A new line: a line feed, and the indent after it.
 // In the original: `write_newline`.
 pub fn put_break(notes: &[u8], indent: Margin, rest: &mut [u8]) -> usize
     requires { ⌜ MarginIn (length (now notes)) indent ⌝ }
@@ -266,7 +266,7 @@ pub fn put_break(notes: &[u8], indent: Margin, rest: &mut [u8]) -> usize
     k + put_margin(notes, indent, &mut rest[place..])
 }
 
-// A word with what stands before it, and the notes behind it up to end: on a fresh line the line feed and the indent, else added spaces
+// A word with what is before it, and the notes after it up to end: on a fresh line the line feed and the indent, else added spaces
 // and its blanks.
 // In the original: `slice_if_fresh`.
 pub fn put_word(
@@ -291,7 +291,7 @@ pub fn put_word(
     k + put_text(notes, w.from, end, &mut rest[place..])
 }
 
-// The first word and the notes behind it, bare behind the first indent.
+// The first word and the notes after it, bare after the first indent.
 // In the original: `break_lines`.
 pub fn put_first(notes: &[u8], from: usize, to: usize, first: Margin, rest: &mut [u8]) -> usize
     requires { ⌜ (from ≤ to) × (to ≤ length (now notes)) × MarginIn (length (now notes)) first × (length (now notes) < 2 ^ 32) ⌝ }
@@ -302,7 +302,7 @@ pub fn put_first(notes: &[u8], from: usize, to: usize, first: Margin, rest: &mut
     k + put_text(notes, from, to, &mut rest[place..])
 }
 
-// Words that stand in the notes just as they are to be written, so that they are written as one piece: the number of the word behind
+// Words that are in the notes just as they are to be written, so that they are written as one piece: the number of the word after
 // them, where they end in the notes, and the mark of the last of them.
 struct Run {
     next: usize,
@@ -375,7 +375,7 @@ fn run_from(
     r
 }
 
-// The words behind the first run, and the line feed at the end.
+// The words after the first run, and the line feed at the end.
 // In the original: `break_knuth_plass`.
 fn emit_rest(
     notes: &[u8],
@@ -413,7 +413,7 @@ fn margin_size(m: Margin) -> usize
     m.end - m.start + m.more
 }
 
-// The bytes of a word with what stands before it: on a fresh line a line feed and the indent, of so many bytes.
+// The bytes of a word with what is before it: on a fresh line a line feed and the indent, of so many bytes.
 fn placed_size(w: Word, fresh: bool, added: usize, indent: usize) -> usize
     requires { ⌜ Within (2 ^ 32) w × (added ≤ 2) × (indent < 2 ^ 33) ⌝ }
     ensures { λ r. ⌜ (r ≡ cond fresh (1 + indent + (w .end - w .start)) (added + (w .end - w .from))) × (r < 2 ^ 34) ⌝ }
@@ -446,7 +446,7 @@ fn emitted_size(notes: &[u8], table: &[u32], n: usize, l: Layout) -> usize
     k + 1
 }
 
-// A paragraph of n words, broken where the marks say, written behind at bytes. Answers the written end, whether or not all of it fitted.
+// A paragraph of n words, broken where the marks say, written after at bytes. Answers the written end, whether or not all of it fitted.
 // In the original: `break_knuth_plass`.
 pub fn emit(notes: &[u8], table: &[u32], n: usize, l: Layout, out: &mut [u8], at: usize) -> usize
     requires { ⌜ Laid (now notes) (now table) n l × (at < 2 ^ 62) ⌝ }
@@ -464,7 +464,7 @@ pub fn emit(notes: &[u8], table: &[u32], n: usize, l: Layout, out: &mut [u8], at
     emit_rest(notes, table, n, l, run, out, k)
 }
 
-// A line of the notes as it is, and a line feed, written behind at bytes; a blank line has no bytes of its own.
+// A line of the notes as it is, and a line feed, written after at bytes; a blank line has no bytes of its own.
 // In the original: `uumain`.
 pub fn emit_line(notes: &[u8], from: usize, to: usize, out: &mut [u8], at: usize) -> usize
     requires { ⌜ (from ≤ to) × (to ≤ length (now notes)) × (length (now notes) < 2 ^ 32) × (at < 2 ^ 62) ⌝ }

@@ -1,4 +1,4 @@
--- The customer's words (document 02, P7): "The cells of a row depend on its own digest line and the tab width only."
+-- RULES 15: a row depends on its own line of the digest and the tab width alone.
 use mathlib.Core.Path.{_≡_, refl, sym, ap, _∙_}
 use mathlib.Core.List.{List, [], _∷_}
 use Prim.Native.Nat.{ℕ, zero, suc, _+_, _-_, _*_, _≤_, _<_}

@@ -58,7 +58,7 @@ pub newest-all : (s : List ℕ) → countFrom s 0 ≤ 24 → linesOf (drop 0 s) 
 unfolding newest
 newest-all s h = let e : length (linesOf s) - 24 ≡ 0 = omega arith in rw e
 
--- behind a line feed, with 24 lines from there on
+-- after a line feed, with 24 lines from there on
 newest-from : (s : List ℕ) (last : ℕ) → last < length s → getD s last 0 ≡ 10 → countFrom s (last + 1) ≡ 24 → linesOf (drop (last + 1) s) ≡ newest (linesOf s)
 unfolding newest
 newest-from s last h e n =
@@ -68,7 +68,7 @@ newest-from s last h e n =
     let l = length-append (linesOf a) (linesOf b) in
     rw p (sym (drop-at (linesOf a) (linesOf b) (length (linesOf a ++ linesOf b) - 24) (omega arith)))
 
--- where one more line begins before a place with 24 lines behind it
+-- where one more line begins before a place with 24 lines after it
 pub newest-here : (s : List ℕ) (last : ℕ) → last < length s → countFrom s (last + 1) ≡ 24 → 24 < countFrom s last → linesOf (drop (last + 1) s) ≡ newest (linesOf s)
 newest-here s last h n m = go (eqb (getD s last 0) 10) refl
   where

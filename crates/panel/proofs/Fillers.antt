@@ -20,7 +20,7 @@ use Rattle.panel.specs.Panel.{Row, blank, control, signOf, shownAs, size
 use Rattle.panel.specs.declared.Sign.{Sign}
 use Rattle.panel.specs.declared.Sign.the-variants.{Tab, Dropped, One, Two}
 
--- a wide character stands before a place
+-- a wide character is before a place
 abbrev WideBefore : List ℕ → ℕ → Type 0
 WideBefore cells i = (0 < i) × (widthOf (getD cells (i - 1) blank) ≡ 2)
 
@@ -33,7 +33,7 @@ record Kept (cells : List ℕ) (column : ℕ) : Type 0 where
   paired : Paired cells
   unmarked : (i : ℕ) → column ≤ i → getD cells i blank ≡ blank
 
--- a store at a place: a filler stands behind a wide character, and what is not one before no filler
+-- a store at a place: a filler is after a wide character, and what is not one before no filler
 module _ (cells : List ℕ) (k v : ℕ) (inside : k < length cells) (paired : Paired cells) (next : getD cells (k + 1) blank ≡ 0 → ⊥) (fill : v ≡ 0 → WideBefore cells k) where
   still : (i : ℕ) → (i ≡ k → ⊥) → getD (set cells k v) i blank ≡ getD cells i blank
   still i ne = getD-set-other cells k i v blank ne

@@ -1,4 +1,4 @@
--- A row while it is drawn: behind the row's end nothing is marked any more, so that only whether a cell is asked for counts.
+-- A row while it is drawn: after the row's end nothing is marked any more, so that only whether a cell is asked for counts.
 use mathlib.Core.Path.{_≡_, refl, sym, ap, _∙_}
 use mathlib.Core.Bool.{Bool, true, false, cond, not, _||_, or-false, or-assoc}
 use mathlib.Core.List.{List, [], _∷_}
@@ -74,7 +74,7 @@ module _ (tab : ℕ) (some : 1 ≤ tab) where
       let b = behind-one r s h in
       behind ss (drawn tab r s) (b .column) ∙ rw (b .over, b .cells, or-assoc (r .over) (takes s) (any ss))
 
-  -- every column behind the row counts as 80
+  -- every column after the row counts as 80
   pub far : (cells : List ℕ) (over : Bool) (a b : ℕ) (ss : List Sign) → 80 ≤ a → 80 ≤ b
       → finished (draw tab (record { cells = cells; column = a; over = over }) ss) ≡ finished (draw tab (record { cells = cells; column = b; over = over }) ss)
   far cells over a b ss h g = behind ss (record { cells = cells; column = a; over = over }) h ∙ sym (behind ss (record { cells = cells; column = b; over = over }) g)
@@ -85,7 +85,7 @@ module _ (tab : ℕ) (some : 1 ≤ tab) where
 
   -- ---- a step of the code
 
-  -- a sign that lets a line run over ends behind the row
+  -- a sign that lets a line run over ends after the row
   runs-over : (column : ℕ) (cells : List ℕ) (s : Sign) → drawn tab (rowAt column cells) s .over ≡ true → 80 ≤ drawn tab (rowAt column cells) s .column
   unfolding drawn taken
   runs-over column cells Tab e = absurd (let z : _≡_ {A = ℕ} 0 1 = cc in omega arith)

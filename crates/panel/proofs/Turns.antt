@@ -39,7 +39,7 @@ signs-nil = each-nil (λ xs. size (decode xs) - 1) (λ xs. shownAs (decode xs))
 pub signs-past : (line : List ℕ) (at : ℕ) → length line ≤ at → signs (drop at line) ≡ []
 signs-past line at h = rw (drop-none 0 line at h) signs-nil
 
--- a sign at a place, and the next behind it
+-- a sign at a place, and the next after it
 pub record SignHere (line : List ℕ) (at : ℕ) (seen : Seen) : Type 0 where
   pub first : signs (drop at line) ≡ seen .sign ∷ signs (drop (seen .next) line)
   pub on : at < seen .next

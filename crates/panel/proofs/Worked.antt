@@ -40,7 +40,7 @@ a-tab : rowOf 8 (97 ∷ 9 ∷ 98 ∷ []) ≡ begins-with (97 ∷ []) 7 ++ begins
 unfolding begins-with walkUpTo walk piece each while begins joined widthIn table widthOf scalar encode spelled decode body withoutReturn firstLine linesOf nextStop control signOf signs begun taken drawn draw marked finished rowOf stopWidth newest textsOf shown panelOf
 a-tab = refl
 
--- U+4E2D in the last two cells; and a letter behind it
+-- U+4E2D in the last two cells; and a letter after it
 x : ℕ → List ℕ → List ℕ
 x n more = replicate n 120 ++ more
 

@@ -1,4 +1,4 @@
--- Document 02, P7: the wall panel, 24 rows of 80 cells, each a code point. A row is a function of its digest line and the tab width.
+-- RULES 15: the wall panel, 24 rows of 80 cells, each a code point. A row is a function of its digest line and the tab width.
 use mathlib.Core.Bool.{Bool, false, cond, not, _&&_, _||_}
 use mathlib.Core.List.{List, [], _∷_, _++_, map}
 use Prim.Native.Nat.{ℕ, _+_, _-_, _*_, _^_}
@@ -33,7 +33,7 @@ unfoldable pub signOf : ℕ → Sign
 signOf c =
     cond (eqb c 9) Tab (cond (control c) (One blank) (cond (eqb (widthOf c) 0) Dropped (cond (eqb (widthOf c) 2) (Two c) (One c))))
 
--- what stands at the front of a list: a character, or a byte that begins no well-formed one, which shows as U+FFFD; and its bytes
+-- what is at the front of a list: a character, or a byte that begins no well-formed one, which shows as U+FFFD; and its bytes
 abbrev pub shownAs : Front → Sign
 shownAs (front c n) = signOf c
 shownAs nothing = One 0xFFFD

@@ -23,7 +23,7 @@ pub enum Sign {
     Two(u32),
 }
 
-// A sign of a line, and the place behind it.
+// A sign of a line, and the place after it.
 struct Seen {
     sign: Sign,
     next: usize,
@@ -54,7 +54,7 @@ pub fn draw(digest: &[u8], tab: u64, cells: &mut [u32; 1920]) -> Answer
     Answer::Done
 }
 
-// The answer's number: its code stands in the upper 32 bits.
+// The answer's number: its code is in the upper 32 bits.
 pub fn number_of(a: Answer) -> u64
     ensures { λ r. ⌜ r ≡ numbered a ⌝ }
 {
@@ -137,7 +137,7 @@ fn draw_row(line: &[u8], tab: usize, row: &mut [u32])
     }
 }
 
-// What stands at a place of a line. A byte that begins no well-formed character shows as U+FFFD.
+// What is at a place of a line. A byte that begins no well-formed character shows as U+FFFD.
 fn sign_at(line: &[u8], at: usize) -> Seen
     requires { ⌜ at < length (now line) ⌝ }
     ensures { λ r. ⌜ r ≡ seenAt at (now (line .entry)) ⌝ }
@@ -206,7 +206,7 @@ fn draw_sign(sign: Sign, tab: usize, column: usize, row: &mut [u32]) -> Step
     }
 }
 
-// The next tab stop behind a column, or the row's end before it.
+// The next tab stop after a column, or the row's end before it.
 fn next_stop(tab: usize, column: usize) -> usize
     requires { ⌜ (1 ≤ tab) × (tab ≤ 100) × (column ≤ 80) ⌝ }
     ensures { λ r. ⌜ r ≡ min 80 (nextStop tab column) ⌝ }

@@ -16,7 +16,7 @@ use Rattle.records.specs.Word.{Word}
 use Rattle.spacing.specs.declared.Setting.{Setting}
 use Rattle.spacing.specs.Contracts.Bounds.{Fair}
 use Rattle.words.specs.Contracts.Places.{wordsAt}
-use Rattle.words.proofs.Rows.{words-same, lines-end}
+use Rattle.words.proofs.Rows.{lines-end}
 use Rattle.words.proofs.Halves.{lines-half}
 use Rattle.output.specs.Emission.{emit}
 use Rattle.output.specs.Contracts.Sink.{Wrote}
@@ -57,13 +57,13 @@ module _ (notes : List ℕ) (at : ℕ) (o : Options) (p : Paragraph) (placed : P
     unfolding settingOf meant
     fair g e = rw e (record { some = placed .tabLeast; tab = placed .tabMost; width = omega (arith, placed .width); first = omega (arith, placed .firstSmall); indent = omega (arith, placed .indentSmall) })
 
-    -- what it is broken with hangs on no block, and neither do its words
+    -- what it is broken with depends on no block
     pub streamed : (g : Setting) → ((block : List ℕ) → g ≡ settingFor block o p) → (most : ℕ) → p .next - at ≤ 2 * most → (out : List ℕ) (written : ℕ) (out′ : List ℕ) (end : ℕ)
         → PutIs notes at (p .next) (p .start) (p .later) o g (marginOf notes (p .first)) (marginOf notes (p .indent)) out written out′ (Done end)
         → (block : List ℕ) → TextStepped most notes at o p out written out′ (On (record { at = p .next; written = end; mail = p .mail })) block
     streamed g e most few out written out′ end put block =
         let wrote : Wrote out written (emit (o .uniform || p .mail) (marginOf notes (p .first)) (marginOf notes (p .indent)) (breaksBy (o .quick || p .mail) (settingFor block o p) (wordsFor block notes at o p)) (wordsFor block notes at o p)) out′ end =
-        by-marks (o .uniform) (p .mail) (o .quick) kept text fast (marginOf notes (p .first)) (marginOf notes (p .indent)) (λ m. settingOf (meant block o) m (p .first .columns) (p .indent .columns)) (λ m. wordsAt (meant block o) m (p .start) (p .later) (linesOf (slice at (p .next) notes))) out written out′ end g (e block) (rw (words-same o block false (p .start) (p .later) (linesOf (slice at (p .next) notes))) at put) in
+        by-marks (o .uniform) (p .mail) (o .quick) kept text fast (marginOf notes (p .first)) (marginOf notes (p .indent)) (λ m. settingOf (meant block o) m (p .first .columns) (p .indent .columns)) (λ m. wordsAt (meant block o) m (p .start) (p .later) (linesOf (slice at (p .next) notes))) out written out′ end g (e block) (put block) in
         let h = lines-half (meant block o) (p .mail) (p .start) (p .later) (slice at (p .next) notes) in
         let n = length-slice at (p .next) notes (placed .within) in (
           omega (arith, h, n, few),

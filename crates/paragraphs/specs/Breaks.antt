@@ -1,4 +1,4 @@
--- Document 01: what a paragraph is broken with, and by which breaker.
+-- RULES 7 and 8: what a paragraph is broken with, and by which breaker.
 use mathlib.Core.Bool.{Bool, true, false, _||_}
 use mathlib.Core.List.{List}
 use Prim.Native.Nat.{ℕ}

@@ -21,13 +21,13 @@ pub struct Cursor {
     pub mail: bool,
 }
 
-// What came of a paragraph: the work goes on behind it, or it has more words than there is room for.
+// What came of a paragraph: the work goes on after it, or it has more words than there is room for.
 pub enum Step {
     On(Cursor),
     Over,
 }
 
-// The numbers that a word takes of the room: its record and, with Knuth-Plass, that of the break behind it.
+// The numbers that a word takes of the room: its record and, with Knuth-Plass, that of the break after it.
 const QUICK: usize = 7;
 
 const BEST: usize = 15;
@@ -86,6 +86,8 @@ pub fn put_paragraph(
         indent,
         out,
         written,
+        most,
+        work,
     ) else {
         return put_by_table(notes, at, o, p, out, written, work);
     };
@@ -150,7 +152,7 @@ fn put_by_table(
     })
 }
 
-// Marks where lines of n words start. What lies behind the words is room to work in.
+// Marks where lines of n words start. What lies after the words is room to work in.
 // In the original: `break_lines`.
 pub fn mark_breaks(fast: bool, g: Setting, work: &mut [u32], n: usize)
     requires { ⌜ Limits g × (1 ≤ n) × (n ≤ 2 ^ 20) × Roomy fast n (now work) × AllNarrow n (now work) ⌝ }

@@ -1,4 +1,4 @@
--- A line that is not formatted is a boundary of pieces: the pieces of the lines before it, and then its own and those behind it.
+-- A line that is not formatted is a boundary of pieces: the pieces of the lines before it, and then its own and those after it.
 use mathlib.Core.Path.{_≡_, refl, _∙_}
 use mathlib.Core.Bool.{Bool, true, false}
 use mathlib.Core.List.{List, [], _∷_, _++_}
@@ -24,7 +24,7 @@ abbrev pub plainPiece : Line → Piece
 plainPiece l = record { kind = plainLine (l .text); lines = l ∷ [] }
 
 module _ (o : Opts) where
-  -- ---- with a line behind the lines that stops a paragraph, the next piece is the same
+  -- ---- with a line after the lines that stops a paragraph, the next piece is the same
 
   module _ (l : Line) (after : List Line) (stops : Stops o l) where
     paragraph-append : (nextMail : Bool) (s : Shape) (k : Line) (ls : List Line) → paragraphAt o nextMail s k (ls ++ l ∷ after) ≡ paragraphAt o nextMail s k ls
@@ -58,7 +58,7 @@ module _ (o : Opts) where
   pieces-stop l after stops nextMail before =
       walk-append (nextPiece o) (λ ls. Unit {0}) (l ∷ after) (λ m ls u h. (next-append l after stops m ls h, next-within m ls h, tt)) nextMail before tt
 
-  -- ---- a blank line and a plain line are pieces of their own; behind a blank line next-mail is as at the start
+  -- ---- a blank line and a plain line are pieces of their own; after a blank line next-mail is as at the start
 
   module _ (nextMail : Bool) (l : Line) (after : List Line) where
     blank-step : classify o (l .text) ≡ Blank → walk (nextPiece o) nextMail (l ∷ after) ≡ blankPiece l ∷ walk (nextPiece o) true after
@@ -69,14 +69,14 @@ module _ (o : Opts) where
     unfolding nextPiece
     plain-step e = walk-step (nextPiece o) nextMail (l ∷ after) (omega arith) ∙ rw e
 
-  -- a blank line parts the notes: the pieces of the lines before it, itself, and the pieces of the lines behind it, as from the start
+  -- a blank line parts the notes: the pieces of the lines before it, itself, and the pieces of the lines after it, as from the start
   pub blank-stands : (notes : List ℕ) (before : List Line) (l : Line) (after : List Line) → classify o (l .text) ≡ Blank → linesOf notes ≡ before ++ l ∷ after
       → pieces o notes ≡ walk (nextPiece o) true before ++ blankPiece l ∷ walk (nextPiece o) true after
   unfolding pieces
   blank-stands notes before l after e h =
       rw (h, pieces-stop l after (blank-stops o l e) true before, blank-step (last (nextPiece o) true before) l after e)
 
-  -- a plain line stands: the pieces of the lines before it, itself, and the pieces of the lines behind it
+  -- a plain line stands: the pieces of the lines before it, itself, and the pieces of the lines after it
   pub plain-stands : (notes : List ℕ) (before : List Line) (l : Line) (after : List Line) → classify o (l .text) ≡ Plain → linesOf notes ≡ before ++ l ∷ after
       → pieces o notes ≡ walk (nextPiece o) true before ++ plainPiece l ∷ walk (nextPiece o) false after
   unfolding pieces

@@ -1,5 +1,5 @@
 -- A paragraph that is not mail: its lines are formatted, and its indents' bytes take the columns that are counted for them, whatever stands
--- behind them.
+-- after them.
 use mathlib.Core.Path.{_≡_, refl, sym, ap, _∙_}
 use mathlib.Core.Bool.{Bool, true, false, cond, _||_, and-eq-true-iff, true≢false}
 use mathlib.Core.List.{List, [], _∷_, _++_, map, append-assoc}

@@ -1,4 +1,4 @@
--- Lines at the front of the lines from a place on: they are the lines of the bytes that they take, and the others are those behind.
+-- Lines at the front of the lines from a place on: they are the lines of the bytes that they take, and the others are those after.
 use mathlib.Core.Path.{_≡_, refl, sym, ap, ap₂, _∙_}
 use mathlib.Core.Bool.{Bool, true, false}
 use mathlib.Core.List.{List, [], _∷_}
@@ -64,7 +64,7 @@ module _ (notes : List ℕ) where
       let z : i + 0 ≡ i = omega arith in
       rw (e, taken-none) (record { within = omega arith; behind = rw z d; are = rw (e, slice-is i 0 notes) (sym no-lines) })
 
-  -- a line and what is behind it, cut at the same place
+  -- a line and what is after it, cut at the same place
   module _ (i w m : ℕ) (first : linesOf (drop i notes) ≡ firstLine (drop i notes) ∷ linesOf (drop (i + w) notes))
       (raw : length (firstLine (drop i notes) .raw) ≡ w) (on : 0 < w) (fits : i + w + m ≤ length notes) where
     cut-line : firstLine (slice i (i + (w + m)) notes) ≡ firstLine (drop i notes)

@@ -26,7 +26,7 @@ module _ (b : ℕ) where
   pub name-more : 33 ≤ b → b ≤ 126 → (b ≡ 58 → ⊥) → headerName b ≡ true
   name-more h k e = rw (le-leb 33 b h, le-leb b 126 k, ne-eqb b 58 e)
 
--- what stands behind the name: a colon, or a byte that no name has, or nothing
+-- what is after the name: a colon, or a byte that no name has, or nothing
 unfoldable pub behindName : List ℕ → Bool
 behindName xs = ltb (length (while headerName xs)) (length xs) && eqb (getD xs (length (while headerName xs)) 0) 58
 
@@ -105,7 +105,7 @@ headed-is (b ∷ r) = pick (printable b) (noColon b) refl refl
     pick false true h k = headed-more b r k ∙ named-other b r h k ∙ sym (no-name b r (rw h))
     pick false false h k = headed-colon b r k ∙ sym (no-name b r (rw h))
 
--- a header, test by test: n is the place behind the name
+-- a header, test by test: n is the place after the name
 module _ (line : List ℕ) where
   pub header-from : begins fromWord line ≡ true → true ≡ headerText line
   unfolding headerText

@@ -24,7 +24,7 @@ use Rattle.pieces.proofs.Reach.{further-is}
 use Rattle.pieces.proofs.Indents.{MarginFound, margin-at, margin-bare, margin-spaces, second-is}
 use Rattle.pieces.proofs.Taken.{lineAt, behindAt, restAt, here}
 
--- the place behind a paragraph whose first line, of a shape, begins at a place
+-- the place after a paragraph whose first line, of a shape, begins at a place
 abbrev pub endOf : Opts → Bool → Shape → List ℕ → ℕ → ℕ
 endOf o mail s notes at = behindAt notes at + taken (take (further o mail s (restAt notes at)) (restAt notes at))
 

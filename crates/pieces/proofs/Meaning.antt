@@ -1,4 +1,4 @@
--- What the piece that the code finds at a place means: the next piece of the definition, its bytes, and what goes on behind it; and that its
+-- What the piece that the code finds at a place means: the next piece of the definition, its bytes, and what goes on after it; and that its
 -- places and numbers keep to their bounds.
 use mathlib.Core.Path.{_≡_, refl, sym, ap, subst, subst⁻¹, _∙_}
 use mathlib.Core.Bool.{Bool, true, false, _||_, true≢false}
@@ -35,7 +35,7 @@ use Rattle.pieces.proofs.Indented.{endOf, first-is, indent-is}
 abbrev pub turnAt : Opts → Bool → List ℕ → ℕ → Stride Piece Bool
 turnAt o nextMail notes at = nextPiece o nextMail (linesOf (drop at notes))
 
--- it gives a piece of a kind, whose lines stand from at up to next, and a state; the lines left are those behind next
+-- it gives a piece of a kind, whose lines stand from at up to next, and a state; the lines left are those after next
 pub record TurnIs (o : Opts) (nextMail : Bool) (notes : List ℕ) (at : ℕ) (kind : Kind) (state : Bool) (next : ℕ) : Type 0 where
   pub some : 0 < length (linesOf (drop at notes))
   pub kind-is : turnAt o nextMail notes at .item .kind ≡ kind

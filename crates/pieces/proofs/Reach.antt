@@ -1,4 +1,4 @@
--- How far a paragraph reaches: not past the lines, and not past a line of another class than formatted, whatever stands behind it.
+-- How far a paragraph reaches: not past the lines, and not past a line of another class than formatted, whatever is after it.
 use mathlib.Core.Path.{_≡_, refl, sym, ap, _∙_}
 use mathlib.Core.Bool.{Bool, true, false, cond, _||_}
 use mathlib.Core.List.{List, [], _∷_, _++_}
@@ -70,7 +70,7 @@ module _ (o : Opts) where
       go alone = omega arith
       go (joins text b) = let h = follow-le (agrees b) ls in omega arith
 
-  -- the count of lines behind the first, its tests in a row
+  -- the count of lines after the first, its tests in a row
   pub further-is : (mail : Bool) (a : Shape) (ls : List Line)
       → further o mail a ls ≡ cond (o .split) 0 (cond mail (follow o (continues o) ls) (cond (o .crown || o .tagged) (followSecond o ls (secondOf o a ls)) (follow o (agrees a) ls)))
   unfolding further
@@ -97,7 +97,7 @@ module _ (o : Opts) where
       either true h k = h
       either false h k = k
 
-  -- ---- with a line behind the lines that stops a paragraph, the same
+  -- ---- with a line after the lines that stops a paragraph, the same
 
   module _ (l : Line) (after : List Line) (stops : Stops l) where
     follow-append : (test : Shape → Bool) (ls : List Line) → follow o test (ls ++ l ∷ after) ≡ follow o test ls

@@ -80,7 +80,7 @@ module _ (o : Opts) where
       go false true = second-starts s ls
       go false false = follow-starts (agrees s) (s .«indent_end») (agree-indent s) ls
 
-  -- ---- so ink stands at each start
+  -- ---- so ink is at each start
 
   module _ (least : 1 ≤ o .tab) (most : o .tab ≤ 100) where
     begin : (start : ℕ) (l : Line) → Starts o start l → InkBegins (o .glue) start (l .text)

@@ -1,4 +1,4 @@
--- Notes may be cut where a piece begins: the pieces before the cut are those of their own lines, and so are the pieces behind it, from next-mail
+-- Notes may be cut where a piece begins: the pieces before the cut are those of their own lines, and so are the pieces after it, from next-mail
 -- as it is there. Without mail next-mail does not matter.
 use mathlib.Core.Path.{_≡_, refl, sym, ap, _∙_}
 use mathlib.Core.Bool.{Bool, true, false, cond, _||_, true≢false}
@@ -24,7 +24,7 @@ use Rattle.pieces.specs.Theorems.NextMail.{nextMailAs, nextMailBehind}
 use Rattle.pieces.proofs.Extents.{linesIn, next-lines, pieces-lines}
 use Rattle.pieces.proofs.Reach.{class-cases, follow-stop, follow-more, further-is}
 
--- ---- a paragraph is the same without the lines behind those that it takes
+-- ---- a paragraph is the same without the lines after those that it takes
 
 module _ (o : Opts) where
   follow-front : (test : Shape → Bool) (a b : List Line) → follow o test (a ++ b) ≤ length a → follow o test a ≡ follow o test (a ++ b)
@@ -116,7 +116,7 @@ next-state o nextMail (l ∷ ls) h = go (classify o (l .text))
     go Plain = refl
     go (Formatted s) = refl
 
--- behind all pieces of lines
+-- after all pieces of lines
 pub next-mail-behind : (o : Opts) (nextMail : Bool) (ls : List Line) (ps : List Piece) → walk (nextPiece o) nextMail ls ≡ ps → last (nextPiece o) nextMail ls ≡ nextMailBehind nextMail ps
 unfolding nextMailBehind
 next-mail-behind o nextMail [] [] e = last-nil (nextPiece o) nextMail

@@ -1,4 +1,4 @@
--- The lines that a piece takes: the line that begins at a place of the notes, and lines behind it.
+-- The lines that a piece takes: the line that begins at a place of the notes, and lines after it.
 use mathlib.Core.Path.{_≡_, refl, sym, ap, _∙_}
 use mathlib.Core.List.{List, [], _∷_}
 use Prim.Native.Nat.{ℕ, suc, _+_, _≤_, _<_}
@@ -13,7 +13,7 @@ use Rattle.pieces.proofs.Following.{taken-none, taken-more}
 use Rattle.pieces.proofs.Fronts.{lines-front}
 
 module _ (notes : List ℕ) (at : ℕ) where
-  -- the first line, the place behind it, and the lines from there on
+  -- the first line, the place after it, and the lines from there on
   unfoldable pub lineAt : Line
   lineAt = firstLine (drop at notes)
 
@@ -38,7 +38,7 @@ module _ (notes : List ℕ) (at : ℕ) where
         let h = line-here notes at (lengthsOf (firstLine (drop at notes))) inside refl in
         record { first = h .first; text = h .text; shorter = h .shorter; on = h .on; within = h .within }
 
-    -- n lines behind the first
+    -- n lines after the first
     pub record Lines (n next : ℕ) : Type 0 where
       pub count : at + taken (lineAt ∷ take n restAt) ≡ next
       pub more : drop n restAt ≡ linesOf (drop next notes)

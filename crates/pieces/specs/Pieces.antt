@@ -1,4 +1,4 @@
--- Document 01, "Paragraphs": the notes as a list of pieces: blank lines, plain lines and paragraphs.
+-- RULES 5: the notes as a list of pieces: blank lines, plain lines and paragraphs.
 use mathlib.Core.Bool.{Bool, true, false, cond, not, _&&_, _||_}
 use mathlib.Core.List.{List, [], _∷_, _++_, map}
 use Prim.Native.Nat.{ℕ, suc, _+_}
@@ -105,7 +105,7 @@ abbrev pub followSecond : Opts → List Line → Second → ℕ
 followSecond o ls alone = 0
 followSecond o ls (joins text b) = suc (follow o (agrees b) (drop 1 ls))
 
--- the count of lines behind the first. Split: one line each
+-- the count of lines after the first. Split: one line each
 unfoldable pub further : Opts → Bool → Shape → List Line → ℕ
 further o mail a ls =
     elim (o .split) [

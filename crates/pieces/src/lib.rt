@@ -23,7 +23,7 @@ pub struct Margin {
     pub columns: usize,
 }
 
-// A paragraph: the place behind it, whether it is mail, its first indent and its indent, and where the words of its first line and of
+// A paragraph: the place after it, whether it is mail, its first indent and its indent, and where the words of its first line and of
 // its other lines begin in their line.
 pub struct Paragraph {
     pub next: usize,
@@ -34,7 +34,7 @@ pub struct Paragraph {
     pub later: usize,
 }
 
-// A piece of the notes, with the place behind it; of a plain line also the end of its text.
+// A piece of the notes, with the place after it; of a plain line also the end of its text.
 pub enum Piece {
     Blank { next: usize },
     Plain { end: usize, next: usize },
@@ -47,7 +47,7 @@ pub enum Rule {
     Like(Shape),
 }
 
-// The second line of a crown or tagged paragraph: where the line behind it begins, and its shape; or the first line stands alone.
+// The second line of a crown or tagged paragraph: where the line after it begins, and its shape; or the first line stands alone.
 pub enum Second {
     Alone,
     Joins { next: usize, shape: Shape },
@@ -191,7 +191,7 @@ fn hanging_paragraph(
     }
 }
 
-// The line that begins at a place: the end of its text, the place behind it, and its class.
+// The line that begins at a place: the end of its text, the place after it, and its class.
 fn line_at(notes: &[u8], at: usize, o: Options, block: &[u8]) -> Classed
     requires { ⌜ PieceReady (now notes) (now block) o at × (at < length (now notes)) ⌝ }
     ensures { λ r. ⌜ LineIs (meant (now (block .entry)) o) (now (notes .entry)) at r ⌝ }
@@ -238,7 +238,7 @@ fn second_line(notes: &[u8], at: usize, s: Shape, o: Options, block: &[u8]) -> S
     }
 }
 
-// The place behind the lines that join by a rule. Split: one line each.
+// The place after the lines that join by a rule. Split: one line each.
 // In the original: `ParagraphStream::next`.
 fn further(notes: &[u8], at: usize, rule: Rule, o: Options, block: &[u8]) -> usize
     requires { ⌜ PieceReady (now notes) (now block) o at ⌝ }
@@ -301,7 +301,7 @@ fn starts_mail(line: &[u8], mail: bool, next_mail: bool, s: Shape) -> bool
     is_header(line)
 }
 
-// The mail rule: `From `, or a name of printable bytes with its colon behind it.
+// The mail rule: `From `, or a name of printable bytes with its colon after it.
 // In the original: `ParagraphStream::is_mail_header`.
 pub fn is_header(line: &[u8]) -> bool
     ensures { λ r. ⌜ r ≡ headerText (now (line .entry)) ⌝ }

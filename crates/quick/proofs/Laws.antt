@@ -1,4 +1,4 @@
--- Laws of the greedy breaker: the first word, one word more, the end; how far a column goes; what stands in the marks at last.
+-- Laws of the greedy breaker: the first word, one word more, the end; how far a column goes; what is in the marks at last.
 use mathlib.Core.Path.{_≡_, refl, sym, ap, _∙_}
 use mathlib.Core.Bool.{Bool, true, false, cond}
 use mathlib.Core.List.{List, [], _∷_}

@@ -68,7 +68,7 @@ module _ (g : Setting) where
 -- ---- the words of a table
 
 module _ (g : Setting) (notes table : List ℕ) (n : ℕ) where
-  -- why the line ends that is so many lines behind the one that stands at a column before word i
+  -- why the line ends that is so many lines after the one that is at a column before word i
   abbrev pub endingFrom : ℕ → Bool → ℕ → ℕ → Ending
   endingFrom column punct i left = getD (endings (linesFrom g column punct (drop i (wordsIn notes n table)))) left Paragraph
 

@@ -1,4 +1,4 @@
--- Document 01, "Quick": a word goes on the line unless column + gap + S + width > width limit; else a new line starts with it.
+-- RULES 7: a word goes on the line unless column + gap + S + width > width limit; else a new line starts with it.
 use mathlib.Core.Bool.{Bool, true, false}
 use mathlib.Core.List.{List, [], _∷_}
 use Prim.Native.Nat.{ℕ, _+_}
@@ -7,7 +7,7 @@ use Rattle.records.specs.Word.{Word}
 use Rattle.spacing.specs.Spacing.{gapAt, addedSpace}
 use Rattle.spacing.specs.declared.Setting.{Setting}
 
--- for each word behind the first: does a new line start with it? column is where the line stands, previousPunct how the word before ended
+-- for each word after the first: does a new line start with it? column is where the line stands, previousPunct how the word before ended
 unfoldable pub quickFrom : Setting → ℕ → Bool → List Word → List Bool
 quickFrom g column previousPunct [] = []
 quickFrom g column previousPunct (w ∷ ws) =

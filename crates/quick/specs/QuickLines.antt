@@ -1,4 +1,4 @@
--- Document 02, P6: the lines of Quick, each with the numbers by which the next word would not fit. The line breaks are those of Quick
+-- RULES 13: the lines of Quick, each with the numbers by which the next word would not fit. The line breaks are those of Quick
 -- (proofs/Lines, `breaks-are-quick's`).
 use mathlib.Core.Bool.{Bool, true, false}
 use mathlib.Core.List.{List, [], _∷_}

@@ -36,7 +36,7 @@ fn pick(first: bool, a: usize, b: usize) -> usize
     b
 }
 
-// Marks each word behind the first that no longer fits its line: a new line starts with it.
+// Marks each word after the first that no longer fits its line: a new line starts with it.
 // In the original: `break_simple`.
 pub fn quick_breaks(table: &mut [u32], n: usize, g: Setting)
     requires { ⌜ (1 ≤ n) × Holds n (now table) × Fair g ⌝ }
@@ -69,7 +69,7 @@ fn less(a: usize) -> usize
     a - 1
 }
 
-// A line that ends at a column, since the word does not fit behind it.
+// A line that ends at a column, since the word does not fit after it.
 fn full(g: Setting, column: usize, punct: bool, w: Word) -> Ending
     requires { ⌜ Fair g × Small w × (column < 2 ^ 34) ⌝ }
     ensures { λ r. ⌜ r ≡ Full column (gapWidth (g .tab) column (w .before) (w .after)) (addedSpace (g .uniform) (w .first) (w .sentence) punct) (w .width) ⌝ }
@@ -85,7 +85,7 @@ fn full(g: Setting, column: usize, punct: bool, w: Word) -> Ending
     }
 }
 
-// Why a line of a paragraph ends, counted from its first; behind its last line too it is the end of the paragraph.
+// Why a line of a paragraph ends, counted from its first; after its last line too it is the end of the paragraph.
 pub fn quick_ending(table: &[u32], n: usize, g: Setting, line: usize) -> Ending
     requires { ⌜ (1 ≤ n) × Holds n (now table) × Fair g ⌝ }
     ensures { λ r. ⌜ ((notes : List ℕ) → r ≡ getD (endings (quickLines g (wordsIn notes n (now (table .entry))))) line Paragraph) ⌝ }

@@ -104,7 +104,7 @@ module _ (t : List ℕ) where
   marks-from n i h =
       slice-here (marksIn n t) i n false h (rw marks-length (omega arith)) ∙ ap (λ (b : Bool). b ∷ slice (i + 1) n (marksIn n t)) (marks-at n i false h)
 
--- ---- marks set one behind the other
+-- ---- marks set one after the other
 
 length-marks : (t : List ℕ) (i : ℕ) (bs : List Bool) → length (withMarks t i bs) ≡ length t
 unfolding withMarks

@@ -1,4 +1,4 @@
--- Document 01, "Words": the word record, as bytes and numbers; and how the code's record, which holds places, means one.
+-- RULES 6: the word record, as bytes and numbers; and how the code's record, which holds places, means one.
 use mathlib.Core.Bool.{Bool}
 use mathlib.Core.List.{List}
 use Prim.Native.Nat.{ℕ}

@@ -11,7 +11,7 @@ pub enum Before {
     Count(usize),
 }
 
-// A word of the notes: the blanks before it begin at from, its own bytes at start; width; the counts before and behind the gap's first
+// A word of the notes: the blanks before it begin at from, its own bytes at start; width; the counts before and after the gap's first
 // tab; first of its line, ends in punctuation, starts a sentence.
 pub struct Word {
     pub from: usize,

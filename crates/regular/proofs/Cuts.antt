@@ -12,7 +12,7 @@ use Rattle.regular.specs.Contracts.Places.{NoSpace, LastSpace, FirstSpac
 use Rattle.regular.proofs.Searches.{down}
 
 module _ (s : List ℕ) (p e room : ℕ) (inked : Inked s p e) (short : p + room < e) where
-  -- behind a space before the end stands a word
+  -- after a space before the end stands a word
   behind : (z next : ℕ) → z < e → getD s z 0 ≡ 32 → OverSpaces s (z + 1) e next → next < e
   behind z next l h over = pick (ltb next e) refl
     where

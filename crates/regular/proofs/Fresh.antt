@@ -86,7 +86,7 @@ module _ (o : Opts) (g : Setting) (indent : List ℕ) (kept : o .uniform ≡ fal
             rw (is, append-assoc ink rest ys, append-assoc, z, ← fresh-punct counts ink rest inked some n, lastly-append false ink rest)
             (fresh-word counts newLine previous column [] ink (rest ++ ys) (every-nil isSpace) inked some (opens-append rest ys n next) ∙ ap (λ (l : List ℕ). ink ++ l) (behind ink rest is inked n end))
 
-    -- the same behind a line of output that has begun, of the first words of the next line
+    -- the same after a line of output that has begun, of the first words of the next line
     pub next-stays-on : (column : ℕ) (punct : Bool) (a ys : List ℕ) → opens a ≡ false → closed true a ≡ true → opens ys ≡ true → column + added punct + length a ≤ g .width
         → quickRest g indent column punct (stretchWords o true false (a ++ ys) ++ more)
         ≡ replicate (added punct) 32 ++ (a ++ quickRest g indent (column + added punct + length a) (lastly false a) (stretchWords o false (lastly false a) ys ++ more))

@@ -1,8 +1,8 @@
--- The front of a stretch: spaces, the word behind them, and the rest.
+-- The front of a stretch: spaces, the word after them, and the rest.
 use mathlib.Core.Path.{_≡_, refl, sym, ap, _∙_}
 use mathlib.Core.Bool.{Bool, true, false, not, false≢true, true≢false}
 use mathlib.Core.List.{List, [], _∷_, _++_}
-use Prim.Native.Nat.{ℕ, _+_, _<_}
+use Prim.Native.Nat.{ℕ, _<_}
 use native.Mathlib.Omega.{arith}
 use lib.Dec.{eqb}
 use lib.ListN.{length}
@@ -70,7 +70,7 @@ front (b ∷ a) h = pick (eqb b 32) refl (front a)
         let f = ink-front a (rw e at h) in
         record { spaces = []; ink = b ∷ f .ink; rest = f .rest; is = ap (λ (l : List ℕ). b ∷ l) (f .is); spaced = every-nil isSpace; inked = rw (every-cons, e) (f .inked); some = omega arith; next = f .next; end = f .end }
 
--- a stretch that is there ends alike, whatever stands before it
+-- a stretch that is there ends alike, whatever is before it
 pub closed-some : (s t : Bool) (x : ℕ) (xs : List ℕ) → closed s (x ∷ xs) ≡ closed t (x ∷ xs)
 unfolding closed
 closed-some s t x xs = refl

@@ -1,6 +1,6 @@
--- The glyphs of regular bytes: each byte is one, glue or not, behind ink or not. So the words of a regular line are those of its bytes.
+-- The glyphs of regular bytes: each byte is one, glue or not, after ink or not. So the words of a regular line are those of its bytes.
 use mathlib.Core.Path.{_≡_, refl, sym, ap, _∙_}
-use mathlib.Core.Bool.{Bool, true, false, not}
+use mathlib.Core.Bool.{Bool, true, false}
 use mathlib.Core.List.{List, [], _∷_}
 use Prim.Native.Nat.{ℕ, _≤_, _<_}
 use native.Mathlib.Omega.{arith}
@@ -11,7 +11,7 @@ use Rattle.widths.specs.WhiteSpace.{whiteSpace}
 use Rattle.widths.proofs.Laws.{one-before-300}
 use Rattle.lists.specs.Runs.{every}
 use Rattle.lists.proofs.Parts.{every-cons}
-use Rattle.text.specs.Characters.{Glyph, glyph, characters, glyphs, noBreak}
+use Rattle.text.specs.Characters.{Glyph, glyph, characters, noBreak}
 use Rattle.text.specs.Contracts.Places.{settle, inkGlyphs}
 use Rattle.text.proofs.Forms.{ascii}
 use Rattle.text.proofs.Leads.{plain-ink}

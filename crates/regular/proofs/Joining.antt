@@ -1,4 +1,4 @@
--- Writing the next line's stretch behind a line of output that has begun.
+-- Writing the next line's stretch after a line of output that has begun.
 use mathlib.Core.Path.{_≡_, refl, sym, ap, _∙_}
 use mathlib.Core.Bool.{Bool, true, false}
 use mathlib.Core.List.{List, _++_}

@@ -23,11 +23,11 @@ use Rattle.regular.proofs.Fresh.{no-words, fresh-same, fresh-stays, bre
 use Rattle.regular.proofs.Parts.{behind-opens, part-spaces, part-ink, part-opens, part-closed, part-first-space, part-least}
 
 module _ (s : List ℕ) (o : Opts) (g : Setting) (indent : List ℕ) (kept : o .uniform ≡ false) (even : g .uniform ≡ false) (more : List Word) where
-  -- the words of the notes between two places, the words of later lines behind them
+  -- the words of the notes between two places, the words of later lines after them
   abbrev from : Bool → Bool → ℕ → ℕ → List Word
   from newLine previous p e = stretchWords o newLine previous (slice p e s) ++ more
 
-  -- a word begins at next: its first word, and what is behind that
+  -- a word begins at next: its first word, and what is after that
   module _ (next e : ℕ) (inked : Inked s next e) where
     abbrev xs : List ℕ
     xs = slice next e s
@@ -40,7 +40,7 @@ module _ (s : List ℕ) (o : Opts) (g : Setting) (indent : List ℕ) (kept : o .
     fresh-marks counts newLine previous column =
         rw (while-behind notSpace xs) at (fresh-same o g indent kept more counts newLine previous column [] (while notSpace xs) (behind notSpace xs) (every-nil isSpace) (every-while notSpace xs) ink-some (behind-opens xs))
 
-    -- behind a gap it breaks, where it does not fit
+    -- after a gap it breaks, where it does not fit
     break-at : (column : ℕ) (punct previous : Bool) (gap : List ℕ) → every isSpace gap ≡ true → g .width < column + length gap + length (while notSpace xs)
         → quickRest g indent column punct (stretchWords o false previous (gap ++ xs) ++ more) ≡ lineFeed ++ (indent ++ quickFresh g indent true (g .indent) (from false false next e))
     break-at column punct previous gap spaced wide =
@@ -87,7 +87,7 @@ module _ (s : List ℕ) (o : Opts) (g : Setting) (indent : List ℕ) (kept : o .
     fresh-all fits =
         rw (slice-empty e s, no-words) at (fresh-front e (inked .on) (omega arith) (inked .last) (rw (slice-empty e s)) fits)
 
-  -- ---- the next line's stretch, behind a line of output that has begun
+  -- ---- the next line's stretch, after a line of output that has begun
 
   module _ (p e : ℕ) (inked : Inked s p e) (column : ℕ) (punct : Bool) where
     -- where it does not even have a first word's room

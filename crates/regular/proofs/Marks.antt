@@ -1,4 +1,4 @@
--- The mark behind a line's stretch, and the stretch of a paragraph's next line.
+-- The mark after a line's stretch, and the stretch of a paragraph's next line.
 use mathlib.Core.Path.{_≡_, refl, sym, _∙_}
 use mathlib.Core.Bool.{Bool, true, false}
 use mathlib.Core.List.{List, [], _∷_}
@@ -8,17 +8,15 @@ use lib.Dec.{ltb}
 use lib.ListN.{length, getD}
 use lib.Seq.{slice, length-slice, slice-empty}
 use borrow.Author.Tests.{le-leb, lt-ltb, lt-leb, le-ltb, ltb-true, ltb-false}
-use Rattle.options.specs.Opts.{Opts}
 use Rattle.spacing.specs.declared.Setting.{Setting}
 use Rattle.words.specs.Contracts.Scan.{punctCode}
 use Rattle.output.proofs.Sink.{left-first}
 use Rattle.regular.specs.declared.State.{State}
 use Rattle.regular.specs.declared.Reached.{Reached}
 use Rattle.regular.specs.Contracts.Regular.{isRegular, lastly, freshPunct}
-use Rattle.regular.specs.Contracts.Places.{FirstSpace, Inked, Joined, EachRegular, Went, WordsPut}
+use Rattle.regular.specs.Contracts.Places.{FirstSpace, Inked, Joined, EachRegular, Went}
 use Rattle.regular.proofs.Fresh.{no-words}
-use Rattle.regular.proofs.Glyphs.{regular-words}
-use Rattle.regular.proofs.Parts.{part-at, part-ink, part-spaced, part-all}
+use Rattle.regular.proofs.Parts.{part-at, part-ink, part-spaced}
 
 pub regular-by : (b : ℕ) → 32 ≤ b → b ≤ 127 → isRegular b ≡ true
 regular-by b h k = let l : b < 128 = omega arith in rw (le-leb 32 b h, lt-ltb b 128 l)
@@ -80,12 +78,3 @@ module _ (s : List ℕ) (from e : ℕ) (g : Setting) (indent : List ℕ) (out : 
     most = j .most;
     reach = let h = j .reach in let w = inked .within in omega arith;
   }
-
--- the words of a regular line are those of its stretch
-pub went-words : (s : List ℕ) (from e : ℕ) (g : Setting) (indent : List ℕ) (out : List ℕ) (t : Reached) (out′ : List ℕ) (r : Reached) (o : Opts) → o .uniform ≡ false → e ≤ length s → EachRegular s from e
-    → Went s from e g indent out t out′ r → WordsPut o s true false g indent from e out t out′ r
-went-words s from e g indent out t out′ r o kept within each went = record {
-  left = λ more. rw (regular-words o true false true (slice from e s) (part-all s from e within isRegular each)) (went .left o more kept);
-  most = went .most;
-  reach = went .reach;
-}

@@ -54,7 +54,7 @@ while-least (suc n) (x ∷ xs) h k =
     let ih = while-least n xs (omega arith) (λ i l. k (suc i) (omega arith)) in
     omega arith
 
--- behind ink stands a space, or nothing
+-- after ink stands a space, or nothing
 pub behind-opens : (xs : List ℕ) → opens (behind notSpace xs) ≡ true
 unfolding opens behind
 behind-opens [] = refl

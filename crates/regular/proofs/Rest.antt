@@ -1,4 +1,4 @@
--- Quick's output one word at a time: a word that fits stays behind its spacing, and any other begins a fresh line.
+-- Quick's output one word at a time: a word that fits stays after its spacing, and any other begins a fresh line.
 use mathlib.Core.Path.{_≡_, _∙_}
 use mathlib.Core.Bool.{Bool, true, false, cond, or-true}
 use mathlib.Core.List.{List, [], _∷_, _++_, append-nil}
@@ -42,7 +42,7 @@ module _ (g : Setting) (indent : List ℕ) where
         → quickRest g indent column punct (plainWord false previous sp ink ∷ ws) ≡ lineFeed ++ (indent ++ quickFresh g indent true (g .indent) (plainWord false previous sp ink ∷ ws))
     plain-breaks h = word-breaks column punct (plainWord false previous sp ink) ws (rw reach (lt-ltb _ _ h))
 
-  -- of the first word of a line behind another one, whose last word's punctuation is known
+  -- of the first word of a line after another one, whose last word's punctuation is known
   module _ (column : ℕ) (punct : Bool) (ink : List ℕ) (ws : List Word) where
     reach-next : reachedBy g column punct (plainWord true false [] ink) ≡ column + added punct + length ink
     unfolding gapWidth addedSpace

@@ -1,6 +1,6 @@
 -- A paragraph's line, if it is regular: its words are those of its stretch, without the spaces at its end.
 use mathlib.Core.Path.{_≡_, refl, sym, ap, _∙_}
-use mathlib.Core.Bool.{Bool, true, false, not, false≢true}
+use mathlib.Core.Bool.{Bool, true, false, not}
 use mathlib.Core.Logic.{inl}
 use mathlib.Core.List.{List, [], _∷_, _++_, append-nil}
 use Prim.Native.Nat.{ℕ, zero, suc, _+_, _-_, _≤_, _<_}
@@ -8,13 +8,12 @@ use native.Mathlib.Omega.{arith}
 use lib.Dec.{ltb, eqb}
 use lib.ListN.{length, getD, take, length-append}
 use lib.Seq.{slice, length-slice, length-take-le, getD-take}
-use borrow.Author.Tests.{ltb-true, ltb-false, eq-eqb, ne-eqb, leb-true, le-leb, lt-leb}
+use borrow.Author.Tests.{ltb-true, ltb-false, eq-eqb, leb-true, le-leb, lt-leb}
 use Rattle.lists.specs.Runs.{while, behind, every}
-use Rattle.lists.proofs.Runs.{while-more, while-end}
-use Rattle.lists.proofs.Parts.{behind-nil, while-nil, every-cons}
+use Rattle.lists.proofs.Runs.{while-more}
+use Rattle.lists.proofs.Parts.{behind-nil, every-cons}
 use Rattle.lists.proofs.Joins.{slice-join, append-inner}
 use Rattle.text.specs.Characters.{Glyph, isBlank}
-use Rattle.text.specs.Contracts.Places.{inkGlyphs}
 use Rattle.options.specs.Opts.{Opts}
 use Rattle.lines.specs.Lines.{firstLine, linesOf}
 use Rattle.lines.specs.Contracts.Places.{lengthsOf}
@@ -27,7 +26,7 @@ use Rattle.words.proofs.WordRuns.{words-none}
 use Rattle.words.proofs.LineEnds.{behindEnd, LineEnds, line-ends, same-ends}
 use Rattle.words.proofs.Rows.{LineAt, line-at}
 use Rattle.regular.specs.Contracts.Regular.{isSpace, isRegular, regularGlyph, stretchWords, lastly, closed, opens}
-use Rattle.regular.specs.Contracts.Places.{NoSpace, BeforeSpaces, EachRegular, RegularTo, RowIs}
+use Rattle.regular.specs.Contracts.Places.{NoSpace, BeforeSpaces, RegularTo, RowIs}
 use Rattle.regular.proofs.Stretch.{gl, and-true, behind-all, word-first, blanks-are}
 use Rattle.regular.proofs.Glyphs.{regular-glyphs, regular-words}
 use Rattle.regular.proofs.Fronts.{front, closed-some, opens-append}
@@ -88,11 +87,6 @@ trailing o kept newLine previous s from e end within before = pick (ltb from e) 
 
 -- ---- a line of a paragraph
 
--- and one that begins with no space, with no blank
-no-blanks : (xs : List ℕ) → (0 < length xs → NoSpace xs 0) → while isBlank (gl xs) ≡ []
-no-blanks [] h = while-nil isBlank
-no-blanks (x ∷ xs) h = while-end isBlank (regularGlyph x) (gl xs) (ne-eqb x 32 (h (omega arith)))
-
 -- a regular byte is none below the space
 regular-not : (c b : ℕ) → isRegular b ≡ true → c < 32 → b ≡ c → ⊥
 regular-not c b h l q = let t = leb-true 32 b (and-true _ _ h .0) in omega arith
@@ -110,35 +104,10 @@ module _ (o : Opts) (kept : o .uniform ≡ false) (skip later : ℕ) (s : List �
   pub row-begins : (i + skip ≤ i + x .text) × (i + x .text ≤ i + x .whole) × (i + x .whole ≤ next)
   row-begins = (omega (arith, line .starts refl), omega (arith, line .shorter), line .within)
 
-  abbrev text : List ℕ
-  text = take next s
-
-  -- a line of other bytes
-  pub row-other : RowIs o skip later s next i (record { from = i + skip; end = i + x .text; next = i + x .whole; regular = false })
-  row-other =
-      let a = line .on in
-      let b = line .within in
-      let c = line .shorter in
-      record {
-        on = omega arith;
-        most = b;
-        order = omega arith;
-        ends = omega arith;
-        lies = record {
-          some = row-begins .0;
-          within = omega arith;
-          ink = line .ink refl;
-          regular = λ h. absurd (false≢true h);
-          inked = λ h. absurd (false≢true h);
-        };
-        rest = line .rest refl;
-        words = line .words;
-      }
-
-  -- a regular one, without the spaces at its end
-  stretch-is : EachRegular s (i + skip) (i + x .text) → (e : ℕ) → BeforeSpaces s (i + skip) (i + x .text) e
+  -- the stretch without the spaces at its end
+  stretch-is : every isRegular (slice (i + skip) (i + x .text) s) ≡ true → (e : ℕ) → BeforeSpaces s (i + skip) (i + x .text) e
       → RowIs o skip later s next i (record { from = i + skip; end = e; next = i + x .whole; regular = true })
-  stretch-is each e before =
+  stretch-is is e before =
       let a = line .on in
       let b = line .within in
       let c = line .shorter in
@@ -147,23 +116,14 @@ module _ (o : Opts) (kept : o .uniform ≡ false) (skip later : ℕ) (s : List �
         on = omega arith;
         most = b;
         order = omega arith;
-        ends = omega arith;
-        lies = record {
-          some = before .on;
-          within = omega arith;
-          ink = shorter-ink;
-          regular = λ h j k l. each j k (omega arith);
-          inked = λ h l. record { on = l; within = omega arith; first = first l; last = before .ink l };
-        };
+        some = before .on;
+        within = omega arith;
         rest = line .rest refl;
+        inked = λ l. record { on = l; within = omega arith; first = first l; last = before .ink l };
         words = line .words ∙ ap (λ (ws : List Word). ws ++ wordsAt o false later later (linesOf (slice (i + x .whole) next s)))
-            (regular-words o true false true (slice (i + skip) (i + x .text) s) is ∙ trailing o kept true false s (i + skip) e (i + x .text) (omega arith) before
-            ∙ sym (regular-words o true false true (slice (i + skip) e s) (part-all s (i + skip) e (omega arith) isRegular (λ j k l. each j k (omega arith)))));
+            (regular-words o true false true (slice (i + skip) (i + x .text) s) is ∙ trailing o kept true false s (i + skip) e (i + x .text) (omega arith) before);
       }
     where
-      is : every isRegular (slice (i + skip) (i + x .text) s) ≡ true
-      is = let b = line .within in let c = line .shorter in part-all s (i + skip) (i + x .text) (omega arith) isRegular each
-
       first : i + skip < e → NoSpace s (i + skip)
       first l =
           let b = line .within in
@@ -174,16 +134,11 @@ module _ (o : Opts) (kept : o .uniform ≡ false) (skip later : ℕ) (s : List �
           rw (part-at s (i + skip) (i + x .text) (omega arith) 0 (omega arith), z) at
           (ink-first (slice (i + skip) (i + x .text) s) (rw (regular-glyphs (o .glue) true (slice (i + skip) (i + x .text) s) is) at (line .ink refl)) (omega arith))
 
-      shorter-ink : while isBlank (inkGlyphs (o .glue) (slice (i + skip) e s)) ≡ []
-      shorter-ink =
-          let b = line .within in
-          let c = line .shorter in
-          let m = before .most in
-          let r : inkGlyphs (o .glue) (slice (i + skip) e s) ≡ gl (slice (i + skip) e s) = regular-glyphs (o .glue) true (slice (i + skip) e s) (part-all s (i + skip) e (omega arith) isRegular (λ j k l. each j k (omega arith))) in
-          rw r (no-blanks (slice (i + skip) e s) (λ h. let n = length-slice (i + skip) e s (omega arith) in let z : i + skip + 0 ≡ i + skip = omega arith in rw (part-at s (i + skip) e (omega arith) 0 (omega arith), z) (first (omega arith))))
-
   -- the line ends where its regular bytes do, at a line feed or at the paragraph's end
   module _ (end : ℕ) (to : RegularTo s (i + skip) next end) (fed : end < next → getD s end 0 ≡ 10) (behind : ℕ) (behinds : (end < next → behind ≡ end + 1) × (next ≤ end → behind ≡ end)) where
+    abbrev text : List ℕ
+    text = take next s
+
     size : length text ≡ next
     size = length-take-le next s fits
 
@@ -222,4 +177,4 @@ module _ (o : Opts) (kept : o .uniform ≡ false) (skip later : ℕ) (s : List �
         let m = same-ends (line-ends text i (omega (arith, n, more)) x found) ends (omega arith) (row-begins .0) in
         let a : i + x .text ≡ end = omega (arith, m .0, to .on) in
         let b : i + x .whole ≡ behind = sym (m .1) ∙ over in
-        rw b at (stretch-is (rw a (to .all)) e (rw a before))
+        rw b at (stretch-is (rw a (part-all s (i + skip) end (omega (arith, to .most, fits)) isRegular (to .all))) e (rw a before))

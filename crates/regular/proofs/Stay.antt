@@ -16,7 +16,7 @@ use Rattle.regular.proofs.Rest.{plain-stays}
 use Rattle.regular.proofs.Fronts.{front, lastly-append, lastly-some, closed-some, opens-append}
 
 module _ (o : Opts) (g : Setting) (indent : List ℕ) (kept : o .uniform ≡ false) (even : g .uniform ≡ false) (more : List Word) where
-  -- the punctuation behind a word and what follows it
+  -- the punctuation after a word and what follows it
   lastly-word : (x : Bool) (sp ink rest : List ℕ) → 0 < length ink → lastly x (sp ++ (ink ++ rest)) ≡ lastly (lastly false ink) rest
   lastly-word x sp ink rest some = rw (lastly-append x sp (ink ++ rest), lastly-append (lastly x sp) ink rest, lastly-some (lastly x sp) false ink some)
 
@@ -32,7 +32,7 @@ module _ (o : Opts) (g : Setting) (indent : List ℕ) (kept : o .uniform ≡ fal
       let n : column + length (sp ++ (ink ++ rest)) ≡ column + length sp + length ink + length rest = simp length-append (omega arith) in
       rw (is, n, lastly-word punct sp ink rest some, lastly-word previous sp ink rest some, append-inner sp ink rest ys, append-inner) (step ∙ ap (λ (l : List ℕ). sp ++ (ink ++ l)) ih)
 
-  -- one word, and the stretch behind it
+  -- one word, and the stretch after it
   stay-step : (sp ink rest ys : List ℕ) → every isSpace sp ≡ true → every notSpace ink ≡ true → 0 < length ink → opens (rest ++ ys) ≡ true
       → (column : ℕ) (punct previous : Bool) → column + length sp + length ink ≤ g .width
       → quickRest g indent column punct (stretchWords o false previous (sp ++ (ink ++ (rest ++ ys))) ++ more)
@@ -41,7 +41,7 @@ module _ (o : Opts) (g : Setting) (indent : List ℕ) (kept : o .uniform ≡ fal
       ap (λ (ws : List Word). quickRest g indent column punct (ws ++ more)) (word-first sp ink (rest ++ ys) spaced inked some next o false previous kept)
       ∙ plain-stays g indent even column punct previous sp ink _ fits
 
-  -- the bytes a, that end in a word, and what stands on the line behind them
+  -- the bytes a, that end in a word, and what stands on the line after them
   stays-upto : (ys : List ℕ) → opens ys ≡ true → (k : ℕ) (a : List ℕ) → length a ≤ k → closed true a ≡ true → (column : ℕ) (punct previous : Bool) → column + length a ≤ g .width
       → quickRest g indent column punct (stretchWords o false previous (a ++ ys) ++ more)
       ≡ a ++ quickRest g indent (column + length a) (lastly punct a) (stretchWords o false (lastly previous a) ys ++ more)

@@ -6,7 +6,7 @@ use Prim.Native.Nat.{ℕ, suc, _+_, _-_, _<_}
 use native.Mathlib.Omega.{arith}
 use lib.ListN.{length, drop, length-append}
 use lib.Seq.{drop-at}
-use borrow.Author.Tests.{eqb-true}
+use borrow.Author.Tests.{eqb-true, not-true}
 use Rattle.lists.specs.Runs.{while, behind, every, joined}
 use Rattle.lists.proofs.Runs.{while-more, while-end, behind-more, behind-end, every-map}
 use Rattle.lists.proofs.Parts.{while-nil, every-cons}
@@ -94,15 +94,11 @@ module _ (sp ink rest : List ℕ) (spaces : every isSpace sp ≡ true) (inked : 
   ink-begins : (while isBlank (gl ink ++ gl rest) ≡ []) × (behind isBlank (gl ink ++ gl rest) ≡ gl ink ++ gl rest)
   ink-begins = go ink inked some
     where
-      not-of : (b : Bool) → not b ≡ true → b ≡ false
-      not-of true h = sym h
-      not-of false h = refl
-
       go : (ys : List ℕ) → every notSpace ys ≡ true → 0 < length ys → (while isBlank (gl ys ++ gl rest) ≡ []) × (behind isBlank (gl ys ++ gl rest) ≡ gl ys ++ gl rest)
       go [] h l = absurd (omega arith)
       go (y ∷ ys) h l =
           let t = and-true _ _ (sym (every-cons notSpace y ys) ∙ h) in
-          (while-end isBlank (regularGlyph y) (gl ys ++ gl rest) (not-of _ (t .0)), behind-end isBlank (regularGlyph y) (gl ys ++ gl rest) (not-of _ (t .0)))
+          (while-end isBlank (regularGlyph y) (gl ys ++ gl rest) (not-true _ (t .0)), behind-end isBlank (regularGlyph y) (gl ys ++ gl rest) (not-true _ (t .0)))
 
   blanks-all : every isBlank (gl sp) ≡ true
   blanks-all = sym (every-map isBlank regularGlyph sp) ∙ spaces
@@ -163,7 +159,7 @@ module _ (sp ink rest : List ℕ) (spaces : every isSpace sp ≡ true) (inked : 
       pick [] l ws = absurd (omega arith)
       pick (x ∷ t) l ws = refl
 
-  -- the first word, and the words behind it
+  -- the first word, and the words after it
   pub word-first : (o : Opts) (newLine previous : Bool) → o .uniform ≡ false
       → stretchWords o newLine previous (sp ++ (ink ++ rest)) ≡ plainWord newLine previous sp ink ∷ stretchWords o false (lastly false ink) rest
   unfolding stretchWords

@@ -1,31 +1,34 @@
--- Words of any kind, one by one: each stays on the line of output or begins a fresh one.
-use mathlib.Core.Path.{_≡_, sym, ap, _∙_}
-use mathlib.Core.Bool.{Bool, true, false, false≢true}
+-- Words of any kind, one by one: each stays on the line of output or begins a fresh one. And lines by a table of their words.
+use mathlib.Core.Path.{_≡_, sym, _∙_}
+use mathlib.Core.Bool.{false}
 use mathlib.Core.List.{List, [], _∷_, _++_, append-assoc}
-use Prim.Native.Nat.{ℕ, _+_, _-_, _≤_, _<_, _^_}
+use Prim.Native.Nat.{ℕ, _+_, _-_, _*_, _≤_, _<_, _^_}
 use native.Mathlib.Omega.{arith}
-use lib.ListN.{length, take, replicate}
-use lib.Seq.{slice, length-slice, length-take-le}
-use borrow.Author.Tests.{lt-ltb, le-ltb}
-use Rattle.lists.specs.Runs.{while}
+use lib.ListN.{length, drop, replicate}
+use lib.Seq.{slice, length-slice}
+use borrow.Author.Tests.{lt-ltb, le-ltb, le-leb}
 use Rattle.lists.proofs.Joins.{slice-join}
-use Rattle.text.specs.Characters.{isBlank}
-use Rattle.text.specs.Contracts.Places.{inkGlyphs}
-use Rattle.options.specs.Opts.{Opts}
+use Rattle.options.specs.Opts.{meant}
+use Rattle.options.specs.declared.Options.{Options}
 use Rattle.records.specs.Word.{Word, meaning}
 use Rattle.records.specs.declared.Word.{Word as Record}
-use Rattle.records.specs.Contracts.Table.{Within}
+use Rattle.records.specs.Contracts.Table.{Within, wordIn, wordsIn}
+use Rattle.records.proofs.Table.{words-drop, words-end}
 use Rattle.spacing.specs.Spacing.{gapWidth, addedSpace}
 use Rattle.spacing.specs.declared.Setting.{Setting}
-use Rattle.words.specs.Contracts.Scan.{NextWord}
-use Rattle.words.proofs.Filling.{front-means}
+use Rattle.words.specs.Contracts.Places.{counted}
+use Rattle.words.specs.Contracts.Split.{Kept, Split}
+use Rattle.words.specs.declared.Count.{Count}
+use Rattle.words.specs.declared.Count.the-variants.{Words, TooMany}
+use Rattle.words.proofs.Rows.{lines-end}
+use Rattle.words.proofs.Halves.{lines-half}
 use Rattle.output.specs.Emission.{lineFeed, spaceBefore}
 use Rattle.output.specs.Contracts.Sink.{Wrote}
 use Rattle.output.proofs.Sink.{left-first, left-then}
 use Rattle.quick.proofs.Width.{reachedBy}
 use Rattle.regular.specs.declared.Reached.{Reached}
 use Rattle.regular.specs.Contracts.Regular.{quickRest, quickFresh}
-use Rattle.regular.specs.Contracts.Places.{WordPut, WordsPut, Wording, wordsOf}
+use Rattle.regular.specs.Contracts.Places.{WordPut, Listed, Rested, wordsOn}
 use Rattle.regular.proofs.Rest.{word-breaks, word-stays}
 use Rattle.regular.proofs.Joining.{left-on}
 
@@ -68,46 +71,77 @@ module _ (s : List ℕ) (w : Record) (g : Setting) (indent : List ℕ) (out : Li
       stays : (more : List Word) → quickRest g indent (t .column) (t .punct) (meaning s w ∷ more) ≡ replicate count 32 ++ (slice (w .from) (w .end) s ++ quickRest g indent reached (w .punct) more)
       stays more =
           word-stays g indent (t .column) (t .punct) (meaning s w) more (rw reaches (le-ltb _ _ fits))
-          ∙ rw (reaches, ← counts, append-assoc (replicate count 32) (slice (w .from) (w .start) s) (slice (w .start) (w .end) s ++ quickRest g indent reached (w .punct) more),
-            ← append-assoc (slice (w .from) (w .start) s) (slice (w .start) (w .end) s) (quickRest g indent reached (w .punct) more), slice-join (w .from) (w .start) (w .end) s (lies .gap) (lies .text) (lies .end))
+          ∙ rw (
+            reaches,
+            ← counts,
+            append-assoc (replicate count 32) (slice (w .from) (w .start) s) (slice (w .start) (w .end) s ++ quickRest g indent reached (w .punct) more),
+            ← append-assoc (slice (w .from) (w .start) s) (slice (w .start) (w .end) s) (quickRest g indent reached (w .punct) more),
+            slice-join (w .from) (w .start) (w .end) s (lies .gap) (lies .text) (lies .end),
+          )
 
--- ---- the words of a line's part
+-- ---- the words of a table
 
--- a word of a text's front lies in the text
-pub within-whole : (s : List ℕ) (end : ℕ) (w : Record) → end ≤ length s → Within (length (take end s)) w → Within (length s) w
-within-whole s end w h lies = record { gap = lies .gap; text = lies .text; end = let l = length-take-le end s h in let e = lies .end in omega arith }
+module _ (s table : List ℕ) (n : ℕ) (g : Setting) (indent : List ℕ) (out : List ℕ) (t : Reached) where
+  pub listed-first : t .column ≤ 2 ^ 33 → Listed s table n g indent out t out 0 t
+  listed-first near = record { few = omega arith; left = left-first _ _ _; most = omega arith; reach = near }
 
-module _ (o : Opts) (newLine previous : Bool) (s : List ℕ) (at end : ℕ) (w : Record) (next : NextWord o false newLine previous (take end s) at w) where
-  pub words-next : wordsOf o newLine previous s at end ≡ meaning s w ∷ wordsOf o false (w .punct) s (w .end) end
-  words-next = next .first ∙ ap (λ (v : Word). v ∷ wordsOf o false (w .punct) s (w .end) end) (front-means s end w (next .within))
+  pub listed-turn : (j : ℕ) (v : Reached) (out′ : List ℕ) → Listed s table n g indent out t out′ j v → j < n → (w : Record) → w ≡ wordIn table j → (out″ : List ℕ) (v′ : Reached) → WordPut s w g indent out′ v out″ v′
+      → Listed s table n g indent out t out″ (j + 1) v′
+  listed-turn j v out′ so more w is out″ v′ put = record {
+    few = omega arith;
+    left = left-on (rw (words-drop s n table j more, ← is) at (so .left)) (put .left (drop (j + 1) (wordsIn s n table)));
+    most = let x = so .most in let y = put .most in omega arith;
+    reach = put .reach;
+  }
 
-module _ (o : Opts) (s : List ℕ) (newLine previous : Bool) (g : Setting) (indent : List ℕ) (from end : ℕ) (out : List ℕ) (t : Reached) where
-  pub wording-first : from ≤ end → (newLine ≡ true → while isBlank (inkGlyphs (o .glue) (slice from end s)) ≡ []) → t .column ≤ 2 ^ 33 → Wording o s newLine previous g indent from end out t from newLine previous out t
-  wording-first on ink near = record { on = omega arith; within = on; ink = ink; left = λ more. left-first _ _ _; most = omega arith; reach = near }
+  pub listed-all : (j : ℕ) (v : Reached) (out′ : List ℕ) → Listed s table n g indent out t out′ j v → n ≤ j → Listed s table n g indent out t out′ n v
+  listed-all j v out′ so h = let z : j ≡ n = omega (arith, so .few, h) in rw z at so
 
-  module _ (at : ℕ) (newLine′ previous′ : Bool) (out′ : List ℕ) (r : Reached) (so : Wording o s newLine previous g indent from end out t at newLine′ previous′ out′ r) where
-    pub wording-turn : end ≤ length s → (w : Record) → NextWord o false newLine′ previous′ (take end s) at w → (out″ : List ℕ) (r′ : Reached) → WordPut s w g indent out′ r out″ r′
-        → Wording o s newLine previous g indent from end out t (w .end) false (w .punct) out″ r′
-    wording-turn within w next out″ r′ put =
-        let a = so .on in
-        let b = next .on in
-        let c = next .within .end in
-        let l = length-take-le end s within in
-        record {
-          on = omega arith;
-          within = omega arith;
-          ink = λ h. absurd (false≢true h);
-          left = λ more. left-on (rw (words-next o newLine′ previous′ s at end w next) at (so .left more)) (put .left (wordsOf o false (w .punct) s (w .end) end ++ more));
-          most = let x = so .most in let y = put .most in omega arith;
-          reach = put .reach;
-        }
+-- what a table keeps of its words
+module _ (size n : ℕ) (table : List ℕ) (kept : Kept n size n table) (j : ℕ) (more : j < n) (w : Record) (is : w ≡ wordIn table j) where
+  pub word-lies : Within size w
+  word-lies = rw is (kept .within j more)
 
-    pub wording-done : wordsOf o newLine′ previous′ s at end ≡ [] → WordsPut o s newLine previous g indent from end out t out′ r
-    wording-done none =
-        let a = so .within in
-        let b = so .on in
-        record {
-          left = λ more. rw none at (so .left more);
-          most = let x = so .most in omega arith;
-          reach = so .reach;
-        }
+  pub word-narrow : w .width ≤ size
+  word-narrow = rw is (kept .narrow j more)
+
+pub kept-all : {most size n : ℕ} {table : List ℕ} → Kept most size n table → Kept n size n table
+kept-all k = record { few = omega arith; held = let h = k .held in let f = k .few in omega arith; within = k .within; narrow = k .narrow }
+
+-- ---- lines by a table of their words
+
+-- words that are few enough are counted
+counted-all : (most : ℕ) (ws : List Word) → length ws ≤ most → counted most ws ≡ Words (length ws)
+unfolding counted
+counted-all most ws h = rw (le-leb (length ws) most h)
+
+module _ (s : List ℕ) (at next later : ℕ) (o : Options) (within : next ≤ length s) (most : ℕ) (few : next - at ≤ 2 * most) where
+  fits : (block : List ℕ) → length (wordsOn block o later later next s at) ≤ most
+  fits block =
+      let h = lines-half (meant block o) false later later (slice at next s) in
+      let n = length-slice at next s within in
+      omega (arith, h, n, few)
+
+  pub rest-counted : (table : List ℕ) (places : List ℕ) (r : Count) → Split most s (wordsOn [] o later later next s at) places table r → r ≡ TooMany → ⊥
+  rest-counted table places r split e =
+      let q : Words (length (wordsOn [] o later later next s at)) ≡ TooMany = sym (counted-all most _ (fits [])) ∙ sym (split .count) ∙ e in
+      let z : _≡_ {A = ℕ} 0 1 = cc in
+      absurd (omega arith)
+
+  pub rest-few : (table : List ℕ) (places : List ℕ) (r : Count) → Split most s (wordsOn [] o later later next s at) places table r → (n : ℕ) → r ≡ Words n → length s ≤ 2 ^ 20 → n ≤ 2 ^ 20
+  rest-few table places r split n e small =
+      let q : Words n ≡ Words (length (wordsOn [] o later later next s at)) = sym e ∙ split .count ∙ counted-all most _ (fits []) in
+      let m : n ≡ length (wordsOn [] o later later next s at) = cc in
+      let h = lines-half (meant [] o) false later later (slice at next s) in
+      let l = length-slice at next s within in
+      omega (arith, h, l, m, small, within)
+
+module _ (s : List ℕ) (at next later : ℕ) (o : Options) (g : Setting) (indent : List ℕ) (out : List ℕ) (t : Reached) where
+  pub rest-none : at ≡ next → Rested s at next later o g indent out t out t
+  rest-none e = record { left = λ block. rw (lines-end (meant block o) false later later s next at (omega (arith, e))) (left-first _ _ _); most = omega arith }
+
+  pub rest-listed : (table : List ℕ) (n : ℕ) → ((block : List ℕ) → wordsIn s n table ≡ wordsOn block o later later next s at) → n ≤ 2 ^ 20 → (out′ : List ℕ) (r : Reached) → Listed s table n g indent out t out′ n r → Rested s at next later o g indent out t out′ r
+  rest-listed table n words small out′ r listed = record {
+    left = λ block. rw (← words block) (rw (words-end s n table n (omega arith)) at (listed .left));
+    most = let x = listed .most in omega arith;
+  }

@@ -4,27 +4,25 @@ use options::Options;
 use pieces::Margin;
 use records::Word;
 use spacing::Setting;
-use words::Next;
+use words::Count;
 ghost use mathlib.Core.Path.{_≡_};
 ghost use mathlib.Core.Bool.{true, false};
-ghost use mathlib.Core.List.{[], _++_};
-ghost use Prim.Native.Nat.{_+_, _-_, _≤_, _<_, _^_, min};
+ghost use mathlib.Core.List.{List, _++_};
+ghost use Prim.Native.Nat.{ℕ, _+_, _-_, _*_, _≤_, _<_, _^_, min};
 ghost use lib.ListN.{length, getD, replicate};
 ghost use lib.Seq.{slice};
-ghost use Rattle.lists.specs.Runs.{while};
-ghost use Rattle.text.specs.Characters.{isBlank};
-ghost use Rattle.text.specs.Contracts.Places.{inkGlyphs};
-ghost use Rattle.options.specs.Opts.{Opts, meant};
+ghost use Rattle.options.specs.Opts.{meant};
 ghost use Rattle.lines.specs.Lines.{linesOf};
 ghost use Rattle.pieces.specs.Contracts.Bounds.{AllBegin};
-ghost use Rattle.records.specs.Contracts.Table.{Small, Within};
+ghost use Rattle.records.specs.Contracts.Table.{Holds, Small, Within};
 ghost use Rattle.spacing.specs.Contracts.Bounds.{Fair};
 ghost use Rattle.words.specs.Contracts.Scan.{punctCode};
+ghost use Rattle.words.specs.Contracts.Split.{Kept};
 ghost use Rattle.output.specs.Emission.{lineFeed};
 ghost use Rattle.output.specs.Contracts.Sink.{Wrote};
 ghost use Rattle.output.specs.Contracts.Writers.{marginOf, MarginIn};
 ghost use Rattle.regular.specs.Contracts.Regular.{freshPunct, added};
-ghost use Rattle.regular.specs.Contracts.Places.{LastSpace, FirstSpace, OverSpaces, BeforeSpaces, Inked, CutIs, Filled, Joined, EachRegular, RegularTo, RowIn, RowIs, Went, WordPut, WordsPut, BegunIs, Gone, PutIs};
+ghost use Rattle.regular.specs.Contracts.Places.{LastSpace, FirstSpace, OverSpaces, BeforeSpaces, Inked, CutIs, Filled, Joined, EachRegular, RegularTo, RowIs, Went, Gone, reachedOf, WordPut, Listed, Rested, PutIs};
 
 // A paragraph's work so far: the written end, and the column.
 struct State {
@@ -32,7 +30,7 @@ struct State {
     column: usize,
 }
 
-// The stretch of a line's words, the line behind it, and whether its bytes are regular.
+// The stretch of a line's words and the line after it, if its bytes are regular.
 struct Row {
     from: usize,
     end: usize,
@@ -40,17 +38,19 @@ struct Row {
     regular: bool,
 }
 
-// Where a paragraph stands behind a word: the written end, the column, and the mark of the word.
+// Where a paragraph is after a word: the written end, the column, and the mark of the word.
 struct Reached {
     written: usize,
     column: usize,
     punct: bool,
 }
 
-// Where a paragraph stands behind its first line; or that has no word, and nothing is written.
-enum Begun {
-    At(Reached),
-    Bare,
+// How far lines were taken: the line that was not, and where the paragraph stands.
+struct Progress {
+    at: usize,
+    written: usize,
+    column: usize,
+    punct: bool,
 }
 
 // A paragraph was written up to a place, or nothing was written, and it is left to other code.
@@ -65,7 +65,7 @@ struct Cut {
     next: usize,
 }
 
-// The last space behind a place, up to another, or that place.
+// The last space after a place, up to another, or that place.
 fn last_space(s: &[u8], from: usize, to: usize) -> usize
     requires { ⌜ (from ≤ to) × (to < length (now s)) ⌝ }
     ensures { λ r. ⌜ LastSpace (now (s .entry)) from to r ⌝ }
@@ -169,7 +169,7 @@ fn room_of(width: usize, column: usize) -> usize
     0
 }
 
-// Bytes of the notes, written behind k bytes.
+// Bytes of the notes, written after k bytes.
 fn put_at(s: &[u8], from: usize, to: usize, out: &mut [u8], k: usize) -> usize
     requires { ⌜ (from ≤ to) × (to ≤ length (now s)) × (length (now s) ≤ 2 ^ 20) × (k < 2 ^ 63) ⌝ }
     ensures { λ r. ⌜ Wrote (now (out .entry)) k (slice from to (now (s .entry))) (now (out .exit)) r ⌝ }
@@ -178,7 +178,7 @@ fn put_at(s: &[u8], from: usize, to: usize, out: &mut [u8], k: usize) -> usize
     k + output::put_text(s, from, to, &mut out[place..])
 }
 
-// A new line, behind k bytes.
+// A new line, after k bytes.
 fn break_at(s: &[u8], indent: Margin, out: &mut [u8], k: usize) -> usize
     requires { ⌜ MarginIn (length (now s)) indent × (length (now s) ≤ 2 ^ 20) × (k < 2 ^ 63) ⌝ }
     ensures { λ r. ⌜ Wrote (now (out .entry)) k (lineFeed ++ marginOf (now (s .entry)) indent) (now (out .exit)) r × (r ≤ k + 2 ^ 33) ⌝ }
@@ -187,7 +187,7 @@ fn break_at(s: &[u8], indent: Margin, out: &mut [u8], k: usize) -> usize
     k + output::put_break(s, indent, &mut out[place..])
 }
 
-// A line of output behind k bytes: bytes of the notes, and a new line.
+// A line of output after k bytes: bytes of the notes, and a new line.
 fn put_line(s: &[u8], from: usize, to: usize, indent: Margin, out: &mut [u8], k: usize) -> usize
     requires { ⌜ (from ≤ to) × (to ≤ length (now s)) × MarginIn (length (now s)) indent × (length (now s) ≤ 2 ^ 20) × (k < 2 ^ 62 + 2 ^ 61) ⌝ }
     ensures { λ r. ⌜ Wrote (now (out .entry)) k (slice from to (now (s .entry)) ++ (lineFeed ++ marginOf (now (s .entry)) indent)) (now (out .exit)) r × (r ≤ k + 2 ^ 34) ⌝ }
@@ -243,7 +243,7 @@ fn added_of(punct: bool) -> usize
     1
 }
 
-// Added spaces, behind k bytes.
+// Added spaces, after k bytes.
 fn spaces_at(count: usize, out: &mut [u8], k: usize) -> usize
     requires { ⌜ (count ≤ 2) × (k < 2 ^ 63) ⌝ }
     ensures { λ r. ⌜ Wrote (now (out .entry)) k (replicate count 32) (now (out .exit)) r × (r ≤ k + 2) ⌝ }
@@ -252,7 +252,7 @@ fn spaces_at(count: usize, out: &mut [u8], k: usize) -> usize
     k + output::put_added(count, &mut out[place..])
 }
 
-// The next line's regular stretch, behind a line of output that has begun: punct is the mark of the word before.
+// The next line's regular stretch, after a line of output that has begun: punct is the mark of the word before.
 fn join(
     s: &[u8],
     p: usize,
@@ -381,7 +381,7 @@ fn ends_line(s: &[u8], at: usize, next: usize) -> bool
     s[at] == 10
 }
 
-// The place behind a line that ends at a place: behind its line feed, unless the paragraph ends there.
+// The place after a line that ends at a place: after its line feed, unless the paragraph ends there.
 fn behind_line(end: usize, next: usize) -> usize
     requires { ⌜ next < 2 ^ 32 ⌝ }
     ensures { λ r. ⌜ (end < next → r ≡ end + 1) × (next ≤ end → r ≡ end) ⌝ }
@@ -392,27 +392,18 @@ fn behind_line(end: usize, next: usize) -> usize
     end
 }
 
-// The line at a place of a paragraph.
+// The line at a place of a paragraph, if it is regular.
 fn row_at(s: &[u8], i: usize, next: usize, skip: usize, later: usize, o: Options) -> Row
     requires { ⌜ (i < next) × (next ≤ length (now s)) × (length (now s) ≤ 2 ^ 20) × (o .uniform ≡ false) × AllBegin (o .glue) skip later (linesOf (slice i next (now s))) ⌝ }
-    ensures { λ r. ⌜ RowIs (meant [] o) skip later (now (s .entry)) next i r ⌝ }
+    ensures { λ r. ⌜ (r .regular ≡ true → (block : List ℕ) → RowIs (meant block o) skip later (now (s .entry)) next i r) ⌝ }
 {
     let from = i + skip;
     let end = regular_end(s, from, next);
-    if ends_line(s, end, next) {
-        return Row {
-            from,
-            end: before_spaces(s, from, end),
-            next: behind_line(end, next),
-            regular: true,
-        };
-    }
-    let line = lines::first_line(&s[i..next]);
     Row {
         from,
-        end: i + line.text,
-        next: i + line.whole,
-        regular: false,
+        end: before_spaces(s, from, end),
+        next: behind_line(end, next),
+        regular: ends_line(s, end, next),
     }
 }
 
@@ -462,7 +453,57 @@ fn next_row(
     }
 }
 
-// A word of any kind, behind a line of output that has begun.
+// The mark that counts after a paragraph's first line.
+fn head_punct(s: &[u8], from: usize, e: usize) -> bool
+    requires { ⌜ Inked (now s) from e ⌝ }
+    ensures { λ r. ⌜ r ≡ freshPunct false (slice from e (now (s .entry))) ⌝ }
+{
+    let last = e - 1;
+    if first_space(s, from, e) == e {
+        return false;
+    }
+    is_punct(s[last])
+}
+
+// A paragraph's lines after its first, as far as they are regular.
+fn rows_from(
+    s: &[u8],
+    at: usize,
+    next: usize,
+    later: usize,
+    o: Options,
+    g: Setting,
+    indent: Margin,
+    t: Reached,
+    out: &mut [u8],
+) -> Progress
+    requires { ⌜ (at ≤ next) × (next ≤ length (now s)) × (length (now s) ≤ 2 ^ 20) × (o .uniform ≡ false) × AllBegin (o .glue) later later (linesOf (slice at next (now s))) × (g .uniform ≡ false) × MarginIn (length (now s)) indent × (t .written < 2 ^ 62 + 2 ^ 58) × (t .column ≤ 2 ^ 33) × (g .indent < 2 ^ 31) × (g .width < 2 ^ 31) ⌝ }
+    ensures { λ r. ⌜ Gone (now (s .entry)) at next later o g (marginOf (now (s .entry)) indent) (now (out .entry)) t (now (out .exit)) (r .at) (reachedOf r) ⌝ }
+{
+    let mut i = at;
+    let mut v = t;
+    while i < next {
+        let row = row_at(s, i, next, later, later, o);
+        if !row.regular {
+            return Progress {
+                at: i,
+                written: v.written,
+                column: v.column,
+                punct: v.punct,
+            };
+        }
+        v = next_row(s, row.from, row.end, g, indent, v, out);
+        i = row.next;
+    }
+    Progress {
+        at: i,
+        written: v.written,
+        column: v.column,
+        punct: v.punct,
+    }
+}
+
+// A word of any kind, after a line of output that has begun.
 // In the original: `accum_words_simple`.
 fn put_word(s: &[u8], w: Word, g: Setting, indent: Margin, t: Reached, out: &mut [u8]) -> Reached
     requires { ⌜ Within (length (now s)) w × Small w × (w .width ≤ length (now s)) × Fair g × MarginIn (length (now s)) indent × (length (now s) ≤ 2 ^ 20) × (t .written < 2 ^ 62 + 2 ^ 59) × (t .column ≤ 2 ^ 33) × (g .indent < 2 ^ 31) × (g .width < 2 ^ 31) ⌝ }
@@ -486,61 +527,31 @@ fn put_word(s: &[u8], w: Word, g: Setting, indent: Margin, t: Reached, out: &mut
     }
 }
 
-// The words of a line from start up to end, one by one. If the first of its line is still to come, it begins at start; if not, punct is the
-// mark of the word before.
+// The words of a table, one by one.
 // In the original: `break_simple`.
-fn put_words(
+fn put_listed(
     s: &[u8],
-    start: usize,
-    end: usize,
-    head: bool,
-    punct: bool,
-    o: Options,
+    table: &[u32],
+    n: usize,
     g: Setting,
     indent: Margin,
     t: Reached,
     out: &mut [u8],
 ) -> Reached
-    requires { ⌜ (start ≤ end) × (end ≤ length (now s)) × (length (now s) ≤ 2 ^ 20) × (1 ≤ o .tab) × (o .tab ≤ 100) × (head ≡ true → while isBlank (inkGlyphs (o .glue) (slice start end (now s))) ≡ []) × Fair g × MarginIn (length (now s)) indent × (t .written < 2 ^ 62 + 2 ^ 58) × (t .column ≤ 2 ^ 33) × (g .indent < 2 ^ 31) × (g .width < 2 ^ 31) ⌝ }
-    ensures { λ r. ⌜ WordsPut (meant [] o) (now (s .entry)) head punct g (marginOf (now (s .entry)) indent) start end (now (out .entry)) t (now (out .exit)) r ⌝ }
+    requires { ⌜ Kept n (length (now s)) n (now table) × (n ≤ 2 ^ 20) × Fair g × MarginIn (length (now s)) indent × (length (now s) ≤ 2 ^ 20) × (t .written < 2 ^ 62 + 2 ^ 58) × (t .column ≤ 2 ^ 33) × (g .indent < 2 ^ 31) × (g .width < 2 ^ 31) ⌝ }
+    ensures { λ r. ⌜ Listed (now (s .entry)) (now (table .entry)) n g (marginOf (now (s .entry)) indent) (now (out .entry)) t (now (out .exit)) n r ⌝ }
 {
-    let part = &s[..end];
-    let mut at = start;
-    let mut first = head;
-    let mut previous = punct;
+    let mut j = 0;
     let mut v = t;
-    loop {
-        let Next::One(w) = words::next_word(part, at, false, first, previous, o) else {
-            return v;
-        };
-        v = put_word(s, w, g, indent, v, out);
-        at = w.end;
-        first = false;
-        previous = w.punct;
+    while j < n {
+        v = put_word(s, records::get(table, j), g, indent, v, out);
+        j += 1;
     }
+    v
 }
 
-// A paragraph's next line.
-fn put_row(
-    s: &[u8],
-    row: Row,
-    o: Options,
-    g: Setting,
-    indent: Margin,
-    t: Reached,
-    out: &mut [u8],
-) -> Reached
-    requires { ⌜ RowIn (meant [] o) (now s) row × (length (now s) ≤ 2 ^ 20) × (1 ≤ o .tab) × (o .tab ≤ 100) × (o .uniform ≡ false) × (g .uniform ≡ false) × Fair g × MarginIn (length (now s)) indent × (t .written < 2 ^ 62 + 2 ^ 58) × (t .column ≤ 2 ^ 33) × (g .indent < 2 ^ 31) × (g .width < 2 ^ 31) ⌝ }
-    ensures { λ r. ⌜ WordsPut (meant [] o) (now (s .entry)) true false g (marginOf (now (s .entry)) indent) (row .from) (row .end) (now (out .entry)) t (now (out .exit)) r ⌝ }
-{
-    if row.regular {
-        return next_row(s, row.from, row.end, g, indent, t, out);
-    }
-    put_words(s, row.from, row.end, true, false, o, g, indent, t, out)
-}
-
-// A paragraph's lines behind its first.
-fn rows_from(
+// A paragraph's lines from one on that is not regular: by a table of their words, which are few enough for it.
+fn put_rest(
     s: &[u8],
     at: usize,
     next: usize,
@@ -550,21 +561,22 @@ fn rows_from(
     indent: Margin,
     t: Reached,
     out: &mut [u8],
+    most: usize,
+    work: &mut [u32],
 ) -> Reached
-    requires { ⌜ (at ≤ next) × (next ≤ length (now s)) × (length (now s) ≤ 2 ^ 20) × (1 ≤ o .tab) × (o .tab ≤ 100) × (o .uniform ≡ false) × AllBegin (o .glue) later later (linesOf (slice at next (now s))) × (g .uniform ≡ false) × Fair g × MarginIn (length (now s)) indent × (t .written < 2 ^ 62 + 2 ^ 57) × (t .column ≤ 2 ^ 33) × (g .indent < 2 ^ 31) × (g .width < 2 ^ 31) ⌝ }
-    ensures { λ r. ⌜ Gone (now (s .entry)) at next later o g (marginOf (now (s .entry)) indent) (now (out .entry)) t (now (out .exit)) next r ⌝ }
+    requires { ⌜ (at ≤ next) × (next ≤ length (now s)) × (length (now s) ≤ 2 ^ 20) × (1 ≤ o .tab) × (o .tab ≤ 100) × AllBegin (o .glue) later later (linesOf (slice at next (now s))) × Fair g × MarginIn (length (now s)) indent × (t .written < 2 ^ 62 + 2 ^ 58) × (t .column ≤ 2 ^ 33) × (g .indent < 2 ^ 31) × (g .width < 2 ^ 31) × (next - at ≤ 2 * most) × Holds most (now work) ⌝ }
+    ensures { λ r. ⌜ Rested (now (s .entry)) at next later o g (marginOf (now (s .entry)) indent) (now (out .entry)) t (now (out .exit)) r ⌝ }
 {
-    let mut i = at;
-    let mut v = t;
-    while i < next {
-        let row = row_at(s, i, next, later, later, o);
-        v = put_row(s, row, o, g, indent, v, out);
-        i = row.next;
+    if at == next {
+        return t;
     }
-    v
+    let Count::Words(n) = words::split_words(s, at, next, false, later, later, o, most, work) else {
+        return t;
+    };
+    put_listed(s, work, n, g, indent, t, out)
 }
 
-// An indent, behind k bytes.
+// An indent, after k bytes.
 fn margin_at(s: &[u8], m: Margin, out: &mut [u8], k: usize) -> usize
     requires { ⌜ MarginIn (length (now s)) m × (length (now s) ≤ 2 ^ 20) × (k < 2 ^ 63) ⌝ }
     ensures { λ r. ⌜ Wrote (now (out .entry)) k (marginOf (now (s .entry)) m) (now (out .exit)) r × (r ≤ k + 2 ^ 33) ⌝ }
@@ -573,7 +585,7 @@ fn margin_at(s: &[u8], m: Margin, out: &mut [u8], k: usize) -> usize
     k + output::put_margin(s, m, &mut out[place..])
 }
 
-// A line feed, behind k bytes.
+// A line feed, after k bytes.
 fn feed_at(out: &mut [u8], k: usize) -> usize
     requires { ⌜ k < 2 ^ 63 ⌝ }
     ensures { λ r. ⌜ Wrote (now (out .entry)) k lineFeed (now (out .exit)) r ⌝ }
@@ -582,106 +594,8 @@ fn feed_at(out: &mut [u8], k: usize) -> usize
     k + output::put_feed(&mut out[place..])
 }
 
-// The mark that counts behind a paragraph's first line.
-fn head_punct(s: &[u8], from: usize, e: usize) -> bool
-    requires { ⌜ Inked (now s) from e ⌝ }
-    ensures { λ r. ⌜ r ≡ freshPunct false (slice from e (now (s .entry))) ⌝ }
-{
-    let last = e - 1;
-    if first_space(s, from, e) == e {
-        return false;
-    }
-    is_punct(s[last])
-}
-
-// A paragraph's first line, behind its first indent: its stretch, if it is regular.
-fn begin_stretch(
-    s: &[u8],
-    from: usize,
-    e: usize,
-    g: Setting,
-    first: Margin,
-    indent: Margin,
-    out: &mut [u8],
-    written: usize,
-) -> Begun
-    requires { ⌜ (from ≤ e) × (e ≤ length (now s)) × (from < e → Inked (now s) from e) × EachRegular (now s) from e × (g .uniform ≡ false) × MarginIn (length (now s)) first × MarginIn (length (now s)) indent × (length (now s) ≤ 2 ^ 20) × (written < 2 ^ 62) × (g .first < 2 ^ 31) × (g .indent < 2 ^ 31) ⌝ }
-    ensures { λ r. ⌜ ((o : Opts) → o .uniform ≡ false → BegunIs o (now (s .entry)) from e g (marginOf (now (s .entry)) first) (marginOf (now (s .entry)) indent) (now (out .entry)) written (now (out .exit)) r) ⌝ }
-{
-    if from == e {
-        return Begun::Bare;
-    }
-    let k = margin_at(s, first, out, written);
-    let st = fill(
-        s,
-        from,
-        e,
-        false,
-        g,
-        indent,
-        State {
-            written: k,
-            column: g.first,
-        },
-        out,
-    );
-    Begun::At(Reached {
-        written: st.written,
-        column: st.column,
-        punct: head_punct(s, from, e),
-    })
-}
-
-// The same word by word. The first word's own punctuation does not count.
-// In the original: `break_simple`.
-fn begin_words(
-    s: &[u8],
-    from: usize,
-    e: usize,
-    o: Options,
-    g: Setting,
-    first: Margin,
-    indent: Margin,
-    out: &mut [u8],
-    written: usize,
-) -> Begun
-    requires { ⌜ (from ≤ e) × (e ≤ length (now s)) × (length (now s) ≤ 2 ^ 20) × (1 ≤ o .tab) × (o .tab ≤ 100) × (while isBlank (inkGlyphs (o .glue) (slice from e (now s))) ≡ []) × (g .uniform ≡ false) × Fair g × MarginIn (length (now s)) first × MarginIn (length (now s)) indent × (written < 2 ^ 62) × (g .first < 2 ^ 31) × (g .indent < 2 ^ 31) × (g .width < 2 ^ 31) ⌝ }
-    ensures { λ r. ⌜ BegunIs (meant [] o) (now (s .entry)) from e g (marginOf (now (s .entry)) first) (marginOf (now (s .entry)) indent) (now (out .entry)) written (now (out .exit)) r ⌝ }
-{
-    let part = &s[..e];
-    let Next::One(w) = words::next_word(part, from, false, true, false, o) else {
-        return Begun::Bare;
-    };
-    let k = margin_at(s, first, out, written);
-    let t = Reached {
-        written: put_at(s, w.start, w.end, out, k),
-        column: g.first + w.width,
-        punct: false,
-    };
-    Begun::At(put_words(s, w.end, e, false, w.punct, o, g, indent, t, out))
-}
-
-// A paragraph's first line.
-fn begin(
-    s: &[u8],
-    head: Row,
-    o: Options,
-    g: Setting,
-    first: Margin,
-    indent: Margin,
-    out: &mut [u8],
-    written: usize,
-) -> Begun
-    requires { ⌜ RowIn (meant [] o) (now s) head × (length (now s) ≤ 2 ^ 20) × (1 ≤ o .tab) × (o .tab ≤ 100) × (o .uniform ≡ false) × (g .uniform ≡ false) × Fair g × MarginIn (length (now s)) first × MarginIn (length (now s)) indent × (written < 2 ^ 62) × (g .first < 2 ^ 31) × (g .indent < 2 ^ 31) × (g .width < 2 ^ 31) ⌝ }
-    ensures { λ r. ⌜ BegunIs (meant [] o) (now (s .entry)) (head .from) (head .end) g (marginOf (now (s .entry)) first) (marginOf (now (s .entry)) indent) (now (out .entry)) written (now (out .exit)) r ⌝ }
-{
-    if head.regular {
-        return begin_stretch(s, head.from, head.end, g, first, indent, out, written);
-    }
-    begin_words(s, head.from, head.end, o, g, first, indent, out, written)
-}
-
-// A paragraph by quick where its gaps are kept, without a table of words; unless its first line has no word.
+// A paragraph by quick where its gaps are kept: regular lines without a table of words, and from the first other line on by one, for which
+// there is room. One whose first line is not regular, or has no word, is left as it is.
 // In the original: `break_simple`.
 pub fn put_quick(
     s: &[u8],
@@ -695,14 +609,46 @@ pub fn put_quick(
     indent: Margin,
     out: &mut [u8],
     written: usize,
+    most: usize,
+    work: &mut [u32],
 ) -> Put
-    requires { ⌜ (at < next) × (next ≤ length (now s)) × (length (now s) ≤ 2 ^ 20) × (1 ≤ o .tab) × (o .tab ≤ 100) × (o .uniform ≡ false) × AllBegin (o .glue) start later (linesOf (slice at next (now s))) × (g .uniform ≡ false) × Fair g × MarginIn (length (now s)) first × MarginIn (length (now s)) indent × (written < 2 ^ 62) × (g .first < 2 ^ 31) × (g .indent < 2 ^ 31) × (g .width < 2 ^ 31) ⌝ }
+    requires { ⌜ (at < next) × (next ≤ length (now s)) × (length (now s) ≤ 2 ^ 20) × (1 ≤ o .tab) × (o .tab ≤ 100) × (o .uniform ≡ false) × AllBegin (o .glue) start later (linesOf (slice at next (now s))) × (g .uniform ≡ false) × Fair g × MarginIn (length (now s)) first × MarginIn (length (now s)) indent × (written < 2 ^ 62) × (g .first < 2 ^ 31) × (g .indent < 2 ^ 31) × (g .width < 2 ^ 31) × (next - at ≤ 2 * most) × Holds most (now work) ⌝ }
     ensures { λ r. ⌜ PutIs (now (s .entry)) at next start later o g (marginOf (now (s .entry)) first) (marginOf (now (s .entry)) indent) (now (out .entry)) written (now (out .exit)) r ⌝ }
 {
     let head = row_at(s, at, next, start, later, o);
-    let Begun::At(t) = begin(s, head, o, g, first, indent, out, written) else {
+    if !head.regular {
         return Put::Other;
+    }
+    let p = head.from;
+    let e = head.end;
+    if p == e {
+        return Put::Other;
+    }
+    let k = margin_at(s, first, out, written);
+    let st = fill(
+        s,
+        p,
+        e,
+        false,
+        g,
+        indent,
+        State {
+            written: k,
+            column: g.first,
+        },
+        out,
+    );
+    let t = Reached {
+        written: st.written,
+        column: st.column,
+        punct: head_punct(s, p, e),
     };
     let r = rows_from(s, head.next, next, later, o, g, indent, t, out);
-    Put::Done(feed_at(out, r.written))
+    let v = Reached {
+        written: r.written,
+        column: r.column,
+        punct: r.punct,
+    };
+    let end = put_rest(s, r.at, next, later, o, g, indent, v, out, most, work);
+    Put::Done(feed_at(out, end.written))
 }

@@ -1,5 +1,5 @@
 // Replays lists of answers, in hexadecimal, `-` for none. Each line of data/vectors.txt, the Rust's, has an option block, notes and the
-// output under code 0; each line of data/cases.txt, written from document 01, a block, notes, the whole number that the call answers and
+// output under code 0; each line of data/cases.txt, written from RULES, a block, notes, the whole number that the call answers and
 // all bytes of the output slice afterwards. Writes how many lines each has and how many of them the call answers so. The lines of the two
 // lists of wrong rows are the same but for one fault each: of them none may be answered so.
 use libc::STDOUT_FILENO;
@@ -60,7 +60,7 @@ fn decode(hex: &[u8], out: &mut [u8]) -> usize
     most
 }
 
-// The first place at or behind at whose byte is a space or a line feed, or the end.
+// The first place at or after at whose byte is a space or a line feed, or the end.
 fn field_end(text: &[u8], at: usize) -> usize
     requires { ⌜ at ≤ length (now text) ⌝ }
     ensures { λ r. ⌜ (at ≤ r) × (r ≤ length (now (text .entry))) ⌝ }
@@ -75,7 +75,7 @@ fn field_end(text: &[u8], at: usize) -> usize
     i
 }
 
-// The place behind a field and what parts it from the next.
+// The place after a field and what parts it from the next.
 fn next_field(text: &[u8], at: usize) -> usize
     requires { ⌜ at ≤ length (now text) ⌝ }
     ensures { λ r. ⌜ (at ≤ r) × (r ≤ length (now (text .entry))) × (at < length (now (text .entry)) → at < r) ⌝ }
@@ -133,7 +133,7 @@ fn spells(text: &[u8], at: usize, output: &[u8], size: usize) -> bool
     true
 }
 
-// Behind the number, which a line of the Rust's list has not.
+// After the number, which a line of the Rust's list has not.
 fn behind_number(text: &[u8], at: usize, whole: bool) -> usize
     requires { ⌜ at ≤ length (now text) ⌝ }
     ensures { λ r. ⌜ (at ≤ r) × (r ≤ length (now (text .entry))) ⌝ }
@@ -315,7 +315,7 @@ fn room_for_digest() -> [u8; 131072]
     [0; 131072]
 }
 
-// Reads behind what is held, and answers how much is held then.
+// Reads after what is held, and answers how much is held then.
 fn fill_up(fd: i32, text: &mut [u8], held: usize) -> usize
     requires { ⌜ held ≤ length (now text) ⌝ }
     ensures { λ r. ⌜ r ≤ length (now (text .exit)) ⌝ }
@@ -323,7 +323,7 @@ fn fill_up(fd: i32, text: &mut [u8], held: usize) -> usize
     held + io::read_full(fd, &mut text[held..])
 }
 
-// The place behind the last line feed before a place, or 0.
+// The place after the last line feed before a place, or 0.
 fn whole_lines(text: &[u8], to: usize) -> usize
     requires { ⌜ to ≤ length (now text) ⌝ }
     ensures { λ r. ⌜ r ≤ to ⌝ }

@@ -46,7 +46,7 @@ what-is-written-is-acceptable o notes = pieces-in o (pieces o notes) (members-al
 pub what-is-written-is-accepted : (o : Opts) (notes : List ℕ) → verdict o notes (digest o notes) ≡ accepted
 what-is-written-is-accepted o notes = what-is-acceptable-is-accepted o notes (digest o notes) (what-is-written-is-acceptable o notes)
 
--- All that our formatter writes within the limit, 65,536 bytes in document 01, is accepted with the notes it was written for.
+-- All that our formatter writes within the limit, 65,536 bytes in RULES 2.2, is accepted with the notes it was written for.
 pub what-is-written-the-call-accepts : (l : Limits) (block notes bytes : List ℕ) → finding l block notes ≡ done bytes → length bytes ≤ l .bytes → checking l block notes bytes ≡ Accepted
 unfolding finding
 what-is-written-the-call-accepts l block notes bytes e h = go (readBlock block) refl e

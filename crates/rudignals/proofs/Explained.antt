@@ -1,4 +1,4 @@
--- The digest has as many line feeds as there are reasons (document 02, P6), since no line of it has one inside; and up to the end of a line it ends
+-- The digest has as many line feeds as there are reasons (RULES 13), since no line of it has one inside; and up to the end of a line it ends
 -- where that line's reason says.
 use mathlib.Core.Path.{_≡_, refl, sym, ap, _∙_}
 use mathlib.Core.Bool.{Bool, true, false, cond, _||_}

@@ -19,7 +19,7 @@ use Rattle.indexer.specs.Contracts.Noting.{Marked, recordsOf}
 use Rattle.indexer.proofs.Told as Tol
 use Rattle.indexer.proofs.Told.Laws as Tol′
 
--- an answer's records and those behind them are the records that it leaves
+-- an answer's records and those after them are the records that it leaves
 records-left : (a : Indexed) (xs : List Record) → recordsOf a ++ drop (filledAfter a) xs ≡ recordsAfter a xs
 unfolding recordsAfter
 records-left (done digest index) xs = refl

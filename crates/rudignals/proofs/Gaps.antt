@@ -1,4 +1,4 @@
--- Where it stands on an output line, what parts two words is blank by the rule of document 02, P2.
+-- Where it stands on an output line, what parts two words is blank by the rule of RULES 4.4.
 use mathlib.Core.Path.{_≡_, refl, sym, ap, ap₂, _∙_}
 use mathlib.Core.Bool.{Bool, true, false, cond, not, _&&_, and-eq-true-iff, true≢false}
 use mathlib.Core.List.{List, [], _∷_, _++_, map}
@@ -21,7 +21,7 @@ use Rattle.rudignals.proofs.Undamaged.{Good, damage-good, characters-ap
 
 -- ---- blanks of which one is no U+00A0 stay blank
 
--- behind no ink blanks are themselves
+-- after no ink blanks are themselves
 blanks-stay : (glue : Bool) (gap rest : List Glyph) → every isBlank gap ≡ true → settle glue false (gap ++ rest) ≡ gap ++ settle glue false rest
 blanks-stay glue [] rest e = refl
 blanks-stay glue (g ∷ gap) rest e =
@@ -46,7 +46,7 @@ gap-stays glue false gap rest e n = blanks-stay glue gap rest e
 gap-stays true true gap rest e n = settle-end true (gap ++ rest) (none-ahead gap rest e (n refl)) ∙ blanks-stay true gap rest e
 gap-stays false true gap rest e n = refl
 
--- ---- what stands before it
+-- ---- what is before it
 
 -- a line's glyphs in two parts, of which the second knows what is before it
 record Parted (glue ink : Bool) (xs ys : List Glyph) : Type 0 where

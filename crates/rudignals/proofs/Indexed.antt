@@ -1,4 +1,4 @@
--- Document 02, P3: what the indexed call answers for two parts with a blank line between them, and the index of the three.
+-- RULES 12: what the indexed call answers for two parts with a blank line between them, and the index of the three.
 use mathlib.Core.Path.{_≡_, refl, sym, ap, _∙_}
 use mathlib.Core.Bool.{Bool, true, false, cond}
 use mathlib.Core.List.{List, [], _∷_, _++_, map, append-nil}
@@ -33,7 +33,7 @@ use Rattle.rudignals.proofs.Boundary.{pieces-boundary, Joining, finding
 
 -- ---- the index of two parts and a blank line between them
 
--- the record of the blank line, and those of the second part, which stand behind it
+-- the record of the blank line, and those of the second part, which are after it
 abbrev pub blankRecord : Opts → List ℕ → List ℕ → Record
 blankRecord o first line = record { place = length first; length = length line; first = length (linesOf (digest o first)); count = 1 }
 

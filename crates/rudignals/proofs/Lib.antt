@@ -14,6 +14,6 @@ pub mod Mailed
 pub mod Numbers
 pub mod Mended
 pub mod Explained
-pub mod Demand3
+pub mod NothingLost
 pub mod Unique
 mod Worked

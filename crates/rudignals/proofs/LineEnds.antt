@@ -37,7 +37,7 @@ return-stays (x ∷ y ∷ text) n = ap (λ (l : List ℕ). x ∷ l) (return-stay
 take-front : (a b : List ℕ) → take (length a) (a ++ b) ≡ a
 take-front a b = take-append-le (length a) a b (omega arith) ∙ take-all (length a) a (omega arith)
 
--- the first line of a text, by its body and what is behind it
+-- the first line of a text, by its body and what is after it
 fed-line : (b rest : List ℕ) → body (b ++ 10 ∷ rest) ≡ b → linesOf (b ++ 10 ∷ rest) ≡ record { raw = b ++ 10 ∷ []; text = withoutReturn b } ∷ linesOf rest
 unfolding linesOf firstLine
 fed-line b rest e =
@@ -137,7 +137,7 @@ return-parts (x ∷ y ∷ r) =
           rw (every-cons noFeed x (withoutReturn (y ∷ r)), h .0, p .feedless (h .1));
     }
 
--- what is behind a body begins with a line feed
+-- what is after a body begins with a line feed
 behind-feed : (xs : List ℕ) (z : ℕ) (zs : List ℕ) → behind noFeed xs ≡ z ∷ zs → z ≡ 10
 behind-feed [] z zs e = absurd (let l = ap length (sym (behind-nil noFeed) ∙ e) in omega arith)
 behind-feed (x ∷ xs) z zs e = go (eqb x 10) refl (behind-feed xs z zs)

@@ -1,4 +1,4 @@
--- P10 of the two calls: what `rudignals_flow` has written is read by `rudignals_unflow` as the notes' pieces, each paragraph's words in order.
+-- RULES 17 of the two calls: what `rudignals_flow` has written is read by `rudignals_unflow` as the notes' pieces, each paragraph's words in order.
 use mathlib.Core.Path.{_≡_, sym, ap, _∙_}
 use mathlib.Core.List.{List, _++_, map}
 use Prim.Native.Nat.{ℕ, _^_, _≤_, _<_}

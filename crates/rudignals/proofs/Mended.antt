@@ -1,4 +1,4 @@
--- Document 02, P5: formatting a mended copy never gives code 3. The mended copy is well formed by RFC 3629, and a text that is has no damaged place.
+-- RULES 14: formatting a mended copy never gives code 3. The mended copy is well formed by RFC 3629, and a text that is has no damaged place.
 use mathlib.Core.Path.{_≡_, refl, sym, ap, _∙_}
 use mathlib.Core.Bool.{Bool, true, false, cond, false≢true}
 use mathlib.Core.List.{List, _∷_}
@@ -86,7 +86,7 @@ fits : (d : List ℕ) (needed : ℕ) (t : Bool) → code (cond t (done d) (lacki
 fits d needed true h = omega arith
 fits d needed false h = omega arith
 
--- ---- in the customer's words
+-- ---- in plain words
 
 -- The notes are bytes, and mending them was done.
 module _ (notes : List ℕ) (space entries : ℕ) (copy : List ℕ) (list : List Change)

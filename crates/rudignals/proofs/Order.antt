@@ -28,7 +28,7 @@ use Rattle.output.proofs.Order.{space-some, emit-order}
 use Rattle.paragraphs.specs.Breaks.{settingOf, breaksBy}
 use Rattle.walk.specs.Digest.{formatted, outputOf, pieceOutput}
 
--- an element that stands between others is one of a list's
+-- an element that is between others is one of a list's
 pub among : {A : Type 0} (before : List A) (x : A) (after : List A) → x ∈ (before ++ x ∷ after)
 among [] x after = List·Memᴰ·head refl
 among (y ∷ before) x after = List·Memᴰ·tail (among before x after)
@@ -46,7 +46,7 @@ spaces-other : (n : ℕ) (codes : List ℕ) → (n ≡ 0 → every (λ c. eqb c 
 spaces-other zero codes h = h refl
 spaces-other (suc n) codes h = every-cons (λ c. eqb c 0xA0) 32 (replicate n 32 ++ codes)
 
--- what stands before a word on its line parts it from the one before
+-- what is before a word on its line parts it from the one before
 pub space-separates : (glue uniform previousPunct : Bool) (w : Word) → Whole glue uniform w → Gap glue (spaceBefore uniform previousPunct w)
 unfolding spaceBefore
 space-separates glue uniform previousPunct w h = record {

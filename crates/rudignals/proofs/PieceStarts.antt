@@ -49,7 +49,7 @@ use Rattle.rudignals.proofs.Undamaged.{empty-sound, damage-closed}
 use Rattle.rudignals.proofs.Explained.{as-many-line-feeds-as-reasons}
 use Rattle.rudignals.proofs.Indexed.{indexed-done, done-indexed}
 
--- ---- the first paragraph of too many words, of pieces and of those behind them
+-- ---- the first paragraph of too many words, of pieces and of those after them
 
 module _ (most : ℕ) (o : Opts) where
   long-moved : (n place : ℕ) (qs : List Piece) → longParagraph most o (n + place) qs ≡ later n (longParagraph most o place qs)
@@ -219,7 +219,7 @@ told-of-both w size (work asked) (room needed) never = refl
 told-of-both w size (work asked) (work needed) never = refl
 told-of-both w size (room most) b never = absurd (never refl)
 
--- ---- reasons of one list of lines behind the other
+-- ---- reasons of one list of lines after the other
 
 look-both : (line : ℕ) (es fs : List Ending) → lookUp line (es ++ fs) ≡ bothReasons (lookUp line es) (lookUp (line - length es) fs)
 look-both line es fs = go (ltb line (length es)) (ltb (line - length es) (length fs)) refl refl

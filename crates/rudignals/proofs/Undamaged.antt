@@ -30,7 +30,7 @@ use Rattle.lines.proofs.Boundary.{closed-drop}
 use Rattle.lines.proofs.Ink.{damaged-plain}
 use Rattle.checker.proofs.Codes.{encode-feedless}
 
--- a character at the front of a text is found there with more behind the text
+-- a character at the front of a text is found there with more after the text
 front-append : (a b : List ℕ) (c n : ℕ) → decode a ≡ front c n → decode (a ++ b) ≡ front c n
 front-append a b c n e =
     let d = sound a c n e in
@@ -106,7 +106,7 @@ closed-feed [] h c f = omega arith
 closed-feed (x ∷ []) h c f = false≢true (rw (every-cons noFeed x [], eq-eqb x 10 c) at f)
 closed-feed (x ∷ y ∷ a) h c f = closed-feed (y ∷ a) (omega arith) c (and-eq-true-iff (noFeed x) (every noFeed (y ∷ a)) .0 (rw (every-cons noFeed x (y ∷ a)) at f) .1)
 
--- no character goes past its line feed: one that stands at its front stands there without what is behind it
+-- no character goes past its line feed: one that is at its front stands there without what is after it
 front-closed : (a b : List ℕ) (c n : ℕ) → 0 < length a → Closed a → decode (a ++ b) ≡ front c n → decode a ≡ front c n
 unfolding encode
 front-closed a b c n some closed e = go (leb n (length a)) refl

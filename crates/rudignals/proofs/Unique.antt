@@ -43,7 +43,7 @@
 --   judge         check, number_of                                                          an equation
 --   paragraphs    put_paragraph                                                             paragraphs/proofs/Unique: `step-unique`
 --   paragraphs    setting_of, room_for, numbers_for                                         an equation
---   paragraphs    mark_breaks                                                               an equation for the marks behind the first word's
+--   paragraphs    mark_breaks                                                               an equation for the marks after the first word's
 --   explain       explain                                                                   an equation
 --   explain       tell                                                                      an equation for the answer, one for the reason
 --   walk          put_all                                                                   walk/proofs/Unique: `ended-unique`
@@ -60,7 +60,7 @@
 --                 rudignals_unflow, rudignals_explain                                       an equation for the number, one for each slice
 --   rudignals     rudignals_flow, rudignals_flow_large                                      the same, and one for the count
 --
--- What stays open is scratch that nobody reads afterwards: docs/PROMISES.md lists it.
+-- What stays open is scratch that nobody reads afterwards: docs/VERIFY.md lists it.
 use mathlib.Core.Path.{_≡_, sym, ap, _∙_}
 use mathlib.Core.List.{List, []}
 use Prim.Native.Nat.{ℕ}

@@ -1,4 +1,4 @@
--- Quick keeps to the width (document 02, P9). The breaker's own sums are the columns of the bytes that are written, counted afresh: through
+-- Quick keeps to the width (RULES 21.7). The breaker's own sums are the columns of the bytes that are written, counted afresh: through
 -- the indents, gaps with tabs, and added spaces.
 use mathlib.Core.Path.{_≡_, refl, sym, ap, _∙_}
 use mathlib.Core.Bool.{Bool, true, false, cond, _&&_, _||_, or-false, and-eq-true-iff}
@@ -50,7 +50,7 @@ use Rattle.formatter.proofs.Answers.{measured-done, written-measured}
 use Rattle.rudignals.specs.Theorems.Width.{OutputLine, ended, wordsOn, KeepsToWidth, WithinWidth, PieceKeeps, KeptToWidth}
 use Rattle.rudignals.proofs.Order.{members-all, rows-of, space-separates}
 
--- ---- what stands before a word on its line
+-- ---- what is before a word on its line
 
 gap-end : (tab column : ℕ) (before : Before) (after : ℕ) → 1 ≤ tab → gapEnd tab column before after ≡ column + gapWidth tab column before after
 unfolding gapEnd gapWidth
@@ -109,8 +109,8 @@ module _ (o : Opts) (p : Paragraph) (least : 1 ≤ o .tab) (first : Margined (o 
   abbrev Placeable : Word → Type 0
   Placeable w = Counted o w × Whole (o .glue) (o .uniform) w
 
-  -- What is written from a column on: the rest of a line, which is its words, each behind blanks, and stays within the width if it has any;
-  -- and the lines behind it.
+  -- What is written from a column on: the rest of a line, which is its words, each after blanks, and stays within the width if it has any;
+  -- and the lines after it.
   record Rest (column : ℕ) (ws : List Word) (written : List ℕ) : Type 0 where
     bytes : List ℕ
     words : List Word
@@ -146,7 +146,7 @@ module _ (o : Opts) (p : Paragraph) (least : 1 ≤ o .tab) (first : Margined (o 
     keeps = λ plain h. ⊎-elim (λ (z : (length (r .words) ≡ 0) × (r .bytes ≡ [])). ap suc (z .0)) (λ (z : columnsOf (o .tab) (i .columns + w .width) (characters (r .bytes)) ≤ o .width). absurd (omega (arith, m .columns (w .text ++ r .bytes), placed .0 .text (i .columns) (r .bytes)))) (r .fits plain);
   }
 
-  -- behind the last word
+  -- after the last word
   rest-none : (column : ℕ) → Rest column [] lineFeed
   unfolding laidOut
   rest-none column = record {
@@ -245,7 +245,7 @@ module _ (o : Opts) (p : Paragraph) (least : 1 ≤ o .tab) (first : Margined (o 
       let t = goes g column punct w ws in
       rw (t .next) (step (t .starts) column punct w ws (a .0) (t .within) (rests (cond (t .starts) (p .indent .columns + w .width) (reachedBy g column punct w)) (w .endsPunct) ws (a .1)))
 
-  -- the first line, and the lines behind it
+  -- the first line, and the lines after it
   all-lines : (ws : List Word) → ws ≡ wordsOf o p → 0 < length ws → All Placeable ws → WithinWidth o p (emit (o .uniform) (p .first .bytes) (p .indent .bytes) (quickBreaks g ws) ws)
   unfolding emit quickBreaks
   all-lines [] e h a = absurd (omega arith)
@@ -314,7 +314,7 @@ what-is-written-keeps-to-the-width l block notes o space bytes b quick h =
       each = members-all (PieceKeeps m) (pieces m notes) (λ q i p e n. quick-keeps-to-the-width m notes q p (accepted block o b .tabLeast) quick i e n);
     }
 
--- (The call that measures and writes in one is document 01's, with limits such as its own.)
+-- (The call that measures and writes in one has limits such as those of RULES 2.2.)
 pub what-is-done-keeps-to-the-width : (most words : ℕ) (block notes : List ℕ) (o : Options) (space : ℕ) (bytes : List ℕ)
     → readBlock block ≡ Accepted o
     → o .quick ≡ true

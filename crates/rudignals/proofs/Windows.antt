@@ -1,4 +1,4 @@
--- A front part of the notes shows where pieces begin: all of its pieces but the last are pieces of the notes, whatever stands behind it.
+-- A front part of the notes shows where pieces begin: all of its pieces but the last are pieces of the notes, whatever is after it.
 use mathlib.Core.Path.{_≡_, refl, sym, ap, _∙_}
 use mathlib.Core.Bool.{Bool, true, false, cond, _||_}
 use mathlib.Core.List.{List, [], _∷_, _++_}
@@ -21,7 +21,7 @@ use Rattle.lines.proofs.Boundary.{lines-append}
 use Rattle.pieces.specs.Pieces.{Indent, Piece, continues, agrees, follow, Second, alone, joins, secondOf, followSecond, further, startsMail, indentOf, laterIndent, indentFor, paragraphAt, pieceAs, nextPiece, pieces}
 use Rattle.pieces.proofs.Reach.{class-cases, follow-stop, follow-more, further-is}
 
--- ---- a paragraph that ends before the lines do is the same with more lines behind them
+-- ---- a paragraph that ends before the lines do is the same with more lines after them
 
 module _ (o : Opts) where
   follow-grows : (test : Shape → Bool) (a b : List Line) → follow o test a < length a → follow o test (a ++ b) ≡ follow o test a

@@ -44,7 +44,7 @@ one-column-over : (o : Opts) (p : Paragraph) → o .width ≡ 5 → KeepsToWidth
 unfolding everything
 one-column-over o p w k = let n = k .keeps refl (omega (arith, w, six-columns (o .tab))) in omega arith
 
--- its first bytes are an indent of the paragraph, and no line feed stands in it
+-- its first bytes are an indent of the paragraph, and no line feed is in it
 another-indent : (o : Opts) (p : Paragraph) → p .first .bytes ≡ [] → p .indent .bytes ≡ [] → KeepsToWidth o p (record { bytes = 62 ∷ 97 ∷ []; indent = 62 ∷ []; words = word [] (97 ∷ []) ∷ [] }) → ⊥
 another-indent o p f i k = go (k .indented)
   where

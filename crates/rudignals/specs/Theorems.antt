@@ -1,4 +1,4 @@
--- Words that the theorems of proofs/Demand3 use.
+-- Words that the theorems of proofs/NothingLost use.
 pub mod LineEnds
 pub mod Width
 pub mod Parts

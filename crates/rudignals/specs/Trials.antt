@@ -1,4 +1,4 @@
--- Texts and numbers of the papers, computed.
+-- Texts and numbers of RULES, computed.
 pub mod Computing
 pub mod MarkedTexts
 pub mod Indexes

@@ -1,7 +1,7 @@
-// The call of P11: the digest that another site sent with its notes is checked. The work is in the crates checker and judge.
+// The call of RULES 18: the digest that another site sent with its notes is checked. The work is in the crates checker and judge.
 ghost use mathlib.Core.Path.{_≡_};
 ghost use lib.ListN.{length};
-ghost use Rattle.formatter.specs.Format.{document01};
+ghost use Rattle.formatter.specs.Format.{ownRoom};
 ghost use Rattle.formatter.specs.Work.{lending};
 ghost use Rattle.judge.specs.Answers.{numbered};
 ghost use Rattle.judge.specs.Checking.{checking};
@@ -9,7 +9,7 @@ ghost use Rattle.judge.specs.Checking.{checking};
 // The answer's number. Nothing is written.
 #[no_mangle]
 pub extern "C" fn rudignals_check(options: &[u8], notes: &[u8], digest: &[u8]) -> u64
-    ensures { λ r. ⌜ r ≡ numbered (checking document01 (now (options .entry)) (now (notes .entry)) (now (digest .entry))) ⌝ }
+    ensures { λ r. ⌜ r ≡ numbered (checking ownRoom (now (options .entry)) (now (notes .entry)) (now (digest .entry))) ⌝ }
 {
     judge::number_of(judge::check(options, notes, digest))
 }

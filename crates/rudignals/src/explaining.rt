@@ -1,7 +1,7 @@
-// The call of P6: why an output line ends where it does. The work is in the crate explain.
+// The call of RULES 13: why an output line ends where it does. The work is in the crate explain.
 ghost use mathlib.Core.Path.{_≡_};
 ghost use lib.ListN.{length};
-ghost use Rattle.formatter.specs.Format.{document01};
+ghost use Rattle.formatter.specs.Format.{ownRoom};
 ghost use Rattle.formatter.specs.Work.{lending};
 ghost use Rattle.explain.specs.Explain.{explaining, explainedNumber, reasonAfter};
 
@@ -13,7 +13,7 @@ pub extern "C" fn rudignals_explain(
     line: u64,
     reason: &mut [u64; 6],
 ) -> u64
-    ensures { λ r. ⌜ (r ≡ explainedNumber (explaining document01 (now (options .entry)) (now (notes .entry)) line)) × (now (reason .exit) ≡ reasonAfter (explaining document01 (now (options .entry)) (now (notes .entry)) line) (now (reason .entry))) ⌝ }
+    ensures { λ r. ⌜ (r ≡ explainedNumber (explaining ownRoom (now (options .entry)) (now (notes .entry)) line)) × (now (reason .exit) ≡ reasonAfter (explaining ownRoom (now (options .entry)) (now (notes .entry)) line) (now (reason .entry))) ⌝ }
 {
     explain::tell(explain::explain(options, notes, line), reason)
 }

@@ -1,10 +1,10 @@
-// The calls of P3: the digest written with an index beside it, and the way back from an output line to the notes. The work is in the
+// The calls of RULES 12: the digest written with an index beside it, and the way back from an output line to the notes. The work is in the
 // crates indexer and index. The borrow checker covers no function over a slice of structs: a call that is lent the records is proved by a
 // walk of its MIR, by hand.
 ghost use mathlib.Core.Path.{_≡_};
 ghost use lib.ListN.{length};
 ghost use Rattle.index.specs.Lookup.{lookup, answered, partAfter};
-ghost use Rattle.formatter.specs.Format.{document01};
+ghost use Rattle.formatter.specs.Format.{ownRoom};
 ghost use Rattle.indexer.specs.Answers.{numbered, outputAfter, recordsAfter, filledAfter};
 ghost use Rattle.indexer.specs.Indexing.{indexLending, indexing};
 use index::Record;
@@ -22,7 +22,7 @@ pub extern "C" fn rudignals_write_indexed(
     index: &mut [Record],
     filled: &mut u64,
 ) -> u64
-    ensures { λ r. ⌜ (r ≡ numbered (indexing document01 (now (options .entry)) (now (notes .entry)) (length (now (output .entry))) (length (now (index .entry))))) × (now (output .exit) ≡ outputAfter (indexing document01 (now (options .entry)) (now (notes .entry)) (length (now (output .entry))) (length (now (index .entry)))) (now (output .entry))) × (now (index .exit) ≡ recordsAfter (indexing document01 (now (options .entry)) (now (notes .entry)) (length (now (output .entry))) (length (now (index .entry)))) (now (index .entry))) × (now (filled .exit) ≡ filledAfter (indexing document01 (now (options .entry)) (now (notes .entry)) (length (now (output .entry))) (length (now (index .entry))))) ⌝ }
+    ensures { λ r. ⌜ (r ≡ numbered (indexing ownRoom (now (options .entry)) (now (notes .entry)) (length (now (output .entry))) (length (now (index .entry))))) × (now (output .exit) ≡ outputAfter (indexing ownRoom (now (options .entry)) (now (notes .entry)) (length (now (output .entry))) (length (now (index .entry)))) (now (output .entry))) × (now (index .exit) ≡ recordsAfter (indexing ownRoom (now (options .entry)) (now (notes .entry)) (length (now (output .entry))) (length (now (index .entry)))) (now (index .entry))) × (now (filled .exit) ≡ filledAfter (indexing ownRoom (now (options .entry)) (now (notes .entry)) (length (now (output .entry))) (length (now (index .entry))))) ⌝ }
 {
     let mut work = [0u32; NUMBERS];
     let t = indexer::write_marked(options, notes, output, index.len(), filled, &mut work);

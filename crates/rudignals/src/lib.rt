@@ -8,7 +8,7 @@ pub mod mending;
 ghost use mathlib.Core.Path.{_≡_};
 ghost use lib.ListN.{length};
 ghost use Rattle.formatter.specs.Answers.{numbered, outputAfter};
-ghost use Rattle.formatter.specs.Format.{document01, answer, measuring, writing};
+ghost use Rattle.formatter.specs.Format.{ownRoom, answer, measuring, writing};
 ghost use Rattle.formatter.specs.Work.{lending};
 
 mod wall;
@@ -16,7 +16,7 @@ mod wall;
 // What a host calls to learn how much room it needs: the code, and for 0 the digest's length. Nothing is written.
 #[no_mangle]
 pub extern "C" fn rudignals_measure(options: &[u8], notes: &[u8]) -> u64
-    ensures { λ r. ⌜ r ≡ numbered (measuring document01 (now (options .entry)) (now (notes .entry))) ⌝ }
+    ensures { λ r. ⌜ r ≡ numbered (measuring ownRoom (now (options .entry)) (now (notes .entry))) ⌝ }
 {
     formatter::number_of(formatter::measure(options, notes))
 }
@@ -24,7 +24,7 @@ pub extern "C" fn rudignals_measure(options: &[u8], notes: &[u8]) -> u64
 // What it calls then: the answer's number, and the output as the answer leaves it.
 #[no_mangle]
 pub extern "C" fn rudignals_write(options: &[u8], notes: &[u8], output: &mut [u8]) -> u64
-    ensures { λ r. ⌜ (r ≡ numbered (writing document01 (now (options .entry)) (now (notes .entry)) (length (now (output .entry))))) × (now (output .exit) ≡ outputAfter (writing document01 (now (options .entry)) (now (notes .entry)) (length (now (output .entry)))) (now (output .entry))) ⌝ }
+    ensures { λ r. ⌜ (r ≡ numbered (writing ownRoom (now (options .entry)) (now (notes .entry)) (length (now (output .entry))))) × (now (output .exit) ≡ outputAfter (writing ownRoom (now (options .entry)) (now (notes .entry)) (length (now (output .entry)))) (now (output .entry))) ⌝ }
 {
     formatter::number_of(formatter::write(options, notes, output))
 }
@@ -32,7 +32,7 @@ pub extern "C" fn rudignals_write(options: &[u8], notes: &[u8], output: &mut [u8
 // The two in sequence. Writing follows whatever measuring tells: where that refuses with code 4, the output is still to be zeroed.
 #[no_mangle]
 pub extern "C" fn rudignals_format(options: &[u8], notes: &[u8], output: &mut [u8]) -> u64
-    ensures { λ r. ⌜ (r ≡ numbered (answer document01 (now (options .entry)) (now (notes .entry)) (length (now (output .entry))))) × (now (output .exit) ≡ outputAfter (answer document01 (now (options .entry)) (now (notes .entry)) (length (now (output .entry)))) (now (output .entry))) ⌝ }
+    ensures { λ r. ⌜ (r ≡ numbered (answer ownRoom (now (options .entry)) (now (notes .entry)) (length (now (output .entry))))) × (now (output .exit) ≡ outputAfter (answer ownRoom (now (options .entry)) (now (notes .entry)) (length (now (output .entry)))) (now (output .entry))) ⌝ }
 {
     rudignals_measure(options, notes);
     rudignals_write(options, notes, output)

@@ -3,7 +3,7 @@
 ghost use mathlib.Core.Path.{_≡_};
 ghost use lib.ListN.{length};
 ghost use Rattle.formatter.specs.Answers.{numbered as answerNumber, outputAfter as outputLeft};
-ghost use Rattle.formatter.specs.Format.{document01};
+ghost use Rattle.formatter.specs.Format.{ownRoom};
 ghost use Rattle.formatter.specs.Work.{lending};
 ghost use Rattle.unflow.specs.Unflow.{unflow as reading, numbered, outputAfter};
 ghost use Rattle.flow.specs.Answers.{flow as sending, dashesOf};
@@ -16,7 +16,7 @@ pub extern "C" fn rudignals_flow(
     output: &mut [u8],
     dashes: &mut u64,
 ) -> u64
-    ensures { λ r. ⌜ (r ≡ answerNumber (sending document01 (now (options .entry)) (now (notes .entry)) (length (now (output .entry))))) × (now (output .exit) ≡ outputLeft (sending document01 (now (options .entry)) (now (notes .entry)) (length (now (output .entry)))) (now (output .entry))) × (now (dashes .exit) ≡ dashesOf document01 (now (options .entry)) (now (notes .entry)) (length (now (output .entry)))) ⌝ }
+    ensures { λ r. ⌜ (r ≡ answerNumber (sending ownRoom (now (options .entry)) (now (notes .entry)) (length (now (output .entry))))) × (now (output .exit) ≡ outputLeft (sending ownRoom (now (options .entry)) (now (notes .entry)) (length (now (output .entry)))) (now (output .entry))) × (now (dashes .exit) ≡ dashesOf ownRoom (now (options .entry)) (now (notes .entry)) (length (now (output .entry)))) ⌝ }
 {
     let r = flow::flow(options, notes, output);
     let reply = r.reply;

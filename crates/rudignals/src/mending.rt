@@ -1,4 +1,4 @@
-// The calls of P5: notes in ISO 8859-1 made readable, and the way back. The work is in the crate salvage.
+// The calls of RULES 14: notes in ISO 8859-1 made readable, and the way back. The work is in the crate salvage.
 ghost use mathlib.Core.Path.{_≡_};
 ghost use Prim.Native.Nat.{min};
 ghost use lib.ListN.{length};

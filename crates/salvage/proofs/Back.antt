@@ -325,7 +325,7 @@ module _ {copy : List ℕ} {list : List Change} {notes₀ : List ℕ} {at k : �
     pub returning-last : {notes′ : List ℕ} → notes′ ≡ sets notes at (take (length copy - (at + k)) (drop (at + k) copy)) → notes′ ≡ sets notes₀ 0 (restored 0 copy list)
     returning-last q = q ∙ ap (sets notes at) (sym rest-is) ∙ p .left
 
--- ---- the turns of both loops, as the code reads an entry: count is the list's length, and place what stands in the first slice
+-- ---- the turns of both loops, as the code reads an entry: count is the list's length, and place what is in the first slice
 
 module _ (places bytes : List ℕ) (k place : ℕ) {count : ℕ} (c : count ≡ min (length places) (length bytes)) (h : k < count) (w : place ≡ getD places k 0) where
   inside : k < length (listed places bytes)

@@ -33,7 +33,7 @@ first-line-is xs =
     sym (take-append-add w b 1) ∙ rw (while-behind noFeed xs, add-one)
 
 module _ (s : List ℕ) (at i : ℕ) (h : at < length s) (r : Run noFeed s at i) where
-  -- it ends behind a line feed
+  -- it ends after a line feed
   pub line-feed : i < length s → getD s i 0 ≡ 10 → LineAt s at (i + 1)
   line-feed k e =
       let w = run-while noFeed s at i r in

@@ -137,7 +137,7 @@ line-fed bs b f =
 
 -- ---- well formed
 
--- behind a byte's octets
+-- after a byte's octets
 formed-byte : (b : ℕ) (xs : List ℕ) → b < 256 → wellFormed (encode b ++ xs) ≡ wellFormed xs
 formed-byte b xs h =
     let s = scalar-true b (record { most = omega arith; noSurrogate = λ l k. omega arith }) in
@@ -148,7 +148,7 @@ formed-joined : (bs xs : List ℕ) → Bytes bs → wellFormed (joined encode bs
 formed-joined [] xs b = rw joined-nil
 formed-joined (x ∷ bs) xs b = rw (joined-cons, append-assoc) (formed-byte x (joined encode bs ++ xs) (b 0) ∙ formed-joined bs xs (λ i. b (suc i)))
 
--- behind a well-formed text
+-- after a well-formed text
 formed-upto : (k : ℕ) (a b : List ℕ) → length a ≤ k → wellFormed a ≡ true → wellFormed (a ++ b) ≡ wellFormed b
 formed-upto zero [] b h w = refl
 formed-upto zero (x ∷ a) b h w = absurd (omega arith)

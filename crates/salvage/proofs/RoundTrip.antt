@@ -22,7 +22,7 @@ use Rattle.salvage.proofs.Answers.{mend-done, restore-done}
 use Rattle.salvage.proofs.Back.{Small, belonging-nil, belonging-on, belonging-few, whole-first, belongs-so, entry-within, restored-nil, restored-cons}
 use Rattle.salvage.proofs.MendedLines.{Bytes, bytes-front, bytes-back, lines-joined, lines-formed}
 
--- ---- lists whose entries stand at a place or behind it: the first tells
+-- ---- lists whose entries stand at a place or after it: the first tells
 
 abbrev After : ℕ → List Change → Type 0
 After n [] = Unit {0}

@@ -1,4 +1,4 @@
--- Runs of bytes that pass a test: one behind another, one byte, eight; and a leading run counted from behind one.
+-- Runs of bytes that pass a test: one after another, one byte, eight; and a leading run counted from after one.
 use mathlib.Core.Path.{_≡_, refl, ap, _∙_}
 use mathlib.Core.Bool.{Bool, true, false}
 use mathlib.Core.List.{List}
@@ -33,7 +33,7 @@ module _ {test : ℕ → Bool} {s : List ℕ} {from : ℕ} where
 pub run-eight : (test : ℕ → Bool) (s : List ℕ) (i : ℕ) → i + 8 ≤ length s → allAt test s i 7 ≡ true → Run test s i (i + 8)
 run-eight test s i h e = record { on = omega arith; within = h; pass = λ k a b. all-each test s i 7 e k a (omega arith) }
 
--- what is the same at each byte of a run and behind it is the same at both ends
+-- what is the same at each byte of a run and after it is the same at both ends
 pub run-same : {A : Type 0} (at : ℕ → A) (test : ℕ → Bool) (s : List ℕ) (from to : ℕ)
     → ((i : ℕ) → i < length s → test (getD s i 0) ≡ true → at i ≡ at (i + 1)) → Run test s from to → at from ≡ at to
 run-same {A} at test s from to step a = go (to - from) to (omega (arith, a .on)) (omega (arith, a .on))
@@ -44,6 +44,6 @@ run-same {A} at test s from to step a = go (to - from) to (omega (arith, a .on))
         let q : from + n + 1 ≡ to′ = omega arith in
         go n (from + n) refl (omega arith) ∙ step (from + n) (omega (arith, a .within)) (a .pass (from + n) (omega arith) (omega arith)) ∙ ap at q
 
--- the leading run's end, counted from the front of a run and from behind it
+-- the leading run's end, counted from the front of a run and from after it
 pub run-while : (test : ℕ → Bool) (s : List ℕ) (from to : ℕ) → Run test s from to → from + length (while test (drop from s)) ≡ to + length (while test (drop to s))
 run-while test s from to = run-same (λ i. i + length (while test (drop i s))) test s from to (λ i h e. while-one test 0 s i h e)

@@ -1,5 +1,5 @@
--- P5 in the customer's sentences. Each statement is about the definitions of specs/ alone, no code, and is proved with nothing assumed;
--- where a proof is long it stands in the file cited. The notes are bytes: numbers below 256. `mend` and `done` stand in
+-- RULES 14 in plain sentences. Each statement is about the definitions of specs/ alone, no code, and is proved with nothing assumed;
+-- where a proof is long it is in the file cited. The notes are bytes: numbers below 256. `mend` and `done` stand in
 -- specs/Mending.antt (`done copy list` is code 0 with that copy and that list), `restore` and `Back` in specs/Restoring.antt, `linesOf`
 -- and `wellFormed` in specs/Lines.antt, `All` in lists/specs/Theorems/All.antt.
 use mathlib.Core.Path.{_≡_}
@@ -27,7 +27,7 @@ module _ (notes : List ℕ) (space entries : ℕ) (copy : List ℕ) (list : List
       let m = mend-means notes space entries copy list mends in
       rw (m .copy-is, m .list-is) (back-exactly notes bytes room (m .limit) h)
 
-  -- That list is what stands in the two slices that were lent for it, in as many entries as there are changes.
+  -- That list is what is in the two slices that were lent for it, in as many entries as there are changes.
   pub the-slices-hold-the-list : (places bytes′ : List ℕ)
       → listed (take (length list) (placesAfter (done copy list) places)) (take (length list) (bytesAfter (done copy list) bytes′)) ≡ list
   the-slices-hold-the-list = slices-hold copy list

@@ -29,7 +29,7 @@ pub formed-nil : wellFormed [] ≡ true
 unfolding wellFormed characters every
 formed-nil = rw (each-nil _ decode)
 
--- behind a character
+-- after a character
 pub formed-behind : (xs : List ℕ) (c n : ℕ) → decode xs ≡ front c n → wellFormed xs ≡ wellFormed (drop n xs)
 unfolding wellFormed
 formed-behind xs c n e =

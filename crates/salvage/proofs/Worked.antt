@@ -1,4 +1,4 @@
--- P5's examples and its edges, computed.
+-- The examples of RULES 14 and its edges, computed.
 use mathlib.Core.Path.{_≡_, refl}
 use mathlib.Core.List.{[], _∷_}
 use Rattle.lists.specs.Walk.{walkUpTo, walk, piece, each}

@@ -1,4 +1,4 @@
--- What is written behind what: the copy and the list, a byte, a line, notes.
+-- What is written after what: the copy and the list, a byte, a line, notes.
 use mathlib.Core.Path.{_≡_, refl, sym, ap, _∙_}
 use mathlib.Core.Bool.{true}
 use mathlib.Core.List.{List, [], _∷_, _++_, map}
@@ -17,7 +17,7 @@ use Rattle.salvage.specs.Mending.{Change, mendedLine, mended, highBytes,
 use Rattle.salvage.specs.Contracts.Steps.{LineAt, Fits, Put}
 use Rattle.salvage.proofs.Counts.{encode-low, encode-high, high-nil, high-low, high-high, high-cons, mended-line, changes-line, mended-past, changes-past, left-as-found, line-length}
 
--- one run of stores behind another
+-- one run of stores after another
 pub sets-append : {A : Type 0} (l : List A) (k : ℕ) (xs ys : List A) → sets (sets l k xs) (k + length xs) ys ≡ sets l k (xs ++ ys)
 sets-append l k [] ys = rw add-zero
 sets-append l k (x ∷ xs) ys = rw (add-suc k (length xs), ← suc-add k (length xs)) (sets-append (set l k x) (suc k) xs ys)
@@ -72,7 +72,7 @@ module _ (b at n : ℕ) (copy places bytes : List ℕ) where
       let l : length (highBytes at (b ∷ [])) ≡ 1 = ap length (high-high at b [] h) ∙ rw (high-nil (at + 1)) in
       (omega (arith, f .copied), omega (arith, f .placed), omega (arith, f .kept))
 
--- ---- what is left to be written: at place at and behind n changes, the text and the list; from at₀ and n₀ it was text₀ and list₀
+-- ---- what is left to be written: at place at and after n changes, the text and the list; from at₀ and n₀ it was text₀ and list₀
 
 pub record Left (at₀ n₀ : ℕ) (text₀ : List ℕ) (list₀ : List Change) (copy₀ places₀ bytes₀ : List ℕ) (at n : ℕ) (text : List ℕ) (list : List Change) (copy places bytes : List ℕ) : Type 0 where
   pub next : at + n + length text ≡ at₀ + n₀ + length text₀

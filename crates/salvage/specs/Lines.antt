@@ -1,4 +1,4 @@
--- Document 02, P5: lines end at line feeds only, and a line is well formed by RFC 3629, in full.
+-- RULES 14: lines end at line feeds only, and a line is well formed by RFC 3629, in full.
 use mathlib.Core.Bool.{Bool, true, false, not}
 use mathlib.Core.List.{List, _++_}
 use Prim.Native.Nat.{ℕ, _-_}

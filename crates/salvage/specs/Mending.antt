@@ -1,4 +1,4 @@
--- Document 02, P5: the mended copy of notes, the list of what was changed, and the answers of the mending call.
+-- RULES 14.1: the mended copy of notes, the list of what was changed, and the answers of the mending call.
 use mathlib.Core.Bool.{true, false, cond}
 use mathlib.Core.List.{List, [], _∷_, _++_, map}
 use Prim.Native.Nat.{ℕ, _+_, _*_, _^_}

@@ -57,7 +57,7 @@ fn lesser(a: usize, b: usize) -> usize
     b
 }
 
-// The answer's code stands in the upper 32 bits of its number, what it tells in the lower.
+// The answer's code is in the upper 32 bits of its number, what it tells in the lower.
 const UPPER: u64 = 4294967296;
 
 pub fn mended_number(a: Mended) -> u64
@@ -135,7 +135,7 @@ fn high_byte(octet: u8) -> usize
 
 // ---- lines
 
-// The place behind the line that begins at a place: behind its line feed, or the end.
+// The place after the line that begins at a place: after its line feed, or the end.
 fn line_end(s: &[u8], at: usize) -> usize
     requires { ⌜ at < length (now s) ⌝ }
     ensures { λ r. ⌜ LineAt (now (s .entry)) at r ⌝ }
@@ -274,7 +274,7 @@ fn put_all(notes: &[u8], copy: &mut [u8], places: &mut [u32], bytes: &mut [u8])
     }
 }
 
-// Writes a line that begins at a place behind so many changes, and answers how many there are then.
+// Writes a line that begins at a place after so many changes, and answers how many there are then.
 fn put_line(
     line: &[u8],
     at: usize,
@@ -401,7 +401,7 @@ fn wide(x: u32) -> usize
     x as usize
 }
 
-// Whether an entry behind k others belongs to the copy from the old place `at` on.
+// Whether an entry after k others belongs to the copy from the old place `at` on.
 fn is_belonging(copy: &[u8], at: usize, k: usize, place: usize, byte: u8) -> bool
     requires { ⌜ (at + k ≤ length (now copy)) × (length (now copy) ≤ 131072) × (place < 2 ^ 32) ⌝ }
     ensures { λ r. ⌜ r ≡ belongs at (drop (at + k) (now (copy .entry))) (record { place = place; byte = byte }) ⌝ }

@@ -11,7 +11,7 @@ use Rattle.records.specs.declared.Before.the-variants.{Absent, Count}
 use Rattle.spacing.specs.Spacing.{gapWidth, addedSpace}
 use Rattle.spacing.specs.Contracts.Bounds.{GapIs, AddedIs}
 
--- the next stop behind a column
+-- the next stop after a column
 module _ (tab column : ℕ) (some : 1 ≤ tab) where
   pub stop-behind : column < nextStop tab column
   unfolding nextStop

@@ -1,4 +1,4 @@
--- Document 01, "Words": gap width and added space.
+-- RULES 6.4 and 6.5: gap width and added space.
 use mathlib.Core.Bool.{Bool, cond, _&&_, _||_}
 use Prim.Native.Nat.{ℕ, _+_, _-_}
 use Rattle.lines.specs.Classes.{nextStop}

@@ -17,7 +17,7 @@ pub struct Setting {
     pub indent: usize,
 }
 
-// The next tab stop behind a column.
+// The next tab stop after a column.
 fn next_stop(tab: usize, column: usize) -> usize
     requires { ⌜ (1 ≤ tab) × (tab ≤ 100) × (column < 2 ^ 41) ⌝ }
     ensures { λ r. ⌜ (r ≡ nextStop tab column) × (column < r) × (r ≤ column + tab) ⌝ }
@@ -25,7 +25,7 @@ fn next_stop(tab: usize, column: usize) -> usize
     (column / tab + 1) * tab
 }
 
-// The width of a gap that begins at a column. A tab goes to the next stop behind the blanks before it.
+// The width of a gap that begins at a column. A tab goes to the next stop after the blanks before it.
 // In the original: `BreakArgs::compute_width`.
 pub fn gap_width(tab: usize, column: usize, before: Before, after: usize) -> usize
     requires { ⌜ (1 ≤ tab) × (tab ≤ 100) × (column < 2 ^ 40) × (beforeNumber before < 2 ^ 32) × (after < 2 ^ 32) ⌝ }

@@ -17,7 +17,7 @@ module _ {s : List ℕ} {from : ℕ} where
   pub ascii-none : from ≤ length s → Ascii s from from
   ascii-none h = record { on = omega arith; within = h; small = λ i a b. absurd (omega arith) }
 
-  -- one run behind another
+  -- one run after another
   pub ascii-more : {i to : ℕ} → Ascii s from i → Ascii s i to → Ascii s from to
   ascii-more {i} {to} a b = record { on = omega (arith, a .on, b .on); within = b .within; small = small }
     where
@@ -35,7 +35,7 @@ module _ {s : List ℕ} {from : ℕ} where
 pub ascii-eight : (s : List ℕ) (i : ℕ) → i + 8 ≤ length s → allAt (λ b. ltb b 0x80) s i 7 ≡ true → Ascii s i (i + 8)
 ascii-eight s i h e = record { on = omega arith; within = h; small = λ k a b. ltb-true _ _ (all-each (λ b. ltb b 0x80) s i 7 e k a (omega arith)) }
 
--- a damaged place behind a run is the first
+-- a damaged place after a run is the first
 pub damage-run : (s : List ℕ) (from to : ℕ) → Ascii s from to → later from (damage (drop from s)) ≡ later to (damage (drop to s))
 damage-run s from to a = go (to - from) to (omega (arith, a .on)) (omega (arith, a .on))
   where

@@ -1,4 +1,4 @@
--- A line's glyphs from a place on. Before ink, in an indent or a gap, they are `glyphs` of what is left; behind ink, in a word, `inkGlyphs`
+-- A line's glyphs from a place on. Before ink, in an indent or a gap, they are `glyphs` of what is left; after ink, in a word, `inkGlyphs`
 -- of it. So a walk knows at each place which of the two it has.
 use mathlib.Core.Path.{_≡_, refl, sym, ap, _∙_}
 use mathlib.Core.Bool.{Bool, true, false, not, false≢true}
@@ -89,11 +89,11 @@ module _ (glue : Bool) (s : List ℕ) (at : ℕ) where
   pub damaged-on : DamagedHere s at → inkGlyphs glue (drop at s) ≡ glyph (drop at s) ∷ inkGlyphs glue (drop (at + 1) s)
   damaged-on g = more (at + 1) (g .first) (damaged-code g) (g .isBlank)
 
-  -- what stands first is not changed: behind no ink nothing is made ordinary
+  -- what stands first is not changed: after no ink nothing is made ordinary
   pub glyphs-first : at < length s → glyphs glue (drop at s) ≡ glyph (drop at s) ∷ settle glue (inkBehind false (glyph (drop at s))) (characters (drop (at + length (glyph (drop at s) .bytes)) s))
   glyphs-first h = glyphs-settle glue (drop at s) ∙ ap (settle glue false) (characters-first s at h) ∙ settle-edge glue (glyph (drop at s)) (characters (drop (at + length (glyph (drop at s) .bytes)) s))
 
--- what is behind a run of glyphs, by its extent
+-- what is after a run of glyphs, by its extent
 pub characters-behind : (test : Glyph → Bool) (xs : List ℕ) → characters (drop (extent (while test (characters xs))) xs) ≡ behind test (characters xs)
 unfolding extent while behind
 characters-behind test = characters-induct (λ ys gs. characters (drop (extent (while test gs)) ys) ≡ behind test gs) (characters-past [] 0 (omega arith)) more
@@ -107,7 +107,7 @@ characters-behind test = characters-induct (λ ys gs. characters (drop (extent (
         pick false h = rw (while-end test (glyph ys) (characters (drop (b .n) ys)) h, behind-end test (glyph ys) (characters (drop (b .n) ys)) h) (characters-step ys b)
 
 module _ (s : List ℕ) (at : ℕ) where
-  -- a run of U+00A0 between ink: it is ordinary, and a word goes on behind it
+  -- a run of U+00A0 between ink: it is ordinary, and a word goes on after it
   pub run-on : inkAhead (characters (drop at s)) ≡ true
       → inkGlyphs true (drop at s) ≡ map ordinary (while noBreak (characters (drop at s))) ++ inkGlyphs true (drop (at + extent (while noBreak (characters (drop at s)))) s)
   unfolding inkGlyphs
@@ -120,7 +120,7 @@ module _ (s : List ℕ) (at : ℕ) where
 pub glyphs-joined : (glue : Bool) (xs : List ℕ) → joined (λ g. g .bytes) (glyphs glue xs) ≡ xs
 glyphs-joined glue xs = ap (joined (λ g. g .bytes)) (glyphs-settle glue xs) ∙ settle-joined glue false (characters xs) ∙ characters-joined xs
 
--- where what is left of a line begins with no blank, it is read as behind ink: U+00A0 is blank elsewhere
+-- where what is left of a line begins with no blank, it is read as after ink: U+00A0 is blank elsewhere
 pub ink-stands : (glue ink : Bool) (xs : List ℕ) (g : Glyph) (gs : List Glyph) → settle glue ink (characters xs) ≡ g ∷ gs → g .blank ≡ false → settle glue ink (characters xs) ≡ inkGlyphs glue xs
 unfolding inkGlyphs
 ink-stands glue true xs g gs e b = refl

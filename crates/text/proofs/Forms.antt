@@ -144,7 +144,7 @@ module _ (at : ℕ) (xs : List ℕ) (a : ℕ) (at0 : a ≡ getD xs 0 0) where
             pick (x ∷ y ∷ z ∷ []) e f g m = absurd (omega arith)
             pick (x ∷ y ∷ z ∷ w ∷ r) e f g m = rw (← e, ← f, ← g, ← m) (found k (a ∷ b ∷ c ∷ d ∷ []) r (record { most = t .most; noSurrogate = λ l n. omega arith }) (encode-four k a b c d lo t))
 
--- a place of a text: the octets there, and behind it
+-- a place of a text: the octets there, and after it
 module _ (s : List ℕ) (at : ℕ) where
   pub rest-is : take (length s - at) (drop at s) ≡ drop at s
   rest-is = take-all (length s - at) (drop at s) (omega (arith, length-drop at s))
@@ -153,7 +153,7 @@ module _ (s : List ℕ) (at : ℕ) where
   unfolding decode
   past h = rw (drop-none 0 s at h)
 
-  -- behind the end there is none
+  -- after the end there is none
   pub cut : length s ≤ at → getD s at 0 ≡ 0
   cut h = List·getD-eq-default s 0 h
 

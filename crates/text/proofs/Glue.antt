@@ -1,4 +1,4 @@
--- Document 02, P2: with glue off nothing moves. With glue on, a line's glyphs by what is left of it, of which it is told whether ink stands
+-- RULES 4.4: with glue off nothing moves. With glue on, a line's glyphs by what is left of it, of which it is told whether ink stands
 -- before it: one character more, and a run of U+00A0. And what does not depend on glue: all of a glyph but whether it is blank.
 use mathlib.Core.Path.{_≡_, refl, sym, ap, ap₂, _∙_}
 use mathlib.Core.Bool.{Bool, true, false, cond, not, _&&_}
@@ -56,7 +56,7 @@ pub behind-other : (ink : Bool) (g : Glyph) → noBreak g ≡ false → inkBehin
 unfolding inkBehind
 behind-other ink g h = rw (h, inkBehind)
 
--- one character more: it is itself or made ordinary, and the rest is behind it
+-- one character more: it is itself or made ordinary, and the rest is after it
 pub settle-first : (glue ink : Bool) (g : Glyph) (gs : List Glyph) → (t : Bool) × (settle glue ink (g ∷ gs) ≡ cond t (ordinary g) g ∷ settle glue (inkBehind ink g) gs)
 unfolding settle
 settle-first false ink g gs = (false, refl)
@@ -76,7 +76,7 @@ module _ (glue : Bool) (g : Glyph) (gs : List Glyph) where
       pick true = glued-other g gs ink h
       pick false = refl
 
-  -- U+00A0 that is behind no ink is itself
+  -- U+00A0 that is after no ink is itself
   settle-still : noBreak g ≡ true → settle glue false (g ∷ gs) ≡ g ∷ settle glue false gs
   unfolding settle
   settle-still h = pick glue
@@ -85,7 +85,7 @@ module _ (glue : Bool) (g : Glyph) (gs : List Glyph) where
       pick true = glued-run g gs false h
       pick false = refl
 
-  -- a blank that is behind no ink is itself, and no ink is before what follows it
+  -- a blank that is after no ink is itself, and no ink is before what follows it
   pub settle-blank : g .blank ≡ true → settle glue false (g ∷ gs) ≡ g ∷ settle glue false gs
   settle-blank b = pick (noBreak g) refl
     where
@@ -93,7 +93,7 @@ module _ (glue : Bool) (g : Glyph) (gs : List Glyph) where
       pick true h = settle-still h
       pick false h = settle-other false h ∙ ap (λ (t : Bool). g ∷ settle glue (not t) gs) b
 
-  -- what stands at an edge is itself
+  -- what is at an edge is itself
   pub settle-edge : settle glue false (g ∷ gs) ≡ g ∷ settle glue (inkBehind false g) gs
   settle-edge = pick (noBreak g) refl
     where
@@ -105,7 +105,7 @@ module _ (glue : Bool) (g : Glyph) (gs : List Glyph) where
   pub settle-start : noBreak g ≡ false → settle glue true (g ∷ gs) ≡ settle glue false (g ∷ gs)
   settle-start h = settle-other true h ∙ sym (settle-other false h)
 
--- where no ink follows, U+00A0 are blank whatever stands before them
+-- where no ink follows, U+00A0 are blank whatever is before them
 pub settle-end : (glue : Bool) (gs : List Glyph) → inkAhead gs ≡ false → settle glue true gs ≡ settle glue false gs
 unfolding settle
 settle-end false gs e = refl
@@ -118,7 +118,7 @@ settle-end true (g ∷ gs) e = pick (noBreak g) refl (settle-end true gs)
         rw (glued-run g gs true h, glued-run g gs false h, k, rest k)
     pick false h rest = glued-other g gs true h ∙ sym (glued-other g gs false h)
 
--- behind ink and before ink, each U+00A0 of a run is ordinary
+-- after ink and before ink, each U+00A0 of a run is ordinary
 pub settle-run : (gs : List Glyph) → inkAhead gs ≡ true → settle true true gs ≡ map ordinary (while noBreak gs) ++ settle true true (behind noBreak gs)
 unfolding settle
 settle-run [] e = rw (while-nil noBreak, behind-nil noBreak)

@@ -1,4 +1,4 @@
--- What stands at a place of a text, as an answer of the code tells it; and the characters of a whole text.
+-- What is at a place of a text, as an answer of the code tells it; and the characters of a whole text.
 use mathlib.Core.Path.{_≡_, refl, sym, ap, ap₂, _∙_}
 use mathlib.Core.Bool.{Bool, true, false, cond}
 use mathlib.Core.List.{List, [], _∷_, _++_}
@@ -54,7 +54,7 @@ bytes-of xs h = pick (decode xs) refl
     pick nothing e = record { n = 1; some = omega arith; within = h; are = rw e; count = rw e (length-take-le 1 xs h) }
     pick (front c m) e = let d = sound xs c m e in record { n = m; some = d .some; within = d .within; are = rw e; count = rw e (length-take-le m xs (d .within)) }
 
--- a character stands at a place, and the next one at next
+-- a character is at a place, and the next one at next
 pub record Here (blank : Bool) (s : List ℕ) (at code next : ℕ) : Type 0 where
   pub on : at < next
   pub few : next ≤ at + 4
@@ -69,7 +69,7 @@ pub record Here (blank : Bool) (s : List ℕ) (at code next : ℕ) : Type 0 wher
   pub hasBytes : glyph (drop at s) .bytes ≡ slice at next s
   pub count : length (glyph (drop at s) .bytes) ≡ next - at
 
--- no character stands at a place, and the next one stands behind the byte there
+-- no character is at a place, and the next one is after the byte there
 pub record DamagedHere (s : List ℕ) (at : ℕ) : Type 0 where
   pub first : characters (drop at s) ≡ glyph (drop at s) ∷ characters (drop (at + 1) s)
   pub isDamaged : glyph (drop at s) .damaged ≡ true
@@ -165,7 +165,7 @@ characters-step xs b =
     let e : suc (length (glyph xs .bytes) - 1) ≡ b .n = omega (arith, b .count, b .some) in
     each-step _ _ xs (omega (arith, b .some, b .within)) ∙ ap (λ (n : ℕ). glyph xs ∷ characters (drop n xs)) e
 
--- what holds of nothing, and of a text if it holds of what is behind its first character, holds of every text
+-- what holds of nothing, and of a text if it holds of what is after its first character, holds of every text
 pub characters-induct : (P : List ℕ → List Glyph → Type 0) → P [] []
     → ((xs : List ℕ) (b : Bytes xs) → P (drop (b .n) xs) (characters (drop (b .n) xs)) → P xs (glyph xs ∷ characters (drop (b .n) xs)))
     → (xs : List ℕ) → P xs (characters xs)

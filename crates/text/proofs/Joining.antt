@@ -62,7 +62,7 @@ joins-is p q r b e =
       behindF4 = λ h. ltb-true _ _ (second (eqb r 0xF4) _ (f4 .1) (eq-eqb r 0xF4 h));
     }
 
--- an octet behind others: it goes on where one of the three asks for it, and else begins a character
+-- an octet after others: it goes on where one of the three asks for it, and else begins a character
 module _ {p q r b : ℕ} (j : Joins p q r b) where
   asked-by : asked p q r ≡ true → (b < 0xC0) × (b / 64 ≡ 2)
   asked-by h = (omega (arith, j .follows h), j .follows h)
@@ -83,7 +83,7 @@ by-second p q r h = rw (le-leb 0xE0 q h) (or-mid (leb 0xF0 p) (leb 0xC0 r))
 by-third : (p q r : ℕ) → 0xF0 ≤ p → asked p q r ≡ true
 by-third p q r h = rw (le-leb 0xF0 p h)
 
--- ---- a text by its characters: the first, and what is behind it
+-- ---- a text by its characters: the first, and what is after it
 
 one-more : (xs : List ℕ) (code n : ℕ) → readAs 0 (decode xs) ≡ Good code n → damage (drop n xs) ≡ Nowhere → damage xs ≡ Nowhere
 one-more xs code n e rest = sym (later-zero (damage xs)) ∙ damage-on xs 0 (char-here xs 0 code n e) ∙ ap (later n) rest

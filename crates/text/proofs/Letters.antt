@@ -31,7 +31,7 @@ pub record Letter (s : List ℕ) (at : ℕ) : Type 0 where
 pub ink-letter : (c : ℕ) → 0xC0 ≤ c → c < 0x1680 → whiteSpace c ≡ false
 ink-letter c h k = ink-at c (omega arith) (λ a b. omega arith) (λ a b. omega arith)
 
--- behind the accents, up to Cyrillic's own, each character takes one column
+-- after the accents, up to Cyrillic's own, each character takes one column
 one-behind-accents : (c : ℕ) → 0x370 ≤ c → c < 0x483 → widthOf c ≡ 1
 unfolding widthOf widthIn table
 one-behind-accents c h k = rw (le-ltb c 0x300 (omega arith), lt-leb c 0x36F (omega arith), lt-ltb c 0x483 k, widthIn)

@@ -1,4 +1,4 @@
--- U+00A0: its two bytes at a place tell it; and a run of it, with what is behind it.
+-- U+00A0: its two bytes at a place tell it; and a run of it, with what is after it.
 use mathlib.Core.Path.{_≡_, refl, sym, ap, _∙_}
 use mathlib.Core.Bool.{Bool, true, false, not, _&&_, and-eq-true-iff, false≢true}
 use mathlib.Core.List.{List, [], _∷_, _++_}
@@ -113,7 +113,7 @@ module _ (s : List ℕ) (at : ℕ) where
           rw (characters-first s at l, while-end noBreak (glyph (drop at s)) (characters (drop (at + length (glyph (drop at s) .bytes)) s)) (no-break-other l e))
       pick false h = rw (characters-past s at (ltb-false at (length s) h), while-nil noBreak)
 
--- a run of U+00A0 by what is left of it: its end, and what stands behind it
+-- a run of U+00A0 by what is left of it: its end, and what is after it
 pub record RunLeft (s : List ℕ) (at i : ℕ) : Type 0 where
   pub run : i + extent (while noBreak (characters (drop i s))) ≡ at + extent (while noBreak (characters (drop at s)))
   pub ahead : inkAhead (characters (drop i s)) ≡ inkAhead (characters (drop at s))
@@ -139,7 +139,7 @@ module _ (s : List ℕ) (at : ℕ) where
     pub run-last : noBreakAt s i ≡ false → RunOver s at i
     run-last e = record { run = omega (arith, l .run, run-none s i e); ahead = sym (l .ahead); stops = e; within = l .within }
 
--- whether ink stands at a place where there is no U+00A0
+-- whether ink is at a place where there is no U+00A0
 module _ (s : List ℕ) (at : ℕ) where
   pub ink-past : length s ≤ at → false ≡ inkAhead (characters (drop at s))
   ink-past h = rw (characters-past s at h, ahead-none)
@@ -147,7 +147,7 @@ module _ (s : List ℕ) (at : ℕ) where
   pub ink-first : at < length s → noBreakAt s at ≡ false → inkAhead (characters (drop at s)) ≡ not (glyph (drop at s) .blank)
   ink-first h e = ap inkAhead (characters-first s at h) ∙ ahead-other (glyph (drop at s)) (characters (drop (at + length (glyph (drop at s) .bytes)) s)) (no-break-other s at h e)
 
-  -- the end of those that are ordinary behind ink
+  -- the end of those that are ordinary after ink
   module _ (end : ℕ) (r : RunOver s at end) where
     pub glued-all : inkAhead (characters (drop end s)) ≡ true → end ≡ at + gluedExtent (characters (drop at s))
     unfolding gluedExtent

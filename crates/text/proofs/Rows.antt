@@ -1,4 +1,4 @@
--- Bytes that stand in a row: a test of each, as the code writes it for eight, and what it says of each.
+-- Bytes that are in a row: a test of each, as the code writes it for eight, and what it says of each.
 use mathlib.Core.Path.{_≡_}
 use mathlib.Core.Bool.{Bool, true, _&&_, and-eq-true-iff}
 use mathlib.Core.Logic.{⊎-elim}
@@ -8,7 +8,7 @@ use native.Mathlib.Nat.{eq-or-lt-of-le}
 use native.Mathlib.Omega.{arith}
 use lib.ListN.{getD}
 
--- a test of the byte at a place and of the n behind it
+-- a test of the byte at a place and of the n after it
 unfoldable pub allAt : (ℕ → Bool) → List ℕ → ℕ → ℕ → Bool
 allAt test s i zero = test (getD s i 0)
 allAt test s i (suc n) = allAt test s i n && test (getD s (i + suc n) 0)

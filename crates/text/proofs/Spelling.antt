@@ -1,4 +1,4 @@
--- A character's octets, with anything behind them, are read as that character again.
+-- A character's octets, with anything after them, are read as that character again.
 use mathlib.Core.Path.{_≡_, refl, sym, ap, _∙_}
 use mathlib.Core.Bool.{Bool, true, false, cond, not, _&&_, true≢false}
 use mathlib.Core.List.{List, [], _∷_, _++_}
@@ -66,7 +66,7 @@ glyphs-spell glue xs = go glue (each-all (λ ys. length (glyph ys .bytes) - 1) g
     go true a = glued-spells false (characters xs) a
     go false a = a
 
--- its octets read again: a character of the same number and width, and behind it what stands there
+-- its octets read again: a character of the same number and width, and after it what stands there
 pub record ReadAgain (g : Glyph) (ys : List ℕ) : Type 0 where
   pub again : Glyph
   pub first : characters (g .bytes ++ ys) ≡ again ∷ characters ys

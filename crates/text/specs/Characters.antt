@@ -1,5 +1,5 @@
--- Document 01, "Characters and lines", as amended by document 02, P4: characters, damaged places, blanks and widths; and P2: which U+00A0
--- are ordinary with glue on. A glyph is what stands at a place of a line, with all that later sections ask of it; they look at glyphs alone.
+-- RULES 4.1 to 4.4: characters, damaged places, blanks and widths; and which U+00A0
+-- are ordinary with glue on. A glyph is what is at a place of a line, with all that later sections ask of it; they look at glyphs alone.
 use mathlib.Core.Bool.{Bool, true, false, cond, not, _&&_}
 use mathlib.Core.List.{List, [], _∷_}
 use Prim.Native.Nat.{ℕ, _+_, _-_}
@@ -14,7 +14,7 @@ use Rattle.text.specs.declared.Found.{Found}
 use Rattle.text.specs.declared.Found.the-variants.{At, Nowhere}
 
 pub record Glyph : Type 0 where
-  -- its bytes, as they stand in the line
+  -- its bytes, as they are in the line
   pub bytes : List ℕ
   -- the character's number; U+FFFD of a damaged byte
   pub code : ℕ
@@ -26,7 +26,7 @@ pub record Glyph : Type 0 where
 abbrev pub isTab : Glyph → Bool
 isTab g = eqb (g .code) 9
 
--- P4: every well-formed character is accepted; blanks are the White_Space set, and each has its width by the table.
+-- RULES 4.1 to 4.3: every well-formed character is accepted; blanks are the White_Space set, and each has its width by the table.
 -- The character at the front of a list; a damaged one has one byte
 abbrev pub glyphAs : List ℕ → Front → Glyph
 glyphAs xs (front c n) = record { bytes = take n xs; code = c; damaged = false; blank = whiteSpace c; width = widthOf c }
@@ -39,7 +39,7 @@ glyph xs = glyphAs xs (decode xs)
 unfoldable pub characters : List ℕ → List Glyph
 characters = each (λ xs. length (glyph xs .bytes) - 1) glyph
 
--- P2: with glue on, U+00A0 is ordinary only if the nearest characters on its line, left and right, skipping further U+00A0, are both
+-- RULES 4.4: with glue on, U+00A0 is ordinary only if the nearest characters on its line, left and right, skipping further U+00A0, are both
 -- there and not blanks; otherwise, a line's edge included, it is blank.
 abbrev pub noBreak : Glyph → Bool
 noBreak g = eqb (g .code) 0xA0

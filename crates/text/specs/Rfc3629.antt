@@ -19,7 +19,7 @@ encode c =
     (cond (ltb c 0x10000) ((0xE0 + c / 4096) ∷ (0x80 + c / 64 % 64) ∷ (0x80 + c % 64) ∷ [])
     ((0xF0 + c / 262144) ∷ (0x80 + c / 4096 % 64) ∷ (0x80 + c / 64 % 64) ∷ (0x80 + c % 64) ∷ [])))
 
--- the character c stands at the front of xs, and rest is behind it
+-- the character c is at the front of xs, and rest is after it
 pub record StandsFirst (c : ℕ) (xs rest : List ℕ) : Type 0 where
   pub isScalar : T (scalar c)
   pub octets : xs ≡ encode c ++ rest
@@ -29,7 +29,7 @@ pub data Front : Type 0 where
   front : ℕ → ℕ → Front
   nothing : Front
 
--- the number that the free bits of the octet a and of those behind it would spell, whatever they are
+-- the number that the free bits of the octet a and of those after it would spell, whatever they are
 unfoldable pub spelled : ℕ → List ℕ → ℕ
 spelled a xs =
     let second = getD xs 0 0 % 64 in

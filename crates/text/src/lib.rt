@@ -1,4 +1,4 @@
-// Characters: what stands at a place of a line. RFC 3629 decides which bytes are characters.
+// Characters: what is at a place of a line. RFC 3629 decides which bytes are characters.
 ghost use mathlib.Core.Path.{_≡_};
 ghost use mathlib.Core.Bool.{true, false, _&&_};
 ghost use Prim.Native.Nat.{_+_, _-_, _≤_, _<_};
@@ -14,13 +14,13 @@ pub enum Found {
     Nowhere,
 }
 
-// What reading a character at a place finds: its number and the place behind it, or none.
+// What reading a character at a place finds: its number and the place after it, or none.
 pub enum Char {
     Good { code: u32, next: usize },
     Damaged,
 }
 
-// What stands at a place of a line, for all that formatting asks of it.
+// What is at a place of a line, for all that formatting asks of it.
 pub enum Glyph {
     Ink { code: u32, next: usize },
     Blank { code: u32, next: usize },
@@ -180,7 +180,7 @@ pub fn glyph_at(s: &[u8], at: usize) -> Glyph
     glyph_of(code, next)
 }
 
-// A character, by its number and the place behind it.
+// A character, by its number and the place after it.
 fn glyph_of(code: u32, next: usize) -> Glyph
     ensures { λ r. ⌜ r ≡ glyphOf code next ⌝ }
 {
@@ -191,7 +191,7 @@ fn glyph_of(code: u32, next: usize) -> Glyph
     }
 }
 
-// With glue on, U+00A0 is ordinary between ink: behind ink, the end of those at a place that have ink behind them too; if they have none,
+// With glue on, U+00A0 is ordinary between ink: after ink, the end of those at a place that have ink after them too; if they have none,
 // the place. So it is asked once for a run of them.
 pub fn glued_end(s: &[u8], at: usize) -> usize
     requires { ⌜ at ≤ length (now s) ⌝ }
@@ -213,7 +213,7 @@ fn over_no_breaks(s: &[u8], at: usize) -> usize
     i
 }
 
-// Whether U+00A0 stands at a place.
+// Whether U+00A0 is at a place.
 pub fn is_no_break(s: &[u8], at: usize) -> bool
     ensures { λ r. ⌜ r ≡ noBreakAt (now (s .entry)) at ⌝ }
 {
@@ -230,7 +230,7 @@ pub fn is_no_break(s: &[u8], at: usize) -> bool
     s[next] == 0xA0
 }
 
-// Whether a character that is no blank stands at a place, where there is no U+00A0. A damaged byte is none either.
+// Whether the character at a place is no blank, where there is no U+00A0. True of a damaged byte.
 fn is_ink(s: &[u8], at: usize) -> bool
     requires { ⌜ noBreakAt (now s) at ≡ false ⌝ }
     ensures { λ r. ⌜ r ≡ inkAhead (characters (drop at (now (s .entry)))) ⌝ }
@@ -244,7 +244,7 @@ fn is_ink(s: &[u8], at: usize) -> bool
     false
 }
 
-// Whether a letter of two bytes stands at a place, U+00C0 to U+02FF or U+0380 to U+047F, Latin, Greek or Cyrillic: each takes one
+// Whether a letter of two bytes is at a place, U+00C0 to U+02FF or U+0380 to U+047F, Latin, Greek or Cyrillic: each takes one
 // column and none is blank, so that no more need be asked.
 pub fn is_letter(s: &[u8], at: usize) -> bool
     ensures { λ r. ⌜ r ≡ letterAt (now (s .entry)) at ⌝ }
@@ -314,7 +314,7 @@ fn are_joined(s: &[u8]) -> bool
     all & end_joined(s)
 }
 
-// The first three bytes, before which nothing asks.
+// The first three bytes: nothing before them can ask for one of them.
 fn begin_joined(s: &[u8]) -> bool
     requires { ⌜ 3 ≤ length (now s) ⌝ }
     ensures { λ r. ⌜ r ≡ (joins 0 0 0 (getD (now (s .entry)) 0 0) && joins 0 0 (getD (now (s .entry)) 0 0) (getD (now (s .entry)) 1 0) && joins 0 (getD (now (s .entry)) 0 0) (getD (now (s .entry)) 1 0) (getD (now (s .entry)) 2 0)) ⌝ }
@@ -333,7 +333,7 @@ fn joins_at(s: &[u8], i: usize) -> bool
 }
 
 // Whether a byte joins those before it, p, q and r: it goes on with a character exactly where one of them asks for it, it is none that
-// RFC 3629 has not, and behind E0, ED, F0 and F4 it is one of those that may stand there.
+// RFC 3629 has not, and after E0, ED, F0 and F4 it is one of those that may stand there.
 fn joins(p: u8, q: u8, r: u8, b: u8) -> bool
     ensures { λ x. ⌜ x ≡ joins p q r b ⌝ }
 {
@@ -350,7 +350,7 @@ fn joins(p: u8, q: u8, r: u8, b: u8) -> bool
         & ((r != 0xF4) | (b < 0x90))
 }
 
-// The last three bytes, behind which nothing is asked for.
+// The last three bytes, after which nothing is asked for.
 fn end_joined(s: &[u8]) -> bool
     requires { ⌜ 3 ≤ length (now s) ⌝ }
     ensures { λ r. ⌜ (r ≡ true → JoinedFrom (now (s .entry)) (length (now (s .entry)))) ⌝ }

@@ -101,7 +101,7 @@ module _ (c : List ℕ) (n : length c ≡ 0 → ⊥) (h : getD c 0 0 ≡ 32 → 
   pub needs-not : begins fromWord c ≡ false → stuffing c ≡ []
   needs-not b = by-from c n h k ∙ rw b
 
--- ---- a text that ends in a space needs stuffing or not, whatever stands behind it
+-- ---- a text that ends in a space needs stuffing or not, whatever is after it
 
 from-soft : (c d : List ℕ) → endsInSpace c ≡ true → begins fromWord (c ++ d) ≡ begins fromWord c
 unfolding begins endsInSpace fromWord

@@ -70,7 +70,7 @@ on-joined m s p c t u = rw (append-assoc p c (t ++ u), append-assoc c t u)
 apart-joined : (m s p a b n r c t u : List ℕ) → (m ++ (s ++ (p ++ (a ++ b)))) ++ (n ++ (r ++ (c ++ (t ++ u)))) ≡ m ++ (s ++ (p ++ (a ++ (((b ++ (n ++ r)) ++ (c ++ t)) ++ u))))
 apart-joined m s p a b n r c t u = simp append-assoc
 
--- the paragraphs behind a line, as the lines write them
+-- the paragraphs after a line, as the lines write them
 written-from : (p : Paragraph) (line : List ℕ) (lines : List (List ℕ)) → Sound p line
     → joined asLine (paragraphsFrom p line lines)
     ≡ replicate (p .depth) quoteMark ++ (stuffing (p .content) ++ (p .content ++ (endOf (not (isSoft line)) ++ placedFrom (isSoft line) (quoteDepth line) lines)))

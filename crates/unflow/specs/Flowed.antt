@@ -37,7 +37,7 @@ unfoldable pub unstuffed : List ℕ → List ℕ
 unstuffed [] = []
 unstuffed (x ∷ xs) = cond (eqb x space) xs (x ∷ xs)
 
--- what a line says, behind its quote marks and its stuffing
+-- what a line says, after its quote marks and its stuffing
 unfoldable pub contentOf : List ℕ → List ℕ
 contentOf line = unstuffed (behind isMark line)
 

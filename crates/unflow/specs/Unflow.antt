@@ -1,4 +1,4 @@
--- Document 02, P10, and RFC 3676, section 4: mail read. Soft lines are joined to paragraphs, and each paragraph is written as one line.
+-- RULES 17.2, and RFC 3676, section 4: mail read. Soft lines are joined to paragraphs, and each paragraph is written as one line.
 use mathlib.Core.Bool.{Bool, true, false, cond, not, _&&_}
 use mathlib.Core.List.{List, [], _∷_, _++_, map}
 use Prim.Native.Nat.{ℕ, _+_, _*_, _^_}
@@ -40,7 +40,7 @@ paragraphs (line ∷ lines) = paragraphsFrom (begun line) line lines
 unfoldable pub asLine : Paragraph → List ℕ
 asLine p = replicate (p .depth) quoteMark ++ (stuffing (p .content) ++ (p .content ++ crLf))
 
--- the texts of a text's lines, which are read as in document 01
+-- the texts of a text's lines, which are read as in RULES 4.5
 unfoldable pub mailLines : List ℕ → List (List ℕ)
 mailLines text = map (λ (l : Line). l .text) (linesOf text)
 

@@ -37,7 +37,7 @@ pub fn unflow(text: &[u8], out: &mut [u8]) -> Reading
     Reading::Room(needed)
 }
 
-// The answer's code stands in the upper 32 bits of its number, what it tells in the lower.
+// The answer's code is in the upper 32 bits of its number, what it tells in the lower.
 const UPPER: u64 = 4294967296;
 
 pub fn reading_number(a: Reading) -> u64
@@ -90,7 +90,7 @@ fn take_apart(line: &[u8]) -> Line
     }
 }
 
-// The place behind the quote marks at a line's front.
+// The place after the quote marks at a line's front.
 fn marks_end(line: &[u8]) -> usize
     ensures { λ r. ⌜ (r ≡ quoteDepth (now (line .entry))) × (r ≤ length (now (line .entry))) ⌝ }
 {
@@ -104,7 +104,7 @@ fn marks_end(line: &[u8]) -> usize
     i
 }
 
-// The place behind a space that stands there.
+// The place after a space that stands there.
 fn content_start(line: &[u8], depth: usize) -> usize
     requires { ⌜ (depth ≡ quoteDepth (now line)) × (depth ≤ length (now line)) ⌝ }
     ensures { λ r. ⌜ (contentOf (now (line .entry)) ≡ drop r (now (line .entry))) × (depth ≤ r) × (r ≤ length (now (line .entry))) ⌝ }
@@ -118,7 +118,7 @@ fn content_start(line: &[u8], depth: usize) -> usize
     depth
 }
 
-// The signature separator: without quote marks only as the whole line, behind them with stuffing too.
+// The signature separator: without quote marks only as the whole line, after them with stuffing too.
 fn is_separator(line: &[u8], depth: usize, start: usize) -> bool
     requires { ⌜ (depth ≡ quoteDepth (now line)) × (contentOf (now line) ≡ drop start (now line)) × (start ≤ length (now line)) ⌝ }
     ensures { λ r. ⌜ r ≡ isSeparator (now (line .entry)) ⌝ }
@@ -146,7 +146,7 @@ fn ends_in_space(s: &[u8]) -> bool
     s[last] == b' '
 }
 
-// Writes a line behind those before it; `going` tells whether they left a paragraph open, which has a depth.
+// Writes a line after those before it; `going` tells whether they left a paragraph open, which has a depth.
 fn put_line(line: &[u8], l: Line, going: bool, depth: usize, rest: &mut [u8]) -> usize
     requires { ⌜ Parted (now line) l × (length (now line) ≤ 65536) ⌝ }
     ensures { λ r. ⌜ Wrote (now (rest .entry)) 0 (placed going depth (now (line .entry))) (now (rest .exit)) r ⌝ }
@@ -158,7 +158,7 @@ fn put_line(line: &[u8], l: Line, going: bool, depth: usize, rest: &mut [u8]) ->
     m + put_end(!l.soft, &mut rest[behind..])
 }
 
-// What stands before a line's content: nothing if it goes on in the open paragraph; else that one's end, quote marks and stuffing.
+// What is before a line's content: nothing if it goes on in the open paragraph; else that one's end, quote marks and stuffing.
 fn put_start(line: &[u8], l: Line, going: bool, depth: usize, rest: &mut [u8]) -> usize
     requires { ⌜ Parted (now line) l × (length (now line) ≤ 65536) ⌝ }
     ensures { λ r. ⌜ Wrote (now (rest .entry)) 0 (startOf going depth (now (line .entry))) (now (rest .exit)) r ⌝ }

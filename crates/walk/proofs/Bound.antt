@@ -146,7 +146,7 @@ module _ (o : Opts) (notes : List ℕ) (at : ℕ) (p : ParagraphAt) (q : Paragra
       let b = ap length (h .bytes) in
       omega (arith, w .more, w .low, w .order, w .high)
 
-  -- all but what stands before the words
+  -- all but what is before the words
   words-most : (first indent : List ℕ) → length first ≤ p .next - at + 4 → longest first indent (wordsOf o q) ≤ 10 * (p .next - at) + length (wordsOf o q) * (length indent + 2)
   words-most first indent f =
       let b = words-bulk in

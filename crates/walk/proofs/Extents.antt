@@ -1,4 +1,4 @@
--- The pieces' extents, joined, are the notes; no piece's output is empty; and a damaged line is a piece of its own between the pieces of the lines before and behind it.
+-- The pieces' extents, joined, are the notes; no piece's output is empty; and a damaged line is a piece of its own between the pieces of the lines before and after it.
 use mathlib.Core.Path.{_≡_, sym, ap, _∙_}
 use mathlib.Core.Bool.{Bool, true, false}
 use mathlib.Core.List.{List, [], _∷_, _++_, append-assoc}
@@ -57,7 +57,7 @@ output-some o q = go (q .kind)
     go (plainLine line) = rw length-append (omega arith)
     go (paragraph p) = emit-some _ (p .first .bytes) (p .indent .bytes) _ (wordsOf o p)
 
--- a damaged line: the pieces of the lines before it, itself as a plain line, and the pieces of the lines behind it
+-- a damaged line: the pieces of the lines before it, itself as a plain line, and the pieces of the lines after it
 pub damaged-pieces : (o : Opts) (notes : List ℕ) (before : List Line) (l : Line) (after : List Line) (place : ℕ)
     → linesOf notes ≡ before ++ l ∷ after → damage (l .text) ≡ At place
     → pieces o notes ≡ walk (nextPiece o) true before ++ record { kind = plainLine (l .text); lines = l ∷ [] } ∷ walk (nextPiece o) false after

@@ -1,4 +1,4 @@
--- What the piece that the code finds at a place means for the call: which pieces go on behind it.
+-- What the piece that the code finds at a place means for the call: which pieces go on after it.
 use mathlib.Core.Path.{ap, _∙_}
 use mathlib.Core.Bool.{Bool, true, false}
 use mathlib.Core.List.{List, _∷_}

@@ -32,7 +32,7 @@ module _ (o : Opts) where
   plain-rows start later [] a = refl
   plain-rows start later (l ∷ ls) a = ap (joined (rowWords o false)) (ap₂ (λ (r : Row) (rs : List Row). r ∷ rs) (row-starts start l (a .0)) (rows-start later ls (a .1)))
 
-  -- mail's words do not hang on where they begin
+  -- mail's words do not depend on where they begin
   mail-row : (l : Line) (start : ℕ) → rowWords o true (rowOf o l) ≡ rowWords o true (record { text = l .text; start = start })
   unfolding rowWords rowOf
   mail-row l start = refl

@@ -25,7 +25,7 @@ use Rattle.walk.proofs.Extents.{extents-are-notes, joined-at}
 abbrev wordIn : Standing → Word
 wordIn s = s .word
 
--- ---- one list of words behind the other
+-- ---- one list of words after the other
 
 ascends-sooner : (from next end : ℕ) (ss : List Standing) → from ≤ next → Ascends next ss end → Ascends from ss end
 ascends-sooner from next end [] h a = omega arith

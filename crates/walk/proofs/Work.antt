@@ -41,7 +41,7 @@ unfolding Trails
 trails-back [] back t = t
 trails-back (l ∷ front) back t = trails-back front back (t .2)
 
--- the first line of a text that goes on behind it
+-- the first line of a text that goes on after it
 first-shorter : (xs : List ℕ) → Shorter (firstLine xs)
 unfolding lengthsOf
 first-shorter xs = lengths xs (lengthsOf (firstLine xs)) refl .shorter

@@ -1,4 +1,4 @@
--- Document 01, "What is bought": the defined output. The digest is the pieces' outputs, joined.
+-- RULES 9: the defined output. The digest is the pieces' outputs, joined.
 use mathlib.Core.Bool.{Bool, true, false, _||_}
 use mathlib.Core.List.{List, [], _∷_, _++_}
 use Prim.Native.Nat.{ℕ, _+_}
@@ -33,7 +33,7 @@ pieceOutput o piece = outputOf o (piece .kind)
 unfoldable pub digest : Opts → List ℕ → List ℕ
 digest o notes = joined (pieceOutput o) (pieces o notes)
 
--- ---- a paragraph of over so many words: in document 01 over 1,024
+-- ---- a paragraph of over so many words: in RULES 2.2 over 1,024
 
 -- the bytes of the notes that a piece takes
 unfoldable pub extentOf : Piece → List ℕ

@@ -1,4 +1,4 @@
--- Document 02, P3: the words of the notes, each with its place in them.
+-- RULES 21.6: the words of the notes, each with its place in them.
 use mathlib.Core.List.{List, [], _∷_, _++_}
 use Prim.Native.Nat.{ℕ, _+_}
 use lib.ListN.{length}
@@ -21,7 +21,7 @@ standingUnder o at ls blankLine = []
 standingUnder o at ls (plainLine line) = []
 standingUnder o at ls (paragraph p) = wordsStanding o at ls p
 
--- pieces stand one behind the other from a place on
+-- pieces stand one after the other from a place on
 unfoldable pub standingFrom : Opts → ℕ → List Piece → List Standing
 standingFrom o at [] = []
 standingFrom o at (q ∷ qs) = standingUnder o at (q .lines) (q .kind) ++ standingFrom o (at + length (extentOf q)) qs

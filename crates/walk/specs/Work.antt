@@ -7,7 +7,7 @@ use Rattle.options.specs.Opts.{Opts}
 use Rattle.pieces.specs.Pieces.{Piece, Kind, blankLine, plainLine, paragraph, pieces}
 use Rattle.words.specs.Words.{wordsOf}
 
--- a word takes 7 numbers; without quick, 8 more for the break behind it
+-- a word takes 7 numbers; without quick, 8 more for the break after it
 abbrev pub workOf : Opts → Kind → ℕ
 workOf o blankLine = 0
 workOf o (plainLine line) = 0

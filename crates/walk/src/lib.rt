@@ -1,4 +1,4 @@
-// The walk over the notes: their pieces, written one behind the other as far as there is room, and counted.
+// The walk over the notes: their pieces, written one after the other as far as there is room, and counted.
 use options::Options;
 use paragraphs::Cursor;
 use paragraphs::Step;
@@ -22,7 +22,7 @@ ghost use Rattle.walk.specs.Digest.{mostWords, digest};
 ghost use Rattle.walk.specs.Work.{workFor};
 ghost use Rattle.walk.specs.Contracts.Course.{CursorIn, TextAhead, Reached, Admitted, outputFrom, longFrom, Coursed, Begun, start, Finished, FinishedFrom};
 
-// What follows the lines behind a place: a paragraph, where the cursor stands, or the end of the notes.
+// What follows the lines after a place: a paragraph, where the cursor stands, or the end of the notes.
 enum Ahead {
     Text { c: Cursor, p: Paragraph },
     End(usize),
@@ -364,7 +364,7 @@ fn put_best_long(
     }
 }
 
-// Paragraph by paragraph, each with the lines behind it, as far as the tables reach.
+// Paragraph by paragraph, each with the lines after it, as far as the tables reach.
 // In the original: `uumain`.
 fn put_texts(
     o: Options,

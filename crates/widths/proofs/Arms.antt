@@ -15,5 +15,5 @@ passed : (k x : ℕ) → Passed k x → k ≤ x
 passed zero x p = omega arith
 passed (suc k) x p = let h = passed k x (p .0) in omega (arith, p .1)
 
-pub outside : (xs : List ℕ) (k x : ℕ) → T (eqb (length xs) k) → Passed k x → 0 ≡ getD xs x 0
-outside xs k x t p = sym (List·getD-eq-default xs 0 (let e = eqb→eq (length xs) k t in let h = passed k x p in omega arith))
+pub outside : {A : Type 0} (xs : List A) (d : A) (k x : ℕ) → T (eqb (length xs) k) → Passed k x → d ≡ getD xs x d
+outside xs d k x t p = sym (List·getD-eq-default xs d (let e = eqb→eq (length xs) k t in let h = passed k x p in omega arith))

@@ -5,12 +5,9 @@ use Prim.Native.Nat.{ℕ, _≤_, _<_}
 use native.Mathlib.Omega.{arith}
 use lib.Dec.{leb}
 use borrow.Author.Tests.{leb-true, leb-false, ne-eqb}
-use Rattle.widths.specs.Table.{table}
 use Rattle.widths.specs.Widths.{widthOf}
 use Rattle.widths.specs.WhiteSpace.{whiteSpace}
 use Rattle.widths.specs.Contracts.Forms.{inkWidth}
-use Rattle.widths.proofs.Ranges.{past}
-use Rattle.widths.proofs.Planes.{within}
 use Rattle.widths.proofs.Laws.{at-most-two}
 
 pub ink-blank : (c n : ℕ) → n ≡ inkWidth c → n ≡ 3 → whiteSpace c ≡ true
@@ -64,14 +61,32 @@ blank-most c h = pick (leb c 0x3000) refl
     pick true e = leb-true c 0x3000 e
     pick false e = absurd (false≢true (sym (ink-behind c (let l = leb-false c 0x3000 e in omega arith)) ∙ h))
 
-pub far : (c n : ℕ) → 0x3000 < c → n ≡ widthOf c → n ≡ inkWidth c
+pub inked : (c n : ℕ) → whiteSpace c ≡ false → n ≡ widthOf c → n ≡ inkWidth c
 unfolding inkWidth
-far c n h e = rw (ink-behind c h) e
+inked c n h e = rw h e
 
-pub ideographs : (c : ℕ) → 0x4E00 ≤ c → c < 0xA000 → 2 ≡ widthOf c
-unfolding past table
-ideographs c h k = within 0x4E00 _ _ _ _ _ refl h h (omega arith)
+pub blank : (c : ℕ) → whiteSpace c ≡ true → 3 ≡ inkWidth c
+unfolding inkWidth
+blank c h = rw h refl
 
-pub hangul : (c : ℕ) → 0xAC00 ≤ c → c ≤ 0xD7A3 → 2 ≡ widthOf c
-unfolding past table
-hangul c h k = within 0xAC00 _ _ _ _ _ refl h h k
+pub far : (c n : ℕ) → 0x3000 < c → n ≡ widthOf c → n ≡ inkWidth c
+far c n h e = inked c n (ink-behind c h) e
+
+pub near : (c n : ℕ) → 0x300 ≤ c → c < 0x1680 → n ≡ widthOf c → n ≡ inkWidth c
+near c n h k e = inked c n (ink-at c (omega arith) (λ a b. omega arith) (λ a b. omega arith)) e
+
+pub dash : (c : ℕ) → 0x2010 ≤ c → c < 0x2028 → whiteSpace c ≡ false
+unfolding whiteSpace
+dash c h k =
+    rw (
+      no-range 9 13 c (λ a b. omega arith),
+      ne-eqb c 0x20 (omega arith),
+      ne-eqb c 0x85 (omega arith),
+      ne-eqb c 0xA0 (omega arith),
+      ne-eqb c 0x1680 (omega arith),
+      no-range 0x2000 0x200A c (λ a b. omega arith),
+      no-range 0x2028 0x2029 c (λ a b. omega arith),
+      ne-eqb c 0x202F (omega arith),
+      ne-eqb c 0x205F (omega arith),
+      ne-eqb c 0x3000 (omega arith),
+    )

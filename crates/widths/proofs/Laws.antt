@@ -11,7 +11,7 @@ use Rattle.widths.specs.Table.{table}
 use Rattle.widths.specs.Widths.{widthOf}
 use Rattle.widths.proofs.Ranges.{left, right}
 
--- ranges that start at n or behind it are at most m wide, those before it at most k
+-- ranges that start at n or after it are at most m wide, those before it at most k
 unfoldable pub modest : ℕ → ℕ → ℕ → List Range → Bool
 modest k n m [] = true
 modest k n m (span a b w ∷ rs) = leb w m && ((leb n a || leb w k) && modest k n m rs)

@@ -4,7 +4,7 @@ use mathlib.Core.Bool.{Bool, true, false, _&&_}
 use mathlib.Core.List.{List, [], _∷_}
 use Prim.Native.Nat.{ℕ, suc, _≤_, _<_}
 use native.Mathlib.Omega.{arith}
-use lib.Dec.{T, leb, ltb, leb→le, le→leb}
+use lib.Dec.{T, leb, ltb, leb→le}
 use borrow.Author.Tests.{ltb-true, lt-leb, le-ltb}
 use Rattle.widths.specs.Ranges.{Range, span, widthIn, ascending}
 
@@ -16,10 +16,6 @@ left false b t = t
 pub right : (a b : Bool) → T (a && b) → T b
 right true b t = t
 right false b t = absurd t
-
-both : (a b : Bool) → T a → T b → T (a && b)
-both true b s t = t
-both false b s t = s
 
 module _ (n a b w : ℕ) (rs : List Range) (up : T (ascending n (span a b w ∷ rs))) where
   pub from : n ≤ a
@@ -34,14 +30,6 @@ module _ (n a b w : ℕ) (rs : List Range) (up : T (ascending n (span a b w ∷ 
   unfolding ascending
   rest = right (leb a b) _ (right (leb n a) _ up)
 
--- ranges that ascend from n ascend from any number before it
-pub earlier : (m n : ℕ) (rs : List Range) → m ≤ n → T (ascending n rs) → T (ascending m rs)
-unfolding ascending
-earlier m n [] h up = tt
-earlier m n (span a b w ∷ rs) h up =
-    let f = from n a b w rs up in
-    both (leb m a) _ (le→leb m a (omega arith)) (right (leb n a) _ up)
-
 -- a range that ends before c
 pub head-past : (a b w : ℕ) (rs : List Range) (c : ℕ) → a ≤ b → b < c → widthIn (span a b w ∷ rs) c ≡ widthIn rs c
 unfolding widthIn
@@ -51,18 +39,6 @@ head-past a b w rs c s h = rw (le-ltb c a (omega arith), widthIn, lt-leb c b h)
 unfoldable pub past : ℕ → List Range → List Range
 past d [] = []
 past d (span a b w ∷ rs) = elim (ltb b d) [ true ↦ past d rs | false ↦ span a b w ∷ rs ]
-
-pub past-ascends : (n d : ℕ) (rs : List Range) → T (ascending n rs) → T (ascending n (past d rs))
-unfolding past
-past-ascends n d [] up = up
-past-ascends n d (span a b w ∷ rs) up =
-    let f = from n a b w rs up in
-    let s = some n a b w rs up in
-    go (past-ascends n d rs (earlier n (suc b) rs (omega arith) (rest n a b w rs up))) (ltb b d) refl
-  where
-    go : T (ascending n (past d rs)) → (s : Bool) → ltb b d ≡ s → T (ascending n (past d (span a b w ∷ rs)))
-    go i true e = rw (e, past) i
-    go i false e = rw (e, past) up
 
 pub past-same : (n d : ℕ) (rs : List Range) (c : ℕ) → T (ascending n rs) → d ≤ c → widthIn (past d rs) c ≡ widthIn rs c
 unfolding past

@@ -1,4 +1,3 @@
 -- What the contracts of the code cite: no part of what must be believed of the call.
 pub mod Forms
-pub mod Packed
-pub mod Near
+pub mod Starts

@@ -8,7 +8,7 @@ use lib.Dec.{ltb, leb}
 pub data Range : Type 0 where
   span : ℕ → ℕ → ℕ → Range
 
--- that of the range that holds c; 1 where none does. The search ends at the first range past c: those behind it are past it too
+-- that of the range that holds c; 1 where none does. The search ends at the first range past c: those after it are past it too
 unfoldable pub widthIn : List Range → ℕ → ℕ
 widthIn [] c = 1
 widthIn (span a b w ∷ rs) c = elim (ltb c a) [ true ↦ 1 | false ↦ elim (leb c b) [ true ↦ w | false ↦ widthIn rs c ] ]

@@ -1,4 +1,4 @@
--- Document 02, P4: the full White_Space set of Unicode, 25 code points.
+-- RULES 4.3: the full White_Space set of Unicode, 25 code points.
 use mathlib.Core.Bool.{Bool, _&&_, _||_}
 use Prim.Native.Nat.{ℕ}
 use lib.Dec.{leb, eqb}

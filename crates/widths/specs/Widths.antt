@@ -1,4 +1,4 @@
--- Document 02, P4: how many columns a character takes.
+-- RULES 4.2: how many columns a character takes.
 use Prim.Native.Nat.{ℕ}
 use lib.Dec.{T}
 use Rattle.widths.specs.Ranges.{widthIn, ascending}

@@ -1,15 +1,11 @@
 // Of a character: how many columns it takes, and whether it is white space. Both by Unicode 15.0.0.
 ghost use mathlib.Core.Path.{_≡_};
 ghost use Prim.Native.Nat.{_≤_, _<_};
-ghost use Rattle.widths.specs.Table.{table};
 ghost use Rattle.widths.specs.Widths.{widthOf};
 ghost use Rattle.widths.specs.WhiteSpace.{whiteSpace};
-ghost use Rattle.widths.specs.Contracts.Forms.{flat, inkWidth, nearRow};
-use table::TABLE;
+ghost use Rattle.widths.specs.Contracts.Forms.{inkWidth, LeftOut};
 
-mod near;
 mod table;
-mod words;
 
 // How many columns a character takes: 0, 1 or 2.
 // In the original: `char_width`.
@@ -20,154 +16,171 @@ pub fn width(c: u32) -> usize
     if c < 0x300 {
         return 1;
     }
-    if c < 0x20000 {
-        return packed(c);
-    }
-    if c < 0x40000 {
-        return ideograph(c);
-    }
-    if 0xE0000 <= c {
-        return selector(c);
-    }
-    rare(c)
-}
-
-// By three levels of words, each a read of a constant: as quick for every script.
-fn packed(c: u32) -> usize
-    requires { ⌜ c < 0x20000 ⌝ }
-    ensures { λ r. ⌜ r ≡ widthOf c ⌝ }
-{
-    let m = words::top(c / 2048, c / 256 % 8);
-    let l = words::mid(m, c / 32 % 8);
-    words::leaf(l, c % 32)
-}
-
-// Planes 2 and 3: each character is wide but the last two of a plane.
-fn ideograph(c: u32) -> usize
-    requires { ⌜ (0x20000 ≤ c) × (c < 0x40000) ⌝ }
-    ensures { λ r. ⌜ r ≡ widthOf c ⌝ }
-{
-    if c % 0x10000 < 0xFFFE { 2 } else { 1 }
-}
-
-// Tags and variation selectors of plane 14, and private use behind them.
-fn selector(c: u32) -> usize
-    requires { ⌜ 0xE0000 ≤ c ⌝ }
-    ensures { λ r. ⌜ r ≡ widthOf c ⌝ }
-{
-    if c < 0xE0001 {
+    // Behind its last.
+    if 0xE01F0 <= c {
         return 1;
     }
-    if c <= 0xE0001 {
-        return 0;
-    }
-    if c < 0xE0020 {
+    // Letters of Arabic.
+    if (0x61D <= c) & (c < 0x64B) {
         return 1;
     }
-    if c <= 0xE007F {
-        return 0;
+    search(start(c), c)
+}
+
+// The first range of the table that does not end before the block that a character stands in: the search for it begins there.
+fn start(c: u32) -> usize
+    ensures { λ r. ⌜ LeftOut r c ⌝ }
+{
+    if c < 0x2000 {
+        return table::near(c / 32);
     }
-    if c < 0xE0100 {
+    if c < 0x4000 {
+        return table::next(c / 64 - 128);
+    }
+    // Ideographs but for a few stand in one range.
+    if c < 0xA000 {
+        return 226;
+    }
+    table::far(c / 256 - 160)
+}
+
+// The width of a character by the ranges from a place on. They ascend: the first that does not end before the character holds it, or none does.
+fn search(from: usize, c: u32) -> usize
+    requires { ⌜ LeftOut from c × (c < 0xE01F0) ⌝ }
+    ensures { λ r. ⌜ r ≡ widthOf c ⌝ }
+{
+    let mut k = from;
+    loop {
+        let s = table::row(k);
+        if c <= s.last {
+            if c < s.first {
+                return 1;
+            }
+            return s.width;
+        }
+        k += 1;
+    }
+}
+
+// How many columns a character takes that is no white space, and 3 for one that is: a single look for both. The commonest letters are told
+// before the table.
+pub fn ink_width(c: u32) -> usize
+    ensures { λ r. ⌜ r ≡ inkWidth c ⌝ }
+{
+    if 0x3000 < c {
+        return late(c);
+    }
+    if c < 0x1680 {
+        return early(c);
+    }
+    middle(c)
+}
+
+// Before U+1680 white space is before U+0300.
+fn early(c: u32) -> usize
+    requires { ⌜ c < 0x1680 ⌝ }
+    ensures { λ r. ⌜ r ≡ inkWidth c ⌝ }
+{
+    if c < 0x300 {
+        return latin(c);
+    }
+    // Letters of Devanagari, and of Thai with the vowels before them.
+    if (0x903 <= c) & (c < 0x93A) {
         return 1;
     }
-    if c <= 0xE01EF {
+    if (0xE00 <= c) & (c < 0xE31) {
+        return 1;
+    }
+    if (0xE3B <= c) & (c < 0xE47) {
+        return 1;
+    }
+    // Signs of both.
+    if (0x93D <= c) & (c < 0x941) {
+        return 1;
+    }
+    if (0x941 <= c) & (c <= 0x948) {
         return 0;
+    }
+    if c == 0x94D {
+        return 0;
+    }
+    if (0xE34 <= c) & (c <= 0xE3A) {
+        return 0;
+    }
+    if (0xE47 <= c) & (c <= 0xE4E) {
+        return 0;
+    }
+    width(c)
+}
+
+// Each is a column wide.
+fn latin(c: u32) -> usize
+    requires { ⌜ c < 0x300 ⌝ }
+    ensures { λ r. ⌜ r ≡ inkWidth c ⌝ }
+{
+    if is_white_space(c) {
+        return 3;
     }
     1
 }
 
-// By the table itself. The array is built on the stack here, and nowhere else.
-fn rare(c: u32) -> usize
-    ensures { λ r. ⌜ r ≡ widthOf c ⌝ }
+// From U+1680 to U+3000 stands the rest of white space.
+fn middle(c: u32) -> usize
+    requires { ⌜ (0x1680 ≤ c) × (c ≤ 0x3000) ⌝ }
+    ensures { λ r. ⌜ r ≡ inkWidth c ⌝ }
 {
-    search(&TABLE, c)
-}
-
-// Binary search in the table's ranges, which ascend.
-fn search(t: &[u32; 1437], c: u32) -> usize
-    requires { ⌜ now t ≡ flat table ⌝ }
-    ensures { λ r. ⌜ r ≡ widthOf c ⌝ }
-{
-    // The first range that does not end before c stands at lo or behind it, and at hi or before it.
-    let mut lo: usize = 0;
-    let mut hi: usize = 479;
-    while lo < hi {
-        let mid = (lo + hi) / 2;
-        let last = mid * 3 + 1;
-        if t[last] < c {
-            lo = mid + 1;
-        } else {
-            hi = mid;
-        }
-    }
-    if lo == 479 {
+    // Dashes, quotation marks, the ellipsis.
+    if (0x2010 <= c) & (c < 0x2028) {
         return 1;
     }
-    let first = lo * 3;
-    if c < t[first] {
-        return 1;
+    if is_white_space(c) {
+        return 3;
     }
-    let w = first + 2;
-    wide(t[w])
+    // What joins emoji.
+    if c == 0x200D {
+        return 0;
+    }
+    width(c)
 }
 
-// A cast that needs no proof where it is used.
-fn wide(x: u32) -> usize
-    ensures { λ r. ⌜ r ≡ x ⌝ }
-{
-    x as usize
-}
-
-// How many columns a character takes that is no white space, and 3 for one that is: a single look for both. The scripts of most notes are
-// at hand.
-pub fn ink_width(c: u32) -> usize
+// Behind U+3000 nothing is white space.
+fn late(c: u32) -> usize
+    requires { ⌜ 0x3000 < c ⌝ }
     ensures { λ r. ⌜ r ≡ inkWidth c ⌝ }
 {
-    let row = row_of(c);
-    if row == 96 {
-        return far_width(c);
-    }
-    near_width(row, c)
-}
-
-// The row of `near` that a character stands in, of 256 to a row; 96 if it stands in none.
-fn row_of(c: u32) -> u32
-    ensures { λ r. ⌜ r ≡ nearRow c ⌝ }
-{
-    // All before the ideographs.
-    if c < 0x4000 {
-        return c / 256;
-    }
-    // Variation selectors and fullwidth forms.
-    if c / 4096 == 0xF {
-        return 64 + c / 256 % 16;
-    }
-    // Emoji.
-    if c / 4096 == 0x1F {
-        return 80 + c / 256 % 16;
-    }
-    96
-}
-
-// By two levels of words.
-fn near_width(row: u32, c: u32) -> usize
-    requires { ⌜ (row ≡ nearRow c) × (row ≡ 96 → ⊥) ⌝ }
-    ensures { λ r. ⌜ r ≡ inkWidth c ⌝ }
-{
-    let l = near::row(row, c / 32 % 8);
-    near::leaf(l, c % 32)
-}
-
-// Behind U+3000 nothing is white space. Ideographs and Hangul need no table.
-fn far_width(c: u32) -> usize
-    requires { ⌜ 0x4000 ≤ c ⌝ }
-    ensures { λ r. ⌜ r ≡ inkWidth c ⌝ }
-{
+    // Ideographs.
     if (0x4E00 <= c) & (c < 0xA000) {
         return 2;
     }
+    // Kana.
+    if (0x3041 <= c) & (c <= 0x3096) {
+        return 2;
+    }
+    if (0x309B <= c) & (c <= 0x30FF) {
+        return 2;
+    }
+    // Hangul.
     if (0xAC00 <= c) & (c <= 0xD7A3) {
         return 2;
+    }
+    // Emoji: the longest ranges of them, and the selector of their form.
+    if (0x1F3F8 <= c) & (c <= 0x1F43E) {
+        return 2;
+    }
+    if (0x1F442 <= c) & (c <= 0x1F4FC) {
+        return 2;
+    }
+    if (0x1F4FF <= c) & (c <= 0x1F53D) {
+        return 2;
+    }
+    if (0x1F5FB <= c) & (c <= 0x1F64F) {
+        return 2;
+    }
+    if (0x1F680 <= c) & (c <= 0x1F6C5) {
+        return 2;
+    }
+    if c == 0xFE0F {
+        return 0;
     }
     width(c)
 }

@@ -85,7 +85,7 @@ pub record BlanksLeft (glue : Bool) (tab : ℕ) (s : List ℕ) (at : ℕ) (b : B
   pub before : beforeNumber (b .before) ≤ 100 * b .end
   pub after : b .after ≤ 100 * b .end
 
--- no blank stands at a place: ink does, or the line ends
+-- no blank is at a place: ink does, or the line ends
 pub record NoBlank (glue : Bool) (s : List ℕ) (at : ℕ) : Type 0 where
   pub none : blanksAt glue s at ≡ []
   pub rest : behind isBlank (glyphs glue (drop at s)) ≡ inkGlyphs glue (drop at s)
@@ -151,7 +151,7 @@ module _ {glue : Bool} {tab : ℕ} {s : List ℕ} {at : ℕ} where
     after = omega (arith, i .after, i .within);
   }
 
--- one space, and no blank behind it
+-- one space, and no blank after it
 space-here : (s : List ℕ) (at : ℕ) → OneSpace s at → Here true s at 32 (at + 1)
 unfolding whiteSpace
 space-here s at o = rw (o .space) at (ascii-here s at (omega (arith, o .behind .within)) (omega (arith, o .space)))
@@ -162,7 +162,7 @@ blanks-one {glue} {tab} {s} {at} o few =
     blanks-more (record { end = at; before = Absent; after = 0 }) (record { end = at + 1; before = Absent; after = 1 }) (blanks-first (omega (arith, o .behind .within))) few (space-here s at o) refl refl in
     blanks-done (record { end = at + 1; before = Absent; after = 1 }) left (no-blank-begins glue s (at + 1) (o .behind))
 
--- no blank stands before the first word of a line
+-- no blank is before the first word of a line
 pub blanks-none : {glue : Bool} {tab : ℕ} {s : List ℕ} {at : ℕ} → at ≤ length s → while isBlank (inkGlyphs glue (drop at s)) ≡ [] → OverBlanks glue tab true s at (noBlanks at)
 unfolding extent gapOf gapFrom
 blanks-none {glue} {tab} {s} {at} h e =

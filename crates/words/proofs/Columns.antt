@@ -62,7 +62,7 @@ stop-on tab stops column h =
     let d : (stops * tab + column) / tab ≡ stops + column / tab = ap (λ (x : ℕ). x / tab) k ∙ digits-div (stops + column / tab) (mod-lt column h) in
     ap (λ (x : ℕ). (x + 1) * tab) d ∙ stops-apart stops (column / tab) tab
 
--- the column behind a gap that begins at a column
+-- the column after a gap that begins at a column
 unfoldable pub gapEnd : ℕ → ℕ → Before → ℕ → ℕ
 gapEnd tab column Absent after = column + after
 gapEnd tab column (Count before) after = nextStop tab (before + column) + after
@@ -113,7 +113,7 @@ all-narrow (b ∷ bs) e =
 
 -- ---- a word of a line
 
--- the columns of a word's bytes, and of the blanks before it, whatever stands behind them; where spaces are added there are no blanks
+-- the columns of a word's bytes, and of the blanks before it, whatever is after them; where spaces are added there are no blanks
 pub record Counted (o : Opts) (w : Word) : Type 0 where
   pub text : (column : ℕ) (ys : List ℕ) → columnsOf (o .tab) column (characters (w .text ++ ys)) ≡ columnsOf (o .tab) (column + w .width) (characters ys)
   pub blanks : plainGap w ≡ true → (column : ℕ) (ys : List ℕ) → columnsOf (o .tab) column (characters (w .blanks ++ ys)) ≡ columnsOf (o .tab) (gapEnd (o .tab) column (w .before) (w .after)) (characters ys)

@@ -19,7 +19,7 @@ use Rattle.text.proofs.NoBreaks.{no-break-blank}
 use Rattle.lines.specs.Classes.{glyphsFrom}
 use Rattle.words.specs.Words.{isInk}
 
--- the rest of a line that is read with glue on, behind ink or not
+-- the rest of a line that is read with glue on, after ink or not
 pub record OfLine (ink : Bool) (gs : List Glyph) : Type 0 where
   pub cs : List Glyph
   pub read : All Read cs
@@ -33,9 +33,9 @@ other c r b = pick (noBreak c) refl
     pick false h = refl
     pick true h = absurd (true≢false (sym (no-break-blank c r h) ∙ b))
 
--- ---- what is behind blanks, and behind ink
+-- ---- what is after blanks, and after ink
 
--- one that begins with ink is read as behind ink
+-- one that begins with ink is read as after ink
 stands : (ink : Bool) (c : Glyph) (cs : List Glyph) → Read c → (x : Glyph) (xs : List Glyph) → settle true ink (c ∷ cs) ≡ x ∷ xs → x .blank ≡ false → settle true ink (c ∷ cs) ≡ settle true true (c ∷ cs)
 stands true c cs r x xs e b = refl
 stands false c cs r x xs e b =
@@ -61,7 +61,7 @@ behind-ink (c ∷ cs) a = pick (settle-first true true c cs) (behind-ink cs (a .
     pick : (t : Bool) × (settle true true (c ∷ cs) ≡ cond t (ordinary c) c ∷ settle true (inkBehind true c) cs) → OfLine true (behind isInk (settle true true cs)) → OfLine true (behind isInk (settle true true (c ∷ cs)))
     pick (t, e) rest = go (cond t (ordinary c) c .blank) refl
       where
-        -- behind ink stands what is behind ink
+        -- after ink stands what is after ink
         still : cond t (ordinary c) c .blank ≡ false → inkBehind true c ≡ true
         still b = run (noBreak c) refl
           where
@@ -76,7 +76,7 @@ behind-ink (c ∷ cs) a = pick (settle-first true true c cs) (behind-ink cs (a .
         go true b = record { cs = c ∷ cs; read = a; are = ap (behind isInk) e ∙ behind-end isInk _ _ (ap not b) ∙ sym e }
         go false b = record { cs = rest .cs; read = rest .read; are = ap (behind isInk) e ∙ behind-more isInk _ _ (ap not b) ∙ ap (λ (k : Bool). behind isInk (settle true k cs)) (still b) ∙ rest .are }
 
--- what is behind a word, and behind a place
+-- what is after a word, and after a place
 pub behind-word : {ink : Bool} (gs : List Glyph) → OfLine ink gs → OfLine true (behind isInk (behind isBlank gs))
 behind-word {ink} gs r =
     let b = behind-blanks ink (r .cs) (r .read) in
@@ -145,7 +145,7 @@ no-blank (c ∷ cs) h = pick (noBreak c) refl
         ap (while isBlank) (settle-run (c ∷ cs) h ∙ ap (λ (gs : List Glyph). map ordinary gs ++ settle true true (behind noBreak (c ∷ cs))) m) ∙ while-end isBlank (ordinary c) _ refl
     pick false n = ap (while isBlank) (settle-other true c cs true n) ∙ while-end isBlank c _ (not-true (c .blank) (sym (ahead-other c cs n) ∙ h))
 
--- behind ink and before ink stand blanks of which one is no U+00A0
+-- after ink and before ink stand blanks of which one is no U+00A0
 pub gap-other : (gs : List Glyph) → OfLine true gs → 0 < length (while isBlank gs) → 0 < length (behind isBlank gs) → every noBreak (while isBlank gs) ≡ false
 gap-other gs r some more = pick (inkAhead (r .cs)) refl
   where

@@ -2,7 +2,7 @@
 use mathlib.Core.Path.{_≡_, refl, sym, ap, _∙_}
 use mathlib.Core.Bool.{Bool, true, false}
 use mathlib.Core.List.{List, [], _∷_, _++_}
-use Prim.Native.Nat.{ℕ, zero, suc, _+_, _-_, _*_, _≤_, _<_}
+use Prim.Native.Nat.{ℕ, zero, suc, _+_, _-_, _*_, _≤_}
 use native.Mathlib.Omega.{arith}
 use lib.ListN.{length, drop, length-append, length-drop}
 use Rattle.lists.specs.Runs.{joined}
@@ -97,7 +97,7 @@ row-half o mail row = read mail
 
 -- ---- a paragraph's lines: each but the last ends in a line feed, which is none of its text
 
--- a line whose body has so many bytes, and those behind its line feed
+-- a line whose body has so many bytes, and those after its line feed
 lines-more : (a b body whole : ℕ) (behind : List ℕ) → 2 * a ≤ body + 1 → body ≤ whole → 2 * b ≤ length behind + 1 → length behind ≡ whole - suc body → (length behind ≡ 0 → b ≡ 0) → 2 * (a + b) ≤ whole + 1
 lines-more a b body whole [] half in-whole rest size none = omega (arith, half, in-whole, none refl)
 lines-more a b body whole (y ∷ ys) half in-whole rest size none = omega (arith, half, rest, size)

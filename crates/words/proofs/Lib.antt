@@ -16,3 +16,4 @@ pub mod Order
 pub mod Places
 pub mod Columns
 pub mod Unique
+mod Worked

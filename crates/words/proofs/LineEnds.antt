@@ -41,7 +41,7 @@ module _ {s : List ℕ} {from : ℕ} where
     ends = x .ends;
   }
 
--- ---- a body's bytes, and the line feed behind it
+-- ---- a body's bytes, and the line feed after it
 
 body-each : (xs : List ℕ) (k : ℕ) → k < length (body xs) → getD xs k 0 ≡ 10 → ⊥
 unfolding body
@@ -64,7 +64,7 @@ body-behind (x ∷ xs) h = pick (eqb x 10) refl (body-behind xs)
 
 -- ---- as first_line finds it
 
--- the place behind a line whose text ends at a place
+-- the place after a line whose text ends at a place
 unfoldable pub behindEnd : List ℕ → ℕ → ℕ
 behindEnd s end = cond (leb (length s) end) end (cond (eqb (getD s end 0) 10) (end + 1) (end + 2))
 
@@ -86,7 +86,7 @@ module _ (s : List ℕ) (i : ℕ) (h : i ≤ length s) where
       let z : i + (k - i) ≡ k = omega arith in
       body-each (drop i s) (k - i) (omega arith) (getD-drop i s (k - i) 0 ∙ ap (λ (j : ℕ). getD s j 0) z ∙ e)
 
-  -- no line feed, and so none behind a carriage return before the last byte
+  -- no line feed, and so none after a carriage return before the last byte
   passed : (end : ℕ) → end ≤ i + n → ((k : ℕ) → i ≤ k → k < end → k + 1 ≡ i + n → getD s k 0 ≡ 13 → getD s (k + 1) 0 ≡ 10 → ⊥)
       → (k : ℕ) → i ≤ k → k < end → getD s k 0 ≡ 13 → getD s (k + 1) 0 ≡ 10 → ⊥
   passed end m last k a b r f = pick (ltb (k + 1) (i + n)) refl

@@ -89,7 +89,7 @@ module _ (o : Opts) (newLine : Bool) (s : List ℕ) (at : ℕ) (b : Blanks) (ove
     onward mail previous r m e =
         rw (m, e, ink .punct, ink .rest, over .rest) (words-one _ starts o mail newLine previous)
 
-    -- and it stands where the record says
+    -- and it is where the record says
     placed : placesFrom at (runs line) ≡ b .end ∷ placesFrom (w .end) (runs (glyphs (o .glue) (drop (w .end) s)))
     placed = rw (ink .rest, over .rest) (places-one _ starts at (b .end) (w .end) (over .end) (ink .end ∙ ap (λ (gs : List Glyph). b .end + extent (while isInk gs)) (over .rest)))
 

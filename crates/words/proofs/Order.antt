@@ -72,7 +72,7 @@ row-ink o mail row = spelled-ink (o .glue) (o .uniform || mail) _ _ (row-spelled
 -- ---- each word
 
 -- a word has a byte; the blanks of its record are blank characters, where it is neither uniform nor the first of its line some, with glue on
--- not U+00A0 alone; no line feed stands in it or in its blanks
+-- not U+00A0 alone; no line feed is in it or in its blanks
 pub record Whole (glue uniform : Bool) (w : Word) : Type 0 where
   pub some : 0 < length (w .text)
   pub codes : List ℕ

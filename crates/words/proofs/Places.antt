@@ -1,4 +1,4 @@
--- The words of a paragraph stand at their places: each has its bytes there, and begins behind the one before it.
+-- The words of a paragraph stand at their places: each has its bytes there, and begins after the one before it.
 use mathlib.Core.Path.{_≡_, refl, sym, ap, _∙_}
 use mathlib.Core.Bool.{Bool, true, false}
 use mathlib.Core.List.{List, [], _∷_, _++_, map, append-assoc, append-nil}
@@ -35,7 +35,7 @@ use Rattle.words.proofs.Order.{bytes-some}
 
 -- ---- words and places, one for one
 
--- words stand at places as P has it, each behind the one before it, from a place on up to an end
+-- words are at places as P has it, each after the one before it, from a place on up to an end
 module _ (P : ℕ → List ℕ → Type 0) where
   unfoldable pub Stood : ℕ → List ℕ → List Word → ℕ → Type 0
   Stood from [] [] end = from ≤ end
@@ -119,7 +119,7 @@ module _ (o : Opts) (mail : Bool) (text : List ℕ) (at : ℕ) where
         let whole = sym (joined-append glyphBytes gone gs) ∙ ap (joined glyphBytes) (sym parts) ∙ glyphs-joined (o .glue) text in
         omega (arith, extent-bytes gone, simp length-append at (ap length whole))
 
-    -- the blanks of the next word, its own glyphs, and those behind it
+    -- the blanks of the next word, its own glyphs, and those after it
     module _ {g : Glyph} {rest : List Glyph} (some : behind isBlank gs ≡ g ∷ rest) where
       abbrev blanks : List Glyph
       blanks = while isBlank gs
@@ -200,7 +200,7 @@ row-stood o false at row =
 
 -- ---- the lines of the notes
 
--- behind a line's text stands its end
+-- after a line's text stands its end
 abbrev Ended : Line → Type 0
 Ended l = (end : List ℕ) × (l .raw ≡ l .text ++ end)
 
@@ -217,7 +217,7 @@ lines-ended : (notes : List ℕ) → All Ended (linesOf notes)
 unfolding linesOf
 lines-ended notes = each-all (λ ys. length (body ys)) firstLine Ended first-ended notes
 
--- bytes with others before and behind them
+-- bytes with others before and after them
 part-there : (a b c d : List ℕ) → slice (length a + length b) (length a + length b + length c) (a ++ (b ++ (c ++ d))) ≡ c
 part-there a b c d =
     slice-is (length a + length b) (length c) (a ++ (b ++ (c ++ d)))

@@ -52,7 +52,7 @@ module _ {s : List ℕ} {from : ℕ} where
   pub plain-by : from < length s → (leb 33 (getD s from 0) && ltb (getD s from 0) 128) ≡ true → Plain s from (from + 1)
   plain-by h e = let t = and-eq-true-iff _ _ .0 e in plain-more (plain-none (omega arith)) h (leb-true _ _ (t .0)) (ltb-true _ _ (t .1))
 
-  -- one run behind another
+  -- one run after another
   pub plain-join : {i to : ℕ} → Plain s from i → Plain s i to → Plain s from to
   plain-join {i} {to} a b = record {
     on = omega (arith, a .on, b .on);

@@ -1,4 +1,4 @@
--- The words of a paragraph, line by line; and that they hang on no prefix.
+-- The words of a paragraph, line by line; and that they depend on no prefix.
 use mathlib.Core.Path.{_≡_, refl, sym, ap, ap₂, _∙_}
 use mathlib.Core.Bool.{Bool, true, false, cond, not}
 use mathlib.Core.List.{List, [], _∷_, _++_}

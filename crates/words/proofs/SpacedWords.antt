@@ -132,7 +132,7 @@ module _ (s : List ℕ) (at e : ℕ) (line : EndsAt s at e) (first : Bool) (end 
 
 -- ---- in the table
 
--- a plain word of the notes before next: w is its record, behind the first n of the table
+-- a plain word of the notes before next: w is its record, after the first n of the table
 module _ (o : Opts) (notes : List ℕ) (next at : ℕ) (first previous : Bool) (stop : ℕ) (w : Record) (fits : next ≤ length notes) (few : o .tab ≤ 100) (p : PlainBehind (take next notes) at first stop)
     (is : w ≡ wordAt (o .uniform) (o .characters) first previous at (spaceBefore at first) (plainInk (take next notes) (spaceBefore at first .end) stop)) where
   ends-there : w .end ≡ stop
@@ -151,7 +151,7 @@ module _ (o : Opts) (notes : List ℕ) (next at : ℕ) (first previous : Bool) (
         → Filling most notes whole (wordsFrom o false false (w .punct) (glyphs (o .glue) (slice (w .end) end notes))) ps (placesFrom (w .end) (runs (glyphs (o .glue) (slice (w .end) end notes)))) (n + 1) (withWord t n w)
     spaced-filling {end} line f = let word = spaced-word line in filling-more f end w (word .first) (word .place) more (word .within) (word .narrow)
 
-    -- what is known of the word and of the table, and hangs on no end
+    -- what is known of the word and of the table, and depends on no end
     pub spaced-step : at ≤ next → length notes ≤ mostLarge → Small w × Kept most (length notes) (n + 1) (withWord t n w) × (at < w .end) × (w .end ≤ next)
     spaced-step on short =
         let sized : length (take next notes) ≡ next = length-take-le next notes fits in

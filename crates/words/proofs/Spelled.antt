@@ -26,7 +26,7 @@ pub record Parted (glue : Bool) (gs : List Glyph) : Type 0 where
   pub first : 0 < length gs → 0 < length (while isBlank gs)
   pub other : glue ≡ true → 0 < length (behind isBlank gs) → every noBreak (while isBlank gs) ≡ false
 
--- glyphs are a run's blanks, all that lead, its word, and the rest, which begins with a blank; behind a run without a word is nothing
+-- glyphs are a run's blanks, all that lead, its word, and the rest, which begins with a blank; after a run without a word is nothing
 pub record First (glue : Bool) (r : Run) (gs rest : List Glyph) : Type 0 where
   pub parts : gs ≡ r .blanks ++ (r .text ++ rest)
   pub lead : r .blanks ≡ while isBlank gs
@@ -38,11 +38,11 @@ abbrev pub Splits : Bool → List Run → List Glyph → Type 0
 Splits glue [] gs = gs ≡ []
 Splits glue (r ∷ rs) gs = (rest : List Glyph) × First glue r gs rest × Splits glue rs rest
 
--- what is behind the first run
+-- what is after the first run
 restOf : List Glyph → List Glyph
 restOf gs = behind isInk (behind isBlank gs)
 
--- behind leading blanks stands ink, or nothing
+-- after leading blanks stands ink, or nothing
 ink-next : (gs : List Glyph) → while isInk (behind isBlank gs) ≡ [] → behind isBlank gs ≡ []
 ink-next [] e = behind-nil isBlank
 ink-next (g ∷ gs) e = go (g .blank) refl (ink-next gs)
@@ -51,7 +51,7 @@ ink-next (g ∷ gs) e = go (g .blank) refl (ink-next gs)
     go true h ih = rw (behind-more isBlank g gs h) (ih (rw (behind-more isBlank g gs h) at e))
     go false h ih = let k = while-more isInk g gs (ap not h) in let z : _≡_ {A = List Glyph} (g ∷ while isInk gs) [] = sym k ∙ (rw (behind-end isBlank g gs h) at e) in cc
 
--- behind leading ink stands a blank, or nothing
+-- after leading ink stands a blank, or nothing
 blank-next : (gs : List Glyph) → 0 < length (behind isInk gs) → 0 < length (while isBlank (behind isInk gs))
 blank-next [] h = absurd (omega (arith, ap length (behind-nil isInk)))
 blank-next (g ∷ gs) h = go (g .blank) refl (blank-next gs)
@@ -60,7 +60,7 @@ blank-next (g ∷ gs) h = go (g .blank) refl (blank-next gs)
     go true e ih = rw (behind-end isInk g gs (ap not e), while-more isBlank g gs e) (omega arith)
     go false e ih = rw (behind-more isInk g gs (ap not e)) (ih (omega (arith, ap length (behind-more isInk g gs (ap not e)))))
 
--- behind a word stands a gap
+-- after a word stands a gap
 rest-parted : (glue : Bool) (gs : List Glyph) → Lined glue gs → Parted glue (restOf gs)
 unfolding restOf
 rest-parted glue gs l =
@@ -85,7 +85,7 @@ first-run glue gs l = record {
   end = λ e. rw (ink-next gs e, behind-nil);
 }
 
--- a run of some glyphs has a glyph, and they are its glyphs and what is behind it
+-- a run of some glyphs has a glyph, and they are its glyphs and what is after it
 run-parts : (gs : List Glyph) → gs ≡ runOf gs .blanks ++ (runOf gs .text ++ restOf gs)
 run-parts gs = first-run false gs (λ e. absurd (false≢true e)) .parts
 
@@ -154,7 +154,7 @@ module _ (glue : Bool) where
     last-run : r .text ≡ [] → every isBlank gs ≡ true
     last-run e = rw (f .parts, e, f .end e, append-nil) run-blank
 
-    -- a run with a word is some glyphs, and so is what is behind its blanks; w is the word's record
+    -- a run with a word is some glyphs, and so is what is after its blanks; w is the word's record
     word-some : 0 < length (r .text) → (0 < length gs) × (0 < length (behind isBlank gs))
     word-some h =
         let n = simp length-append at (ap length (f .parts)) in
@@ -196,7 +196,7 @@ module _ (glue : Bool) where
       go [] e ih = rw (mailWords, e) (last-run r gs (s .0) (s .1) e)
       go (g ∷ t) e ih = rw (mailWords, e) (s .0, word-run r gs (s .0) (s .1) true (mailWord r) (rw e (omega arith)) refl refl (λ u. absurd (true≢false u)), ih)
 
--- the words of a paragraph's line spell the glyphs at or behind its indent's end; of a mail paragraph's line, all its glyphs
+-- the words of a paragraph's line spell the glyphs at or after its indent's end; of a mail paragraph's line, all its glyphs
 pub row-spelled : (o : Opts) (mail : Bool) (row : Row) → Spelled (o .glue) (o .uniform || mail) (rowWords o mail row) (let gs = glyphs (o .glue) (row .text) in cond mail gs (glyphsFrom (row .start) gs))
 unfolding rowWords
 row-spelled o true row = rw or-true (mail-spelled (o .glue) _ _ (runs-split (o .glue) (glyphs (o .glue) (row .text)) (line-lined (o .glue) (row .text))))

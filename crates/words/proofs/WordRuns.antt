@@ -1,4 +1,4 @@
--- The words of a line, run by run; and the bytes of a run that stands at a place.
+-- The words of a line, run by run; and the bytes of a run that is at a place.
 use mathlib.Core.Path.{_≡_, refl, sym, ap, _∙_}
 use mathlib.Core.Bool.{Bool, true, false}
 use mathlib.Core.List.{List, [], _∷_, _++_}

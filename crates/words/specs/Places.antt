@@ -1,5 +1,5 @@
--- Document 02, P3: the word record gains its place in the notes, that of its first non-blank byte. The place stands beside the record
--- (`Standing`): breaking and emission are given records alone, so that what they do cannot hang on where a paragraph stands.
+-- RULES 21.6: the word record gains its place in the notes, that of its first non-blank byte. The place is beside the record
+-- (`Standing`): breaking and emission are given records alone, so that what they do cannot depend on where a paragraph stands.
 use mathlib.Core.Bool.{Bool, true, false}
 use mathlib.Core.List.{List, [], _∷_, _++_}
 use Prim.Native.Nat.{ℕ, _+_}
@@ -12,7 +12,7 @@ use Rattle.pieces.specs.Pieces.{Row, Paragraph}
 use Rattle.records.specs.Word.{Word}
 use Rattle.words.specs.Words.{Run, runs, wordsOf}
 
--- a word as it stands in the notes
+-- a word as it is in the notes
 pub record Standing : Type 0 where
   pub place : ℕ
   pub word : Word
@@ -23,7 +23,7 @@ standing [] ws = []
 standing (p ∷ ps) [] = []
 standing (p ∷ ps) (w ∷ ws) = record { place = p; word = w } ∷ standing ps ws
 
--- runs stand one behind the other from a place on; a word begins behind the blanks of its run
+-- runs stand one after the other from a place on; a word begins after the blanks of its run
 unfoldable pub placesFrom : ℕ → List Run → List ℕ
 placesFrom at [] = []
 placesFrom at (r ∷ rs) =
@@ -35,7 +35,7 @@ rowPlaces glue mail at row =
     let gs = glyphs glue (row .text) in
     elim mail [ true ↦ placesFrom at (runs gs) | false ↦ placesFrom (at + extent (glyphsBefore (row .start) gs)) (runs (glyphsFrom (row .start) gs)) ]
 
--- of a paragraph: its lines, whose rows these are, stand one behind the other from a place on
+-- of a paragraph: its lines, whose rows these are, stand one after the other from a place on
 unfoldable pub placesOf : Bool → Bool → ℕ → List Line → List Row → List ℕ
 placesOf glue mail at [] rows = []
 placesOf glue mail at (l ∷ ls) [] = []

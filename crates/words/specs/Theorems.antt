@@ -1,4 +1,4 @@
--- Words that the theorems of rudignals/proofs/Demand3 use.
+-- Words that the theorems of rudignals/proofs/NothingLost use.
 pub mod Ink
 pub mod PlainGap
 pub mod Standing

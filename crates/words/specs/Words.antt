@@ -1,4 +1,4 @@
--- Document 01, "Words": the word records of a paragraph.
+-- RULES 6.1 to 6.3: the word records of a paragraph.
 use mathlib.Core.Bool.{Bool, true, false, cond, not, _&&_, _||_}
 use mathlib.Core.List.{List, [], _∷_}
 use Prim.Native.Nat.{ℕ, _+_, _-_}
@@ -16,7 +16,7 @@ use Rattle.records.specs.declared.Before.the-variants.{Absent, Count}
 
 -- ---- a line split at blanks
 
--- blanks, and the word behind them; blanks at a line's end have none
+-- blanks, and the word after them; blanks at a line's end have none
 pub record Run : Type 0 where
   pub blanks : List Glyph
   pub text : List Glyph
@@ -77,7 +77,7 @@ punctAtEnd [] = false
 punctAtEnd (g ∷ []) = isPunct g
 punctAtEnd (g ∷ h ∷ gs) = punctAtEnd (h ∷ gs)
 
--- the counting rule, by which blanks are counted where sentences part: by bytes, or by characters if the options say so (document 02, P13)
+-- the counting rule, by which blanks are counted where sentences part: by bytes, or by characters if the options say so (RULES 6.2)
 unfoldable pub counting : Bool → List Glyph → ℕ
 counting characters bs = cond characters (length bs) (length (bytesOf bs))
 

@@ -32,7 +32,7 @@ pub enum Count {
     TooMany,
 }
 
-// Blanks at a place: where they end, and the counts before and behind their first tab.
+// Blanks at a place: where they end, and the counts before and after their first tab.
 struct Blanks {
     end: usize,
     before: Before,
@@ -61,8 +61,8 @@ pub enum Next {
     End,
 }
 
-// The words of a paragraph's lines, which stand in the notes from at up to next, with their places: the words of the first line begin at
-// start, those of the others at later. At most so many words are wanted, for which the table has room. What it holds behind the words is
+// The words of a paragraph's lines, which are in the notes from at up to next, with their places: the words of the first line begin at
+// start, those of the others at later. At most so many words are wanted, for which the table has room. What it holds after the words is
 // scratch, and all of it if there are too many.
 // In the original: `ParaWords::create_words`.
 pub fn split_words(
@@ -85,7 +85,7 @@ pub fn split_words(
     let mut skip = start;
     while i < next {
         let from = begin(mail, i, skip);
-        // Behind these words little is left of most lines in which to look for the line's end.
+        // After these words little is left of most lines in which to look for the line's end.
         let run = spaced_words(notes, from, next, mail, o, n, most, table);
         let on = run.at;
         let line = lines::first_line(&part[on..]);
@@ -119,7 +119,7 @@ fn begin(mail: bool, line: usize, start: usize) -> usize
     if mail { line } else { line + start }
 }
 
-// The words of plain characters at the start of a line's words, one space apart, behind the first n of the table: as many as there are, or
+// The words of plain characters at the start of a line's words, one space apart, after the first n of the table: as many as there are, or
 // as it has room for. So the line's end need not be known: none of their bytes is a line feed, and each of them ends at a blank or there.
 // In mail there are none.
 // In the original: `WordSplit::next`.
@@ -175,7 +175,7 @@ fn spaced_words(
     }
 }
 
-// No blank stands before the first word of a line, and one space before another.
+// No blank is before the first word of a line, and one space before another.
 fn space_before(at: usize, first: bool) -> Blanks
     requires { ⌜ at ≤ mostLarge ⌝ }
     ensures { λ r. ⌜ r ≡ spaceBefore at first ⌝ }
@@ -194,7 +194,7 @@ fn space_before(at: usize, first: bool) -> Blanks
     }
 }
 
-// The end of the plain word at a place, which is the first of its line or stands behind one space; 0 if there is none.
+// The end of the plain word at a place, which is the first of its line or is after one space; 0 if there is none.
 fn plain_word(s: &[u8], at: usize, first: bool) -> usize
     requires { ⌜ (at ≤ length (now s)) × (length (now s) ≤ mostLarge) ⌝ }
     ensures { λ r. ⌜ (0 < r → PlainBehind (now (s .entry)) at first r) ⌝ }
@@ -247,7 +247,7 @@ fn plain_ink(s: &[u8], start: usize, end: usize) -> Ink
     }
 }
 
-// The words of a line from start up to end, behind the first n of the table; or that there are too many. If the first of its line is still to
+// The words of a line from start up to end, after the first n of the table; or that there are too many. If the first of its line is still to
 // come, it begins at start; if not, punct is the mark of the word before.
 // In the original: `ParaWords::create_words`.
 fn split_line(
@@ -350,7 +350,7 @@ pub fn next_word(s: &[u8], at: usize, mail: bool, first: bool, previous: bool, o
     Next::One(word_of(o.uniform, o.characters, first, previous, at, b, w))
 }
 
-// The record of a word behind blanks that begin at a place.
+// The record of a word after blanks that begin at a place.
 // In the original: `WordSplit::next`.
 fn word_of(
     uniform: bool,
@@ -436,7 +436,7 @@ fn mail_word(start: usize, end: usize) -> Word
     }
 }
 
-// The blanks before a word: none before the first of a line, which may begin with U+00A0 where glue is on and a prefix stands before it.
+// The blanks before a word: none before the first of a line, which may begin with U+00A0 where glue is on and a prefix is before it.
 // In the original: `WordSplit::new`.
 fn blanks_at(s: &[u8], at: usize, tab: usize, first: bool) -> Blanks
     requires { ⌜ (at ≤ length (now s)) × (length (now s) ≤ mostLarge) × (1 ≤ tab) × (tab ≤ 100) ⌝ }
@@ -452,7 +452,7 @@ fn blanks_at(s: &[u8], at: usize, tab: usize, first: bool) -> Blanks
     over_blanks(s, at, tab)
 }
 
-// The blanks at a place behind which a word has ended. They are the same with glue and without: a U+00A0 among them is blank.
+// The blanks at a place after which a word has ended. They are the same with glue and without: a U+00A0 among them is blank.
 // In the original: `WordSplit::analyze_tabs`.
 fn over_blanks(s: &[u8], at: usize, tab: usize) -> Blanks
     requires { ⌜ (at ≤ length (now s)) × (length (now s) ≤ mostLarge) × (1 ≤ tab) × (tab ≤ 100) ⌝ }
@@ -486,7 +486,7 @@ fn over_blanks(s: &[u8], at: usize, tab: usize) -> Blanks
     }
 }
 
-// Whether a tab stands at a place, which need not be decoded.
+// Whether a tab is at a place, which need not be decoded.
 fn is_tab(s: &[u8], at: usize) -> bool
     ensures { λ r. ⌜ (r ≡ true → (at < length (now (s .entry))) × (getD (now (s .entry)) at 0 ≡ 9)) ⌝ }
 {
@@ -496,7 +496,7 @@ fn is_tab(s: &[u8], at: usize) -> bool
     s[at] == 9
 }
 
-// Whether a space stands at a place, and no blank behind it.
+// Whether a space is at a place, and no blank after it.
 fn is_one_space(s: &[u8], at: usize) -> bool
     requires { ⌜ (at ≤ length (now s)) × (length (now s) ≤ mostLarge) ⌝ }
     ensures { λ r. ⌜ (r ≡ true → OneSpace (now (s .entry)) at) ⌝ }
@@ -511,7 +511,7 @@ fn is_one_space(s: &[u8], at: usize) -> bool
     starts_ink(s, next)
 }
 
-// Whether the bytes at a place show that no blank stands there. A blank is below 33, or begins with C2, E1, E2 or E3; behind E3 there is
+// Whether the bytes at a place show that no blank stands there. A blank is below 33, or begins with C2, E1, E2 or E3; after E3 there is
 // only U+3000, with 80 in the middle.
 fn starts_ink(s: &[u8], at: usize) -> bool
     requires { ⌜ (at ≤ length (now s)) × (length (now s) ≤ mostLarge) ⌝ }
@@ -565,7 +565,7 @@ fn behind_blank(b: Blanks, code: u32, next: usize, tab: usize) -> Blanks
     }
 }
 
-// The ink at a place: all up to the next blank. With glue on, U+00A0 that have ink behind them too are part of it.
+// The ink at a place: all up to the next blank. With glue on, U+00A0 that have ink after them too are part of it.
 // In the original: `WordSplit::next`.
 fn over_ink(s: &[u8], at: usize, glue: bool) -> Ink
     requires { ⌜ (at ≤ length (now s)) × (length (now s) ≤ mostLarge) ⌝ }
@@ -662,7 +662,7 @@ fn ends_word(b: u8) -> bool
     (b == 32) | (b == 9)
 }
 
-// Ink with the plain characters behind it, of which there is one: ASCII from `!` on, each a character of one column.
+// Ink with the plain characters after it, of which there is one: ASCII from `!` on, each a character of one column.
 fn over_plain(s: &[u8], w: Ink) -> Ink
     requires { ⌜ Plain (now s) (w .end) (w .end + 1) × (w .width ≤ w .end) × (length (now s) ≤ mostLarge) ⌝ }
     ensures { λ r. ⌜ OverPlain (now (s .entry)) w r ⌝ }
@@ -677,7 +677,7 @@ fn over_plain(s: &[u8], w: Ink) -> Ink
     }
 }
 
-// Whether a plain character stands at a place.
+// Whether a plain character is at a place.
 fn is_plain(s: &[u8], at: usize) -> bool
     ensures { λ r. ⌜ (r ≡ true → Plain (now (s .entry)) at (at + 1)) ⌝ }
 {

@@ -38,7 +38,7 @@ pub record GapAt (glue : Bool) (s : List ℕ) (at : ℕ) (g : Gap) : Type 0 wher
   pub order : g .hard ≤ g .end
   pub within : g .end ≤ length s
 
--- an indent of the notes, with at most four spaces behind it
+-- an indent of the notes, with at most four spaces after it
 pub record MarginFits (notes : List ℕ) (m : Margin) : Type 0 where
   pub order : m .start ≤ m .end
   pub end : m .end ≤ length notes

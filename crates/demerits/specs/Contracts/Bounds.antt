@@ -30,7 +30,7 @@ atMost n (inf s) = false
 atMost n (fin true m e) = false
 atMost n (fin false m e) = leb (m * up e) (n * down e)
 
--- how many of the 24 digits of an f32 stand behind the point, by its exponent as it is written
+-- how many of the 24 digits of an f32 stand after the point, by its exponent as it is written
 abbrev pub places : ℕ → ℕ
 places e = cond (ltb e 127) 24 (150 - e)
 

@@ -1,4 +1,4 @@
--- Document 01's worked example, and two values that f32 gives and exact arithmetic does not (49 and 298).
+-- The worked example of RULES 8.4, and two values that f32 gives and exact arithmetic does not (49 and 298).
 use mathlib.Core.Path.{_≡_, refl}
 use mathlib.Core.Bool.{true}
 use lib.IntN.{pos}
@@ -31,7 +31,7 @@ rounded-down : wordTerm 450 2 ≡ 297
 unfolding wordTerm term ofInt div mul
 rounded-down = refl
 
--- the greatest cost of a word that is a column wide: a line as short as may be, behind one as long as may be
+-- the greatest cost of a word that is a column wide: a line as short as may be, after one as long as may be
 greatest-wide : cost (ratio 74 69 5) (fin true 1 (pos 0)) 5 1 ≡ 1002001
 unfolding ratio cost wordTerm term ofInt sub div mul
 greatest-wide = refl

@@ -1,5 +1,5 @@
 -- `explain::explain` meets its contract.
-use Rattle.formatter.specs.Format.{document01}
+use Rattle.formatter.specs.Format.{ownRoom}
 use Rattle.formatter.proofs.Replies.{passed-of}
 use Rattle.explain.proofs.Answers.{refused-told, passed-told}
 use borrow.Author.Needs.{needs}
@@ -16,13 +16,13 @@ enum-known-o : tie.Need-enum-known-o
 enum-known-o c = search needs
 
 explain-line-requires : tie.Need-explain-line-requires
-explain-line-requires c κs = passed-of document01 _ _ _ (c .before .before .before .admit .ensures) (c .before .o .given .1) .0
+explain-line-requires c κs = passed-of ownRoom _ _ _ (c .before .before .before .admit .ensures) (c .before .o .given .1) .0
 
 returns : tie.Need-returns
-returns c = refused-told document01 _ _ _ (c .before .before .before .admit .ensures) _ (c .before .r .given .1)
+returns c = refused-told ownRoom _ _ _ (c .before .before .before .admit .ensures) _ (c .before .r .given .1)
 
 returns-2 : tie.Need-returns-2
-returns-2 c = passed-told document01 _ _ _ (c .before .before .before .before .admit .ensures) _ (c .before .before .o .given .1) (c .explain-line .ensures)
+returns-2 c = passed-told ownRoom _ _ _ (c .before .before .before .before .admit .ensures) _ (c .before .before .o .given .1) (c .explain-line .ensures)
 
 pub explain-spec : {M : Type 1} → statement M
 explain-spec =

@@ -20,7 +20,7 @@ abbrev pub EndsSo : Bool → Setting → ℕ → ℕ → List Word → Ending �
 EndsSo true g line e ws r = r ≡ getD (endings (quickLines g ws)) line Paragraph
 EndsSo false g line e ws r = r ≡ endingBefore g e ws
 
--- behind lines that ended so: the line asked for was one of them, or it stands so many fewer lines behind
+-- after lines that ended so: the line asked for was one of them, or it stands so many fewer lines after
 unfoldable pub passed : List Ending → Asked → Asked
 passed es (Told e) = Told e
 passed es (Behind left) = cond (ltb left (length es)) (Told (getD es left Paragraph)) (Behind (left - length es))

@@ -51,7 +51,7 @@ TextPassed room notes at o p a Over block = room < length (wordsFor block notes 
 
 -- ---- a piece
 
--- the search goes on behind it
+-- the search goes on after it
 pub record PieceBehind (room : ℕ) (o : Opts) (notes : List ℕ) (s t : Seek) : Type 0 where
   pub kind : Kind
   pub goes : FirstPiece o (s .mail) notes (s .at) kind (t .mail) (t .at)
@@ -80,7 +80,7 @@ begin line = record { at = 0; mail = true; asked = Ahead line }
 unfoldable pub endingsFrom : Opts → Bool → List ℕ → ℕ → List Ending
 endingsFrom o nextMail notes at = joined (pieceEndings o) (piecesFrom o nextMail notes at)
 
--- behind all lines from where the search stands
+-- after all lines from where the search stands
 abbrev pub passedAll : Opts → List ℕ → Seek → Asked
 passedAll o notes s = passed (endingsFrom o (s .mail) notes (s .at)) (s .asked)
 
@@ -108,7 +108,7 @@ Coursed room o notes s r = (most : ℕ) → room ≤ most → CoursedUnder most 
 
 -- ---- the answer in code
 
--- how many lines it is still behind
+-- how many lines it is still after
 abbrev pub linesAhead : Asked → ℕ
 linesAhead (Told e) = 0
 linesAhead (Ahead left) = left
@@ -133,6 +133,6 @@ toldReason (Because e) reason = numbersOf e
 toldReason (Refused r) reason = reason
 toldReason (NoLine lines) reason = reason
 
--- what is left to be told behind codes 1 to 3
+-- what is left to be told after codes 1 to 3
 abbrev pub leftOf : Limits → Opts → List ℕ → ℕ → Explanation
 leftOf l o notes line = afterMeasuring (lookUp line (lineEndings o notes)) (within (l .words) done o notes)

@@ -17,7 +17,7 @@ use Rattle.paragraphs.specs.Breaks.{settingOf}
 use Rattle.walk.specs.Digest.{pieceOutput}
 use Rattle.explain.specs.Reasons.{linesBy}
 
--- behind some of a paragraph's words: none is left, and the line ends with the paragraph; or the breaker has ended it so before the next word
+-- after some of a paragraph's words: none is left, and the line ends with the paragraph; or the breaker has ended it so before the next word
 abbrev pub EndsSo : List Next → Ending → Type 0
 EndsSo [] e = e ≡ OfParagraph
 EndsSo (goesOn ∷ rest) e = ⊥

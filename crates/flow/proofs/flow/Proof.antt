@@ -2,8 +2,8 @@
 use borrow.Author.Needs.{needs}
 use mathlib.Core.Path.{sym, _∙_}
 use native.Mathlib.Omega.{arith}
-use Rattle.formatter.specs.Format.{document01}
-use Rattle.formatter.proofs.Values.{document01-sound}
+use Rattle.formatter.specs.Format.{ownRoom}
+use Rattle.formatter.proofs.Values.{ownRoom-sound}
 use Rattle.flow.proofs.Answered.{unfit-answer, refused-answer, passed-ready, passed-answer}
 use Rattle.flow.proofs.flow.Statement.{statement}
 use Rattle.flow.proofs.flow.Tie as tie
@@ -12,7 +12,7 @@ is-unfit-requires : tie.Need-is-unfit-requires
 is-unfit-requires c κs = search needs
 
 returns : tie.Need-returns
-returns c = unfit-answer document01 document01-sound _ _ _ (sym (c .before .is-unfit .ensures) ∙ c .if1 .taken) (omega (arith, c .before .before .before .before .before .good .0 .1))
+returns c = unfit-answer ownRoom ownRoom-sound _ _ _ (sym (c .before .is-unfit .ensures) ∙ c .if1 .taken) (omega (arith, c .before .before .before .before .before .good .0 .1))
 
 admit-requires : tie.Need-admit-requires
 admit-requires c κs = search needs
@@ -27,16 +27,16 @@ mailed-requires : tie.Need-mailed-requires
 mailed-requires c κs = search needs
 
 send-notes-requires : tie.Need-send-notes-requires
-send-notes-requires c κs = rw (c .before .mailed .ensures) (passed-ready document01 document01-sound _ _ (sym (c .before .before .before .before .before .before .before .is-unfit .ensures) ∙ c .before .before .before .before .before .before .if1 .left) (c .before .before .before .before .before .admit .ensures) (c .before .before .before .o .given .1))
+send-notes-requires c κs = rw (c .before .mailed .ensures) (passed-ready ownRoom ownRoom-sound _ _ (sym (c .before .before .before .before .before .before .before .is-unfit .ensures) ∙ c .before .before .before .before .before .before .if1 .left) (c .before .before .before .before .before .admit .ensures) (c .before .before .before .o .given .1))
 
 returns-2 : tie.Need-returns-2
-returns-2 c = refused-answer document01 document01-sound _ _ (sym (c .before .before .before .before .before .is-unfit .ensures) ∙ c .before .before .before .before .if1 .left) _ (c .before .before .before .admit .ensures) (c .before .reply .given .1)
+returns-2 c = refused-answer ownRoom ownRoom-sound _ _ (sym (c .before .before .before .before .before .is-unfit .ensures) ∙ c .before .before .before .before .if1 .left) _ (c .before .before .before .admit .ensures) (c .before .reply .given .1)
 
 same-length : tie.Need-same-length
 same-length c = search needs
 
 returns-3 : tie.Need-returns-3
-returns-3 c = passed-answer document01 document01-sound _ _ (sym (c .before .before .before .before .before .before .before .before .before .before .is-unfit .ensures) ∙ c .before .before .before .before .before .before .before .before .before .if1 .left) (c .before .before .before .before .before .before .before .before .admit .ensures) (c .before .before .before .before .before .before .o .given .1) _ _ (rw (c .before .before .before .before .mailed .ensures) at (c .before .before .send-notes .ensures))
+returns-3 c = passed-answer ownRoom ownRoom-sound _ _ (sym (c .before .before .before .before .before .before .before .before .before .before .is-unfit .ensures) ∙ c .before .before .before .before .before .before .before .before .before .if1 .left) (c .before .before .before .before .before .before .before .before .admit .ensures) (c .before .before .before .before .before .before .o .given .1) _ _ (rw (c .before .before .before .before .mailed .ensures) at (c .before .before .send-notes .ensures))
 
 pub flow-spec : {M : Type 1} → statement M
 flow-spec =

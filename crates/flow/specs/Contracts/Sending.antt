@@ -91,9 +91,9 @@ pub record Opens (more : Bool) (line : List ℕ) (r : Opening) : Type 0 where
   pub few : r .spaces ≤ 1
   pub dashed : r .dashed ≡ isDashed line
 
--- ---- a paragraph, of which n words stand in a table, with marks
+-- ---- a paragraph, of which n words are in a table, with marks
 
--- a word was written behind those before it
+-- a word was written after those before it
 pub record Turned (notes : List ℕ) (w : Record) (fresh : Bool) (added : ℕ) (indent : Margin) (more : Bool) (t : Turn) (out out′ : List ℕ) (r : Turn) : Type 0 where
   pub wrote : Wrote out (t .at) (nextSent fresh added (t .dashed) (marginOf notes indent) more (meaning notes w)) out′ (r .at)
   pub dashed : r .dashed ≡ nextDashed fresh (marginOf notes indent) (meaning notes w)
@@ -149,7 +149,7 @@ pub record CursorIn (notes : List ℕ) (c : Cursor) : Type 0 where
   pub bounded : c .written ≤ mostSentPerByte * c .at
   pub few : c .dashes ≤ mostSentPerByte * c .at
 
--- a piece was written, and the work goes on behind it
+-- a piece was written, and the work goes on after it
 pub record Put (most : ℕ) (o : Opts) (notes out : List ℕ) (c d : Cursor) (out′ : List ℕ) : Type 0 where
   pub kind : Kind
   pub goes : FirstPiece o (c .mail) notes (c .at) kind (d .mail) (d .at)

@@ -14,7 +14,7 @@ use Rattle.flow.specs.Flow.{isDashed}
 unfoldable pub lineEnd : Bool → List ℕ
 lineEnd dashed = cond dashed crLf (space ∷ crLf)
 
--- behind a line's first word stands a space, of this line or at its end, if there are more words
+-- after a line's first word stands a space, of this line or at its end, if there are more words
 abbrev pub spaceIf : Bool → List ℕ
 spaceIf more = cond more (space ∷ []) []
 
@@ -22,11 +22,11 @@ abbrev pub some : List Word → Bool
 some [] = false
 some (w ∷ ws) = true
 
--- a line's beginning: its first word behind an indent, stuffed where the line is to be
+-- a line's beginning: its first word after an indent, stuffed where the line is to be
 unfoldable pub opened : Bool → List ℕ → List ℕ
 opened more line = stuffing (line ++ spaceIf more) ++ line
 
--- a word with what stands before it; `dashed` tells whether the line before it is `--`, if it begins a line
+-- a word with what is before it; `dashed` tells whether the line before it is `--`, if it begins a line
 unfoldable pub nextSent : Bool → ℕ → Bool → List ℕ → Bool → Word → List ℕ
 nextSent fresh added dashed indent more w =
     elim fresh as (λ x. List ℕ) [ true ↦ lineEnd dashed ++ opened more (indent ++ w .text) | false ↦ placed false added indent w ]
@@ -35,7 +35,7 @@ nextSent fresh added dashed indent more w =
 unfoldable pub nextDashed : Bool → List ℕ → Word → Bool
 nextDashed fresh indent w = fresh && isDashed (indent ++ w .text)
 
--- the words behind a line that has begun
+-- the words after a line that has begun
 unfoldable pub restSent : List ℕ → Bool → Bool → List Bool → List Word → List ℕ
 restSent indent dashed punct breaks [] = crLf
 restSent indent dashed punct [] (w ∷ ws) =

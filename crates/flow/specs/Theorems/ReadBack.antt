@@ -32,7 +32,7 @@ read (line ∷ lines) = readFrom line line lines
 abbrev pub unquoted : List ℕ → Paragraph
 unquoted text = record { depth = 0; content = text }
 
--- ---- a piece of the notes as it comes back: a paragraph is one text, its lines with a space between them, but it ends behind a line `--`
+-- ---- a piece of the notes as it comes back: a paragraph is one text, its lines with a space between them, but it ends after a line `--`
 
 unfoldable pub backFrom : List ℕ → List ℕ → List (List ℕ) → List (List ℕ)
 backFrom text line [] = text ∷ []
@@ -60,7 +60,7 @@ spelt (s ∷ befores) (w ∷ ws) = s ++ (w .text ++ spelt befores ws)
 abbrev pub Between : Bool → List ℕ → List ℕ → Type 0
 Between glue indent s = Gap glue s ⊎ (s ≡ space ∷ indent)
 
--- a text: the words that it spells, behind an indent of the paragraph
+-- a text: the words that it spells, after an indent of the paragraph
 pub record Spells (glue : Bool) (first indent : List ℕ) (ws : List Word) (text : List ℕ) : Type 0 where
   pub front : List ℕ
   pub between : List (List ℕ)
@@ -69,7 +69,7 @@ pub record Spells (glue : Bool) (first indent : List ℕ) (ws : List Word) (text
   pub each : All (Between glue indent) between
   pub is : text ≡ spelt (front ∷ between) ws
 
--- texts one behind the other spell words: the first of them these, and the texts behind it the others
+-- texts one after the other spell words: the first of them these, and the texts after it the others
 abbrev pub Carry : Bool → List ℕ → List ℕ → List Word → List (List ℕ) → Type 0
 Carry glue first indent ws [] = ws ≡ []
 Carry glue first indent ws (text ∷ texts) =

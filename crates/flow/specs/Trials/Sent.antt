@@ -1,4 +1,4 @@
--- P10's writer and its readings at width 10, worked by computing: one table of paragraphs and one of plain lines.
+-- The writer of RULES 17.1 and its readings at width 10, worked by computing: one table of paragraphs and one of plain lines.
 use mathlib.Core.Bool.{Bool, true, false, _&&_}
 use mathlib.Core.List.{List, [], _∷_}
 use Prim.Native.Nat.{ℕ}

@@ -44,7 +44,7 @@ pub record Plain (s : List ℕ) (from to : ℕ) : Type 0 where
   pub within : to ≤ length s
   pub each : (i : ℕ) → from ≤ i → i < to → plainByte (getD s i 0) ≡ true
 
--- r is behind the character at a place, which begins at a column
+-- r is after the character at a place, which begins at a column
 pub record Behind (tab : ℕ) (line : List ℕ) (at column : ℕ) (r : Spot) : Type 0 where
   pub on : at < r .at
   pub within : r .at ≤ length line
@@ -55,7 +55,7 @@ pub record Behind (tab : ℕ) (line : List ℕ) (at column : ℕ) (r : Spot) : T
   pub moved : (glyph (drop at line) .width ≡ 0 → ⊥) → column < r .column
   pub near : r .column ≤ column + 100
 
--- where a row ends that stands at a column at a place, or begins there
+-- where a row ends that is at a column at a place, or begins there
 unfoldable pub stayEnd : ℕ → ℕ → List ℕ → ℕ → ℕ → ℕ
 stayEnd tab columns line at column = at + extent (staying tab columns column (characters (drop at line)))
 

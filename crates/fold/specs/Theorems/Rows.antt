@@ -14,7 +14,7 @@ use Rattle.fold.specs.Fold.{feed, rowsOf, bytesOf, endOf}
 abbrev pub hasNoWidth : Glyph → Bool
 hasNoWidth g = eqb (g .width) 0
 
--- a single character wider than the columns, with ones of width 0 behind it
+-- a single character wider than the columns, with ones of width 0 after it
 unfoldable pub isAlone : ℕ → ℕ → List Glyph → Bool
 isAlone tab columns [] = false
 isAlone tab columns (g ∷ gs) = ltb columns (columnBehind tab 0 g) && every hasNoWidth gs

@@ -1,4 +1,4 @@
--- Folded texts by the paper's sentences: one table and one statement.
+-- Folded texts by the sentences of RULES 16: one table and one statement.
 use mathlib.Core.Bool.{Bool}
 use mathlib.Core.List.{List, [], _∷_}
 use Prim.Native.Nat.{ℕ}

@@ -29,11 +29,11 @@ rows =
     ∷ fitsIn 4 "abcd́"
     ∷ fitsIn 8 "a\t"
     ∷ fitsIn 4 "中中"
-    -- alone, with ones of width 0 behind it
+    -- alone, with ones of width 0 after it
     ∷ fitsIn 1 "中"
     ∷ fitsIn 1 "中́́"
     ∷ fitsIn 4 "\t"
-    -- too long; two wide ones; one with a letter behind or before it, or with one of width 0 before it
+    -- too long; two wide ones; one with a letter after or before it, or with one of width 0 before it
     ∷ not (fitsIn 4 "abcde")
     ∷ not (fitsIn 7 "a\t")
     ∷ not (fitsIn 3 "中中")

@@ -1,6 +1,6 @@
 -- `formatter::admit` meets its contract.
 use native.Mathlib.Omega.{arith}
-use Rattle.formatter.specs.Format.{document01}
+use Rattle.formatter.specs.Format.{ownRoom}
 use Rattle.formatter.proofs.admit.Statement.{statement}
 use Rattle.formatter.proofs.admit.Tie as tie
 
@@ -8,7 +8,7 @@ admit-within-requires : tie.Need-admit-within-requires
 admit-within-requires c κs = omega arith
 
 returns : tie.Need-returns
-returns c = c .admit-within .ensures (document01 .words)
+returns c = c .admit-within .ensures (ownRoom .words)
 
 pub admit-spec : {M : Type 1} → statement M
 admit-spec =

@@ -1,7 +1,7 @@
 -- `formatter::write` meets its contract.
 use borrow.Author.Needs.{needs}
 use denote.Ref.{now}
-use Rattle.formatter.specs.Format.{document01}
+use Rattle.formatter.specs.Format.{ownRoom}
 use Rattle.formatter.proofs.Replies.{passed-of, refused-written, passed-written}
 use Rattle.formatter.proofs.write.Statement.{statement}
 use Rattle.formatter.proofs.write.Tie as tie
@@ -16,16 +16,16 @@ enum-known-o : tie.Need-enum-known-o
 enum-known-o c = search needs
 
 write-notes-requires : tie.Need-write-notes-requires
-write-notes-requires c κs = passed-of document01 (now (c .before .before .before .before .before .before .before .before .args .block)) (now (c .before .before .before .before .before .before .before .before .args .notes)) (c .before .before .before .before .admit .result) (c .before .before .before .before .admit .ensures) (c .before .before .o .given .1) .0
+write-notes-requires c κs = passed-of ownRoom (now (c .before .before .before .before .before .before .before .before .args .block)) (now (c .before .before .before .before .before .before .before .before .args .notes)) (c .before .before .before .before .admit .result) (c .before .before .before .before .admit .ensures) (c .before .before .o .given .1) .0
 
 returns : tie.Need-returns
-returns c = refused-written document01 (now (c .before .before .before .before .before .before .before .args .block)) (now (c .before .before .before .before .before .before .before .args .notes)) (c .before .before .before .admit .result) (c .before .before .before .admit .ensures) (now (c .before .before .before .before .before .before .before .args .out)) (c .before .r .given .1)
+returns c = refused-written ownRoom (now (c .before .before .before .before .before .before .before .args .block)) (now (c .before .before .before .before .before .before .before .args .notes)) (c .before .before .before .admit .result) (c .before .before .before .admit .ensures) (now (c .before .before .before .before .before .before .before .args .out)) (c .before .r .given .1)
 
 same-length : tie.Need-same-length
 same-length c = search needs
 
 returns-2 : tie.Need-returns-2
-returns-2 c = passed-written document01 (now (c .before .before .before .before .before .before .before .before .before .before .before .args .block)) (now (c .before .before .before .before .before .before .before .before .before .before .before .args .notes)) (c .before .before .before .before .before .before .before .admit .result) (c .before .before .before .before .before .before .before .admit .ensures) (now (c .before .before .before .before .before .before .before .before .before .before .before .args .out)) (c .before .before .before .before .before .o .given .1) (c .before .before .write-notes .ensures)
+returns-2 c = passed-written ownRoom (now (c .before .before .before .before .before .before .before .before .before .before .before .args .block)) (now (c .before .before .before .before .before .before .before .before .before .before .before .args .notes)) (c .before .before .before .before .before .before .before .admit .result) (c .before .before .before .before .before .before .before .admit .ensures) (now (c .before .before .before .before .before .before .before .before .before .before .before .args .out)) (c .before .before .before .before .before .o .given .1) (c .before .before .write-notes .ensures)
 
 pub write-spec : {M : Type 1} → statement M
 write-spec =

@@ -38,14 +38,14 @@ replyNumber (Many place) = 4 * 2 ^ 32 + place
 replyNumber (Room needed) = 5 * 2 ^ 32 + needed
 replyNumber (Work needed) = 12 * 2 ^ 32 + needed
 
--- what a function that gives the answer leaves behind: the answer as told, and the output after it
+-- what a function that gives the answer leaves after: the answer as told, and the output after it
 pub record Answers (a : Answer) (out : List ℕ) (r : Reply) (out′ : List ℕ) : Type 0 where
   pub is : r ≡ told a
   pub output : out′ ≡ outputAfter a out
 
 -- ---- codes 1 to 3, which are told before any piece is looked at
 
--- a refusal of up to such a code, that does not hang on what would become of the digest, and leaves the output as it is
+-- a refusal of up to such a code, that does not depend on what would become of the digest, and leaves the output as it is
 pub record Refuses (most : ℕ) (whole : (List ℕ → Answer) → Answer) (r : Reply) : Type 0 where
   pub refusal : Answer
   pub is : r ≡ told refusal

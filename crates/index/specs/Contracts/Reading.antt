@@ -1,4 +1,4 @@
--- Records as marks tell them: a record's length and its count of output lines are gaps between marks, one behind the other.
+-- Records as marks tell them: a record's length and its count of output lines are gaps between marks, one after the other.
 use mathlib.Core.Bool.{Bool}
 use mathlib.Core.List.{List, [], _∷_}
 use Prim.Native.Nat.{ℕ, zero, suc, _+_}
@@ -10,7 +10,7 @@ use Rattle.index.specs.declared.Record.{Record}
 abbrev pub front : List ℕ → List ℕ
 front table = take 65536 table
 
--- the place of the marks behind a record, and the record that is told from there on
+-- the place of the marks after a record, and the record that is told from there on
 abbrev pub behind : Record → ℕ
 behind r = (r .place + r .length) + (r .first + r .count)
 
@@ -22,7 +22,7 @@ recordAfter marks r = record {
   count = toMark (drop (behind r + toMark (drop (behind r) marks)) marks);
 }
 
--- n records behind a record
+-- n records after a record
 unfoldable pub readFrom : List Bool → ℕ → Record → List Record
 readFrom marks zero r = []
 readFrom marks (suc n) r = recordAfter marks r ∷ readFrom marks n (recordAfter marks r)

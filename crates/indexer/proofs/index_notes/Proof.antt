@@ -1,6 +1,5 @@
 -- `indexer::index_notes` meets its contract.
 use native.Mathlib.Omega.{arith}
-use Rattle.options.specs.Opts.{meant}
 use Rattle.indexer.proofs.Answers.{few-numbers, small-room, small-indexes}
 use borrow.Author.Needs.{needs}
 use Rattle.indexer.proofs.index_notes.Statement.{statement}

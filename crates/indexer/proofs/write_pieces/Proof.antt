@@ -1,5 +1,5 @@
 -- `indexer::write_pieces` meets its contract.
-use Rattle.formatter.specs.Format.{document01}
+use Rattle.formatter.specs.Format.{ownRoom}
 use Rattle.formatter.proofs.Refusals.{passed, refused}
 use Rattle.indexer.proofs.Answers.{indexing-left, refused-answer}
 use borrow.Author.Needs.{needs}
@@ -19,10 +19,10 @@ enum-known-o : tie.Need-enum-known-o
 enum-known-o c = search needs
 
 index-notes-requires : tie.Need-index-notes-requires
-index-notes-requires c κs = let a = passed document01 _ _ (c .before .before .before .before .before .admit .ensures) (c .before .before .before .o .given .1) in (a .0, a .2, c .before .before .before .before .before .before .before .before .before .before .pre)
+index-notes-requires c κs = let a = passed ownRoom _ _ (c .before .before .before .before .before .admit .ensures) (c .before .before .before .o .given .1) in (a .0, a .2, c .before .before .before .before .before .before .before .before .before .before .pre)
 
 returns : tie.Need-returns
-returns c = rw (c .refused .ensures) (refused-answer document01 _ _ _ _ _ _ _ (refused document01 _ _ (c .before .before .before .before .admit .ensures) (c .before .before .r .given .1)))
+returns c = rw (c .refused .ensures) (refused-answer ownRoom _ _ _ _ _ _ _ (refused ownRoom _ _ (c .before .before .before .before .admit .ensures) (c .before .before .r .given .1)))
 
 same-length : tie.Need-same-length
 same-length c = search needs
@@ -31,7 +31,7 @@ same-length-2 : tie.Need-same-length-2
 same-length-2 c = search needs
 
 returns-2 : tie.Need-returns-2
-returns-2 c = rw (indexing-left document01 _ _ _ _ _ (passed document01 _ _ (c .before .before .before .before .before .before .before .before .before .before .admit .ensures) (c .before .before .before .before .before .before .before .before .o .given .1))) (c .before .before .before .before .index-notes .ensures)
+returns-2 c = rw (indexing-left ownRoom _ _ _ _ _ (passed ownRoom _ _ (c .before .before .before .before .before .before .before .before .before .before .admit .ensures) (c .before .before .before .before .before .before .before .before .o .given .1))) (c .before .before .before .before .index-notes .ensures)
 
 pub write-pieces-spec : {M : Type 1} → statement M
 write-pieces-spec =

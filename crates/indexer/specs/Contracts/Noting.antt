@@ -49,7 +49,7 @@ gapsOf o (q ∷ qs) = length (extentOf q) ∷ lineCount o q ∷ gapsOf o qs
 abbrev pub linesPut : List ℕ → Cursor → Cursor → ℕ
 linesPut out c d = length (linesOf (take (d .written - c .written) (drop (c .written) out)))
 
--- the room that is lent: its first numbers are for marks, two for each byte of the notes; what stands behind them up to an end, for words
+-- the room that is lent: its first numbers are for marks, two for each byte of the notes; what is after them up to an end, for words
 pub record Parted (notes : List ℕ) (marks end : ℕ) (work : List ℕ) : Type 0 where
   pub enough : 2 * length notes ≤ 32 * marks
   pub few : marks ≤ 65536
@@ -66,7 +66,7 @@ pub record Spells (gaps out : List ℕ) (c d : Cursor) (line : ℕ) : Type 0 whe
   pub first : d .written ≤ length out → getD (marksIn gaps) (d .at + line - 1) true ≡ false
   pub second : d .written ≤ length out → getD (set (marksIn gaps) (d .at + line - 1) true) (d .at + line + linesPut out c d - 1) true ≡ false
 
--- and then: both are, and the line stands behind the piece; where its output does not fit, the line stays
+-- and then: both are, and the line is after the piece; where its output does not fit, the line stays
 pub record Spelt (gaps out : List ℕ) (c d : Cursor) (line : ℕ) (gaps′ : List ℕ) (r : ℕ) : Type 0 where
   pub stays : length out < d .written → r ≡ line
   pub moves : d .written ≤ length out → r ≡ line + linesPut out c d
@@ -79,7 +79,7 @@ Noted most o notes out out′ work′ (All n k) =
     × (n ≤ length out → readFrom (marksIn (front work′)) k noRecord ≡ indexOf o notes)
 Noted most o notes out out′ work′ (Stopped place) = (longParagraph most o 0 (pieces o notes) ≡ At place) × (length out′ ≡ length out)
 
--- ---- the answer in code: without the digest's bytes, which stand in the output, and the records, which the gaps tell
+-- ---- the answer in code: without the digest's bytes, which are in the output, and the records, which the gaps tell
 
 abbrev pub told : Indexed → Filled
 told (done digest index) = Done (length digest) (length index)
@@ -123,13 +123,13 @@ recordsOf (full pieces) = []
 recordsOf (room needed) = []
 recordsOf (work needed) = []
 
--- what a function that gives the answer leaves behind
+-- what a function that gives the answer leaves after
 pub record Indexes (a : Indexed) (out : List ℕ) (r : Filled) (out′ work′ : List ℕ) : Type 0 where
   pub is : r ≡ told a
   pub output : out′ ≡ outputAfter a out
   pub read : readFrom (marksIn (front work′)) (filledAfter a) noRecord ≡ recordsOf a
 
--- what the call leaves behind, and tells
+-- what the call leaves after, and tells
 pub record Marked (a : Indexed) (records : ℕ) (out out′ : List ℕ) (filled′ : ℕ) (work′ : List ℕ) (t : Told) : Type 0 where
   pub answer : t .answer ≡ numbered a
   pub output : out′ ≡ outputAfter a out
@@ -148,7 +148,7 @@ refusedAs (ReplyWords place) = Words place
 refusedAs (ReplyRoom needed) = Room needed
 refusedAs (ReplyWork needed) = Work needed
 
--- what is left to be told behind them
+-- what is left to be told after them
 abbrev pub leftOf : Limits → Opts → List ℕ → ℕ → ℕ → Indexed
 leftOf l o notes space records = inIndex (l .words) space records (indexOf o notes) (within (l .words) measured o notes)
 

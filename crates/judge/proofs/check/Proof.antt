@@ -1,7 +1,7 @@
 -- `judge::check` meets its contract.
 use mathlib.Core.Path.{sym, _∙_}
 use borrow.Author.Needs.{needs}
-use Rattle.formatter.specs.Format.{document01}
+use Rattle.formatter.specs.Format.{ownRoom}
 use Rattle.formatter.proofs.Refusals.{passed, refused}
 use Rattle.judge.proofs.Answers.{checking-left, refused-answer}
 use Rattle.judge.proofs.check.Statement.{statement}
@@ -20,13 +20,13 @@ enum-known-o : tie.Need-enum-known-o
 enum-known-o c = search needs
 
 check-notes-requires : tie.Need-check-notes-requires
-check-notes-requires c κs = passed document01 _ _ (c .before .before .before .admit .ensures) (c .before .o .given .1) .0
+check-notes-requires c κs = passed ownRoom _ _ (c .before .before .before .admit .ensures) (c .before .o .given .1) .0
 
 returns : tie.Need-returns
-returns c = c .refused .ensures ∙ refused-answer document01 _ _ _ (refused document01 _ _ (c .before .before .before .before .admit .ensures) (c .before .before .r .given .1))
+returns c = c .refused .ensures ∙ refused-answer ownRoom _ _ _ (refused ownRoom _ _ (c .before .before .before .before .admit .ensures) (c .before .before .r .given .1))
 
 returns-2 : tie.Need-returns-2
-returns-2 c = c .check-notes .ensures ∙ sym (checking-left document01 _ _ _ _ (passed document01 _ _ (c .before .before .before .before .admit .ensures) (c .before .before .o .given .1)))
+returns-2 c = c .check-notes .ensures ∙ sym (checking-left ownRoom _ _ _ _ (passed ownRoom _ _ (c .before .before .before .before .admit .ensures) (c .before .before .o .given .1)))
 
 pub check-spec : {M : Type 1} → statement M
 check-spec =

@@ -30,7 +30,7 @@ use Rattle.judge.specs.declared.Course.the-variants.{Through, Stopped}
 
 -- ---- the pieces
 
--- the first piece from a place on was matched behind all before it, and the work goes on behind it
+-- the first piece from a place on was matched after all before it, and the work goes on after it
 pub record Took (most : ℕ) (o : Opts) (notes digest : List ℕ) (c d : Stand) : Type 0 where
   pub kind : Kind
   pub goes : FirstPiece o (c .mail) notes (c .at) kind (d .mail) (d .at)
@@ -46,7 +46,7 @@ abbrev pub Stepped : ℕ → Opts → List ℕ → List ℕ → Stand → Step �
 Stepped most o notes digest c (On d) = Took most o notes digest c d
 Stepped most o notes digest c Over = longBehind most o notes c ≡ At (c .at)
 
--- all pieces were matched, behind what the digest had come to first; or the work stopped at a paragraph of too many words
+-- all pieces were matched, after what the digest had come to first; or the work stopped at a paragraph of too many words
 abbrev pub Walked : ℕ → Opts → List ℕ → List ℕ → Matched → Course → Type 0
 Walked most o notes digest first (Through m) =
     (longParagraph most o 0 (pieces o notes) ≡ Nowhere) × Matches digest (andThen (matched digest first) (matchPieces o (pieces o notes))) m
@@ -58,7 +58,7 @@ Walked most o notes digest first (Stopped place) = longParagraph most o 0 (piece
 abbrev pub begun : ℕ → ℕ → Matched
 begun bytes size = cond (ltb bytes size) (Fault 0) (MatchedOn (record { at = 0; line = 0 }))
 
--- what is told of a digest of so many bytes by what it has come to behind the last piece
+-- what is told of a digest of so many bytes by what it has come to after the last piece
 abbrev pub toldOf : ℕ → Matched → Judgement
 toldOf size (Fault line) = Line line
 toldOf size (MatchedOn p) = cond (ltb (p .at) size) (Line (p .line)) Accepted
@@ -76,6 +76,6 @@ refusedAs (ReplyWords place) = Words place
 refusedAs (ReplyRoom needed) = Long
 refusedAs (ReplyWork needed) = Work needed
 
--- what is left to be told behind them
+-- what is left to be told after them
 abbrev pub leftOf : Limits → Opts → List ℕ → List ℕ → Judgement
 leftOf l o notes digest = withNotes (withDigest (l .bytes) (length digest) (verdict o notes digest)) (within (l .words) done o notes)

@@ -44,7 +44,7 @@ view g i p e = record {
   fresh = freshAt i (e .places);
 }
 
--- a fresh one's base has the gap behind its word, another's does not pass the line
+-- a fresh one's base has the gap after its word, another's does not pass the line
 abbrev pub BaseIs : Setting → ℕ → ℕ → Bool → ℕ → Type 0
 BaseIs g p gap true base = base ≡ p + gap
 BaseIs g p gap false base = base ≤ p + g .indent
@@ -93,7 +93,7 @@ unfoldable pub bestEntry : Setting → ℕ → ℕ → ℕ → Word → List Bre
 bestEntry g i x gap w [] = none
 bestEntry g i x gap w (e ∷ es) = lesser (entryOffer g i x gap w e) (bestEntry g i x gap w es)
 
--- behind the last word nothing is offered
+-- after the last word nothing is offered
 abbrev pub nearOffer : Setting → Bool → ℕ → ℕ → ℕ → Word → List Break → Offer
 nearOffer g true i x gap w es = none
 nearOffer g false i x gap w es = bestEntry g i x gap w (near g x es)
@@ -195,7 +195,7 @@ pub record Between (g : Setting) (i gap : ℕ) (s : Interval) (t : Tables) : Typ
   pub some : s .head < s .size
   pub ready : Ready g i (s .line) gap (activeOf s t)
 
--- the same in a round that nothing stays in: x columns of the endless line, and gap is that behind the word
+-- the same in a round that nothing stays in: x columns of the endless line, and gap is that after the word
 pub record Leaves (g : Setting) (turn : Turn) (x gap : ℕ) (s : Interval) (t : Tables) : Type 0 where
   pub between : Between g (turn .number) (turn .word .after) s t
   pub tabless : turn .word .before ≡ Absent
@@ -229,7 +229,7 @@ pub record IntervalIs (g : Setting) (last sentence : Bool) (i gap : ℕ) (w : Wo
   pub most : r .line ≤ s .line + (w .after + 2 + w .width)
   pub is : (notes : List ℕ) → activeOf r t₁ ≡ intervalRound g last i (s .line) (r .line) gap (meaning notes w) (activeOf s t)
 
--- the gap before the word behind word i, of n: behind the last word there is none
+-- the gap before the word after word i, of n: after the last word there is none
 abbrev pub gapAfter : ℕ → ℕ → List ℕ → ℕ
 gapAfter n i table = cond (ltb (i + 1) n) (wordIn table (i + 1) .after) 0
 

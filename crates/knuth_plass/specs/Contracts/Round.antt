@@ -107,7 +107,7 @@ bestFrom p d r = record { total = d; previous = p; ratio = r }
 unfoldable pub better : Best → ℕ → ℕ → Float → Best
 better b p d r = cond (leb (b .total) d) b (bestFrom p d r)
 
--- the offer that it means, behind word i: a break with a line of so many columns, fresh or not
+-- the offer that it means, after word i: a break with a line of so many columns, fresh or not
 unfoldable pub offerMade : ℕ → Bool → ℕ → Tables → Best → Offer
 offerMade columns fresh i t b =
     cond (ltb (b .total) nothing)
@@ -184,7 +184,7 @@ pub record Fit (turn : Turn) (st : Standing) (k : ℕ) (t : Tables) (a : List �
   pub from : s .from < st .size
   pub best : s .best .total < nothing → BestFits (turn .number) (st .size) (s .best)
 
--- what a round comes to, for the notes that its word stands in
+-- what a round comes to, for the notes that its word is in
 pub record Outcome : Type 0 where
   pub notes : List ℕ
   pub stayed : List Break
@@ -277,7 +277,7 @@ pub record PathIs (g : Setting) (n : ℕ) (table : List ℕ) (t : Tables) (last 
   pub leads : Leads t last
   pub is : (notes : List ℕ) → pathTo t last ≡ pathOf g (wordsIn notes n table)
 
--- a slice that has n words has room for as many breaks behind them
+-- a slice that has n words has room for as many breaks after them
 pub record Lent (n : ℕ) (work : List ℕ) : Type 0 where
   pub few : n ≤ mostWords
   pub room : n * 15 ≤ length work
@@ -288,7 +288,7 @@ pub record Worked (n : ℕ) (old new : List ℕ) : Type 0 where
   pub words : take (n * 7) new ≡ take (n * 7) old
   pub beyond : drop (n * 15) new ≡ drop (n * 15) old
 
--- the marks are those of the definition, for whatever notes the words stand in; the words, and what lies behind the break records, are as they were
+-- the marks are those of the definition, for whatever notes the words are in; the words, and what lies after the break records, are as they were
 pub record BestAre (g : Setting) (n : ℕ) (old new : List ℕ) : Type 0 where
   pub breaks : (notes : List ℕ) → breaksOf n new ≡ bestBreaks g (wordsIn notes n old)
   pub first : (notes : List ℕ) → markIn new 0 ≡ startsLine 0 (pathOf g (wordsIn notes n old))

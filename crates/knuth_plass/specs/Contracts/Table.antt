@@ -1,5 +1,5 @@
 -- The break table: one list of numbers, eight a record. The record's own seven, and the table's list of active breaks beside them, one
--- number a record. What a record's path is, and the break of document 01 that a record means.
+-- number a record. What a record's path is, and the break of RULES 8.1 that a record means.
 use mathlib.Core.Bool.{false, cond}
 use mathlib.Core.List.{List, [], _∷_}
 use mathlib.Core.Path.{_≡_}
@@ -30,7 +30,7 @@ breakNumber numbers i j = getD numbers (i * 8 + j) 0
 abbrev pub demeritsIn : List ℕ → ℕ → ℕ
 demeritsIn numbers i = breakNumber numbers i 5 * 2 ^ 32 + breakNumber numbers i 4
 
--- record i, put together; the word and whether the break stands before it are one number
+-- record i, put together; the word and whether the break is before it are one number
 unfoldable pub recordAt : List ℕ → ℕ → Record
 recordAt numbers i = record {
   previous = breakNumber numbers i 0;
@@ -42,7 +42,7 @@ recordAt numbers i = record {
   fresh = eqb (breakNumber numbers i 7) 1;
 }
 
--- the number of the k-th active break stands in record k
+-- the number of the k-th active break is in record k
 abbrev pub activeAt : List ℕ → ℕ → ℕ
 activeAt numbers k = breakNumber numbers k 2
 
@@ -74,7 +74,7 @@ pub record Fits (b : Record) : Type 0 where
   pub word : b .word < 2 ^ 31
   pub columns : b .columns < 2 ^ 32
 
--- the numbers of n break records behind n words of seven numbers each
+-- the numbers of n break records after n words of seven numbers each
 abbrev pub recordsPart : ℕ → List ℕ → List ℕ
 recordsPart n work = take (n * 15 - n * 7) (drop (n * 7) work)
 
@@ -153,7 +153,7 @@ abbrev pub Ascends : ℕ → ℕ → List ℕ → Type 0
 Ascends lo hi [] = lo ≤ hi
 Ascends lo hi (x ∷ xs) = (lo ≤ x) × Ascends (suc x) hi xs
 
--- each record up to `last`, but the first, leads to one before it, and stands at a word that has a mark
+-- each record up to `last`, but the first, leads to one before it, and is at a word that has a mark
 abbrev pub Leads : Tables → ℕ → Type 0
 Leads t last = (j : ℕ) → 0 < j → j ≤ last → (breakIn t j .previous < j) × (breakIn t j .word < mostWords)
 

@@ -1,5 +1,5 @@
--- Words of width 0 (document 02, P4): at stretch 1 their W is 0. U+0301 `a` `a` U+0301 `a` with goal 2 and width 3 is the smallest text
--- on which it shows: the Rust, which divides 1 by 0 there, breaks before the second U+0301, not behind it.
+-- Words of width 0 (RULES 8.4): at stretch 1 their W is 0. U+0301 `a` `a` U+0301 `a` with goal 2 and width 3 is the smallest text
+-- on which it shows: the Rust, which divides 1 by 0 there, breaks before the second U+0301, not after it.
 use mathlib.Core.Path.{_≡_, refl}
 use mathlib.Core.Bool.{true, false}
 use mathlib.Core.List.{[], _∷_}
@@ -12,7 +12,7 @@ use Rattle.spacing.specs.Spacing.{gapWidth, addedSpace}
 use Rattle.demerits.specs.Demerits.{term, ratio, wordTerm, cost}
 use Rattle.knuth_plass.specs.KnuthPlass.{firstBreak, reduced, reached, staying, offerOf, lesser, bestOffer, leastFrom, least, restart, round, roundsFrom, pathOf, startsLine, marksFrom, bestBreaks}
 
--- one behind a blank, in the middle of a line
+-- one after a blank, in the middle of a line
 word : ℕ → Word
 word n = record { blanks = 32 ∷ []; text = []; width = n; before = Absent; after = 1; newLine = false; endsPunct = false; sentenceStart = false }
 

@@ -52,7 +52,7 @@ pub record Tabs (s : List ℕ) (from to : ℕ) : Type 0 where
   pub within : to ≤ length s
   pub tab : (i : ℕ) → from ≤ i → i < to → getD s i 0 ≡ 9
 
--- r is the place behind the tabs that stand behind a blank, if it is one
+-- r is the place after the tabs that are after a blank, if it is one
 pub record BehindTabs (s : List ℕ) (code next r : ℕ) : Type 0 where
   pub run : Tabs s next r
   pub only : (code ≡ 9 → ⊥) → r ≡ next
@@ -77,7 +77,7 @@ pub record Inside (line : List ℕ) (m : Spot) : Type 0 where
 abbrev pub lineStart : Spot
 lineStart = record { at = 0; column = 0 }
 
--- the spot behind glyphs that stand at m
+-- the spot after glyphs that are at m
 unfoldable pub behindAll : ℕ → Spot → List Glyph → Spot
 behindAll tab m gs = record { at = m .at + extent gs; column = columnsOf tab (m .column) gs }
 
@@ -86,7 +86,7 @@ abbrev pub classAt : ℕ → ℕ → List Glyph → Found → Class
 classAt tab size gs Nowhere = Plain
 classAt tab size gs (At place) = cond (every isBlank (glyphsFrom (place + size) gs)) Plain (Formatted (shapeAt tab size gs place))
 
--- r is the spot behind the character at m
+-- r is the spot after the character at m
 pub record Behind (tab : ℕ) (line : List ℕ) (m r : Spot) : Type 0 where
   pub on : m .at < r .at
   pub inside : Inside line r
@@ -94,13 +94,13 @@ pub record Behind (tab : ℕ) (line : List ℕ) (m r : Spot) : Type 0 where
   pub count : length (glyph (drop (m .at) line) .bytes) ≡ r .at - m .at
   pub column : columnBehind tab (m .column) (glyph (drop (m .at) line)) ≡ r .column
 
--- gs is the line from m on; r is the spot behind its blanks there; the line's end, if they are only blanks
+-- gs is the line from m on; r is the spot after its blanks there; the line's end, if they are only blanks
 pub record BehindBlanks (tab : ℕ) (line : List ℕ) (gs : List Glyph) (m r : Spot) : Type 0 where
   pub inside : Inside line r
   pub spot : r ≡ behindAll tab m (while isBlank gs)
   pub blank : every isBlank gs ≡ eqb (r .at) (length line)
 
--- r is the spot behind the characters before a place, where those from it on stand
+-- r is the spot after the characters before a place, where those from it on stand
 pub record BehindPlace (tab : ℕ) (line : List ℕ) (place : ℕ) (r : Spot) : Type 0 where
   pub spot : r ≡ behindAll tab lineStart (glyphsBefore place (characters line))
   pub rest : characters (drop (r .at) line) ≡ glyphsFrom place (characters line)

@@ -1,4 +1,4 @@
--- Words that stand in the notes just as they are to be written.
+-- Words that are in the notes just as they are to be written.
 use mathlib.Core.Bool.{Bool}
 use mathlib.Core.List.{List, _++_}
 use mathlib.Core.Path.{_≡_}

@@ -14,12 +14,12 @@ paint (y ∷ d) (x ∷ o) = y ∷ paint d o
 unfoldable pub written : ℕ → List ℕ → List ℕ → List ℕ
 written n o d = take n o ++ paint d (drop n o)
 
--- a step of a writer: d is written into o behind n bytes, which gives o′ and the place behind
+-- a step of a writer: d is written into o after n bytes, which gives o′ and the place after
 pub record Wrote (o : List ℕ) (n : ℕ) (d : List ℕ) (o′ : List ℕ) (n′ : ℕ) : Type 0 where
   pub count : n′ ≡ n + length d
   pub bytes : o′ ≡ written n o d
 
--- what is left of a writer's work: d₀ was to be written into o₀ behind n₀ bytes; now that o and n are reached, d is left
+-- what is left of a writer's work: d₀ was to be written into o₀ after n₀ bytes; now that o and n are reached, d is left
 pub record Left (o₀ : List ℕ) (n₀ : ℕ) (d₀ : List ℕ) (o : List ℕ) (n : ℕ) (d : List ℕ) : Type 0 where
   pub count : n + length d ≡ n₀ + length d₀
   pub bytes : written n o d ≡ written n₀ o₀ d₀

@@ -1,4 +1,4 @@
--- What the writers write: an indent's bytes, and a word with what stands before it.
+-- What the writers write: an indent's bytes, and a word with what is before it.
 use mathlib.Core.Bool.{Bool, true, false}
 use mathlib.Core.List.{List, [], _∷_, _++_}
 use Prim.Native.Nat.{ℕ, _≤_, _<_, _^_}
@@ -30,7 +30,7 @@ pub record MarginIn (size : ℕ) (m : Margin) : Type 0 where
   pub end : m .end ≤ size
   pub more : m .more < 2 ^ 32
 
--- a word on a fresh line stands bare behind a line feed and the indent; else behind added spaces and its blanks
+-- a word on a fresh line stands bare after a line feed and the indent; else after added spaces and its blanks
 unfoldable pub placed : Bool → ℕ → List ℕ → Word → List ℕ
 placed fresh added indent w =
     elim fresh as (λ x. List ℕ) [ true ↦ lineFeed ++ indent | false ↦ replicate added 32 ++ w .blanks ] ++ w .text

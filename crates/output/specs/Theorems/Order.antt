@@ -13,7 +13,7 @@ laidOut befores [] = lineFeed
 laidOut [] (w ∷ ws) = w .text ++ laidOut [] ws
 laidOut (s ∷ befores) (w ∷ ws) = s ++ (w .text ++ laidOut befores ws)
 
--- bytes that are the words in order, each once, behind `first`, with a separator between every two neighbours
+-- bytes that are the words in order, each once, after `first`, with a separator between every two neighbours
 pub record InOrder (Separates : List ℕ → Type 0) (first : List ℕ) (ws : List Word) (bytes : List ℕ) : Type 0 where
   pub separators : List (List ℕ)
   pub one-less : length ws ≡ suc (length separators)

@@ -20,7 +20,7 @@ seenAt at line = let f = decode (drop at line) in record { sign = shownAs f; nex
 abbrev pub rowAt : ℕ → List ℕ → Row
 rowAt column cells = record { cells = cells; column = column; over = false }
 
--- where drawing goes on; every column behind the row counts as 80
+-- where drawing goes on; every column after the row counts as 80
 unfoldable pub stepOf : Row → Step
 stepOf r = cond (r .over) Over (At (min 80 (r .column)))
 

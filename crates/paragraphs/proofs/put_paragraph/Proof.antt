@@ -10,6 +10,7 @@ use borrow.Author.Tests.{not-false}
 use Rattle.options.specs.Opts.{meant}
 use Rattle.paragraphs.specs.Breaks.{settingOf}
 use Rattle.paragraphs.proofs.Streaming.{some-line, even, fair, streamed}
+use Rattle.paragraphs.proofs.Tables.{room-holds}
 use Rattle.paragraphs.proofs.put_paragraph.Statement.{statement}
 use Rattle.paragraphs.proofs.put_paragraph.Tie as tie
 
@@ -44,11 +45,11 @@ kind c = c .before .is-streamed .ensures (not-false _ (c .if1 .left))
 put-quick-requires : tie.Need-put-quick-requires
 unfolding settingOf meant
 put-quick-requires c κs =
-    let q = c .before .before .before .before .before .before .before .before .before .before .pre in
+    let q = c .before .before .before .before .before .before .before .before .before .before .before .pre in
     let l = q .0 in
-    let k = kind (c .before .before .before .before) in
-    let e = c .before .setting-of .ensures [] in
-    (some-line _ _ _ _ l, l .within, omega (arith, l .short), l .tabLeast, l .tabMost, k .1, l .begins (k .2), even _ _ _ _ l (k .0) (k .1) (k .2) _ e, fair _ _ _ _ l (k .0) (k .1) (k .2) _ e, l .first, l .indent, q .1, rw e (l .firstSmall), rw e (l .indentSmall), rw e (omega (arith, l .width)))
+    let k = kind (c .before .before .before .before .before) in
+    let e = c .before .before .setting-of .ensures [] in
+    (some-line _ _ _ _ l, l .within, omega (arith, l .short), l .tabLeast, l .tabMost, k .1, l .begins (k .2), even _ _ _ _ l (k .0) (k .1) (k .2) _ e, fair _ _ _ _ l (k .0) (k .1) (k .2) _ e, l .first, l .indent, q .1, rw e (l .firstSmall), rw e (l .indentSmall), rw e (omega (arith, l .width)), k .3, room-holds _ _ _ (c .before .before .before .before .before .before .before .room-for .ensures))
 
 enum-known-end : tie.Need-enum-known-end
 enum-known-end c = search needs
@@ -66,18 +67,24 @@ same-length-4 : tie.Need-same-length-4
 same-length-4 c = search needs
 
 returns-2 : tie.Need-returns-2
-returns-2 c = λ block. let e = rw (c .before .before .before .before .before .before .before .enum-told .given .1) at (c .before .before .before .before .before .before .before .before .before .before .before .put-quick .ensures) in rw e at (c .before .before .before .before .put-by-table2 .ensures block)
+returns-2 c =
+    λ block.
+    let e = rw (c .before .before .before .before .before .before .before .enum-told .given .1) at (c .before .before .before .before .before .before .before .before .before .before .before .before .before .put-quick .ensures) in
+    rw (e, c .before .before .before .before .before .before .before .before .before .before .work2 .given) at (c .before .before .before .before .put-by-table2 .ensures block)
 
 same-length-5 : tie.Need-same-length-5
 same-length-5 c = search needs
 
+same-length-6 : tie.Need-same-length-6
+same-length-6 c = search needs
+
 returns-3 : tie.Need-returns-3
 returns-3 c =
     λ block.
-    let q = c .before .before .before .before .before .before .before .before .before .before .before .before .before .before .before .before .pre in
-    let k = kind (c .before .before .before .before .before .before .before .before .before .before) in
-    rw (← c .before .before .before .before .before .before .before .before .before .before .before .before .room-for .ensures)
-    (streamed _ _ _ _ (q .0) (k .0) (k .1) (k .2) _ (c .before .before .before .before .before .before .before .setting-of .ensures) _ (k .3) (now (c .before .before .before .before .before .before .before .before .before .before .before .before .before .before .before .before .args .out)) (c .before .before .before .before .before .before .before .before .before .before .before .before .before .before .before .before .args .written) _ _ (rw (c .before .end .given .1) at (c .before .before .before .before .before .put-quick .ensures)) block)
+    let q = c .before .before .before .before .before .before .before .before .before .before .before .before .before .before .before .before .before .before .before .pre in
+    let k = kind (c .before .before .before .before .before .before .before .before .before .before .before .before .before) in
+    rw (← c .before .before .before .before .before .before .before .before .before .before .before .before .before .before .before .room-for .ensures)
+    (streamed _ _ _ _ (q .0) (k .0) (k .1) (k .2) _ (c .before .before .before .before .before .before .before .before .before .before .setting-of .ensures) _ (k .3) (now (c .before .before .before .before .before .before .before .before .before .before .before .before .before .before .before .before .before .before .before .args .out)) (c .before .before .before .before .before .before .before .before .before .before .before .before .before .before .before .before .before .before .before .args .written) _ _ (rw (c .before .end .given .1) at (c .before .before .before .before .before .before .before .put-quick .ensures)) block)
 
 pub put-paragraph-spec : {M : Type 1} → statement M
 put-paragraph-spec =
@@ -99,4 +106,5 @@ put-paragraph-spec =
     same-length-4
     returns-2
     same-length-5
+    same-length-6
     returns-3)

@@ -27,7 +27,7 @@ use Rattle.paragraphs.specs.declared.Step.the-variants.{On, Over}
 
 -- ---- working room
 
--- so many words there is room for in so many numbers: a word takes seven and, with Knuth-Plass, the break behind it eight
+-- so many words there is room for in so many numbers: a word takes seven and, with Knuth-Plass, the break after it eight
 unfoldable pub roomFor : Bool → ℕ → ℕ
 roomFor quick size = cond quick (size / 7) (size / 15)
 
@@ -38,7 +38,7 @@ pub record Roomy (fast : Bool) (n : ℕ) (work : List ℕ) : Type 0 where
 
 -- ---- a paragraph
 
--- the marks of n words say so, for whatever notes the words stand in; these are as they were
+-- the marks of n words say so, for whatever notes the words are in; these are as they were
 pub record Broken (fast : Bool) (g : Setting) (n : ℕ) (work work′ : List ℕ) : Type 0 where
   pub breaks : (notes : List ℕ) → breaksOf n work′ ≡ breaksBy fast g (wordsIn notes n work)
   pub words : (j : ℕ) → j < n → wordIn work′ j ≡ wordIn work j

@@ -1,4 +1,4 @@
--- What a piece's places and numbers keep to: they stand in order inside the notes, columns and further spaces are few, and words begin
+-- What a piece's places and numbers keep to: they are in order inside the notes, columns and further spaces are few, and words begin
 -- at ink. Promised beside the piece itself, for those who go on with it.
 use mathlib.Core.Path.{_≡_}
 use mathlib.Core.Bool.{Bool, false}
@@ -17,7 +17,7 @@ use Rattle.pieces.specs.declared.Paragraph.{Paragraph}
 use Rattle.pieces.specs.declared.Piece.{Piece}
 use Rattle.pieces.specs.declared.Piece.the-variants.{Blank, Plain, Text}
 
--- a glyph begins at a place of a line, and it is no blank: what stands there is read as behind ink
+-- a glyph begins at a place of a line, and it is no blank: what stands there is read as after ink
 pub record InkBegins (glue : Bool) (start : ℕ) (text : List ℕ) : Type 0 where
   pub within : start ≤ length text
   pub glyph : glyphsFrom start (glyphs glue text) ≡ inkGlyphs glue (drop start text)

@@ -65,7 +65,7 @@ startAt o mail s ls =
       | false ↦ elim (o .crown || o .tagged) [ true ↦ laterStart s (secondOf o s ls) | false ↦ s .«indent_end» ]
     ]
 
--- the paragraph whose first line, of shape s, stands from at up to next, with the lines ls behind it
+-- the paragraph whose first line, of shape s, stands from at up to next, with the lines ls after it
 unfoldable pub paragraphWith : Opts → Bool → ℕ → ℕ → Shape → List Line → Paragraph
 paragraphWith o mail at next s ls = record {
   next = next + taken (take (further o mail s ls) ls);
@@ -91,11 +91,11 @@ pieceAt o nextMail notes at = pieceOf o nextMail at (linesOf (drop at notes))
 
 -- ---- the parts that the code's functions answer
 
--- the place behind the lines that follow and pass a test
+-- the place after the lines that follow and pass a test
 unfoldable pub reach : Opts → (Shape → Bool) → List ℕ → ℕ → ℕ
 reach o test notes i = let ls = linesOf (drop i notes) in i + taken (take (follow o test ls) ls)
 
--- the second line and the place behind it
+-- the second line and the place after it
 abbrev pub secondPlace : ℕ → Second → SecondAt
 secondPlace next alone = Alone
 secondPlace next (joins text t) = Joins next t
@@ -125,7 +125,7 @@ pub record Shaped (notes : List ℕ) (at : ℕ) (s : Shape) : Type 0 where
   pub indent : at + s .«indent_end» ≤ length notes
   pub columns : s .«indent_length» ≤ mostColumns
 
--- a second line that joins: the line behind it begins at next, and it has the shape s
+-- a second line that joins: the line after it begins at next, and it has the shape s
 pub record Joined (notes : List ℕ) (at next : ℕ) (s : Shape) : Type 0 where
   pub within : next ≤ length notes
   pub shaped : Shaped notes at s

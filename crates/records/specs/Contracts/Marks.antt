@@ -15,7 +15,7 @@ markIn t i = eqb (numberIn t i 6 / 8 % 2) 1
 unfoldable pub withMark : List ℕ → ℕ → Bool → List ℕ
 withMark t i b = set t (i * 7 + 6) (numberIn t i 6 % 8 + cond b 8 0)
 
--- marks set one behind the other, from record i on
+-- marks set one after the other, from record i on
 unfoldable pub withMarks : List ℕ → ℕ → List Bool → List ℕ
 withMarks t i [] = t
 withMarks t i (b ∷ bs) = withMarks (withMark t i b) (i + 1) bs
@@ -25,18 +25,18 @@ unfoldable pub marksIn : ℕ → List ℕ → List Bool
 marksIn zero t = []
 marksIn (suc n) t = marksIn n t ++ (markIn t n ∷ [])
 
--- what they say of the words behind the first
+-- what they say of the words after the first
 abbrev pub breaksOf : ℕ → List ℕ → List Bool
 breaksOf n t = slice 1 n (marksIn n t)
 
--- what a breaker of n words leaves in a table: the breaks as marks of the words behind the first; all else is as it was
+-- what a breaker of n words leaves in a table: the breaks as marks of the words after the first; all else is as it was
 pub record MarkedBy (n : ℕ) (t : List ℕ) (breaks : List Bool) (t′ : List ℕ) : Type 0 where
   pub is : t′ ≡ withMarks t 1 breaks
   pub says : breaksOf n t′ ≡ breaks
   pub words : (j : ℕ) → wordIn t′ j ≡ wordIn t j
   pub sized : length t′ ≡ length t
 
--- the marks of the first n records say something new; their words, and all that lies behind them, are as they were
+-- the marks of the first n records say something new; their words, and all that lies after them, are as they were
 pub record MarkedUpTo (n : ℕ) (old new : List ℕ) (says : ℕ → Bool) : Type 0 where
   pub sized : length new ≡ length old
   pub marks : (j : ℕ) → j < n → markIn new j ≡ says j

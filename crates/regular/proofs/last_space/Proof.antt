@@ -1,5 +1,5 @@
 -- `regular::last_space` meets its contract. Invariant: no space stands behind i.
-use Prim.Native.Nat.{ℕ, _-_, _≤_, _<_}
+use Prim.Native.Nat.{ℕ, _≤_, _<_}
 use native.Mathlib.Omega.{arith}
 use denote.Ref.{now}
 use Rattle.regular.specs.Contracts.Places.{NoSpace}

@@ -1,5 +1,4 @@
 -- `regular::next_row` meets its contract.
-use Prim.Native.Nat.{_-_}
 use native.Mathlib.Omega.{arith}
 use Rattle.regular.proofs.Marks.{went-none, went-some}
 use borrow.Author.Needs.{needs}

@@ -1,5 +1,4 @@
 -- `regular::put_word` meets its contract.
-use native.Mathlib.Omega.{arith}
 use borrow.Author.Needs.{needs}
 use Rattle.regular.proofs.Words.{put-fresh, put-stays}
 use Rattle.regular.proofs.put_word.Statement.{statement}

@@ -4,13 +4,11 @@ use mathlib.Core.Bool.{Bool, true, false}
 use mathlib.Core.Logic.{_⊎_}
 use mathlib.Core.List.{List, [], _∷_, _++_}
 use Prim.Native.Nat.{ℕ, _+_, _-_, _*_, _≤_, _<_, _^_}
-use lib.ListN.{length, getD}
+use lib.ListN.{length, getD, drop}
 use lib.Seq.{slice}
 use Rattle.options.specs.Opts.{Opts}
-use Rattle.lists.specs.Runs.{while}
-use Rattle.text.specs.Characters.{isBlank}
-use Rattle.text.specs.Contracts.Places.{inkGlyphs}
 use Rattle.records.specs.Word.{Word, meaning}
+use Rattle.records.specs.Contracts.Table.{wordsIn}
 use Rattle.records.specs.declared.Word.{Word as Record}
 use Rattle.spacing.specs.declared.Setting.{Setting}
 use Rattle.output.specs.Contracts.Sink.{Left}
@@ -19,8 +17,7 @@ use Rattle.regular.specs.declared.Cut.{Cut}
 use Rattle.regular.specs.declared.State.{State}
 use Rattle.regular.specs.declared.Row.{Row}
 use Rattle.regular.specs.declared.Reached.{Reached}
-use Rattle.regular.specs.declared.Begun.{Begun}
-use Rattle.regular.specs.declared.Begun.the-variants.{At, Bare}
+use Rattle.regular.specs.declared.Progress.{Progress}
 use Rattle.regular.specs.declared.Put.{Put}
 use Rattle.regular.specs.declared.Put.the-variants.{Done, Other}
 use Rattle.options.specs.Opts.{meant}
@@ -31,13 +28,12 @@ use Rattle.quick.specs.Quick.{quickBreaks}
 use Rattle.lines.specs.Lines.{linesOf}
 use Rattle.pieces.specs.Contracts.Bounds.{AllBegin}
 use Rattle.words.specs.Contracts.Places.{wordsAt}
-use Rattle.words.specs.Contracts.Scan.{glyphsBehind, wordsFrom}
 
--- no space stands at a place
+-- no space is at a place
 abbrev pub NoSpace : List ℕ → ℕ → Type 0
 NoSpace s i = getD s i 0 ≡ 32 → ⊥
 
--- r is the last space behind a place, up to another; or the first place, if there is none
+-- r is the last space after a place, up to another; or the first place, if there is none
 pub record LastSpace (s : List ℕ) (from to r : ℕ) : Type 0 where
   pub on : from ≤ r
   pub most : r ≤ to
@@ -51,7 +47,7 @@ pub record FirstSpace (s : List ℕ) (from end r : ℕ) : Type 0 where
   pub space : r < end → getD s r 0 ≡ 32
   pub none : (i : ℕ) → from ≤ i → i < r → NoSpace s i
 
--- r is behind the spaces at a place, before an end
+-- r is after the spaces at a place, before an end
 pub record OverSpaces (s : List ℕ) (from end r : ℕ) : Type 0 where
   pub on : from ≤ r
   pub most : r ≤ end
@@ -72,7 +68,7 @@ pub record Inked (s : List ℕ) (p e : ℕ) : Type 0 where
   pub first : NoSpace s p
   pub last : NoSpace s (e - 1)
 
--- A stretch is cut: its words up to r's end are those that end by p + room, or one word; the next one begins at r's next, and ends behind p + room.
+-- A stretch is cut: its words up to r's end are those that end by p + room, or one word; the next one begins at r's next, and ends after p + room.
 pub record CutAt (s : List ℕ) (p e room : ℕ) (r : Cut) : Type 0 where
   pub on : p < r .end
   pub gap : r .end < r .next
@@ -106,7 +102,7 @@ pub record Filled (s : List ℕ) (p e : ℕ) (counts : Bool) (g : Setting) (inde
   pub most : r .written ≤ k + (e - p) * 2 ^ 34
   pub reach : r .column ≤ column + g .indent + (e - p)
 
--- The same of the next line's stretch, behind a line of output that stands at a column.
+-- The same of the next line's stretch, after a line of output that is at a column.
 pub record Joined (s : List ℕ) (p e : ℕ) (punct : Bool) (g : Setting) (indent : List ℕ) (column : ℕ) (out : List ℕ) (k : ℕ) (out′ : List ℕ) (r : State) : Type 0 where
   pub left : (o : Opts) (more : List Word) → o .uniform ≡ false
       → Left out k (quickRest g indent column punct (stretchWords o true false (slice p e s) ++ more))
@@ -114,7 +110,7 @@ pub record Joined (s : List ℕ) (p e : ℕ) (punct : Bool) (g : Setting) (inden
   pub most : r .written ≤ k + (e - p + 1) * 2 ^ 34
   pub reach : r .column ≤ g .width + g .indent + g .indent + (e - p)
 
--- ---- a paragraph's lines, which stand in the notes up to next
+-- ---- a paragraph's lines, which are in the notes up to next
 
 -- regular bytes stand between two places
 abbrev pub EachRegular : List ℕ → ℕ → ℕ → Type 0
@@ -127,29 +123,18 @@ pub record RegularTo (s : List ℕ) (from end r : ℕ) : Type 0 where
   pub all : EachRegular s from r
   pub stop : r < end → isRegular (getD s r 0) ≡ false
 
--- the words of a line's part, the first of which begins its line or not
-abbrev pub wordsOf : Opts → Bool → Bool → List ℕ → ℕ → ℕ → List Word
-wordsOf o newLine previous s from end = wordsFrom o false newLine previous (glyphsBehind (o .glue) newLine (slice from end s))
-
--- the words of a line stand between two places, and the first begins there
-pub record RowIn (o : Opts) (s : List ℕ) (r : Row) : Type 0 where
-  pub some : r .from ≤ r .end
-  pub within : r .end ≤ length s
-  pub ink : while isBlank (inkGlyphs (o .glue) (slice (r .from) (r .end) s)) ≡ []
-  pub regular : r .regular ≡ true → EachRegular s (r .from) (r .end)
-  pub inked : r .regular ≡ true → r .from < r .end → Inked s (r .from) (r .end)
-
--- r is the line at a place, whose words begin so many bytes behind
+-- r is the stretch of the line at a place, whose words begin so many bytes after: its words are the line's
 pub record RowIs (o : Opts) (skip later : ℕ) (s : List ℕ) (next i : ℕ) (r : Row) : Type 0 where
   pub on : i < r .next
   pub most : r .next ≤ next
   pub order : i ≤ r .from
-  pub ends : r .end ≤ r .next
-  pub lies : RowIn o s r
+  pub some : r .from ≤ r .end
+  pub within : r .end ≤ r .next
   pub rest : AllBegin (o .glue) later later (linesOf (slice (r .next) next s))
-  pub words : wordsAt o false skip later (linesOf (slice i next s)) ≡ wordsOf o true false s (r .from) (r .end) ++ wordsAt o false later later (linesOf (slice (r .next) next s))
+  pub inked : r .from < r .end → Inked s (r .from) (r .end)
+  pub words : wordsAt o false skip later (linesOf (slice i next s)) ≡ stretchWords o true false (slice (r .from) (r .end) s) ++ wordsAt o false later later (linesOf (slice (r .next) next s))
 
--- A stretch, that may be empty, is written behind a line of output that stands at a column.
+-- A stretch, that may be empty, is written after a line of output that is at a column.
 pub record Went (s : List ℕ) (from e : ℕ) (g : Setting) (indent : List ℕ) (out : List ℕ) (t : Reached) (out′ : List ℕ) (r : Reached) : Type 0 where
   pub left : (o : Opts) (more : List Word) → o .uniform ≡ false
       → Left out (t .written) (quickRest g indent (t .column) (t .punct) (stretchWords o true false (slice from e s) ++ more))
@@ -157,7 +142,25 @@ pub record Went (s : List ℕ) (from e : ℕ) (g : Setting) (indent : List ℕ) 
   pub most : r .written ≤ t .written + (e - from + 1) * 2 ^ 34
   pub reach : r .column ≤ 2 ^ 33
 
--- A word is written so.
+-- The words of the lines from a place on.
+abbrev pub wordsOn : List ℕ → Options → ℕ → ℕ → ℕ → List ℕ → ℕ → List Word
+wordsOn block o start later next s i = wordsAt (meant block o) false start later (linesOf (slice i next s))
+
+-- Lines are written up to a place, after a line of output that is at a column: what is left of quick's output is that of the other lines' words.
+pub record Gone (s : List ℕ) (at next later : ℕ) (o : Options) (g : Setting) (indent : List ℕ) (out : List ℕ) (t : Reached) (out′ : List ℕ) (i : ℕ) (r : Reached) : Type 0 where
+  pub on : at ≤ i
+  pub most : i ≤ next
+  pub rest : AllBegin (o .glue) later later (linesOf (slice i next s))
+  pub left : (block : List ℕ)
+      → Left out (t .written) (quickRest g indent (t .column) (t .punct) (wordsOn block o later later next s at))
+      out′ (r .written) (quickRest g indent (r .column) (r .punct) (wordsOn block o later later next s i))
+  pub few : r .written ≤ t .written + (i - at) * 2 ^ 35
+  pub reach : r .column ≤ 2 ^ 33
+
+abbrev pub reachedOf : Progress → Reached
+reachedOf r = record { written = r .written; column = r .column; punct = r .punct }
+
+-- A word of any kind is written after a line of output that is at a column.
 pub record WordPut (s : List ℕ) (w : Record) (g : Setting) (indent : List ℕ) (out : List ℕ) (t : Reached) (out′ : List ℕ) (r : Reached) : Type 0 where
   pub left : (more : List Word)
       → Left out (t .written) (quickRest g indent (t .column) (t .punct) (meaning s w ∷ more))
@@ -165,48 +168,23 @@ pub record WordPut (s : List ℕ) (w : Record) (g : Setting) (indent : List ℕ)
   pub most : r .written ≤ t .written + 2 ^ 34
   pub reach : r .column ≤ 2 ^ 33
 
--- So are the words of a line's part.
-pub record WordsPut (o : Opts) (s : List ℕ) (newLine previous : Bool) (g : Setting) (indent : List ℕ) (from end : ℕ) (out : List ℕ) (t : Reached) (out′ : List ℕ) (r : Reached) : Type 0 where
-  pub left : (more : List Word)
-      → Left out (t .written) (quickRest g indent (t .column) (t .punct) (wordsOf o newLine previous s from end ++ more))
-      out′ (r .written) (quickRest g indent (r .column) (r .punct) more)
-  pub most : r .written ≤ t .written + (end - from + 1) * 2 ^ 34
+-- So are the words of a table up to the j-th.
+pub record Listed (s table : List ℕ) (n : ℕ) (g : Setting) (indent : List ℕ) (out : List ℕ) (t : Reached) (out′ : List ℕ) (j : ℕ) (r : Reached) : Type 0 where
+  pub few : j ≤ n
+  pub left : Left out (t .written) (quickRest g indent (t .column) (t .punct) (wordsIn s n table))
+      out′ (r .written) (quickRest g indent (r .column) (r .punct) (drop j (wordsIn s n table)))
+  pub most : r .written ≤ t .written + j * 2 ^ 34
   pub reach : r .column ≤ 2 ^ 33
 
--- and up to a place of it, at which the words go on
-pub record Wording (o : Opts) (s : List ℕ) (newLine previous : Bool) (g : Setting) (indent : List ℕ) (from end : ℕ) (out : List ℕ) (t : Reached) (at : ℕ) (newLine′ previous′ : Bool) (out′ : List ℕ) (r : Reached) : Type 0 where
-  pub on : from ≤ at
-  pub within : at ≤ end
-  pub ink : newLine′ ≡ true → while isBlank (inkGlyphs (o .glue) (slice at end s)) ≡ []
-  pub left : (more : List Word)
-      → Left out (t .written) (quickRest g indent (t .column) (t .punct) (wordsOf o newLine previous s from end ++ more))
-      out′ (r .written) (quickRest g indent (r .column) (r .punct) (wordsOf o newLine′ previous′ s at end ++ more))
-  pub most : r .written ≤ t .written + (at - from) * 2 ^ 34
-  pub reach : r .column ≤ 2 ^ 33
-
--- A paragraph's first line is written, of which these are the words; or there are none, and nothing is.
-abbrev pub BegunIs : Opts → List ℕ → ℕ → ℕ → Setting → List ℕ → List ℕ → List ℕ → ℕ → List ℕ → Begun → Type 0
-BegunIs o s from end g first indent out k out′ (At r) =
-    ((more : List Word) → let ws = wordsOf o true false s from end ++ more in Left out k (emit false first indent (quickBreaks g ws) ws) out′ (r .written) (quickRest g indent (r .column) (r .punct) more))
-    × (r .written ≤ k + 2 ^ 34 + (end - from + 1) * 2 ^ 35) × (r .column ≤ 2 ^ 33)
-BegunIs o s from end g first indent out k out′ Bare = out′ ≡ out
-
--- The words of the lines from a place on.
-abbrev pub wordsOn : Options → ℕ → ℕ → ℕ → List ℕ → ℕ → List Word
-wordsOn o start later next s i = wordsAt (meant [] o) false start later (linesOf (slice i next s))
-
--- Lines are written up to a place, behind a line of output that stands at a column: what is left of quick's output is that of the other lines' words.
-pub record Gone (s : List ℕ) (at next later : ℕ) (o : Options) (g : Setting) (indent : List ℕ) (out : List ℕ) (t : Reached) (out′ : List ℕ) (i : ℕ) (r : Reached) : Type 0 where
-  pub on : at ≤ i
-  pub most : i ≤ next
-  pub rest : AllBegin (o .glue) later later (linesOf (slice i next s))
-  pub left : Left out (t .written) (quickRest g indent (t .column) (t .punct) (wordsOn o later later next s at))
-      out′ (r .written) (quickRest g indent (r .column) (r .punct) (wordsOn o later later next s i))
-  pub few : r .written ≤ t .written + (i - at) * 2 ^ 35
-  pub reach : r .column ≤ 2 ^ 33
+-- The lines from a place on are written: what is left is what quick writes of no words.
+pub record Rested (s : List ℕ) (at next later : ℕ) (o : Options) (g : Setting) (indent : List ℕ) (out : List ℕ) (t : Reached) (out′ : List ℕ) (r : Reached) : Type 0 where
+  pub left : (block : List ℕ)
+      → Left out (t .written) (quickRest g indent (t .column) (t .punct) (wordsOn block o later later next s at))
+      out′ (r .written) (quickRest g indent (r .column) (r .punct) [])
+  pub most : r .written ≤ t .written + 2 ^ 55
 
 -- A paragraph is written, broken by quick; or nothing is.
 abbrev pub PutIs : List ℕ → ℕ → ℕ → ℕ → ℕ → Options → Setting → List ℕ → List ℕ → List ℕ → ℕ → List ℕ → Put → Type 0
 PutIs s at next start later o g first indent out k out′ (Done r) =
-    Wrote out k (emit false first indent (quickBreaks g (wordsOn o start later next s at)) (wordsOn o start later next s at)) out′ r
+    (block : List ℕ) → Wrote out k (emit false first indent (quickBreaks g (wordsOn block o start later next s at)) (wordsOn block o start later next s at)) out′ r
 PutIs s at next start later o g first indent out k out′ Other = out′ ≡ out

@@ -1,9 +1,9 @@
 -- `rudignals::rudignals_measure` meets its contract.
 use mathlib.Core.Path.{ap, _∙_}
 use borrow.Author.Needs.{needs}
-use Rattle.formatter.specs.Format.{document01}
+use Rattle.formatter.specs.Format.{ownRoom}
 use Rattle.formatter.specs.Contracts.Call.{replyNumber}
-use Rattle.formatter.proofs.Values.{document01-sound, told-number, measured-fits}
+use Rattle.formatter.proofs.Values.{ownRoom-sound, told-number, measured-fits}
 use Rattle.rudignals.proofs.rudignals_measure.Statement.{statement}
 use Rattle.rudignals.proofs.rudignals_measure.Tie as tie
 
@@ -11,7 +11,7 @@ measure-requires : tie.Need-measure-requires
 measure-requires c κs = search needs
 
 number-of-requires : tie.Need-number-of-requires
-number-of-requires c κs = rw (c .measure .ensures) (measured-fits document01 document01-sound _ _)
+number-of-requires c κs = rw (c .measure .ensures) (measured-fits ownRoom ownRoom-sound _ _)
 
 returns : tie.Need-returns
 returns c = c .number-of .ensures ∙ ap replyNumber (c .before .measure .ensures) ∙ told-number _

@@ -1,9 +1,9 @@
 -- `rudignals::rudignals_write` meets its contract.
 use mathlib.Core.Path.{ap, _∙_}
 use borrow.Author.Needs.{needs}
-use Rattle.formatter.specs.Format.{document01}
+use Rattle.formatter.specs.Format.{ownRoom}
 use Rattle.formatter.specs.Contracts.Call.{replyNumber}
-use Rattle.formatter.proofs.Values.{document01-sound, told-number, written-fits}
+use Rattle.formatter.proofs.Values.{ownRoom-sound, told-number, written-fits}
 use Rattle.rudignals.proofs.rudignals_write.Statement.{statement}
 use Rattle.rudignals.proofs.rudignals_write.Tie as tie
 
@@ -11,7 +11,7 @@ write-requires : tie.Need-write-requires
 write-requires c κs = search needs
 
 number-of-requires : tie.Need-number-of-requires
-number-of-requires c κs = rw (c .before .before .write .ensures .is) (written-fits document01 document01-sound _ _ _)
+number-of-requires c κs = rw (c .before .before .write .ensures .is) (written-fits ownRoom ownRoom-sound _ _ _)
 
 same-length : tie.Need-same-length
 same-length c = search needs

@@ -1,4 +1,4 @@
--- A line as it stands in the notes: its text, its line end, and what is behind it.
+-- A line as it is in the notes: its text, its line end, and what is after it.
 use mathlib.Core.Path.{_≡_}
 use mathlib.Core.Bool.{true}
 use mathlib.Core.List.{List, [], _∷_}
@@ -22,7 +22,7 @@ pub data Ended (text end below : List ℕ) : Type 0 where
   byFeed : LineEnd text end → Ended text end below
   byNothing : 0 < length text → end ≡ [] → below ≡ [] → Ended text end below
 
--- a line, above what is below it: no line feed stands in its text
+-- a line, above what is below it: no line feed is in its text
 pub record LineIs (text end below : List ℕ) : Type 0 where
   pub feedless : every noFeed text ≡ true
   pub ended : Ended text end below

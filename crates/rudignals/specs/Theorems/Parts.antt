@@ -79,11 +79,11 @@ both then size (work needed) second = behindWork size needed second
 
 -- ---- the index, and the reasons
 
--- the second part's records, moved on behind the first part and its digest
+-- the second part's records, moved on after the first part and its digest
 abbrev pub behindFirst : List ℕ → List ℕ → List Record → List Record
 behindFirst first digest rs = map (shifted (length first) (length (linesOf digest))) rs
 
--- a line of the first part has its reason there; a line behind them has that of the second part
+-- a line of the first part has its reason there; a line after them has that of the second part
 abbrev pub bothReasons : Explanation → Explanation → Explanation
 bothReasons (because e) second = because e
 bothReasons (refused a) second = refused a

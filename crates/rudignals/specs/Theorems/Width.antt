@@ -1,4 +1,4 @@
--- Document 02, P9: what the theorem of proofs/Width says of a paragraph's output.
+-- RULES 21.7: what the theorem of proofs/Width says of a paragraph's output.
 use mathlib.Core.Path.{_≡_}
 use mathlib.Core.Bool.{true, false}
 use mathlib.Core.List.{List, _++_}
@@ -36,7 +36,7 @@ ended l = l .bytes ++ lineFeed
 abbrev pub wordsOn : OutputLine → List Word
 wordsOn l = l .words
 
--- An output line of a paragraph: no line feed stands in it; it is the paragraph's first indent or its indent, then its words in order, each
+-- An output line of a paragraph: no line feed is in it; it is the paragraph's first indent or its indent, then its words in order, each
 -- once, with blanks between every two neighbours and nothing else; and its columns exceed the width only if it holds a single word. A blank
 -- that is kept between two of its words, no tab, and takes another number of columns than one, which is U+3000 alone, excuses it.
 pub record KeepsToWidth (o : Opts) (p : Paragraph) (l : OutputLine) : Type 0 where

@@ -1,4 +1,4 @@
--- Document 02, P11: digests checked by the definition, the readings of docs/DECISIONS.md among them: one table and one statement.
+-- RULES 18: digests checked by the definition, the readings of docs/DECISIONS.md among them: one table and one statement.
 use mathlib.Core.Bool.{Bool, _&&_}
 use mathlib.Core.List.{List, [], _∷_, _++_}
 use Prim.Native.Nat.{ℕ}
@@ -7,7 +7,7 @@ use Rattle.lists.specs.Runs.{every}
 use Rattle.lists.specs.Trials.Bytes.{bytes}
 use Rattle.checker.specs.Matching.{matchText, matchFeed, matchLine, spaces, parting, lead, matchSpaced, matchNext, matchRest, matchWords, matchPiece, matchPieces, verdict}
 use Rattle.judge.specs.Answers.{code, value}
-use Rattle.formatter.specs.Format.{document01}
+use Rattle.formatter.specs.Format.{ownRoom}
 use Rattle.judge.specs.Checking.{checking}
 use Rattle.rudignals.specs.Trials.Computing.{everything}
 use Rattle.rudignals.specs.Trials.MarkedTexts.{none, flags, prefix, damagedLine}
@@ -24,7 +24,7 @@ abbrev pub checked : List ℕ → List ℕ → List ℕ → ℕ → ℕ → Chec
 checked b n d c k = record { block = b; notes = n; digest = d; code = c; number = k }
 
 abbrev pub told : Checked → Bool
-told r = let a = checking document01 (r .block) (r .notes) (r .digest) in eqb (code a) (r .code) && eqb (value a) (r .number)
+told r = let a = checking ownRoom (r .block) (r .notes) (r .digest) in eqb (code a) (r .code) && eqb (value a) (r .number)
 
 abbrev pub noBreakSpace : List ℕ
 noBreakSpace = 0xC2 ∷ 0xA0 ∷ []

@@ -1,4 +1,4 @@
--- Document 01, "Trial texts": the twelve marked texts, one table and one statement. Each row has the option block as bytes, the notes
+-- RULES 10: the twelve marked texts, one table and one statement. Each row has the option block as bytes, the notes
 -- and the digest; the call with that block and room for the digest answers code 0, N and those bytes.
 use mathlib.Core.Bool.{Bool, _&&_}
 use mathlib.Core.List.{List, [], _∷_, _++_}
@@ -8,7 +8,7 @@ use lib.ListN.{length, replicate}
 use Rattle.lists.specs.Runs.{every}
 use Rattle.lists.specs.Trials.Bytes.{bytes, same}
 use Rattle.formatter.specs.Answers.{numbered, outputAfter}
-use Rattle.formatter.specs.Format.{document01, answer}
+use Rattle.formatter.specs.Format.{ownRoom, answer}
 use Rattle.rudignals.specs.Trials.Computing.{everything}
 
 pub record Row : Type 0 where
@@ -25,7 +25,7 @@ output d = replicate (length d) 46 ++ 46 ∷ 46 ∷ []
 
 abbrev pub right : Row → Bool
 right r =
-    let a = answer document01 (r .block) (r .notes) (length (output (r .digest))) in
+    let a = answer ownRoom (r .block) (r .notes) (length (output (r .digest))) in
     eqb (numbered a) (length (r .digest)) && same (outputAfter a (output (r .digest))) (r .digest ++ 46 ∷ 46 ∷ [])
 
 abbrev pub none : List ℕ

@@ -1,4 +1,4 @@
--- Document 02, P6: reasons worked out by the definition, of every line one after the other: the kind and five numbers.
+-- RULES 13: reasons worked out by the definition, of every line one after the other: the kind and five numbers.
 use mathlib.Core.Path.{_≡_, refl}
 use mathlib.Core.List.{List, [], _∷_, _++_}
 use Prim.Native.Nat.{ℕ, _+_, _*_, _^_}
@@ -14,7 +14,7 @@ use Rattle.endings.specs.Endings.{numbersOf, breaks, endings}
 use Rattle.quick.specs.QuickLines.{linesFrom, quickLines}
 use Rattle.knuth_plass.specs.BestLines.{offering, chosenOf, maker, makersFrom, makersOf, nextAt, nextsFrom, bestLines}
 use Rattle.explain.specs.Reasons.{paragraphEndings, endingsOf, lineEndings}
-use Rattle.formatter.specs.Format.{document01}
+use Rattle.formatter.specs.Format.{ownRoom}
 use Rattle.explain.specs.Explain.{explaining, explainedNumber}
 use Rattle.rudignals.specs.Trials.Computing.{everything}
 use Rattle.rudignals.specs.Trials.MarkedTexts.{none, flags, width10}
@@ -33,7 +33,7 @@ told block notes = toldBy block (bytes notes) (readBlock block)
 abbrev end : List ℕ
 end = 0 ∷ 0 ∷ 0 ∷ 0 ∷ 0 ∷ 0 ∷ []
 
--- P6's own example: width 8, uniform; line 1 is `ccc`, three columns, and t is 4
+-- the example of RULES 13: width 8, uniform; line 1 is `ccc`, three columns, and t is 4
 pub the-paper's-example : told (flags 0 16 ++ 2 ∷ 0 ∷ 2 ∷ 0 ∷ 8 ∷ []) "aaa bbb ccc ddd eee fff ggg\n"
     ≡ 4 ∷ 7 ∷ 29 ∷ 0 ∷ 22 ∷ 2704 ∷ 4 ∷ 4 ∷ 3 ∷ 0 ∷ 75 ∷ 6241 ∷ 4 ∷ 4 ∷ 3 ∷ 0 ∷ 0 ∷ 16 ∷ 4 ∷ 4 ∷ 3 ∷ 0 ∷ 0 ∷ 16 ∷ end
 unfolding everything reasons
@@ -51,6 +51,6 @@ pub forced-after : told width10 "aa bbbbbbbb c\n" ≡ 6 ∷ 0 ∷ 0 ∷ 0 ∷ 0 
 unfolding everything reasons
 forced-after = refl
 
-pub no-line : explainedNumber (explaining document01 none (bytes "a\n") 1) ≡ 8 * 2 ^ 32 + 1
+pub no-line : explainedNumber (explaining ownRoom none (bytes "a\n") 1) ≡ 8 * 2 ^ 32 + 1
 unfolding everything reasons
 no-line = refl

@@ -1,4 +1,4 @@
--- What the functions of salvage answer for on the way: lines and runs at a place, counts, and what is written so far. No part of P5.
+-- What the functions of salvage answer for on the way: lines and runs at a place, counts, and what is written so far. No part of RULES 14.
 use mathlib.Core.Path.{_≡_}
 use mathlib.Core.Bool.{Bool, true}
 use mathlib.Core.List.{List, _∷_, map}
@@ -88,7 +88,7 @@ pub record Counted (notes : List ℕ) (r : ℕ) : Type 0 where
   pub mended : length (mended notes) ≡ length notes + r
   pub few : r ≤ length notes
 
--- ---- what is written: a text behind at old bytes and n changes, with its own changes behind the n
+-- ---- what is written: a text after at old bytes and n changes, with its own changes after the n
 
 pub record Fits (at n : ℕ) (text : List ℕ) (list : List Change) (copy places bytes : List ℕ) : Type 0 where
   pub copied : at + n + length text ≤ length copy

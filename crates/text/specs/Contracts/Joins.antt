@@ -1,4 +1,4 @@
--- Octets one behind another, and what is asked of each by the three before it.
+-- Octets one after another, and what is asked of each by the three before it.
 use mathlib.Core.Path.{_≡_}
 use mathlib.Core.Bool.{Bool, true, not, _&&_, _||_}
 use mathlib.Core.List.{List, [], _∷_}
@@ -13,7 +13,7 @@ asked p q r = leb 0xF0 p || leb 0xE0 q || leb 0xC0 r
 abbrev pub goesOn : ℕ → Bool
 goesOn b = eqb (b / 64) 2
 
--- the octet b may stand behind p, q and r
+-- the octet b may stand after p, q and r
 unfoldable pub joins : ℕ → ℕ → ℕ → ℕ → Bool
 joins p q r b =
     (not (asked p q r) || goesOn b)
@@ -26,7 +26,7 @@ joins p q r b =
     && (not (eqb r 0xF0) || leb 0x90 b)
     && (not (eqb r 0xF4) || ltb b 0x90)
 
--- each octet of a text may stand where it does, behind p, q and r, and none is missing at its end
+-- each octet of a text may stand where it does, after p, q and r, and none is missing at its end
 abbrev pub Joined : ℕ → ℕ → ℕ → List ℕ → Type 0
 Joined p q r [] = (p < 0xF0) × (q < 0xE0) × (r < 0xC0)
 Joined p q r (b ∷ bs) = (joins p q r b ≡ true) × Joined q r b bs

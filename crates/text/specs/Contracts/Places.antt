@@ -1,4 +1,4 @@
--- How the code's answers at a place mean what stands at the front of the text from there on.
+-- How the code's answers at a place mean what is at the front of the text from there on.
 use mathlib.Core.Path.{_≡_}
 use mathlib.Core.Bool.{Bool, true, false, cond, not, _&&_}
 use mathlib.Core.List.{List, [], _∷_}
@@ -18,7 +18,7 @@ abbrev pub readAs : ℕ → Front → Char
 readAs at (front c n) = Good c (at + n)
 readAs at nothing = Damaged
 
--- a character, by its number and the place behind it
+-- a character, by its number and the place after it
 abbrev pub glyphOf : ℕ → ℕ → Seen
 glyphOf code next = cond (whiteSpace code) (Blank code next) (Ink code next)
 
@@ -31,7 +31,7 @@ pub record Ascii (s : List ℕ) (from to : ℕ) : Type 0 where
   pub within : to ≤ length s
   pub small : (i : ℕ) → from ≤ i → i < to → getD s i 0 < 0x80
 
--- a character of two bytes stands at a place, U+0080 to U+07FF
+-- a character of two bytes is at a place, U+0080 to U+07FF
 abbrev pub pairCode : List ℕ → ℕ → ℕ
 pairCode s at = getD s at 0 % 32 * 64 + getD s (at + 1) 0 % 64
 
@@ -41,7 +41,7 @@ pub record Pair (s : List ℕ) (at : ℕ) : Type 0 where
   pub most : getD s at 0 ≤ 0xDF
   pub second : getD s (at + 1) 0 / 64 ≡ 2
 
--- a letter of two bytes stands at a place, U+00C0 to U+02FF or U+0380 to U+047F: each takes one column, and none is blank; those between
+-- a letter of two bytes is at a place, U+00C0 to U+02FF or U+0380 to U+047F: each takes one column, and none is blank; those between
 -- begin with CC or CD
 unfoldable pub letterAt : List ℕ → ℕ → Bool
 letterAt s at =
@@ -52,11 +52,11 @@ unfoldable pub settle : Bool → Bool → List Glyph → List Glyph
 settle true ink gs = glued ink gs
 settle false ink gs = gs
 
--- the glyphs of a text that stands behind ink
+-- the glyphs of a text that is after ink
 unfoldable pub inkGlyphs : Bool → List ℕ → List Glyph
 inkGlyphs glue xs = settle glue true (characters xs)
 
--- the same question behind a character, and behind characters
+-- the same question after a character, and after characters
 unfoldable pub inkBehind : Bool → Glyph → Bool
 inkBehind ink g = elim (noBreak g) [ true ↦ ink | false ↦ not (g .blank) ]
 
@@ -64,11 +64,11 @@ unfoldable pub inkAfter : Bool → List Glyph → Bool
 inkAfter ink [] = ink
 inkAfter ink (g ∷ gs) = inkAfter (inkBehind ink g) gs
 
--- U+00A0 stands at a place
+-- U+00A0 is at a place
 unfoldable pub noBreakAt : List ℕ → ℕ → Bool
 noBreakAt s at = eqb (getD s at 0) 0xC2 && eqb (getD s (at + 1) 0) 0xA0
 
--- how many bytes of U+00A0 at the front are ordinary behind ink: all of a run, or none
+-- how many bytes of U+00A0 at the front are ordinary after ink: all of a run, or none
 unfoldable pub gluedExtent : List Glyph → ℕ
 gluedExtent gs = cond (inkAhead gs) (extent (while noBreak gs)) 0
 

@@ -17,8 +17,8 @@ pub record Blanks (codes bytes : List ℕ) : Type 0 where
   pub blank : every spaceCode codes ≡ true
   pub octets : bytes ≡ joined encode codes
 
--- What parts two words of a line: such bytes, and some. With glue on, one of the characters at least is no U+00A0; so by the rule of document 02,
--- P2, none of them is ordinary, whatever stands before and behind them (`gap-stays` in proofs/Gaps.antt).
+-- What parts two words of a line: such bytes, and some. With glue on, one of the characters at least is no U+00A0; so by RULES 4.4
+-- none of them is ordinary, whatever is before and after them (`gap-stays` in proofs/Gaps.antt).
 pub record Gap (glue : Bool) (bytes : List ℕ) : Type 0 where
   pub codes : List ℕ
   pub blanks : Blanks codes bytes

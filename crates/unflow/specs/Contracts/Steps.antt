@@ -1,4 +1,4 @@
--- What the functions of unflow answer for on the way: a line in places, and what is written of it behind the lines before it.
+-- What the functions of unflow answer for on the way: a line in places, and what is written of it after the lines before it.
 use mathlib.Core.Path.{_≡_}
 use mathlib.Core.Bool.{Bool, cond, not, _&&_}
 use mathlib.Core.List.{List, [], _∷_, _++_}
@@ -58,7 +58,7 @@ startOf going depth line = cond (joins going depth line) [] (endOf going ++ (rep
 unfoldable pub placed : Bool → ℕ → List ℕ → List ℕ
 placed going depth line = startOf going depth line ++ (contentOf line ++ endOf (not (isSoft line)))
 
--- all lines, and the end of a paragraph that is open behind them
+-- all lines, and the end of a paragraph that is open after them
 unfoldable pub placedFrom : Bool → ℕ → List (List ℕ) → List ℕ
 placedFrom going depth [] = endOf going
 placedFrom going depth (line ∷ lines) = placed going depth line ++ placedFrom (isSoft line) (quoteDepth line) lines

@@ -1,4 +1,4 @@
--- The examples of RFC 3676, section 4, and the readings of P10's reader: one table and one statement.
+-- The examples of RFC 3676, section 4, and the readings of the reader of RULES 17.2: one table and one statement.
 use mathlib.Core.Bool.{Bool}
 use mathlib.Core.List.{List, [], _∷_}
 use Prim.Native.String.{String}
@@ -35,7 +35,7 @@ table =
     -- 4.4: stuffing goes, and comes where it is needed
     ∷ row " a\r\n  b\r\n >c\r\n From d\r\n" "a\r\n  b\r\n >c\r\n From d\r\n"
     ∷ row ">From x\r\nFrom y\r\nFrom\r\n" "> From x\r\n From y\r\nFrom\r\n"
-    -- 4.3: the separator is fixed, and ends a soft line before it; stuffed it is one behind quote marks alone
+    -- 4.3: the separator is fixed, and ends a soft line before it; stuffed it is one after quote marks alone
     ∷ row "-- \r\na\r\n" "-- \r\na\r\n"
     ∷ row "a \r\n-- \r\nb\r\n" "a \r\n-- \r\nb\r\n"
     ∷ row ">-- \r\n>a\r\n> -- \r\n>b\r\n" ">-- \r\n>a\r\n>-- \r\n>b\r\n"

@@ -48,7 +48,7 @@ outputFrom o nextMail notes at = joined (pieceOutput o) (piecesFrom o nextMail n
 unfoldable pub longFrom : ℕ → Opts → Bool → List ℕ → ℕ → Found
 longFrom most o nextMail notes at = longParagraph most o at (piecesFrom o nextMail notes at)
 
--- the first of them is of a kind and stands from at up to next; the others stand behind it
+-- the first of them is of a kind and stands from at up to next; the others stand after it
 pub record FirstPiece (o : Opts) (nextMail : Bool) (notes : List ℕ) (at : ℕ) (kind : Kind) (state : Bool) (next : ℕ) : Type 0 where
   pub piece : Piece
   pub is : piece .kind ≡ kind
@@ -62,7 +62,7 @@ pub record FirstPiece (o : Opts) (nextMail : Bool) (notes : List ℕ) (at : ℕ)
 abbrev pub mostPerByte : ℕ
 mostPerByte = 2097152
 
--- a piece was written, and the work goes on behind it
+-- a piece was written, and the work goes on after it
 pub record Put (most : ℕ) (o : Opts) (notes out : List ℕ) (c d : Cursor) (out′ : List ℕ) : Type 0 where
   pub kind : Kind
   pub goes : FirstPiece o (c .mail) notes (c .at) kind (d .mail) (d .at)

@@ -1,25 +1,29 @@
 -- The forms in which the code holds the widths. They serve contracts alone.
-use mathlib.Core.List.{List, [], _∷_}
+use mathlib.Core.Path.{_≡_}
 use mathlib.Core.Bool.{cond}
-use Prim.Native.Nat.{ℕ, _+_, _*_, _/_, _%_, _^_}
-use lib.Dec.{ltb, eqb}
-use Rattle.widths.specs.Ranges.{Range, span}
+use Prim.Native.Nat.{ℕ, _+_, _*_}
+use lib.ListN.{drop}
+use Rattle.widths.specs.Ranges.{Range, span, widthIn}
+use Rattle.widths.specs.Table.{table}
 use Rattle.widths.specs.Widths.{widthOf}
 use Rattle.widths.specs.WhiteSpace.{whiteSpace}
 
--- ranges as numbers, three to a range
-unfoldable pub flat : List Range → List ℕ
-flat [] = []
-flat (span a b w ∷ rs) = a ∷ b ∷ w ∷ flat rs
+-- what the code reads after the table's last range: no character is past it
+abbrev pub beyond : Range
+beyond = span 0xFFFFFF 0xFFFFFF 1
 
--- digit k of a word, the first lowest, where each has so many bits
-abbrev pub digit : ℕ → ℕ → ℕ → ℕ
-digit bits w k = w / 2 ^ (k * bits) % 2 ^ bits
+-- a range as one number
+abbrev pub rowNumber : Range → ℕ
+rowNumber (span a b w) = a * 0x100000000 + b * 256 + w
+
+-- the first range that does not end before U+20000
+abbrev pub behind : ℕ
+behind = 474
+
+-- the ranges before k may be left out for the character c
+abbrev pub LeftOut : ℕ → ℕ → Type 0
+LeftOut k c = widthIn (drop k table) c ≡ widthOf c
 
 -- the width of a character, or 3 if it is white space
 unfoldable pub inkWidth : ℕ → ℕ
 inkWidth c = cond (whiteSpace c) 3 (widthOf c)
-
--- the row of `nearRows` that a character stands in; 96 if in none
-unfoldable pub nearRow : ℕ → ℕ
-nearRow c = cond (ltb c 0x4000) (c / 256) (cond (eqb (c / 4096) 0xF) (64 + c / 256 % 16) (cond (eqb (c / 4096) 0x1F) (80 + c / 256 % 16) 96))

@@ -1,6 +1,7 @@
 -- `words::count_line` meets its contract. Invariant: the words counted, with those of what is left of the line, are all the words.
 use mathlib.Core.Path.{_≡_, refl, sym, ap}
-use mathlib.Core.Bool.{Bool, true, false, not, false≢true}
+use mathlib.Core.Bool.{true, false, not, false≢true}
+use borrow.Author.Tests.{not-true}
 use mathlib.Core.List.{[]}
 use Prim.Native.Nat.{_+_, _-_, _≤_}
 use native.Mathlib.Omega.{arith}
@@ -30,12 +31,7 @@ slice-aggregate-s : tie.Need-slice-aggregate-s Inv-loop μ-loop
 slice-aggregate-s c = sym (length-take-le _ _ (c .before .before .pre .1))
 
 loop-holds : tie.Need-loop-holds Inv-loop μ-loop
-loop-holds c = (rw (length-take-le _ _ (c .before .before .pre .1)) (search needs), c .before .before .pre .5, refl, λ e. c .before .before .pre .6 (head _ e))
-  where
-    -- the first word of a line is looked for where it is not mail
-    head : (mail : Bool) → not mail ≡ true → mail ≡ false
-    head true e = absurd (false≢true e)
-    head false e = refl
+loop-holds c = (rw (length-take-le _ _ (c .before .before .pre .1)) (search needs), c .before .before .pre .5, refl, λ e. c .before .before .pre .6 (not-true _ e))
 
 next-word-requires : tie.Need-next-word-requires Inv-loop μ-loop
 next-word-requires c κs = let l = length-take (c .before .before .before .args .end) (now (c .before .before .before .args .notes)) in (c .loop .inv .0, omega arith, search needs, search needs, c .loop .inv .3)

@@ -20,7 +20,7 @@ use Rattle.words.specs.declared.Ink.{Ink}
 use Rattle.words.specs.declared.Next.{Next}
 use Rattle.words.specs.declared.Next.the-variants.{One, End}
 
--- the glyphs of a line's rest, that stands behind ink or not
+-- the glyphs of a line's rest, that is after ink or not
 abbrev pub glyphsBehind : Bool → Bool → List ℕ → List Glyph
 glyphsBehind glue true xs = inkGlyphs glue xs
 glyphsBehind glue false xs = glyphs glue xs
@@ -33,11 +33,11 @@ gapIn b = record { before = b .before; after = b .after }
 abbrev pub gapBehind : ℕ → ℕ → Gap → Gap
 gapBehind tab code g = cond (eqb code 9) (gapTab tab (g .before) (g .after)) (record { before = g .before; after = g .after + 1 })
 
--- no blank stands at a place
+-- no blank is at a place
 abbrev pub noBlanks : ℕ → Blanks
 noBlanks at = record { end = at; before = Absent; after = 0 }
 
--- r is what stands of blanks at a place, behind ink or not; behind it a word may begin
+-- r is what stands of blanks at a place, after ink or not; after it a word may begin
 pub record OverBlanks (glue : Bool) (tab : ℕ) (ink : Bool) (s : List ℕ) (at : ℕ) (r : Blanks) : Type 0 where
   pub end : r .end ≡ at + extent (while isBlank (glyphsBehind glue ink (drop at s)))
   pub gap : gapIn r ≡ gapOf tab (while isBlank (glyphsBehind glue ink (drop at s)))
@@ -79,24 +79,24 @@ pub record Plain (s : List ℕ) (from to : ℕ) : Type 0 where
   pub least : (i : ℕ) → from ≤ i → i < to → 33 ≤ getD s i 0
   pub most : (i : ℕ) → from ≤ i → i < to → getD s i 0 < 128
 
--- a character that is no blank, or a damaged byte, stands at a place
+-- a character that is no blank, or a damaged byte, is at a place
 pub record InkBegins (s : List ℕ) (at : ℕ) : Type 0 where
   pub within : at < length s
   pub ink : glyph (drop at s) .blank ≡ false
 
--- a space stands at a place, and no blank behind it
+-- a space is at a place, and no blank after it
 pub record OneSpace (s : List ℕ) (at : ℕ) : Type 0 where
   pub space : getD s at 0 ≡ 32
   pub behind : InkBegins s (at + 1)
 
--- r is the ink w with plain characters behind it
+-- r is the ink w with plain characters after it
 pub record OverPlain (s : List ℕ) (w r : Ink) : Type 0 where
   pub run : Plain s (w .end) (r .end)
   pub on : w .end < r .end
   pub width : r .width ≡ w .width + (r .end - w .end)
   pub punct : r .punct ≡ punctCode (getD s (r .end - 1) 0)
 
--- the record of a word behind blanks that begin at a place; uniform drops them and their counts. Without a tab the after count has every blank
+-- the record of a word after blanks that begin at a place; uniform drops them and their counts. Without a tab the after count has every blank
 abbrev pub wordAt : Bool → Bool → Bool → Bool → ℕ → Blanks → Ink → Record
 wordAt uniform characters first previous at b w = record {
   from = cond uniform (b .end) at;
@@ -119,7 +119,7 @@ unfoldable pub wordsFrom : Opts → Bool → Bool → Bool → List Glyph → Li
 wordsFrom o true newLine previousPunct gs = mailWords (runs gs)
 wordsFrom o false newLine previousPunct gs = lineWords (counting (o .characters)) o newLine previousPunct (runs gs)
 
--- w is the next word at a place; the first of its line begins there, and behind others there are blanks
+-- w is the next word at a place; the first of its line begins there, and after others there are blanks
 pub record NextWord (o : Opts) (mail newLine previousPunct : Bool) (s : List ℕ) (at : ℕ) (w : Record) : Type 0 where
   pub first : wordsFrom o mail newLine previousPunct (glyphsBehind (o .glue) newLine (drop at s)) ≡ meaning s w ∷ wordsFrom o mail false (w .punct) (glyphs (o .glue) (drop (w .end) s))
   pub place : placesFrom at (runs (glyphsBehind (o .glue) newLine (drop at s))) ≡ w .start ∷ placesFrom (w .end) (runs (glyphs (o .glue) (drop (w .end) s)))

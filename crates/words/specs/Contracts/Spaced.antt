@@ -30,18 +30,18 @@ spaceBefore at false = record { end = at + 1; before = Absent; after = 1 }
 abbrev pub plainInk : List ℕ → ℕ → ℕ → Ink
 plainInk s start end = record { end = end; width = end - start; punct = punctCode (getD s (end - 1) 0) }
 
--- a word of plain characters, behind which a space, a tab or a line feed stands, or nothing
+-- a word of plain characters, after which a space, a tab or a line feed stands, or nothing
 pub record PlainWord (s : List ℕ) (start end : ℕ) : Type 0 where
   pub run : Plain s start end
   pub some : start < end
   pub ends : end < length s → ((eqb (getD s end 0) 32 || eqb (getD s end 0) 9) ≡ true) ⊎ (getD s end 0 ≡ 10)
 
--- such a word at a place, the first of its line or behind one space
+-- such a word at a place, the first of its line or after one space
 pub record PlainBehind (s : List ℕ) (at : ℕ) (first : Bool) (end : ℕ) : Type 0 where
   pub space : first ≡ false → (at < length s) × (getD s at 0 ≡ 32)
   pub word : PlainWord s (spaceBefore at first .end) end
 
--- the text of the line that a place stands in ends at another: at the text's end, or at a line feed, with the carriage return before it
+-- the text of the line that a place is in ends at another: at the text's end, or at a line feed, with the carriage return before it
 pub record EndsAt (s : List ℕ) (from end : ℕ) : Type 0 where
   pub on : from ≤ end
   pub within : end ≤ length s

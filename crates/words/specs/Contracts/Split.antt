@@ -21,7 +21,7 @@ pub record Kept (most size n : ℕ) (t : List ℕ) : Type 0 where
 unfoldable pub placesIn : ℕ → List ℕ → List ℕ
 placesIn n t = map (λ (w : Record). w .start) (recordsOf n t)
 
--- the words are in the table, with their places in the text, or there are more of them than `most`; then it is scratch, and so is what stands behind the words
+-- the words are in the table, with their places in the text, or there are more of them than `most`; then it is scratch, and so is what is after the words
 abbrev pub WordsFilled : ℕ → List ℕ → List Word → List ℕ → List ℕ → Count → Type 0
 WordsFilled most notes ws ps t (Words n) = (wordsIn notes n t ≡ ws) × (placesIn n t ≡ ps) × Kept most (length notes) n t
 WordsFilled most notes ws ps t TooMany = most < length ws

@@ -11,6 +11,6 @@ use Rattle.pieces.specs.Pieces.{Row}
 abbrev pub inkOf : Glyph → List ℕ
 inkOf g = cond (g .blank) [] (g .bytes)
 
--- at or behind the indent's end; of a mail paragraph's line, anywhere
+-- at or after the indent's end; of a mail paragraph's line, anywhere
 abbrev pub rowInk : Opts → Bool → Row → List ℕ
 rowInk o mail row = let gs = glyphs (o .glue) (row .text) in joined inkOf (cond mail gs (glyphsFrom (row .start) gs))

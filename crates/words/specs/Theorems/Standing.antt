@@ -1,4 +1,4 @@
--- Words that stand in the notes, one behind the other; and what a word has at its place.
+-- Words that are in the notes, one after the other; and what a word has at its place.
 use mathlib.Core.Path.{_≡_}
 use mathlib.Core.Bool.{Bool, false}
 use mathlib.Core.List.{List, [], _∷_, _++_, map}
@@ -14,7 +14,7 @@ use Rattle.pieces.specs.Pieces.{Paragraph}
 use Rattle.words.specs.Words.{wordsOf}
 use Rattle.words.specs.Places.{Standing, wordsStanding}
 
--- from a place on up to an end: each word begins at the end of the one before it or behind it
+-- from a place on up to an end: each word begins at the end of the one before it or after it
 abbrev pub Ascends : ℕ → List Standing → ℕ → Type 0
 Ascends from [] end = from ≤ end
 Ascends from (s ∷ ss) end = (from ≤ s .place) × Ascends (s .place + length (s .word .text)) ss end

@@ -1,8 +1,8 @@
 -- `rudignals::checking::rudignals_check` meets its contract.
 use mathlib.Core.Path.{ap, _∙_}
 use borrow.Author.Needs.{needs}
-use Rattle.formatter.specs.Format.{document01}
-use Rattle.formatter.proofs.Values.{document01-sound}
+use Rattle.formatter.specs.Format.{ownRoom}
+use Rattle.formatter.proofs.Values.{ownRoom-sound}
 use Rattle.judge.specs.Answers.{numbered}
 use Rattle.judge.proofs.Values.{number-fits}
 use Rattle.rudignals.proofs.checking.rudignals_check.Statement.{statement}
@@ -12,7 +12,7 @@ check-requires : tie.Need-check-requires
 check-requires c κs = search needs
 
 number-of-requires : tie.Need-number-of-requires
-number-of-requires c κs = rw (c .check .ensures) (number-fits document01 document01-sound _ _ _)
+number-of-requires c κs = rw (c .check .ensures) (number-fits ownRoom ownRoom-sound _ _ _)
 
 returns : tie.Need-returns
 returns c = c .number-of .ensures ∙ ap numbered (c .before .check .ensures)

@@ -1,8 +1,8 @@
 -- `rudignals::explaining::rudignals_explain` meets its contract.
 use borrow.Author.Needs.{needs}
 use mathlib.Core.Path.{ap, _∙_}
-use Rattle.formatter.specs.Format.{document01}
-use Rattle.formatter.proofs.Values.{document01-sound}
+use Rattle.formatter.specs.Format.{ownRoom}
+use Rattle.formatter.proofs.Values.{ownRoom-sound}
 use Rattle.explain.specs.declared.Explained.{Explained}
 use Rattle.explain.specs.Contracts.Seeking.{toldNumber, toldReason}
 use Rattle.explain.proofs.Values.{told-number, told-reason, told-fits}
@@ -13,7 +13,7 @@ explain-requires : tie.Need-explain-requires
 explain-requires c κs = search needs
 
 tell-requires : tie.Need-tell-requires
-tell-requires c κs = rw (c .before .explain .ensures) (told-fits document01 document01-sound _ _ _)
+tell-requires c κs = rw (c .before .explain .ensures) (told-fits ownRoom ownRoom-sound _ _ _)
 
 returns : tie.Need-returns
 returns c =

@@ -22,7 +22,7 @@ use denote.Slice.{finally}
 use denote.Struct.Laws as LL
 use denote.Triple.Entry.{Args}
 use denote.Triple.Walked.{stay-dropped, gave-slice, gave-ref, goes-dropped, goes-gave-slice, goes-gave-ref}
-use Rattle.index.proofs.Walk.{_≡_, refl, ap, _∙_, ℕ, _^_, _≤_, _<_, List, [], _∷_, length, URA, fullShare, named, w64, Val, vint, vptr, SProp, ent, emp, via, fst∗, id⊢, Lft, GName, Share, ftrue, fat, froom, flft, fres, Memory, Routine, Heap, Calls, Loops, WpFn, Tables, Atoms, Fun, fact, givenOf, tables, Given, Item, ‵, raw, later, some, _⊛_, ⋆, _$_, _∵_, !, qed, by, move, drop, use1, use2, split, pick, await, rewrite, fsplit, fjoin, feqI, suffices, frame, done, agg, whole, sub, look-in, look, init, forget, stop, hop, fld, from, load, lit, of-opd, and-then, no-more, addr, assigns, land, returns, enter, alloc1, alloc0, params1, pass1, pass0, free1, free0, fmOf, owns, Is, shows, shares, uint-makes, usize, u64, u32, RefT, sliceVal, MutSlice, ShrSlice, Room, slice-vals, mut-slice-tells, shr-slice-tells, Held, plain, only, owned, facts, heard, nothing, Vals, onEntry, Meets, tripleOf, Contract, Triple, calls-at, ensured, lasts, entered, cited, says, Stays, walkOf, ends-at, yes, R, typed, meets-by}
+use Rattle.index.proofs.Walk.{_≡_, refl, ap, ℕ, _^_, _≤_, _<_, List, [], _∷_, length, URA, fullShare, named, w64, Val, vint, vptr, SProp, ent, emp, via, fst∗, id⊢, Lft, GName, Share, ftrue, fat, froom, flft, fres, Memory, Routine, Heap, Calls, Loops, WpFn, Tables, Atoms, Fun, fact, givenOf, tables, Given, Item, ‵, raw, later, some, _⊛_, ⋆, _$_, _∵_, !, qed, by, move, drop, use1, use2, split, pick, await, rewrite, fsplit, fjoin, feqI, suffices, frame, done, agg, whole, sub, look-in, look, init, forget, stop, hop, fld, from, load, lit, of-opd, and-then, no-more, addr, assigns, land, returns, enter, alloc1, alloc0, params1, pass1, pass0, free1, free0, fmOf, owns, Is, shows, shares, uint-makes, usize, u64, u32, RefT, sliceVal, MutSlice, ShrSlice, Room, slice-vals, mut-slice-tells, shr-slice-tells, Held, plain, only, owned, facts, heard, nothing, Vals, onEntry, Meets, tripleOf, Contract, Triple, calls-at, ensured, lasts, entered, cited, says, Stays, walkOf, ends-at, yes, R, typed, meets-by}
 use Rattle.marks.specs.Contracts.Marks.{marksIn}
 use Rattle.index.specs.declared.Record.{Record}
 use Rattle.index.specs.Contracts.Lists.{noRecord}
@@ -33,7 +33,7 @@ use Rattle.index.proofs.store_records.Symbol.{name as #index·store-records}
 use Rattle.index.proofs.store_records.Met as store-records-thm
 use Rattle.indexer.specs.declared.Told.{Told}
 use Rattle.indexer.specs.Answers.{Indexed}
-use Rattle.formatter.specs.Format.{document01}
+use Rattle.formatter.specs.Format.{ownRoom}
 use Rattle.indexer.specs.Indexing.{indexing}
 use Rattle.indexer.specs.Contracts.Noting.{Marked}
 use Rattle.indexer.proofs.Told as Tol
@@ -97,7 +97,7 @@ module _ {M : Type 1} (𝓤 : URA M) (H : Heap 𝓤) (A : Atoms 𝓤) (W : Given
 
   -- the answer, what `write_marked` ensures of it, and what is said at exit
   abbrev answer : Indexed
-  answer = indexing document01 (options .now) (notes .now) (length (output .now)) (length (index .now))
+  answer = indexing ownRoom (options .now) (notes .now) (length (output .now)) (length (index .now))
 
   abbrev Noted : List ℕ → ℕ → List ℕ → Told → Type 0
   Noted out′ filled′ ms t = Marked answer (length (index .now)) (output .now) out′ filled′ ms t

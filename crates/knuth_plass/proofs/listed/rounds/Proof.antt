@@ -1,0 +1,191 @@
+-- `knuth_plass::listed::rounds` meets its contract. Invariant: the rounds still to do, from the active breaks as they stand, come to what all rounds come to from the start.
+use mathlib.Core.Path.{_≡_, refl, _∙_}
+use mathlib.Core.Bool.{false}
+use mathlib.Core.List.{List}
+use Prim.Native.Nat.{ℕ, _≤_, _<_, _-_, _^_}
+use native.Mathlib.Omega.{arith}
+use lib.Ieee.{ofBits}
+use lib.ListN.{drop}
+use Rattle.records.specs.Word.{meaning}
+use Rattle.records.specs.Contracts.Table.{wordIn, wordsIn}
+use Rattle.knuth_plass.specs.KnuthPlass.{roundsFrom}
+use Rattle.knuth_plass.specs.Contracts.Table.{recordsPart, tableIn, activeIn}
+use Rattle.knuth_plass.specs.Contracts.Round.{Lent, Worked, RoundReady, standing, begin}
+use Rattle.knuth_plass.proofs.Work.{start-ready, start-rounds, part-room, part-home, worked-home, worked-none, worked-then, worked-lent, worked-word, round-home, behind-home, rounds-then}
+use Rattle.knuth_plass.proofs.Paragraph.{rounds-next, rounds-are}
+use Rattle.knuth_plass.proofs.listed.rounds.Statement.{statement}
+use Rattle.knuth_plass.proofs.listed.rounds.Tie as tie
+
+abbrev Inv-loop : tie.InvT-loop
+Inv-loop g work₀ n base end st₀ sentence₀ i₀ work st sentence i =
+    (1 ≤ i) × (i ≤ n) × Lent n work × Worked n work₀ work × RoundReady i st (tableIn (recordsPart n work)) (activeIn (recordsPart n work))
+    × ((notes : List ℕ)
+    → roundsFrom g sentence i (standing st (tableIn (recordsPart n work)) (activeIn (recordsPart n work))) (drop i (wordsIn notes n work₀))
+    ≡ roundsFrom g false 1 (begin g (meaning notes (wordIn work₀ 0))) (drop 1 (wordsIn notes n work₀)))
+
+abbrev μ-loop : tie.MeasureT-loop
+μ-loop g work₀ n base end st₀ sentence₀ i₀ work st sentence i = n - i
+
+mul-base : tie.Need-mul-base Inv-loop μ-loop
+mul-base c =
+    let f = c .before .pre .2 .few in let r = c .before .pre .2 .room in omega arith
+
+mul-end : tie.Need-mul-end Inv-loop μ-loop
+mul-end c =
+    let f = c .before .pre .2 .few in let r = c .before .pre .2 .room in omega arith
+
+get-requires : tie.Need-get-requires Inv-loop μ-loop
+get-requires c κs =
+    let n = c .before .before .pre .1 in let r = c .before .before .pre .2 .room in omega arith
+
+add-append : tie.Need-add-append Inv-loop μ-loop
+add-append c =
+    let f = c .before .before .before .before .before .pre .0 .first in let w = c .before .before .get .ensures .small .width in omega arith
+
+mul-append : tie.Need-mul-append Inv-loop μ-loop
+mul-append c =
+    let f = c .before .before .before .before .before .pre .2 .few in let r = c .before .before .before .before .before .pre .2 .room in omega arith
+
+sub-append : tie.Need-sub-append Inv-loop μ-loop
+sub-append c =
+    let f = c .before .before .before .before .before .pre .2 .few in let r = c .before .before .before .before .before .pre .2 .room in omega arith
+
+part-append-start : tie.Need-part-append-start Inv-loop μ-loop
+part-append-start c =
+    let f = c .before .before .before .before .before .pre .2 .few in let r = c .before .before .before .before .before .pre .2 .room in omega arith
+
+part-append-end : tie.Need-part-append-end Inv-loop μ-loop
+part-append-end c =
+    let f = c .before .before .before .before .before .pre .2 .few in let r = c .before .before .before .before .before .pre .2 .room in omega arith
+
+append-requires : tie.Need-append-requires Inv-loop μ-loop
+append-requires c κs =
+    let p = c .before .before .before .before .before .before .pre in
+    let a = c .before .before .before .before .before .before .args in
+    let w : c .before .before .before .get .result .width < 2 ^ 31 = rw (c .before .before .before .get .ensures .is) (p .3 0 (p .1)) in
+    let f = p .0 .first in
+    let some = p .1 in
+    let e = part-room (a .n) (a .work .now) (p .2) in
+    (rw e (omega arith), rw e (omega arith), omega arith, record { previous = omega arith; word = omega arith; columns = omega arith })
+
+loop-holds : tie.Need-loop-holds Inv-loop μ-loop
+unfolding ofBits
+loop-holds c =
+    let p = c .before .before .before .before .before .before .before .before .before .pre in
+    let a = c .before .before .before .before .before .before .before .before .before .args in
+    let narrow : c .before .before .before .before .before .before .get .result .width < 2 ^ 31 = rw (c .before .before .before .before .before .before .get .ensures .is) (p .3 0 (p .1)) in (
+      omega arith,
+      p .1,
+      worked-lent (a .n) (a .work .now) _ (worked-home (a .n) (a .work .now) (p .2) (c .before .before .append .last .0) _ (c .before .work .given .0) refl) (p .2),
+      worked-none (a .n) _,
+      start-ready (a .g) (a .n) (a .work .now) (p .2) (p .1) (p .0) (c .before .before .before .before .before .before .get .result) (c .before .before .before .before .before .before .get .ensures .is) narrow (c .before .before .append .last .0) _ (c .before .work .given .0) refl 0 refl (c .before .before .append .ensures .0) (c .before .before .append .ensures .1),
+      start-rounds (a .g) (a .n) (a .work .now) (p .2) (p .1) (p .0) (c .before .before .before .before .before .before .get .result) (c .before .before .before .before .before .before .get .ensures .is) narrow (c .before .before .append .last .0) _ (c .before .work .given .0) refl 0 refl (c .before .before .append .ensures .0) (c .before .before .append .ensures .1),
+    )
+
+get-requires-2 : tie.Need-get-requires-2 Inv-loop μ-loop
+get-requires-2 c κs =
+    let v = c .before .before .loop .inv in let r = v .2 .room in let t = c .before .loop-test .taken in omega arith
+
+add-round : tie.Need-add-round Inv-loop μ-loop
+add-round c =
+    let v = c .before .before .before .loop .inv in let f = v .2 .few in let t = c .before .before .loop-test .taken in omega arith
+
+mul-round : tie.Need-mul-round Inv-loop μ-loop
+mul-round c =
+    let v = c .before .before .before .loop .inv in let f = v .2 .few in let r = v .2 .room in omega arith
+
+sub-round : tie.Need-sub-round Inv-loop μ-loop
+sub-round c =
+    let v = c .before .before .before .loop .inv in let f = v .2 .few in let r = v .2 .room in omega arith
+
+part-round-start : tie.Need-part-round-start Inv-loop μ-loop
+part-round-start c =
+    let v = c .before .before .before .loop .inv in let f = v .2 .few in let r = v .2 .room in omega arith
+
+part-round-end : tie.Need-part-round-end Inv-loop μ-loop
+part-round-end c =
+    let v = c .before .before .before .loop .inv in let f = v .2 .few in let r = v .2 .room in omega arith
+
+round-requires : tie.Need-round-requires Inv-loop μ-loop
+round-requires c κs =
+    let p = c .before .before .before .before .before .before .before .before .before .before .before .before .before .before .pre in
+    let a = c .before .before .before .before .before .before .before .before .before .before .before .before .before .before .args in
+    let t = c .before .before .before .loop-test .taken in
+    let l = c .before .before .before .before .loop in
+    let v = l .inv in
+    let w = c .before .get2 .ensures in
+    let worked = worked-then (a .n) (a .work .now) _ (worked-home (a .n) (a .work .now) (p .2) (c .before .before .before .before .before .before .before .append .last .0) _ (c .before .before .before .before .before .before .work .given .0) refl) (l .work) (v .3) in
+    (p .0, rw (part-room (a .n) (l .work) (v .2)) t, w .small, rw (w .is, worked-word (a .n) (a .work .now) (l .work) worked (l .i) t) (p .3 _ t), v .4)
+
+sentence-behind-requires : tie.Need-sentence-behind-requires Inv-loop μ-loop
+sentence-behind-requires c κs =
+    let a = c .before .before .before .before .before .before .before .before .before .before .before .before .before .before .before .before .before .before .args in
+    let l = c .before .before .before .before .before .before .before .before .loop in
+    let v = l .inv in
+    let s = worked-home (a .n) (l .work) (v .2) (c .before .before .before .round .last .1 .1 .1 .1 .1 .1 .0) _ (c .before .before .work2 .given .0) refl in
+    let e = s .sized in
+    let r = v .2 .room in
+    (c .before .before .before .before .before .before .before .loop-test .taken, omega arith)
+
+add-i : tie.Need-add-i Inv-loop μ-loop
+add-i c =
+    let f = c .before .before .before .before .before .before .before .before .before .before .before .before .before .before .before .before .before .before .before .pre .2 .few in let t = c .before .before .before .before .before .before .before .before .loop-test .taken in omega arith
+
+loop-less : tie.Need-loop-less Inv-loop μ-loop
+loop-less c =
+    let t = c .before .before .before .before .before .before .before .before .loop-test .taken in omega arith
+
+loop-again : tie.Need-loop-again Inv-loop μ-loop
+loop-again c =
+    let a = c .before .before .before .before .before .before .before .before .before .before .before .before .before .before .before .before .before .before .before .args in
+    let l = c .before .before .before .before .before .before .before .before .before .loop in
+    let v = l .inv in
+    let t = c .before .before .before .before .before .before .before .before .loop-test .taken in
+    let next = worked-home (a .n) (l .work) (v .2) (c .before .before .before .before .round .last .1 .1 .1 .1 .1 .1 .0) _ (c .before .before .before .work2 .given .0) refl in
+    let home = part-home (a .n) (l .work) (v .2) (c .before .before .before .before .round .last .1 .1 .1 .1 .1 .1 .0) _ (c .before .before .before .work2 .given .0) refl in
+    let r = round-home (a .n) _ (l .work) _ _ (v .3) next home (l .i) t _ (c .before .before .before .before .before .before .get2 .ensures .is) _ _ _ _ _ _ _ (c .before .before .before .before .round .ensures) in
+    (omega arith, omega arith, worked-lent (a .n) (l .work) _ next (v .2), worked-then (a .n) _ (l .work) (v .3) _ next, r .ready, λ notes. rounds-next _ _ _ notes _ _ _ _ _ t (r .is notes) (behind-home (a .n) _ (l .work) _ _ (v .3) next home (l .i) t _ (c .before .before .before .before .before .before .get2 .ensures .is) notes _ (c .sentence-behind .ensures notes)) ∙ v .5 notes)
+
+same-length : tie.Need-same-length Inv-loop μ-loop
+same-length c =
+    let p = c .before .before .before .before .before .before .before .before .before .before .before .pre in let a = c .before .before .before .before .before .before .before .before .before .before .before .args in c .before .loop .inv .3 .sized ∙ (worked-home (a .n) (a .work .now) (p .2) (c .before .before .before .before .append .last .0) _ (c .before .before .before .work .given .0) refl) .sized
+
+returns : tie.Need-returns Inv-loop μ-loop
+returns c =
+    let p = c .before .before .before .before .before .before .before .before .before .before .before .pre in
+    let a = c .before .before .before .before .before .before .before .before .before .before .before .args in
+    let l = c .before .loop in
+    let v = l .inv in
+    let worked = worked-home (a .n) (a .work .now) (p .2) (c .before .before .before .before .append .last .0) _ (c .before .before .before .work .given .0) refl in
+    let few = part-room (a .n) (l .work) (v .2) in
+    (rounds-then (a .g) (a .n) (a .work .now) _ worked (p .1) _ _ _ (rounds-are (a .g) (a .n) (l .i) _ (tableIn (recordsPart (a .n) (l .work))) (activeIn (recordsPart (a .n) (l .work))) (l .st) (l .sentence) (v .1) (c .loop-test .left) (omega arith) (v .4) (v .5)), worked-then (a .n) (a .work .now) _ worked (l .work) (v .3))
+
+pub rounds-spec : {M : Type 1} → statement M
+rounds-spec =
+    tie.close
+    (tie.spec
+    Inv-loop
+    μ-loop
+    mul-base
+    mul-end
+    get-requires
+    add-append
+    mul-append
+    sub-append
+    part-append-start
+    part-append-end
+    append-requires
+    loop-holds
+    get-requires-2
+    add-round
+    mul-round
+    sub-round
+    part-round-start
+    part-round-end
+    round-requires
+    sentence-behind-requires
+    add-i
+    loop-less
+    loop-again
+    same-length
+    returns)
