@@ -64,7 +64,7 @@ bool options_accepted(const struct options *options) {
 void say_refusal(const char *name, const struct refusal *at) {
     switch (at->code) {
     case RUDIGNALS_LONG:
-        say(AT "more than %u bytes from here on are one paragraph or one line; part them by an empty line", name, at->line, at->column, (unsigned)MOST_LARGE);
+        say(AT "a paragraph or a line is too long: nothing in the %u bytes from here on shows where one ends; part it by an empty line", name, at->line, at->column, (unsigned)MOST_LARGE);
         break;
     case RUDIGNALS_TEXT:
         say(AT "byte %02X begins no UTF-8 character; --keep leaves such a line as it is", name, at->line, at->column,

@@ -185,7 +185,7 @@ def counts():
     last = b"x\n\n" * 35000 + b"\xe4\xb8\n" + b"x\n" * 24
     expect("many lines", counted(last), (well, ["x"] * 24, "70025 lines, 1 damaged; above: 70001 lines, 1 damaged"))
     whole = b"x" * 65535 + "三".encode() + b"\n"  # its bytes stand on both sides of what is asked about at once
-    expect("a character over a limit is whole", counted(whole)[2], "refused: 1 line, none damaged; above: 1 line, none damaged")
+    expect("a character over a limit is whole", counted(whole)[2], "1 line, none damaged; above: 1 line, none damaged")
 
 
 def formatted(folder):

@@ -4,7 +4,7 @@ import re
 from .calls import FMT, RUDIGNALS, expect, run
 
 DAMAGED = "begins no UTF-8 character; --keep leaves such a line as it is\n"
-LONG = "more than 1048576 bytes from here on are one paragraph or one line; part them by an empty line\n"
+LONG = "a paragraph or a line is too long: nothing in the 1048576 bytes from here on shows where one ends; part it by an empty line\n"
 HINT = "Try 'fmt --help'.\n"
 
 # options that are refused, and the words for it
@@ -47,7 +47,7 @@ REFUSED_NOTES = [
     (["--keep"], b"\xb0" * 1100000, "line 1, column 1: " + LONG),
     ([], b"x\n\nb\n" + b"a " * 524288 + b"\n", "line 3, column 1: " + LONG),
     (["--keep"], b"\xb0\n" + b"a\n" * 524289, "line 2, column 1: " + LONG),
-    (["-s"], b"a\n" * 2000 + b"a " * 524289, "line 2001, column 1: " + LONG),
+    (["-s"], b"a\n" * 2000 + b"a " * 524289, "line 2000, column 1: " + LONG),  # where a paragraph ends is seen by the line after it, and that one has no end
 ]
 
 # calls that are wrong, and the words for it
@@ -96,7 +96,7 @@ def helps():
         text = help_text(FMT, [asked], "Usage: fmt" + usage)
     for letter in "ctmsupPxXwgqThV":
         expect(f"--help tells of -{letter}", f"\n  -{letter}, --" in text, True)
-    for words in "--keep", "--glue", "--sentence-characters", "1048576\nbytes", "6 to 1000", "3 to 940", "255 bytes", "last value", "Exit status: 0":
+    for words in "--keep", "--glue", "--sentence-characters", "1048576 bytes", "6 to 1000", "3 to 940", "255 bytes", "last value", "Exit status: 0":
         expect(f"--help tells of {words}", words in text.replace("\n", " "), True)
 
 
