@@ -435,8 +435,8 @@ def faults(sight):
         alert = b.alert() is not None and b.ask("POST", "/alert/accept", {}) is None
         b.keys("ArrowDown", "ArrowDown")
         seen.append(alert or [sight.state()[i] for i in (0, 1, 2, 5)] != [[2], [1, 2], ["n1"], "2"])
-    for old, new in ((b"if (under > 0) scrollBy(0, Math.ceil(under + line.height / 2));", b""), (b"a.classList.toggle('m', columns(a.id - 1) > seen + .1);", b";"), (b"columns(a.id - 1) > seen + .1", b"columns(a.id - 1) > seen + 1.5"),
-                     (b"columns(a.id - 1) > seen + .1", b"columns(a.id - 1) > seen - 1.5"), (b"digest.classList.toggle('l', digest.scrollLeft > 0);", b""), (b"footer, .mouse { display: none; }", b""), (b".touch { display: inline; }", b""),
+    for old, new in ((b"if (under > 0) scrollBy(0, Math.ceil(under + line.height / 2));", b""), (b"a.classList.toggle('m', columns(a.id - lines[0].id) > seen + .1);", b";"), (b"columns(a.id - lines[0].id) > seen + .1", b"columns(a.id - lines[0].id) > seen + 1.5"),
+                     (b"columns(a.id - lines[0].id) > seen + .1", b"columns(a.id - lines[0].id) > seen - 1.5"), (b"digest.classList.toggle('l', digest.scrollLeft > 0);", b""), (b"footer, .mouse { display: none; }", b""), (b".touch { display: inline; }", b""),
                      (b"position: sticky; right: 0;", b""), (b"digest.addEventListener('scroll', edges);", b""), (b"max-height: 45vh; max-height: 45dvh;", b"")):
         seen.append(bool(on_phone(sight, sight.page("spoiled", [], TALL, tampered(old, new)))))
     print(f"page: faults put in the style and the script: {sum(seen)} of {len(seen)} seen", flush=True)
