@@ -197,7 +197,7 @@ def columns(command, tell):
 FAILURES = [
     ([], b"ok\n\n41\xb0C\nend\n", 1, "REFUSED", "line 3, column 3: byte B0 begins no UTF-8 character", (b"ok\n\n41\xb0C\nend\n", b"\xb0")),
     ([], b"x\n" * 9 + b"\xff\xff\n" + b"y\n" * 9, 1, "REFUSED", "line 10, column 1", (b"x\n" * 3 + b"\xff\xff\n" + b"y\n" * 3, b"\xff")),
-    ([], b"\n" + b"a " * 524289 + b"\n", 1, "REFUSED", "more than 1048576 bytes", None),
+    ([], b"\n" + b"a " * 524289 + b"\n", 1, "REFUSED", "nothing in the 1048576 bytes from here on", None),
     (["-w", "5"], b"a\n", 2, "REFUSED: there may be notes", "--width 5: must be 6 to 1000 without --goal", None),
     (["none"], b"", 1, "NOT READ", "none: No such file or directory", None),
     (["a", "b"], b"", 2, "NOT READ", "the page shows one file, and 2 are named", None),

@@ -18,6 +18,7 @@ use Rattle.walk.specs.Digest.{mostWords}
 use Rattle.formatter.specs.Answers.{Answer, done, options, room, work, code, value, numbered}
 use Rattle.formatter.specs.Format.{Words, upTo, lent, Limits, mostTold}
 use Rattle.formatter.specs.Work.{lending}
+use Rattle.walk.specs.Work.{workFor}
 use Rattle.formatter.proofs.Work.{Never, asked-notes}
 use Rattle.formatter.proofs.Answers.{Enough}
 use Rattle.formatter.proofs.Faults.{fault-small, accepted-small}
@@ -87,8 +88,8 @@ module _ (block notes : List ℕ) where
           → elim b as (λ t. Answer) [ true ↦ options (length block) | false ↦ sentNotes (lending more) other m notes ] ≡ work needed → (n ≡ needed) × (more < needed)
       go true j k = absurd (let z = ap code j in omega (arith, z))
       go false j k =
-          let a = asked-notes notes (λ d. sentIn (lending lends .words) space (flowed m notes)) (sent-never lends space m notes) lends m n j in
-          let b = asked-notes notes (λ d. sentIn (lending more .words) other (flowed m notes)) (sent-never more other m notes) more m needed k in
+          let a = asked-notes workFor notes (λ d. sentIn (lending lends .words) space (flowed m notes)) (sent-never lends space m notes) lends m n j in
+          let b = asked-notes workFor notes (λ d. sentIn (lending more .words) other (flowed m notes)) (sent-never more other m notes) more m needed k in
           (a .0 ∙ sym (b .0), b .1)
 
   pub the-room-asked-for-suffices-to-send : (lends space needed more other : ℕ) → flow (lending lends) block notes space ≡ work needed → needed ≤ more → (n : ℕ) → flow (lending more) block notes other ≡ work n → ⊥

@@ -19,7 +19,7 @@ use Rattle.walk.specs.Digest.{digest}
 use Rattle.walk.specs.Work.{workFor}
 use Rattle.walk.proofs.Work.{work-most}
 use Rattle.formatter.specs.Answers.{Answer, done, options, long, text, words, room, work, code, value}
-use Rattle.formatter.specs.Format.{withText, damageIn, withNotes, finding, mostTold, isTold, measuring, inRoom, writing}
+use Rattle.formatter.specs.Format.{lent, Limits, withText, damageIn, withNotes, finding, mostTold, isTold, measuring, inRoom, writing}
 use Rattle.formatter.specs.Work.{mostLent, lending}
 use Rattle.formatter.proofs.Together.{retold, measured-at-once}
 use Rattle.formatter.proofs.Values.{Sound}
@@ -33,21 +33,25 @@ lending-sound lends = record { short = omega arith; modest = λ o notes h. let w
 abbrev pub Never : (List ℕ → Answer) → Type 0
 Never then = (d : List ℕ) (n : ℕ) → then d ≡ work n → ⊥
 
+-- room is lent for notes and options that need so much
+abbrev pub lentFor : (Opts → List ℕ → ℕ) → ℕ → Limits
+lentFor need lends = record { bytes = mostLent; words = lent lends need }
+
 -- A call is refused for working room exactly when less is lent than is needed, and N is what is needed ..
-module _ (notes : List ℕ) (then : List ℕ → Answer) (never : Never then) (lends : ℕ) (o : Opts) where
-  work-asked : (b : Bool) (n : ℕ) → ltb lends (workFor o notes) ≡ b → elim b as (λ t. Answer) [ true ↦ work (workFor o notes) | false ↦ then (digest o notes) ] ≡ work n
-      → (n ≡ workFor o notes) × (lends < n)
-  work-asked true n t e = let z : workFor o notes ≡ n = ap value e in (sym z, rw (← z) (ltb-true lends (workFor o notes) t))
+module _ (need : Opts → List ℕ → ℕ) (notes : List ℕ) (then : List ℕ → Answer) (never : Never then) (lends : ℕ) (o : Opts) where
+  work-asked : (b : Bool) (n : ℕ) → ltb lends (need o notes) ≡ b → elim b as (λ t. Answer) [ true ↦ work (need o notes) | false ↦ then (digest o notes) ] ≡ work n
+      → (n ≡ need o notes) × (lends < n)
+  work-asked true n t e = let z : need o notes ≡ n = ap value e in (sym z, rw (← z) (ltb-true lends (need o notes) t))
   work-asked false n t e = absurd (never (digest o notes) n e)
 
-  asked-text : (f : Found) (n : ℕ) → withText (lending lends .words) then o notes f ≡ work n → (n ≡ workFor o notes) × (lends < n)
+  asked-text : (f : Found) (n : ℕ) → withText (lent lends need) then o notes f ≡ work n → (n ≡ need o notes) × (lends < n)
   asked-text (At place) n e = absurd (let z = ap code e in omega (arith, z))
-  asked-text Nowhere n e = work-asked (ltb lends (workFor o notes)) n refl e
+  asked-text Nowhere n e = work-asked (ltb lends (need o notes)) n refl e
 
-  pub asked-notes : (n : ℕ) → withNotes (lending lends) then o notes ≡ work n → (n ≡ workFor o notes) × (lends < n)
+  pub asked-notes : (n : ℕ) → withNotes (lentFor need lends) then o notes ≡ work n → (n ≡ need o notes) × (lends < n)
   asked-notes n e = go (ltb mostLent (length notes)) e
     where
-      go : (b : Bool) → elim b as (λ t. Answer) [ true ↦ long | false ↦ withText (lending lends .words) then o notes (damageIn (o .keep) notes) ] ≡ work n → (n ≡ workFor o notes) × (lends < n)
+      go : (b : Bool) → elim b as (λ t. Answer) [ true ↦ long | false ↦ withText (lent lends need) then o notes (damageIn (o .keep) notes) ] ≡ work n → (n ≡ need o notes) × (lends < n)
       go true k = absurd (let z = ap code k in omega (arith, z))
       go false k = asked-text (damageIn (o .keep) notes) n k
 
@@ -56,22 +60,29 @@ found-never : Never done
 found-never d n e = let z = ap code e in omega (arith, z)
 
 module _ (block notes : List ℕ) where
+  module _ (need : Opts → List ℕ → ℕ) where
+    pub asked-is-needed : (lends needed : ℕ) (o : Options) → readBlock block ≡ Accepted o → finding (lentFor need lends) block notes ≡ work needed → (needed ≡ need (meant block o) notes) × (lends < needed)
+    unfolding finding
+    asked-is-needed lends needed o b e = asked-notes need notes done found-never lends (meant block o) needed (rw b at e)
+
+    -- .. so a host that lends N is not refused so again ..
+    pub asked-suffices : (lends needed more : ℕ) → finding (lentFor need lends) block notes ≡ work needed → needed ≤ more → (n : ℕ) → finding (lentFor need more) block notes ≡ work n → ⊥
+    unfolding finding
+    asked-suffices lends needed more e h n f = go (readBlock block) refl
+      where
+        go : (b : Block) → readBlock block ≡ b → ⊥
+        go (Fault place) q = let z : options place ≡ work needed = rw q at e in let c = ap code z in omega (arith, c)
+        go (Accepted o) q =
+            let a = asked-is-needed lends needed o q e in
+            let b = asked-is-needed more n o q f in
+            omega (arith, a .0, b .0, b .1, h)
+
   pub the-room-asked-for-is-the-room-needed : (lends needed : ℕ) (o : Options) → readBlock block ≡ Accepted o → finding (lending lends) block notes ≡ work needed
       → (needed ≡ workFor (meant block o) notes) × (lends < needed)
-  unfolding finding
-  the-room-asked-for-is-the-room-needed lends needed o b e = asked-notes notes done found-never lends (meant block o) needed (rw b at e)
+  the-room-asked-for-is-the-room-needed = asked-is-needed workFor
 
-  -- .. so a host that lends N is not refused so again ..
   pub the-room-asked-for-suffices : (lends needed more : ℕ) → finding (lending lends) block notes ≡ work needed → needed ≤ more → (n : ℕ) → finding (lending more) block notes ≡ work n → ⊥
-  unfolding finding
-  the-room-asked-for-suffices lends needed more e h n f = go (readBlock block) refl
-    where
-      go : (b : Block) → readBlock block ≡ b → ⊥
-      go (Fault place) q = let z : options place ≡ work needed = rw q at e in let c = ap code z in omega (arith, c)
-      go (Accepted o) q =
-          let a = the-room-asked-for-is-the-room-needed lends needed o q e in
-          let b = the-room-asked-for-is-the-room-needed more n o q f in
-          omega (arith, a .0, b .0, b .1, h)
+  the-room-asked-for-suffices = asked-suffices workFor
 
   -- .. and N is never more than 8 numbers for each byte of the notes and one.
   pub no-more-is-asked-for : (lends needed : ℕ) → finding (lending lends) block notes ≡ work needed → needed ≤ 8 * (length notes + 1)

@@ -15,6 +15,7 @@ use Rattle.formatter.specs.Answers.{Answer, done as measured, options as faulty
 use Rattle.formatter.specs.Format.{Words, Limits, damageIn, withText, withBlock, finding, mostTold, isTold, measured as measuredAs, measuring}
 use Rattle.walk.proofs.Work.{work-half}
 use Rattle.formatter.proofs.Values.{Sound, found-value, found-told, reads-back}
+use Rattle.formatter.proofs.Work.{asked-suffices}
 use Rattle.index.specs.declared.Record.{Record}
 use Rattle.indexer.specs.Answers.{Indexed, done, options, long, text, words, full, room, work, code, value, numbered, filledAfter}
 use Rattle.indexer.specs.Indexing.{withOutput, withIndex, inIndex, indexWork, indexLending, indexUnder, indexing}
@@ -147,6 +148,35 @@ index-work-most o notes = go (o .quick) (work-half o notes)
 -- .. so N can be told.
 pub index-lending-sound : (lends : ℕ) → Sound (indexLending lends)
 index-lending-sound lends = record { short = omega arith; modest = λ o notes h. let w = index-work-most o notes in omega (arith, w, h) }
+
+-- With the room that the call asks for it is not refused so again, whatever the output and the records.
+module _ (block notes : List ℕ) where
+  told-never : (w : Words) (space records : ℕ) (index : List Record) (digest : List ℕ) (n : ℕ) → withIndex w space records index digest ≡ work n → ⊥
+  told-never w space records index digest n e = go (leb (length index) records) (isTold w (length digest)) (leb (length digest) space) e
+    where
+      go : (a b c : Bool) → cond a (cond b (cond c (done digest index) (room (length digest))) (room mostTold)) (full (length index)) ≡ work n → ⊥
+      go true true true k = let z = ap code k in omega (arith, z)
+      go true true false k = let z = ap code k in omega (arith, z)
+      go true false c k = let z = ap code k in omega (arith, z)
+      go false b c k = let z = ap code k in omega (arith, z)
+
+  indexed-found : (lends space records n : ℕ) → indexing (indexLending lends) block notes space records ≡ work n → finding (indexLending lends) block notes ≡ noWork n
+  unfolding indexing
+  indexed-found lends space records n e = go (finding (indexLending lends) block notes) e
+    where
+      go : (a : Answer) → inIndex (indexLending lends .words) space records (indexUnder block notes (readBlock block)) a ≡ work n → a ≡ noWork n
+      go (measured digest) k = absurd (told-never (indexLending lends .words) space records (indexUnder block notes (readBlock block)) digest n k)
+      go (faulty place) k = absurd (let z = ap code k in omega (arith, z))
+      go tooLong k = absurd (let z = ap code k in omega (arith, z))
+      go (damaged place) k = absurd (let z = ap code k in omega (arith, z))
+      go (manyWords place) k = absurd (let z = ap code k in omega (arith, z))
+      go (noRoom needed) k = absurd (let z = ap code k in omega (arith, z))
+      go (noWork needed) k = ap noWork (ap value k)
+
+  pub the-room-asked-for-suffices-to-index : (lends space records needed more other list : ℕ) → indexing (indexLending lends) block notes space records ≡ work needed → needed ≤ more
+      → (n : ℕ) → indexing (indexLending more) block notes other list ≡ work n → ⊥
+  the-room-asked-for-suffices-to-index lends space records needed more other list e h n f =
+      asked-suffices block notes indexWork lends needed more (indexed-found lends space records needed e) h n (indexed-found more other list n f)
 
 -- ---- what is told of an answer
 
