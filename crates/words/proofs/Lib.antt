@@ -7,6 +7,7 @@ pub mod Tabless
 pub mod NextWord
 pub mod LineEnds
 pub mod Filling
+pub mod Taking
 pub mod SpacedWords
 pub mod Rows
 pub mod Gaps

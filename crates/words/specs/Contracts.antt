@@ -3,3 +3,4 @@ pub mod Places
 pub mod Scan
 pub mod Split
 pub mod Spaced
+pub mod Taken

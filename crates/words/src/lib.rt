@@ -19,6 +19,7 @@ ghost use Rattle.words.specs.Places.{placesFrom};
 ghost use Rattle.words.specs.Contracts.Places.{wordsAt, placesAt};
 ghost use Rattle.words.specs.Contracts.Scan.{glyphsBehind, gapIn, gapBehind, noBlanks, OverBlanks, punctCode, gluedBytes, OverInk, asNumber, eightAt, Plain, OverPlain, InkBegins, OneSpace, wordAt, mailAt, wordsFrom, NextIs};
 ghost use Rattle.words.specs.Contracts.Split.{Kept, placesIn, WordsFilled, Split};
+ghost use Rattle.words.specs.Contracts.Taken.{TakenTo};
 ghost use Rattle.words.specs.Contracts.Spaced.{spaceBefore, plainInk, PlainWord, PlainBehind, EndsAt, SpacedTo};
 use options::Options;
 use records::Before;
@@ -53,6 +54,16 @@ struct Spaced {
     at: usize,
     first: bool,
     punct: bool,
+}
+
+// Words of a line, as many as there is room for: how many the table has with them, where they end, whether the first word of the line is
+// still to come, and if not, the mark of the last; and whether there is one more.
+pub struct Taken {
+    pub count: usize,
+    pub at: usize,
+    pub first: bool,
+    pub punct: bool,
+    pub more: bool,
 }
 
 // The next word of a line, or the line's end.
@@ -265,6 +276,31 @@ fn split_line(
     requires { ⌜ (start ≤ end) × (end ≤ length (now notes)) × (length (now notes) ≤ mostLarge) × (1 ≤ o .tab) × (o .tab ≤ 100) × Kept most (length (now notes)) n (now table) × (head ≡ true → while isBlank (inkGlyphs (o .glue) (slice start end (now notes))) ≡ []) ⌝ }
     ensures { λ r. ⌜ WordsFilled most (now (notes .entry)) (wordsIn (now (notes .entry)) n (now (table .entry)) ++ wordsFrom (meant [] o) mail head punct (glyphsBehind (o .glue) head (slice start end (now (notes .entry))))) (placesIn n (now (table .entry)) ++ placesFrom start (runs (glyphsBehind (o .glue) head (slice start end (now (notes .entry)))))) (now (table .exit)) r ⌝ }
 {
+    let r = split_some(notes, start, end, mail, head, punct, o, n, most, table);
+    if r.more {
+        return Count::TooMany;
+    }
+    Count::Words(r.count)
+}
+
+// The words of a line from start up to end, as many as there is room for after the first n of the table. All words are read in this loop,
+// so that `next_word` is made part of it.
+// In the original: `ParaWords::create_words`.
+pub fn split_some(
+    notes: &[u8],
+    start: usize,
+    end: usize,
+    mail: bool,
+    head: bool,
+    punct: bool,
+    o: Options,
+    n: usize,
+    most: usize,
+    table: &mut [u32],
+) -> Taken
+    requires { ⌜ (start ≤ end) × (end ≤ length (now notes)) × (length (now notes) ≤ mostLarge) × (1 ≤ o .tab) × (o .tab ≤ 100) × Kept most (length (now notes)) n (now table) × (head ≡ true → while isBlank (inkGlyphs (o .glue) (slice start end (now notes))) ≡ []) ⌝ }
+    ensures { λ r. ⌜ TakenTo most (meant [] o) mail (now (notes .entry)) start end head punct n (now (table .entry)) r (now (table .exit)) ⌝ }
+{
     let s = &notes[..end];
     let mut count = n;
     let mut at = start;
@@ -272,10 +308,22 @@ fn split_line(
     let mut previous = punct;
     loop {
         let Next::One(w) = next_word(s, at, mail, first, previous, o) else {
-            return Count::Words(count);
+            return Taken {
+                count,
+                at,
+                first,
+                punct: previous,
+                more: false,
+            };
         };
         if most <= count {
-            return Count::TooMany;
+            return Taken {
+                count,
+                at,
+                first,
+                punct: previous,
+                more: true,
+            };
         }
         records::store(table, count, w);
         count += 1;
@@ -284,6 +332,11 @@ fn split_line(
         previous = w.punct;
     }
 }
+
+// The numbers of a table for sixteen words, which go through it in their order.
+const WINDOW: usize = 112;
+
+const IN_WINDOW: usize = 16;
 
 // How many words a paragraph has, where no table is at hand to hold them: as many as `split_words` finds.
 pub fn count_words(
@@ -298,13 +351,38 @@ pub fn count_words(
     requires { ⌜ (at ≤ next) × (next ≤ length (now notes)) × (length (now notes) ≤ mostLarge) × (1 ≤ o .tab) × (o .tab ≤ 100) × (mail ≡ false → AllBegin (o .glue) start later (linesOf (slice at next (now notes)))) ⌝ }
     ensures { λ r. ⌜ ((block : List ℕ) → r ≡ length (wordsAt (meant block o) mail start later (linesOf (slice at next (now (notes .entry)))))) ⌝ }
 {
+    let mut table = [0u32; WINDOW];
+    count_lines(notes, at, next, mail, start, later, o, &mut table)
+}
+
+fn count_lines(
+    notes: &[u8],
+    at: usize,
+    next: usize,
+    mail: bool,
+    start: usize,
+    later: usize,
+    o: Options,
+    table: &mut [u32],
+) -> usize
+    requires { ⌜ (at ≤ next) × (next ≤ length (now notes)) × (length (now notes) ≤ mostLarge) × (1 ≤ o .tab) × (o .tab ≤ 100) × (mail ≡ false → AllBegin (o .glue) start later (linesOf (slice at next (now notes)))) × Holds 16 (now table) ⌝ }
+    ensures { λ r. ⌜ ((block : List ℕ) → r ≡ length (wordsAt (meant block o) mail start later (linesOf (slice at next (now (notes .entry)))))) ⌝ }
+{
     let part = &notes[..next];
     let mut i = at;
     let mut n = 0;
     let mut skip = start;
     while i < next {
         let line = lines::first_line(&part[i..]);
-        n = count_line(notes, begin(mail, i, skip), i + line.text, mail, o, n);
+        n = count_line(
+            notes,
+            begin(mail, i, skip),
+            i + line.text,
+            mail,
+            o,
+            n,
+            table,
+        );
         i += line.whole;
         skip = later;
     }
@@ -312,23 +390,33 @@ pub fn count_words(
 }
 
 // The words of a line from start up to end, and n more.
-fn count_line(notes: &[u8], start: usize, end: usize, mail: bool, o: Options, n: usize) -> usize
-    requires { ⌜ (start ≤ end) × (end ≤ length (now notes)) × (length (now notes) ≤ mostLarge) × (1 ≤ o .tab) × (o .tab ≤ 100) × (n ≤ start) × (mail ≡ false → while isBlank (inkGlyphs (o .glue) (slice start end (now notes))) ≡ []) ⌝ }
+fn count_line(
+    notes: &[u8],
+    start: usize,
+    end: usize,
+    mail: bool,
+    o: Options,
+    n: usize,
+    table: &mut [u32],
+) -> usize
+    requires { ⌜ (start ≤ end) × (end ≤ length (now notes)) × (length (now notes) ≤ mostLarge) × (1 ≤ o .tab) × (o .tab ≤ 100) × (n ≤ start) × (mail ≡ false → while isBlank (inkGlyphs (o .glue) (slice start end (now notes))) ≡ []) × Holds 16 (now table) ⌝ }
     ensures { λ r. ⌜ (r ≡ n + length (wordsFrom (meant [] o) mail (not mail) false (glyphsBehind (o .glue) (not mail) (slice start end (now (notes .entry)))))) × (r ≤ end) ⌝ }
 {
-    let s = &notes[..end];
     let mut count = n;
     let mut at = start;
     let mut first = !mail;
-    let mut previous = false;
+    let mut punct = false;
     loop {
-        let Next::One(w) = next_word(s, at, mail, first, previous, o) else {
+        let r = split_some(
+            notes, at, end, mail, first, punct, o, 0, IN_WINDOW, table,
+        );
+        count += r.count;
+        if !r.more {
             return count;
-        };
-        count += 1;
-        at = w.end;
-        first = false;
-        previous = w.punct;
+        }
+        at = r.at;
+        first = r.first;
+        punct = r.punct;
     }
 }
 
