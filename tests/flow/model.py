@@ -216,9 +216,9 @@ def flowed_piece(piece, o):
     return sent, dashes
 
 
-def flow(o, notes, room):
+def flow(o, notes, room, most_bytes=MOST_BYTES, most_words=MOST_WORDS):
     """Code, N, the output afterwards (None if it is unchanged) and the count of dashes, for a block that is accepted and not refused."""
-    if len(notes) > MOST_BYTES:
+    if len(notes) > most_bytes:
         return 2, 0, None, 0
     if not o.keep:
         at = 0
@@ -229,7 +229,7 @@ def flow(o, notes, room):
             at += found[1]
     sent, dashes = b"", 0
     for piece in pieces(notes, o):
-        if isinstance(piece, list) and sum(map(len, piece[2])) > MOST_WORDS:
+        if isinstance(piece, list) and sum(map(len, piece[2])) > most_words:
             return 4, piece[0], bytes(room), 0
         text, count = flowed_piece(piece, o)
         sent, dashes = sent + text, dashes + count

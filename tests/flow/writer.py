@@ -3,8 +3,9 @@
 
 By hand, on generated notes and on bytes of any kind, with varied options; with all the room that is needed, with one byte less, with none and
 with more. The output, the bytes around it and the count of lines `--` are compared whole, on refusals too; so are the blocks that the writer
-refuses. What was written is read by the library's reader, and must come back as the model reads it. Before that, rules changed on purpose must
-be seen. Exit: 0 no difference, 1 a difference.
+refuses. What was written is read by the library's reader, and must come back as the model reads it. The same notes, and longer ones, are written
+in lent room: with none, with what code 12 asks for, with a number less, and with what is always enough. Before that, rules changed on purpose
+must be seen, and faults put in after the large call. Exit: 0 no difference, 1 a difference.
 """
 import ctypes
 import sys
@@ -25,14 +26,24 @@ class Writer:
         part = [ctypes.c_char_p, ctypes.c_size_t]
         self.call.argtypes = part + part + [ctypes.c_void_p, ctypes.c_size_t, ctypes.POINTER(ctypes.c_uint64)]
         self.read.argtypes = part + [ctypes.c_void_p, ctypes.c_size_t]
-        self.calls = 0
+        self.lent = library.rudignals_flow_large
+        self.lent.restype, self.lent.argtypes = ctypes.c_uint64, self.call.argtypes + [ctypes.c_void_p, ctypes.c_size_t]
+        self.calls, self.fault = 0, None
 
-    def __call__(self, block, notes, room):
-        """Code, N, the output afterwards, between its edges, and the count."""
+    def __call__(self, block, notes, room, numbers=None):
+        """Code, N, the output afterwards, between its edges, and the count; with so many numbers lent, which lie between edges too."""
         before = b"\xa5" * (room + 2 * EDGE)
         held, dashes = ctypes.create_string_buffer(before, len(before)), ctypes.c_uint64(77)
         self.calls += 1
-        answer = self.call(block, len(block), notes, len(notes), ctypes.addressof(held) + EDGE if room else None, room, ctypes.byref(dashes))
+        given = block, len(block), notes, len(notes), ctypes.addressof(held) + EDGE if room else None, room, ctypes.byref(dashes)
+        if numbers is None:
+            answer = self.call(*given)
+        else:
+            work = ctypes.create_string_buffer(4 * numbers + 2 * EDGE)
+            answer = self.lent(*given, ctypes.addressof(work) + EDGE if numbers else None, numbers)
+            if work.raw[:EDGE] + work.raw[EDGE + 4 * numbers :] != bytes(2 * EDGE):
+                raise SystemExit(f"writer: {notes[:200]!r}, {numbers} numbers: written beside the lent room")
+            answer += self.fault is not None and answer >> 32 == self.fault
         after = held.raw
         if after[:EDGE] != before[:EDGE] or after[EDGE + room :] != before[:EDGE]:
             raise SystemExit(f"writer: {notes!r}, room {room}: written beside the output")
@@ -88,8 +99,8 @@ def refused_blocks(rng):
     yield number(1, 4) + bytes([rng.randrange(7, 256)]) + b"\0\0", 5
 
 
-def expected(o, notes, room):
-    code, value, output, dashes = model.flow(o, notes, room)
+def expected(o, notes, room, *limits):
+    code, value, output, dashes = model.flow(o, notes, room, *limits)
     return code, value, (b"" if output is None else output) + b"\xa5" * (room - len(output or b"")), dashes
 
 
@@ -101,6 +112,38 @@ def compare(write, block, o, notes):
         if got != want:
             return f"block {block.hex()}, {notes[:200]!r}, room {room}: {str(got)[:300]}, the model {str(want)[:300]}"
     return None
+
+
+LARGE = 1048576, 1 << 30  # RULES 19: the most bytes; words without a limit
+
+
+def compare_lent(write, block, o, notes):
+    """The same in lent room: what code 12 asks for is enough, a number less is not, and is asked for again."""
+    code, size, _, _ = model.flow(o, notes, 1 << 26, *LARGE)
+    size = size if code == 0 else 40
+    always = 8 * (len(notes) + 1) if len(notes) <= LARGE[0] else 16
+    asked, need, output, dashes = write(block, notes, size, 0)
+    if asked != 12:
+        need = 0
+    elif code or need > always or output != b"\xa5" * size or dashes:
+        return f"block {block.hex()}, {notes[:200]!r}: 12 and {need}, the model {code}"
+    elif not any(isinstance(piece, list) for piece in model.pieces(notes, o)):
+        return f"block {block.hex()}, {notes[:200]!r}: 12 without a paragraph"
+    for room in {size, max(size - 1, 0)}:
+        want = expected(o, notes, room, *LARGE)
+        tried = [(need, want), (always, want)] + ([(need - 1, (12, need, b"\xa5" * room, 0))] if need else [])
+        for numbers, right in tried:
+            got = write(block, notes, room, numbers)
+            if got != right:
+                return f"block {block.hex()}, {notes[:200]!r}, room {room}, {numbers} numbers lent: {str(got)[:300]}, the model {str(right)[:300]}"
+    return None
+
+
+def longer(rng, notes):
+    """Notes that the small call refuses: a paragraph of over 1,024 words, or over 65,536 bytes."""
+    if rng.random() < 0.5:
+        return b"x " * rng.randrange(1000, 3000) + b"\n" + notes
+    return (notes + b"\n") * (rng.choice([66000, 200000, LARGE[0]]) // (len(notes) + 1) + 1)
 
 
 NARROW = number(2, 10), model.Options(width=10)
@@ -168,6 +211,33 @@ def refusals(write, rng):
     return count
 
 
+def lent(write, rng, count):
+    """The large call: faults put in after it are seen, then at its limits and on generated notes. How many were compared."""
+    block, o = NARROW
+    faults = [(0, b"a b\n"), (5, b"a b\n"), (12, b"a b\n"), (3, b"\xff"), (2, b"x" * (LARGE[0] + 1))]
+    for code, notes in faults:
+        write.fault = code
+        if not compare_lent(write, block, o, notes):
+            raise SystemExit(f"writer: a fault in the large call's answer {code} is not seen")
+    write.fault = None
+    print(f"writer: {len(faults)} of {len(faults)} faults after the large call seen")
+    at_limits = [b"a " * 1025, b"b\n" + b"a " * 1025, b"x" * LARGE[0], b"x" * (LARGE[0] + 1), b"\n" * LARGE[0], b"a " * 100000]
+    given = [*at_limits, *(notes for notes in HAND if len(notes) < 65000)]
+    for notes in given:
+        fault = compare_lent(write, block, o, notes)
+        if fault:
+            raise SystemExit(f"writer: {fault}")
+    for number_of in range(count):
+        block, o = options(rng)
+        notes = texts.notes(rng)
+        if number_of % 400 == 399:
+            notes = longer(rng, notes)
+        fault = compare_lent(write, block, o, notes)
+        if fault:
+            raise SystemExit(f"writer: large, notes {number_of}: {fault}")
+    return len(given) + count
+
+
 def main():
     write = Writer(sys.argv[1])
     seed, count = (int(a) for a in (sys.argv[2:] + ["2026", "20000"][len(sys.argv) - 2 :]))
@@ -201,6 +271,8 @@ def main():
             dashes += made
         refused += code == 3
         total += len(notes)
+    small = write.calls
+    print(f"writer: {lent(write, rng, count)} notes in lent room, {write.calls - small} of the calls below, no difference")
     print(f"writer: {len(HAND) + len(HAND_PLAIN)} notes by hand; {count} generated, {total} bytes, {write.calls} calls, {dashes} lines `--`, {refused} refused, no difference")
 
 

@@ -128,12 +128,13 @@ fn big(r: &mut Rng) -> Asked {
     (opts.block(), notes)
 }
 
-pub fn run(seed: u64, count: usize, tamper: &'static str) -> i32 {
+/// Every so many cases a big one; the others are as for the small calls.
+pub fn run(seed: u64, count: usize, tamper: &'static str, every: usize) -> i32 {
     let (mut large, mut original, mut r) = (Large::new(tamper), Original::new(), Rng(seed));
     let (mut calls, mut codes, mut differ, mut words, mut bytes) = (0u64, [0u64; 13], 0, 0, 0);
     let mut small = random(seed);
     for case in 0..count {
-        let asked = if case % 50 == 0 { big(&mut r) } else { small.next().unwrap().1 };
+        let asked = if case % every == 0 { big(&mut r) } else { small.next().unwrap().1 };
         let (expected, need) = original.large(&asked.0, &asked.1);
         words = words.max(need / 7);
         bytes = bytes.max(asked.1.len());

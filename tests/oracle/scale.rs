@@ -297,8 +297,9 @@ fn main() {
         }
         ["large", seed, count, ref more @ ..] => {
             let tamper = large::TAMPERS.iter().find(|t| **t == *more.first().unwrap_or(&"none"));
-            match (seed.parse(), count.parse(), tamper) {
-                (Ok(seed), Ok(count), Some(tamper)) => large::run(seed, count, tamper),
+            let every = more.get(1).unwrap_or(&"50").parse();
+            match (seed.parse(), count.parse(), tamper, every) {
+                (Ok(seed), Ok(count), Some(tamper), Ok(every)) if every > 0 => large::run(seed, count, tamper, every),
                 _ => usage(),
             }
         }
