@@ -143,7 +143,7 @@ def longer(rng, notes):
     """Notes that the small call refuses: a paragraph of over 1,024 words, or over 65,536 bytes."""
     if rng.random() < 0.5:
         return b"x " * rng.randrange(1000, 3000) + b"\n" + notes
-    return (notes + b"\n") * (rng.choice([66000, 200000, LARGE[0]]) // (len(notes) + 1) + 1)
+    return (notes + b"\n") * (rng.choice([66000, 100000, 200000]) // (len(notes) + 1) + 1)
 
 
 NARROW = number(2, 10), model.Options(width=10)
@@ -221,7 +221,7 @@ def lent(write, rng, count):
             raise SystemExit(f"writer: a fault in the large call's answer {code} is not seen")
     write.fault = None
     print(f"writer: {len(faults)} of {len(faults)} faults after the large call seen")
-    at_limits = [b"a " * 1025, b"b\n" + b"a " * 1025, b"x" * LARGE[0], b"x" * (LARGE[0] + 1), b"\n" * LARGE[0], b"a " * 100000]
+    at_limits = [b"a " * 1025, b"b\n" + b"a " * 1025, b"x" * LARGE[0], b"x" * (LARGE[0] + 1), b"\n" * 100000, b"a " * 100000]
     given = [*at_limits, *(notes for notes in HAND if len(notes) < 65000)]
     for notes in given:
         fault = compare_lent(write, block, o, notes)
