@@ -2,11 +2,12 @@
 use mathlib.Core.Path.{_≡_, refl, sym, ap, _∙_}
 use mathlib.Core.Bool.{Bool, true, false, cond}
 use mathlib.Core.List.{List, [], _∷_}
-use Prim.Native.Nat.{ℕ, _+_, _*_, _/_, _≤_, _<_}
-use native.Mathlib.Nat.{add-mul, div-add-mod'}
+use Prim.Native.Nat.{ℕ, zero, suc, _+_, _-_, _*_, _/_, _≤_, _<_}
+use native.Mathlib.Nat.{add-zero, add-mul, div-add-mod'}
+use native.Mathlib.Numerals.{add-one}
 use native.Mathlib.Omega.{arith}
 use lib.Dec.{ltb, eqb}
-use lib.ListN.{length, drop, length-drop}
+use lib.ListN.{length, getD, drop, length-drop}
 use borrow.Author.Tests.{ltb-true, ltb-false, eq-eqb, ne-eqb}
 use Rattle.lists.specs.Runs.{while, behind}
 use Rattle.lists.proofs.Runs.{while-more, while-end, behind-more, behind-end}
@@ -151,16 +152,28 @@ module _ {glue : Bool} {tab : ℕ} {s : List ℕ} {at : ℕ} where
     after = omega (arith, i .after, i .within);
   }
 
--- one space, and no blank after it
-space-here : (s : List ℕ) (at : ℕ) → OneSpace s at → Here true s at 32 (at + 1)
+-- spaces, and no blank after them
+space-here : (s : List ℕ) (at : ℕ) → at < length s → getD s at 0 ≡ 32 → Here true s at 32 (at + 1)
 unfolding whiteSpace
-space-here s at o = rw (o .space) at (ascii-here s at (omega (arith, o .behind .within)) (omega (arith, o .space)))
+space-here s at h e = rw e at (ascii-here s at h (omega (arith, e)))
 
+module _ {glue : Bool} {tab : ℕ} {s : List ℕ} {at : ℕ} (few : tab ≤ 100) where
+  spaces-left : (k : ℕ) → at + k ≤ length s → ((i : ℕ) → at ≤ i → i < at + k → getD s i 0 ≡ 32) → BlanksLeft glue tab s at (record { end = at + k; before = Absent; after = k })
+  spaces-left zero h each = rw (add-zero at) (blanks-first (omega arith))
+  spaces-left (suc k) h each =
+      blanks-more (record { end = at + k; before = Absent; after = k }) (record { end = at + suc k; before = Absent; after = suc k }) (spaces-left k (omega arith) (λ i x y. each i x (omega arith))) few
+      (space-here s (at + k) (omega arith) (each (at + k) (omega arith) (omega arith))) (omega arith) (rw (← add-one k) (gap-other tab 32 Absent k (λ e. absurd (omega arith))))
+
+pub blanks-spaces : {glue : Bool} {tab : ℕ} {s : List ℕ} {at : ℕ} (end : ℕ) → at ≤ end → ((i : ℕ) → at ≤ i → i < end → getD s i 0 ≡ 32) → InkBegins s end → tab ≤ 100 → OverBlanks glue tab false s at (record { end = end; before = Absent; after = end - at })
+blanks-spaces {glue} {tab} {s} {at} end on each ink few =
+    let z : at + (end - at) ≡ end = omega arith in
+    blanks-done (record { end = end; before = Absent; after = end - at }) (rw z at (spaces-left {glue = glue} {s = s} {at = at} few (end - at) (rw z (omega (arith, ink .within))) (λ i x y. each i x (omega arith)))) (no-blank-begins glue s end ink)
+
+-- one of them
 pub blanks-one : {glue : Bool} {tab : ℕ} {s : List ℕ} {at : ℕ} → OneSpace s at → tab ≤ 100 → OverBlanks glue tab false s at (record { end = at + 1; before = Absent; after = 1 })
 blanks-one {glue} {tab} {s} {at} o few =
-    let left : BlanksLeft glue tab s at (record { end = at + 1; before = Absent; after = 1 }) =
-    blanks-more (record { end = at; before = Absent; after = 0 }) (record { end = at + 1; before = Absent; after = 1 }) (blanks-first (omega (arith, o .behind .within))) few (space-here s at o) refl refl in
-    blanks-done (record { end = at + 1; before = Absent; after = 1 }) left (no-blank-begins glue s (at + 1) (o .behind))
+    let z : at + 1 - at ≡ 1 = omega arith in
+    rw z at (blanks-spaces {glue = glue} {tab = tab} {s = s} {at = at} (at + 1) (omega arith) (λ i x y. let e : i ≡ at = omega arith in rw e (o .space)) (o .behind) few)
 
 -- no blank is before the first word of a line
 pub blanks-none : {glue : Bool} {tab : ℕ} {s : List ℕ} {at : ℕ} → at ≤ length s → while isBlank (inkGlyphs glue (drop at s)) ≡ [] → OverBlanks glue tab true s at (noBlanks at)

@@ -14,7 +14,7 @@ use Rattle.text.specs.Characters.{Glyph, glyph, characters, ordinary, glyphs, i
 use Rattle.text.specs.Contracts.Places.{settle, inkGlyphs}
 use Rattle.text.proofs.Glyphs.{bytes-of, characters-first}
 use Rattle.text.proofs.Glue.{settle-first}
-use Rattle.text.proofs.Edges.{ink-past}
+use Rattle.text.proofs.Edges.{glyphs-past, ink-past}
 use Rattle.options.specs.Opts.{Opts}
 use Rattle.lines.specs.Contracts.Places.{mostLarge}
 use Rattle.records.specs.Word.{meaning}
@@ -41,6 +41,16 @@ ink-some glue s at h =
     some : (t : Bool) → 0 < length (glyph (drop at s) .bytes) → 0 < length (cond t (ordinary (glyph (drop at s))) (glyph (drop at s)) .bytes)
     some true k = k
     some false k = k
+
+-- nothing is left of the line
+past-blanks : (glue newLine : Bool) (s : List ℕ) (at : ℕ) → length s ≤ at → behind isBlank (glyphsBehind glue newLine (drop at s)) ≡ []
+unfolding behind
+past-blanks glue true s at h = rw (ink-past glue s at h)
+past-blanks glue false s at h = rw (glyphs-past glue s at h)
+
+pub none-past : (o : Opts) (mail newLine previous : Bool) (s : List ℕ) (at : ℕ) → length s ≤ at
+    → (wordsFrom o mail newLine previous (glyphsBehind (o .glue) newLine (drop at s)) ≡ []) × (placesFrom at (runs (glyphsBehind (o .glue) newLine (drop at s))) ≡ [])
+none-past o mail newLine previous s at h = let e = past-blanks (o .glue) newLine s at h in (words-none o mail newLine previous _ e, places-none at _ e)
 
 module _ (o : Opts) (newLine : Bool) (s : List ℕ) (at : ℕ) (b : Blanks) (over : OverBlanks (o .glue) (o .tab) newLine s at b) where
   abbrev line : List Glyph

@@ -23,7 +23,7 @@ plain-here s at i e h k l = rw (e, ← plain-ink (getD s i 0) k l) (ascii-here s
 -- ---- a run, character by character
 
 -- what holds of the bytes before a place and of the byte there
-before-and-at : (P : ℕ → Type 0) (s : List ℕ) (from to : ℕ) → ((i : ℕ) → from ≤ i → i < to → P (getD s i 0)) → P (getD s to 0) → (i : ℕ) → from ≤ i → i < to + 1 → P (getD s i 0)
+pub before-and-at : (P : ℕ → Type 0) (s : List ℕ) (from to : ℕ) → ((i : ℕ) → from ≤ i → i < to → P (getD s i 0)) → P (getD s to 0) → (i : ℕ) → from ≤ i → i < to + 1 → P (getD s i 0)
 before-and-at P s from to all one i h k =
     ⊎-elim (λ (e : i ≡ to). rw e one) (λ (l : i < to). all i h l) (eq-or-lt-of-le (let g : i ≤ to = omega arith in g))
 

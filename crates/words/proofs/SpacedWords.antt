@@ -1,5 +1,5 @@
--- Words of plain characters, one space apart: each is the next word of its line, wherever that ends.
-use mathlib.Core.Path.{_≡_, refl}
+-- Words of plain characters, spaces apart: each is the next word of its line, wherever that ends.
+use mathlib.Core.Path.{_≡_, refl, ap}
 use mathlib.Core.Bool.{Bool, true, false, not, _||_, true≢false, false≢true}
 use mathlib.Core.Logic.{⊎-elim}
 use mathlib.Core.List.{List, _++_}
@@ -18,54 +18,54 @@ use Rattle.lines.specs.Lines.{firstLine}
 use Rattle.lines.specs.Contracts.Places.{mostLarge, lengthsOf}
 use Rattle.records.specs.Word.{Word}
 use Rattle.records.specs.Contracts.Table.{Small, withWord, wordsIn}
+use Rattle.records.specs.declared.Before.the-variants.{Absent}
 use Rattle.records.specs.declared.Word.{Word as Record}
 use Rattle.words.specs.Words.{runs}
 use Rattle.words.specs.Places.{placesFrom}
-use Rattle.words.specs.Contracts.Scan.{glyphsBehind, Plain, OverBlanks, OverInk, wordAt, wordsFrom, NextWord}
+use Rattle.words.specs.Contracts.Scan.{glyphsBehind, noBlanks, Plain, OverBlanks, OverInk, wordAt, wordsFrom, NextWord}
 use Rattle.words.specs.Contracts.Split.{Kept, placesIn, WordsFilled}
-use Rattle.words.specs.Contracts.Spaced.{spaceBefore, plainInk, PlainBehind, EndsAt, SpacedTo}
+use Rattle.words.specs.Contracts.Spaced.{SpacesBefore, plainInk, PlainBehind, EndsAt, SpacedTo}
+use Rattle.words.specs.declared.Blanks.{Blanks}
 use Rattle.words.specs.declared.Count.{Count}
 use Rattle.words.specs.declared.Spaced.{Spaced}
 use Rattle.words.proofs.InkRuns.{InkLeft, ink-first, ink-past, ink-stop}
 use Rattle.words.proofs.PlainRuns.{plain-here, ink-plain}
 use Rattle.lines.proofs.UsualBlanks.{ends-here, ends-word-here}
-use Rattle.words.proofs.BlankRuns.{blanks-none, blanks-one}
+use Rattle.words.proofs.BlankRuns.{blanks-none, blanks-spaces}
 use Rattle.words.proofs.NextWord.{next-line, next-small}
 use Rattle.words.proofs.LineEnds.{ends-later, line-ends}
 use Rattle.words.proofs.Filling.{Filling, filling-first, filling-more}
 
-pub space-on : (at : ℕ) (first : Bool) → (at ≤ spaceBefore at first .end) × (spaceBefore at first .end ≤ at + 1)
-space-on at true = (omega arith, omega arith)
-space-on at false = (omega arith, omega arith)
+here-moved : {t : List ℕ} {x y : ℕ} → x ≡ y → Here false t x (getD t x 0) (x + 1) → Here false t y (getD t y 0) (y + 1)
+here-moved e h = rw (← e) h
+
+as-counted : {glue : Bool} {tab : ℕ} {s : List ℕ} {at : ℕ} (b : Blanks) → b ≡ record { end = b .end; before = Absent; after = b .end - at } → OverBlanks glue tab false s at (record { end = b .end; before = Absent; after = b .end - at }) → OverBlanks glue tab false s at b
+as-counted b e o = rw e o
+
+as-none : {glue : Bool} {tab : ℕ} {s : List ℕ} {at : ℕ} {b : Blanks} → b ≡ noBlanks at → OverBlanks glue tab true s at (noBlanks at) → OverBlanks glue tab true s at b
+as-none e o = rw e o
+
+pub none-counted : (at : ℕ) → noBlanks at ≡ record { end = at; before = Absent; after = at - at }
+none-counted at = let z : at - at ≡ 0 = omega arith in rw z
 
 -- ---- one word, where the line's text ends at e
 
-module _ (s : List ℕ) (at e : ℕ) (line : EndsAt s at e) (first : Bool) (end : ℕ) (p : PlainBehind s at first end) where
+module _ (s : List ℕ) (at e : ℕ) (line : EndsAt s at e) (first : Bool) (b : Blanks) (end : ℕ) (p : PlainBehind s at first b end) where
   abbrev start : ℕ
-  start = spaceBefore at first .end
+  start = b .end
 
   -- a line feed or a carriage return stands there
   small : e < length s → getD s e 0 ≤ 13
   small h = ⊎-elim (λ (f : getD s e 0 ≡ 10). omega arith) (λ (r : (getD s e 0 ≡ 13) × (getD s (e + 1) 0 ≡ 10)). omega (arith, r .0)) (line .ends h)
 
-  -- so it is no byte of the word, nor the space before it
+  -- so it is no byte of the word, nor a space before it
   pub spaced-reaches : end ≤ e
-  spaced-reaches = pick (ltb e end) refl
+  spaced-reaches = pick (ltb e end) (ltb e start) refl refl
     where
-      no-space : (f : Bool) → (f ≡ false → (at < length s) × (getD s at 0 ≡ 32)) → Plain s (spaceBefore at f .end) end → e < end → ⊥
-      no-space true g r l = let h = small (omega (arith, r .within)) in let k = r .least e (line .on) l in omega arith
-      no-space false g r l = go (ltb at e) refl
-        where
-          go : (t : Bool) → ltb at e ≡ t → ⊥
-          go true q = let h = small (omega (arith, r .within)) in let k = r .least e (omega (arith, ltb-true at e q)) l in omega arith
-          go false q =
-              let z : e ≡ at = omega (arith, ltb-false at e q, line .on) in
-              let h = small (omega (arith, r .within)) in
-              omega (arith, rw z at h, g refl .1)
-
-      pick : (t : Bool) → ltb e end ≡ t → end ≤ e
-      pick true q = absurd (no-space first (p .space) (p .word .run) (ltb-true e end q))
-      pick false q = ltb-false e end q
+      pick : (t u : Bool) → ltb e end ≡ t → ltb e start ≡ u → end ≤ e
+      pick false u q r = ltb-false e end q
+      pick true true q r = let w = p .word .run .within in let h = small (omega (arith, ltb-true e end q)) in absurd (omega (arith, p .gap .over .spaces e (line .on) (ltb-true e start r)))
+      pick true false q r = let w = p .word .run .within in let h = small (omega (arith, ltb-true e end q)) in absurd (omega (arith, p .word .run .least e (ltb-false e start r) (ltb-true e end q)))
 
   text : List ℕ
   text = take e s
@@ -113,28 +113,32 @@ module _ (s : List ℕ) (at e : ℕ) (line : EndsAt s at e) (first : Bool) (end 
             let h : end < length text = rw size l in
             let c : (eqb (getD text end 0) 32 || eqb (getD text end 0) 9) ≡ true = rw (byte end l) b in
             ink-stop _ left (ends-here text end h c) (ends-word-here text end h glue c))
-            (λ (f : getD s end 0 ≡ 10). absurd (line .feedless end (omega (arith, p .word .some, space-on at first .0)) l f))
+            (λ (f : getD s end 0 ≡ 10). absurd (line .feedless end (omega (arith, p .word .some, p .gap .over .on)) l f))
             (p .word .ends (omega (arith, line .within)))
 
-    over-blanks : (tab : ℕ) → tab ≤ 100 → OverBlanks glue tab first text at (spaceBefore at first)
-    over-blanks tab few = pick first (p .space) begins (p .word .some)
+    over-blanks : (tab : ℕ) → tab ≤ 100 → OverBlanks glue tab first text at b
+    over-blanks tab few = pick first (p .gap)
       where
-        pick : (f : Bool) → (f ≡ false → (at < length s) × (getD s at 0 ≡ 32)) → Here false text (spaceBefore at f .end) (getD text (spaceBefore at f .end) 0) (spaceBefore at f .end + 1) → spaceBefore at f .end < end → OverBlanks glue tab f text at (spaceBefore at f)
-        pick true g h l = blanks-none (rw size (line .on)) (rw (ink-on glue text at h) (while-end isBlank _ _ (h .isBlank)))
-        pick false g h l =
+        pick : (f : Bool) → SpacesBefore s at f b → OverBlanks glue tab f text at b
+        pick true g =
+            let e = g .none refl in
+            let h = here-moved (ap (λ (x : Blanks). x .end) e) begins in
+            as-none e (blanks-none (rw size (line .on)) (rw (ink-on glue text at h) (while-end isBlank _ _ (h .isBlank))))
+        pick false g =
             let r = spaced-reaches in
-            blanks-one (record { space = rw (byte at (omega arith)) (g refl .1); behind = record { within = rw size (omega arith); ink = h .isBlank } }) few
+            let l = p .word .some in
+            as-counted b (g .counts) (blanks-spaces start (g .over .on) (λ i x y. rw (byte i (omega arith)) (g .over .spaces i x y)) (record { within = rw size (omega arith); ink = begins .isBlank }) few)
 
   pub spaced-next : (o : Opts) (previous : Bool) → o .tab ≤ 100
-      → NextWord o false first previous (take e s) at (wordAt (o .uniform) (o .characters) first previous at (spaceBefore at first) (plainInk s (spaceBefore at first .end) end))
+      → NextWord o false first previous (take e s) at (wordAt (o .uniform) (o .characters) first previous at b (plainInk s start end))
   unfolding text
-  spaced-next o previous few = next-line o first text at (spaceBefore at first) (over-blanks (o .glue) (o .tab) few) (plainInk s start end) (over-ink (o .glue)) (let h = spaced-reaches in let l = p .word .some in rw size (omega arith)) previous
+  spaced-next o previous few = next-line o first text at b (over-blanks (o .glue) (o .tab) few) (plainInk s start end) (over-ink (o .glue)) (let h = spaced-reaches in let l = p .word .some in rw size (omega arith)) previous
 
 -- ---- in the table
 
 -- a plain word of the notes before next: w is its record, after the first n of the table
-module _ (o : Opts) (notes : List ℕ) (next at : ℕ) (first previous : Bool) (stop : ℕ) (w : Record) (fits : next ≤ length notes) (few : o .tab ≤ 100) (p : PlainBehind (take next notes) at first stop)
-    (is : w ≡ wordAt (o .uniform) (o .characters) first previous at (spaceBefore at first) (plainInk (take next notes) (spaceBefore at first .end) stop)) where
+module _ (o : Opts) (notes : List ℕ) (next at : ℕ) (first previous : Bool) (b : Blanks) (stop : ℕ) (w : Record) (fits : next ≤ length notes) (few : o .tab ≤ 100) (p : PlainBehind (take next notes) at first b stop)
+    (is : w ≡ wordAt (o .uniform) (o .characters) first previous at b (plainInk (take next notes) (b .end) stop)) where
   ends-there : w .end ≡ stop
   ends-there = rw is
 
@@ -143,7 +147,7 @@ module _ (o : Opts) (notes : List ℕ) (next at : ℕ) (first previous : Bool) (
   spaced-word {end} line =
       let sized : length (take next notes) ≡ next = length-take-le next notes fits in
       let cut : take end (take next notes) ≡ take end notes = take-take end next notes (omega (arith, line .within)) in
-      rw (is, ← cut) (spaced-next (take next notes) at end line first stop p o previous few)
+      rw (is, ← cut) (spaced-next (take next notes) at end line first b stop p o previous few)
 
   module _ {most n : ℕ} {t : List ℕ} (more : n < most) (kept : Kept most (length notes) n t) where
     spaced-filling : {end : ℕ} → EndsAt (take next notes) at end → {whole : List Word} {ps : List ℕ}
@@ -168,7 +172,7 @@ module _ (o : Opts) (notes : List ℕ) (next at : ℕ) (first previous : Bool) (
         let here = ends-later line on (to .to) in
         let g = spaced-filling here (record { words = to .words; places = to .places; kept = kept }) in
         record {
-          to = omega (arith, ends-there, spaced-reaches (take next notes) at end here first stop p);
+          to = omega (arith, ends-there, spaced-reaches (take next notes) at end here first b stop p);
           words = g .words;
           places = g .places;
           ink = λ a b. absurd (false≢true b);

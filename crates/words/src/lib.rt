@@ -20,7 +20,7 @@ ghost use Rattle.words.specs.Contracts.Places.{wordsAt, placesAt};
 ghost use Rattle.words.specs.Contracts.Scan.{glyphsBehind, gapIn, gapBehind, noBlanks, OverBlanks, punctCode, gluedBytes, OverInk, asNumber, eightAt, Plain, OverPlain, InkBegins, OneSpace, wordAt, mailAt, wordsFrom, NextIs};
 ghost use Rattle.words.specs.Contracts.Split.{Kept, placesIn, WordsFilled, Split};
 ghost use Rattle.words.specs.Contracts.Taken.{TakenTo};
-ghost use Rattle.words.specs.Contracts.Spaced.{spaceBefore, plainInk, PlainWord, PlainBehind, EndsAt, SpacedTo};
+ghost use Rattle.words.specs.Contracts.Spaced.{OverSpaces, SpacesBefore, plainInk, PlainWord, EndsAt, SpacedTo};
 use options::Options;
 use records::Before;
 use records::Word;
@@ -47,7 +47,7 @@ struct Ink {
     punct: bool,
 }
 
-// Words one space apart: how many the table has with them, where they end, whether the first word of the line is still to come, and if not,
+// Words spaces apart: how many the table has with them, where they end, whether the first word of the line is still to come, and if not,
 // the mark of the last.
 struct Spaced {
     count: usize,
@@ -130,7 +130,7 @@ fn begin(mail: bool, line: usize, start: usize) -> usize
     if mail { line } else { line + start }
 }
 
-// The words of plain characters at the start of a line's words, one space apart, after the first n of the table: as many as there are, or
+// The words of plain characters at the start of a line's words, spaces apart, after the first n of the table: as many as there are, or
 // as it has room for. So the line's end need not be known: none of their bytes is a line feed, and each of them ends at a blank or there.
 // In mail there are none.
 // In the original: `WordSplit::next`.
@@ -159,14 +159,14 @@ fn spaced_words(
     }
     loop {
         let at = r.at;
-        let end = plain_word(s, at, r.first);
+        let b = spaces_before(s, at, r.first);
+        let end = plain_word_end(s, b.end);
         if end == 0 {
             return r;
         }
         if most <= r.count {
             return r;
         }
-        let b = space_before(at, r.first);
         let w = word_of(
             o.uniform,
             o.characters,
@@ -186,10 +186,10 @@ fn spaced_words(
     }
 }
 
-// No blank is before the first word of a line, and one space before another.
-fn space_before(at: usize, first: bool) -> Blanks
-    requires { ⌜ at ≤ mostLarge ⌝ }
-    ensures { λ r. ⌜ r ≡ spaceBefore at first ⌝ }
+// The spaces before a word at a place: none before the first of a line.
+fn spaces_before(s: &[u8], at: usize, first: bool) -> Blanks
+    requires { ⌜ at ≤ length (now s) ⌝ }
+    ensures { λ r. ⌜ SpacesBefore (now (s .entry)) at first r ⌝ }
 {
     if first {
         return Blanks {
@@ -198,28 +198,27 @@ fn space_before(at: usize, first: bool) -> Blanks
             after: 0,
         };
     }
+    let end = over_spaces(s, at);
     Blanks {
-        end: at + 1,
+        end,
         before: Before::Absent,
-        after: 1,
+        after: end - at,
     }
 }
 
-// The end of the plain word at a place, which is the first of its line or is after one space; 0 if there is none.
-fn plain_word(s: &[u8], at: usize, first: bool) -> usize
-    requires { ⌜ (at ≤ length (now s)) × (length (now s) ≤ mostLarge) ⌝ }
-    ensures { λ r. ⌜ (0 < r → PlainBehind (now (s .entry)) at first r) ⌝ }
+// On over the spaces at a place.
+fn over_spaces(s: &[u8], at: usize) -> usize
+    requires { ⌜ at ≤ length (now s) ⌝ }
+    ensures { λ r. ⌜ OverSpaces (now (s .entry)) at r ⌝ }
 {
-    if first {
-        return plain_word_end(s, at);
+    let mut i = at;
+    while i < s.len() {
+        if s[i] != 32 {
+            return i;
+        }
+        i += 1;
     }
-    if s.len() <= at {
-        return 0;
-    }
-    if s[at] != 32 {
-        return 0;
-    }
-    plain_word_end(s, at + 1)
+    i
 }
 
 // The end of the plain word that begins at a place: a space, a tab or a line feed stands there, or nothing. 0 if there is none, or if it goes
@@ -276,6 +275,10 @@ fn split_line(
     requires { ⌜ (start ≤ end) × (end ≤ length (now notes)) × (length (now notes) ≤ mostLarge) × (1 ≤ o .tab) × (o .tab ≤ 100) × Kept most (length (now notes)) n (now table) × (head ≡ true → while isBlank (inkGlyphs (o .glue) (slice start end (now notes))) ≡ []) ⌝ }
     ensures { λ r. ⌜ WordsFilled most (now (notes .entry)) (wordsIn (now (notes .entry)) n (now (table .entry)) ++ wordsFrom (meant [] o) mail head punct (glyphsBehind (o .glue) head (slice start end (now (notes .entry))))) (placesIn n (now (table .entry)) ++ placesFrom start (runs (glyphsBehind (o .glue) head (slice start end (now (notes .entry)))))) (now (table .exit)) r ⌝ }
 {
+    // Of most lines nothing is left.
+    if end <= start {
+        return Count::Words(n);
+    }
     let r = split_some(notes, start, end, mail, head, punct, o, n, most, table);
     if r.more {
         return Count::TooMany;

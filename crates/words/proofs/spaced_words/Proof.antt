@@ -12,8 +12,8 @@ use Rattle.records.specs.Contracts.Table.{Small, withWord}
 use Rattle.records.proofs.Table.{length-with}
 use Rattle.words.specs.Contracts.Scan.{wordAt}
 use Rattle.words.specs.Contracts.Split.{Kept}
-use Rattle.words.specs.Contracts.Spaced.{spaceBefore, plainInk, PlainBehind, EndsAt, SpacedTo}
-use Rattle.words.proofs.SpacedWords.{space-on, spaced-none, spaced-step, spaced-more}
+use Rattle.words.specs.Contracts.Spaced.{plainInk, PlainBehind, EndsAt, SpacedTo}
+use Rattle.words.proofs.SpacedWords.{spaced-none, spaced-step, spaced-more}
 use Rattle.words.proofs.spaced_words.Statement.{statement}
 use Rattle.words.proofs.spaced_words.Tie as tie
 
@@ -37,49 +37,49 @@ returns c = (c .before .before .before .before .pre .4, omega arith, c .before .
 loop-holds : tie.Need-loop-holds Inv-loop μ-loop
 loop-holds c = (c .before .before .before .before .pre .4, omega arith, c .before .before .before .before .pre .0, (λ end line. spaced-none _ (line .on)), refl)
 
-plain-word-requires : tie.Need-plain-word-requires Inv-loop μ-loop
-plain-word-requires c κs = let h = c .before .before .before .before .before .pre in rw (length-take-le _ _ (h .1)) (c .loop .inv .2, omega (arith, h .1, h .2))
+spaces-before-requires : tie.Need-spaces-before-requires Inv-loop μ-loop
+spaces-before-requires c κs = rw (length-take-le _ _ (c .before .before .before .before .before .pre .1)) (c .loop .inv .2)
+
+plain-word-end-requires : tie.Need-plain-word-end-requires Inv-loop μ-loop
+plain-word-end-requires c κs = c .spaces-before .ensures .over .within
 
 same-length : tie.Need-same-length Inv-loop μ-loop
-same-length c = c .before .before .loop .inv .4
+same-length c = c .before .before .before .loop .inv .4
 
 returns-2 : tie.Need-returns-2 Inv-loop μ-loop
-returns-2 c = let i = c .before .before .loop .inv in (i .0, i .1, i .2, i .3)
+returns-2 c = let i = c .before .before .before .loop .inv in (i .0, i .1, i .2, i .3)
 
 same-length-2 : tie.Need-same-length-2 Inv-loop μ-loop
-same-length-2 c = c .before .before .before .before .loop .inv .4
+same-length-2 c = c .before .before .before .before .before .loop .inv .4
 
 returns-3 : tie.Need-returns-3 Inv-loop μ-loop
-returns-3 c = let i = c .before .before .before .before .loop .inv in (i .0, i .1, i .2, i .3)
-
-space-before-requires : tie.Need-space-before-requires Inv-loop μ-loop
-space-before-requires c κs = omega (arith, c .before .before .before .before .loop .inv .2, c .before .before .before .before .before .before .before .before .before .pre .1, c .before .before .before .before .before .before .before .before .before .pre .2)
+returns-3 c = let i = c .before .before .before .before .before .loop .inv in (i .0, i .1, i .2, i .3)
 
 -- the word that the loop's turn finds
-plain : (c : tie.After-space-before Inv-loop μ-loop) → PlainBehind (take (c .before .before .before .before .before .before .before .before .before .before .args .next) (now (c .before .before .before .before .before .before .before .before .before .before .args .notes))) (c .before .before .before .before .before .loop .r .at) (c .before .before .before .before .before .loop .r .first) (c .before .before .before .before .plain-word .result)
-plain c = c .before .before .before .before .plain-word .ensures (omega (arith, c .before .before .before .if2 .left))
+plain : (c : tie.Else3 Inv-loop μ-loop) → PlainBehind (take (c .before .before .before .before .before .before .before .before .before .before .args .next) (now (c .before .before .before .before .before .before .before .before .before .before .args .notes))) (c .before .before .before .before .before .loop .r .at) (c .before .before .before .before .before .loop .r .first) (c .before .before .before .before .spaces-before .result) (c .before .before .before .plain-word-end .result)
+plain c = record { gap = c .before .before .before .before .spaces-before .ensures; word = c .before .before .before .plain-word-end .ensures (omega (arith, c .before .before .if2 .left)) }
 
 plain-ink-requires : tie.Need-plain-ink-requires Inv-loop μ-loop
-plain-ink-requires c κs = rw (c .space-before .ensures) (plain c .word)
+plain-ink-requires c κs = plain c .word
 
 word-of-requires : tie.Need-word-of-requires Inv-loop μ-loop
-word-of-requires c κs = rw (c .before .space-before .ensures) (space-on _ (c .before .before .before .before .before .before .loop .r .first) .0)
+word-of-requires c κs = c .before .before .before .before .before .spaces-before .ensures .over .on
 
 -- and its record
 record-is : (c : tie.After-word-of Inv-loop μ-loop)
-    → c .word-of .result ≡ wordAt (meant [] (c .before .before .before .before .before .before .before .before .before .before .before .before .args .o) .uniform) (meant [] (c .before .before .before .before .before .before .before .before .before .before .before .before .args .o) .characters) (c .before .before .before .before .before .before .before .loop .r .first) (c .before .before .before .before .before .before .before .loop .r .punct) (c .before .before .before .before .before .before .before .loop .r .at) (spaceBefore (c .before .before .before .before .before .before .before .loop .r .at) (c .before .before .before .before .before .before .before .loop .r .first)) (plainInk (take (c .before .before .before .before .before .before .before .before .before .before .before .before .args .next) (now (c .before .before .before .before .before .before .before .before .before .before .before .before .args .notes))) (spaceBefore (c .before .before .before .before .before .before .before .loop .r .at) (c .before .before .before .before .before .before .before .loop .r .first) .end) (c .before .before .before .before .before .before .plain-word .result))
+    → c .word-of .result ≡ wordAt (meant [] (c .before .before .before .before .before .before .before .before .before .before .before .before .args .o) .uniform) (meant [] (c .before .before .before .before .before .before .before .before .before .before .before .before .args .o) .characters) (c .before .before .before .before .before .before .before .loop .r .first) (c .before .before .before .before .before .before .before .loop .r .punct) (c .before .before .before .before .before .before .before .loop .r .at) (c .before .before .before .before .before .before .spaces-before .result) (plainInk (take (c .before .before .before .before .before .before .before .before .before .before .before .before .args .next) (now (c .before .before .before .before .before .before .before .before .before .before .before .before .args .notes))) (c .before .before .before .before .before .before .spaces-before .result .end) (c .before .before .before .before .before .plain-word-end .result))
 unfolding meant
-record-is c = rw (c .before .plain-ink .ensures, c .before .before .space-before .ensures) at (c .word-of .ensures)
+record-is c = rw (c .before .plain-ink .ensures) at (c .word-of .ensures)
 
 step : (c : tie.After-word-of Inv-loop μ-loop) → Small (c .word-of .result) × Kept (c .before .before .before .before .before .before .before .before .before .before .before .before .args .most) (length (now (c .before .before .before .before .before .before .before .before .before .before .before .before .args .notes))) (c .before .before .before .before .before .before .before .loop .r .count + 1) (withWord (c .before .before .before .before .before .before .before .loop .table) (c .before .before .before .before .before .before .before .loop .r .count) (c .word-of .result)) × (c .before .before .before .before .before .before .before .loop .r .at < c .word-of .result .end) × (c .word-of .result .end ≤ c .before .before .before .before .before .before .before .before .before .before .before .before .args .next)
 unfolding meant
-step c = let h = c .before .before .before .before .before .before .before .before .before .before .before .before .pre in let i = c .before .before .before .before .before .before .before .loop .inv in spaced-step (meant [] (c .before .before .before .before .before .before .before .before .before .before .before .before .args .o)) (now (c .before .before .before .before .before .before .before .before .before .before .before .before .args .notes)) (c .before .before .before .before .before .before .before .before .before .before .before .before .args .next) (c .before .before .before .before .before .before .before .loop .r .at) (c .before .before .before .before .before .before .before .loop .r .first) (c .before .before .before .before .before .before .before .loop .r .punct) (c .before .before .before .before .before .before .plain-word .result) (c .word-of .result) (h .1) (h .3) (plain (c .before .before)) (record-is c) (omega (arith, c .before .before .before .if3 .left)) (i .0) (i .2) (h .2)
+step c = let h = c .before .before .before .before .before .before .before .before .before .before .before .before .pre in let i = c .before .before .before .before .before .before .before .loop .inv in spaced-step (meant [] (c .before .before .before .before .before .before .before .before .before .before .before .before .args .o)) (now (c .before .before .before .before .before .before .before .before .before .before .before .before .args .notes)) (c .before .before .before .before .before .before .before .before .before .before .before .before .args .next) (c .before .before .before .before .before .before .before .loop .r .at) (c .before .before .before .before .before .before .before .loop .r .first) (c .before .before .before .before .before .before .before .loop .r .punct) (c .before .before .before .before .before .before .spaces-before .result) (c .before .before .before .before .before .plain-word-end .result) (c .word-of .result) (h .1) (h .3) (plain (c .before .before)) (record-is c) (omega (arith, c .before .before .if3 .left)) (i .0) (i .2) (h .2)
 
 store-requires : tie.Need-store-requires Inv-loop μ-loop
-store-requires c κs = let k = c .before .before .before .before .before .before .before .before .loop .inv .0 in (omega (arith, c .before .before .before .before .if3 .left, k .held), step (c .before) .0)
+store-requires c κs = let k = c .before .before .before .before .before .before .before .before .loop .inv .0 in (omega (arith, c .before .before .before .if3 .left, k .held), step (c .before) .0)
 
 add-t22 : tie.Need-add-t22 Inv-loop μ-loop
-add-t22 c = omega (arith, c .before .before .before .before .before .before .before .before .if3 .left, c .before .before .before .before .before .before .before .before .before .before .before .before .before .before .before .before .before .fits .most)
+add-t22 c = omega (arith, c .before .before .before .before .before .before .before .if3 .left, c .before .before .before .before .before .before .before .before .before .before .before .before .before .before .before .before .before .fits .most)
 
 loop-less : tie.Need-loop-less Inv-loop μ-loop
 loop-less c = let t = step (c .before .before .before .before .before) in omega (arith, t .2, t .3)
@@ -95,7 +95,7 @@ loop-again c =
       omega (arith, t .2, i .1),
       t .3,
       (λ end line.
-          spaced-more (meant [] (c .before .before .before .before .before .before .before .before .before .before .before .before .before .before .before .before .before .args .o)) (now (c .before .before .before .before .before .before .before .before .before .before .before .before .before .before .before .before .before .args .notes)) (c .before .before .before .before .before .before .before .before .before .before .before .before .before .before .before .before .before .args .next) (c .before .before .before .before .before .before .before .before .before .before .before .before .loop .r .at) (c .before .before .before .before .before .before .before .before .before .before .before .before .loop .r .first) (c .before .before .before .before .before .before .before .before .before .before .before .before .loop .r .punct) (c .before .before .before .before .before .before .before .before .before .before .before .plain-word .result) (c .before .before .before .before .before .word-of .result) (h .1) (h .3) (plain (c .before .before .before .before .before .before .before)) (record-is (c .before .before .before .before .before)) (omega (arith, c .before .before .before .before .before .before .before .before .if3 .left)) (i .0) (c .before .before .before .before .before .before .before .before .before .before .before .before .before .if1 .left) line (i .1) (i .3 end line)),
+          spaced-more (meant [] (c .before .before .before .before .before .before .before .before .before .before .before .before .before .before .before .before .before .args .o)) (now (c .before .before .before .before .before .before .before .before .before .before .before .before .before .before .before .before .before .args .notes)) (c .before .before .before .before .before .before .before .before .before .before .before .before .before .before .before .before .before .args .next) (c .before .before .before .before .before .before .before .before .before .before .before .before .loop .r .at) (c .before .before .before .before .before .before .before .before .before .before .before .before .loop .r .first) (c .before .before .before .before .before .before .before .before .before .before .before .before .loop .r .punct) (c .before .before .before .before .before .before .before .before .before .before .before .spaces-before .result) (c .before .before .before .before .before .before .before .before .before .before .plain-word-end .result) (c .before .before .before .before .before .word-of .result) (h .1) (h .3) (plain (c .before .before .before .before .before .before .before)) (record-is (c .before .before .before .before .before)) (omega (arith, c .before .before .before .before .before .before .before .if3 .left)) (i .0) (c .before .before .before .before .before .before .before .before .before .before .before .before .before .if1 .left) line (i .1) (i .3 end line)),
       length-with _ _ _ ∙ i .4,
     )
 
@@ -108,12 +108,12 @@ spaced-words-spec =
     slice-aggregate-s
     returns
     loop-holds
-    plain-word-requires
+    spaces-before-requires
+    plain-word-end-requires
     same-length
     returns-2
     same-length-2
     returns-3
-    space-before-requires
     plain-ink-requires
     word-of-requires
     store-requires

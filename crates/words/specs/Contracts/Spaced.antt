@@ -1,4 +1,4 @@
--- Words of plain characters, one space apart, and where their line's text ends.
+-- Words of plain characters, spaces apart, and where their line's text ends.
 use mathlib.Core.Path.{_≡_}
 use mathlib.Core.Bool.{Bool, true, false, not, _||_}
 use mathlib.Core.List.{List, [], _++_}
@@ -21,10 +21,17 @@ use Rattle.words.specs.declared.Blanks.{Blanks}
 use Rattle.words.specs.declared.Ink.{Ink}
 use Rattle.words.specs.declared.Spaced.{Spaced}
 
--- no blank before the first word of a line, and one space before another
-abbrev pub spaceBefore : ℕ → Bool → Blanks
-spaceBefore at true = noBlanks at
-spaceBefore at false = record { end = at + 1; before = Absent; after = 1 }
+-- r is after the spaces at a place
+pub record OverSpaces (s : List ℕ) (at r : ℕ) : Type 0 where
+  pub on : at ≤ r
+  pub within : r ≤ length s
+  pub spaces : (i : ℕ) → at ≤ i → i < r → getD s i 0 ≡ 32
+
+-- b are the spaces before a word at a place: none before the first of a line
+pub record SpacesBefore (s : List ℕ) (at : ℕ) (first : Bool) (b : Blanks) : Type 0 where
+  pub over : OverSpaces s at (b .end)
+  pub counts : b ≡ record { end = b .end; before = Absent; after = b .end - at }
+  pub none : first ≡ true → b ≡ noBlanks at
 
 -- the ink of a plain word
 abbrev pub plainInk : List ℕ → ℕ → ℕ → Ink
@@ -36,10 +43,10 @@ pub record PlainWord (s : List ℕ) (start end : ℕ) : Type 0 where
   pub some : start < end
   pub ends : end < length s → ((eqb (getD s end 0) 32 || eqb (getD s end 0) 9) ≡ true) ⊎ (getD s end 0 ≡ 10)
 
--- such a word at a place, the first of its line or after one space
-pub record PlainBehind (s : List ℕ) (at : ℕ) (first : Bool) (end : ℕ) : Type 0 where
-  pub space : first ≡ false → (at < length s) × (getD s at 0 ≡ 32)
-  pub word : PlainWord s (spaceBefore at first .end) end
+-- such a word at a place, after these spaces
+pub record PlainBehind (s : List ℕ) (at : ℕ) (first : Bool) (b : Blanks) (end : ℕ) : Type 0 where
+  pub gap : SpacesBefore s at first b
+  pub word : PlainWord s (b .end) end
 
 -- the text of the line that a place is in ends at another: at the text's end, or at a line feed, with the carriage return before it
 pub record EndsAt (s : List ℕ) (from end : ℕ) : Type 0 where
@@ -49,7 +56,7 @@ pub record EndsAt (s : List ℕ) (from end : ℕ) : Type 0 where
   pub returnless : (i : ℕ) → from ≤ i → i < end → getD s i 0 ≡ 13 → getD s (i + 1) 0 ≡ 10 → ⊥
   pub ends : end < length s → (getD s end 0 ≡ 10) ⊎ ((getD s end 0 ≡ 13) × (getD s (end + 1) 0 ≡ 10))
 
--- r is how far the words of a line, from start up to end, stand one space apart: they are in the table, with their places, and the rest is left
+-- r is how far the words of a line, from start up to end, are plain and spaces apart: they are in the table, with their places, and the rest is left
 pub record SpacedTo (o : Opts) (mail : Bool) (notes : List ℕ) (start end n : ℕ) (t : List ℕ) (r : Spaced) (t′ : List ℕ) : Type 0 where
   pub to : r .at ≤ end
   pub words : wordsIn notes (r .count) t′ ++ wordsFrom o mail (r .first) (r .punct) (glyphsBehind (o .glue) (r .first) (slice (r .at) end notes))
