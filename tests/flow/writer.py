@@ -272,7 +272,7 @@ def main():
         refused += code == 3
         total += len(notes)
     small = write.calls
-    print(f"writer: {lent(write, rng, count)} notes in lent room, {write.calls - small} of the calls below, no difference")
+    print(f"writer: {lent(write, rng, count // 4)} notes in lent room, {write.calls - small} of the calls below, no difference")
     print(f"writer: {len(HAND) + len(HAND_PLAIN)} notes by hand; {count} generated, {total} bytes, {write.calls} calls, {dashes} lines `--`, {refused} refused, no difference")
 
 

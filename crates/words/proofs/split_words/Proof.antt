@@ -60,7 +60,7 @@ begin-requires c κs = let h = c .before .before .before .before .before .pre in
 spaced-words-requires : tie.Need-spaced-words-requires Inv-loop μ-loop
 spaced-words-requires c κs = let h = c .before .before .before .before .before .before .before .pre in let l = line (c .before .before) in (omega (arith, l .begins, l .shorter, l .within, c .before .begin .ensures), h .1, h .2, search needs, c .before .before .before .loop .inv .2 .kept)
 
--- the words one space apart that the turn finds in it
+-- the words spaces apart that the turn finds in it
 spaced : (c : tie.After-spaced-words Inv-loop μ-loop)
     → SpacedTo (meant [] (c .before .before .before .before .before .before .before .before .args .o)) (c .before .before .before .before .before .before .before .before .args .mail) (now (c .before .before .before .before .before .before .before .before .args .notes)) (c .before .before .begin .result) (c .before .before .before .before .loop .i + (lengthsOf (firstLine (slice (c .before .before .before .before .loop .i) (c .before .before .before .before .before .before .before .before .args .next) (now (c .before .before .before .before .before .before .before .before .args .notes))))) .text) (c .before .before .before .before .loop .n) (c .before .before .before .before .loop .table) (c .spaced-words .result) (c .spaced-words .last .1 .1 .1 .1 .1 .1 .1 .0)
 spaced c = c .spaced-words .ensures .3 _ (ends-later (ends (c .before .before .before) .ends) (omega (arith, c .before .before .begin .ensures)) (omega (arith, c .before .before .begin .ensures, line (c .before .before .before) .begins)))
