@@ -1,7 +1,7 @@
 /* Made by tools/page from page/page.css and page/page.js: change those, and make it anew. */
 #include "page.h"
 
-const char PAGE_STYLE_HASH[] = "19r2MW2RE8KvSVsdGzP9nGHPt95tDHR+fvUgO1vlJI8=";
+const char PAGE_STYLE_HASH[] = "fKxG/UA5gCQM9l7NaGj5sPpWWn4KeMsri73xLNmjd7A=";
 
 const char *const PAGE_STYLE[] = {
     ":root {\n",
@@ -88,7 +88,9 @@ const char *const PAGE_STYLE[] = {
     "h2 { font-size: 1em; }\n",
     "#notes ol, #failed ol { list-style-position: outside; margin-top: .4rem; padding: .5rem .6rem .5rem 5.5ch; background: var(--card); border: 1px solid var(--hair); font: calc(var(--size) * .94)/1.6 var(--mono); font-variant-ligatures: none; direction: ltr; }\n",
     "li::marker { color: var(--dim); }\n",
-    "ol li { padding-left: .8ch; white-space: pre-wrap; overflow-wrap: anywhere; overflow-y: clip; }\n",
+    "ol li { padding-left: .8ch; white-space: pre-wrap; overflow-wrap: anywhere; overflow-y: clip; unicode-bidi: plaintext; text-align: start; }\n",
+    "ol i, ol b[class] { display: inline; white-space: inherit; unicode-bidi: normal; }\n",
+    "ol u, ol mark { unicode-bidi: isolate; }\n",
     "ol u, h1 u, header p u { font-size: 0; }\n",
     "ol u::before, h1 u::before, header p u::before { content: attr(data-x); content: attr(data-x) / \"\"; font-size: calc(var(--size) * .74); padding: .08em .3em; margin: 0 1px; border-radius: 3px; color: var(--amber); background: var(--pale-amber); }\n",
     "ol u.e::before { content: \"0A\"; content: \"0A\" / \"\"; color: var(--dim); background: none; }\n",

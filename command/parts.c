@@ -11,6 +11,7 @@
 #include "nextmail.h"
 
 #include <stdlib.h>
+#include <string.h>
 
 struct bytes block_of(const struct options *options) { return (struct bytes){options->block, options->block_len}; }
 
@@ -85,6 +86,12 @@ static size_t whole_lines(struct bytes known, size_t most) {
     return end;
 }
 
+/* Where the line begins that is too long by itself, among those that do not end a part; 0 if there is none but their paragraph. */
+static size_t long_line(struct bytes known) {
+    size_t at = whole_lines(known, MOST_LARGE);
+    return known.length - at > MOST_LARGE && memchr(known.at + at, '\n', MOST_LARGE) == NULL ? at : 0;
+}
+
 /* A blank or a plain line is a piece whatever follows. */
 static size_t end_of_line(struct work *work, struct pieces *pieces, struct part *part) {
     uint64_t reason[6] = {RUDIGNALS_END_OF_PARAGRAPH};
@@ -133,6 +140,11 @@ static void pass(struct part *part) {
     part->length = 0;
 }
 
+static enum found uncut(struct part *part, struct bytes known) {
+    part->too_long = long_line(known);
+    return UNCUT;
+}
+
 static size_t widened(size_t most) { return most > MOST_LARGE / 2 ? MOST_LARGE : 2 * most; }
 
 enum found next_part(struct window *window, const struct options *options, struct part *part) {
@@ -150,7 +162,7 @@ enum found next_part(struct window *window, const struct options *options, struc
         if (window->length == 0)
             return NO_PART;
         if (most >= MOST_LARGE)
-            return UNCUT;
+            return uncut(part, (struct bytes){window->bytes, window->length});
     }
 }
 
@@ -165,7 +177,7 @@ enum found next_part_of(struct work *work, struct bytes block, struct bytes note
         if (part->length > 0)
             return PART;
         if (most >= MOST_LARGE)
-            return UNCUT;
+            return uncut(part, rest);
     }
 }
 
@@ -243,4 +255,4 @@ void refuse_part(struct refusal *refusal, const struct part *part, uint64_t answ
         refuse(refusal, part, code, code == RUDIGNALS_TEXT ? rudignals_number_of(answer) : 0);
 }
 
-void refuse_uncut(struct refusal *refusal, const struct part *part) { refuse(refusal, part, RUDIGNALS_LONG, 0); }
+void refuse_uncut(struct refusal *refusal, const struct part *part) { refuse(refusal, part, RUDIGNALS_LONG, part->too_long); }

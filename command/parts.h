@@ -14,6 +14,7 @@ struct part {
     unsigned long lines_before;
     bool no_mail;     /* next-mail is false where it begins */
     bool ends_unmail; /* and where it ends */
+    size_t too_long;  /* if it is UNCUT: where in it the line begins that is too long, or 0, where its paragraph does */
 };
 
 /* The next part of what the window shows; the part before is dropped. UNCUT: a paragraph, or a line, is longer than the library takes. */

@@ -54,6 +54,11 @@ REFUSED = [
     ([], MANY_LINES + LINE + b"a", f"line 60001, column 1: {LONG}"),
     ([], b"x\n" + b" " * 1048576 + b"\ny\n", f"line 2, column 1: {LONG}"),
     ([], b"x\n\n" + b"a\n" * 524289 + b"\ny\n", f"line 3, column 1: {LONG}"),
+    # a line that is too long by itself is named, not the paragraph that it is in
+    ([], b"x\n\na\nb\n" + LINE[:-1] + b"a\nc\n\ny\n", f"line 5, column 1: {LONG}"),
+    ([], b"a\nb\n" + LINE + b"\ny\n", f"line 1, column 1: {LONG}"),
+    ([], b"a\nb\n" + LINE[:-1] + b"a", f"line 1, column 1: {LONG}"),
+    ([], b"a\nb\n" + LINE[:-1] + b"aa", f"line 3, column 1: {LONG}"),
     ([], MANY_LINES + b"\xb0", f"line 60001, column 1: byte B0 {DAMAGED}"),
     ([], MANY_LINES + b"b\n\xc3\xa9\xc3\xa9 x\xff\n" + MANY_LINES + b"\xb0\n", f"line 60002, column 5: byte FF {DAMAGED}"),
     ([], b"\xff\n\n" + MANY_LINES + b"\xb0\n", f"line 1, column 1: byte FF {DAMAGED}"),

@@ -3,16 +3,19 @@ import gzip
 import os
 import pathlib
 import random
+import re
 import subprocess
 import zlib
 
 from . import texts
 from .calls import FMT, ROOT, SOURCES, expect, expect_same, link, run
 from .short import cut_to, rows_of
-from .words import DAMAGED
+from .words import DAMAGED, LONG
 
 EVERY_FILE = "RUDIGNALS_EVERY_FILE" in os.environ  # not a sample of the machine's files; set by command/test
 MACHINE = ["/usr/share/doc", "/usr/share/man", "/usr/share/common-licenses", "/etc"]
+
+MOST = 1048576  # bytes of a paragraph
 
 ORACLE = str(ROOT / "target/oracle/oracle")
 
@@ -101,6 +104,25 @@ def is_whole(text):
     return True
 
 
+def longest(text):
+    """The bytes of the longest stretch without an empty line; no paragraph has more."""
+    return max(map(len, re.split(rb"(?<=\n)[ \t\v\f\r]*\n", text)))
+
+
+def long_file(found, path, text):
+    """A file with a stretch that may be one paragraph of over 1,048,576 bytes: as the original has it, or refused for that. Answers how often it was
+    refused."""
+    refused = 0
+    for arguments in OPTIONS:
+        status, output, errors = run([*arguments, path])
+        if status == 1 and LONG in errors:
+            expect(f"{found} under {arguments}, which is too long", output, b"")
+            refused += 1
+        else:
+            expect_same(f"{found} under {arguments} {errors[:300]}", b"%d " % status + output, b"0 " + rust_on(arguments, text))
+    return refused
+
+
 def machine_batches(folder, step):
     """The files in heaps of 4 MB, each with its place; every so many alone."""
     heap, size, number = [], 0, 0
@@ -120,11 +142,12 @@ def machine_batches(folder, step):
 
 def machine(folder):
     """Text files of this machine, each as a file of its own, an empty line between two; the original is shown all of them in one. None may be
-    refused but for damage."""
+    refused but for damage, or for a paragraph of over 1,048,576 bytes."""
     (folder / "blank").write_bytes(b"\n")
     files = damaged = size = 0
+    long = {}
     for heap in machine_batches(folder, 1 if EVERY_FILE else 100):
-        good = [(path, text) for _, path, text in heap if is_whole(text)]
+        good = [(path, text) for _, path, text in heap if is_whole(text) and longest(text) <= MOST]
         joined = b"".join((text if text.endswith(b"\n") or not text else text + b"\n") + b"\n" for _, text in good)
         for arguments in OPTIONS:
             status, output, errors = run([*arguments, *[name for path, _ in good for name in (path, folder / "blank")]])
@@ -132,12 +155,16 @@ def machine(folder):
         for found, path, text in heap:
             if not is_whole(text):
                 status, output, errors = run([path])
-                expect(f"{found}, which is damaged", (status, output, DAMAGED in errors), (1, b"", True))
+                expect(f"{found}, which is damaged", (status, output, DAMAGED in errors or (longest(text) > MOST and LONG in errors)), (1, b"", True))
                 damaged += 1
+            elif longest(text) > MOST:
+                long[found] = long_file(found, path, text)
             size += len(text)
             path.unlink()
         files += len(good)
     print(f"command: {files} text files of this machine under {len(OPTIONS)} sets of options, {size} bytes, {damaged} more refused for damage", flush=True)
+    for found, refused in long.items():
+        print(f"command: {found} has a stretch of over {MOST} bytes: refused under {refused} of {len(OPTIONS)} sets, equal under the others", flush=True)
 
 
 def run_all(folder):
