@@ -14,4 +14,5 @@ pub mod Prefixes
 pub mod Classes
 pub mod Bounds
 pub mod Shapes
+pub mod Spaces
 pub mod Usable

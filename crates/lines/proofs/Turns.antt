@@ -19,7 +19,7 @@ use Rattle.text.proofs.Rows.{allAt, all-each}
 use Rattle.text.proofs.Edges.{glyphs-past, glyphs-first, blank-on}
 use Rattle.lines.specs.Classes.{nextStop, glyphsBefore, glyphsFrom}
 use Rattle.widths.specs.Widths.{widthOf}
-use Rattle.lines.specs.Contracts.Places.{Tabs, BehindTabs, Inside, lineStart, behindAll, Behind, BehindBlanks, BehindPlace}
+use Rattle.lines.specs.Contracts.Places.{Repeats, BehindTabs, Inside, lineStart, behindAll, Behind, BehindBlanks, BehindPlace}
 use Rattle.lines.specs.declared.Spot.{Spot}
 use Rattle.lines.proofs.Measures.{behind-none, upTo-zero, from-zero, behind-char, blanks-on, every-on, upTo-on, from-on}
 use Rattle.lines.proofs.UsualBlanks.{tab-here, ends-here}
@@ -100,16 +100,16 @@ blank-run line i (suc n) h all glue =
 pub blank-eight : (line : List ℕ) (i : ℕ) → i + 8 ≤ length line → allAt (λ b. eqb b 32 || eqb b 9) line i 7 ≡ true → (glue : Bool) → every isBlank (glyphs glue (drop i line)) ≡ every isBlank (glyphs glue (drop (i + 8) line))
 blank-eight line i h e = blank-run line i 7 (omega arith) (λ k a b. all-each usual line i 7 e k a b)
 
--- ---- tabs in a row
+-- ---- one byte, again and again
 
-pub tabs-none : {line : List ℕ} {from : ℕ} → from ≤ length line → Tabs line from from
-tabs-none h = record { on = omega arith; within = h; tab = λ i a d. absurd (omega arith) }
+pub repeats-none : {byte : ℕ} {line : List ℕ} {from : ℕ} → from ≤ length line → Repeats byte line from from
+repeats-none h = record { on = omega arith; within = h; each = λ i a d. absurd (omega arith) }
 
-pub tabs-more : {line : List ℕ} {from to : ℕ} → Tabs line from to → to < length line → getD line to 0 ≡ 9 → Tabs line from (to + 1)
-tabs-more {line} {from} {to} t h e = record {
+pub repeats-more : {byte : ℕ} {line : List ℕ} {from to : ℕ} → Repeats byte line from to → to < length line → getD line to 0 ≡ byte → Repeats byte line from (to + 1)
+repeats-more {byte} {line} {from} {to} t h e = record {
   on = omega (arith, t .on);
   within = omega arith;
-  tab = λ i a d. ⊎-elim (λ (q : i ≡ to). rw q e) (λ (l : i < to). t .tab i a l) (eq-or-lt-of-le (let g : i ≤ to = omega arith in g));
+  each = λ i a d. ⊎-elim (λ (q : i ≡ to). rw q e) (λ (l : i < to). t .each i a l) (eq-or-lt-of-le (let g : i ≤ to = omega arith in g));
 }
 
 -- ---- over blanks: what is left from m on leads where going from the first spot does
@@ -166,7 +166,7 @@ module _ {glue : Bool} {tab : ℕ} {line : List ℕ} {m₀ : Spot} where
           let run = t .run in
           let q : r .at + (end - r .at) ≡ end = omega (arith, run .on) in
           let k : r .column ≡ (m .column / tab + 1) * tab = rw z at e in
-          let w = tabs-then r (m .column / tab + 1) (end - r .at) some few k (omega (arith, q, run .within)) (λ i a d. run .tab i a (omega (arith, q))) (st .inside) (blanks-then st h l) in
+          let w = tabs-then r (m .column / tab + 1) (end - r .at) some few k (omega (arith, q, run .within)) (λ i a d. run .each i a (omega (arith, q))) (st .inside) (blanks-then st h l) in
           subst (λ (at : ℕ). Reached glue tab line m₀ at (r .column + (end - r .at) * tab)) q w
       pick false z =
           let q : end ≡ r .at = t .only (eqb-false code 9 z) in

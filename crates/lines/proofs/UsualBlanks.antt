@@ -22,7 +22,7 @@ module _ (s : List ℕ) (at : ℕ) (h : at < length s) where
   unfolding whiteSpace
   tab-here e = blank-byte 9 e (omega arith) refl
 
-  space-here : getD s at 0 ≡ 32 → Here true s at 32 (at + 1)
+  pub space-here : getD s at 0 ≡ 32 → Here true s at 32 (at + 1)
   unfolding whiteSpace
   space-here e = blank-byte 32 e (omega arith) refl
 

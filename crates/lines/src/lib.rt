@@ -3,15 +3,16 @@ ghost use mathlib.Core.Path.{_≡_};
 ghost use mathlib.Core.Bool.{Bool, true, false, cond, not};
 ghost use Prim.Native.Nat.{_+_, _-_, _≤_, _<_};
 ghost use lib.Dec.{eqb};
-ghost use lib.ListN.{length, drop};
-ghost use Rattle.lists.specs.Runs.{every, begins};
+ghost use lib.ListN.{length, getD, drop};
+ghost use Rattle.lists.specs.Runs.{while, every, begins};
 ghost use Rattle.widths.specs.Widths.{widthOf};
 ghost use Rattle.text.specs.Characters.{glyphs, isBlank, isGood};
 ghost use Rattle.text.specs.Contracts.Places.{Ascii};
 ghost use Rattle.options.specs.Opts.{textOf, meant};
 ghost use Rattle.lines.specs.Lines.{body, withoutReturn, firstLine};
 ghost use Rattle.lines.specs.Classes.{nextStop, search, skipFound, somewhere, classify};
-ghost use Rattle.lines.specs.Contracts.Places.{lengthsOf, classedOf, mostLarge, mostColumns, bodyEnd, AsciiBody, Tabs, BehindTabs, Lies, Usable, Inside, classAt, Behind, BehindBlanks, BehindPlace, inkBefore, glyphsBehind, gluedAt};
+ghost use Rattle.text.specs.declared.Found.the-variants.{Nowhere};
+ghost use Rattle.lines.specs.Contracts.Places.{lengthsOf, classedOf, mostLarge, mostColumns, bodyEnd, AsciiBody, Repeats, BehindTabs, Lies, Usable, Inside, lineStart, behindAll, classAt, Behind, BehindBlanks, BehindPlace, inkBefore, glyphsBehind, gluedAt};
 use options::Options;
 use options::Part;
 use text::Char;
@@ -295,21 +296,22 @@ fn classify(line: &[u8], ascii: bool, o: Options, block: &[u8]) -> Class
 {
     let tab = o.tab;
     let glue = o.glue;
-    // No columns yet: a blank line has no use for them.
-    if is_all_blank(line) {
+    // The line's first spaces are passed once for all that follows. No columns yet: a blank line has no use for them.
+    let from = run_end(line, 32, 0);
+    if is_all_blank(line, from) {
         return Class::Blank;
     }
     if is_damaged(line, ascii) {
         return Class::Plain;
     }
     let skip = o.skip;
-    if is_skipped(line, skip, o.exact_skip, block) {
+    if is_skipped(line, from, skip, o.exact_skip, block) {
         return Class::Plain;
     }
     let prefix = o.prefix;
     // Without a prefix the indent is the line's first blanks.
     let Part::Given { start, end } = prefix else {
-        let lead = over_blanks(line, Spot { at: 0, column: 0 }, tab);
+        let lead = lead_of(line, from, tab);
         return Class::Formatted(Shape {
             prefix_place: 0,
             indent_end: lead.at,
@@ -317,14 +319,15 @@ fn classify(line: &[u8], ascii: bool, o: Options, block: &[u8]) -> Class
             prefix_length: 0,
         });
     };
-    behind_prefix(line, &block[start..end], o.exact, tab, glue)
+    behind_prefix(line, from, &block[start..end], o.exact, tab, glue)
 }
 
-// Whether nothing but blanks is in a line. A byte below 0x80, as most are, is a character by itself.
-fn is_all_blank(line: &[u8]) -> bool
-    ensures { λ r. ⌜ ((glue : Bool) → r ≡ every isBlank (glyphs glue (now (line .entry)))) ⌝ }
+// Whether nothing but blanks is in a line from a place on. A byte below 0x80, as most are, is a character by itself.
+fn is_all_blank(line: &[u8], from: usize) -> bool
+    requires { ⌜ from ≤ length (now line) ⌝ }
+    ensures { λ r. ⌜ ((glue : Bool) → r ≡ every isBlank (glyphs glue (drop from (now (line .entry))))) ⌝ }
 {
-    let mut i = 0;
+    let mut i = from;
     while i < line.len() {
         let b = line[i];
         if b < 0x80 {
@@ -404,11 +407,11 @@ fn wide(b: u8) -> u32
 
 // The class of a line by its prefix, which must be there with more than blanks after it.
 // In the original: `FileLines::match_prefix`.
-fn behind_prefix(line: &[u8], p: &[u8], exact: bool, tab: usize, glue: bool) -> Class
-    requires { ⌜ (length (now line) ≤ mostLarge) × (1 ≤ tab) × (tab ≤ 100) ⌝ }
+fn behind_prefix(line: &[u8], from: usize, p: &[u8], exact: bool, tab: usize, glue: bool) -> Class
+    requires { ⌜ Repeats 32 (now line) 0 from × (length (now line) ≤ mostLarge) × (1 ≤ tab) × (tab ≤ 100) ⌝ }
     ensures { λ r. ⌜ r ≡ classAt tab (length (now (p .entry))) (glyphs glue (now (line .entry))) (search exact (now (p .entry)) (now (line .entry)) 0 (glyphs glue (now (line .entry)))) ⌝ }
 {
-    let Found::At(place) = find(line, p, exact) else {
+    let Found::At(place) = find(line, from, p, exact) else {
         return Class::Plain;
     };
     let end = place + p.len();
@@ -428,22 +431,60 @@ fn behind_prefix(line: &[u8], p: &[u8], exact: bool, tab: usize, glue: bool) -> 
 
 // Whether a line begins with the skip prefix. One that is not given begins no line.
 // In the original: `FileLines::match_anti_prefix`.
-fn is_skipped(line: &[u8], skip: Part, exact: bool, block: &[u8]) -> bool
-    requires { ⌜ Lies (now block) skip ⌝ }
+fn is_skipped(line: &[u8], from: usize, skip: Part, exact: bool, block: &[u8]) -> bool
+    requires { ⌜ Repeats 32 (now line) 0 from × Lies (now block) skip ⌝ }
     ensures { λ r. ⌜ ((glue : Bool) → r ≡ somewhere (skipFound exact (textOf (now (block .entry)) skip) (now (line .entry)) (glyphs glue (now (line .entry))))) ⌝ }
 {
     let Part::Given { start, end } = skip else {
         return false;
     };
-    match find(line, &block[start..end], exact) {
+    match find(line, from, &block[start..end], exact) {
         Found::At(_) => true,
         Found::Nowhere => false,
     }
 }
 
-// Where a prefix stands: at the line's start or, unless exact, at the first place with only blanks before it.
+// Where a prefix stands in a line whose first spaces end at a place: at the line's start or, unless exact, at the first place with only
+// blanks before it. The first byte after the spaces tells of most lines that it is nowhere.
 // In the original: `FileLines::match_prefix_generic`.
-fn find(line: &[u8], p: &[u8], exact: bool) -> Found
+fn find(line: &[u8], from: usize, p: &[u8], exact: bool) -> Found
+    requires { ⌜ Repeats 32 (now line) 0 from ⌝ }
+    ensures { λ r. ⌜ ((glue : Bool) → r ≡ search exact (now (p .entry)) (now (line .entry)) 0 (glyphs glue (now (line .entry)))) ⌝ }
+{
+    if begins_otherwise(line, from, p) {
+        return Found::Nowhere;
+    }
+    look_for(line, p, exact)
+}
+
+// Whether the first byte after a line's first spaces shows that a prefix is nowhere: it is ink, and neither it nor a space begins the prefix.
+fn begins_otherwise(line: &[u8], from: usize, p: &[u8]) -> bool
+    requires { ⌜ Repeats 32 (now line) 0 from ⌝ }
+    ensures { λ r. ⌜ (r ≡ true → (exact glue : Bool) → search exact (now (p .entry)) (now (line .entry)) 0 (glyphs glue (now (line .entry))) ≡ Nowhere) ⌝ }
+{
+    if p.len() == 0 {
+        return false;
+    }
+    if !is_plain(line, from) {
+        return false;
+    }
+    (p[0] != 32) & (p[0] != line[from])
+}
+
+// Whether a byte of ASCII from `!` on is at a place: a character by itself, and no blank.
+fn is_plain(line: &[u8], at: usize) -> bool
+    ensures { λ r. ⌜ (r ≡ true → (at < length (now (line .entry))) × (33 ≤ getD (now (line .entry)) at 0) × (getD (now (line .entry)) at 0 < 128)) ⌝ }
+{
+    if line.len() <= at {
+        return false;
+    }
+    let b = line[at];
+    (33 <= b) & (b < 128)
+}
+
+// The same, place by place.
+// In the original: `FileLines::match_prefix_generic`.
+fn look_for(line: &[u8], p: &[u8], exact: bool) -> Found
     ensures { λ r. ⌜ ((glue : Bool) → r ≡ search exact (now (p .entry)) (now (line .entry)) 0 (glyphs glue (now (line .entry)))) ⌝ }
 {
     let mut i = 0;
@@ -519,6 +560,21 @@ fn has_ink_before(line: &[u8], place: usize) -> bool
     ink
 }
 
+// The spot after a line's first blanks, of which the spaces end at a place. Most lines have no others there.
+fn lead_of(line: &[u8], from: usize, tab: usize) -> Spot
+    requires { ⌜ Repeats 32 (now line) 0 from × (length (now line) ≤ mostLarge) × (1 ≤ tab) × (tab ≤ 100) ⌝ }
+    ensures { λ r. ⌜ ((glue : Bool) → r ≡ behindAll tab lineStart (while isBlank (glyphs glue (now (line .entry))))) ⌝ }
+{
+    let spot = Spot {
+        at: from,
+        column: from,
+    };
+    if is_plain(line, from) {
+        return spot;
+    }
+    over_blanks(line, spot, tab)
+}
+
 // On from a spot over the blanks that stand there; before ink U+00A0 is one whatever glue says. None is at the line's end.
 // In the original: `FileLines::compute_indent`.
 fn over_blanks(line: &[u8], from: Spot, tab: usize) -> Spot
@@ -546,19 +602,19 @@ fn behind_tabs(line: &[u8], code: u32, next: usize) -> usize
     ensures { λ r. ⌜ BehindTabs (now (line .entry)) code next r ⌝ }
 {
     if code == 9 {
-        return tabs_end(line, next);
+        return run_end(line, 9, next);
     }
     next
 }
 
-// The end of the tabs at a place.
-fn tabs_end(line: &[u8], from: usize) -> usize
+// The end of a byte that is at a place again and again.
+fn run_end(line: &[u8], byte: u8, from: usize) -> usize
     requires { ⌜ from ≤ length (now line) ⌝ }
-    ensures { λ r. ⌜ Tabs (now (line .entry)) from r ⌝ }
+    ensures { λ r. ⌜ Repeats byte (now (line .entry)) from r ⌝ }
 {
     let mut i = from;
     while i < line.len() {
-        if line[i] != 9 {
+        if line[i] != byte {
             return i;
         }
         i += 1;

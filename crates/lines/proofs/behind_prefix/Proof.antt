@@ -30,12 +30,12 @@ add-end : tie.Need-add-end
 add-end c = omega (arith, within (c .before))
 
 measure-to-requires : tie.Need-measure-to-requires
-measure-to-requires c κs = let p = c .before .before .before .before .before .before .pre in (within (c .before), p .0, p .1, p .2)
+measure-to-requires c κs = let p = c .before .before .before .before .before .before .pre in (within (c .before), p .1, p .2, p .3)
 
 behind-margin-requires : tie.Need-behind-margin-requires
 behind-margin-requires c κs =
     let p = c .before .before .before .before .before .before .before .pre in
-    (within (c .before .before), c .measure-to .ensures .0, p .0, p .1, p .2)
+    (within (c .before .before), c .measure-to .ensures .0, p .1, p .2, p .3)
 
 returns-2 : tie.Need-returns-2
 returns-2 c =

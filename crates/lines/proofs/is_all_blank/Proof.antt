@@ -1,4 +1,4 @@
--- `lines::is_all_blank` meets its contract. Invariant: what is left of the line is all blank if and only if the line is.
+-- `lines::is_all_blank` meets its contract. Invariant: what is left of the line is all blank if and only if it was from where it began.
 use mathlib.Core.Path.{_≡_, refl, sym, _∙_}
 use denote.Ref.{now}
 use mathlib.Core.Bool.{Bool, true}
@@ -14,10 +14,10 @@ use Rattle.lines.proofs.is_all_blank.Statement.{statement}
 use Rattle.lines.proofs.is_all_blank.Tie as tie
 
 abbrev Inv-loop : tie.InvT-loop
-Inv-loop line i₀ i = (i ≤ length line) × ((glue : Bool) → every isBlank (glyphs glue (drop i line)) ≡ every isBlank (glyphs glue line))
+Inv-loop line from i₀ i = (i ≤ length line) × ((glue : Bool) → every isBlank (glyphs glue (drop i line)) ≡ every isBlank (glyphs glue (drop from line)))
 
 abbrev μ-loop : tie.MeasureT-loop
-μ-loop line i₀ i = length line - i
+μ-loop line from i₀ i = length line - i
 
 loop-holds : tie.Need-loop-holds Inv-loop μ-loop
 loop-holds c = (search needs, λ glue. refl)

@@ -25,7 +25,7 @@ returns c = λ glue. rw (c .enum-told .given .1)
 -- the part lies in the block
 lies : (c : tie.After-skip)
     → (c .skip .given .0 .0 ≤ c .skip .given .0 .1 .0) × (c .skip .given .0 .1 .0 ≤ length (now (c .before .before .before .before .args .block)))
-lies c = rw (c .skip .given .1) at (c .before .before .before .before .pre)
+lies c = rw (c .skip .given .1) at (c .before .before .before .before .pre .1)
 
 sub-find : tie.Need-sub-find
 sub-find c = lies (c .before) .0

@@ -46,15 +46,15 @@ pub record AsciiBody (s : List ℕ) (from to : ℕ) : Type 0 where
   pub ascii : Ascii s from to
   pub same : bodyEnd s from ≡ bodyEnd s to
 
--- tabs stand from a place up to another
-pub record Tabs (s : List ℕ) (from to : ℕ) : Type 0 where
+-- one byte stands from a place up to another, again and again
+pub record Repeats (byte : ℕ) (s : List ℕ) (from to : ℕ) : Type 0 where
   pub on : from ≤ to
   pub within : to ≤ length s
-  pub tab : (i : ℕ) → from ≤ i → i < to → getD s i 0 ≡ 9
+  pub each : (i : ℕ) → from ≤ i → i < to → getD s i 0 ≡ byte
 
 -- r is the place after the tabs that are after a blank, if it is one
 pub record BehindTabs (s : List ℕ) (code next r : ℕ) : Type 0 where
-  pub run : Tabs s next r
+  pub run : Repeats 9 s next r
   pub only : (code ≡ 9 → ⊥) → r ≡ next
 
 -- a part given lies in the block

@@ -1,20 +1,20 @@
--- `lines::tabs_end` meets its contract. Invariant: what was passed is tabs.
+-- `lines::run_end` meets its contract. Invariant: what was passed is that byte.
 use Prim.Native.Nat.{_-_}
 use lib.ListN.{length}
 use borrow.Author.Needs.{needs}
-use Rattle.lines.specs.Contracts.Places.{Tabs}
-use Rattle.lines.proofs.Turns.{tabs-none, tabs-more}
-use Rattle.lines.proofs.tabs_end.Statement.{statement}
-use Rattle.lines.proofs.tabs_end.Tie as tie
+use Rattle.lines.specs.Contracts.Places.{Repeats}
+use Rattle.lines.proofs.Turns.{repeats-none, repeats-more}
+use Rattle.lines.proofs.run_end.Statement.{statement}
+use Rattle.lines.proofs.run_end.Tie as tie
 
 abbrev Inv-loop : tie.InvT-loop
-Inv-loop line from i₀ i = Tabs line from i
+Inv-loop line byte from i₀ i = Repeats byte line from i
 
 abbrev μ-loop : tie.MeasureT-loop
-μ-loop line from i₀ i = length line - i
+μ-loop line byte from i₀ i = length line - i
 
 loop-holds : tie.Need-loop-holds Inv-loop μ-loop
-loop-holds c = tabs-none (search needs)
+loop-holds c = repeats-none (search needs)
 
 shared-slice-read-if1 : tie.Need-shared-slice-read-if1 Inv-loop μ-loop
 shared-slice-read-if1 c = search needs
@@ -29,13 +29,13 @@ loop-less : tie.Need-loop-less Inv-loop μ-loop
 loop-less c = search needs
 
 loop-again : tie.Need-loop-again Inv-loop μ-loop
-loop-again c = tabs-more (c .before .before .before .loop .inv) (c .before .before .loop-test .taken) (c .if1 .left)
+loop-again c = repeats-more (c .before .before .before .loop .inv) (c .before .before .loop-test .taken) (c .if1 .left)
 
 returns-2 : tie.Need-returns-2 Inv-loop μ-loop
 returns-2 c = search needs
 
-pub tabs-end-spec : {M : Type 1} → statement M
-tabs-end-spec =
+pub run-end-spec : {M : Type 1} → statement M
+run-end-spec =
     tie.close
     (tie.spec
     Inv-loop
