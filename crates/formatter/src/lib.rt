@@ -120,13 +120,12 @@ fn damage_in(keep: bool, notes: &[u8]) -> Found
     text::first_damage(notes)
 }
 
-// Measures the notes: the pieces are put into no room at all.
+// Measures the notes.
 fn measure_notes(o: Options, block: &[u8], notes: &[u8]) -> Reply
     requires { ⌜ Admitted (now block) (now notes) o ⌝ }
     ensures { λ r. ⌜ r ≡ told (leftOf ownRoom (meant (now (block .entry)) o) (now (notes .entry)) done) ⌝ }
 {
-    let mut none = [0u8; 0];
-    match walk::put_all(o, block, notes, &mut none) {
+    match walk::measure_all(o, block, notes) {
         Ended::Stopped(place) => Reply::Words(place),
         Ended::All(needed) => Reply::Done(needed),
     }

@@ -1,7 +1,7 @@
 -- The loop over the pieces: what is left of the digest, and of the search for a paragraph of too many words.
 use mathlib.Core.Path.{_≡_, refl, sym, ap, _∙_}
 use mathlib.Core.Bool.{Bool, true, false}
-use mathlib.Core.List.{List, [], _++_}
+use mathlib.Core.List.{List, [], _∷_, _++_}
 use Prim.Native.Nat.{ℕ, _≤_}
 use native.Mathlib.Omega.{arith}
 use lib.ListN.{length, replicate}
@@ -15,9 +15,9 @@ use Rattle.options.specs.declared.Options.{Options}
 use Rattle.lines.proofs.Lines.{lines-past}
 use Rattle.pieces.specs.Pieces.{Kind, nextPiece, pieces}
 use Rattle.pieces.specs.declared.Paragraph.{Paragraph}
-use Rattle.output.proofs.Sink.{length-written, wrote-nil, left-first, left-then, left-last}
+use Rattle.output.proofs.Sink.{length-written, wrote-length, wrote-nil, left-first, left-then, left-last}
 use Rattle.walk.specs.Digest.{outputOf, pieceOutput, digest, tooMany, longParagraph}
-use Rattle.walk.specs.Contracts.Course.{piecesFrom, outputFrom, longFrom, FirstPiece, Put, TooLong, CursorIn, Going, start, FinishedFrom, Finished, Reached, Coursed, Begun}
+use Rattle.walk.specs.Contracts.Course.{piecesFrom, outputFrom, longFrom, FirstPiece, Put, TooLong, CursorIn, Going, start, FinishedFrom, ClearedFrom, Finished, Reached, Coursed, Begun}
 use Rattle.paragraphs.specs.declared.Cursor.{Cursor}
 use Rattle.walk.specs.declared.Ahead.{Ahead}
 use Rattle.walk.specs.declared.Ahead.the-variants.{Text, End}
@@ -103,24 +103,43 @@ module _ (most : ℕ) (o : Opts) (notes : List ℕ) where
     going-finished out′ (All n) f = (sym (g .long) ∙ f .0, left-last (g .left) (f .1))
     going-finished out′ (Stopped place) f = (sym (g .long) ∙ f .0, f .1 ∙ going-length)
 
+    pub going-cleared : (out′ : List ℕ) (r : Ended) → ClearedFrom most o notes c out out′ r → ClearedFrom most o notes c₀ out₀ out′ r
+    going-cleared out′ (All n) f = going-finished out′ (All n) f
+    going-cleared out′ (Stopped place) f = (sym (g .long) ∙ f .0, f .1 ∙ ap (λ (n : ℕ). replicate n 0) going-length)
+
     pub going-over : {out′ : List ℕ} → TooLong most o notes out c out′ → FinishedFrom most o notes c₀ out₀ out′ (Stopped (c .at))
     going-over t = (sym (g .long) ∙ long-here most o (t .goes) (t .many), ap length (t .same) ∙ going-length)
 
     pub going-last : length notes ≤ c .at → FinishedFrom most o notes c₀ out₀ out (All (c .written))
     going-last h = (sym (g .long) ∙ long-none most o (c .mail) notes (c .at) h, left-last (rw (output-none o (c .mail) notes (c .at) h) at (g .left)) (wrote-nil out (c .written)))
 
+none-longer : (xs : List ℕ) → length xs ≡ 0 → xs ≡ []
+none-longer [] e = refl
+none-longer (x ∷ xs) e = absurd (omega (arith, e))
+
 -- from the first place on
 pub stands-first : (notes : List ℕ) → CursorIn notes start
 stands-first notes = record { within = omega arith; bounded = omega arith }
 
-module _ (most : ℕ) (o : Opts) (notes out out′ : List ℕ) (r : Ended) (s : FinishedFrom most o notes start out out′ r) where
-  pub all-finished : {n : ℕ} → r ≡ All n → Finished most o notes out out′ (All n)
-  all-finished {n} e = let f : FinishedFrom most o notes start out out′ (All n) = rw e at s in (sym (all-long most o notes) ∙ f .0, rw (all-output o notes) at (f .1))
+module _ (most : ℕ) (o : Opts) (notes : List ℕ) where
+  pub all-finished : (out out′ : List ℕ) (r : Ended) → ClearedFrom most o notes start out out′ r → Finished most o notes out out′ r
+  all-finished out out′ (All n) f = (sym (all-long most o notes) ∙ f .0, rw (all-output o notes) at (f .1))
+  all-finished out out′ (Stopped place) f = (sym (all-long most o notes) ∙ f .0, f .1)
 
-  pub stopped-finished : {place : ℕ} {clear : List ℕ} → r ≡ Stopped place → clear ≡ replicate (length out′) 0 → Finished most o notes out clear (Stopped place)
-  stopped-finished {place} e z =
-      let f : FinishedFrom most o notes start out out′ (Stopped place) = rw e at s in
-      (sym (all-long most o notes) ∙ f .0, z ∙ ap (λ (n : ℕ). replicate n 0) (f .1))
+  -- where there is no room nothing is to be cleared
+  pub none-finished : (out′ : List ℕ) (r : Ended) → FinishedFrom most o notes start [] out′ r → Finished most o notes [] [] r
+  none-finished out′ (All n) f = all-finished [] [] (All n) (rw (none-longer out′ (wrote-length (f .1))) at f)
+  none-finished out′ (Stopped place) f = all-finished [] [] (Stopped place) (f .0, refl)
+
+-- by what came of the work from a place on
+module _ (most : ℕ) (o : Opts) (notes : List ℕ) (c : Cursor) (out out′ : List ℕ) (r : Ended) (s : FinishedFrom most o notes c out out′ r) where
+  pub finished-all : {n : ℕ} → r ≡ All n → ClearedFrom most o notes c out out′ (All n)
+  finished-all e = rw e at s
+
+  pub finished-stopped : {place : ℕ} {clear : List ℕ} → r ≡ Stopped place → clear ≡ replicate (length out′) 0 → ClearedFrom most o notes c out clear (Stopped place)
+  finished-stopped {place} e z =
+      let f : FinishedFrom most o notes c out out′ (Stopped place) = rw e at s in
+      (f .0, z ∙ ap (λ (n : ℕ). replicate n 0) (f .1))
 
 -- by what follows the lines
 module _ (most : ℕ) (block : List ℕ) (o : Options) (notes out₀ out : List ℕ) (c₀ : Cursor) (r : Ahead) (s : Reached most block o notes c₀ out₀ out r) where

@@ -6,7 +6,7 @@ use pieces::Paragraph;
 use pieces::Piece;
 ghost use mathlib.Core.Path.{_≡_};
 ghost use mathlib.Core.Bool.{true, false, cond};
-ghost use mathlib.Core.List.{List};
+ghost use mathlib.Core.List.{List, []};
 ghost use Prim.Native.Nat.{ℕ, _+_, _-_, _*_, _≤_, max};
 ghost use lib.ListN.{length, replicate};
 ghost use lib.Seq.{slice};
@@ -20,7 +20,7 @@ ghost use Rattle.output.specs.Contracts.Sink.{Wrote};
 ghost use Rattle.paragraphs.specs.Contracts.Steps.{roomFor, wordsFor};
 ghost use Rattle.walk.specs.Digest.{mostWords, digest};
 ghost use Rattle.walk.specs.Work.{workFor};
-ghost use Rattle.walk.specs.Contracts.Course.{CursorIn, TextAhead, Reached, Admitted, outputFrom, longFrom, Coursed, Begun, start, Finished, FinishedFrom};
+ghost use Rattle.walk.specs.Contracts.Course.{CursorIn, TextAhead, Reached, Admitted, outputFrom, longFrom, Coursed, Begun, start, Finished, FinishedFrom, ClearedFrom};
 
 // What follows the lines after a place: a paragraph, where the cursor stands, or the end of the notes.
 enum Ahead {
@@ -40,17 +40,60 @@ pub enum Ended {
     Stopped(usize),
 }
 
-// Writes what fits of all pieces, and counts what is needed; or tells the first paragraph of too many words, and clears the output.
+// Where the notes begin.
+fn front() -> Cursor
+    ensures { λ r. ⌜ r ≡ start ⌝ }
+{
+    Cursor {
+        at: 0,
+        written: 0,
+        mail: true,
+    }
+}
+
+// Writes what fits of all pieces, and counts what is needed; or tells the first paragraph of too many words, and clears the output. The work
+// goes on when no room is left: too many words, found later, take precedence.
+// In the original: `ParagraphStream::new` and `uumain`.
 pub fn put_all(o: Options, block: &[u8], notes: &[u8], out: &mut [u8]) -> Ended
     requires { ⌜ Admitted (now block) (now notes) o ⌝ }
     ensures { λ r. ⌜ Finished mostWords (meant (now (block .entry)) o) (now (notes .entry)) (now (out .entry)) (now (out .exit)) r ⌝ }
 {
-    match put_pieces(o, block, notes, out) {
+    match put_lines(o, block, notes, front(), out) {
+        Ahead::End(needed) => Ended::All(needed),
+        Ahead::Text { c, p } => put_or_clear(o, block, notes, c, p, out),
+    }
+}
+
+// Everything from the first paragraph on, or nothing.
+fn put_or_clear(
+    o: Options,
+    block: &[u8],
+    notes: &[u8],
+    c: Cursor,
+    p: Paragraph,
+    out: &mut [u8],
+) -> Ended
+    requires { ⌜ Admitted (now block) (now notes) o × CursorIn (now notes) c × TextAhead (now block) o (now notes) c p ⌝ }
+    ensures { λ r. ⌜ ClearedFrom mostWords (meant (now (block .entry)) o) (now (notes .entry)) c (now (out .entry)) (now (out .exit)) r ⌝ }
+{
+    match put_from(o, block, notes, c, p, out) {
         Ended::All(needed) => Ended::All(needed),
         Ended::Stopped(place) => {
             clear(out);
             Ended::Stopped(place)
         }
+    }
+}
+
+// What `put_all` would count.
+pub fn measure_all(o: Options, block: &[u8], notes: &[u8]) -> Ended
+    requires { ⌜ Admitted (now block) (now notes) o ⌝ }
+    ensures { λ r. ⌜ Finished mostWords (meant (now (block .entry)) o) (now (notes .entry)) [] [] r ⌝ }
+{
+    let mut none = [0u8; 0];
+    match put_lines(o, block, notes, front(), &mut none) {
+        Ahead::End(needed) => Ended::All(needed),
+        Ahead::Text { c, p } => put_from(o, block, notes, c, p, &mut none),
     }
 }
 
@@ -65,12 +108,7 @@ pub fn put_all_lent(
     requires { ⌜ Admitted (now block) (now notes) o × (workFor (meant (now block) o) (now notes) ≤ length (now work)) ⌝ }
     ensures { λ r. ⌜ Wrote (now (out .entry)) 0 (digest (meant (now (block .entry)) o) (now (notes .entry))) (now (out .exit)) r ⌝ }
 {
-    let start = Cursor {
-        at: 0,
-        written: 0,
-        mail: true,
-    };
-    match put_lines(o, block, notes, start, out) {
+    match put_lines(o, block, notes, front(), out) {
         Ahead::End(needed) => needed,
         Ahead::Text { c, p } => put_lent(o, block, notes, c, p, out, work),
     }
@@ -151,23 +189,6 @@ fn with_paragraph(o: Options, notes: &[u8], at: usize, p: Paragraph, most: usize
     needed
 }
 
-// The pieces themselves. The work goes on when no room is left: too many words, found later, take precedence.
-// In the original: `ParagraphStream::new` and `uumain`.
-fn put_pieces(o: Options, block: &[u8], notes: &[u8], out: &mut [u8]) -> Ended
-    requires { ⌜ Admitted (now block) (now notes) o ⌝ }
-    ensures { λ r. ⌜ FinishedFrom mostWords (meant (now (block .entry)) o) (now (notes .entry)) start (now (out .entry)) (now (out .exit)) r ⌝ }
-{
-    let start = Cursor {
-        at: 0,
-        written: 0,
-        mail: true,
-    };
-    match put_lines(o, block, notes, start, out) {
-        Ahead::End(needed) => Ended::All(needed),
-        Ahead::Text { c, p } => put_from(o, block, notes, c, p, out),
-    }
-}
-
 // Writes the lines from a place on, blank and plain ones, up to the next paragraph.
 fn put_lines(o: Options, block: &[u8], notes: &[u8], from: Cursor, out: &mut [u8]) -> Ahead
     requires { ⌜ Admitted (now block) (now notes) o × CursorIn (now notes) from ⌝ }
@@ -212,6 +233,11 @@ const BEST_MORE: usize = 2940;
 
 const BEST_MOST: usize = 15360;
 
+// With Knuth-Plass a paragraph of more bytes has more words, as a rule, than the first room and the second are for.
+const FEW_BYTES: usize = 240;
+
+const MORE_BYTES: usize = 960;
+
 // Writes everything from the first paragraph on. All working room is declared in the functions that follow, each for longer paragraphs
 // than the one before it, and lent from there on: a call has no more of it cleared than its paragraphs ask for, and notes without a
 // paragraph do without.
@@ -229,7 +255,15 @@ fn put_from(
     if o.quick {
         return put_quick(o, block, notes, c, p, out);
     }
-    put_best(o, block, notes, c, p, out)
+    // The first paragraph is not split for a room that it outgrows.
+    let size = p.next - c.at;
+    if size <= FEW_BYTES {
+        return put_best(o, block, notes, c, p, out);
+    }
+    if size <= MORE_BYTES {
+        return put_best_more(o, block, notes, c, p, out);
+    }
+    put_best_long(o, block, notes, c, p, out)
 }
 
 // Quick, for the words of a few lines.

@@ -103,6 +103,11 @@ abbrev pub FinishedFrom : ℕ → Opts → List ℕ → Cursor → List ℕ → 
 FinishedFrom most o notes c out out′ (All n) = (longFrom most o (c .mail) notes (c .at) ≡ Nowhere) × Wrote out (c .written) (outputFrom o (c .mail) notes (c .at)) out′ n
 FinishedFrom most o notes c out out′ (Stopped place) = (longFrom most o (c .mail) notes (c .at) ≡ At place) × (length out′ ≡ length out)
 
+-- the same, and where a paragraph has too many words no byte of a digest is left
+abbrev pub ClearedFrom : ℕ → Opts → List ℕ → Cursor → List ℕ → List ℕ → Ended → Type 0
+ClearedFrom most o notes c out out′ (All n) = FinishedFrom most o notes c out out′ (All n)
+ClearedFrom most o notes c out out′ (Stopped place) = (longFrom most o (c .mail) notes (c .at) ≡ At place) × (out′ ≡ replicate (length out) 0)
+
 -- so far as the room reaches, which is for so many words: to the end, or to a paragraph of more words
 abbrev pub Coursed : ℕ → ℕ → List ℕ → Options → List ℕ → Cursor → List ℕ → List ℕ → Course → Type 0
 Coursed most room block o notes c₀ out₀ out (CourseEnd n) = FinishedFrom most (meant block o) notes c₀ out₀ out (All n)
