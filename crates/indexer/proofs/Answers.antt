@@ -36,7 +36,7 @@ use Rattle.index.specs.declared.Record.{Record}
 use Rattle.index.specs.Contracts.Lists.{noRecord}
 use Rattle.index.specs.Contracts.Reading.{front, readFrom}
 use Rattle.indexer.specs.Index.{indexOf}
-use Rattle.indexer.specs.Answers.{done, full, room, work, outputAfter}
+use Rattle.indexer.specs.Answers.{done, full, room, work, indexOutputAfter}
 use Rattle.indexer.specs.Indexing.{withIndex, inIndex, marksFor, indexWork, indexLending, indexUnder, indexing}
 use Rattle.indexer.specs.declared.Filled.{Filled}
 use Rattle.indexer.specs.Contracts.Noting.{Noted, Indexes, refusedAs, leftOf, numbering, foundOf}
@@ -49,7 +49,7 @@ use Rattle.indexer.specs.declared.Pieces.the-variants.{All}
 module _ (most : ℕ) (o : Opts) (notes out : List ℕ) where
   pub words-answer : (records place size : ℕ) (out″ work′ : List ℕ) → longParagraph most o 0 (pieces o notes) ≡ At place → size ≡ length out → out″ ≡ replicate size 0
       → Indexes (foundOf most o notes (length out) records) out (Words place) out″ work′
-  unfolding outputAfter readFrom
+  unfolding indexOutputAfter readFrom
   words-answer records place size out″ work′ e l z = record { is = rw e; output = rw e (z ∙ ap (λ (k : ℕ). replicate k 0) l); read = rw e }
 
   module _ (out′ work′ : List ℕ) where
@@ -70,14 +70,14 @@ module _ (most : ℕ) (o : Opts) (notes out : List ℕ) where
       left-is = rw (noted .0)
 
       pub full-answer : (out″ : List ℕ) → records < k → out″ ≡ replicate (length out′) 0 → Indexes (foundOf most o notes (length out) records) out (Full k) out″ work′
-      unfolding outputAfter readFrom
+      unfolding indexOutputAfter readFrom
       full-answer out″ h z =
           let a : foundOf most o notes (length out) records ≡ full (length (indexOf o notes)) = left-is ∙ rw (lt-leb (length (indexOf o notes)) records (omega (arith, h, count-is))) in
           record { is = rw (a, count-is); output = rw a (z ∙ ap (λ (m : ℕ). replicate m 0) same-out); read = rw a }
 
       -- the digest's length is more than N can tell
       pub untold-answer : (out″ : List ℕ) → k ≤ records → mostTold < n → out″ ≡ replicate (length out′) 0 → Indexes (foundOf most o notes (length out) records) out (Room mostTold) out″ work′
-      unfolding outputAfter readFrom
+      unfolding indexOutputAfter readFrom
       untold-answer out″ h g z =
           let a : foundOf most o notes (length out) records ≡ room mostTold =
           left-is ∙ rw (le-leb (length (indexOf o notes)) records (omega (arith, h, count-is)), lt-leb (length (digest o notes)) mostTold (omega (arith, g, length-is))) in
@@ -88,13 +88,13 @@ module _ (most : ℕ) (o : Opts) (notes out : List ℕ) where
         told-is = left-is ∙ rw (le-leb (length (indexOf o notes)) records (omega (arith, few, count-is)), le-leb (length (digest o notes)) mostTold (omega (arith, short, length-is)))
 
         pub room-answer : (out″ : List ℕ) → length out < n → out″ ≡ replicate (length out′) 0 → Indexes (foundOf most o notes (length out) records) out (Room n) out″ work′
-        unfolding outputAfter readFrom
+        unfolding indexOutputAfter readFrom
         room-answer out″ g z =
             let a : foundOf most o notes (length out) records ≡ room (length (digest o notes)) = told-is ∙ rw (lt-leb (length (digest o notes)) (length out) (omega (arith, g, length-is))) in
             record { is = rw (a, length-is); output = rw a (z ∙ ap (λ (m : ℕ). replicate m 0) same-out); read = rw a }
 
         pub done-answer : n ≤ length out → Indexes (foundOf most o notes (length out) records) out (Done n k) out′ work′
-        unfolding outputAfter
+        unfolding indexOutputAfter
         done-answer g =
             let a : foundOf most o notes (length out) records ≡ done (digest o notes) (indexOf o notes) = told-is ∙ rw (le-leb (length (digest o notes)) (length out) (omega (arith, g, length-is))) in
             record {
@@ -130,7 +130,7 @@ module _ (o : Opts) (notes : List ℕ) (space records lends : ℕ) where
       ∙ ap (λ (b : Bool). inIndex (indexLending lends .words) space records (indexOf o notes) (elim b as (λ t. Answer) [ true ↦ noWork (indexWork o notes) | false ↦ measured (digest o notes) ])) (sym (le-ltb lends (indexWork o notes) h))
 
   pub work-answer : (out table : List ℕ) (needed : ℕ) → needed ≡ indexWork o notes → lends < needed → Indexes (leftOf (indexLending lends) o notes space records) out (Work needed) out table
-  unfolding outputAfter readFrom
+  unfolding indexOutputAfter readFrom
   work-answer out table needed e h =
       let a : leftOf (indexLending lends) o notes space records ≡ work needed =
       ap (λ (b : Bool). inIndex (indexLending lends .words) space records (indexOf o notes) (elim b as (λ t. Answer) [ true ↦ noWork (indexWork o notes) | false ↦ measured (digest o notes) ])) (lt-ltb lends (indexWork o notes) (omega (arith, e, h))) ∙ ap work (sym e) in
@@ -183,7 +183,7 @@ module _ (l : Limits) (block notes : List ℕ) where
   -- what is left of a refusal that is told before any piece is looked at
   refusal-answer : (space records : ℕ) (rs : List Record) (out table : List ℕ) (a : Answer) → (codeOf a ≡ 0 → ⊥) → ((xs : List ℕ) → outputLeft a xs ≡ xs)
       → Indexes (inIndex (l .words) space records rs a) out (refusedAs (replied a)) out table
-  unfolding outputAfter readFrom outputLeft
+  unfolding indexOutputAfter readFrom outputLeft
   refusal-answer space records rs out table (measured d) n u = absurd (n refl)
   refusal-answer space records rs out table (faulty place) n u = record { is = refl; output = refl; read = refl }
   refusal-answer space records rs out table tooLong n u = record { is = refl; output = refl; read = refl }

@@ -48,15 +48,15 @@ unfoldable pub numbered : Indexed → ℕ
 numbered a = code a * 2 ^ 32 + value a
 
 -- the output afterwards: the digest and the rest unchanged; unchanged; all zero
-unfoldable pub outputAfter : Indexed → List ℕ → List ℕ
-outputAfter (done digest index) output = digest ++ drop (length digest) output
-outputAfter (options place) output = output
-outputAfter long output = output
-outputAfter (text place) output = output
-outputAfter (words place) output = replicate (length output) 0
-outputAfter (full pieces) output = replicate (length output) 0
-outputAfter (room needed) output = replicate (length output) 0
-outputAfter (work needed) output = output
+unfoldable pub indexOutputAfter : Indexed → List ℕ → List ℕ
+indexOutputAfter (done digest index) output = digest ++ drop (length digest) output
+indexOutputAfter (options place) output = output
+indexOutputAfter long output = output
+indexOutputAfter (text place) output = output
+indexOutputAfter (words place) output = replicate (length output) 0
+indexOutputAfter (full pieces) output = replicate (length output) 0
+indexOutputAfter (room needed) output = replicate (length output) 0
+indexOutputAfter (work needed) output = output
 
 -- the records afterwards: the index and those after it unchanged; on a refusal all unchanged
 unfoldable pub recordsAfter : Indexed → List Record → List Record

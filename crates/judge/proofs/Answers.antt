@@ -31,7 +31,7 @@ use Rattle.checker.specs.Contracts.Places.{matched, MatchedIn}
 use Rattle.checker.specs.declared.Spot.{Spot}
 use Rattle.checker.specs.declared.Matched.{Matched}
 use Rattle.checker.specs.declared.Matched.the-variants.{On, Fault}
-use Rattle.judge.specs.Checking.{withVerdict, withDigest, withNotes, verdictUnder, checking}
+use Rattle.judge.specs.Checking.{withVerdict, digestWithin, afterNotes, verdictUnder, checking}
 use Rattle.judge.specs.Contracts.Judging.{Walked, begun, toldOf, judgedBy, refusedAs, leftOf}
 use Rattle.judge.specs.declared.Judgement.{Judgement}
 use Rattle.judge.specs.declared.Judgement.the-variants.{Accepted, Words, LongDigest, Line, Work}
@@ -85,11 +85,11 @@ module _ (bytes most : ℕ) (o : Opts) (notes digest : List ℕ) (first : Matche
   through : {m : Matched} → r ≡ Through m → Walked most o notes digest first (Through m)
   through e = rw e at w
 
-  through-judged : {m : Matched} → r ≡ Through m → first ≡ begun bytes (length digest) → judgedBy bytes (length digest) m ≡ withDigest bytes (length digest) (verdict o notes digest)
+  through-judged : {m : Matched} → r ≡ Through m → first ≡ begun bytes (length digest) → judgedBy bytes (length digest) m ≡ digestWithin bytes (length digest) (verdict o notes digest)
   unfolding verdict
   through-judged {m} e b = go (ltb bytes (length digest)) refl
     where
-      go : (t : Bool) → ltb bytes (length digest) ≡ t → judgedBy bytes (length digest) m ≡ withDigest bytes (length digest) (verdict o notes digest)
+      go : (t : Bool) → ltb bytes (length digest) ≡ t → judgedBy bytes (length digest) m ≡ digestWithin bytes (length digest) (verdict o notes digest)
       go true t = rw t
       go false t =
           let f : matched digest m ≡ andThen (matched digest first) (matchPieces o (pieces o notes)) = through e .1 .is in
@@ -102,7 +102,7 @@ module _ (bytes most : ℕ) (o : Opts) (notes digest : List ℕ) (first : Matche
   stopped-answer e = rw (stopped e)
 
   pub through-answer : {m : Matched} → r ≡ Through m → first ≡ begun bytes (length digest) → {a : Judgement} → a ≡ judgedBy bytes (length digest) m → a ≡ leftOf (limited bytes most) o notes digest
-  through-answer e b q = q ∙ through-judged e b ∙ ap (λ (f : Found). withNotes (withDigest bytes (length digest) (verdict o notes digest)) (withWords done o notes f)) (sym (through e .0))
+  through-answer e b q = q ∙ through-judged e b ∙ ap (λ (f : Found). afterNotes (digestWithin bytes (length digest) (verdict o notes digest)) (withWords done o notes f)) (sym (through e .0))
 
 -- where room is lent, for so many words: it does not reach, and what the notes need is told; or it does
 module _ (lends : ℕ) (o : Opts) (notes digest : List ℕ) (first : Matched) (most : ℕ) (is : most ≡ roomFor (o .quick) lends) (r : Course) (w : Walked most o notes digest first r) where
@@ -113,13 +113,13 @@ module _ (lends : ℕ) (o : Opts) (notes digest : List ℕ) (first : Matched) (m
   short-answer {place} {n} e k =
       let h : lends < workFor o notes = over o lends notes (stopped mostLent (roomFor (o .quick) lends) o notes digest first r walked e) in
       let m : n ≡ workFor o notes = omega (arith, h, k) in
-      ap Work m ∙ ap (λ (b : Bool). withNotes (withDigest mostLent (length digest) (verdict o notes digest)) (elim b as (λ t. Answer) [ true ↦ work (workFor o notes) | false ↦ done (digestOf o notes) ])) (sym (lt-ltb lends (workFor o notes) h))
+      ap Work m ∙ ap (λ (b : Bool). afterNotes (digestWithin mostLent (length digest) (verdict o notes digest)) (elim b as (λ t. Answer) [ true ↦ work (workFor o notes) | false ↦ done (digestOf o notes) ])) (sym (lt-ltb lends (workFor o notes) h))
 
   pub lent-answer : {m : Matched} → r ≡ Through m → first ≡ begun mostLent (length digest) → {a : Judgement} → a ≡ judgedBy mostLent (length digest) m → a ≡ leftOf (lending lends) o notes digest
   lent-answer e b q =
       let f = fits o lends notes (through mostLent (roomFor (o .quick) lends) o notes digest first r walked e .0) in
       q ∙ through-judged mostLent (roomFor (o .quick) lends) o notes digest first r walked e b
-      ∙ ap (λ (t : Bool). withNotes (withDigest mostLent (length digest) (verdict o notes digest)) (elim t as (λ x. Answer) [ true ↦ work (workFor o notes) | false ↦ done (digestOf o notes) ])) (sym (le-ltb lends (workFor o notes) f))
+      ∙ ap (λ (t : Bool). afterNotes (digestWithin mostLent (length digest) (verdict o notes digest)) (elim t as (λ x. Answer) [ true ↦ work (workFor o notes) | false ↦ done (digestOf o notes) ])) (sym (le-ltb lends (workFor o notes) f))
 
 -- ---- what is told before
 
@@ -127,10 +127,10 @@ module _ (l : Limits) (block notes : List ℕ) where
   pub checking-left : (digest : List ℕ) (o : Options) → Admits l block notes (Passed o) → checking l block notes digest ≡ leftOf l (meant block o) notes digest
   unfolding checking finding
   checking-left digest o s =
-      ap (λ (b : Block). withNotes (withDigest (l .bytes) (length digest) (verdictUnder block notes digest b)) (withBlock l done block notes (readBlock block))) (s .0 .accepted)
-      ∙ ap (withNotes (withDigest (l .bytes) (length digest) (verdict (meant block o) notes digest))) (s .1 done)
+      ap (λ (b : Block). afterNotes (digestWithin (l .bytes) (length digest) (verdictUnder block notes digest b)) (withBlock l done block notes (readBlock block))) (s .0 .accepted)
+      ∙ ap (afterNotes (digestWithin (l .bytes) (length digest) (verdict (meant block o) notes digest))) (s .1 done)
 
-  refusal-is : (then : Judgement) (a : Answer) → 1 ≤ codeOf a → refusedAs (told a) ≡ withNotes then a
+  refusal-is : (then : Judgement) (a : Answer) → 1 ≤ codeOf a → refusedAs (told a) ≡ afterNotes then a
   refusal-is then (done d) h = absurd (omega (arith, h))
   refusal-is then (options place) h = refl
   refusal-is then long h = refl
@@ -142,7 +142,7 @@ module _ (l : Limits) (block notes : List ℕ) where
   pub refused-answer : (digest : List ℕ) {q : Reply} → Admits l block notes (Refused q) → refusedAs q ≡ checking l block notes digest
   unfolding checking finding
   refused-answer digest {q} s =
-      let then = withDigest (l .bytes) (length digest) (verdictUnder block notes digest (readBlock block)) in
+      let then = digestWithin (l .bytes) (length digest) (verdictUnder block notes digest (readBlock block)) in
       ap refusedAs (s .is)
       ∙ refusal-is then (s .refusal) (a-refusal-is-no-digest l block notes s)
-      ∙ ap (withNotes then) (sym (s .whole-is done))
+      ∙ ap (afterNotes then) (sym (s .whole-is done))

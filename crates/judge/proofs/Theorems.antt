@@ -19,7 +19,7 @@ use Rattle.checker.specs.Named.{Named}
 use Rattle.checker.specs.Matching.{Verdict, accepted, at, verdict}
 use Rattle.checker.proofs.Theorems.{what-is-accepted-is-acceptable, what-is-acceptable-is-accepted, the-line-told-is-the-line-named, the-line-named-is-the-line-told}
 use Rattle.judge.specs.Answers.{code, value, numbered}
-use Rattle.judge.specs.Checking.{withVerdict, withDigest, withNotes, verdictUnder, checking}
+use Rattle.judge.specs.Checking.{withVerdict, digestWithin, afterNotes, verdictUnder, checking}
 use Rattle.judge.specs.Theorems.Looked.{Looked}
 use Rattle.judge.specs.declared.Judgement.{Judgement}
 use Rattle.judge.specs.declared.Judgement.the-variants.{Accepted, LongDigest, Line}
@@ -27,7 +27,7 @@ use Rattle.judge.specs.declared.Judgement.the-variants.{Accepted, LongDi
 module _ (l : Limits) (block notes digest : List ℕ) where
   -- ---- what is told where none of 1 to 4 is due
 
-  done-then : (then : Judgement) (a : Answer) → codeOf a ≡ 0 → withNotes then a ≡ then
+  done-then : (then : Judgement) (a : Answer) → codeOf a ≡ 0 → afterNotes then a ≡ then
   done-then then (done d) e = refl
   done-then then (options place) e = absurd (omega (arith, e))
   done-then then long e = absurd (omega (arith, e))
@@ -37,7 +37,7 @@ module _ (l : Limits) (block notes digest : List ℕ) where
   done-then then (work needed) e = absurd (omega (arith, e))
 
   -- and the other way round, where it is not one of 1 to 4, nor 12
-  then-done : (then : Judgement) (a : Answer) {r : Judgement} → withNotes then a ≡ r → (code r ≡ 1 → ⊥) → (code r ≡ 2 → ⊥) → (code r ≡ 3 → ⊥) → (code r ≡ 4 → ⊥) → (code r ≡ 12 → ⊥) → codeOf a ≡ 0
+  then-done : (then : Judgement) (a : Answer) {r : Judgement} → afterNotes then a ≡ r → (code r ≡ 1 → ⊥) → (code r ≡ 2 → ⊥) → (code r ≡ 3 → ⊥) → (code r ≡ 4 → ⊥) → (code r ≡ 12 → ⊥) → codeOf a ≡ 0
   then-done then (done d) e p q r s t = refl
   then-done then (options place) e p q r s t = absurd (p (sym (ap code e)))
   then-done then long e p q r s t = absurd (q (sym (ap code e)))
@@ -47,14 +47,14 @@ module _ (l : Limits) (block notes digest : List ℕ) where
   then-done then (work needed) e p q r s t = absurd (t (sym (ap code e)))
 
   -- a digest that is judged is within the limit
-  judged-short : (v : Verdict) {r : Judgement} → withDigest (l .bytes) (length digest) v ≡ r → (code r ≡ 9 → ⊥) → (length digest ≤ l .bytes) × (withVerdict v ≡ r)
+  judged-short : (v : Verdict) {r : Judgement} → digestWithin (l .bytes) (length digest) v ≡ r → (code r ≡ 9 → ⊥) → (length digest ≤ l .bytes) × (withVerdict v ≡ r)
   judged-short v {r} e n = go (ltb (l .bytes) (length digest)) refl e
     where
       go : (t : Bool) → ltb (l .bytes) (length digest) ≡ t → cond t LongDigest (withVerdict v) ≡ r → (length digest ≤ l .bytes) × (withVerdict v ≡ r)
       go true t k = absurd (n (sym (ap code k)))
       go false t k = (ltb-false (l .bytes) (length digest) t, k)
 
-  short-judged : (v : Verdict) → length digest ≤ l .bytes → withDigest (l .bytes) (length digest) v ≡ withVerdict v
+  short-judged : (v : Verdict) → length digest ≤ l .bytes → digestWithin (l .bytes) (length digest) v ≡ withVerdict v
   short-judged v h = rw (le-ltb (l .bytes) (length digest) h)
 
   accepted-only : (v : Verdict) → withVerdict v ≡ Accepted → v ≡ accepted
@@ -88,7 +88,7 @@ module _ (l : Limits) (block notes digest : List ℕ) where
   pub what-the-call-accepts-is-acceptable : checking l block notes digest ≡ Accepted → Looked l block notes digest (λ o. Acceptable o notes digest)
   unfolding checking
   what-the-call-accepts-is-acceptable e =
-      let then = withDigest (l .bytes) (length digest) (verdictUnder block notes digest (readBlock block)) in
+      let then = digestWithin (l .bytes) (length digest) (verdictUnder block notes digest (readBlock block)) in
       let p = then-done then (finding l block notes) e (λ z. omega (arith, z)) (λ z. omega (arith, z)) (λ z. omega (arith, z)) (λ z. omega (arith, z)) (λ z. omega (arith, z)) in
       let s = judged-short (verdictUnder block notes digest (readBlock block)) (sym (done-then then (finding l block notes) p) ∙ e) (λ z. omega (arith, z)) in
       looked (λ o. Acceptable o notes digest) accepted (λ o v. what-is-accepted-is-acceptable o notes digest v) p (s .0) (accepted-only _ (s .1))
@@ -100,7 +100,7 @@ module _ (l : Limits) (block notes digest : List ℕ) where
   pub the-line-that-the-call-tells-is-named : (n : ℕ) → checking l block notes digest ≡ Line n → Looked l block notes digest (λ o. Named (Acceptable o notes) digest n)
   unfolding checking
   the-line-that-the-call-tells-is-named n e =
-      let then = withDigest (l .bytes) (length digest) (verdictUnder block notes digest (readBlock block)) in
+      let then = digestWithin (l .bytes) (length digest) (verdictUnder block notes digest (readBlock block)) in
       let p = then-done then (finding l block notes) e (λ z. omega (arith, z)) (λ z. omega (arith, z)) (λ z. omega (arith, z)) (λ z. omega (arith, z)) (λ z. omega (arith, z)) in
       let s = judged-short (verdictUnder block notes digest (readBlock block)) (sym (done-then then (finding l block notes) p) ∙ e) (λ z. omega (arith, z)) in
       looked (λ o. Named (Acceptable o notes) digest n) (at n) (λ o v. the-line-told-is-the-line-named o notes digest n v) p (s .0) (line-only _ n (s .1))
@@ -125,7 +125,7 @@ module _ (l : Limits) (block notes digest : List ℕ) where
       some (work needed) k = omega arith
 
       go : (a : Answer) → (codeOf a ≡ 5 → ⊥) → (codeOf a ≡ 0 → ⊥)
-          → numbered (withNotes (withDigest (l .bytes) (length digest) (verdictUnder block notes digest (readBlock block))) a) ≡ numberOf a
+          → numbered (afterNotes (digestWithin (l .bytes) (length digest) (verdictUnder block notes digest (readBlock block))) a) ≡ numberOf a
       go (done d) m k = absurd (k refl)
       go (options place) m k = refl
       go long m k = refl

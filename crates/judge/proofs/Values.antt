@@ -22,7 +22,7 @@ use Rattle.checker.specs.Named.{feeds, Named}
 use Rattle.checker.specs.Matching.{Verdict, accepted, at, verdict}
 use Rattle.checker.proofs.Theorems.{the-line-told-is-the-line-named}
 use Rattle.judge.specs.Answers.{code, value, numbered}
-use Rattle.judge.specs.Checking.{withVerdict, withDigest, withNotes, verdictUnder, checking}
+use Rattle.judge.specs.Checking.{withVerdict, digestWithin, afterNotes, verdictUnder, checking}
 use Rattle.judge.specs.declared.Judgement.{Judgement}
 use Rattle.judge.specs.declared.Judgement.the-variants.{Accepted, Options, Long, Text, Words, LongDigest, Line, Work}
 
@@ -51,7 +51,7 @@ verdict-few block notes digest (BlockAccepted o) = go (verdict (meant block o) n
     go (at n) e = named-few (Acceptable (meant block o) notes) digest n (the-line-told-is-the-line-named (meant block o) notes digest n e)
 
 module _ (l : Limits) (sound : Sound l) (block notes digest : List ℕ) where
-  digest-small : (b : Block) → value (withDigest (l .bytes) (length digest) (verdictUnder block notes digest b)) ≤ mostTold
+  digest-small : (b : Block) → value (digestWithin (l .bytes) (length digest) (verdictUnder block notes digest b)) ≤ mostTold
   digest-small b = go (ltb (l .bytes) (length digest)) refl
     where
       go : (t : Bool) → ltb (l .bytes) (length digest) ≡ t → value (cond t LongDigest (withVerdict (verdictUnder block notes digest b))) ≤ mostTold
@@ -60,7 +60,7 @@ module _ (l : Limits) (sound : Sound l) (block notes digest : List ℕ) where
 
   -- ---- the answer
 
-  notes-small : (then : Judgement) (a : Answer) → value then ≤ mostTold → (1 ≤ codeOf a → valueOf a ≤ mostTold) → value (withNotes then a) ≤ mostTold
+  notes-small : (then : Judgement) (a : Answer) → value then ≤ mostTold → (1 ≤ codeOf a → valueOf a ≤ mostTold) → value (afterNotes then a) ≤ mostTold
   notes-small then (done digest) h k = h
   notes-small then (options place) h k = k (omega arith)
   notes-small then long h k = omega arith
@@ -111,7 +111,7 @@ module _ (l : Limits) (block notes digest : List ℕ) (n : ℕ) where
   unfolding checking
   found-so e = go (finding l block notes) e
     where
-      go : (a : Answer) → withNotes (withDigest (l .bytes) (length digest) (verdictUnder block notes digest (readBlock block))) a ≡ Work n → a ≡ work n
+      go : (a : Answer) → afterNotes (digestWithin (l .bytes) (length digest) (verdictUnder block notes digest (readBlock block))) a ≡ Work n → a ≡ work n
       go (done d) k = absurd (never-so (ltb (l .bytes) (length digest)) (verdictUnder block notes digest (readBlock block)) k)
       go (options place) k = absurd (let z = ap code k in omega (arith, z))
       go long k = absurd (let z = ap code k in omega (arith, z))

@@ -20,19 +20,19 @@ withVerdict accepted = Accepted
 withVerdict (at line) = Line line
 
 -- 9 before it: a digest of so many bytes, more than notes may have
-abbrev pub withDigest : ℕ → ℕ → Verdict → Judgement
-withDigest most size v = cond (ltb most size) LongDigest (withVerdict v)
+abbrev pub digestWithin : ℕ → ℕ → Verdict → Judgement
+digestWithin most size v = cond (ltb most size) LongDigest (withVerdict v)
 
 -- 1 to 4 before both
-abbrev pub withNotes : Judgement → Answer → Judgement
-withNotes then (done digest) = then
-withNotes then (options place) = Options place
-withNotes then long = Long
-withNotes then (text place) = Text place
-withNotes then (words place) = Words place
+abbrev pub afterNotes : Judgement → Answer → Judgement
+afterNotes then (done digest) = then
+afterNotes then (options place) = Options place
+afterNotes then long = Long
+afterNotes then (text place) = Text place
+afterNotes then (words place) = Words place
 -- (nothing is found so)
-withNotes then (room needed) = Long
-withNotes then (work needed) = Work needed
+afterNotes then (room needed) = Long
+afterNotes then (work needed) = Work needed
 
 -- the verdict on a digest under the options that a block means; of a faulty block none is asked
 abbrev pub verdictUnder : List ℕ → List ℕ → List ℕ → Block → Verdict
@@ -40,4 +40,4 @@ verdictUnder block notes digest (Fault place) = accepted
 verdictUnder block notes digest (BlockAccepted o) = verdict (meant block o) notes digest
 
 unfoldable pub checking : Limits → List ℕ → List ℕ → List ℕ → Judgement
-checking l block notes digest = withNotes (withDigest (l .bytes) (length digest) (verdictUnder block notes digest (readBlock block))) (finding l block notes)
+checking l block notes digest = afterNotes (digestWithin (l .bytes) (length digest) (verdictUnder block notes digest (readBlock block))) (finding l block notes)

@@ -317,7 +317,7 @@ fn classify(line: &[u8], ascii: bool, o: Options, block: &[u8]) -> Class
             prefix_length: 0,
         });
     };
-    behind_prefix(line, &block[start..end], o.exact, tab, glue)
+    behind_prefix(line, &block[start..end], o.exact_prefix, tab, glue)
 }
 
 // Whether nothing but blanks is in a line. A byte below 0x80, as most are, is a character by itself.

@@ -22,7 +22,7 @@ use Rattle.pieces.specs.Pieces.{pieces}
 use Rattle.walk.specs.Digest.{digest, longParagraph}
 use Rattle.formatter.specs.Answers.{Answer, done, options, long, text, words, room as lacking, work, code}
 use Rattle.formatter.specs.Format.{Words, upTo, lent, Limits, withWords, within, withText, damageIn, withNotes, withBlock, withDigest, answer, mostTold, isTold, measured, measuring, inRoom, writing}
-use Rattle.salvage.specs.Lines.{wellFormed}
+use Rattle.salvage.specs.Lines.{isUtf8}
 use Rattle.salvage.specs.Mending.{Change, mend, done as mended}
 use Rattle.salvage.proofs.WellFormed.{formed-behind, ill-formed}
 use Rattle.salvage.proofs.Theorems.{the-copy-is-well-formed}
@@ -34,11 +34,11 @@ read-good : (xs : List ℕ) (c n : ℕ) → decode xs ≡ front c n → (glyph x
 unfolding glyph
 read-good xs c n e = (rw e, rw e)
 
-formed-good : (xs : List ℕ) → wellFormed xs ≡ true → Good xs
-formed-good = characters-induct (λ ys gs. wellFormed ys ≡ true → every isGood gs ≡ true) (λ w. every-nil isGood) more
+formed-good : (xs : List ℕ) → isUtf8 xs ≡ true → Good xs
+formed-good = characters-induct (λ ys gs. isUtf8 ys ≡ true → every isGood gs ≡ true) (λ w. every-nil isGood) more
   where
-    more : (ys : List ℕ) (b : Bytes ys) → (wellFormed (drop (b .n) ys) ≡ true → every isGood (characters (drop (b .n) ys)) ≡ true)
-        → wellFormed ys ≡ true → every isGood (glyph ys ∷ characters (drop (b .n) ys)) ≡ true
+    more : (ys : List ℕ) (b : Bytes ys) → (isUtf8 (drop (b .n) ys) ≡ true → every isGood (characters (drop (b .n) ys)) ≡ true)
+        → isUtf8 ys ≡ true → every isGood (glyph ys ∷ characters (drop (b .n) ys)) ≡ true
     more ys b rest w = go (decode ys) refl
       where
         go : (f : Front) → decode ys ≡ f → every isGood (glyph ys ∷ characters (drop (b .n) ys)) ≡ true
@@ -48,7 +48,7 @@ formed-good = characters-induct (λ ys gs. wellFormed ys ≡ true → every isGo
             rw (every-cons isGood (glyph ys) (characters (drop (b .n) ys)), g .1) (rest (rw k (sym (formed-behind ys c n e) ∙ w)))
         go nothing e = absurd (false≢true (sym (ill-formed ys (omega (arith, b .some, b .within)) e) ∙ w))
 
-formed-sound : (xs : List ℕ) → wellFormed xs ≡ true → damage xs ≡ Nowhere
+formed-sound : (xs : List ℕ) → isUtf8 xs ≡ true → damage xs ≡ Nowhere
 formed-sound xs w = good-sound xs (formed-good xs w)
 
 -- ---- so it is not refused as damaged, whatever the block and the room

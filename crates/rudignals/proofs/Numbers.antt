@@ -18,14 +18,14 @@ use Rattle.lines.proofs.Extents.{lines-extents, lines-some}
 use Rattle.walk.proofs.Bound.{Shorter, lines-shorter}
 use Rattle.formatter.specs.Format.{mostTold}
 use Rattle.formatter.proofs.Values.{reads-back}
-use Rattle.salvage.specs.Lines.{wellFormed, linesOf as mendingLines}
+use Rattle.salvage.specs.Lines.{isUtf8, wholeLines as mendingLines}
 use Rattle.salvage.specs.Mending.{mendedLine, mended, Change, highBytes, lineChanges, changesFrom, changes, done, long, full, room, mend, code, value, numbered}
 use Rattle.salvage.specs.Restoring.{belonging, restored, restore, done as given, long as longCopy, stray, room as roomBack, backCode, backValue, backNumbered}
 use Rattle.salvage.proofs.Counts.{high-few}
 use Rattle.salvage.proofs.MendedLines.{lines-joined}
 use Rattle.salvage.proofs.Back.{Small, restored-length, belonging-few}
 use Rattle.unflow.specs.Flowed.{space, isMark, crLf, quoteMark, quoteDepth, stuffing, unstuffed, contentOf}
-use Rattle.unflow.specs.Unflow.{goesOn, Paragraph, begun, longer, paragraphsFrom, paragraphs, asLine, mailLines, unflowed, unflow, done as read, long as longText, room as roomRead, code as readCode, value as readValue, numbered as readNumbered}
+use Rattle.unflow.specs.Unflow.{goesOnIn, FlowedParagraph, begunWith, longer, paragraphsFrom, paragraphs, asLine, mailLines, unflowed, unflow, done as read, long as longText, room as roomRead, code as readCode, value as readValue, numbered as readNumbered}
 use Rattle.unflow.proofs.Texts.{stuffing-most}
 
 -- ---- mending: a byte becomes four octets at most
@@ -39,7 +39,7 @@ unfolding mendedLine
 lines-mended [] = rw (joined-nil mendedLine, joined-nil (λ (l : List ℕ). l)) (omega arith)
 lines-mended (l ∷ ls) =
     let r = lines-mended ls in
-    let h = one (wellFormed l) in
+    let h = one (isUtf8 l) in
     rw (joined-cons mendedLine l ls, joined-cons (λ (k : List ℕ). k) l ls, length-append, length-append) (omega (arith, r, h))
   where
     one : (b : Bool) → length (cond b l (joined encode l)) ≤ 4 * length l
@@ -51,7 +51,7 @@ unfolding changesFrom lineChanges
 lines-changed at [] = omega arith
 lines-changed at (l ∷ ls) =
     let r = lines-changed (at + length l) ls in
-    let h = one (wellFormed l) in
+    let h = one (isUtf8 l) in
     rw (joined-cons (λ (k : List ℕ). k) l ls, length-append, length-append) (omega (arith, r, h))
   where
     one : (b : Bool) → length {A = Change} (cond b [] (highBytes at l)) ≤ length l
@@ -105,7 +105,7 @@ module _ (copy : List ℕ) (list : List Change) (small : Small list) (bytes : �
 -- ---- reading mail: a line has its bytes, and three more for stuffing and the line end
 
 -- a paragraph as a line
-as-few : (p : Paragraph) → length (asLine p) ≤ p .depth + length (p .content) + 3
+as-few : (p : FlowedParagraph) → length (asLine p) ≤ p .depth + length (p .content) + 3
 unfolding asLine
 as-few p =
     let a = length-append (replicate (p .depth) quoteMark) (stuffing (p .content) ++ (p .content ++ crLf)) in
@@ -135,22 +135,22 @@ allowed : List (List ℕ) → ℕ
 allowed [] = 0
 allowed (l ∷ ls) = length l + 3 + allowed ls
 
-from-few : (p : Paragraph) (line : List ℕ) (ls : List (List ℕ)) → length (joined asLine (paragraphsFrom p line ls)) ≤ p .depth + length (p .content) + 3 + allowed ls
+from-few : (p : FlowedParagraph) (line : List ℕ) (ls : List (List ℕ)) → length (joined asLine (paragraphsFrom p line ls)) ≤ p .depth + length (p .content) + 3 + allowed ls
 unfolding paragraphsFrom allowed
 from-few p line [] = rw (joined-cons asLine p [], joined-nil asLine, length-append) (omega (arith, as-few p))
-from-few p line (next ∷ ls) = go (goesOn line next) (from-few (longer next p) next ls) (from-few (begun next) next ls)
+from-few p line (next ∷ ls) = go (goesOnIn line next) (from-few (longer next p) next ls) (from-few (begunWith next) next ls)
   where
     go : (t : Bool)
         → length (joined asLine (paragraphsFrom (longer next p) next ls)) ≤ p .depth + length (p .content ++ contentOf next) + 3 + allowed ls
-        → length (joined asLine (paragraphsFrom (begun next) next ls)) ≤ quoteDepth next + length (contentOf next) + 3 + allowed ls
-        → length (joined asLine (elim t as (λ x. List Paragraph) [ true ↦ paragraphsFrom (longer next p) next ls | false ↦ p ∷ paragraphsFrom (begun next) next ls ])) ≤ p .depth + length (p .content) + 3 + (length next + 3 + allowed ls)
+        → length (joined asLine (paragraphsFrom (begunWith next) next ls)) ≤ quoteDepth next + length (contentOf next) + 3 + allowed ls
+        → length (joined asLine (elim t as (λ x. List FlowedParagraph) [ true ↦ paragraphsFrom (longer next p) next ls | false ↦ p ∷ paragraphsFrom (begunWith next) next ls ])) ≤ p .depth + length (p .content) + 3 + (length next + 3 + allowed ls)
     go true h k = let a = length-append (p .content) (contentOf next) in omega (arith, h, a, line-parts next)
-    go false h k = rw (joined-cons asLine p (paragraphsFrom (begun next) next ls), length-append) (omega (arith, k, as-few p, line-parts next))
+    go false h k = rw (joined-cons asLine p (paragraphsFrom (begunWith next) next ls), length-append) (omega (arith, k, as-few p, line-parts next))
 
 paragraphs-few : (ls : List (List ℕ)) → length (joined asLine (paragraphs ls)) ≤ allowed ls
 unfolding paragraphs allowed
 paragraphs-few [] = rw (joined-nil asLine) (omega arith)
-paragraphs-few (l ∷ ls) = omega (arith, from-few (begun l) l ls, line-parts l)
+paragraphs-few (l ∷ ls) = omega (arith, from-few (begunWith l) l ls, line-parts l)
 
 allowed-few : (ls : List Line) → All (λ (l : Line). 0 < length (l .raw)) ls → All Shorter ls → allowed (map (λ (l : Line). l .text) ls) ≤ 4 * length (joined (λ (l : Line). l .raw) ls)
 unfolding allowed

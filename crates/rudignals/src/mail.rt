@@ -5,7 +5,7 @@ ghost use lib.ListN.{length};
 ghost use Rattle.formatter.specs.Answers.{numbered as answerNumber, outputAfter as outputLeft};
 ghost use Rattle.formatter.specs.Format.{ownRoom};
 ghost use Rattle.formatter.specs.Work.{lending};
-ghost use Rattle.unflow.specs.Unflow.{unflow as reading, numbered, outputAfter};
+ghost use Rattle.unflow.specs.Unflow.{unflow as reading, numbered, unflowOutputAfter};
 ghost use Rattle.flow.specs.Answers.{flow as sending, dashesOf};
 
 // The notes written as mail: the answer's number, the output as the answer leaves it, and the count of lines `--`, which is 0 on a refusal.
@@ -44,7 +44,7 @@ pub extern "C" fn rudignals_flow_large(
 // Mail read: the answer's number, and the output as the answer leaves it, each paragraph of the mail a line.
 #[no_mangle]
 pub extern "C" fn rudignals_unflow(text: &[u8], output: &mut [u8]) -> u64
-    ensures { λ r. ⌜ (r ≡ numbered (reading (now (text .entry)) (length (now (output .entry))))) × (now (output .exit) ≡ outputAfter (reading (now (text .entry)) (length (now (output .entry)))) (now (output .entry))) ⌝ }
+    ensures { λ r. ⌜ (r ≡ numbered (reading (now (text .entry)) (length (now (output .entry))))) × (now (output .exit) ≡ unflowOutputAfter (reading (now (text .entry)) (length (now (output .entry)))) (now (output .entry))) ⌝ }
 {
     unflow::reading_number(unflow::unflow(text, output))
 }

@@ -8,7 +8,7 @@ ghost use lib.ListN.{length, drop};
 ghost use lib.Seq.{sets};
 ghost use Rattle.lists.specs.Runs.{joined};
 ghost use Rattle.text.specs.Rfc3629.{encode};
-ghost use Rattle.salvage.specs.Lines.{noFeed, wellFormed};
+ghost use Rattle.salvage.specs.Lines.{noFeed, isUtf8};
 ghost use Rattle.salvage.specs.Mending.{mend as mendOf, mendedLine, mended, highBytes, lineChanges, changes};
 ghost use Rattle.salvage.specs.Restoring.{listed, belongs, belonging, restored, restore as restoreOf};
 ghost use Rattle.salvage.specs.Contracts.Steps.{Mends, numberOf, numberBack, Restores, Run, isAscii, LineAt, HighCounted, LineCounted, Counted, Fits, Put, Whole};
@@ -190,7 +190,7 @@ fn are_feedless(s: &[u8], i: usize) -> bool
 
 // Whether a line is well formed: by RFC 3629 in full, whatever formatting accepts.
 fn is_well_formed(line: &[u8]) -> bool
-    ensures { λ r. ⌜ r ≡ wellFormed (now (line .entry)) ⌝ }
+    ensures { λ r. ⌜ r ≡ isUtf8 (now (line .entry)) ⌝ }
 {
     let mut i = 0;
     while i < line.len() {

@@ -126,7 +126,7 @@ module _ (s : List ℕ) (at e : ℕ) (line : EndsAt s at e) (first : Bool) (end 
             blanks-one (record { space = rw (byte at (omega arith)) (g refl .1); behind = record { within = rw size (omega arith); ink = h .isBlank } }) few
 
   pub spaced-next : (o : Opts) (previous : Bool) → o .tab ≤ 100
-      → NextWord o false first previous (take e s) at (wordAt (o .uniform) (o .characters) first previous at (spaceBefore at first) (plainInk s (spaceBefore at first .end) end))
+      → NextWord o false first previous (take e s) at (wordAt (o .uniform) (o .byCharacters) first previous at (spaceBefore at first) (plainInk s (spaceBefore at first .end) end))
   unfolding text
   spaced-next o previous few = next-line o first text at (spaceBefore at first) (over-blanks (o .glue) (o .tab) few) (plainInk s start end) (over-ink (o .glue)) (let h = spaced-reaches in let l = p .word .some in rw size (omega arith)) previous
 
@@ -134,7 +134,7 @@ module _ (s : List ℕ) (at e : ℕ) (line : EndsAt s at e) (first : Bool) (end 
 
 -- a plain word of the notes before next: w is its record, after the first n of the table
 module _ (o : Opts) (notes : List ℕ) (next at : ℕ) (first previous : Bool) (stop : ℕ) (w : Record) (fits : next ≤ length notes) (few : o .tab ≤ 100) (p : PlainBehind (take next notes) at first stop)
-    (is : w ≡ wordAt (o .uniform) (o .characters) first previous at (spaceBefore at first) (plainInk (take next notes) (spaceBefore at first .end) stop)) where
+    (is : w ≡ wordAt (o .uniform) (o .byCharacters) first previous at (spaceBefore at first) (plainInk (take next notes) (spaceBefore at first .end) stop)) where
   ends-there : w .end ≡ stop
   ends-there = rw is
 

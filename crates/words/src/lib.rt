@@ -158,7 +158,7 @@ fn spaced_words(
         let b = space_before(at, r.first);
         let w = word_of(
             o.uniform,
-            o.characters,
+            o.by_characters,
             r.first,
             r.punct,
             at,
@@ -347,7 +347,7 @@ pub fn next_word(s: &[u8], at: usize, mail: bool, first: bool, previous: bool, o
     if mail {
         return Next::One(mail_word(start, w.end));
     }
-    Next::One(word_of(o.uniform, o.characters, first, previous, at, b, w))
+    Next::One(word_of(o.uniform, o.by_characters, first, previous, at, b, w))
 }
 
 // The record of a word after blanks that begin at a place.

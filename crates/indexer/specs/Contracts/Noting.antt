@@ -25,7 +25,7 @@ use Rattle.index.specs.declared.Record.{Record}
 use Rattle.index.specs.Contracts.Lists.{noRecord}
 use Rattle.index.specs.Contracts.Reading.{front, readFrom}
 use Rattle.indexer.specs.Index.{lineCount, indexOf}
-use Rattle.indexer.specs.Answers.{Indexed, done, options, long, text, words, full, room, work, numbered, outputAfter, filledAfter}
+use Rattle.indexer.specs.Answers.{Indexed, done, options, long, text, words, full, room, work, numbered, indexOutputAfter, filledAfter}
 use Rattle.indexer.specs.Indexing.{inIndex}
 use Rattle.indexer.specs.declared.Told.{Told}
 use Rattle.indexer.specs.declared.Filled.{Filled}
@@ -126,13 +126,13 @@ recordsOf (work needed) = []
 -- what a function that gives the answer leaves after
 pub record Indexes (a : Indexed) (out : List ℕ) (r : Filled) (out′ work′ : List ℕ) : Type 0 where
   pub is : r ≡ told a
-  pub output : out′ ≡ outputAfter a out
+  pub output : out′ ≡ indexOutputAfter a out
   pub read : readFrom (marksIn (front work′)) (filledAfter a) noRecord ≡ recordsOf a
 
 -- what the call leaves after, and tells
 pub record Marked (a : Indexed) (records : ℕ) (out out′ : List ℕ) (filled′ : ℕ) (work′ : List ℕ) (t : Told) : Type 0 where
   pub answer : t .answer ≡ numbered a
-  pub output : out′ ≡ outputAfter a out
+  pub output : out′ ≡ indexOutputAfter a out
   pub filled : filled′ ≡ filledAfter a
   pub count : t .records ≡ filledAfter a
   pub few : t .records ≤ records

@@ -19,7 +19,7 @@ use Rattle.checker.specs.Matching.{andThen, matchPiece, matchPieces, verdict}
 use Rattle.checker.specs.Contracts.Places.{matched, Matches}
 use Rattle.checker.specs.declared.Matched.{Matched}
 use Rattle.checker.specs.declared.Matched.the-variants.{On as MatchedOn, Fault}
-use Rattle.judge.specs.Checking.{withDigest, withNotes}
+use Rattle.judge.specs.Checking.{digestWithin, afterNotes}
 use Rattle.judge.specs.declared.Judgement.{Judgement}
 use Rattle.judge.specs.declared.Judgement.the-variants.{Accepted, Options, Long, Text, Words, LongDigest, Line, Work}
 use Rattle.judge.specs.declared.Stand.{Stand}
@@ -78,4 +78,4 @@ refusedAs (ReplyWork needed) = Work needed
 
 -- what is left to be told after them
 abbrev pub leftOf : Limits → Opts → List ℕ → List ℕ → Judgement
-leftOf l o notes digest = withNotes (withDigest (l .bytes) (length digest) (verdict o notes digest)) (within (l .words) done o notes)
+leftOf l o notes digest = afterNotes (digestWithin (l .bytes) (length digest) (verdict o notes digest)) (within (l .words) done o notes)

@@ -11,7 +11,7 @@ use Rattle.options.specs.declared.Block.{Block}
 use Rattle.options.specs.declared.Block.the-variants.{Accepted, Fault}
 use Rattle.endings.specs.declared.Ending.{Ending}
 use Rattle.endings.specs.Endings.{numbersOf, breaks, endings}
-use Rattle.quick.specs.QuickLines.{linesFrom, quickLines}
+use Rattle.quick.specs.QuickLines.{quickLinesFrom, quickLines}
 use Rattle.knuth_plass.specs.BestLines.{offering, chosenOf, maker, makersFrom, makersOf, nextAt, nextsFrom, bestLines}
 use Rattle.explain.specs.Reasons.{paragraphEndings, endingsOf, lineEndings}
 use Rattle.formatter.specs.Format.{ownRoom}
@@ -20,7 +20,7 @@ use Rattle.rudignals.specs.Trials.Computing.{everything}
 use Rattle.rudignals.specs.Trials.MarkedTexts.{none, flags, width10}
 
 unfoldable reasons : Unit {0}
-unfolding numbersOf breaks endings linesFrom quickLines offering chosenOf maker makersFrom makersOf nextAt nextsFrom bestLines paragraphEndings endingsOf lineEndings explaining explainedNumber
+unfolding numbersOf breaks endings quickLinesFrom quickLines offering chosenOf maker makersFrom makersOf nextAt nextsFrom bestLines paragraphEndings endingsOf lineEndings explaining explainedNumber
 reasons = tt
 
 abbrev toldBy : List ℕ → List ℕ → Block → List ℕ

@@ -67,7 +67,7 @@ word-of-requires c κs = rw (c .before .space-before .ensures) (space-on _ (c .b
 
 -- and its record
 record-is : (c : tie.After-word-of Inv-loop μ-loop)
-    → c .word-of .result ≡ wordAt (meant [] (c .before .before .before .before .before .before .before .before .before .before .before .before .args .o) .uniform) (meant [] (c .before .before .before .before .before .before .before .before .before .before .before .before .args .o) .characters) (c .before .before .before .before .before .before .before .loop .r .first) (c .before .before .before .before .before .before .before .loop .r .punct) (c .before .before .before .before .before .before .before .loop .r .at) (spaceBefore (c .before .before .before .before .before .before .before .loop .r .at) (c .before .before .before .before .before .before .before .loop .r .first)) (plainInk (take (c .before .before .before .before .before .before .before .before .before .before .before .before .args .next) (now (c .before .before .before .before .before .before .before .before .before .before .before .before .args .notes))) (spaceBefore (c .before .before .before .before .before .before .before .loop .r .at) (c .before .before .before .before .before .before .before .loop .r .first) .end) (c .before .before .before .before .before .before .plain-word .result))
+    → c .word-of .result ≡ wordAt (meant [] (c .before .before .before .before .before .before .before .before .before .before .before .before .args .o) .uniform) (meant [] (c .before .before .before .before .before .before .before .before .before .before .before .before .args .o) .byCharacters) (c .before .before .before .before .before .before .before .loop .r .first) (c .before .before .before .before .before .before .before .loop .r .punct) (c .before .before .before .before .before .before .before .loop .r .at) (spaceBefore (c .before .before .before .before .before .before .before .loop .r .at) (c .before .before .before .before .before .before .before .loop .r .first)) (plainInk (take (c .before .before .before .before .before .before .before .before .before .before .before .before .args .next) (now (c .before .before .before .before .before .before .before .before .before .before .before .before .args .notes))) (spaceBefore (c .before .before .before .before .before .before .before .loop .r .at) (c .before .before .before .before .before .before .before .loop .r .first) .end) (c .before .before .before .before .before .before .plain-word .result))
 unfolding meant
 record-is c = rw (c .before .plain-ink .ensures, c .before .before .space-before .ensures) at (c .word-of .ensures)
 
