@@ -10,11 +10,12 @@ use borrow.Author.Tests.{lt-ltb, le-ltb, lt-leb, le-leb, eq-eqb, ne-eqb, eqb-fal
 use Rattle.output.specs.Contracts.Sink.{Wrote}
 use Rattle.output.proofs.Sink.{written-fits, wrote-length}
 use Rattle.panel.specs.Panel.{stopWidth}
-use Rattle.fold.specs.Fold.{folded, FoldAnswer, done, options, long, room, fold, numbered, foldOutputAfter}
+use Rattle.lists.specs.Coded.{numbered}
+use Rattle.fold.specs.Fold.{folded, FoldAnswer, done, options, long, room, fold, foldCoded, foldOutputAfter}
 use Rattle.fold.specs.Contracts.Steps.{told, numberOf, Folds}
 use Rattle.fold.specs.declared.Folding.the-variants.{Done, Options, Long, Room}
 
-pub number-told : (a : FoldAnswer) → numberOf (told a) ≡ numbered a
+pub number-told : (a : FoldAnswer) → numberOf (told a) ≡ numbered (foldCoded a)
 unfolding numbered
 number-told (done all) = omega arith
 number-told options = refl

@@ -29,7 +29,8 @@ use Rattle.lines.proofs.Lines.{lengths}
 use Rattle.lines.proofs.Extents.{lines-extents, lines-feedless}
 use Rattle.panel.specs.Panel.{stopWidth}
 use Rattle.spacing.proofs.Laws.{stop-behind}
-use Rattle.fold.specs.Fold.{stays, stayingOn, firstRow, rowsOf, feed, rowBytes, fed, inRows, endOf, foldedLine, folded, done, options, long, room, fold, code, value, numbered}
+use Rattle.lists.specs.Coded.{numbered}
+use Rattle.fold.specs.Fold.{stays, stayingOn, firstRow, rowsOf, feed, rowBytes, fed, inRows, endOf, foldedLine, folded, done, options, long, room, fold, foldCoded}
 use Rattle.fold.specs.Theorems.Rows.{hasNoWidth, isAlone, fits, Marked, kept, addedFeed, markedRows, markedLine, marked, unadded}
 use Rattle.fold.proofs.Stays.{width-tab, staying-more, staying-end}
 use Rattle.fold.proofs.Rows.{first-front, first-some}
@@ -317,14 +318,14 @@ module _ (tab columns : ℕ) where
           rw (joined-cons (foldedLine tab columns) l ls, joined-cons (λ (l : Line). l .raw) l ls, length-append (foldedLine tab columns l) _, length-append (l .raw) _)
           (omega (arith, n, line-most l, go ls (t .1)))
 
-value-most : (text : List ℕ) (tab columns bytes : ℕ) → value (fold text tab columns bytes) ≤ 2147483648
+value-most : (text : List ℕ) (tab columns bytes : ℕ) → foldCoded (fold text tab columns bytes) .value ≤ 2147483648
 unfolding fold
 value-most text tab columns bytes = go (ltb 100 tab || eqb columns 0 || ltb 1000 columns) (ltb 1073741824 (length text)) refl (leb (length all) bytes)
   where
     all : List ℕ
     all = folded (stopWidth tab) columns text
 
-    go : (a b : Bool) → ltb 1073741824 (length text) ≡ b → (c : Bool) → value (cond a options (cond b long (cond c (done all) (room (length all))))) ≤ 2147483648
+    go : (a b : Bool) → ltb 1073741824 (length text) ≡ b → (c : Bool) → foldCoded (cond a options (cond b long (cond c (done all) (room (length all))))) .value ≤ 2147483648
     go true b e c = omega arith
     go false true e c = omega arith
     go false false e true = omega (arith, folded-most (stopWidth tab) columns text, ltb-false 1073741824 (length text) e)
@@ -332,7 +333,7 @@ value-most text tab columns bytes = go (ltb 100 tab || eqb columns 0 || ltb 1000
 
 -- Code and N can be read back from the number, whatever the text, the tab width, the columns and the room.
 pub the-answer-tells-code-and-value : (text : List ℕ) (tab columns bytes : ℕ)
-    → (numbered (fold text tab columns bytes) / 2 ^ 32 ≡ code (fold text tab columns bytes)) × (numbered (fold text tab columns bytes) % 2 ^ 32 ≡ value (fold text tab columns bytes))
+    → (numbered (foldCoded (fold text tab columns bytes)) / 2 ^ 32 ≡ foldCoded (fold text tab columns bytes) .code) × (numbered (foldCoded (fold text tab columns bytes)) % 2 ^ 32 ≡ foldCoded (fold text tab columns bytes) .value)
 unfolding numbered
 the-answer-tells-code-and-value text tab columns bytes =
     let v = value-most text tab columns bytes in

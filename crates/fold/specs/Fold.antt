@@ -3,11 +3,12 @@
 -- well-formed character begins. (proofs/Reading shows that the columns are the panel's.)
 use mathlib.Core.Bool.{Bool, true, false, cond, _||_}
 use mathlib.Core.List.{List, [], _∷_, _++_}
-use Prim.Native.Nat.{ℕ, _+_, _-_, _*_, _^_}
+use Prim.Native.Nat.{ℕ, _-_}
 use lib.Dec.{ltb, leb, eqb}
 use lib.ListN.{length, drop, replicate}
 use Rattle.lists.specs.Walk.{each}
 use Rattle.lists.specs.Runs.{joined}
+use Rattle.lists.specs.Coded.{Coded, coded}
 use Rattle.text.specs.Characters.{Glyph, characters}
 use Rattle.lines.specs.Lines.{Line, linesOf}
 use Rattle.lines.specs.Classes.{columnBehind}
@@ -84,21 +85,11 @@ fold text tab columns bytes =
     (room (length all))))
 
 -- the table: code and N
-abbrev pub code : FoldAnswer → ℕ
-code (done all) = 0
-code options = 1
-code long = 2
-code (room needed) = 5
-
-abbrev pub value : FoldAnswer → ℕ
-value (done all) = length all
-value options = 0
-value long = 0
-value (room needed) = needed
-
--- the 64-bit number that the host gets
-unfoldable pub numbered : FoldAnswer → ℕ
-numbered a = code a * 2 ^ 32 + value a
+abbrev pub foldCoded : FoldAnswer → Coded
+foldCoded (done all) = coded 0 (length all)
+foldCoded options = coded 1 0
+foldCoded long = coded 2 0
+foldCoded (room needed) = coded 5 needed
 
 -- the output afterwards: the folded text and the rest unchanged; unchanged; all zero
 unfoldable pub foldOutputAfter : FoldAnswer → List ℕ → List ℕ

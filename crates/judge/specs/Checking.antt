@@ -8,11 +8,10 @@ use Rattle.options.specs.Opts.{meant}
 use Rattle.options.specs.OptionBlock.{readBlock}
 use Rattle.options.specs.declared.Block.{Block}
 use Rattle.options.specs.declared.Block.the-variants.{Accepted as BlockAccepted, Fault}
-use Rattle.formatter.specs.Answers.{Answer, done, options, long, text, words, room, work}
-use Rattle.formatter.specs.Format.{Limits, finding}
+use Rattle.formatter.specs.Format.{Limits, Finding, found, stopped, finding}
 use Rattle.checker.specs.Matching.{Verdict, accepted, at, verdict}
 use Rattle.judge.specs.declared.Judgement.{Judgement}
-use Rattle.judge.specs.declared.Judgement.the-variants.{Accepted, Options, Long, Text, Words, LongDigest, Line, Work}
+use Rattle.judge.specs.declared.Judgement.the-variants.{Accepted, Refused, LongDigest, Line}
 
 -- 10: the digest is not accepted
 abbrev pub withVerdict : Verdict → Judgement
@@ -24,15 +23,9 @@ abbrev pub digestWithin : ℕ → ℕ → Verdict → Judgement
 digestWithin most size v = cond (ltb most size) LongDigest (withVerdict v)
 
 -- 1 to 4 before both
-abbrev pub afterNotes : Judgement → Answer → Judgement
-afterNotes then (done digest) = then
-afterNotes then (options place) = Options place
-afterNotes then long = Long
-afterNotes then (text place) = Text place
-afterNotes then (words place) = Words place
--- (nothing is found so)
-afterNotes then (room needed) = Long
-afterNotes then (work needed) = Work needed
+abbrev pub afterNotes : Judgement → Finding → Judgement
+afterNotes then (found digest) = then
+afterNotes then (stopped r) = Refused r
 
 -- the verdict on a digest under the options that a block means; of a faulty block none is asked
 abbrev pub verdictUnder : List ℕ → List ℕ → List ℕ → Block → Verdict

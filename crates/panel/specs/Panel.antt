@@ -1,12 +1,13 @@
 -- RULES 15: the wall panel, 24 rows of 80 cells, each a code point. A row is a function of its digest line and the tab width.
 use mathlib.Core.Bool.{Bool, false, cond, not, _&&_, _||_}
 use mathlib.Core.List.{List, [], _∷_, _++_, map}
-use Prim.Native.Nat.{ℕ, _+_, _-_, _*_, _^_}
+use Prim.Native.Nat.{ℕ, _+_, _-_}
 use lib.Dec.{ltb, leb, eqb}
 use lib.ListN.{length, getD, drop, set, replicate}
 use lib.Seq.{sets}
 use Rattle.lists.specs.Walk.{each}
 use Rattle.lists.specs.Runs.{joined}
+use Rattle.lists.specs.Coded.{Coded, coded}
 use Rattle.widths.specs.Widths.{widthOf}
 use Rattle.text.specs.Rfc3629.{Front, front, nothing, decode}
 use Rattle.lines.specs.Lines.{Line, linesOf}
@@ -116,14 +117,7 @@ panelAnswer tab = cond (leb tab 100) Done Options
 unfoldable pub cellsAfter : ℕ → List ℕ → List ℕ
 cellsAfter tab digest = cond (leb tab 100) (panelOf tab digest) (replicate 1920 blank)
 
--- code and N
-abbrev pub code : Answer → ℕ
-code Done = 0
-code Options = 1
-
-abbrev pub value : Answer → ℕ
-value Done = 0
-value Options = 0
-
-unfoldable pub numbered : Answer → ℕ
-numbered a = code a * 2 ^ 32 + value a
+-- the table: code and N
+abbrev pub panelCoded : Answer → Coded
+panelCoded Done = coded 0 0
+panelCoded Options = coded 1 0

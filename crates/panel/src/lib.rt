@@ -6,7 +6,8 @@ ghost use lib.ListN.{length, drop, replicate};
 ghost use Rattle.lists.specs.Runs.{joined};
 ghost use Rattle.lines.specs.Lines.{linesOf};
 ghost use Rattle.lines.specs.Classes.{nextStop};
-ghost use Rattle.panel.specs.Panel.{blank, control, signOf, drawn, marked, rowCells, stopWidth, shown, panelAnswer, cellsAfter, numbered};
+ghost use Rattle.lists.specs.Coded.{numbered};
+ghost use Rattle.panel.specs.Panel.{blank, control, signOf, drawn, marked, rowCells, stopWidth, shown, panelAnswer, cellsAfter, panelCoded};
 ghost use Rattle.panel.specs.Contracts.Places.{seenAt, rowAt, stepOf, Newest};
 
 // What the call answers: the panel is drawn, or the tab width is refused.
@@ -56,7 +57,7 @@ pub fn draw(digest: &[u8], tab: u64, cells: &mut [u32; 1920]) -> Answer
 
 // The answer's number: its code is in the upper 32 bits.
 pub fn number_of(a: Answer) -> u64
-    ensures { λ r. ⌜ r ≡ numbered a ⌝ }
+    ensures { λ r. ⌜ r ≡ numbered (panelCoded a) ⌝ }
 {
     match a {
         Answer::Done => 0,

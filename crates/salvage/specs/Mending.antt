@@ -1,10 +1,11 @@
 -- RULES 14.1: the mended copy of notes, the list of what was changed, and the answers of the mending call.
 use mathlib.Core.Bool.{true, false, cond}
 use mathlib.Core.List.{List, [], _∷_, _++_, map}
-use Prim.Native.Nat.{ℕ, _+_, _*_, _^_}
+use Prim.Native.Nat.{ℕ, _+_}
 use lib.Dec.{ltb}
 use lib.ListN.{length, drop}
 use Rattle.lists.specs.Runs.{joined}
+use Rattle.lists.specs.Coded.{Coded, coded}
 use Rattle.text.specs.Rfc3629.{encode}
 use Rattle.salvage.specs.Lines.{wholeLines, isUtf8}
 
@@ -58,21 +59,11 @@ mend notes bytes entries =
     (done (mended notes) (changes notes))))
 
 -- the table: code and N
-abbrev pub code : MendAnswer → ℕ
-code (done copy list) = 0
-code long = 2
-code (full number) = 7
-code (room needed) = 5
-
-abbrev pub value : MendAnswer → ℕ
-value (done copy list) = length copy
-value long = 0
-value (full number) = number
-value (room needed) = needed
-
--- the 64-bit number that the host gets
-unfoldable pub numbered : MendAnswer → ℕ
-numbered a = code a * 2 ^ 32 + value a
+abbrev pub mendCoded : MendAnswer → Coded
+mendCoded (done copy list) = coded 0 (length copy)
+mendCoded long = coded 2 0
+mendCoded (full number) = coded 7 number
+mendCoded (room needed) = coded 5 needed
 
 -- a list written over the front of another, of which the rest is unchanged
 abbrev pub over : List ℕ → List ℕ → List ℕ

@@ -7,11 +7,12 @@ use lib.ListN.{length, replicate}
 use borrow.Author.Tests.{lt-ltb, le-ltb, lt-leb, le-leb}
 use Rattle.output.specs.Contracts.Sink.{Wrote}
 use Rattle.output.proofs.Sink.{written-fits, wrote-length}
-use Rattle.unflow.specs.Unflow.{unflowed, UnflowAnswer, done, long, room, unflow, numbered, unflowOutputAfter}
+use Rattle.lists.specs.Coded.{numbered}
+use Rattle.unflow.specs.Unflow.{unflowed, UnflowAnswer, done, long, room, unflow, unflowCoded, unflowOutputAfter}
 use Rattle.unflow.specs.Contracts.Steps.{told, numberOf, Reads}
 use Rattle.unflow.specs.declared.Reading.the-variants.{Done, Long, Room}
 
-pub number-told : (a : UnflowAnswer) → numberOf (told a) ≡ numbered a
+pub number-told : (a : UnflowAnswer) → numberOf (told a) ≡ numbered (unflowCoded a)
 unfolding numbered
 number-told (done read) = omega arith
 number-told long = refl

@@ -1,10 +1,11 @@
 -- RULES 17.2, and RFC 3676, section 4: mail read. Soft lines are joined to paragraphs, and each paragraph is written as one line.
 use mathlib.Core.Bool.{Bool, true, false, cond, not, _&&_}
 use mathlib.Core.List.{List, [], _∷_, _++_, map}
-use Prim.Native.Nat.{ℕ, _+_, _*_, _^_}
+use Prim.Native.Nat.{ℕ}
 use lib.Dec.{ltb, leb, eqb}
 use lib.ListN.{length, drop, replicate}
 use Rattle.lists.specs.Runs.{joined}
+use Rattle.lists.specs.Coded.{Coded, coded}
 use Rattle.lines.specs.Lines.{Line, linesOf}
 use Rattle.unflow.specs.Flowed.{quoteMark, crLf, quoteDepth, stuffing, contentOf, isSeparator, isSoft}
 
@@ -63,19 +64,10 @@ unflow text bytes =
     cond (ltb 65536 (length text)) long (cond (leb (length (unflowed text)) bytes) (done (unflowed text)) (room (length (unflowed text))))
 
 -- the table: code and N
-abbrev pub code : UnflowAnswer → ℕ
-code (done read) = 0
-code long = 2
-code (room needed) = 5
-
-abbrev pub value : UnflowAnswer → ℕ
-value (done read) = length read
-value long = 0
-value (room needed) = needed
-
--- the 64-bit number that the host gets
-unfoldable pub numbered : UnflowAnswer → ℕ
-numbered a = code a * 2 ^ 32 + value a
+abbrev pub unflowCoded : UnflowAnswer → Coded
+unflowCoded (done read) = coded 0 (length read)
+unflowCoded long = coded 2 0
+unflowCoded (room needed) = coded 5 needed
 
 -- the output afterwards: what was read and the rest unchanged; unchanged; all zero
 unfoldable pub unflowOutputAfter : UnflowAnswer → List ℕ → List ℕ

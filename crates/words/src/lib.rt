@@ -243,7 +243,7 @@ fn plain_ink(s: &[u8], start: usize, end: usize) -> Ink
     Ink {
         end,
         width: end - start,
-        punct: is_punct(wide(s[last])),
+        punct: is_punct(text::wide(s[last])),
     }
 }
 
@@ -673,7 +673,7 @@ fn over_plain(s: &[u8], w: Ink) -> Ink
     Ink {
         end,
         width: w.width + (end - from),
-        punct: is_punct(wide(s[last])),
+        punct: is_punct(text::wide(s[last])),
     }
 }
 
@@ -767,13 +767,6 @@ fn digit(b: u8) -> u64
     ensures { λ r. ⌜ (r ≡ b) × (r < 256) ⌝ }
 {
     b as u64
-}
-
-// A cast that needs no proof where it is used.
-fn wide(b: u8) -> u32
-    ensures { λ r. ⌜ r ≡ b ⌝ }
-{
-    b as u32
 }
 
 // In the original: `WordSplit::is_punctuation`.

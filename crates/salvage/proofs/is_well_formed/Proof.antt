@@ -5,10 +5,9 @@ use mathlib.Core.Path.{_≡_, refl, sym, _∙_}
 use Prim.Native.Nat.{_≤_, _<_, _-_}
 use native.Mathlib.Omega.{arith}
 use lib.ListN.{length, drop, length-drop}
-use borrow.Author.Tests.{lt-ltb}
 use Rattle.text.proofs.Places.{damaged-front}
+use Rattle.text.proofs.Asciis.{ascii-more, ascii-one}
 use Rattle.salvage.specs.Lines.{isUtf8}
-use Rattle.salvage.proofs.Runs.{run-one, run-more}
 use Rattle.salvage.proofs.WellFormed.{ill-formed, formed-past, formed-ascii, read-on}
 use Rattle.salvage.proofs.is_well_formed.Statement.{statement}
 use Rattle.salvage.proofs.is_well_formed.Tie as tie
@@ -40,7 +39,7 @@ loop-less c = omega (arith, c .ascii-end .ensures .on)
 
 loop-again : tie.Need-loop-again Inv-loop μ-loop
 loop-again c =
-    let a = run-more (run-one (c .before .before .before .loop-test .taken) (lt-ltb _ _ (c .before .if1 .taken))) (c .ascii-end .ensures) in
+    let a = ascii-more (ascii-one (c .before .before .before .loop-test .taken) (c .before .if1 .taken)) (c .ascii-end .ensures) in
     (a .within, sym (formed-ascii _ _ _ a) ∙ c .before .before .before .before .loop .inv .1)
 
 decode-at-requires : tie.Need-decode-at-requires Inv-loop μ-loop

@@ -3,7 +3,6 @@ use mathlib.Core.Path.{_≡_}
 use mathlib.Core.Bool.{Bool, true}
 use mathlib.Core.List.{List, _∷_, map}
 use Prim.Native.Nat.{ℕ, _+_, _-_, _*_, _^_, _≤_, _<_}
-use lib.Dec.{ltb}
 use lib.ListN.{length, getD, take, drop}
 use lib.Seq.{sets}
 use Rattle.lists.specs.Runs.{joined}
@@ -63,9 +62,6 @@ pub record Run (test : ℕ → Bool) (s : List ℕ) (from to : ℕ) : Type 0 whe
   pub on : from ≤ to
   pub within : to ≤ length s
   pub pass : (i : ℕ) → from ≤ i → i < to → test (getD s i 0) ≡ true
-
-abbrev pub isAscii : ℕ → Bool
-isAscii b = ltb b 0x80
 
 -- the line that begins at a place ends before another
 pub record LineAt (s : List ℕ) (at end : ℕ) : Type 0 where
