@@ -273,4 +273,4 @@ pub row-fits : (o : Opts) (mail : Bool) (row : Row) → every isGood (glyphs (o 
 unfolding rowWords
 row-fits o true row e f = mail-words (o .glue) _ (runs-fit (o .glue) _ (glyphs-line (o .glue) (row .text) e f))
 row-fits o false row e f =
-    line-words (o .glue) (counting (o .characters)) o true false _ (runs-fit (o .glue) _ (line-from (o .glue) (row .start) _ (glyphs-line (o .glue) (row .text) e f)))
+    line-words (o .glue) (counting (o .byCharacters)) o true false _ (runs-fit (o .glue) _ (line-from (o .glue) (row .start) _ (glyphs-line (o .glue) (row .text) e f)))

@@ -22,9 +22,9 @@ pub enum Ending {
     },
     Chosen {
         columns: usize,
-        line: u16,
-        word: u16,
-        ratio: u16,
+        line_term: u16,
+        word_term: u16,
+        ratio_term: u16,
         cost: u64,
     },
     Before,
@@ -55,17 +55,17 @@ pub fn put(e: Ending, reason: &mut [u64; 6])
         }
         Ending::Chosen {
             columns,
-            line,
-            word,
-            ratio,
+            line_term,
+            word_term,
+            ratio_term,
             cost,
         } => {
             *reason = [
                 4,
                 columns as u64,
-                line as u64,
-                word as u64,
-                ratio as u64,
+                line_term as u64,
+                word_term as u64,
+                ratio_term as u64,
                 cost,
             ];
         }

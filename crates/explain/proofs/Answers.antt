@@ -20,16 +20,14 @@ use Rattle.paragraphs.specs.Contracts.Steps.{roomFor}
 use Rattle.walk.specs.Digest.{longParagraph, digest}
 use Rattle.walk.specs.Work.{workFor}
 use Rattle.walk.proofs.Loop.{all-pieces}
-use Rattle.formatter.specs.Answers.{Answer, done, options, long, text, words, room, work, code}
-use Rattle.formatter.specs.Format.{Limits, limited, withWords, withBlock, finding}
+use Rattle.formatter.specs.Format.{Limits, limited, Finding, found, stopped, withWords, withBlock, finding}
 use Rattle.formatter.specs.Work.{lending}
 use Rattle.formatter.specs.Contracts.Call.{Admits}
-use Rattle.formatter.specs.declared.Reply.{Reply}
-use Rattle.formatter.specs.declared.Reply.the-variants.{Words, Work}
+use Rattle.formatter.specs.declared.Refusal.{Refusal}
+use Rattle.formatter.specs.declared.Refusal.the-variants.{Words, Work}
 use Rattle.formatter.specs.declared.Admission.{Admission}
 use Rattle.formatter.specs.declared.Admission.the-variants.{Refused as NotAdmitted, Passed as Admitted}
 use Rattle.formatter.proofs.Lent.{fits, over}
-use Rattle.formatter.proofs.Refusals.{a-refusal-is-no-digest}
 use Rattle.formatter.proofs.Replies.{refused-of, passed-of}
 use Rattle.explain.specs.declared.Asked.{Asked}
 use Rattle.explain.specs.declared.Asked.the-variants.{Told, Behind}
@@ -41,7 +39,7 @@ use Rattle.explain.specs.declared.Sought.the-variants.{All, Stopped}
 use Rattle.explain.specs.declared.Explained.{Explained}
 use Rattle.explain.specs.declared.Explained.the-variants.{Refused}
 use Rattle.explain.specs.Reasons.{lineEndings}
-use Rattle.explain.specs.Explain.{Explanation, because, refused, noLine, lookUp, lookUpIn, afterMeasuring, explaining}
+use Rattle.explain.specs.Explain.{because, noLine, lookUp, lookUpIn, afterMeasuring, explaining}
 use Rattle.explain.specs.Contracts.Asking.{passed}
 use Rattle.explain.specs.Contracts.Seeking.{begin, longBehind, SoughtIs, Coursed, linesAhead, asking, told, leftOf}
 use Rattle.explain.proofs.Seeking.{all-endings, seeking-stopped, course-end, course-short}
@@ -84,7 +82,7 @@ module _ (most : ℕ) (o : Opts) (notes : List ℕ) (line : ℕ) where
       stopped-told e = rw (stopped-of e)
 
       pub all-told : {a : Asked} {x : Explained} → r ≡ All a → x ≡ told (asking line a) → x ≡ told (leftOf (limited bytes most) o notes line)
-      all-told e h = all-asked e h ∙ ap (λ (f : Found). told (afterMeasuring (lookUp line (lineEndings o notes)) (withWords done o notes f))) (sym (all-of e .0))
+      all-told e h = all-asked e h ∙ ap (λ (f : Found). told (afterMeasuring (lookUp line (lineEndings o notes)) (withWords o notes f))) (sym (all-of e .0))
 
 -- where room is lent: it does not reach, and what the notes need is told; or it does
 module _ (lends : ℕ) (o : Opts) (notes : List ℕ) (line : ℕ) (r : Course) (c : Coursed (roomFor (o .quick) lends) o notes (begin line) r) where
@@ -96,7 +94,7 @@ module _ (lends : ℕ) (o : Opts) (notes : List ℕ) (line : ℕ) (r : Course) (
       let s = course-short room-is room-is o notes (begin line) r (omega arith) c e in
       let h : lends < workFor o notes = over o lends notes (stopped-of room-is o notes line (Stopped (t .at)) (seeking-stopped room-is o notes (s .0) (s .1) (s .1 .many)) refl) in
       let m : n ≡ workFor o notes = omega (arith, h, k) in
-      ap (λ (k : ℕ). Refused (Work k)) m ∙ ap (λ (b : Bool). told (afterMeasuring (lookUp line (lineEndings o notes)) (elim b as (λ t. Answer) [ true ↦ work (workFor o notes) | false ↦ done (digest o notes) ]))) (sym (lt-ltb lends (workFor o notes) h))
+      ap (λ (k : ℕ). Refused (Work k)) m ∙ ap (λ (b : Bool). told (afterMeasuring (lookUp line (lineEndings o notes)) (elim b as (λ t. Finding) [ true ↦ stopped (Work (workFor o notes)) | false ↦ found (digest o notes) ]))) (sym (lt-ltb lends (workFor o notes) h))
 
   module _ {a : Asked} (e : r ≡ End a) where
     sought : SoughtIs room-is o notes (begin line) (All a)
@@ -109,32 +107,19 @@ module _ (lends : ℕ) (o : Opts) (notes : List ℕ) (line : ℕ) (r : Course) (
     lent-told h =
         let f = fits o lends notes (all-of room-is o notes line (All a) sought refl .0) in
         all-asked room-is o notes line (All a) sought refl h
-        ∙ ap (λ (b : Bool). told (afterMeasuring (lookUp line (lineEndings o notes)) (elim b as (λ t. Answer) [ true ↦ work (workFor o notes) | false ↦ done (digest o notes) ]))) (sym (le-ltb lends (workFor o notes) f))
+        ∙ ap (λ (b : Bool). told (afterMeasuring (lookUp line (lineEndings o notes)) (elim b as (λ t. Finding) [ true ↦ stopped (Work (workFor o notes)) | false ↦ found (digest o notes) ]))) (sym (le-ltb lends (workFor o notes) f))
 
 -- ---- before any piece is looked at
 
-refusal-stays : (x : Explanation) (b : Answer) → 1 ≤ code b → afterMeasuring x b ≡ refused b
-refusal-stays x (done digest) h = absurd (omega (arith, h))
-refusal-stays x (options place) h = refl
-refusal-stays x long h = refl
-refusal-stays x (text place) h = refl
-refusal-stays x (words place) h = refl
-refusal-stays x (room needed) h = refl
-refusal-stays x (work needed) h = refl
-
 module _ (l : Limits) (block notes : List ℕ) (a : Admission) (admits : Admits l block notes a) where
-  pub refused-told : (line : ℕ) {r : Reply} → a ≡ NotAdmitted r → Refused r ≡ told (explaining l block notes line)
+  pub refused-told : (line : ℕ) {r : Refusal} → a ≡ NotAdmitted r → Refused r ≡ told (explaining l block notes line)
   unfolding explaining finding
-  refused-told line e =
-      let f = refused-of l block notes a admits e in
-      ap Refused (f .is)
-      ∙ ap told (sym (refusal-stays (lookUpIn line block notes (readBlock block)) (f .refusal) (a-refusal-is-no-digest l block notes f)))
-      ∙ ap (λ (b : Answer). told (afterMeasuring (lookUpIn line block notes (readBlock block)) b)) (sym (f .whole-is done))
+  refused-told line e = ap (λ (f : Finding). told (afterMeasuring (lookUpIn line block notes (readBlock block)) f)) (sym (refused-of l block notes a admits e .whole-is))
 
   pub passed-told : (line : ℕ) {o : Options} {x : Explained} → a ≡ Admitted o → x ≡ told (leftOf l (meant block o) notes line) → x ≡ told (explaining l block notes line)
   unfolding explaining finding
   passed-told line {o} e h =
       let f = passed-of l block notes a admits e in
       h
-      ∙ ap (λ (b : Answer). told (afterMeasuring (lookUp line (lineEndings (meant block o) notes)) b)) (sym (f .1 done))
-      ∙ ap (λ (b : Block). told (afterMeasuring (lookUpIn line block notes b) (withBlock l done block notes (readBlock block)))) (sym (f .0 .accepted))
+      ∙ ap (λ (b : Finding). told (afterMeasuring (lookUp line (lineEndings (meant block o) notes)) b)) (sym (f .1))
+      ∙ ap (λ (b : Block). told (afterMeasuring (lookUpIn line block notes b) (withBlock l block notes (readBlock block)))) (sym (f .0 .accepted))

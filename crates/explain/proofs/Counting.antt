@@ -18,7 +18,7 @@ use Rattle.spacing.specs.declared.Setting.{Setting}
 use Rattle.endings.specs.declared.Ending.{Ending}
 use Rattle.endings.specs.declared.Ending.the-variants.{Full}
 use Rattle.endings.specs.Endings.{Next, goesOn, ended, endings}
-use Rattle.quick.specs.QuickLines.{linesFrom, quickLines}
+use Rattle.quick.specs.QuickLines.{quickLinesFrom, quickLines}
 use Rattle.quick.proofs.Laws.{reached}
 use Rattle.knuth_plass.specs.BestLines.{bestLines}
 use Rattle.paragraphs.specs.Breaks.{settingOf}
@@ -36,12 +36,12 @@ either-length true e xs ys n h k = ap suc h
 either-length false e xs ys n h k = ap suc k
 
 module _ (g : Setting) where
-  quick-length : (column : ℕ) (punct : Bool) (ws : List Word) → length (linesFrom g column punct ws) ≡ length ws
-  unfolding linesFrom
+  quick-length : (column : ℕ) (punct : Bool) (ws : List Word) → length (quickLinesFrom g column punct ws) ≡ length ws
+  unfolding quickLinesFrom
   quick-length column punct [] = refl
   quick-length column punct (w ∷ ws) =
       either-length (ltb (g .width) (reached g column punct w)) (Full column (gapAt (g .tab) column w) (addedSpace (g .uniform) (w .newLine) (w .sentenceStart) punct) (w .width))
-      (linesFrom g (g .indent + w .width) (w .endsPunct) ws) (linesFrom g (reached g column punct w) (w .endsPunct) ws) (length ws)
+      (quickLinesFrom g (g .indent + w .width) (w .endsPunct) ws) (quickLinesFrom g (reached g column punct w) (w .endsPunct) ws) (length ws)
       (quick-length (g .indent + w .width) (w .endsPunct) ws) (quick-length (reached g column punct w) (w .endsPunct) ws)
 
 -- something becomes of each word after the first

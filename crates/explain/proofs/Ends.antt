@@ -24,7 +24,8 @@ use Rattle.endings.specs.declared.Ending.the-variants.{Paragraph as OfParagraph
 use Rattle.endings.specs.Endings.{Next, goesOn, ended, breaks, endings}
 use Rattle.walk.specs.Digest.{pieceOutput}
 use Rattle.explain.specs.Reasons.{linesBy, paragraphEndings, endingsOf, pieceEndings, lineEndings}
-use Rattle.explain.specs.Theorems.LineFeeds.{linesFrom, fed, textLines, kindLines, pieceLines, digestLines}
+use Rattle.explain.specs.Theorems.LineFeeds.{fed, textLines, kindLines, pieceLines, digestLines}
+use Rattle.output.specs.EmittedLines.{linesFrom}
 use Rattle.explain.specs.Theorems.Ends.{EndsSo, UpToWord, EndsIn, EndsThere}
 use Rattle.explain.proofs.Counting.{lines-length}
 use Rattle.explain.proofs.LineFeeds.{setting, kind-is-lines, kind-many}

@@ -1,7 +1,7 @@
 -- The digest is its lines, each with a line feed, and there are as many as ways in which they ended.
 use mathlib.Core.Path.{_≡_, refl, sym, ap, _∙_}
 use mathlib.Core.Bool.{Bool, true, false, _||_}
-use mathlib.Core.List.{List, [], _∷_, _++_, append-nil, append-assoc}
+use mathlib.Core.List.{List, [], _∷_, _++_, append-nil}
 use Prim.Native.Nat.{ℕ, suc}
 use native.Mathlib.Omega.{arith}
 use lib.ListN.{length, length-append}
@@ -12,40 +12,18 @@ use Rattle.pieces.specs.Pieces.{Piece, Kind, blankLine, plainLine, paragraph, P
 use Rattle.records.specs.Word.{Word}
 use Rattle.words.specs.Words.{wordsOf}
 use Rattle.spacing.specs.declared.Setting.{Setting}
-use Rattle.output.specs.Emission.{lineFeed, spaceBefore, emitRest, emit}
+use Rattle.output.specs.Emission.{lineFeed, spaceBefore, emit}
+use Rattle.output.specs.EmittedLines.{linesFrom}
+use Rattle.output.proofs.EmittedLines.{output-is-lines}
 use Rattle.endings.specs.Endings.{Next, goesOn, ended, breaks, endings}
 use Rattle.quick.specs.QuickLines.{quickLines}
 use Rattle.knuth_plass.specs.BestLines.{bestLines}
 use Rattle.paragraphs.specs.Breaks.{settingOf, breaksBy}
 use Rattle.walk.specs.Digest.{formatted, outputOf, pieceOutput, digest}
 use Rattle.explain.specs.Reasons.{linesBy, paragraphEndings, endingsOf, pieceEndings, lineEndings}
-use Rattle.explain.specs.Theorems.LineFeeds.{linesFrom, fed, textLines, kindLines, pieceLines, digestLines}
+use Rattle.explain.specs.Theorems.LineFeeds.{fed, textLines, kindLines, pieceLines, digestLines}
 use Rattle.explain.proofs.Asking.{breaks-are}
 use Rattle.explain.proofs.Counting.{lines-length}
-
--- the output after a line that stands so far
-rest-is-lines : (uniform : Bool) (indent line : List ℕ) (punct : Bool) (bs : List Bool) (ws : List Word)
-    → line ++ emitRest uniform indent punct bs ws ≡ fed (linesFrom uniform indent line punct bs ws)
-unfolding emitRest linesFrom joined
-rest-is-lines uniform indent line punct bs [] = sym (append-nil (line ++ lineFeed))
-rest-is-lines uniform indent line punct [] (w ∷ ws) =
-    ap (λ (x : List ℕ). line ++ x) (sym (append-assoc (spaceBefore uniform punct w) (w .text) (emitRest uniform indent (w .endsPunct) [] ws)))
-    ∙ sym (append-assoc line (spaceBefore uniform punct w ++ w .text) (emitRest uniform indent (w .endsPunct) [] ws))
-    ∙ rest-is-lines uniform indent (line ++ (spaceBefore uniform punct w ++ w .text)) (w .endsPunct) [] ws
-rest-is-lines uniform indent line punct (false ∷ bs) (w ∷ ws) =
-    ap (λ (x : List ℕ). line ++ x) (sym (append-assoc (spaceBefore uniform punct w) (w .text) (emitRest uniform indent (w .endsPunct) bs ws)))
-    ∙ sym (append-assoc line (spaceBefore uniform punct w ++ w .text) (emitRest uniform indent (w .endsPunct) bs ws))
-    ∙ rest-is-lines uniform indent (line ++ (spaceBefore uniform punct w ++ w .text)) (w .endsPunct) bs ws
-rest-is-lines uniform indent line punct (true ∷ bs) (w ∷ ws) =
-    ap (λ (x : List ℕ). line ++ x) (append-assoc lineFeed indent (w .text ++ emitRest uniform indent (w .endsPunct) bs ws))
-    ∙ sym (append-assoc line lineFeed (indent ++ (w .text ++ emitRest uniform indent (w .endsPunct) bs ws)))
-    ∙ ap (λ (x : List ℕ). (line ++ lineFeed) ++ x) (sym (append-assoc indent (w .text) (emitRest uniform indent (w .endsPunct) bs ws)) ∙ rest-is-lines uniform indent (indent ++ w .text) (w .endsPunct) bs ws)
-
--- a whole paragraph's
-output-is-lines : (uniform : Bool) (first indent : List ℕ) (bs : List Bool) (w : Word) (ws : List Word)
-    → emit uniform first indent bs (w ∷ ws) ≡ fed (linesFrom uniform indent (first ++ w .text) false bs ws)
-unfolding emit
-output-is-lines uniform first indent bs w ws = sym (append-assoc first (w .text) (emitRest uniform indent false bs ws)) ∙ rest-is-lines uniform indent (first ++ w .text) false bs ws
 
 -- as many lines as ways in which they ended
 as-many-lines : (uniform : Bool) (indent line : List ℕ) (punct : Bool) (ns : List Next) (ws : List Word) → length ns ≡ length ws

@@ -3,7 +3,7 @@
 use endings::Ending;
 use endings::Spot;
 use formatter::Admission;
-use formatter::Reply;
+use formatter::Refusal;
 use options::Options;
 use pieces::Paragraph;
 use pieces::Piece;
@@ -14,6 +14,7 @@ ghost use mathlib.Core.Bool.{true, false};
 ghost use mathlib.Core.List.{List, [], _∷_};
 ghost use Prim.Native.Nat.{ℕ, _^_, _≤_, _<_};
 ghost use lib.ListN.{length};
+ghost use Rattle.lists.specs.Coded.{numbered};
 ghost use Rattle.options.specs.Opts.{meant};
 ghost use Rattle.records.specs.Contracts.Table.{wordsIn};
 ghost use Rattle.endings.specs.Endings.{endings};
@@ -27,12 +28,12 @@ ghost use Rattle.formatter.specs.Work.{lending};
 ghost use Rattle.explain.specs.Explain.{explaining};
 ghost use Rattle.explain.specs.declared.Asked.the-variants.{Behind};
 ghost use Rattle.explain.specs.Contracts.Asking.{EndsSo, passed};
-ghost use Rattle.explain.specs.Contracts.Seeking.{TextPassed, PiecePassed, Coursed, SoughtIs, linesAhead, asking, told, toldNumber, toldReason, leftOf};
+ghost use Rattle.explain.specs.Contracts.Seeking.{TextPassed, PiecePassed, Coursed, SoughtIs, linesAhead, asking, told, explainedCoded, toldReason, leftOf};
 
-// What the call replies: why the line ends; a refusal of measuring's; or how many lines there are, where there is no such line.
+// What the call replies: why the line ends; why the notes are refused; or how many lines there are, where there is no such line.
 pub enum Explained {
     Because(Ending),
-    Refused(Reply),
+    Refused(Refusal),
     NoLine(usize),
 }
 
@@ -92,15 +93,15 @@ const UPPER: u64 = 4294967296;
 
 // The reply's number, and the kind and its numbers; on a refusal they are left as they are.
 pub fn tell(x: Explained, reason: &mut [u64; 6]) -> u64
-    requires { ⌜ toldNumber x < 2 ^ 64 ⌝ }
-    ensures { λ n. ⌜ (n ≡ toldNumber x) × (now (reason .exit) ≡ toldReason x (now (reason .entry))) ⌝ }
+    requires { ⌜ numbered (explainedCoded x) < 2 ^ 64 ⌝ }
+    ensures { λ n. ⌜ (n ≡ numbered (explainedCoded x)) × (now (reason .exit) ≡ toldReason x (now (reason .entry))) ⌝ }
 {
     match x {
         Explained::Because(e) => {
             endings::put(e, reason);
             0
         }
-        Explained::Refused(r) => formatter::number_of(r),
+        Explained::Refused(r) => formatter::refusal_number(r),
         Explained::NoLine(lines) => 8 * UPPER + lines as u64,
     }
 }
@@ -116,7 +117,7 @@ fn explain_line(o: Options, block: &[u8], notes: &[u8], line: usize) -> Explaine
         asked: Asked::Behind(line),
     };
     match seek_line(o, block, notes, start) {
-        Sought::Stopped(place) => Explained::Refused(Reply::Words(place)),
+        Sought::Stopped(place) => Explained::Refused(Refusal::Words(place)),
         Sought::All(a) => found(line, a),
     }
 }
@@ -132,7 +133,7 @@ fn explain_lent(o: Options, block: &[u8], notes: &[u8], line: usize, work: &mut 
         asked: Asked::Behind(line),
     };
     match seek_with(o, block, notes, start, work) {
-        Course::Short(_) => Explained::Refused(Reply::Work(walk::work_over(
+        Course::Short(_) => Explained::Refused(Refusal::Work(walk::work_over(
             o,
             block,
             notes,

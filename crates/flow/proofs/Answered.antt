@@ -1,5 +1,5 @@
 -- The answers, case by case: what each refusal and what was sent leave after.
-use mathlib.Core.Path.{_≡_, refl, sym, ap, _∙_}
+use mathlib.Core.Path.{_≡_, refl, sym, ap, subst, _∙_}
 use mathlib.Core.Bool.{Bool, true, false, false≢true}
 use mathlib.Core.List.{List}
 use Prim.Native.Nat.{ℕ, _^_, _≤_, _<_, max}
@@ -23,15 +23,18 @@ use Rattle.walk.specs.Work.{workFor}
 use Rattle.walk.proofs.Loop.{all-long}
 use Rattle.walk.proofs.Lent.{enough}
 use Rattle.walk.proofs.Unique.{nowhere-else}
-use Rattle.formatter.specs.Answers.{Answer, done, options, long, text, words, room, work, code, outputAfter}
-use Rattle.formatter.specs.Format.{Limits, ownRoom, damageIn, within, withWork, withText, withNotes, withBlock, mostTold, measuring}
+use Rattle.lists.specs.Coded.{numbered}
+use Rattle.formatter.specs.Answers.{Answer, done, refused, room, refusalCoded, outputAfter}
+use Rattle.formatter.specs.Format.{Limits, ownRoom, Finding, stopped, damageIn, within, withWork, withText, withNotes, withBlock, answering, mostTold, measuring}
 use Rattle.formatter.specs.Work.{lending}
-use Rattle.formatter.specs.Contracts.Call.{told, replyNumber, Refuses, Admits}
+use Rattle.formatter.specs.Contracts.Call.{told, replyCoded, Refuses, Admits}
 use Rattle.formatter.specs.declared.Reply.{Reply}
-use Rattle.formatter.specs.declared.Reply.the-variants.{Done, Options as Faulty, Words, Room, Work}
+use Rattle.formatter.specs.declared.Reply.the-variants.{Done, Refused as Declined, Room}
+use Rattle.formatter.specs.declared.Refusal.{Refusal}
+use Rattle.formatter.specs.declared.Refusal.the-variants.{Options as Faulty, Long, Text as Damaged, Words as Many, Work}
 use Rattle.formatter.specs.declared.Admission.{Admission}
 use Rattle.formatter.specs.declared.Admission.the-variants.{Refused, Passed}
-use Rattle.formatter.proofs.Unique.{later, hangs}
+use Rattle.formatter.proofs.Unique.{same-refusal, later}
 use Rattle.formatter.proofs.Replies.{passed-of, refusal-measured}
 use Rattle.formatter.proofs.Values.{Sound, measured-fits}
 use Rattle.formatter.proofs.Work.{lending-sound}
@@ -53,15 +56,15 @@ module _ (room-is : ℕ) (full : room-is ≡ mostWords) (o : Opts) (notes out ou
 
   -- too many words: all zero
   pub words-answer : {place : ℕ} {clear : List ℕ} → r ≡ Stopped place → clear ≡ replicate (length out′) 0
-      → Sends (leftOf ownRoom o notes (length out)) (leftDashes ownRoom o notes (length out)) out (record { reply = Words place; dashes = 0 }) clear
-  unfolding outputAfter
+      → Sends (leftOf ownRoom o notes (length out)) (leftDashes ownRoom o notes (length out)) out (record { reply = Declined (Many place); dashes = 0 }) clear
+  unfolding outputAfter numbered
   words-answer {place} {clear} e z =
       let s = stopped-of e in
       rw (s .0) (record { is = refl; output = z ∙ ap (λ (n : ℕ). replicate n 0) (s .1); counts = refl; small = omega (arith, s .2, short) })
 
   -- all of it fits
   pub done-answer : {n k : ℕ} → r ≡ All n k → n ≤ length out′ → Sends (leftOf ownRoom o notes (length out)) (leftDashes ownRoom o notes (length out)) out (record { reply = Done n; dashes = k }) out′
-  unfolding outputAfter
+  unfolding outputAfter numbered
   done-answer {n} {k} e h =
       let w = all-of e in
       let l = wrote-length (w .1) in
@@ -73,7 +76,7 @@ module _ (room-is : ℕ) (full : room-is ≡ mostWords) (o : Opts) (notes out ou
   -- it does not: all zero
   pub room-answer : {n k : ℕ} {clear : List ℕ} → r ≡ All n k → length out′ < n → clear ≡ replicate (length out′) 0
       → Sends (leftOf ownRoom o notes (length out)) (leftDashes ownRoom o notes (length out)) out (record { reply = Room n; dashes = 0 }) clear
-  unfolding outputAfter
+  unfolding outputAfter numbered
   room-answer {n} {k} {clear} e h z =
       let w = all-of e in
       let l = wrote-length (w .1) in
@@ -93,62 +96,67 @@ module _ (l : Limits) (sound : Sound l) (block notes : List ℕ) where
   abbrev Told : ℕ → Answer → Type 0
   Told space a = (flow l block notes space ≡ a) × (dashesOf l block notes space ≡ 0)
 
-  told-sends : (out : List ℕ) (a : Answer) (r : Reply) → Told (length out) a → r ≡ told a → outputAfter a out ≡ out → replyNumber r < 2 ^ 64
+  told-sends : (out : List ℕ) (a : Answer) (r : Reply) → Told (length out) a → r ≡ told a → outputAfter a out ≡ out → numbered (replyCoded r) < 2 ^ 64
       → Sends (flow l block notes (length out)) (dashesOf l block notes (length out)) out (record { reply = r; dashes = 0 }) out
   told-sends out a r t e u n = rw (t .0, t .1) (record { is = e; output = sym u; counts = refl; small = n })
 
   -- a block that the writer does not take
-  unfit-told : (space : ℕ) → refusedFor block ≡ true → Told space (options (length block))
+  unfit-told : (space : ℕ) → refusedFor block ≡ true → Told space (refused (Faulty (length block)))
   unfolding flow dashesOf refusedFor
   unfit-told space h = go (readBlock block) h
     where
-      go : (b : Block) → refusedAs block b ≡ true → (sentBlock l space block notes b ≡ options (length block)) × (countedBy (sentBlock l space block notes b) block notes b ≡ 0)
+      go : (b : Block) → refusedAs block b ≡ true → (sentBlock l space block notes b ≡ refused (Faulty (length block))) × (countedBy (sentBlock l space block notes b) block notes b ≡ 0)
       go (Fault place) e = absurd (false≢true e)
       go (Accepted o) e = pick (unfit block) e
         where
           pick : (t : Bool) → t ≡ true
-              → (elim t as (λ x. Answer) [ true ↦ options (length block) | false ↦ sentNotes l space (mailed (meant block o)) notes ] ≡ options (length block))
-              × (countedBy (elim t as (λ x. Answer) [ true ↦ options (length block) | false ↦ sentNotes l space (mailed (meant block o)) notes ]) block notes (Accepted o) ≡ 0)
+              → (elim t as (λ x. Answer) [ true ↦ refused (Faulty (length block)) | false ↦ sentNotes l space (mailed (meant block o)) notes ] ≡ refused (Faulty (length block)))
+              × (countedBy (elim t as (λ x. Answer) [ true ↦ refused (Faulty (length block)) | false ↦ sentNotes l space (mailed (meant block o)) notes ]) block notes (Accepted o) ≡ 0)
           pick true k = (refl, refl)
           pick false k = absurd (false≢true k)
 
   pub unfit-answer : (out : List ℕ) → refusedFor block ≡ true → length block < 2 ^ 63
-      → Sends (flow l block notes (length out)) (dashesOf l block notes (length out)) out (record { reply = Faulty (length block); dashes = 0 }) out
-  unfolding outputAfter
-  unfit-answer out h n = told-sends out (options (length block)) (Faulty (length block)) (unfit-told (length out) h) refl refl (omega (arith, n))
+      → Sends (flow l block notes (length out)) (dashesOf l block notes (length out)) out (record { reply = Declined (Faulty (length block)); dashes = 0 }) out
+  unfolding outputAfter numbered
+  unfit-answer out h n = told-sends out (refused (Faulty (length block))) (Declined (Faulty (length block))) (unfit-told (length out) h) refl refl (omega (arith, n))
+
+  -- what is said of a finding that is refused
+  abbrev Refused-so : ℕ → Refusal → Options → Finding → Type 0
+  Refused-so space r o f =
+      (answering (sending l (mailed (meant block o)) notes space) f ≡ refused r) × (countedBy (answering (sending l (mailed (meant block o)) notes space) f) block notes (Accepted o) ≡ 0)
 
   -- refusals of the writing call: they do not depend on what would become of the digest
   module _ (fit : refusedFor block ≡ false) where
-    refused-told : (space : ℕ) (a : Answer) → ((then : List ℕ → Answer) → withBlock l then block notes (readBlock block) ≡ a) → code a ≤ 3 → Told space a
+    refused-told : (space : ℕ) (r : Refusal) → withBlock l block notes (readBlock block) ≡ stopped r → refusalCoded r .code ≤ 3 → Told space (refused r)
     unfolding flow dashesOf mailed refusedFor meant
-    refused-told space a whole early = go (readBlock block) fit whole
+    refused-told space r whole early = go (readBlock block) fit whole
       where
-        damaged : (o : Options) (f : Found) → ((then : List ℕ → Answer) → withText (l .words) then (meant block o) notes f ≡ a)
-            → (withText (l .words) (sending l (mailed (meant block o)) notes space) (mailed (meant block o)) notes f ≡ a) × (countedBy (withText (l .words) (sending l (mailed (meant block o)) notes space) (mailed (meant block o)) notes f) block notes (Accepted o) ≡ 0)
-        damaged o (At place) w = (w done, refl)
-        damaged o Nowhere w = hangs l a (meant block o) notes early (λ then. sym (w then))
+        damaged : (o : Options) (f : Found) → withText (l .words) (meant block o) notes f ≡ stopped r → Refused-so space r o (withText (l .words) (mailed (meant block o)) notes f)
+        damaged o (At place) w = (ap refused (same-refusal w), refl)
+        damaged o Nowhere w = absurd (let k = later (l .words) (meant block o) notes w in omega (arith, k, early))
 
-        size : (o : Options) (t : Bool) → ((then : List ℕ → Answer) → elim t as (λ x. Answer) [ true ↦ long | false ↦ withText (l .words) then (meant block o) notes (damageIn (o .keep) notes) ] ≡ a)
-            → (elim t as (λ x. Answer) [ true ↦ long | false ↦ withText (l .words) (sending l (mailed (meant block o)) notes space) (mailed (meant block o)) notes (damageIn (o .keep) notes) ] ≡ a)
-            × (countedBy (elim t as (λ x. Answer) [ true ↦ long | false ↦ withText (l .words) (sending l (mailed (meant block o)) notes space) (mailed (meant block o)) notes (damageIn (o .keep) notes) ]) block notes (Accepted o) ≡ 0)
-        size o true w = (w done, refl)
+        size : (o : Options) (t : Bool) → elim t as (λ x. Finding) [ true ↦ stopped Long | false ↦ withText (l .words) (meant block o) notes (damageIn (o .keep) notes) ] ≡ stopped r
+            → Refused-so space r o (elim t as (λ x. Finding) [ true ↦ stopped Long | false ↦ withText (l .words) (mailed (meant block o)) notes (damageIn (o .keep) notes) ])
+        size o true w = (ap refused (same-refusal w), refl)
         size o false w = damaged o (damageIn (o .keep) notes) w
 
-        go : (b : Block) → refusedAs block b ≡ false → ((then : List ℕ → Answer) → withBlock l then block notes b ≡ a) → (sentBlock l space block notes b ≡ a) × (countedBy (sentBlock l space block notes b) block notes b ≡ 0)
-        go (Fault place) e w = (w done, refl)
+        go : (b : Block) → refusedAs block b ≡ false → withBlock l block notes b ≡ stopped r → (sentBlock l space block notes b ≡ refused r) × (countedBy (sentBlock l space block notes b) block notes b ≡ 0)
+        go (Fault place) e w = (ap refused (same-refusal w), refl)
         go (Accepted o) e w = pick (unfit block) e (size o (ltb (l .bytes) (length notes)) w)
           where
-            pick : (t : Bool) → t ≡ false → (sentNotes l space (mailed (meant block o)) notes ≡ a) × (countedBy (sentNotes l space (mailed (meant block o)) notes) block notes (Accepted o) ≡ 0)
-                → (elim t as (λ x. Answer) [ true ↦ options (length block) | false ↦ sentNotes l space (mailed (meant block o)) notes ] ≡ a)
-                × (countedBy (elim t as (λ x. Answer) [ true ↦ options (length block) | false ↦ sentNotes l space (mailed (meant block o)) notes ]) block notes (Accepted o) ≡ 0)
+            pick : (t : Bool) → t ≡ false → (sentNotes l space (mailed (meant block o)) notes ≡ refused r) × (countedBy (sentNotes l space (mailed (meant block o)) notes) block notes (Accepted o) ≡ 0)
+                → (elim t as (λ x. Answer) [ true ↦ refused (Faulty (length block)) | false ↦ sentNotes l space (mailed (meant block o)) notes ] ≡ refused r)
+                × (countedBy (elim t as (λ x. Answer) [ true ↦ refused (Faulty (length block)) | false ↦ sentNotes l space (mailed (meant block o)) notes ]) block notes (Accepted o) ≡ 0)
             pick true k s = absurd (false≢true (sym k))
             pick false k s = s
 
-    pub refused-answer : {r : Admission} {q : Reply} (out : List ℕ) → Admits l block notes r → r ≡ Refused q → Sends (flow l block notes (length out)) (dashesOf l block notes (length out)) out (record { reply = q; dashes = 0 }) out
+    pub refused-answer : {r : Admission} {q : Refusal} (out : List ℕ) → Admits l block notes r → r ≡ Refused q → Sends (flow l block notes (length out)) (dashesOf l block notes (length out)) out (record { reply = Declined q; dashes = 0 }) out
+    unfolding outputAfter
     refused-answer {r} {q} out s e =
-        let f : Refuses 3 (λ then. withBlock l then block notes (readBlock block)) q = rw e at s in
-        let n : q ≡ told (measuring l block notes) = refusal-measured l block notes f in
-        told-sends out (f .refusal) q (refused-told (length out) (f .refusal) (f .whole-is) (f .early)) (f .is) (f .untouched out) (rw n (measured-fits l sound block notes))
+        let f : Refuses 3 (withBlock l block notes (readBlock block)) q = rw e at s in
+        let n : Declined q ≡ told (measuring l block notes) = refusal-measured l block notes f in
+        told-sends out (refused q) (Declined q) (refused-told (length out) q (f .whole-is) (f .early)) refl (f .untouched out)
+        (subst (λ (a : Reply). numbered (replyCoded a) < 2 ^ 64) (sym n) (measured-fits l sound block notes))
 
     -- and where none is due, what becomes of the pieces
     module _ {r : Admission} {o : Options} (s : Admits l block notes r) (e : r ≡ Passed o) where
@@ -165,16 +173,16 @@ module _ (l : Limits) (sound : Sound l) (block notes : List ℕ) where
           go : (f : Found) → damageIn (o .keep) notes ≡ f → f ≡ Nowhere
           go Nowhere d = refl
           go (At place) d =
-              let w : withBlock l (λ x. words 0) block notes (readBlock block) ≡ text place = rw (passed .0 .accepted, withNotes, le-ltb (l .bytes) (length notes) (passed .2), d) in
-              absurd (let k = later (l .words) (meant block o) notes in let z = ap code (sym (passed .1 (λ x. words 0)) ∙ w) in omega (arith, k, z))
+              let w : withBlock l block notes (readBlock block) ≡ stopped (Damaged place) = rw (passed .0 .accepted, withNotes, le-ltb (l .bytes) (length notes) (passed .2), d) in
+              absurd (let k = later (l .words) (meant block o) notes (sym (passed .1) ∙ w) in omega (arith, k))
 
       flow-left : (space : ℕ) → flow l block notes space ≡ leftOf l (meant block (switched o)) notes space
       unfolding flow mailed meant refusedFor
       flow-left space =
           ap (sentBlock l space block notes) (passed .0 .accepted)
-          ∙ ap (λ (t : Bool). elim t as (λ x. Answer) [ true ↦ options (length block) | false ↦ sentNotes l space m notes ]) fits
-          ∙ ap (λ (t : Bool). elim t as (λ x. Answer) [ true ↦ long | false ↦ withText (l .words) (sending l m notes space) m notes (damageIn (o .keep) notes) ]) (le-ltb (l .bytes) (length notes) (passed .2))
-          ∙ ap (withText (l .words) (sending l m notes space) m notes) undamaged
+          ∙ ap (λ (t : Bool). elim t as (λ x. Answer) [ true ↦ refused (Faulty (length block)) | false ↦ sentNotes l space m notes ]) fits
+          ∙ ap (λ (t : Bool). answering (sending l m notes space) (elim t as (λ x. Finding) [ true ↦ stopped Long | false ↦ withText (l .words) m notes (damageIn (o .keep) notes) ])) (le-ltb (l .bytes) (length notes) (passed .2))
+          ∙ ap (λ (f : Found). answering (sending l m notes space) (withText (l .words) m notes f)) undamaged
         where
           m : Opts
           m = mailed (meant block o)
@@ -188,12 +196,8 @@ module _ (l : Limits) (sound : Sound l) (block notes : List ℕ) where
         where
           go : (a : Answer) → countedBy a block notes (Accepted o) ≡ ifDone a (dashesIn (meant block (switched o)) (pieces (meant block (switched o)) notes))
           go (done bytes) = refl
-          go (options place) = refl
-          go long = refl
-          go (text place) = refl
-          go (words place) = refl
+          go (refused r) = refl
           go (room needed) = refl
-          go (work needed) = refl
 
       pub passed-answer : (out out′ : List ℕ) {q : Outcome} → Sends (leftOf l (meant block (switched o)) notes (length out)) (leftDashes l (meant block (switched o)) notes (length out)) out q out′
           → Sends (flow l block notes (length out)) (dashesOf l block notes (length out)) out q out′
@@ -204,12 +208,12 @@ module _ (l : Limits) (sound : Sound l) (block notes : List ℕ) where
 module _ (lends : ℕ) (o : Opts) (notes out : List ℕ) where
   -- code 12 is due exactly where less is lent than is needed
   pub work-answer : (needed : ℕ) → length notes ≤ mostLarge → needed ≡ max lends (workFor o notes) → lends < needed
-      → Sends (leftOf (lending lends) o notes (length out)) (leftDashes (lending lends) o notes (length out)) out (record { reply = Work needed; dashes = 0 }) out
-  unfolding outputAfter
+      → Sends (leftOf (lending lends) o notes (length out)) (leftDashes (lending lends) o notes (length out)) out (record { reply = Declined (Work needed); dashes = 0 }) out
+  unfolding outputAfter numbered
   work-answer needed short e h =
       let n : needed ≡ workFor o notes = omega arith in
       let m = lending-sound lends .modest o notes short in
-      rw (within, withWork, lt-ltb lends (workFor o notes) (omega (arith, n))) (record { is = ap Work n; output = refl; counts = refl; small = omega (arith, n, m) })
+      rw (within, withWork, lt-ltb lends (workFor o notes) (omega (arith, n))) (record { is = ap (λ (k : ℕ). Declined (Work k)) n; output = refl; counts = refl; small = omega (arith, n, m) })
 
   pub enough-answer : (needed : ℕ) {q : Outcome} {out′ : List ℕ} → needed ≡ max lends (workFor o notes) → needed ≤ lends
       → Sends (sentIn (lending lends .words) (length out) (flowed o notes)) (ifDone (sentIn (lending lends .words) (length out) (flowed o notes)) (dashesIn o (pieces o notes))) out q out′
@@ -231,7 +235,7 @@ module _ (lends : ℕ) (o : Opts) (notes out : List ℕ) where
 
     pub untold-answer : {n k : ℕ} {clear : List ℕ} → r ≡ All n k → mostTold < n → clear ≡ replicate (length out′) 0
         → Sends (sentIn (lending lends .words) (length out) (flowed o notes)) (ifDone (sentIn (lending lends .words) (length out) (flowed o notes)) (dashesIn o (pieces o notes))) out (record { reply = Room mostTold; dashes = 0 }) clear
-    unfolding outputAfter
+    unfolding outputAfter numbered
     untold-answer {n} {k} e h z =
         let w = all-sent e in
         let c : n ≡ length (flowed o notes) = omega (arith, w .1 .count) in
@@ -239,7 +243,7 @@ module _ (lends : ℕ) (o : Opts) (notes out : List ℕ) where
 
     pub done-sent : {n k : ℕ} → r ≡ All n k → n ≤ mostTold → n ≤ length out′
         → Sends (sentIn (lending lends .words) (length out) (flowed o notes)) (ifDone (sentIn (lending lends .words) (length out) (flowed o notes)) (dashesIn o (pieces o notes))) out (record { reply = Done n; dashes = k }) out′
-    unfolding outputAfter
+    unfolding outputAfter numbered
     done-sent {n} {k} e h b =
         let w = all-sent e in
         let l = wrote-length (w .1) in
@@ -249,7 +253,7 @@ module _ (lends : ℕ) (o : Opts) (notes out : List ℕ) where
 
     pub room-sent : {n k : ℕ} {clear : List ℕ} → r ≡ All n k → n ≤ mostTold → length out′ < n → clear ≡ replicate (length out′) 0
         → Sends (sentIn (lending lends .words) (length out) (flowed o notes)) (ifDone (sentIn (lending lends .words) (length out) (flowed o notes)) (dashesIn o (pieces o notes))) out (record { reply = Room n; dashes = 0 }) clear
-    unfolding outputAfter
+    unfolding outputAfter numbered
     room-sent {n} {k} e h b z =
         let w = all-sent e in
         let l = wrote-length (w .1) in

@@ -4,12 +4,10 @@ use mathlib.Core.Bool.{Bool, true, false, cond}
 use mathlib.Core.List.{List, _++_, map}
 use Prim.Native.Nat.{ℕ, _+_}
 use native.Mathlib.Omega.{arith}
-use lib.Dec.{ltb, leb}
+use lib.Dec.{leb}
 use lib.ListN.{length, length-map}
 use Rattle.lists.specs.Runs.{joined}
 use Rattle.lists.specs.Theorems.All.{_∈_}
-use Rattle.text.specs.declared.Found.{Found}
-use Rattle.text.specs.declared.Found.the-variants.{At, Nowhere}
 use Rattle.options.specs.Opts.{Opts, meant}
 use Rattle.options.specs.OptionBlock.{readBlock}
 use Rattle.options.specs.declared.Options.{Options}
@@ -18,9 +16,10 @@ use Rattle.options.specs.declared.Block.the-variants.{Accepted, Fault}
 use Rattle.pieces.specs.Pieces.{Piece, Paragraph, paragraph, pieces}
 use Rattle.words.specs.Words.{wordsOf}
 use Rattle.output.specs.Emission.{lineFeed}
-use Rattle.walk.specs.Digest.{formatted, longParagraph}
-use Rattle.formatter.specs.Answers.{Answer, done, options, long, room, work}
-use Rattle.formatter.specs.Format.{Words, upTo, lent, Limits, withWords, within, withText, damageIn, mostTold, isTold}
+use Rattle.walk.specs.Digest.{formatted}
+use Rattle.formatter.specs.Answers.{Answer, done, refused, room}
+use Rattle.formatter.specs.Format.{Limits, Finding, found, stopped, withNotes, answering, mostTold, isTold}
+use Rattle.formatter.specs.declared.Refusal.the-variants.{Options as Faulty}
 use Rattle.unflow.specs.Unflow.{paragraphs, mailLines}
 use Rattle.flow.specs.Flow.{mailed, paragraphLines, flowed, dashesIn}
 use Rattle.flow.specs.Answers.{unfit, sentIn, sentNotes, sentBlock, flow, countedBy, dashesOf}
@@ -30,32 +29,16 @@ use Rattle.flow.proofs.Theorems.{what-was-written-comes-back, its-words
 -- ---- what an answer that is done says
 
 sent-notes : (l : Limits) (space : ℕ) (o : Opts) (notes bytes : List ℕ) → sentNotes l space o notes ≡ done bytes → bytes ≡ flowed o notes
-sent-notes l space o notes bytes h = size (ltb (l .bytes) (length notes)) h
+sent-notes l space o notes bytes h = go (withNotes l o notes) h
   where
     fitted : (a b : Bool) → cond a (cond b (done (flowed o notes)) (room (length (flowed o notes)))) (room mostTold) ≡ done bytes → bytes ≡ flowed o notes
     fitted true true k = cc
     fitted true false k = cc
     fitted false b k = cc
 
-    count : (f : Found) → withWords (λ d. sentIn (l .words) space (flowed o notes)) o notes f ≡ done bytes → bytes ≡ flowed o notes
-    count (At place) k = cc
-    count Nowhere k = fitted (isTold (l .words) (length (flowed o notes))) (leb (length (flowed o notes)) space) k
-
-    lends : (b : Bool) (needed : ℕ) → elim b as (λ z. Answer) [ true ↦ work needed | false ↦ sentIn (l .words) space (flowed o notes) ] ≡ done bytes → bytes ≡ flowed o notes
-    lends true needed k = cc
-    lends false needed k = fitted (isTold (l .words) (length (flowed o notes))) (leb (length (flowed o notes)) space) k
-
-    enough : (w : Words) → within w (λ d. sentIn (l .words) space (flowed o notes)) o notes ≡ done bytes → bytes ≡ flowed o notes
-    enough (upTo most) k = count (longParagraph most o 0 (pieces o notes)) k
-    enough (lent n need) k = lends (ltb n (need o notes)) (need o notes) k
-
-    damaged : (f : Found) → withText (l .words) (λ d. sentIn (l .words) space (flowed o notes)) o notes f ≡ done bytes → bytes ≡ flowed o notes
-    damaged (At place) k = cc
-    damaged Nowhere k = enough (l .words) k
-
-    size : (b : Bool) → elim b as (λ z. Answer) [ true ↦ long | false ↦ withText (l .words) (λ d. sentIn (l .words) space (flowed o notes)) o notes (damageIn (o .keep) notes) ] ≡ done bytes → bytes ≡ flowed o notes
-    size true k = cc
-    size false k = damaged (damageIn (o .keep) notes) k
+    go : (f : Finding) → answering (λ d. sentIn (l .words) space (flowed o notes)) f ≡ done bytes → bytes ≡ flowed o notes
+    go (found d) k = fitted (isTold (l .words) (length (flowed o notes))) (leb (length (flowed o notes)) space) k
+    go (stopped r) k = cc
 
 -- ---- the options that the writer sends with
 
@@ -92,7 +75,7 @@ unfolding flow
 what-the-call-wrote-comes-back l block notes space bytes h = read (readBlock block) refl h
   where
     fit : (o : Options) → readBlock block ≡ Accepted o → (b : Bool) → unfit block ≡ b
-        → elim b as (λ z. Answer) [ true ↦ options (length block) | false ↦ sentNotes l space (mailed (meant block o)) notes ] ≡ done bytes → ComesBack l block notes space bytes
+        → elim b as (λ z. Answer) [ true ↦ refused (Faulty (length block)) | false ↦ sentNotes l space (mailed (meant block o)) notes ] ≡ done bytes → ComesBack l block notes space bytes
     fit o e true u k = absurd (let z : _≡_ {A = ℕ} 0 1 = cc in omega arith)
     fit o e false u k =
         let m = mailed (meant block o) in

@@ -20,7 +20,8 @@ use Rattle.words.proofs.Order.{Whole}
 use Rattle.output.specs.Emission.{spaceBefore}
 use Rattle.output.proofs.Order.{space-some}
 use Rattle.unflow.specs.Flowed.{space}
-use Rattle.flow.specs.Flow.{linesFrom, brokenInto, isDashed}
+use Rattle.output.specs.EmittedLines.{linesFrom}
+use Rattle.flow.specs.Flow.{brokenInto, isDashed}
 use Rattle.flow.specs.Theorems.ReadBack.{backFrom, back, spelt, Between, Spells, Carry}
 
 -- ---- a word more
@@ -79,7 +80,7 @@ module _ (glue : Bool) (first indent : List ℕ) where
       ap (λ (t : List ℕ). elim (isDashed line) as (λ z. List (List ℕ)) [ true ↦ (pre ++ line) ∷ backFrom next next lines | false ↦ backFrom t next lines ])
       (sym (append-assoc (pre ++ line) (space ∷ []) next))
 
-  pub lines-some : (line : List ℕ) (punct : Bool) (breaks : List Bool) (ws : List Word) → 0 < length (linesFrom indent line punct breaks ws)
+  pub lines-some : (line : List ℕ) (punct : Bool) (breaks : List Bool) (ws : List Word) → 0 < length (linesFrom true indent line punct breaks ws)
   unfolding linesFrom
   lines-some line punct breaks [] = omega arith
   lines-some line punct [] (w ∷ ws) = lines-some (line ++ (spaceBefore true punct w ++ w .text)) (w .endsPunct) [] ws
@@ -87,7 +88,7 @@ module _ (glue : Bool) (first indent : List ℕ) where
   lines-some line punct (false ∷ bs) (w ∷ ws) = lines-some (line ++ (spaceBefore true punct w ++ w .text)) (w .endsPunct) bs ws
 
   carried : (pre line : List ℕ) (here : List Word) (punct : Bool) (breaks : List Bool) (ws : List Word) → All (Whole glue true) ws
-      → Spells glue first indent here (pre ++ line) → Carry glue first indent (here ++ ws) (backAs pre (linesFrom indent line punct breaks ws))
+      → Spells glue first indent here (pre ++ line) → Carry glue first indent (here ++ ws) (backAs pre (linesFrom true indent line punct breaks ws))
   unfolding linesFrom backFrom
   carried pre line here punct breaks [] a s = (here, [], refl, s, refl)
   carried pre line here punct [] (w ∷ ws) a s =
@@ -95,7 +96,7 @@ module _ (glue : Bool) (first indent : List ℕ) where
       (carried pre (line ++ (spaceBefore true punct w ++ w .text)) (here ++ w ∷ []) (w .endsPunct) [] ws (a .1)
       (rw (append-assoc pre line (spaceBefore true punct w ++ w .text)) at (spells-more (spaceBefore true punct w) w s (before-blank punct w (a .0)))))
   carried pre line here punct (true ∷ bs) (w ∷ ws) a s =
-      rw (back-step pre line (linesFrom indent (indent ++ w .text) (w .endsPunct) bs ws) (lines-some (indent ++ w .text) (w .endsPunct) bs ws))
+      rw (back-step pre line (linesFrom true indent (indent ++ w .text) (w .endsPunct) bs ws) (lines-some (indent ++ w .text) (w .endsPunct) bs ws))
       (go (isDashed line)
       (carried [] (indent ++ w .text) (w ∷ []) (w .endsPunct) bs ws (a .1) (spells-one indent w (inr refl)))
       (rw (append-assoc here (w ∷ []) ws) at
@@ -103,7 +104,7 @@ module _ (glue : Bool) (first indent : List ℕ) where
       (rw (append-assoc (pre ++ line) (space ∷ []) (indent ++ w .text)) (spells-more (space ∷ indent) w s (inr refl))))))
     where
       ls : List (List ℕ)
-      ls = linesFrom indent (indent ++ w .text) (w .endsPunct) bs ws
+      ls = linesFrom true indent (indent ++ w .text) (w .endsPunct) bs ws
 
       go : (b : Bool) → Carry glue first indent (w ∷ ws) (backAs [] ls) → Carry glue first indent (here ++ w ∷ ws) (backAs ((pre ++ line) ++ space ∷ []) ls)
           → Carry glue first indent (here ++ w ∷ ws) (elim b as (λ z. List (List ℕ)) [ true ↦ (pre ++ line) ∷ backAs [] ls | false ↦ backAs ((pre ++ line) ++ space ∷ []) ls ])

@@ -16,7 +16,7 @@ use Rattle.lines.specs.Lines.{Line, noFeed, body, firstLine, linesOf}
 use Rattle.lines.proofs.Lines.{feedless-body, return-behind}
 use Rattle.pieces.specs.Pieces.{fromWord}
 use Rattle.unflow.specs.Flowed.{space, quoteMark, crLf, isMark, quoteDepth, needsSpace, stuffing, unstuffed, contentOf, isDashes, isSeparator, endsInSpace, isSoft}
-use Rattle.unflow.specs.Unflow.{goesOn, Paragraph, paragraphsFrom, paragraphs, mailLines}
+use Rattle.unflow.specs.Unflow.{goesOnIn, FlowedParagraph, paragraphsFrom, paragraphs, mailLines}
 use Rattle.flow.specs.Flow.{sent}
 use Rattle.flow.specs.Theorems.ReadBack.{flows, readFrom, read, unquoted}
 
@@ -143,8 +143,8 @@ seen (x ∷ xs) = go (needsSpace (x ∷ xs)) refl
 
 -- ---- so a line goes on in the next by what it says alone
 
-goes-sent : (t u : List ℕ) → goesOn (asSent t) (asSent u) ≡ (flows t && not (isDashes u))
-unfolding goesOn isSoft flows
+goes-sent : (t u : List ℕ) → goesOnIn (asSent t) (asSent u) ≡ (flows t && not (isDashes u))
+unfolding goesOnIn isSoft flows
 goes-sent t u =
     let a = seen t in
     let b = seen u in
@@ -163,18 +163,18 @@ sent-from c t (u ∷ us) =
     ∙ ap (step (flows t && not (isDashes u)) u) (seen u .depth)
     ∙ go (flows t && not (isDashes u)) (sent-from (c ++ u) u us) (sent-from u u us)
   where
-    step : Bool → List ℕ → ℕ → List Paragraph
-    step b x d = elim b as (λ z. List Paragraph) [
+    step : Bool → List ℕ → ℕ → List FlowedParagraph
+    step b x d = elim b as (λ z. List FlowedParagraph) [
       | true ↦ paragraphsFrom (unquoted (c ++ x)) (asSent u) (map asSent us)
       | false ↦ unquoted c ∷ paragraphsFrom (record { depth = d; content = x }) (asSent u) (map asSent us)
     ]
 
     go : (b : Bool) → paragraphsFrom (unquoted (c ++ u)) (asSent u) (map asSent us) ≡ map unquoted (readFrom (c ++ u) u us)
         → paragraphsFrom (unquoted u) (asSent u) (map asSent us) ≡ map unquoted (readFrom u u us)
-        → elim b as (λ z. List Paragraph) [ true ↦ paragraphsFrom (unquoted (c ++ u)) (asSent u) (map asSent us) | false ↦ unquoted c ∷ paragraphsFrom (unquoted u) (asSent u) (map asSent us) ]
+        → elim b as (λ z. List FlowedParagraph) [ true ↦ paragraphsFrom (unquoted (c ++ u)) (asSent u) (map asSent us) | false ↦ unquoted c ∷ paragraphsFrom (unquoted u) (asSent u) (map asSent us) ]
         ≡ map unquoted (elim b as (λ z. List (List ℕ)) [ true ↦ readFrom (c ++ u) u us | false ↦ c ∷ readFrom u u us ])
     go true on off = on
-    go false on off = ap (λ (l : List Paragraph). unquoted c ∷ l) off
+    go false on off = ap (λ (l : List FlowedParagraph). unquoted c ∷ l) off
 
 pub sent-read : (ts : List (List ℕ)) → paragraphs (map asSent ts) ≡ map unquoted (read ts)
 unfolding paragraphs read

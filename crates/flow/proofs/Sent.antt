@@ -27,7 +27,8 @@ use Rattle.output.specs.Emission.{spaceBefore}
 use Rattle.output.proofs.Indents.{Feedless as Feed, indent-for-feedless}
 use Rattle.unflow.specs.Flowed.{space, isDashes, endsInSpace}
 use Rattle.unflow.proofs.Lines.{ends-append}
-use Rattle.flow.specs.Flow.{linesFrom, brokenInto, paragraphLines, isDashed, softened, allButLast, before, trimmed, plainSent, sentLines}
+use Rattle.output.specs.EmittedLines.{linesFrom}
+use Rattle.flow.specs.Flow.{brokenInto, paragraphLines, isDashed, softened, allButLast, before, trimmed, plainSent, sentLines}
 use Rattle.flow.specs.Theorems.ReadBack.{flows, readFrom, read, back, cameBack}
 use Rattle.flow.proofs.Readings.{Ended}
 use Rattle.flow.proofs.Back.{LastBare, sent-ended, read-back, plain-fixed}
@@ -55,19 +56,19 @@ module _ (indent : List ℕ) (i : Feed indent) where
   on-bare front middle w s =
       ends-append front (middle ++ w .text) (omega (arith, length-append middle (w .text), s .some)) ∙ ends-append middle (w .text) (s .some) ∙ s .bare
 
-  from-feed : (line : List ℕ) (punct : Bool) (breaks : List Bool) (ws : List Word) → Feed line → All Solid ws → All Feed (linesFrom indent line punct breaks ws)
+  from-feed : (line : List ℕ) (punct : Bool) (breaks : List Bool) (ws : List Word) → Feed line → All Solid ws → All Feed (linesFrom true indent line punct breaks ws)
   unfolding linesFrom
   from-feed line punct breaks [] h a = (h, tt)
   from-feed line punct [] (w ∷ ws) h a = from-feed (line ++ (spaceBefore true punct w ++ w .text)) (w .endsPunct) [] ws (on-feed line punct w h (a .0)) (a .1)
   from-feed line punct (true ∷ bs) (w ∷ ws) h a = (h, from-feed (indent ++ w .text) (w .endsPunct) bs ws (feedless-append indent (w .text) i (a .0 .feedless)) (a .1))
   from-feed line punct (false ∷ bs) (w ∷ ws) h a = from-feed (line ++ (spaceBefore true punct w ++ w .text)) (w .endsPunct) bs ws (on-feed line punct w h (a .0)) (a .1)
 
-  from-bare : (line : List ℕ) (punct : Bool) (breaks : List Bool) (ws : List Word) → endsInSpace line ≡ false → All Solid ws → Bare (linesFrom indent line punct breaks ws)
+  from-bare : (line : List ℕ) (punct : Bool) (breaks : List Bool) (ws : List Word) → endsInSpace line ≡ false → All Solid ws → Bare (linesFrom true indent line punct breaks ws)
   unfolding linesFrom
   from-bare line punct breaks [] h a = h
   from-bare line punct [] (w ∷ ws) h a = from-bare (line ++ (spaceBefore true punct w ++ w .text)) (w .endsPunct) [] ws (on-bare line (spaceBefore true punct w) w (a .0)) (a .1)
   from-bare line punct (true ∷ bs) (w ∷ ws) h a =
-      bare-behind line (linesFrom indent (indent ++ w .text) (w .endsPunct) bs ws)
+      bare-behind line (linesFrom true indent (indent ++ w .text) (w .endsPunct) bs ws)
       (from-bare (indent ++ w .text) (w .endsPunct) bs ws (ends-append indent (w .text) (a .0 .some) ∙ a .0 .bare) (a .1))
   from-bare line punct (false ∷ bs) (w ∷ ws) h a = from-bare (line ++ (spaceBefore true punct w ++ w .text)) (w .endsPunct) bs ws (on-bare line (spaceBefore true punct w) w (a .0)) (a .1)
 

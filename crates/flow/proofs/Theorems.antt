@@ -23,7 +23,7 @@ use Rattle.output.specs.Emission.{lineFeed, emit}
 use Rattle.output.proofs.Indents.{Feedless as Feed}
 use Rattle.paragraphs.specs.Breaks.{settingOf, breaksBy}
 use Rattle.walk.specs.Digest.{formatted}
-use Rattle.unflow.specs.Unflow.{Paragraph as Read, paragraphs, asLine, mailLines, unflowed, unflow, done}
+use Rattle.unflow.specs.Unflow.{FlowedParagraph as Read, paragraphs, asLine, mailLines, unflowed, unflow, done}
 use Rattle.flow.specs.Flow.{brokenInto, paragraphLines, dashesAmong, sentLines, sent, sentPiece, flowed, pieceDashes, dashesIn}
 use Rattle.flow.specs.Theorems.ReadBack.{read, unquoted, back, cameBack, Carry}
 use Rattle.flow.proofs.Readings.{Ended, mail-sent, sent-read, read-pieces}

@@ -22,7 +22,8 @@ use Rattle.pieces.specs.Pieces.{fromWord}
 use Rattle.unflow.specs.Flowed.{space, crLf, dashes, needsSpace, stuffing, isDashes, endsInSpace}
 use Rattle.unflow.proofs.Lines.{stuffing-soft, ends-append}
 use Rattle.unflow.proofs.Texts.{stuffing-most}
-use Rattle.flow.specs.Flow.{linesFrom, brokenInto, isDashed, softened, allButLast, dashesAmong, sent}
+use Rattle.output.specs.EmittedLines.{linesFrom}
+use Rattle.flow.specs.Flow.{brokenInto, isDashed, softened, allButLast, dashesAmong, sent}
 use Rattle.flow.specs.Contracts.Words.{lineEnd, spaceIf, some, opened, nextSent, nextDashed, restSent, restDashes, wordsSent, wordsDashes, mostSent}
 use Rattle.flow.proofs.Carries.{lines-some}
 
@@ -133,27 +134,27 @@ module _ (indent : List ℕ) where
       soft-sent line _ ∙ ap (λ (x : List ℕ). stuffing (line ++ space ∷ []) ++ (line ++ x)) (sym (append-inner (lineEnd (isDashed line)) (stuffing ((indent ++ w .text) ++ spaceIf more)) (indent ++ w .text) rest))
 
   from-sent : (line : List ℕ) (punct : Bool) (breaks : List Bool) (ws : List Word)
-      → joined sent (allButLast (linesFrom indent line punct breaks ws)) ≡ stuffing (line ++ spaceIf (some ws)) ++ (line ++ restSent indent (isDashed line) punct breaks ws)
+      → joined sent (allButLast (linesFrom true indent line punct breaks ws)) ≡ stuffing (line ++ spaceIf (some ws)) ++ (line ++ restSent indent (isDashed line) punct breaks ws)
   unfolding linesFrom restSent nextDashed
   from-sent line punct breaks [] = last-sent line
   from-sent line punct [] (w ∷ ws) =
       from-sent (line ++ (spaceBefore true punct w ++ w .text)) (w .endsPunct) [] ws
       ∙ rw (on-dashed line punct w) (on line punct (isDashed line) (some ws) w (spaceIf (some ws)) (restSent indent false (w .endsPunct) [] ws))
   from-sent line punct (true ∷ bs) (w ∷ ws) =
-      ap (joined sent) (one-more line (linesFrom indent (indent ++ w .text) (w .endsPunct) bs ws) (lines-some true [] indent (indent ++ w .text) (w .endsPunct) bs ws))
-      ∙ joined-cons sent (softened line) (allButLast (linesFrom indent (indent ++ w .text) (w .endsPunct) bs ws))
+      ap (joined sent) (one-more line (linesFrom true indent (indent ++ w .text) (w .endsPunct) bs ws) (lines-some true [] indent (indent ++ w .text) (w .endsPunct) bs ws))
+      ∙ joined-cons sent (softened line) (allButLast (linesFrom true indent (indent ++ w .text) (w .endsPunct) bs ws))
       ∙ ap (λ (x : List ℕ). sent (softened line) ++ x) (from-sent (indent ++ w .text) (w .endsPunct) bs ws)
       ∙ off line (addedSpace true (w .newLine) (w .sentenceStart) punct) (some ws) w (restSent indent (isDashed (indent ++ w .text)) (w .endsPunct) bs ws)
   from-sent line punct (false ∷ bs) (w ∷ ws) =
       from-sent (line ++ (spaceBefore true punct w ++ w .text)) (w .endsPunct) bs ws
       ∙ rw (on-dashed line punct w) (on line punct (isDashed line) (some ws) w (spaceIf (some ws)) (restSent indent false (w .endsPunct) bs ws))
 
-  from-dashes : (line : List ℕ) (punct : Bool) (breaks : List Bool) (ws : List Word) → dashesAmong (linesFrom indent line punct breaks ws) ≡ restDashes indent (isDashed line) breaks ws
+  from-dashes : (line : List ℕ) (punct : Bool) (breaks : List Bool) (ws : List Word) → dashesAmong (linesFrom true indent line punct breaks ws) ≡ restDashes indent (isDashed line) breaks ws
   unfolding linesFrom restDashes nextDashed
   from-dashes line punct breaks [] = last-dashes line
   from-dashes line punct [] (w ∷ ws) = from-dashes (line ++ (spaceBefore true punct w ++ w .text)) (w .endsPunct) [] ws ∙ ap (λ (d : Bool). restDashes indent d [] ws) (on-dashed line punct w)
   from-dashes line punct (true ∷ bs) (w ∷ ws) =
-      dashes-more line (linesFrom indent (indent ++ w .text) (w .endsPunct) bs ws) (lines-some true [] indent (indent ++ w .text) (w .endsPunct) bs ws)
+      dashes-more line (linesFrom true indent (indent ++ w .text) (w .endsPunct) bs ws) (lines-some true [] indent (indent ++ w .text) (w .endsPunct) bs ws)
       ∙ ap (λ (n : ℕ). cond (isDashed line) 1 0 + n) (from-dashes (indent ++ w .text) (w .endsPunct) bs ws)
   from-dashes line punct (false ∷ bs) (w ∷ ws) = from-dashes (line ++ (spaceBefore true punct w ++ w .text)) (w .endsPunct) bs ws ∙ rw (on-dashed line punct w) (omega arith)
 

@@ -11,8 +11,9 @@ use Rattle.options.specs.declared.Part.the-variants.{Absent, Given}
 use Rattle.options.specs.declared.Block.{Block}
 use Rattle.options.specs.declared.Block.the-variants.{Accepted, Fault}
 use Rattle.pieces.specs.Pieces.{pieces}
-use Rattle.formatter.specs.Answers.{Answer, done, options, long, text, words, room, work}
-use Rattle.formatter.specs.Format.{Words, Limits, withNotes, withDigest, mostTold, isTold}
+use Rattle.formatter.specs.Answers.{Answer, done, refused, room}
+use Rattle.formatter.specs.Format.{Words, Limits, withNotes, answering, withDigest, mostTold, isTold}
+use Rattle.formatter.specs.declared.Refusal.the-variants.{Options}
 use Rattle.flow.specs.Flow.{mailed, flowed, dashesIn}
 
 -- the block's own bits 0 to 2, whatever split makes of them, and a prefix given at all
@@ -33,12 +34,12 @@ abbrev pub sentIn : Words → ℕ → List ℕ → Answer
 sentIn w space bytes = cond (isTold w (length bytes)) (withDigest space bytes) (room mostTold)
 
 abbrev pub sentNotes : Limits → ℕ → Opts → List ℕ → Answer
-sentNotes l space o notes = withNotes l (λ d. sentIn (l .words) space (flowed o notes)) o notes
+sentNotes l space o notes = answering (λ d. sentIn (l .words) space (flowed o notes)) (withNotes l o notes)
 
 -- the place of a block that is refused by the writer alone is its length
 abbrev pub sentBlock : Limits → ℕ → List ℕ → List ℕ → Block → Answer
-sentBlock l space block notes (Fault place) = options place
-sentBlock l space block notes (Accepted o) = elim (unfit block) [ true ↦ options (length block) | false ↦ sentNotes l space (mailed (meant block o)) notes ]
+sentBlock l space block notes (Fault place) = refused (Options place)
+sentBlock l space block notes (Accepted o) = elim (unfit block) [ true ↦ refused (Options (length block)) | false ↦ sentNotes l space (mailed (meant block o)) notes ]
 
 -- what is answered with an output slice of so many bytes; its number and the output afterwards are those of the answers of RULES 2
 unfoldable pub flow : Limits → List ℕ → List ℕ → ℕ → Answer
@@ -48,12 +49,8 @@ flow l block notes space = sentBlock l space block notes (readBlock block)
 abbrev pub countedBy : Answer → List ℕ → List ℕ → Block → ℕ
 countedBy (done bytes) block notes (Accepted o) = let m = mailed (meant block o) in dashesIn m (pieces m notes)
 countedBy (done bytes) block notes (Fault place) = 0
-countedBy (options place) block notes b = 0
-countedBy long block notes b = 0
-countedBy (text place) block notes b = 0
-countedBy (words place) block notes b = 0
+countedBy (refused r) block notes b = 0
 countedBy (room needed) block notes b = 0
-countedBy (work needed) block notes b = 0
 
 unfoldable pub dashesOf : Limits → List ℕ → List ℕ → ℕ → ℕ
 dashesOf l block notes space = countedBy (flow l block notes space) block notes (readBlock block)

@@ -9,7 +9,7 @@ use Rattle.options.specs.Opts.{Opts}
 use Rattle.pieces.specs.Pieces.{Piece, Kind, blankLine, plainLine, paragraph, Paragraph, pieces}
 use Rattle.records.specs.Word.{Word}
 use Rattle.words.specs.Words.{wordsOf}
-use Rattle.output.specs.Emission.{spaceBefore}
+use Rattle.output.specs.EmittedLines.{linesFrom}
 use Rattle.paragraphs.specs.Breaks.{settingOf, breaksBy}
 use Rattle.unflow.specs.Flowed.{space, crLf, stuffing, isDashes}
 
@@ -26,7 +26,7 @@ mailed o = record {
   exactSkip = o .exactSkip;
   keep = o .keep;
   glue = o .glue;
-  characters = o .characters;
+  byCharacters = o .byCharacters;
   width = o .width;
   goal = o .goal;
   tab = o .tab;
@@ -36,19 +36,10 @@ mailed o = record {
 
 -- ---- a paragraph's lines, without line ends: words after an indent, and a new line where the breaks say so
 
--- from a line on that has come to `line`: the output of RULES 9, line by line (proofs/Theorems, `its-lines-are-the-digest's`)
-unfoldable pub linesFrom : List ℕ → List ℕ → Bool → List Bool → List Word → List (List ℕ)
-linesFrom indent line previousPunct breaks [] = line ∷ []
-linesFrom indent line previousPunct [] (w ∷ ws) = linesFrom indent (line ++ (spaceBefore true previousPunct w ++ w .text)) (w .endsPunct) [] ws
-linesFrom indent line previousPunct (b ∷ bs) (w ∷ ws) =
-    elim b [
-      | true ↦ line ∷ linesFrom indent (indent ++ w .text) (w .endsPunct) bs ws
-      | false ↦ linesFrom indent (line ++ (spaceBefore true previousPunct w ++ w .text)) (w .endsPunct) bs ws
-    ]
-
+-- the output of RULES 9, line by line, with uniform on (proofs/Theorems, `its-lines-are-the-digest's`)
 unfoldable pub brokenInto : List ℕ → List ℕ → List Bool → List Word → List (List ℕ)
 brokenInto first indent breaks [] = []
-brokenInto first indent breaks (w ∷ ws) = linesFrom indent (first ++ w .text) false breaks ws
+brokenInto first indent breaks (w ∷ ws) = linesFrom true indent (first ++ w .text) false breaks ws
 
 unfoldable pub paragraphLines : Opts → Paragraph → List (List ℕ)
 paragraphLines o p =

@@ -1,5 +1,6 @@
 // Digests by mail: the notes' pieces written as format=flowed (RFC 3676, DelSp=no), and the lines `--` counted that this makes.
 use formatter::Admission;
+use formatter::Refusal;
 use formatter::Reply;
 use options::Block;
 use options::Options;
@@ -14,7 +15,7 @@ use words::Count;
 ghost use mathlib.Core.Path.{_≡_};
 ghost use mathlib.Core.Bool.{true, cond};
 ghost use mathlib.Core.List.{List, _++_};
-ghost use Prim.Native.Nat.{ℕ, _+_, _-_, _^_, _≤_, _<_, min};
+ghost use Prim.Native.Nat.{ℕ, _+_, _-_, _^_, _≤_, _<_};
 ghost use lib.ListN.{length, getD, take, replicate};
 ghost use lib.Seq.{slice};
 ghost use Rattle.text.specs.declared.Found.the-variants.{Nowhere};
@@ -79,12 +80,15 @@ pub fn flow(block: &[u8], notes: &[u8], out: &mut [u8]) -> Outcome
 {
     if is_unfit(block) {
         return Outcome {
-            reply: Reply::Options(block.len()),
+            reply: Reply::Refused(Refusal::Options(block.len())),
             dashes: 0,
         };
     }
     match formatter::admit(block, notes) {
-        Admission::Refused(reply) => Outcome { reply, dashes: 0 },
+        Admission::Refused(r) => Outcome {
+            reply: Reply::Refused(r),
+            dashes: 0,
+        },
         Admission::Passed(o) => send_notes(mailed(o), block, notes, out),
     }
 }
@@ -95,12 +99,15 @@ pub fn flow_lent(block: &[u8], notes: &[u8], out: &mut [u8], work: &mut [u32]) -
 {
     if is_unfit(block) {
         return Outcome {
-            reply: Reply::Options(block.len()),
+            reply: Reply::Refused(Refusal::Options(block.len())),
             dashes: 0,
         };
     }
     match formatter::admit_within(block, notes, formatter::MOST_LARGE) {
-        Admission::Refused(reply) => Outcome { reply, dashes: 0 },
+        Admission::Refused(r) => Outcome {
+            reply: Reply::Refused(r),
+            dashes: 0,
+        },
         Admission::Passed(o) => send_large(mailed(o), block, notes, out, work),
     }
 }
@@ -162,11 +169,11 @@ fn mailed(o: Options) -> Options
         split: o.split,
         uniform: true,
         quick: true,
-        exact: o.exact,
+        exact_prefix: o.exact_prefix,
         exact_skip: o.exact_skip,
         keep: o.keep,
         glue: o.glue,
-        characters: o.characters,
+        by_characters: o.by_characters,
         width: o.width,
         goal: o.goal,
         tab: o.tab,
@@ -188,7 +195,7 @@ fn send_notes(o: Options, block: &[u8], notes: &[u8], out: &mut [u8]) -> Outcome
         Ended::Stopped(place) => {
             walk::clear(out);
             Outcome {
-                reply: Reply::Words(place),
+                reply: Reply::Refused(Refusal::Words(place)),
                 dashes: 0,
             }
         }
@@ -217,7 +224,7 @@ fn send_large(o: Options, block: &[u8], notes: &[u8], out: &mut [u8], work: &mut
     let needed = walk::work_with(o, block, notes, lends);
     if lends < needed {
         return Outcome {
-            reply: Reply::Work(needed),
+            reply: Reply::Refused(Refusal::Work(needed)),
             dashes: 0,
         };
     }
@@ -235,7 +242,7 @@ fn send_enough(o: Options, block: &[u8], notes: &[u8], out: &mut [u8], work: &mu
     match send_pieces(o, block, notes, out, work) {
         // There is room for every paragraph, so the work does not stop.
         Ended::Stopped(place) => Outcome {
-            reply: Reply::Words(place),
+            reply: Reply::Refused(Refusal::Words(place)),
             dashes: 0,
         },
         Ended::All { written, dashes } => {
@@ -385,7 +392,7 @@ fn emit(notes: &[u8], table: &[u32], n: usize, l: Layout, out: &mut [u8], at: us
     let w = records::get(table, 0);
     let first = l.first;
     let o = opening_of(notes, first, w.start, w.end, 1 < n);
-    let place = lesser(at, out.len());
+    let place = lists::lesser(at, out.len());
     let k = at + put_opened(notes, first, w.start, w.end, o.spaces, &mut out[place..]);
     let t = Turn {
         at: k,
@@ -413,7 +420,7 @@ fn emit_rest(notes: &[u8], table: &[u32], n: usize, l: Layout, head: Turn, out: 
         t = put_next(notes, w, fresh, added, indent, i < n, t, out);
         punct = w.punct;
     }
-    let place = lesser(t.at, out.len());
+    let place = lists::lesser(t.at, out.len());
     Turn {
         at: t.at + unflow::put_end(true, &mut out[place..]),
         dashed: false,
@@ -435,7 +442,7 @@ fn put_next(
     requires { ⌜ Within (length (now notes)) w × MarginIn (length (now notes)) indent × (length (now notes) < 2 ^ 32) × (added ≤ 2) × (t .at < 2 ^ 63 + 2 ^ 62) × (t .dashes < 2 ^ 32) ⌝ }
     ensures { λ r. ⌜ Turned (now (notes .entry)) w fresh added indent more t (now (out .entry)) (now (out .exit)) r ⌝ }
 {
-    let place = lesser(t.at, out.len());
+    let place = lists::lesser(t.at, out.len());
     if !fresh {
         return Turn {
             at: t.at + output::put_word(notes, w, w.end, false, added, indent, &mut out[place..]),
@@ -473,7 +480,7 @@ fn put_break(
     ensures { λ r. ⌜ Wrote (now (rest .entry)) 0 (lineEnd dashed ++ (replicate spaces 32 ++ (marginOf (now (notes .entry)) indent ++ slice (w .start) (w .end) (now (notes .entry))))) (now (rest .exit)) r × (r ≤ 2 ^ 34) ⌝ }
 {
     let k = put_line_end(dashed, rest);
-    let place = lesser(k, rest.len());
+    let place = lists::lesser(k, rest.len());
     k + put_opened(notes, indent, w.start, w.end, spaces, &mut rest[place..])
 }
 
@@ -481,7 +488,7 @@ fn put_line_end(dashed: bool, rest: &mut [u8]) -> usize
     ensures { λ r. ⌜ Wrote (now (rest .entry)) 0 (lineEnd dashed) (now (rest .exit)) r × (r ≤ 3) ⌝ }
 {
     let k = output::put_added(1 - one_if(dashed), rest);
-    let place = lesser(k, rest.len());
+    let place = lists::lesser(k, rest.len());
     k + unflow::put_end(true, &mut rest[place..])
 }
 
@@ -498,7 +505,7 @@ fn put_opened(
     ensures { λ r. ⌜ Wrote (now (rest .entry)) 0 (replicate spaces 32 ++ (marginOf (now (notes .entry)) m ++ slice from to (now (notes .entry)))) (now (rest .exit)) r × (r ≤ 2 ^ 33 + 2 ^ 32) ⌝ }
 {
     let k = output::put_added(spaces, rest);
-    let place = lesser(k, rest.len());
+    let place = lists::lesser(k, rest.len());
     k + output::put_first(notes, from, to, m, &mut rest[place..])
 }
 
@@ -508,7 +515,7 @@ fn opening_of(notes: &[u8], m: Margin, from: usize, to: usize, more: bool) -> Op
     ensures { λ r. ⌜ Opens more (marginOf (now (notes .entry)) m ++ slice from to (now (notes .entry))) r ⌝ }
 {
     let mut front = [0u8; 6];
-    let n = lesser(output::put_first(notes, from, to, m, &mut front), 5);
+    let n = lists::lesser(output::put_first(notes, from, to, m, &mut front), 5);
     front[n] = b' ';
     judged(&front, n, more)
 }
@@ -539,9 +546,9 @@ fn send_line(notes: &[u8], from: usize, to: usize, out: &mut [u8], at: usize) ->
         more: 0,
         columns: 0,
     };
-    let place = lesser(at, out.len());
+    let place = lists::lesser(at, out.len());
     let k = at + put_opened(notes, none, from, end, spaces, &mut out[place..]);
-    let behind = lesser(k, out.len());
+    let behind = lists::lesser(k, out.len());
     k + unflow::put_end(true, &mut out[behind..])
 }
 
@@ -569,14 +576,4 @@ fn trimmed_end(notes: &[u8], from: usize, to: usize) -> usize
         end = last;
     }
     end
-}
-
-// Where a part of the output begins: at the written end or, where that lies past the output, at the output's end.
-fn lesser(a: usize, b: usize) -> usize
-    ensures { λ r. ⌜ r ≡ min a b ⌝ }
-{
-    if a < b {
-        return a;
-    }
-    b
 }

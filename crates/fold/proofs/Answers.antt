@@ -10,11 +10,12 @@ use borrow.Author.Tests.{lt-ltb, le-ltb, lt-leb, le-leb, eq-eqb, ne-eqb, eqb-fal
 use Rattle.output.specs.Contracts.Sink.{Wrote}
 use Rattle.output.proofs.Sink.{written-fits, wrote-length}
 use Rattle.panel.specs.Panel.{stopWidth}
-use Rattle.fold.specs.Fold.{folded, Answer, done, options, long, room, fold, numbered, outputAfter}
+use Rattle.lists.specs.Coded.{numbered}
+use Rattle.fold.specs.Fold.{folded, FoldAnswer, done, options, long, room, fold, foldCoded, foldOutputAfter}
 use Rattle.fold.specs.Contracts.Steps.{told, numberOf, Folds}
 use Rattle.fold.specs.declared.Folding.the-variants.{Done, Options, Long, Room}
 
-pub number-told : (a : Answer) → numberOf (told a) ≡ numbered a
+pub number-told : (a : FoldAnswer) → numberOf (told a) ≡ numbered (foldCoded a)
 unfolding numbered
 number-told (done all) = omega arith
 number-told options = refl
@@ -32,20 +33,20 @@ stop-some tab h = go (eqb tab 0) refl
 
 module _ (text : List ℕ) (tab columns : ℕ) (out : List ℕ) where
   pub folds-tab : 100 < tab → Folds (fold text tab columns (length out)) out Options out
-  unfolding fold outputAfter
+  unfolding fold foldOutputAfter
   folds-tab h = rw (lt-ltb 100 tab h) (record { is = refl; output = refl; small = omega arith })
 
   pub folds-none : tab ≤ 100 → columns ≡ 0 → Folds (fold text tab columns (length out)) out Options out
-  unfolding fold outputAfter
+  unfolding fold foldOutputAfter
   folds-none h e = rw (le-ltb 100 tab h, eq-eqb columns 0 e) (record { is = refl; output = refl; small = omega arith })
 
   pub folds-many : tab ≤ 100 → (columns ≡ 0 → ⊥) → 1000 < columns → Folds (fold text tab columns (length out)) out Options out
-  unfolding fold outputAfter
+  unfolding fold foldOutputAfter
   folds-many h n k = rw (le-ltb 100 tab h, ne-eqb columns 0 n, lt-ltb 1000 columns k) (record { is = refl; output = refl; small = omega arith })
 
   module _ (h : tab ≤ 100) (n : columns ≡ 0 → ⊥) (k : columns ≤ 1000) where
     pub folds-long : 1073741824 < length text → Folds (fold text tab columns (length out)) out Long out
-    unfolding fold outputAfter
+    unfolding fold foldOutputAfter
     folds-long l =
         rw (le-ltb 100 tab h, ne-eqb columns 0 n, le-ltb 1000 columns k, lt-ltb 1073741824 (length text) l)
         (record { is = refl; output = refl; small = omega arith })
@@ -55,14 +56,14 @@ module _ (text : List ℕ) (tab columns : ℕ) (out : List ℕ) where
       size = omega (arith, w .count)
 
       pub folds-done : m ≤ length out′ → Folds (fold text tab columns (length out)) out (Done m) out′
-      unfolding fold outputAfter
+      unfolding fold foldOutputAfter
       folds-done f =
           let q = wrote-length w in
           rw (le-ltb 100 tab h, ne-eqb columns 0 n, le-ltb 1000 columns k, le-ltb 1073741824 (length text) l, le-leb (length (folded (stopWidth tab) columns text)) (length out) (omega (arith, size)))
           (record { is = ap Done (omega (arith, size)); output = w .bytes ∙ written-fits 0 out (folded (stopWidth tab) columns text) (omega (arith, size)); small = omega arith })
 
       pub folds-room : {out″ : List ℕ} → length out′ < m → out″ ≡ replicate (length out′) 0 → Folds (fold text tab columns (length out)) out (Room m) out″
-      unfolding fold outputAfter
+      unfolding fold foldOutputAfter
       folds-room f z =
           let q = wrote-length w in
           rw (le-ltb 100 tab h, ne-eqb columns 0 n, le-ltb 1000 columns k, le-ltb 1073741824 (length text) l, lt-leb (length (folded (stopWidth tab) columns text)) (length out) (omega (arith, size)))

@@ -16,7 +16,7 @@ use Rattle.text.specs.Characters.{glyphAs, glyph}
 use Rattle.text.proofs.Decoder.{sound}
 use Rattle.lines.specs.Classes.{nextStop, columnBehind}
 use Rattle.lines.proofs.Measures.{narrow}
-use Rattle.panel.specs.Panel.{Row, blank, control, signOf, shownAs, size, taken, drawn}
+use Rattle.panel.specs.Panel.{PanelRow, blank, control, signOf, shownAs, size, taken, drawn}
 use Rattle.panel.specs.declared.Sign.the-variants.{Tab, Dropped, One, Two}
 
 control-width : (c : ℕ) → control c ≡ true → widthOf c ≡ 1
@@ -27,7 +27,7 @@ control-width c e = rw (lt-ltb c 0x300 (small (ltb c 0x20) refl e), widthIn)
     small true f e = omega (arith, ltb-true c 0x20 f)
     small false f e = omega (arith, leb-true c 0x9F (and-eq-true-iff (leb 0x7F c) (leb c 0x9F) .0 e .1))
 
-pub columns-as-on-the-panel : (tab : ℕ) (r : Row) (xs : List ℕ) → columnBehind tab (r .column) (glyph xs) ≡ drawn tab r (shownAs (decode xs)) .column
+pub columns-as-on-the-panel : (tab : ℕ) (r : PanelRow) (xs : List ℕ) → columnBehind tab (r .column) (glyph xs) ≡ drawn tab r (shownAs (decode xs)) .column
 unfolding columnBehind glyph signOf drawn taken
 columns-as-on-the-panel tab r xs = go (decode xs)
   where

@@ -15,14 +15,14 @@ use Rattle.text.proofs.Glyphs.{bytes-of, characters-step, characters-past, char
 use Rattle.lines.specs.Classes.{columnBehind}
 use Rattle.output.specs.Contracts.Sink.{Wrote, Left}
 use Rattle.output.proofs.Sink.{left-length, left-first, left-then, left-last, wrote-nil, wrote-then}
-use Rattle.fold.specs.Fold.{stays, staying, firstRow, rowsOf, feed, bytesOf, fed, inRows}
+use Rattle.fold.specs.Fold.{stays, stayingOn, firstRow, rowsOf, feed, rowBytes, fed, inRows}
 use Rattle.fold.specs.Contracts.Steps.{rowEnd}
 use Rattle.fold.proofs.Stays.{staying-more, staying-end}
 
 -- ---- characters cut after some of them
 
-bytes-extent : (gs : List Glyph) → length (bytesOf gs) ≡ extent gs
-unfolding bytesOf extent joined
+bytes-extent : (gs : List Glyph) → length (rowBytes gs) ≡ extent gs
+unfolding rowBytes extent joined
 bytes-extent [] = refl
 bytes-extent (g ∷ gs) = length-append (g .bytes) (joined (λ g. g .bytes) gs) ∙ ap (λ (n : ℕ). length (g .bytes) + n) (bytes-extent gs)
 
@@ -35,8 +35,8 @@ cut-rest (suc n) (x ∷ xs) =
     rw (characters-step (x ∷ xs) b, b .count)
     (cut-rest n (drop (b .n) (x ∷ xs)) ∙ ap characters (drop-drop (extent (take n (characters (drop (b .n) (x ∷ xs))))) (b .n) (x ∷ xs)))
 
-cut-front : (n : ℕ) (xs : List ℕ) → bytesOf (take n (characters xs)) ≡ take (extent (take n (characters xs))) xs
-unfolding bytesOf
+cut-front : (n : ℕ) (xs : List ℕ) → rowBytes (take n (characters xs)) ≡ take (extent (take n (characters xs))) xs
+unfolding rowBytes
 cut-front n xs =
     let a = take n (characters xs) in
     let e : xs ≡ joined (λ (g : Glyph). g .bytes) a ++ joined (λ (g : Glyph). g .bytes) (drop n (characters xs)) =
@@ -46,14 +46,14 @@ cut-front n xs =
 -- ---- the first row
 
 module _ (tab columns : ℕ) where
-  staying-front : (column : ℕ) (gs : List Glyph) → staying tab columns column gs ≡ take (length (staying tab columns column gs)) gs
-  unfolding staying
+  staying-front : (column : ℕ) (gs : List Glyph) → stayingOn tab columns column gs ≡ take (length (stayingOn tab columns column gs)) gs
+  unfolding stayingOn
   staying-front column [] = refl
   staying-front column (g ∷ gs) = go (stays tab columns column g) refl (staying-front (columnBehind tab column g) gs)
     where
       go : (t : Bool) → stays tab columns column g ≡ t
-          → staying tab columns (columnBehind tab column g) gs ≡ take (length (staying tab columns (columnBehind tab column g) gs)) gs
-          → staying tab columns column (g ∷ gs) ≡ take (length (staying tab columns column (g ∷ gs))) (g ∷ gs)
+          → stayingOn tab columns (columnBehind tab column g) gs ≡ take (length (stayingOn tab columns (columnBehind tab column g) gs)) gs
+          → stayingOn tab columns column (g ∷ gs) ≡ take (length (stayingOn tab columns column (g ∷ gs))) (g ∷ gs)
       go true e i = rw (staying-more tab columns column g gs e) (ap (λ (l : List Glyph). g ∷ l) i)
       go false e i = rw (staying-end tab columns column g gs e)
 
@@ -85,7 +85,7 @@ module _ (tab columns : ℕ) where
     record RowHere (at end : ℕ) : Type 0 where
       row : List Glyph
       first : rowsAt at ≡ row ∷ rowsAt end
-      bytes : bytesOf row ≡ slice at end line
+      bytes : rowBytes row ≡ slice at end line
 
     row-here : (at end : ℕ) → at < length line → end ≡ rowEnd tab columns line at → RowHere at end
     unfolding rowEnd
@@ -98,7 +98,7 @@ module _ (tab columns : ℕ) where
         record {
           row = r;
           first = rows-step gs some ∙ rw (cut-rest n (drop at line), f, drop-drop (extent r) at line, ← e);
-          bytes = sym (ap bytesOf f) ∙ cut-front n (drop at line) ∙ rw (f, e) (sym (slice-is at (extent r) line));
+          bytes = sym (ap rowBytes f) ∙ cut-front n (drop at line) ∙ rw (f, e) (sym (slice-is at (extent r) line));
         }
 
     rows-past : (at : ℕ) → length line ≤ at → rowsAt at ≡ []

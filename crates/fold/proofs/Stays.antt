@@ -14,7 +14,7 @@ use Rattle.text.specs.Characters.{Glyph, glyph, characters, extent}
 use Rattle.text.proofs.Glyphs.{Here, DamagedHere, ascii-here, characters-past}
 use Rattle.lines.specs.Classes.{nextStop, columnBehind}
 use Rattle.spacing.proofs.Laws.{stop-behind}
-use Rattle.fold.specs.Fold.{stays, staying, firstRow}
+use Rattle.fold.specs.Fold.{stays, stayingOn, firstRow}
 use Rattle.fold.specs.Contracts.Steps.{plainByte, Plain, Behind, stayEnd, rowEnd}
 use Rattle.fold.specs.declared.Spot.{Spot}
 
@@ -73,17 +73,17 @@ module _ (tab : ℕ) (line : List ℕ) (at column : ℕ) (some : 1 ≤ tab) wher
 -- ---- the row
 
 module _ (tab columns : ℕ) where
-  staying-nil : (column : ℕ) → staying tab columns column [] ≡ []
-  unfolding staying
+  staying-nil : (column : ℕ) → stayingOn tab columns column [] ≡ []
+  unfolding stayingOn
   staying-nil column = refl
 
-  pub staying-more : (column : ℕ) (g : Glyph) (gs : List Glyph) → stays tab columns column g ≡ true → staying tab columns column (g ∷ gs) ≡ g ∷ staying tab columns (columnBehind tab column g) gs
-  unfolding staying
-  staying-more column g gs e = rw (e, staying)
+  pub staying-more : (column : ℕ) (g : Glyph) (gs : List Glyph) → stays tab columns column g ≡ true → stayingOn tab columns column (g ∷ gs) ≡ g ∷ stayingOn tab columns (columnBehind tab column g) gs
+  unfolding stayingOn
+  staying-more column g gs e = rw (e, stayingOn)
 
-  pub staying-end : (column : ℕ) (g : Glyph) (gs : List Glyph) → stays tab columns column g ≡ false → staying tab columns column (g ∷ gs) ≡ []
-  unfolding staying
-  staying-end column g gs e = rw (e, staying)
+  pub staying-end : (column : ℕ) (g : Glyph) (gs : List Glyph) → stays tab columns column g ≡ false → stayingOn tab columns column (g ∷ gs) ≡ []
+  unfolding stayingOn
+  staying-end column g gs e = rw (e, stayingOn)
 
   module _ (line : List ℕ) where
     pub stay-past : (at column : ℕ) → length line ≤ at → stayEnd tab columns line at column ≡ at

@@ -29,7 +29,8 @@ use Rattle.lines.proofs.Lines.{lengths}
 use Rattle.lines.proofs.Extents.{lines-extents, lines-feedless}
 use Rattle.panel.specs.Panel.{stopWidth}
 use Rattle.spacing.proofs.Laws.{stop-behind}
-use Rattle.fold.specs.Fold.{stays, staying, firstRow, rowsOf, feed, bytesOf, fed, inRows, endOf, foldedLine, folded, done, options, long, room, fold, code, value, numbered}
+use Rattle.lists.specs.Coded.{numbered}
+use Rattle.fold.specs.Fold.{stays, stayingOn, firstRow, rowsOf, feed, rowBytes, fed, inRows, endOf, foldedLine, folded, done, options, long, room, fold, foldCoded}
 use Rattle.fold.specs.Theorems.Rows.{hasNoWidth, isAlone, fits, Marked, kept, addedFeed, markedRows, markedLine, marked, unadded}
 use Rattle.fold.proofs.Stays.{width-tab, staying-more, staying-end}
 use Rattle.fold.proofs.Rows.{first-front, first-some}
@@ -80,26 +81,26 @@ module _ (tab : ℕ) (some : 1 ≤ tab) where
     stays-narrow column g h e = rw (lt-leb (columnBehind tab column g) columns (still-past column g h)) at e
 
     -- after a character within the columns none goes past them
-    stay-within : (column : ℕ) (gs : List Glyph) → All Tabbed gs → column ≤ columns → columnsOf tab column (staying tab columns column gs) ≤ columns
-    unfolding staying columnsOf
+    stay-within : (column : ℕ) (gs : List Glyph) → All Tabbed gs → column ≤ columns → columnsOf tab column (stayingOn tab columns column gs) ≤ columns
+    unfolding stayingOn columnsOf
     stay-within column [] t h = h
     stay-within column (g ∷ gs) t h = go (stays tab columns column g) refl (λ c k. stay-within c gs (t .1) k)
       where
-        go : (b : Bool) → stays tab columns column g ≡ b → ((c : ℕ) → c ≤ columns → columnsOf tab c (staying tab columns c gs) ≤ columns)
-            → columnsOf tab column (staying tab columns column (g ∷ gs)) ≤ columns
+        go : (b : Bool) → stays tab columns column g ≡ b → ((c : ℕ) → c ≤ columns → columnsOf tab c (stayingOn tab columns c gs) ≤ columns)
+            → columnsOf tab column (stayingOn tab columns column (g ∷ gs)) ≤ columns
         go true e i = rw (staying-more tab columns column g gs e) (i (columnBehind tab column g) (stays-within column g (t .0) h e))
         go false e i = rw (staying-end tab columns column g gs e) h
 
     -- after one that goes past them all have width 0
-    stay-past-columns : (column : ℕ) (gs : List Glyph) → All Tabbed gs → columns < column → every hasNoWidth (staying tab columns column gs) ≡ true
-    unfolding staying
+    stay-past-columns : (column : ℕ) (gs : List Glyph) → All Tabbed gs → columns < column → every hasNoWidth (stayingOn tab columns column gs) ≡ true
+    unfolding stayingOn
     stay-past-columns column [] t h = every-nil hasNoWidth
     stay-past-columns column (g ∷ gs) t h = go (stays tab columns column g) refl (stay-past-columns column gs (t .1) h)
       where
-        go : (b : Bool) → stays tab columns column g ≡ b → every hasNoWidth (staying tab columns column gs) ≡ true → every hasNoWidth (staying tab columns column (g ∷ gs)) ≡ true
+        go : (b : Bool) → stays tab columns column g ≡ b → every hasNoWidth (stayingOn tab columns column gs) ≡ true → every hasNoWidth (stayingOn tab columns column (g ∷ gs)) ≡ true
         go true e i =
             let c = same-column column g (t .0) (eqb-true (g .width) 0 (stays-narrow column g h e)) in
-            rw (staying-more tab columns column g gs e, every-more hasNoWidth g (staying tab columns (columnBehind tab column g) gs) (stays-narrow column g h e), c) i
+            rw (staying-more tab columns column g gs e, every-more hasNoWidth g (stayingOn tab columns (columnBehind tab column g) gs) (stays-narrow column g h e), c) i
         go false e i = rw (staying-end tab columns column g gs e) (every-nil hasNoWidth)
 
     first-fits : (gs : List Glyph) → 0 < length gs → All Tabbed gs → fits tab columns (firstRow tab columns gs) ≡ true
@@ -108,7 +109,7 @@ module _ (tab : ℕ) (some : 1 ≤ tab) where
     first-fits (g ∷ gs) h t = go (leb (columnBehind tab 0 g) columns) refl
       where
         row : List Glyph
-        row = staying tab columns (columnBehind tab 0 g) gs
+        row = stayingOn tab columns (columnBehind tab 0 g) gs
 
         go : (b : Bool) → leb (columnBehind tab 0 g) columns ≡ b
             → (leb (columnsOf tab (columnBehind tab 0 g) row) columns || (ltb columns (columnBehind tab 0 g) && every hasNoWidth row)) ≡ true
@@ -149,17 +150,17 @@ unadded-kept [] = refl
 unadded-kept (x ∷ xs) = ap (λ (l : List ℕ). x ∷ l) (unadded-kept xs)
 
 abbrev fedMarked : List Glyph → List Marked
-fedMarked r = addedFeed ∷ map kept (bytesOf r)
+fedMarked r = addedFeed ∷ map kept (rowBytes r)
 
 fed-bytes : (rows : List (List Glyph)) → map (λ (m : Marked). m .byte) (joined fedMarked rows) ≡ joined fed rows
 unfolding joined fed
 fed-bytes [] = refl
-fed-bytes (r ∷ rows) = map-append (λ (m : Marked). m .byte) (fedMarked r) (joined fedMarked rows) ∙ ap₂ (λ (a b : List ℕ). feed ∷ a ++ b) (map-kept (bytesOf r)) (fed-bytes rows)
+fed-bytes (r ∷ rows) = map-append (λ (m : Marked). m .byte) (fedMarked r) (joined fedMarked rows) ∙ ap₂ (λ (a b : List ℕ). feed ∷ a ++ b) (map-kept (rowBytes r)) (fed-bytes rows)
 
-fed-unadded : (rows : List (List Glyph)) → unadded (joined fedMarked rows) ≡ joined bytesOf rows
+fed-unadded : (rows : List (List Glyph)) → unadded (joined fedMarked rows) ≡ joined rowBytes rows
 unfolding joined unadded
 fed-unadded [] = refl
-fed-unadded (r ∷ rows) = unadded-append (fedMarked r) (joined fedMarked rows) ∙ ap₂ (λ (a b : List ℕ). a ++ b) (unadded-kept (bytesOf r)) (fed-unadded rows)
+fed-unadded (r ∷ rows) = unadded-append (fedMarked r) (joined fedMarked rows) ∙ ap₂ (λ (a b : List ℕ). a ++ b) (unadded-kept (rowBytes r)) (fed-unadded rows)
 
 module _ (tab columns : ℕ) where
   rows-joined : (gs : List Glyph) → joined (λ (row : List Glyph). row) (rowsOf tab columns gs) ≡ gs
@@ -172,39 +173,39 @@ module _ (tab columns : ℕ) where
           first-front tab columns l ∙ ap (λ (n : ℕ). take n l) e
 
   -- the rows' bytes are the line's
-  rows-bytes : (line : List ℕ) → joined bytesOf (rowsOf tab columns (characters line)) ≡ line
-  unfolding bytesOf
+  rows-bytes : (line : List ℕ) → joined rowBytes (rowsOf tab columns (characters line)) ≡ line
+  unfolding rowBytes
   rows-bytes line =
       sym (joined-joined (λ (g : Glyph). g .bytes) (λ (row : List Glyph). row) (rowsOf tab columns (characters line)))
       ∙ ap (joined (λ (g : Glyph). g .bytes)) (rows-joined (characters line)) ∙ characters-joined line
 
-  rows-feedless : (rows : List (List Glyph)) → every noFeed (joined bytesOf rows) ≡ true → All (λ row. every noFeed (bytesOf row) ≡ true) rows
+  rows-feedless : (rows : List (List Glyph)) → every noFeed (joined rowBytes rows) ≡ true → All (λ row. every noFeed (rowBytes row) ≡ true) rows
   rows-feedless [] e = tt
   rows-feedless (row ∷ rows) e =
-      let f : every noFeed (bytesOf row ++ joined bytesOf rows) ≡ true = ap (every noFeed) (sym (joined-cons bytesOf row rows)) ∙ e in
-      let p = and-eq-true-iff (every noFeed (bytesOf row)) (every noFeed (joined bytesOf rows)) .0 (sym (every-append noFeed (bytesOf row) (joined bytesOf rows)) ∙ f) in
+      let f : every noFeed (rowBytes row ++ joined rowBytes rows) ≡ true = ap (every noFeed) (sym (joined-cons rowBytes row rows)) ∙ e in
+      let p = and-eq-true-iff (every noFeed (rowBytes row)) (every noFeed (joined rowBytes rows)) .0 (sym (every-append noFeed (rowBytes row) (joined rowBytes rows)) ∙ f) in
       (p .0, rows-feedless rows (p .1))
 
   -- No row has a line feed in it: the rows are what is between the line feeds of the output.
-  pub no-row-has-a-line-feed : (text : List ℕ) → All (λ (l : Line). All (λ row. every noFeed (bytesOf row) ≡ true) (rowsOf tab columns (characters (l .text)))) (linesOf text)
+  pub no-row-has-a-line-feed : (text : List ℕ) → All (λ (l : Line). All (λ row. every noFeed (rowBytes row) ≡ true) (rowsOf tab columns (characters (l .text)))) (linesOf text)
   no-row-has-a-line-feed text =
-      all-weaken (λ (l : Line). every noFeed (l .text) ≡ true) (λ (l : Line). All (λ row. every noFeed (bytesOf row) ≡ true) (rowsOf tab columns (characters (l .text))))
+      all-weaken (λ (l : Line). every noFeed (l .text) ≡ true) (λ (l : Line). All (λ row. every noFeed (rowBytes row) ≡ true) (rowsOf tab columns (characters (l .text))))
       (λ l e. rows-feedless (rowsOf tab columns (characters (l .text))) (ap (every noFeed) (rows-bytes (l .text)) ∙ e)) (linesOf text) (lines-feedless text)
 
   bytes-rows : (rows : List (List Glyph)) → map (λ (m : Marked). m .byte) (markedRows rows) ≡ inRows rows
   unfolding markedRows inRows
   bytes-rows [] = refl
   bytes-rows (row ∷ rows) =
-      map-append (λ (m : Marked). m .byte) (map kept (bytesOf row)) (joined fedMarked rows)
-      ∙ ap₂ (λ (a b : List ℕ). a ++ b) (map-kept (bytesOf row)) (fed-bytes rows)
+      map-append (λ (m : Marked). m .byte) (map kept (rowBytes row)) (joined fedMarked rows)
+      ∙ ap₂ (λ (a b : List ℕ). a ++ b) (map-kept (rowBytes row)) (fed-bytes rows)
 
-  unadded-rows : (rows : List (List Glyph)) → unadded (markedRows rows) ≡ joined bytesOf rows
+  unadded-rows : (rows : List (List Glyph)) → unadded (markedRows rows) ≡ joined rowBytes rows
   unfolding markedRows unadded
-  unadded-rows [] = sym (joined-nil bytesOf)
+  unadded-rows [] = sym (joined-nil rowBytes)
   unadded-rows (row ∷ rows) =
-      unadded-append (map kept (bytesOf row)) (joined fedMarked rows)
-      ∙ ap₂ (λ (a b : List ℕ). a ++ b) (unadded-kept (bytesOf row)) (fed-unadded rows)
-      ∙ sym (joined-cons bytesOf row rows)
+      unadded-append (map kept (rowBytes row)) (joined fedMarked rows)
+      ∙ ap₂ (λ (a b : List ℕ). a ++ b) (unadded-kept (rowBytes row)) (fed-unadded rows)
+      ∙ sym (joined-cons rowBytes row rows)
 
   -- The marked bytes are the output, ..
   pub the-marked-bytes-are-the-output : (text : List ℕ) → map (λ (m : Marked). m .byte) (marked tab columns text) ≡ folded tab columns text
@@ -259,13 +260,13 @@ module _ (tab columns : ℕ) where
       keeps [] = tt
       keeps (x ∷ xs) = (λ e. absurd (false≢true e), keeps xs)
 
-      row : (rows : List (List Glyph)) → All (λ r. All Fed (addedFeed ∷ map kept (bytesOf r))) rows
+      row : (rows : List (List Glyph)) → All (λ r. All Fed (addedFeed ∷ map kept (rowBytes r))) rows
       row [] = tt
-      row (r ∷ rows) = ((λ e. refl, keeps (bytesOf r)), row rows)
+      row (r ∷ rows) = ((λ e. refl, keeps (rowBytes r)), row rows)
 
       all-rows : (rows : List (List Glyph)) → All Fed (markedRows rows)
       all-rows [] = tt
-      all-rows (r ∷ rows) = all-append Fed (map kept (bytesOf r)) _ (keeps (bytesOf r)) (all-joined (λ q. addedFeed ∷ map kept (bytesOf q)) Fed rows (row rows))
+      all-rows (r ∷ rows) = all-append Fed (map kept (rowBytes r)) _ (keeps (rowBytes r)) (all-joined (λ q. addedFeed ∷ map kept (rowBytes q)) Fed rows (row rows))
 
       each-line : (ls : List Line) → All (λ l. All Fed (markedLine tab columns l)) ls
       each-line [] = tt
@@ -273,34 +274,34 @@ module _ (tab columns : ℕ) where
 
   -- ---- the answer's number
 
-  rows-some : (line : List ℕ) → All (λ row. 0 < length (bytesOf row)) (rowsOf tab columns (characters line))
-  unfolding rowsOf each piece firstRow bytesOf
+  rows-some : (line : List ℕ) → All (λ row. 0 < length (rowBytes row)) (rowsOf tab columns (characters line))
+  unfolding rowsOf each piece firstRow rowBytes
   rows-some line =
-      walk-all (piece (λ gs. length (firstRow tab columns gs) - 1) (firstRow tab columns)) (λ row. 0 < length (bytesOf row)) (All Sound) (all-drop Sound) (λ s gs h t. first gs h t) tt (characters line)
+      walk-all (piece (λ gs. length (firstRow tab columns gs) - 1) (firstRow tab columns)) (λ row. 0 < length (rowBytes row)) (All Sound) (all-drop Sound) (λ s gs h t. first gs h t) tt (characters line)
       (rw (glue-off line) at (glyphs-sound false line))
     where
-      first : (gs : List Glyph) → 0 < length gs → All Sound gs → 0 < length (bytesOf (firstRow tab columns gs))
+      first : (gs : List Glyph) → 0 < length gs → All Sound gs → 0 < length (rowBytes (firstRow tab columns gs))
       first [] h t = absurd (omega arith)
       first (g ∷ gs) h t =
-          rw (joined-cons (λ (g : Glyph). g .bytes) g (staying tab columns (columnBehind tab 0 g) gs), length-append) (omega (arith, t .0 .some))
+          rw (joined-cons (λ (g : Glyph). g .bytes) g (stayingOn tab columns (columnBehind tab 0 g) gs), length-append) (omega (arith, t .0 .some))
 
-  fed-most : (rows : List (List Glyph)) → All (λ row. 0 < length (bytesOf row)) rows → length (joined fed rows) ≤ 2 * length (joined bytesOf rows)
+  fed-most : (rows : List (List Glyph)) → All (λ row. 0 < length (rowBytes row)) rows → length (joined fed rows) ≤ 2 * length (joined rowBytes rows)
   unfolding fed
   fed-most [] t = rw (joined-nil fed) (omega arith)
   fed-most (row ∷ rows) t =
-      rw (joined-cons fed row rows, joined-cons bytesOf row rows, length-append (bytesOf row) (joined bytesOf rows), length-append (feed ∷ bytesOf row) (joined fed rows))
+      rw (joined-cons fed row rows, joined-cons rowBytes row rows, length-append (rowBytes row) (joined rowBytes rows), length-append (feed ∷ rowBytes row) (joined fed rows))
       (omega (arith, t .0, fed-most rows (t .1)))
 
   line-most : (l : Line) → length (foldedLine tab columns l) ≤ 2 * length (l .text ++ endOf l)
   unfolding foldedLine inRows
   line-most l = go (rowsOf tab columns (characters (l .text))) (rows-some (l .text)) (rows-bytes (l .text))
     where
-      go : (rows : List (List Glyph)) → All (λ row. 0 < length (bytesOf row)) rows → joined bytesOf rows ≡ l .text → length (inRows rows ++ endOf l) ≤ 2 * length (l .text ++ endOf l)
+      go : (rows : List (List Glyph)) → All (λ row. 0 < length (rowBytes row)) rows → joined rowBytes rows ≡ l .text → length (inRows rows ++ endOf l) ≤ 2 * length (l .text ++ endOf l)
       go [] t e = rw (length-append (l .text) (endOf l)) (omega arith)
       go (row ∷ rows) t e =
-          let n = ap length (sym (joined-cons bytesOf row rows) ∙ e) in
-          let m = length-append (bytesOf row) (joined bytesOf rows) in
-          rw (length-append (bytesOf row ++ joined fed rows) (endOf l), length-append (bytesOf row) (joined fed rows), length-append (l .text) (endOf l))
+          let n = ap length (sym (joined-cons rowBytes row rows) ∙ e) in
+          let m = length-append (rowBytes row) (joined rowBytes rows) in
+          rw (length-append (rowBytes row ++ joined fed rows) (endOf l), length-append (rowBytes row) (joined fed rows), length-append (l .text) (endOf l))
           (omega (arith, n, m, fed-most rows (t .1)))
 
   pub folded-most : (text : List ℕ) → length (folded tab columns text) ≤ 2 * length text
@@ -317,14 +318,14 @@ module _ (tab columns : ℕ) where
           rw (joined-cons (foldedLine tab columns) l ls, joined-cons (λ (l : Line). l .raw) l ls, length-append (foldedLine tab columns l) _, length-append (l .raw) _)
           (omega (arith, n, line-most l, go ls (t .1)))
 
-value-most : (text : List ℕ) (tab columns bytes : ℕ) → value (fold text tab columns bytes) ≤ 2147483648
+value-most : (text : List ℕ) (tab columns bytes : ℕ) → foldCoded (fold text tab columns bytes) .value ≤ 2147483648
 unfolding fold
 value-most text tab columns bytes = go (ltb 100 tab || eqb columns 0 || ltb 1000 columns) (ltb 1073741824 (length text)) refl (leb (length all) bytes)
   where
     all : List ℕ
     all = folded (stopWidth tab) columns text
 
-    go : (a b : Bool) → ltb 1073741824 (length text) ≡ b → (c : Bool) → value (cond a options (cond b long (cond c (done all) (room (length all))))) ≤ 2147483648
+    go : (a b : Bool) → ltb 1073741824 (length text) ≡ b → (c : Bool) → foldCoded (cond a options (cond b long (cond c (done all) (room (length all))))) .value ≤ 2147483648
     go true b e c = omega arith
     go false true e c = omega arith
     go false false e true = omega (arith, folded-most (stopWidth tab) columns text, ltb-false 1073741824 (length text) e)
@@ -332,7 +333,7 @@ value-most text tab columns bytes = go (ltb 100 tab || eqb columns 0 || ltb 1000
 
 -- Code and N can be read back from the number, whatever the text, the tab width, the columns and the room.
 pub the-answer-tells-code-and-value : (text : List ℕ) (tab columns bytes : ℕ)
-    → (numbered (fold text tab columns bytes) / 2 ^ 32 ≡ code (fold text tab columns bytes)) × (numbered (fold text tab columns bytes) % 2 ^ 32 ≡ value (fold text tab columns bytes))
+    → (numbered (foldCoded (fold text tab columns bytes)) / 2 ^ 32 ≡ foldCoded (fold text tab columns bytes) .code) × (numbered (foldCoded (fold text tab columns bytes)) % 2 ^ 32 ≡ foldCoded (fold text tab columns bytes) .value)
 unfolding numbered
 the-answer-tells-code-and-value text tab columns bytes =
     let v = value-most text tab columns bytes in

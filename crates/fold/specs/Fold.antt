@@ -3,11 +3,12 @@
 -- well-formed character begins. (proofs/Reading shows that the columns are the panel's.)
 use mathlib.Core.Bool.{Bool, true, false, cond, _||_}
 use mathlib.Core.List.{List, [], _∷_, _++_}
-use Prim.Native.Nat.{ℕ, _+_, _-_, _*_, _^_}
+use Prim.Native.Nat.{ℕ, _-_}
 use lib.Dec.{ltb, leb, eqb}
 use lib.ListN.{length, drop, replicate}
 use Rattle.lists.specs.Walk.{each}
 use Rattle.lists.specs.Runs.{joined}
+use Rattle.lists.specs.Coded.{Coded, coded}
 use Rattle.text.specs.Characters.{Glyph, characters}
 use Rattle.lines.specs.Lines.{Line, linesOf}
 use Rattle.lines.specs.Classes.{columnBehind}
@@ -22,14 +23,14 @@ module _ (tab columns : ℕ) where
   stays column g = leb (columnBehind tab column g) columns || eqb (g .width) 0
 
   -- the characters that stay, up to the first that does not
-  unfoldable pub staying : ℕ → List Glyph → List Glyph
-  staying column [] = []
-  staying column (g ∷ gs) = elim (stays column g) [ true ↦ g ∷ staying (columnBehind tab column g) gs | false ↦ [] ]
+  unfoldable pub stayingOn : ℕ → List Glyph → List Glyph
+  stayingOn column [] = []
+  stayingOn column (g ∷ gs) = elim (stays column g) [ true ↦ g ∷ stayingOn (columnBehind tab column g) gs | false ↦ [] ]
 
   -- The first row of characters begins at column 0. Its first character is there whatever it takes.
   unfoldable pub firstRow : List Glyph → List Glyph
   firstRow [] = []
-  firstRow (g ∷ gs) = g ∷ staying (columnBehind tab 0 g) gs
+  firstRow (g ∷ gs) = g ∷ stayingOn (columnBehind tab 0 g) gs
 
   -- a character that does not stay begins a new row
   unfoldable pub rowsOf : List Glyph → List (List Glyph)
@@ -40,17 +41,17 @@ module _ (tab columns : ℕ) where
 abbrev pub feed : ℕ
 feed = 10
 
-unfoldable pub bytesOf : List Glyph → List ℕ
-bytesOf gs = joined (λ g. g .bytes) gs
+unfoldable pub rowBytes : List Glyph → List ℕ
+rowBytes gs = joined (λ g. g .bytes) gs
 
 -- a row with a line feed put before it
 unfoldable pub fed : List Glyph → List ℕ
-fed row = feed ∷ bytesOf row
+fed row = feed ∷ rowBytes row
 
 -- each row but a line's first
 unfoldable pub inRows : List (List Glyph) → List ℕ
 inRows [] = []
-inRows (row ∷ rows) = bytesOf row ++ joined fed rows
+inRows (row ∷ rows) = rowBytes row ++ joined fed rows
 
 -- a line end stays as it is: a line feed, with the carriage return just before it; nothing where the last line has none
 unfoldable pub endOf : Line → List ℕ
@@ -64,18 +65,18 @@ folded tab columns text = joined (foldedLine tab columns) (linesOf text)
 
 -- ---- the answers
 
-pub data Answer : Type 0 where
+pub data FoldAnswer : Type 0 where
   -- the folded text
-  done : List ℕ → Answer
+  done : List ℕ → FoldAnswer
   -- a tab width over 100, no columns, or over 1,000
-  options : Answer
+  options : FoldAnswer
   -- a text of over 1,073,741,824 bytes
-  long : Answer
+  long : FoldAnswer
   -- no room: the length needed
-  room : ℕ → Answer
+  room : ℕ → FoldAnswer
 
 -- the answer to a text, with room for so many bytes: the first refusal that applies. Tab width 0 acts as 1
-unfoldable pub fold : List ℕ → ℕ → ℕ → ℕ → Answer
+unfoldable pub fold : List ℕ → ℕ → ℕ → ℕ → FoldAnswer
 fold text tab columns bytes =
     let all = folded (stopWidth tab) columns text in
     cond (ltb 100 tab || eqb columns 0 || ltb 1000 columns) options
@@ -84,25 +85,15 @@ fold text tab columns bytes =
     (room (length all))))
 
 -- the table: code and N
-abbrev pub code : Answer → ℕ
-code (done all) = 0
-code options = 1
-code long = 2
-code (room needed) = 5
-
-abbrev pub value : Answer → ℕ
-value (done all) = length all
-value options = 0
-value long = 0
-value (room needed) = needed
-
--- the 64-bit number that the host gets
-unfoldable pub numbered : Answer → ℕ
-numbered a = code a * 2 ^ 32 + value a
+abbrev pub foldCoded : FoldAnswer → Coded
+foldCoded (done all) = coded 0 (length all)
+foldCoded options = coded 1 0
+foldCoded long = coded 2 0
+foldCoded (room needed) = coded 5 needed
 
 -- the output afterwards: the folded text and the rest unchanged; unchanged; all zero
-unfoldable pub outputAfter : Answer → List ℕ → List ℕ
-outputAfter (done all) output = all ++ drop (length all) output
-outputAfter options output = output
-outputAfter long output = output
-outputAfter (room needed) output = replicate (length output) 0
+unfoldable pub foldOutputAfter : FoldAnswer → List ℕ → List ℕ
+foldOutputAfter (done all) output = all ++ drop (length all) output
+foldOutputAfter options output = output
+foldOutputAfter long output = output
+foldOutputAfter (room needed) output = replicate (length output) 0

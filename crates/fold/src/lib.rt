@@ -3,7 +3,7 @@ use text::Char;
 ghost use mathlib.Core.Path.{_≡_};
 ghost use mathlib.Core.Bool.{true, cond};
 ghost use mathlib.Core.List.{_∷_, _++_};
-ghost use Prim.Native.Nat.{_+_, _-_, _*_, _^_, _≤_, _<_, min};
+ghost use Prim.Native.Nat.{_+_, _-_, _*_, _^_, _≤_, _<_};
 ghost use lib.Dec.{eqb};
 ghost use lib.ListN.{length, take, drop, replicate};
 ghost use lib.Seq.{slice};
@@ -77,7 +77,7 @@ fn put_lines(text: &[u8], tab: usize, columns: usize, out: &mut [u8]) -> usize
     while at < text.len() {
         let extent = lines::first_line(&text[at..]);
         let end = at + extent.whole;
-        let place = lesser(k, out.len());
+        let place = lists::lesser(k, out.len());
         k += put_line(&text[at..end], extent.text, tab, columns, &mut out[place..]);
         at = end;
     }
@@ -90,7 +90,7 @@ fn put_line(raw: &[u8], size: usize, tab: usize, columns: usize, rest: &mut [u8]
     ensures { λ r. ⌜ Wrote (now (rest .entry)) 0 (inRows (rowsOf tab columns (characters (take size (now (raw .entry))))) ++ drop size (now (raw .entry))) (now (rest .exit)) r × (r ≤ 2 * length (now (raw .entry))) ⌝ }
 {
     let k = put_rows(&raw[..size], tab, columns, rest);
-    let place = lesser(k, rest.len());
+    let place = lists::lesser(k, rest.len());
     k + output::put_text(raw, size, raw.len(), &mut rest[place..])
 }
 
@@ -103,7 +103,7 @@ fn put_rows(line: &[u8], tab: usize, columns: usize, rest: &mut [u8]) -> usize
     let mut k = output::put_text(line, 0, at, rest);
     while at < line.len() {
         let end = row_end(line, at, tab, columns);
-        let place = lesser(k, rest.len());
+        let place = lists::lesser(k, rest.len());
         k += put_fed(line, at, end, &mut rest[place..]);
         at = end;
     }
@@ -116,7 +116,7 @@ fn put_fed(line: &[u8], at: usize, end: usize, rest: &mut [u8]) -> usize
     ensures { λ r. ⌜ Wrote (now (rest .entry)) 0 (feed ∷ slice at end (now (line .entry))) (now (rest .exit)) r ⌝ }
 {
     let k = output::put_feed(rest);
-    let place = lesser(k, rest.len());
+    let place = lists::lesser(k, rest.len());
     k + output::put_text(line, at, end, &mut rest[place..])
 }
 
@@ -170,7 +170,7 @@ fn plain_end(line: &[u8], from: usize, most: usize) -> usize
     requires { ⌜ from ≤ length (now line) ⌝ }
     ensures { λ r. ⌜ Plain (now (line .entry)) from r × (r ≤ from + most) ⌝ }
 {
-    let end = from + lesser(most, line.len() - from);
+    let end = from + lists::lesser(most, line.len() - from);
     let mut i = plain_eights(line, from, end);
     while i < end {
         if is_plain(line[i]) {
@@ -252,16 +252,6 @@ fn column_behind(column: usize, code: u32, tab: usize) -> usize
     } else {
         column + widths::width(code)
     }
-}
-
-// Where a part of the output begins: at the written end or, where that lies past the output, at the output's end.
-fn lesser(a: usize, b: usize) -> usize
-    ensures { λ r. ⌜ r ≡ min a b ⌝ }
-{
-    if a < b {
-        return a;
-    }
-    b
 }
 
 // No byte stays where there is no room for all.

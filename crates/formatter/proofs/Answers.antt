@@ -14,9 +14,10 @@ use Rattle.options.specs.OptionBlock.{readBlock}
 use Rattle.options.specs.declared.Options.{Options}
 use Rattle.options.specs.declared.Block.the-variants.{Accepted}
 use Rattle.pieces.specs.Pieces.{pieces}
-use Rattle.formatter.specs.Answers.{Answer, done, long, room, work, code}
+use Rattle.formatter.specs.Answers.{Answer, done, room, answerCoded}
+use Rattle.formatter.specs.declared.Refusal.the-variants.{Long, Work}
 use Rattle.walk.specs.Digest.{digest, longParagraph}
-use Rattle.formatter.specs.Format.{Words, upTo, lent, Limits, limited, withWords, withWork, within, withText, damageIn, withNotes, answer, finding, mostTold, isTold, measured, measuring, writing}
+use Rattle.formatter.specs.Format.{Words, upTo, lent, Limits, limited, Finding, found, stopped, withWords, withWork, within, withText, damageIn, withNotes, finding, answering, answer, mostTold, isTold, measured, measuring, writing}
 use Rattle.formatter.proofs.Together.{together-they-do-what-the-old-call-did, what-is-found-is-measured, in-room-done}
 
 -- no paragraph has too many words; or so much room is lent as is needed
@@ -30,52 +31,56 @@ pub record Done (l : Limits) (o : Opts) (notes bytes : List ℕ) : Type 0 where
   pub enough : Enough (l .words) o notes
   pub bytes-are : bytes ≡ digest o notes
 
-module _ (l : Limits) (then : List ℕ → Answer) (o : Opts) (notes bytes : List ℕ) (only : (d : List ℕ) → then d ≡ done bytes → bytes ≡ d) where
-  notes-done : withNotes l then o notes ≡ done bytes → Done l o notes bytes
+module _ (l : Limits) (o : Opts) (notes bytes : List ℕ) where
+  notes-done : withNotes l o notes ≡ found bytes → Done l o notes bytes
   notes-done e = size (ltb (l .bytes) (length notes)) e
     where
-      count : (f : Found) → withWords then o notes f ≡ done bytes → (f ≡ Nowhere) × (bytes ≡ digest o notes)
+      count : (f : Found) → withWords o notes f ≡ found bytes → (f ≡ Nowhere) × (bytes ≡ digest o notes)
       count (At place) h = (cc, cc)
-      count Nowhere h = (refl, only (digest o notes) h)
+      count Nowhere h = (refl, cc)
 
-      lends : (b : Bool) (needed : ℕ) → elim b as (λ t. Answer) [ true ↦ work needed | false ↦ then (digest o notes) ] ≡ done bytes → (b ≡ false) × (bytes ≡ digest o notes)
+      lends : (b : Bool) (needed : ℕ) → elim b as (λ t. Finding) [ true ↦ stopped (Work needed) | false ↦ found (digest o notes) ] ≡ found bytes → (b ≡ false) × (bytes ≡ digest o notes)
       lends true needed h = (cc, cc)
-      lends false needed h = (refl, only (digest o notes) h)
+      lends false needed h = (refl, cc)
 
-      enough : (w : Words) → within w then o notes ≡ done bytes → Enough w o notes × (bytes ≡ digest o notes)
+      enough : (w : Words) → within w o notes ≡ found bytes → Enough w o notes × (bytes ≡ digest o notes)
       enough (upTo most) h = count (longParagraph most o 0 (pieces o notes)) h
       enough (lent n need) h = let k = lends (ltb n (need o notes)) (need o notes) h in (ltb-false n (need o notes) (k .0), k .1)
 
-      damaged : (f : Found) → damageIn (o .keep) notes ≡ f → withText (l .words) then o notes f ≡ done bytes → Done l o notes bytes
-      damaged (At place) d h = absurd (let z = ap code h in omega (arith, z))
+      damaged : (f : Found) → damageIn (o .keep) notes ≡ f → withText (l .words) o notes f ≡ found bytes → Done l o notes bytes
+      damaged (At place) d h = absurd (let z : _≡_ {A = ℕ} 0 1 = cc in omega arith)
       damaged Nowhere d h = let k = enough (l .words) h in record { sound = d; enough = k .0; bytes-are = k .1 }
 
-      size : (b : Bool) → elim b as (λ t. Answer) [ true ↦ long | false ↦ withText (l .words) then o notes (damageIn (o .keep) notes) ] ≡ done bytes → Done l o notes bytes
-      size true h = absurd (let z = ap code h in omega (arith, z))
+      size : (b : Bool) → elim b as (λ t. Finding) [ true ↦ stopped Long | false ↦ withText (l .words) o notes (damageIn (o .keep) notes) ] ≡ found bytes → Done l o notes bytes
+      size true h = absurd (let z : _≡_ {A = ℕ} 0 1 = cc in omega arith)
       size false h = damaged (damageIn (o .keep) notes) refl h
 
--- what is told as done is the digest that was found, and its length can be told
-told-done : (b : Bool) (d bytes : List ℕ) → cond b (done d) (room mostTold) ≡ done bytes → (b ≡ true) × (bytes ≡ d)
-told-done true d bytes h = (refl, cc)
-told-done false d bytes h = (cc, cc)
+-- what is told as done is the digest that was found
+told-done : (w : Words) (bytes : List ℕ) (f : Finding) → answering (measured w) f ≡ done bytes → f ≡ found bytes
+told-done w bytes (found d) h = go (isTold w (length d)) h
+  where
+    go : (b : Bool) → cond b (done d) (room mostTold) ≡ done bytes → found d ≡ found bytes
+    go true k = let e : d ≡ bytes = cc in ap found e
+    go false k = absurd (let z = ap (λ (a : Answer). answerCoded a .code) k in omega (arith, z))
+told-done w bytes (stopped r) h = absurd (let z : _≡_ {A = ℕ} 0 1 = cc in omega arith)
 
 module _ (l : Limits) (block notes : List ℕ) (o : Options) (bytes : List ℕ) (accepts : readBlock block ≡ Accepted o) where
+  pub found-done : finding l block notes ≡ found bytes → Done l (meant block o) notes bytes
+  unfolding finding
+  found-done e = notes-done l (meant block o) notes bytes (rw accepts at e)
+
   pub measured-done : measuring l block notes ≡ done bytes → Done l (meant block o) notes bytes
   unfolding measuring
-  measured-done e = notes-done l (measured (l .words)) (meant block o) notes bytes (λ d h. told-done (isTold (l .words) (length d)) d bytes h .1) (rw accepts at e)
-
-  pub found-done : finding l block notes ≡ done bytes → Done l (meant block o) notes bytes
-  unfolding finding
-  found-done e = notes-done l done (meant block o) notes bytes (λ d h. cc) (rw accepts at e)
+  measured-done e = found-done (told-done (l .words) bytes (finding l block notes) e)
 
   -- notes are found as done if they are within the limits, nothing is refused as damaged, and no paragraph is too long ..
-  enough-within : (w : Words) (then : List ℕ → Answer) → Enough w (meant block o) notes → within w then (meant block o) notes ≡ then (digest (meant block o) notes)
-  enough-within (upTo most) then h = rw h
-  enough-within (lent lends need) then h = rw (within, withWork, le-ltb lends (need (meant block o) notes) h)
+  enough-within : (w : Words) → Enough w (meant block o) notes → within w (meant block o) notes ≡ found (digest (meant block o) notes)
+  enough-within (upTo most) h = rw h
+  enough-within (lent lends need) h = rw (within, withWork, le-ltb lends (need (meant block o) notes) h)
 
-  pub done-found : length notes ≤ l .bytes → Done l (meant block o) notes bytes → finding l block notes ≡ done bytes
+  pub done-found : length notes ≤ l .bytes → Done l (meant block o) notes bytes → finding l block notes ≡ found bytes
   unfolding finding
-  done-found n d = rw (accepts, withNotes, le-ltb (l .bytes) (length notes) n, d .sound, enough-within (l .words) done (d .enough), ← d .bytes-are)
+  done-found n d = rw (accepts, withNotes, le-ltb (l .bytes) (length notes) n, d .sound, enough-within (l .words) (d .enough), ← d .bytes-are)
 
   -- .. and measured so if their length can be told
   pub done-measured : length notes ≤ l .bytes → Done l (meant block o) notes bytes → isTold (l .words) (length bytes) ≡ true → measuring l block notes ≡ done bytes

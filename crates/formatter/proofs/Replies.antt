@@ -16,15 +16,17 @@ use Rattle.lines.specs.Contracts.Places.{mostLarge}
 use Rattle.pieces.specs.Pieces.{pieces}
 use Rattle.output.specs.Contracts.Sink.{Wrote}
 use Rattle.output.proofs.Sink.{written-fits, wrote-length}
-use Rattle.formatter.specs.Answers.{Answer, done, options, long, text, room, work, outputAfter}
+use Rattle.formatter.specs.Answers.{Answer, done, room, outputAfter}
 use Rattle.walk.specs.Digest.{mostWords, digest, longParagraph}
-use Rattle.formatter.specs.Format.{Words, Limits, ownRoom, within, withWork, withText, damageIn, withNotes, withBlock, withDigest, mostTold, measured, measuring, inRoom, writing}
+use Rattle.formatter.specs.Format.{Words, Limits, ownRoom, Finding, found, stopped, within, withWork, withText, damageIn, withNotes, withBlock, finding, answering, withDigest, mostTold, measured, measuring, inRoom, writing}
 use Rattle.formatter.specs.Work.{mostLent, lending}
 use Rattle.walk.specs.Work.{workFor}
 use Rattle.walk.specs.Contracts.Course.{Finished}
 use Rattle.formatter.specs.Contracts.Call.{told, Answers, Refuses, leftOf, AdmitsNotes, Admits, AdmitsWithin, AdmitsWork, AdmitsLent}
 use Rattle.formatter.specs.declared.Reply.{Reply}
-use Rattle.formatter.specs.declared.Reply.the-variants.{Done, Options as Faulty, Long, Text, Words as Many, Room, Work}
+use Rattle.formatter.specs.declared.Reply.the-variants.{Done, Refused as Declined, Room}
+use Rattle.formatter.specs.declared.Refusal.{Refusal}
+use Rattle.formatter.specs.declared.Refusal.the-variants.{Options as Faulty, Long, Text, Words as Many, Work}
 use Rattle.formatter.specs.declared.Admission.{Admission}
 use Rattle.formatter.specs.declared.Admission.the-variants.{Refused, Passed}
 use Rattle.walk.specs.declared.Ended.{Ended}
@@ -41,7 +43,7 @@ module _ (o : Opts) (notes out out′ : List ℕ) (r : Ended) (f : Finished most
   stopped-of e = rw e at f
 
   -- too many words: all zero
-  pub words-answer : {place : ℕ} → r ≡ Stopped place → Answers (leftOf ownRoom o notes (withDigest (length out))) out (Many place) out′
+  pub words-answer : {place : ℕ} → r ≡ Stopped place → Answers (leftOf ownRoom o notes (withDigest (length out))) out (Declined (Many place)) out′
   unfolding outputAfter
   words-answer e = let s = stopped-of e in rw (s .0) (record { is = refl; output = s .1 })
 
@@ -67,7 +69,7 @@ module _ (o : Opts) (notes out out′ : List ℕ) (r : Ended) (f : Finished most
       rw (w .0, lt-leb (length (digest o notes)) (length out) over) (record { is = ap Room c; output = z ∙ ap (λ (k : ℕ). replicate k 0) l })
 
   -- measured: the same without an output
-  pub words-measured : {place : ℕ} → r ≡ Stopped place → Many place ≡ told (leftOf ownRoom o notes done)
+  pub words-measured : {place : ℕ} → r ≡ Stopped place → Declined (Many place) ≡ told (leftOf ownRoom o notes done)
   words-measured e = rw (stopped-of e .0)
 
   pub done-measured : {n : ℕ} → r ≡ All n → Done n ≡ told (leftOf ownRoom o notes done)
@@ -83,31 +85,28 @@ abbrev pub limits : ℕ → Words → Limits
 limits bytes w = record { bytes = bytes; words = w }
 
 module _ (l : Limits) (block notes : List ℕ) (o : Options) where
-  notes-are : (then : List ℕ → Answer) (f : Found) → length notes ≤ l .bytes → f ≡ damageIn (o .keep) notes → withNotes l then (meant block o) notes ≡ withText (l .words) then (meant block o) notes f
+  notes-are : (f : Found) → length notes ≤ l .bytes → f ≡ damageIn (o .keep) notes → withNotes l (meant block o) notes ≡ withText (l .words) (meant block o) notes f
   unfolding meant
-  notes-are then f h e = rw (withNotes, le-ltb (l .bytes) (length notes) h, e)
+  notes-are f h e = rw (withNotes, le-ltb (l .bytes) (length notes) h, e)
 
   pub long-refused : l .bytes < length notes → AdmitsNotes l block o notes (Refused Long)
-  unfolding outputAfter
-  long-refused h = record { refusal = long; is = refl; whole-is = λ then. rw (withNotes, lt-ltb (l .bytes) (length notes) h); untouched = λ out. refl; early = omega arith }
+  long-refused h = record { whole-is = rw (withNotes, lt-ltb (l .bytes) (length notes) h); untouched = λ out. refl; early = omega arith }
 
   pub text-refused : {f : Found} {place : ℕ} → length notes ≤ l .bytes → f ≡ damageIn (o .keep) notes → f ≡ At place → AdmitsNotes l block o notes (Refused (Text place))
-  unfolding outputAfter
-  text-refused {f} {place} h e a = record { refusal = text place; is = refl; whole-is = λ then. notes-are then (At place) h (sym a ∙ e); untouched = λ out. refl; early = omega arith }
+  text-refused {f} {place} h e a = record { whole-is = notes-are (At place) h (sym a ∙ e); untouched = λ out. refl; early = omega arith }
 
   pub notes-passed : {f : Found} → length notes ≤ l .bytes → f ≡ damageIn (o .keep) notes → f ≡ Nowhere → AdmitsNotes l block o notes (Passed o)
-  notes-passed h e a = (refl, h, λ then. notes-are then Nowhere h (sym a ∙ e))
+  notes-passed h e a = (refl, h, notes-are Nowhere h (sym a ∙ e))
 
 -- ---- with any block, and limits that the code is proved for
 
 module _ (l : Limits) (block notes : List ℕ) (b : Block) (read : b ≡ readBlock block) where
   pub fault-refused : {place : ℕ} → b ≡ Fault place → Admits l block notes (Refused (Faulty place))
-  unfolding outputAfter
-  fault-refused {place} e = record { refusal = options place; is = refl; whole-is = λ then. rw (sym read ∙ e); untouched = λ out. refl; early = omega arith }
+  fault-refused {place} e = record { whole-is = rw (sym read ∙ e); untouched = λ out. refl; early = omega arith }
 
   pub block-admits : {o : Options} (r : Admission) → l .bytes ≤ mostLarge → b ≡ Accepted o → AdmitsNotes l block o notes r → Admits l block notes r
-  block-admits (Refused r) m e n = record { refusal = n .refusal; is = n .is; whole-is = λ then. rw (sym read ∙ e) (n .whole-is then); untouched = n .untouched; early = n .early }
-  block-admits {o} (Passed p) m e n = (record { accepted = sym read ∙ e ∙ ap Accepted (sym (n .0)); short = omega (arith, n .1, m) }, λ then. rw (sym read ∙ e, n .0) (n .2 then), n .1)
+  block-admits (Refused r) m e n = record { whole-is = rw (sym read ∙ e) (n .whole-is); untouched = n .untouched; early = n .early }
+  block-admits {o} (Passed p) m e n = (record { accepted = sym read ∙ e ∙ ap Accepted (sym (n .0)); short = omega (arith, n .1, m) }, rw (sym read ∙ e, n .0) (n .2), n .1)
 
 -- ---- what is replied to it
 
@@ -116,50 +115,53 @@ abbrev pub inOutput : Limits → List ℕ → List ℕ → Answer
 inOutput l out d = inRoom (length out) (measured (l .words) d)
 
 module _ (l : Limits) (block notes : List ℕ) where
-  as-written : (out : List ℕ) (w : Answer) {r : Reply} {out′ : List ℕ} → withBlock l (inOutput l out) block notes (readBlock block) ≡ w → Answers w out r out′ → Answers (writing l block notes (length out)) out r out′
-  as-written out w e h = rw (written-at-once l block notes (length out) ∙ e) h
+  as-measured : (f : Finding) {r : Reply} → withBlock l block notes (readBlock block) ≡ f → r ≡ told (answering (measured (l .words)) f) → r ≡ told (measuring l block notes)
+  unfolding measuring finding
+  as-measured f e h = h ∙ ap (λ (x : Finding). told (answering (measured (l .words)) x)) (sym e)
 
-  module _ {most : ℕ} {r : Reply} where
-    pub refusal-measured : Refuses most (λ then. withBlock l then block notes (readBlock block)) r → r ≡ told (measuring l block notes)
-    unfolding measuring
-    refusal-measured f = f .is ∙ ap told (sym (f .whole-is (measured (l .words))))
+  as-written : (out : List ℕ) (f : Finding) {r : Reply} {out′ : List ℕ} → withBlock l block notes (readBlock block) ≡ f → Answers (answering (inOutput l out) f) out r out′ → Answers (writing l block notes (length out)) out r out′
+  unfolding finding
+  as-written out f e h = rw (written-at-once l block notes (length out) ∙ ap (answering (inOutput l out)) e) h
 
-    refusal-written : (out : List ℕ) → Refuses most (λ then. withBlock l then block notes (readBlock block)) r → Answers (writing l block notes (length out)) out r out
-    refusal-written out f = as-written out (f .refusal) (f .whole-is (inOutput l out)) (record { is = f .is; output = sym (f .untouched out) })
+  module _ {most : ℕ} {r : Refusal} (f : Refuses most (withBlock l block notes (readBlock block)) r) where
+    pub refusal-measured : Declined r ≡ told (measuring l block notes)
+    refusal-measured = as-measured (stopped r) (f .whole-is) refl
+
+    refusal-written : (out : List ℕ) → Answers (writing l block notes (length out)) out (Declined r) out
+    unfolding outputAfter
+    refusal-written out = as-written out (stopped r) (f .whole-is) (record { is = refl; output = sym (f .untouched out) })
 
 module _ (l : Limits) (block notes : List ℕ) (a : Admission) (admits : Admits l block notes a) where
-  pub refused-of : {r : Reply} → a ≡ Refused r → Admits l block notes (Refused r)
+  pub refused-of : {r : Refusal} → a ≡ Refused r → Admits l block notes (Refused r)
   refused-of e = rw e at admits
 
   pub passed-of : {o : Options} → a ≡ Passed o → Admits l block notes (Passed o)
   passed-of e = rw e at admits
 
-  pub refused-measured : {r : Reply} → a ≡ Refused r → r ≡ told (measuring l block notes)
+  pub refused-measured : {r : Refusal} → a ≡ Refused r → Declined r ≡ told (measuring l block notes)
   refused-measured e = refusal-measured l block notes (refused-of e)
 
   pub passed-measured : {o : Options} {r : Reply} → a ≡ Passed o → r ≡ told (leftOf l (meant block o) notes (measured (l .words))) → r ≡ told (measuring l block notes)
-  unfolding measuring
-  passed-measured e h = h ∙ ap told (sym (passed-of e .1 (measured (l .words))))
+  passed-measured {o} e h = as-measured l block notes (within (l .words) (meant block o) notes) (passed-of e .1) h
 
-  pub refused-written : (out : List ℕ) {r : Reply} → a ≡ Refused r → Answers (writing l block notes (length out)) out r out
-  refused-written out e = refusal-written l block notes out (refused-of e)
+  pub refused-written : (out : List ℕ) {r : Refusal} → a ≡ Refused r → Answers (writing l block notes (length out)) out (Declined r) out
+  refused-written out e = refusal-written l block notes (refused-of e) out
 
   pub passed-written : (out : List ℕ) {o : Options} {r : Reply} {out′ : List ℕ} → a ≡ Passed o → Answers (leftOf l (meant block o) notes (inOutput l out)) out r out′ → Answers (writing l block notes (length out)) out r out′
-  passed-written out {o} e h = as-written l block notes out (leftOf l (meant block o) notes (inOutput l out)) (passed-of e .1 (inOutput l out)) h
+  passed-written out {o} e h = as-written l block notes out (within (l .words) (meant block o) notes) (passed-of e .1) h
 
 -- ---- where working room is lent
 
 module _ (lends : ℕ) (block notes : List ℕ) where
-  pub within-refused : {a : Admission} {r : Reply} → AdmitsWithin mostLent block notes a → a ≡ Refused r → AdmitsLent lends block notes (Refused r)
+  pub within-refused : {a : Admission} {r : Refusal} → AdmitsWithin mostLent block notes a → a ≡ Refused r → AdmitsLent lends block notes (Refused r)
   within-refused s e = let f : Admits (lending lends) block notes (Refused _) = rw e at (s (lending lends .words)) in
-      record { refusal = f .refusal; is = f .is; whole-is = f .whole-is; untouched = f .untouched; early = omega (arith, f .early) }
+      record { whole-is = f .whole-is; untouched = f .untouched; early = omega (arith, f .early) }
 
   -- code 12 is due exactly where less is lent than is needed
   pub work-refused : (o : Opts) (p : Options) (needed : ℕ) → needed ≡ max lends (workFor o notes) → lends < needed → AdmitsWork lends o notes p (Refused (Work needed))
-  unfolding outputAfter
   work-refused o p needed e h =
       let n : needed ≡ workFor o notes = omega arith in
-      record { refusal = work needed; is = refl; whole-is = λ then. rw (within, withWork, lt-ltb lends (workFor o notes) (omega arith), n); untouched = λ out. refl; early = omega arith }
+      record { whole-is = rw (within, withWork, lt-ltb lends (workFor o notes) (omega arith), n); untouched = λ out. refl; early = omega arith }
 
   pub work-passed : (o : Opts) (p : Options) (needed : ℕ) → needed ≡ max lends (workFor o notes) → needed ≤ lends → AdmitsWork lends o notes p (Passed p)
   work-passed o p needed e h = (refl, omega arith)
@@ -167,30 +169,29 @@ module _ (lends : ℕ) (block notes : List ℕ) where
   pub lent-admits : {a : Admission} {o : Options} (r : Admission) → AdmitsWithin mostLent block notes a → a ≡ Passed o → AdmitsWork lends (meant block o) notes o r → AdmitsLent lends block notes r
   lent-admits {a} {o} (Refused r) s e w =
       let f : Admits (lending lends) block notes (Passed o) = rw e at (s (lending lends .words)) in
-      record { refusal = w .refusal; is = w .is; whole-is = λ then. f .1 then ∙ w .whole-is then; untouched = w .untouched; early = w .early }
+      record { whole-is = f .1 ∙ w .whole-is; untouched = w .untouched; early = w .early }
   lent-admits {a} {o} (Passed p) s e w =
       let f : Admits (lending lends) block notes (Passed o) = rw e at (s (lending lends .words)) in
-      rw (w .0) (f .0, λ then. f .1 then ∙ rw (within, withWork, le-ltb lends (workFor (meant block o) notes) (w .1)), w .1)
+      rw (w .0) (f .0, f .1 ∙ rw (within, withWork, le-ltb lends (workFor (meant block o) notes) (w .1)), w .1)
 
   module _ (a : Admission) (admits : AdmitsLent lends block notes a) where
     pub lent-passed : {o : Options} → a ≡ Passed o → AdmitsLent lends block notes (Passed o)
     lent-passed e = rw e at admits
 
-    lent-refused : {r : Reply} → a ≡ Refused r → AdmitsLent lends block notes (Refused r)
+    lent-refused : {r : Refusal} → a ≡ Refused r → AdmitsLent lends block notes (Refused r)
     lent-refused e = rw e at admits
 
-    pub lent-refused-measured : {r : Reply} → a ≡ Refused r → r ≡ told (measuring (lending lends) block notes)
+    pub lent-refused-measured : {r : Refusal} → a ≡ Refused r → Declined r ≡ told (measuring (lending lends) block notes)
     lent-refused-measured e = refusal-measured (lending lends) block notes (lent-refused e)
 
     pub lent-passed-measured : {o : Options} {r : Reply} → a ≡ Passed o → r ≡ told (measured (lending lends .words) (digest (meant block o) notes)) → r ≡ told (measuring (lending lends) block notes)
-    unfolding measuring
-    lent-passed-measured e h = h ∙ ap told (sym (lent-passed e .1 (measured (lending lends .words))))
+    lent-passed-measured {o} e h = as-measured (lending lends) block notes (found (digest (meant block o) notes)) (lent-passed e .1) h
 
-    pub lent-refused-written : (out : List ℕ) {r : Reply} → a ≡ Refused r → Answers (writing (lending lends) block notes (length out)) out r out
-    lent-refused-written out e = refusal-written (lending lends) block notes out (lent-refused e)
+    pub lent-refused-written : (out : List ℕ) {r : Refusal} → a ≡ Refused r → Answers (writing (lending lends) block notes (length out)) out (Declined r) out
+    lent-refused-written out e = refusal-written (lending lends) block notes (lent-refused e) out
 
     pub lent-passed-written : (out : List ℕ) {o : Options} {r : Reply} {out′ : List ℕ} → a ≡ Passed o → Answers (inOutput (lending lends) out (digest (meant block o) notes)) out r out′ → Answers (writing (lending lends) block notes (length out)) out r out′
-    lent-passed-written out {o} e h = as-written (lending lends) block notes out (inOutput (lending lends) out (digest (meant block o) notes)) (lent-passed e .1 (inOutput (lending lends) out)) h
+    lent-passed-written out {o} e h = as-written (lending lends) block notes out (found (digest (meant block o) notes)) (lent-passed e .1) h
 
 -- what is measured, and what is written, of a digest that was put into an output as far as it fits
 module _ (lends : ℕ) (d out out′ : List ℕ) (n : ℕ) (w : Wrote out 0 d out′ n) where

@@ -28,11 +28,14 @@ use Rattle.pieces.specs.declared.Piece.the-variants.{Blank as BlankAt, Plain as
 use Rattle.pieces.proofs.Meaning.{means, bounded}
 use Rattle.words.specs.Words.{wordsOf}
 use Rattle.output.specs.Emission.{lineFeed}
-use Rattle.formatter.specs.Answers.{Answer, done, options, long, text, words, room, work, code, value, numbered}
+use Rattle.lists.specs.Coded.{Coded, numbered}
+use Rattle.formatter.specs.Answers.{Answer, done, refused, room, refusalCoded, answerCoded}
+use Rattle.formatter.specs.declared.Refusal.{Refusal}
+use Rattle.formatter.specs.declared.Refusal.the-variants.{Options as Faulty, Long, Text as Damaged, Words as Many, Work}
 use Rattle.walk.specs.Digest.{mostWords, outputOf, extentOf, tooMany, digest, longParagraph}
-use Rattle.formatter.specs.Format.{Words, upTo, lent, Limits, mostBytes, ownRoom, withWords, within, withText, damageIn, withNotes, withBlock, answer, finding, mostTold, measured, measuring, writing}
+use Rattle.formatter.specs.Format.{Words, upTo, lent, Limits, mostBytes, ownRoom, Finding, found, stopped, withWords, within, withText, damageIn, withNotes, withBlock, finding, answering, answer, mostTold, measured, measuring, writing}
 use Rattle.walk.specs.Contracts.Course.{outputFrom, longFrom, FirstPiece}
-use Rattle.formatter.specs.Contracts.Call.{told, replyNumber}
+use Rattle.formatter.specs.Contracts.Call.{told, replyCoded}
 use Rattle.formatter.proofs.Together.{together-they-do-what-the-old-call-did, what-is-refused-is-measured-so, what-is-found-is-measured, in-room-value}
 use Rattle.formatter.proofs.Answers.{Enough}
 use Rattle.walk.proofs.Meaning.{PieceGoes, piece-goes}
@@ -149,120 +152,117 @@ ownRoom-sound = record { short = omega arith; modest = omega arith }
 -- ---- what is refused, and what becomes of the digest
 
 module _ (l : Limits) (sound : Sound l) where
-  module _ (o : Opts) (notes : List ℕ) (short : length notes ≤ l .bytes) (then : List ℕ → Answer) (fits : Enough (l .words) o notes → value (then (digest o notes)) ≤ mostTold) where
-    words-value : (most : ℕ) (f : Found) → longParagraph most o 0 (pieces o notes) ≡ f → (f ≡ Nowhere → value (then (digest o notes)) ≤ mostTold) → value (withWords then o notes f) ≤ mostTold
+  module _ (o : Opts) (notes : List ℕ) (short : length notes ≤ l .bytes) (then : List ℕ → Answer) (fits : Enough (l .words) o notes → answerCoded (then (digest o notes)) .value ≤ mostTold) where
+    words-value : (most : ℕ) (f : Found) → longParagraph most o 0 (pieces o notes) ≡ f → (f ≡ Nowhere → answerCoded (then (digest o notes)) .value ≤ mostTold) → answerCoded (answering then (withWords o notes f)) .value ≤ mostTold
     words-value most (At n) e h = omega (arith, long-within most o notes n e, short, sound .short)
     words-value most Nowhere e h = h refl
 
-    work-value : (lends needed : ℕ) → needed ≤ mostTold → (b : Bool) → ltb lends needed ≡ b → (needed ≤ lends → value (then (digest o notes)) ≤ mostTold)
-        → value (elim b as (λ t. Answer) [ true ↦ work needed | false ↦ then (digest o notes) ]) ≤ mostTold
+    work-value : (lends needed : ℕ) → needed ≤ mostTold → (b : Bool) → ltb lends needed ≡ b → (needed ≤ lends → answerCoded (then (digest o notes)) .value ≤ mostTold)
+        → answerCoded (answering then (elim b as (λ t. Finding) [ true ↦ stopped (Work needed) | false ↦ found (digest o notes) ])) .value ≤ mostTold
     work-value lends needed m true e h = m
     work-value lends needed m false e h = h (ltb-false lends needed e)
 
-    within-value : (w : Words) → Modest w (l .bytes) → (Enough w o notes → value (then (digest o notes)) ≤ mostTold) → value (within w then o notes) ≤ mostTold
+    within-value : (w : Words) → Modest w (l .bytes) → (Enough w o notes → answerCoded (then (digest o notes)) .value ≤ mostTold) → answerCoded (answering then (within w o notes)) .value ≤ mostTold
     within-value (upTo most) m h = words-value most (longParagraph most o 0 (pieces o notes)) refl h
     within-value (lent lends need) m h = work-value lends (need o notes) (m o notes short) (ltb lends (need o notes)) refl h
 
-    text-value : (keep : Bool) (f : Found) → damageIn keep notes ≡ f → value (withText (l .words) then o notes f) ≤ mostTold
+    text-value : (keep : Bool) (f : Found) → damageIn keep notes ≡ f → answerCoded (answering then (withText (l .words) o notes f)) .value ≤ mostTold
     text-value keep Nowhere e = within-value (l .words) (sound .modest) fits
     text-value true (At n) e = absurd (let z : _≡_ {A = ℕ} 0 1 = cc in omega arith)
     text-value false (At n) e = omega (arith, damage-some false notes n e .1, short, sound .short)
 
   -- notes within the limit or beyond it
-  pub notes-value : (o : Opts) (notes : List ℕ) (then : List ℕ → Answer) → (length notes ≤ l .bytes → Enough (l .words) o notes → value (then (digest o notes)) ≤ mostTold) → value (withNotes l then o notes) ≤ mostTold
+  pub notes-value : (o : Opts) (notes : List ℕ) (then : List ℕ → Answer) → (length notes ≤ l .bytes → Enough (l .words) o notes → answerCoded (then (digest o notes)) .value ≤ mostTold) → answerCoded (answering then (withNotes l o notes)) .value ≤ mostTold
   notes-value o notes then fits = go (ltb (l .bytes) (length notes)) refl
     where
-      go : (b : Bool) → ltb (l .bytes) (length notes) ≡ b → value (elim b as (λ t. Answer) [ true ↦ long | false ↦ withText (l .words) then o notes (damageIn (o .keep) notes) ]) ≤ mostTold
+      go : (b : Bool) → ltb (l .bytes) (length notes) ≡ b → answerCoded (answering then (elim b as (λ t. Finding) [ true ↦ stopped Long | false ↦ withText (l .words) o notes (damageIn (o .keep) notes) ])) .value ≤ mostTold
       go true t = omega arith
       go false t = let s = ltb-false (l .bytes) (length notes) t in text-value o notes s then (fits s) (o .keep) (damageIn (o .keep) notes) refl
 
   -- ---- measuring
 
   module _ (o : Opts) (notes : List ℕ) (least : 1 ≤ o .tab) (most : o .tab ≤ 100) (short : length notes ≤ l .bytes) (cleared : o .split ≡ true → (o .crown || o .tagged) ≡ false) where
-    told-value : (b : Bool) (d : List ℕ) → leb (length d) mostTold ≡ b → value (cond b (done d) (room mostTold)) ≤ mostTold
+    told-value : (b : Bool) (d : List ℕ) → leb (length d) mostTold ≡ b → answerCoded (cond b (done d) (room mostTold)) .value ≤ mostTold
     told-value true d e = leb-true (length d) mostTold e
     told-value false d e = omega arith
 
-    digest-value : (w : Words) → Modest w (l .bytes) → Enough w o notes → value (measured w (digest o notes)) ≤ mostTold
+    digest-value : (w : Words) → Modest w (l .bytes) → Enough w o notes → answerCoded (measured w (digest o notes)) .value ≤ mostTold
     digest-value (upTo more) m e =
         let d = digest-most o notes least most (omega (arith, short, sound .short)) cleared (long-fewer more mostWords o 0 (pieces o notes) m e) in
         omega (arith, d, short, sound .short)
     digest-value (lent lends need) m e = told-value (leb (length (digest o notes)) mostTold) (digest o notes) refl
 
   module _ (block notes : List ℕ) where
-    pub measured-value : value (measuring l block notes) ≤ mostTold
-    unfolding measuring meant
+    pub measured-value : answerCoded (measuring l block notes) .value ≤ mostTold
+    unfolding measuring finding meant
     measured-value = go (readBlock block) refl
       where
-        go : (b : Block) → readBlock block ≡ b → value (withBlock l (measured (l .words)) block notes b) ≤ mostTold
+        go : (b : Block) → readBlock block ≡ b → answerCoded (answering (measured (l .words)) (withBlock l block notes b)) .value ≤ mostTold
         go (Fault place) e = omega (arith, fault-small block place e)
         go (Accepted o) e =
             let k = accepted block o e in
             notes-value (meant block o) notes (measured (l .words)) (λ short enough. digest-value (meant block o) notes (k .tabLeast) (k .tabMost) short (k .splitClears) (l .words) (sound .modest) enough)
 
     -- so is what is refused before there is a digest
-    pub found-value : (a : Answer) → finding l block notes ≡ a → 1 ≤ code a → value a ≤ mostTold
-    found-value a e h = rw (what-is-refused-is-measured-so l block notes (rw e h), e) at measured-value
+    pub found-value : (r : Refusal) → finding l block notes ≡ stopped r → refusalCoded r .value ≤ mostTold
+    found-value r e = rw (what-is-refused-is-measured-so l block notes r e) at measured-value
 
     -- and a digest that is found is told as it is measured
-    pub found-told : (digest : List ℕ) → finding l block notes ≡ done digest → value (measured (l .words) digest) ≤ mostTold
+    pub found-told : (digest : List ℕ) → finding l block notes ≡ found digest → answerCoded (measured (l .words) digest) .value ≤ mostTold
     found-told digest e = rw (what-is-found-is-measured l block notes digest e) at measured-value
 
     -- ---- writing
 
-    pub written-value : (space : ℕ) → value (writing l block notes space) ≤ mostTold
+    pub written-value : (space : ℕ) → answerCoded (writing l block notes space) .value ≤ mostTold
     unfolding writing
     written-value space = rw in-room-value measured-value
 
 -- ---- reading the number
 
-code-most : (a : Answer) → code a ≤ 12
+pub refusal-most : (r : Refusal) → refusalCoded r .code ≤ 12
+refusal-most (Faulty place) = omega arith
+refusal-most Long = omega arith
+refusal-most (Damaged place) = omega arith
+refusal-most (Many place) = omega arith
+refusal-most (Work needed) = omega arith
+
+code-most : (a : Answer) → answerCoded a .code ≤ 12
 code-most (done digest) = omega arith
-code-most (options place) = omega arith
-code-most long = omega arith
-code-most (text place) = omega arith
-code-most (words place) = omega arith
+code-most (refused r) = refusal-most r
 code-most (room needed) = omega arith
-code-most (work needed) = omega arith
 
 -- what has no more than 32 bits can be read back from a number, and the code above it: so from every call's
-pub reads-back : (c v : ℕ) → v ≤ mostTold → ((c * 2 ^ 32 + v) / 2 ^ 32 ≡ c) × ((c * 2 ^ 32 + v) % 2 ^ 32 ≡ v)
-reads-back c v h = (omega arith, omega arith)
+pub reads-back : (a : Coded) → a .value ≤ mostTold → (numbered a / 2 ^ 32 ≡ a .code) × (numbered a % 2 ^ 32 ≡ a .value)
+unfolding numbered
+reads-back a h = (omega arith, omega arith)
 
 -- Code and value can be read back from writing's number and from measuring's, whatever the block, the notes and the room ..
 pub writing-tells-code-and-value : (l : Limits) → Sound l → (block notes : List ℕ) (space : ℕ)
-    → (numbered (writing l block notes space) / 2 ^ 32 ≡ code (writing l block notes space)) × (numbered (writing l block notes space) % 2 ^ 32 ≡ value (writing l block notes space))
-unfolding numbered
-writing-tells-code-and-value l sound block notes space = reads-back (code (writing l block notes space)) (value (writing l block notes space)) (written-value l sound block notes space)
+    → (numbered (answerCoded (writing l block notes space)) / 2 ^ 32 ≡ answerCoded (writing l block notes space) .code) × (numbered (answerCoded (writing l block notes space)) % 2 ^ 32 ≡ answerCoded (writing l block notes space) .value)
+writing-tells-code-and-value l sound block notes space = reads-back (answerCoded (writing l block notes space)) (written-value l sound block notes space)
 
 pub measuring-tells-code-and-value : (l : Limits) → Sound l → (block notes : List ℕ)
-    → (numbered (measuring l block notes) / 2 ^ 32 ≡ code (measuring l block notes)) × (numbered (measuring l block notes) % 2 ^ 32 ≡ value (measuring l block notes))
-unfolding numbered
-measuring-tells-code-and-value l sound block notes = reads-back (code (measuring l block notes)) (value (measuring l block notes)) (measured-value l sound block notes)
+    → (numbered (answerCoded (measuring l block notes)) / 2 ^ 32 ≡ answerCoded (measuring l block notes) .code) × (numbered (answerCoded (measuring l block notes)) % 2 ^ 32 ≡ answerCoded (measuring l block notes) .value)
+measuring-tells-code-and-value l sound block notes = reads-back (answerCoded (measuring l block notes)) (measured-value l sound block notes)
 
 -- .. and so from that of the call that RULES 2.2 has.
 pub the-answer-tells-code-and-value : (block notes : List ℕ) (space : ℕ)
-    → (numbered (answer ownRoom block notes space) / 2 ^ 32 ≡ code (answer ownRoom block notes space)) × (numbered (answer ownRoom block notes space) % 2 ^ 32 ≡ value (answer ownRoom block notes space))
+    → (numbered (answerCoded (answer ownRoom block notes space)) / 2 ^ 32 ≡ answerCoded (answer ownRoom block notes space) .code) × (numbered (answerCoded (answer ownRoom block notes space)) % 2 ^ 32 ≡ answerCoded (answer ownRoom block notes space) .value)
 the-answer-tells-code-and-value block notes space = rw (← together-they-do-what-the-old-call-did mostBytes mostWords block notes space) (writing-tells-code-and-value ownRoom ownRoom-sound block notes space)
 
 -- ---- the code's number
 
-pub told-number : (a : Answer) → replyNumber (told a) ≡ numbered a
-unfolding numbered
-told-number (done digest) = omega arith
-told-number (options place) = omega arith
-told-number long = omega arith
-told-number (text place) = omega arith
-told-number (words place) = omega arith
-told-number (room needed) = omega arith
-told-number (work needed) = omega arith
+pub told-coded : (a : Answer) → replyCoded (told a) ≡ answerCoded a
+told-coded (done digest) = refl
+told-coded (refused r) = refl
+told-coded (room needed) = refl
 
-small-fits : (a : Answer) → value a ≤ mostTold → replyNumber (told a) < 2 ^ 64
+small-fits : (a : Answer) → answerCoded a .value ≤ mostTold → numbered (replyCoded (told a)) < 2 ^ 64
 unfolding numbered
-small-fits a v = let c = code-most a in rw told-number (omega arith)
+small-fits a v = let c = code-most a in rw told-coded (omega arith)
 
-pub measured-fits : (l : Limits) → Sound l → (block notes : List ℕ) → replyNumber (told (measuring l block notes)) < 2 ^ 64
+pub measured-fits : (l : Limits) → Sound l → (block notes : List ℕ) → numbered (replyCoded (told (measuring l block notes))) < 2 ^ 64
 measured-fits l sound block notes = small-fits (measuring l block notes) (measured-value l sound block notes)
 
-pub written-fits : (l : Limits) → Sound l → (block notes : List ℕ) (space : ℕ) → replyNumber (told (writing l block notes space)) < 2 ^ 64
+pub written-fits : (l : Limits) → Sound l → (block notes : List ℕ) (space : ℕ) → numbered (replyCoded (told (writing l block notes space))) < 2 ^ 64
 written-fits l sound block notes space = small-fits (writing l block notes space) (written-value l sound block notes space)

@@ -13,7 +13,9 @@ use Rattle.options.specs.declared.Block.{Block}
 use Rattle.options.specs.declared.Block.the-variants.{Accepted, Fault}
 use Rattle.pieces.specs.Pieces.{pieces}
 use Rattle.walk.specs.Digest.{mostWords, digest, longParagraph}
-use Rattle.formatter.specs.Answers.{Answer, done, options, long, text, words, room, work}
+use Rattle.formatter.specs.Answers.{Answer, done, refused, room}
+use Rattle.formatter.specs.declared.Refusal.{Refusal}
+use Rattle.formatter.specs.declared.Refusal.the-variants.{Options as Faulty, Long, Text, Words as Many, Work}
 
 -- ---- the limits
 
@@ -37,46 +39,55 @@ mostBytes = 65536
 abbrev pub ownRoom : Limits
 ownRoom = limited mostBytes mostWords
 
--- ---- the answers: the lowest number wins. `then` is what is answered with the digest, where nothing before it is refused
+-- ---- what is found: the digest, or why there is none. The lowest number wins
 
-abbrev pub withWords : (List ℕ → Answer) → Opts → List ℕ → Found → Answer
-withWords then o notes (At place) = words place
-withWords then o notes Nowhere = then (digest o notes)
+pub data Finding : Type 0 where
+  found : List ℕ → Finding
+  stopped : Refusal → Finding
 
-abbrev pub withWork : (List ℕ → Answer) → Opts → List ℕ → ℕ → ℕ → Answer
-withWork then o notes lends needed = elim (ltb lends needed) [ true ↦ work needed | false ↦ then (digest o notes) ]
+abbrev pub withWords : Opts → List ℕ → Found → Finding
+withWords o notes (At place) = stopped (Many place)
+withWords o notes Nowhere = found (digest o notes)
 
-abbrev pub within : Words → (List ℕ → Answer) → Opts → List ℕ → Answer
-within (upTo most) then o notes = withWords then o notes (longParagraph most o 0 (pieces o notes))
-within (lent lends need) then o notes = withWork then o notes lends (need o notes)
+abbrev pub withWork : Opts → List ℕ → ℕ → ℕ → Finding
+withWork o notes lends needed = elim (ltb lends needed) [ true ↦ stopped (Work needed) | false ↦ found (digest o notes) ]
 
-abbrev pub withText : Words → (List ℕ → Answer) → Opts → List ℕ → Found → Answer
-withText w then o notes (At place) = text place
-withText w then o notes Nowhere = within w then o notes
+abbrev pub within : Words → Opts → List ℕ → Finding
+within (upTo most) o notes = withWords o notes (longParagraph most o 0 (pieces o notes))
+within (lent lends need) o notes = withWork o notes lends (need o notes)
+
+abbrev pub withText : Words → Opts → List ℕ → Found → Finding
+withText w o notes (At place) = stopped (Text place)
+withText w o notes Nowhere = within w o notes
 
 -- keep on: damaged lines are plain lines
 abbrev pub damageIn : Bool → List ℕ → Found
 damageIn keep notes = elim keep [ true ↦ Nowhere | false ↦ damage notes ]
 
-abbrev pub withNotes : Limits → (List ℕ → Answer) → Opts → List ℕ → Answer
-withNotes l then o notes = elim (ltb (l .bytes) (length notes)) [ true ↦ long | false ↦ withText (l .words) then o notes (damageIn (o .keep) notes) ]
+abbrev pub withNotes : Limits → Opts → List ℕ → Finding
+withNotes l o notes = elim (ltb (l .bytes) (length notes)) [ true ↦ stopped Long | false ↦ withText (l .words) o notes (damageIn (o .keep) notes) ]
 
-abbrev pub withBlock : Limits → (List ℕ → Answer) → List ℕ → List ℕ → Block → Answer
-withBlock l then block notes (Fault place) = options place
-withBlock l then block notes (Accepted o) = withNotes l then (meant block o) notes
+abbrev pub withBlock : Limits → List ℕ → List ℕ → Block → Finding
+withBlock l block notes (Fault place) = stopped (Faulty place)
+withBlock l block notes (Accepted o) = withNotes l (meant block o) notes
+
+unfoldable pub finding : Limits → List ℕ → List ℕ → Finding
+finding l block notes = withBlock l block notes (readBlock block)
+
+-- ---- the answers: `then` is what is answered with the digest
+
+abbrev pub answering : (List ℕ → Answer) → Finding → Answer
+answering then (found digest) = then digest
+answering then (stopped r) = refused r
 
 -- the answer to the call with an output slice of so many bytes
 abbrev pub withDigest : ℕ → List ℕ → Answer
 withDigest space bytes = cond (leb (length bytes) space) (done bytes) (room (length bytes))
 
 unfoldable pub answer : Limits → List ℕ → List ℕ → ℕ → Answer
-answer l block notes space = withBlock l (withDigest space) block notes (readBlock block)
+answer l block notes space = answering (withDigest space) (finding l block notes)
 
 -- ---- RULES 11: room asked first, then written
-
--- what is found in the notes, whatever is to become of it: the digest, or what is refused before it
-unfoldable pub finding : Limits → List ℕ → List ℕ → Answer
-finding l block notes = withBlock l done block notes (readBlock block)
 
 -- N has 32 bits. With no more words to a paragraph than RULES 2.2 has no digest is longer (proofs/Values, `digest-most`); with more, one that
 -- is longer is refused for want of room
@@ -92,17 +103,13 @@ measured w digest = cond (isTold w (length digest)) (done digest) (room mostTold
 
 -- what measuring answers, with no output slice: the digest is done, and its length is N
 unfoldable pub measuring : Limits → List ℕ → List ℕ → Answer
-measuring l block notes = withBlock l (measured (l .words)) block notes (readBlock block)
+measuring l block notes = answering (measured (l .words)) (finding l block notes)
 
 -- what writing answers, from that and the room
 abbrev pub inRoom : ℕ → Answer → Answer
 inRoom space (done digest) = withDigest space digest
-inRoom space (options place) = options place
-inRoom space long = long
-inRoom space (text place) = text place
-inRoom space (words place) = words place
+inRoom space (refused r) = refused r
 inRoom space (room needed) = room needed
-inRoom space (work needed) = work needed
 
 unfoldable pub writing : Limits → List ℕ → List ℕ → ℕ → Answer
 writing l block notes space = inRoom space (measuring l block notes)

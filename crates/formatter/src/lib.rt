@@ -12,26 +12,31 @@ ghost use Rattle.lines.specs.Contracts.Places.{mostLarge};
 ghost use Rattle.walk.specs.Digest.{digest};
 ghost use Rattle.walk.specs.Work.{workFor};
 ghost use Rattle.walk.specs.Contracts.Course.{Admitted};
-ghost use Rattle.formatter.specs.Answers.{done};
+ghost use Rattle.lists.specs.Coded.{numbered};
+ghost use Rattle.formatter.specs.Answers.{done, refusalCoded};
 ghost use Rattle.formatter.specs.Format.{Words, ownRoom, damageIn, withDigest, measured, measuring, inRoom, writing};
 ghost use Rattle.formatter.specs.Work.{lending};
-ghost use Rattle.formatter.specs.Contracts.Call.{told, replyNumber, Answers, leftOf, AdmitsNotes, Admits, AdmitsWithin, AdmitsWork, AdmitsLent};
+ghost use Rattle.formatter.specs.Contracts.Call.{told, replyCoded, Answers, leftOf, AdmitsNotes, Admits, AdmitsWithin, AdmitsWork, AdmitsLent};
 
-// What measuring and writing reply: the digest's length, or a refusal with what is told of it. (Measuring has no `Room`, and where no working
-// room is lent there is no `Work`.)
-pub enum Reply {
-    Done(usize),
+// Why there is no digest, with what is told of it: `Words` with the calls' own room, `Work` where room is lent.
+pub enum Refusal {
     Options(usize),
     Long,
     Text(usize),
     Words(usize),
-    Room(usize),
     Work(usize),
+}
+
+// What measuring and writing reply: the digest's length, why there is none, or the room that it needs.
+pub enum Reply {
+    Done(usize),
+    Refused(Refusal),
+    Room(usize),
 }
 
 // What comes before the work: a refusal, or the options of an accepted block.
 pub enum Admission {
-    Refused(Reply),
+    Refused(Refusal),
     Passed(Options),
 }
 
@@ -40,17 +45,27 @@ const UPPER: u64 = 4294967296;
 
 // The answer's number.
 pub fn number_of(a: Reply) -> u64
-    requires { ⌜ replyNumber a < 2 ^ 64 ⌝ }
-    ensures { λ r. ⌜ r ≡ replyNumber a ⌝ }
+    requires { ⌜ numbered (replyCoded a) < 2 ^ 64 ⌝ }
+    ensures { λ r. ⌜ r ≡ numbered (replyCoded a) ⌝ }
 {
     match a {
         Reply::Done(n) => n as u64,
-        Reply::Options(place) => 1 * UPPER + place as u64,
-        Reply::Long => 2 * UPPER,
-        Reply::Text(place) => 3 * UPPER + place as u64,
-        Reply::Words(place) => 4 * UPPER + place as u64,
+        Reply::Refused(r) => refusal_number(r),
         Reply::Room(needed) => 5 * UPPER + needed as u64,
-        Reply::Work(needed) => 12 * UPPER + needed as u64,
+    }
+}
+
+// A refusal's number.
+pub fn refusal_number(r: Refusal) -> u64
+    requires { ⌜ numbered (refusalCoded r) < 2 ^ 64 ⌝ }
+    ensures { λ n. ⌜ n ≡ numbered (refusalCoded r) ⌝ }
+{
+    match r {
+        Refusal::Options(place) => 1 * UPPER + place as u64,
+        Refusal::Long => 2 * UPPER,
+        Refusal::Text(place) => 3 * UPPER + place as u64,
+        Refusal::Words(place) => 4 * UPPER + place as u64,
+        Refusal::Work(needed) => 12 * UPPER + needed as u64,
     }
 }
 
@@ -59,7 +74,7 @@ pub fn measure(block: &[u8], notes: &[u8]) -> Reply
     ensures { λ r. ⌜ r ≡ told (measuring ownRoom (now (block .entry)) (now (notes .entry))) ⌝ }
 {
     match admit(block, notes) {
-        Admission::Refused(r) => r,
+        Admission::Refused(r) => Reply::Refused(r),
         Admission::Passed(o) => measure_notes(o, block, notes),
     }
 }
@@ -69,7 +84,7 @@ pub fn write(block: &[u8], notes: &[u8], out: &mut [u8]) -> Reply
     ensures { λ r. ⌜ Answers (writing ownRoom (now (block .entry)) (now (notes .entry)) (length (now (out .entry)))) (now (out .entry)) r (now (out .exit)) ⌝ }
 {
     match admit(block, notes) {
-        Admission::Refused(r) => r,
+        Admission::Refused(r) => Reply::Refused(r),
         Admission::Passed(o) => write_notes(o, block, notes, out),
     }
 }
@@ -92,7 +107,7 @@ pub fn admit_within(block: &[u8], notes: &[u8], most: usize) -> Admission
     ensures { λ r. ⌜ AdmitsWithin most (now (block .entry)) (now (notes .entry)) r ⌝ }
 {
     match options::read_block(block) {
-        Block::Fault(place) => Admission::Refused(Reply::Options(place)),
+        Block::Fault(place) => Admission::Refused(Refusal::Options(place)),
         Block::Accepted(o) => admit_notes(o, notes, most),
     }
 }
@@ -102,10 +117,10 @@ fn admit_notes(o: Options, notes: &[u8], most: usize) -> Admission
     ensures { λ r. ⌜ ((w : Words) (block : List ℕ) → AdmitsNotes (record { bytes = most; words = w }) block o (now (notes .entry)) r) ⌝ }
 {
     if most < notes.len() {
-        return Admission::Refused(Reply::Long);
+        return Admission::Refused(Refusal::Long);
     }
     match damage_in(o.keep, notes) {
-        Found::At(place) => Admission::Refused(Reply::Text(place)),
+        Found::At(place) => Admission::Refused(Refusal::Text(place)),
         Found::Nowhere => Admission::Passed(o),
     }
 }
@@ -126,7 +141,7 @@ fn measure_notes(o: Options, block: &[u8], notes: &[u8]) -> Reply
     ensures { λ r. ⌜ r ≡ told (leftOf ownRoom (meant (now (block .entry)) o) (now (notes .entry)) done) ⌝ }
 {
     match walk::measure_all(o, block, notes) {
-        Ended::Stopped(place) => Reply::Words(place),
+        Ended::Stopped(place) => Reply::Refused(Refusal::Words(place)),
         Ended::All(needed) => Reply::Done(needed),
     }
 }
@@ -137,7 +152,7 @@ fn write_notes(o: Options, block: &[u8], notes: &[u8], out: &mut [u8]) -> Reply
     ensures { λ r. ⌜ Answers (leftOf ownRoom (meant (now (block .entry)) o) (now (notes .entry)) (withDigest (length (now (out .entry))))) (now (out .entry)) r (now (out .exit)) ⌝ }
 {
     match walk::put_all(o, block, notes, out) {
-        Ended::Stopped(place) => Reply::Words(place),
+        Ended::Stopped(place) => Reply::Refused(Refusal::Words(place)),
         Ended::All(needed) => {
             if needed <= out.len() {
                 return Reply::Done(needed);
@@ -158,7 +173,7 @@ pub fn measure_lent(block: &[u8], notes: &[u8], work: &mut [u32]) -> Reply
     ensures { λ r. ⌜ r ≡ told (measuring (lending (length (now (work .entry)))) (now (block .entry)) (now (notes .entry))) ⌝ }
 {
     match admit_lent(block, notes, work.len()) {
-        Admission::Refused(r) => r,
+        Admission::Refused(r) => Reply::Refused(r),
         Admission::Passed(o) => measure_large(o, block, notes, work),
     }
 }
@@ -168,7 +183,7 @@ pub fn write_lent(block: &[u8], notes: &[u8], out: &mut [u8], work: &mut [u32]) 
     ensures { λ r. ⌜ Answers (writing (lending (length (now (work .entry)))) (now (block .entry)) (now (notes .entry)) (length (now (out .entry)))) (now (out .entry)) r (now (out .exit)) ⌝ }
 {
     match admit_lent(block, notes, work.len()) {
-        Admission::Refused(r) => r,
+        Admission::Refused(r) => Reply::Refused(r),
         Admission::Passed(o) => write_large(o, block, notes, out, work),
     }
 }
@@ -190,7 +205,7 @@ fn admit_work(o: Options, block: &[u8], notes: &[u8], lends: usize) -> Admission
 {
     let needed = walk::work_over(o, block, notes, lends);
     if lends < needed {
-        return Admission::Refused(Reply::Work(needed));
+        return Admission::Refused(Refusal::Work(needed));
     }
     Admission::Passed(o)
 }

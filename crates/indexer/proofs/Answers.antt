@@ -17,7 +17,8 @@ use Rattle.lines.specs.Contracts.Places.{mostLarge}
 use Rattle.pieces.specs.Pieces.{pieces}
 use Rattle.output.proofs.Sink.{written-fits, wrote-length}
 use Rattle.walk.specs.Digest.{mostWords, digest, longParagraph}
-use Rattle.formatter.specs.Answers.{Answer, done as measured, options as faulty, long as tooLong, text as damaged, words as manyWords, room as noRoom, work as noWork, code as codeOf, outputAfter as outputLeft}
+use Rattle.formatter.specs.declared.Refusal.{Refusal}
+use Rattle.formatter.specs.declared.Refusal.the-variants.{Words, Work}
 use Rattle.walk.specs.Contracts.Course.{Admitted}
 use Rattle.walk.specs.Work.{workFor}
 use Rattle.walk.proofs.Loop.{all-long}
@@ -25,22 +26,19 @@ use Rattle.walk.proofs.Lent.{enough}
 use Rattle.walk.proofs.Work.{work-most}
 use Rattle.walk.proofs.Steps.{ready-kept}
 use Rattle.paragraphs.specs.Contracts.Steps.{roomFor}
-use Rattle.formatter.specs.Format.{Limits, mostBytes, ownRoom, withWords, withBlock, finding, mostTold}
-use Rattle.formatter.specs.Contracts.Call.{Admits, told as replied}
-use Rattle.formatter.specs.declared.Reply.{Reply}
-use Rattle.formatter.specs.declared.Admission.the-variants.{Refused, Passed}
-use Rattle.formatter.proofs.Refusals.{a-refusal-is-no-digest}
+use Rattle.formatter.specs.Format.{Limits, mostBytes, ownRoom, Finding, found, stopped, withWords, withBlock, finding, mostTold}
+use Rattle.formatter.specs.Contracts.Call.{Admits}
+use Rattle.formatter.specs.declared.Admission.the-variants.{Refused as Barred, Passed}
 use Rattle.formatter.proofs.Values.{digest-most}
 use Rattle.marks.specs.Contracts.Marks.{marksIn}
-use Rattle.index.specs.declared.Record.{Record}
 use Rattle.index.specs.Contracts.Lists.{noRecord}
 use Rattle.index.specs.Contracts.Reading.{front, readFrom}
 use Rattle.indexer.specs.Index.{indexOf}
-use Rattle.indexer.specs.Answers.{done, full, room, work, outputAfter}
+use Rattle.indexer.specs.Answers.{done, refused, full, room, indexOutputAfter}
 use Rattle.indexer.specs.Indexing.{withIndex, inIndex, marksFor, indexWork, indexLending, indexUnder, indexing}
 use Rattle.indexer.specs.declared.Filled.{Filled}
-use Rattle.indexer.specs.Contracts.Noting.{Noted, Indexes, refusedAs, leftOf, numbering, foundOf}
-use Rattle.indexer.specs.declared.Filled.the-variants.{Done, Words, Full, Room, Work}
+use Rattle.indexer.specs.Contracts.Noting.{Noted, Indexes, leftOf, numbering, foundOf}
+use Rattle.indexer.specs.declared.Filled.the-variants.{Done, Refused, Full, Room}
 use Rattle.indexer.specs.declared.Pieces.{Pieces}
 use Rattle.indexer.specs.declared.Pieces.the-variants.{All}
 
@@ -48,8 +46,8 @@ use Rattle.indexer.specs.declared.Pieces.the-variants.{All}
 
 module _ (most : ℕ) (o : Opts) (notes out : List ℕ) where
   pub words-answer : (records place size : ℕ) (out″ work′ : List ℕ) → longParagraph most o 0 (pieces o notes) ≡ At place → size ≡ length out → out″ ≡ replicate size 0
-      → Indexes (foundOf most o notes (length out) records) out (Words place) out″ work′
-  unfolding outputAfter readFrom
+      → Indexes (foundOf most o notes (length out) records) out (Refused (Words place)) out″ work′
+  unfolding indexOutputAfter readFrom
   words-answer records place size out″ work′ e l z = record { is = rw e; output = rw e (z ∙ ap (λ (k : ℕ). replicate k 0) l); read = rw e }
 
   module _ (out′ work′ : List ℕ) where
@@ -70,14 +68,14 @@ module _ (most : ℕ) (o : Opts) (notes out : List ℕ) where
       left-is = rw (noted .0)
 
       pub full-answer : (out″ : List ℕ) → records < k → out″ ≡ replicate (length out′) 0 → Indexes (foundOf most o notes (length out) records) out (Full k) out″ work′
-      unfolding outputAfter readFrom
+      unfolding indexOutputAfter readFrom
       full-answer out″ h z =
           let a : foundOf most o notes (length out) records ≡ full (length (indexOf o notes)) = left-is ∙ rw (lt-leb (length (indexOf o notes)) records (omega (arith, h, count-is))) in
           record { is = rw (a, count-is); output = rw a (z ∙ ap (λ (m : ℕ). replicate m 0) same-out); read = rw a }
 
       -- the digest's length is more than N can tell
       pub untold-answer : (out″ : List ℕ) → k ≤ records → mostTold < n → out″ ≡ replicate (length out′) 0 → Indexes (foundOf most o notes (length out) records) out (Room mostTold) out″ work′
-      unfolding outputAfter readFrom
+      unfolding indexOutputAfter readFrom
       untold-answer out″ h g z =
           let a : foundOf most o notes (length out) records ≡ room mostTold =
           left-is ∙ rw (le-leb (length (indexOf o notes)) records (omega (arith, h, count-is)), lt-leb (length (digest o notes)) mostTold (omega (arith, g, length-is))) in
@@ -88,13 +86,13 @@ module _ (most : ℕ) (o : Opts) (notes out : List ℕ) where
         told-is = left-is ∙ rw (le-leb (length (indexOf o notes)) records (omega (arith, few, count-is)), le-leb (length (digest o notes)) mostTold (omega (arith, short, length-is)))
 
         pub room-answer : (out″ : List ℕ) → length out < n → out″ ≡ replicate (length out′) 0 → Indexes (foundOf most o notes (length out) records) out (Room n) out″ work′
-        unfolding outputAfter readFrom
+        unfolding indexOutputAfter readFrom
         room-answer out″ g z =
             let a : foundOf most o notes (length out) records ≡ room (length (digest o notes)) = told-is ∙ rw (lt-leb (length (digest o notes)) (length out) (omega (arith, g, length-is))) in
             record { is = rw (a, length-is); output = rw a (z ∙ ap (λ (m : ℕ). replicate m 0) same-out); read = rw a }
 
         pub done-answer : n ≤ length out → Indexes (foundOf most o notes (length out) records) out (Done n k) out′ work′
-        unfolding outputAfter
+        unfolding indexOutputAfter
         done-answer g =
             let a : foundOf most o notes (length out) records ≡ done (digest o notes) (indexOf o notes) = told-is ∙ rw (le-leb (length (digest o notes)) (length out) (omega (arith, g, length-is))) in
             record {
@@ -118,7 +116,7 @@ module _ (block notes : List ℕ) (o : Options) (ready : Admitted block notes o)
   found-ownRoom = go (longParagraph mostWords (meant block o) 0 (pieces (meant block o) notes)) refl
     where
       go : (f : Found) → longParagraph mostWords (meant block o) 0 (pieces (meant block o) notes) ≡ f
-          → inIndex numbering space records (indexOf (meant block o) notes) (withWords measured (meant block o) notes f) ≡ inIndex (ownRoom .words) space records (indexOf (meant block o) notes) (withWords measured (meant block o) notes f)
+          → inIndex numbering space records (indexOf (meant block o) notes) (withWords (meant block o) notes f) ≡ inIndex (ownRoom .words) space records (indexOf (meant block o) notes) (withWords (meant block o) notes f)
       go (At place) e = refl
       go Nowhere e = rw (le-leb (length (digest (meant block o) notes)) mostTold (digest-told e))
 
@@ -126,14 +124,14 @@ module _ (block notes : List ℕ) (o : Options) (ready : Admitted block notes o)
 module _ (o : Opts) (notes : List ℕ) (space records lends : ℕ) where
   pub found-lent : (most : ℕ) → longParagraph most o 0 (pieces o notes) ≡ Nowhere → indexWork o notes ≤ lends → foundOf most o notes space records ≡ leftOf (indexLending lends) o notes space records
   found-lent most e h =
-      ap (λ (f : Found). inIndex numbering space records (indexOf o notes) (withWords measured o notes f)) e
-      ∙ ap (λ (b : Bool). inIndex (indexLending lends .words) space records (indexOf o notes) (elim b as (λ t. Answer) [ true ↦ noWork (indexWork o notes) | false ↦ measured (digest o notes) ])) (sym (le-ltb lends (indexWork o notes) h))
+      ap (λ (f : Found). inIndex numbering space records (indexOf o notes) (withWords o notes f)) e
+      ∙ ap (λ (b : Bool). inIndex (indexLending lends .words) space records (indexOf o notes) (elim b as (λ t. Finding) [ true ↦ stopped (Work (indexWork o notes)) | false ↦ found (digest o notes) ])) (sym (le-ltb lends (indexWork o notes) h))
 
-  pub work-answer : (out table : List ℕ) (needed : ℕ) → needed ≡ indexWork o notes → lends < needed → Indexes (leftOf (indexLending lends) o notes space records) out (Work needed) out table
-  unfolding outputAfter readFrom
+  pub work-answer : (out table : List ℕ) (needed : ℕ) → needed ≡ indexWork o notes → lends < needed → Indexes (leftOf (indexLending lends) o notes space records) out (Refused (Work needed)) out table
+  unfolding indexOutputAfter readFrom
   work-answer out table needed e h =
-      let a : leftOf (indexLending lends) o notes space records ≡ work needed =
-      ap (λ (b : Bool). inIndex (indexLending lends .words) space records (indexOf o notes) (elim b as (λ t. Answer) [ true ↦ noWork (indexWork o notes) | false ↦ measured (digest o notes) ])) (lt-ltb lends (indexWork o notes) (omega (arith, e, h))) ∙ ap work (sym e) in
+      let a : leftOf (indexLending lends) o notes space records ≡ refused (Work needed) =
+      ap (λ (b : Bool). inIndex (indexLending lends .words) space records (indexOf o notes) (elim b as (λ t. Finding) [ true ↦ stopped (Work (indexWork o notes)) | false ↦ found (digest o notes) ])) (lt-ltb lends (indexWork o notes) (omega (arith, e, h))) ∙ ap (λ (k : ℕ). refused (Work k)) (sym e) in
       record { is = rw a; output = rw a; read = rw a }
 
 -- ---- the rooms
@@ -161,7 +159,7 @@ lent-fits o notes is need h = let w = work-most o notes in omega (arith, is, nee
 
 -- what is lent: so many numbers are for marks, and what is left of it is for words
 module _ (o : Opts) (notes : List ℕ) (space records lends marks n : ℕ) (is : marks ≡ marksFor (length notes)) where
-  pub lent-refused : (out table : List ℕ) → n ≡ workFor o notes → lends < marks + n → Indexes (leftOf (indexLending lends) o notes space records) out (Work (marks + n)) out table
+  pub lent-refused : (out table : List ℕ) → n ≡ workFor o notes → lends < marks + n → Indexes (leftOf (indexLending lends) o notes space records) out (Refused (Work (marks + n))) out table
   unfolding indexWork
   lent-refused out table need h = work-answer o notes space records lends out table (marks + n) (omega (arith, is, need)) h
 
@@ -177,25 +175,11 @@ module _ (l : Limits) (block notes : List ℕ) where
   pub indexing-left : (o : Options) (space records : ℕ) → Admits l block notes (Passed o) → indexing l block notes space records ≡ leftOf l (meant block o) notes space records
   unfolding indexing finding
   indexing-left o space records s =
-      ap (λ (b : Block). inIndex (l .words) space records (indexUnder block notes b) (withBlock l measured block notes (readBlock block))) (s .0 .accepted)
-      ∙ ap (inIndex (l .words) space records (indexOf (meant block o) notes)) (s .1 measured)
+      ap (λ (b : Block). inIndex (l .words) space records (indexUnder block notes b) (withBlock l block notes (readBlock block))) (s .0 .accepted)
+      ∙ ap (inIndex (l .words) space records (indexOf (meant block o) notes)) (s .1)
 
-  -- what is left of a refusal that is told before any piece is looked at
-  refusal-answer : (space records : ℕ) (rs : List Record) (out table : List ℕ) (a : Answer) → (codeOf a ≡ 0 → ⊥) → ((xs : List ℕ) → outputLeft a xs ≡ xs)
-      → Indexes (inIndex (l .words) space records rs a) out (refusedAs (replied a)) out table
-  unfolding outputAfter readFrom outputLeft
-  refusal-answer space records rs out table (measured d) n u = absurd (n refl)
-  refusal-answer space records rs out table (faulty place) n u = record { is = refl; output = refl; read = refl }
-  refusal-answer space records rs out table tooLong n u = record { is = refl; output = refl; read = refl }
-  refusal-answer space records rs out table (damaged place) n u = record { is = refl; output = refl; read = refl }
-  refusal-answer space records rs out table (manyWords place) n u = record { is = refl; output = sym (u out); read = refl }
-  refusal-answer space records rs out table (noRoom needed) n u = record { is = refl; output = sym (u out); read = refl }
-  refusal-answer space records rs out table (noWork needed) n u = record { is = refl; output = refl; read = refl }
-
-  pub refused-answer : (q : Reply) (space records : ℕ) (out table : List ℕ) → Admits l block notes (Refused q) → Indexes (indexing l block notes space records) out (refusedAs q) out table
-  unfolding indexing finding
-  refused-answer q space records out table s =
-      let some = a-refusal-is-no-digest l block notes s in
-      subst (λ (a : Answer). Indexes (inIndex (l .words) space records (indexUnder block notes (readBlock block)) a) out (refusedAs q) out table) (sym (s .whole-is measured))
-      (subst (λ (p : Reply). Indexes (inIndex (l .words) space records (indexUnder block notes (readBlock block)) (s .refusal)) out (refusedAs p) out table) (sym (s .is))
-      (refusal-answer space records (indexUnder block notes (readBlock block)) out table (s .refusal) (λ z. omega (arith, some, z)) (s .untouched)))
+  pub refused-answer : (r : Refusal) (space records : ℕ) (out table : List ℕ) → Admits l block notes (Barred r) → Indexes (indexing l block notes space records) out (Refused r) out table
+  unfolding indexing finding indexOutputAfter readFrom
+  refused-answer r space records out table s =
+      subst (λ (f : Finding). Indexes (inIndex (l .words) space records (indexUnder block notes (readBlock block)) f) out (Refused r) out table) (sym (s .whole-is))
+      (record { is = refl; output = sym (s .untouched out); read = refl })

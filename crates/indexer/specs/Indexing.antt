@@ -9,13 +9,12 @@ use Rattle.options.specs.Opts.{Opts, meant}
 use Rattle.options.specs.OptionBlock.{readBlock}
 use Rattle.options.specs.declared.Block.{Block}
 use Rattle.options.specs.declared.Block.the-variants.{Accepted, Fault}
-use Rattle.formatter.specs.Answers.{Answer, done as measured, options as faulty, long as tooLong, text as damaged, words as manyWords, room as noRoom, work as noWork}
 use Rattle.walk.specs.Work.{workFor}
-use Rattle.formatter.specs.Format.{Words, lent, Limits, finding, mostTold, isTold}
+use Rattle.formatter.specs.Format.{Words, lent, Limits, Finding, found, stopped, finding, mostTold, isTold}
 use Rattle.formatter.specs.Work.{mostLent}
 use Rattle.index.specs.declared.Record.{Record}
 use Rattle.indexer.specs.Index.{indexOf}
-use Rattle.indexer.specs.Answers.{Indexed, done, options, long, text, words, full, room, work}
+use Rattle.indexer.specs.Answers.{Indexed, done, refused, full, room}
 
 -- with a digest and its index, an output slice of so many bytes and a list of so many records
 abbrev pub withOutput : Words → ℕ → List Record → List ℕ → Indexed
@@ -24,15 +23,9 @@ withOutput w space index digest = cond (isTold w (length digest)) (cond (leb (le
 abbrev pub withIndex : Words → ℕ → ℕ → List Record → List ℕ → Indexed
 withIndex w space records index digest = cond (leb (length index) records) (withOutput w space index digest) (full (length index))
 
-abbrev pub inIndex : Words → ℕ → ℕ → List Record → Answer → Indexed
-inIndex w space records index (measured digest) = withIndex w space records index digest
-inIndex w space records index (faulty place) = options place
-inIndex w space records index tooLong = long
-inIndex w space records index (damaged place) = text place
-inIndex w space records index (manyWords place) = words place
--- (nothing is found so)
-inIndex w space records index (noRoom needed) = room needed
-inIndex w space records index (noWork needed) = work needed
+abbrev pub inIndex : Words → ℕ → ℕ → List Record → Finding → Indexed
+inIndex w space records index (found digest) = withIndex w space records index digest
+inIndex w space records index (stopped r) = refused r
 
 -- ---- the room that the call needs where it is lent: a number for each 32 marks, of which a byte of the notes may need two; and what the notes
 -- need to be written

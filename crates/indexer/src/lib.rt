@@ -2,7 +2,7 @@
 // written: each piece's length in the notes and its count of output lines, spelled as two gaps between marks. Of the records nothing is
 // stored here: whoever is lent their list reads them from the marks, once it is known that all of them and all of the digest fit.
 use formatter::Admission;
-use formatter::Reply;
+use formatter::Refusal;
 use options::Options;
 use paragraphs::Cursor;
 use paragraphs::Step;
@@ -10,6 +10,7 @@ use pieces::Piece;
 ghost use mathlib.Core.Path.{_≡_};
 ghost use Prim.Native.Nat.{_-_, _^_, _≤_, _<_};
 ghost use lib.ListN.{length};
+ghost use Rattle.lists.specs.Coded.{numbered};
 ghost use Rattle.options.specs.Opts.{meant};
 ghost use Rattle.lines.specs.Lines.{linesOf};
 ghost use Rattle.lines.specs.Contracts.Places.{mostLarge};
@@ -17,7 +18,7 @@ ghost use Rattle.paragraphs.specs.Contracts.Steps.{roomFor};
 ghost use Rattle.walk.specs.Contracts.Course.{Admitted, CursorIn};
 ghost use Rattle.formatter.specs.Format.{mostBytes, ownRoom};
 ghost use Rattle.indexer.specs.Indexing.{marksFor, indexLending, indexing};
-ghost use Rattle.indexer.specs.Contracts.Noting.{PieceStepped, Parted, Spells, Spelt, Noted, Indexes, Marked, refusedAs, leftOf, foundOf, toldNumber, toldFilled};
+ghost use Rattle.indexer.specs.Contracts.Noting.{PieceStepped, Parted, Spells, Spelt, Noted, Indexes, Marked, leftOf, foundOf, filledCoded, toldFilled};
 
 // What the call tells: its answer's number, and how many records the marks tell (none where it is refused).
 pub struct Told {
@@ -25,16 +26,12 @@ pub struct Told {
     pub records: usize,
 }
 
-// What the work comes to: the digest's length and the number of records, or a refusal with what is told of it.
+// What the work comes to: the digest's length and the number of records; why there is no digest; or how many records or bytes it needs.
 enum Filled {
     Done { written: usize, records: usize },
-    Options(usize),
-    Long,
-    Text(usize),
-    Words(usize),
+    Refused(Refusal),
     Full(usize),
     Room(usize),
-    Work(usize),
 }
 
 // What came of the pieces: the digest's length and their number, or the place of the first paragraph that has too many words.
@@ -74,8 +71,8 @@ pub fn write_marked_large(
 
 // What is told, and the count of records as the host gets it.
 fn tell(r: Filled, filled: &mut u64) -> Told
-    requires { ⌜ toldNumber r < 2 ^ 64 ⌝ }
-    ensures { λ t. ⌜ (t .answer ≡ toldNumber r) × (t .records ≡ toldFilled r) × (now (filled .exit) ≡ toldFilled r) ⌝ }
+    requires { ⌜ numbered (filledCoded r) < 2 ^ 64 ⌝ }
+    ensures { λ t. ⌜ (t .answer ≡ numbered (filledCoded r)) × (t .records ≡ toldFilled r) × (now (filled .exit) ≡ toldFilled r) ⌝ }
 {
     let n = records_in(r);
     *filled = n;
@@ -97,7 +94,7 @@ fn write_pieces(
     ensures { λ r. ⌜ Indexes (indexing ownRoom (now (block .entry)) (now (notes .entry)) (length (now (out .entry))) records) (now (out .entry)) r (now (out .exit)) (now (work .exit)) ⌝ }
 {
     match formatter::admit(block, notes) {
-        Admission::Refused(r) => refused(r),
+        Admission::Refused(r) => Filled::Refused(r),
         Admission::Passed(o) => index_notes(o, block, notes, out, records, work),
     }
 }
@@ -113,23 +110,8 @@ fn write_lent(
     ensures { λ r. ⌜ Indexes (indexing (indexLending (length (now (work .entry)))) (now (block .entry)) (now (notes .entry)) (length (now (out .entry))) records) (now (out .entry)) r (now (out .exit)) (now (work .exit)) ⌝ }
 {
     match formatter::admit_within(block, notes, formatter::MOST_LARGE) {
-        Admission::Refused(r) => refused(r),
+        Admission::Refused(r) => Filled::Refused(r),
         Admission::Passed(o) => index_lent(o, block, notes, out, records, work),
-    }
-}
-
-// Refusals that are told before any piece is looked at.
-fn refused(r: Reply) -> Filled
-    ensures { λ f. ⌜ f ≡ refusedAs r ⌝ }
-{
-    match r {
-        Reply::Done(n) => Filled::Room(n),
-        Reply::Options(place) => Filled::Options(place),
-        Reply::Long => Filled::Long,
-        Reply::Text(place) => Filled::Text(place),
-        Reply::Words(place) => Filled::Words(place),
-        Reply::Room(needed) => Filled::Room(needed),
-        Reply::Work(needed) => Filled::Work(needed),
     }
 }
 
@@ -175,12 +157,12 @@ fn index_lent(
 {
     let marks = marks_for(notes.len());
     if work.len() < marks {
-        return Filled::Work(marks + walk::work_over(o, block, notes, 0));
+        return Filled::Refused(Refusal::Work(marks + walk::work_over(o, block, notes, 0)));
     }
     let rest = work.len() - marks;
     let needed = walk::work_over(o, block, notes, rest);
     if rest < needed {
-        return Filled::Work(marks + needed);
+        return Filled::Refused(Refusal::Work(marks + needed));
     }
     let end = work.len();
     index_with(o, block, notes, out, records, work, marks, end)
@@ -207,7 +189,7 @@ fn index_with(
     match note_pieces(o, block, notes, out, work, marks, end) {
         Pieces::Stopped(place) => {
             walk::clear(out);
-            Filled::Words(place)
+            Filled::Refused(Refusal::Words(place))
         }
         Pieces::All { written, pieces } => {
             if records < pieces {
@@ -330,21 +312,17 @@ const UPPER: u64 = 4294967296;
 
 // The reply's number.
 fn number_of(r: Filled) -> u64
-    requires { ⌜ toldNumber r < 2 ^ 64 ⌝ }
-    ensures { λ n. ⌜ n ≡ toldNumber r ⌝ }
+    requires { ⌜ numbered (filledCoded r) < 2 ^ 64 ⌝ }
+    ensures { λ n. ⌜ n ≡ numbered (filledCoded r) ⌝ }
 {
     match r {
         Filled::Done {
             written,
             records: _,
         } => written as u64,
-        Filled::Options(place) => 1 * UPPER + place as u64,
-        Filled::Long => 2 * UPPER,
-        Filled::Text(place) => 3 * UPPER + place as u64,
-        Filled::Words(place) => 4 * UPPER + place as u64,
+        Filled::Refused(r) => formatter::refusal_number(r),
         Filled::Full(pieces) => 6 * UPPER + pieces as u64,
         Filled::Room(needed) => 5 * UPPER + needed as u64,
-        Filled::Work(needed) => 12 * UPPER + needed as u64,
     }
 }
 
@@ -357,12 +335,8 @@ fn records_in(r: Filled) -> u64
             written: _,
             records,
         } => records as u64,
-        Filled::Options(_) => 0,
-        Filled::Long => 0,
-        Filled::Text(_) => 0,
-        Filled::Words(_) => 0,
+        Filled::Refused(_) => 0,
         Filled::Full(_) => 0,
         Filled::Room(_) => 0,
-        Filled::Work(_) => 0,
     }
 }

@@ -18,23 +18,22 @@ use Rattle.pieces.specs.Pieces.{pieces}
 use Rattle.paragraphs.specs.Contracts.Steps.{roomFor}
 use Rattle.walk.specs.Digest.{longParagraph, digest as digestOf}
 use Rattle.walk.specs.Work.{workFor}
-use Rattle.formatter.specs.Answers.{Answer, done, options, long, text, words, room, work, code as codeOf}
-use Rattle.formatter.specs.Format.{Limits, limited, withWords, withBlock, finding}
+use Rattle.formatter.specs.Format.{Limits, limited, Finding, found, stopped, withWords, withBlock, finding}
 use Rattle.formatter.specs.Work.{mostLent, lending}
-use Rattle.formatter.specs.Contracts.Call.{Admits, told}
-use Rattle.formatter.specs.declared.Reply.{Reply}
-use Rattle.formatter.specs.declared.Admission.the-variants.{Refused, Passed}
+use Rattle.formatter.specs.Contracts.Call.{Admits}
+use Rattle.formatter.specs.declared.Refusal.{Refusal}
+use Rattle.formatter.specs.declared.Refusal.the-variants.{Words, Work}
+use Rattle.formatter.specs.declared.Admission.the-variants.{Refused as Barred, Passed}
 use Rattle.formatter.proofs.Lent.{fits, over}
-use Rattle.formatter.proofs.Refusals.{a-refusal-is-no-digest}
 use Rattle.checker.specs.Matching.{Match, on, andThen, matchPieces, verdictOf, verdict}
 use Rattle.checker.specs.Contracts.Places.{matched, MatchedIn}
 use Rattle.checker.specs.declared.Spot.{Spot}
 use Rattle.checker.specs.declared.Matched.{Matched}
 use Rattle.checker.specs.declared.Matched.the-variants.{On, Fault}
-use Rattle.judge.specs.Checking.{withVerdict, withDigest, withNotes, verdictUnder, checking}
-use Rattle.judge.specs.Contracts.Judging.{Walked, begun, toldOf, judgedBy, refusedAs, leftOf}
+use Rattle.judge.specs.Checking.{withVerdict, digestWithin, afterNotes, verdictUnder, checking}
+use Rattle.judge.specs.Contracts.Judging.{Walked, begun, toldOf, judgedBy, leftOf}
 use Rattle.judge.specs.declared.Judgement.{Judgement}
-use Rattle.judge.specs.declared.Judgement.the-variants.{Accepted, Words, LongDigest, Line, Work}
+use Rattle.judge.specs.declared.Judgement.the-variants.{Accepted, Refused, LongDigest, Line}
 use Rattle.judge.specs.declared.Course.{Course}
 use Rattle.judge.specs.declared.Course.the-variants.{Through, Stopped}
 
@@ -79,17 +78,17 @@ told-verdict digest (On p) = go (ltb (p .at) (length digest)) refl
 -- ---- from what the pieces came to
 
 module _ (bytes most : ℕ) (o : Opts) (notes digest : List ℕ) (first : Matched) (r : Course) (w : Walked most o notes digest first r) where
-  stopped : {place : ℕ} → r ≡ Stopped place → longParagraph most o 0 (pieces o notes) ≡ At place
-  stopped {place} e = let f : Walked most o notes digest first (Stopped place) = rw e at w in f
+  stopped-at : {place : ℕ} → r ≡ Stopped place → longParagraph most o 0 (pieces o notes) ≡ At place
+  stopped-at {place} e = let f : Walked most o notes digest first (Stopped place) = rw e at w in f
 
   through : {m : Matched} → r ≡ Through m → Walked most o notes digest first (Through m)
   through e = rw e at w
 
-  through-judged : {m : Matched} → r ≡ Through m → first ≡ begun bytes (length digest) → judgedBy bytes (length digest) m ≡ withDigest bytes (length digest) (verdict o notes digest)
+  through-judged : {m : Matched} → r ≡ Through m → first ≡ begun bytes (length digest) → judgedBy bytes (length digest) m ≡ digestWithin bytes (length digest) (verdict o notes digest)
   unfolding verdict
   through-judged {m} e b = go (ltb bytes (length digest)) refl
     where
-      go : (t : Bool) → ltb bytes (length digest) ≡ t → judgedBy bytes (length digest) m ≡ withDigest bytes (length digest) (verdict o notes digest)
+      go : (t : Bool) → ltb bytes (length digest) ≡ t → judgedBy bytes (length digest) m ≡ digestWithin bytes (length digest) (verdict o notes digest)
       go true t = rw t
       go false t =
           let f : matched digest m ≡ andThen (matched digest first) (matchPieces o (pieces o notes)) = through e .1 .is in
@@ -98,28 +97,28 @@ module _ (bytes most : ℕ) (o : Opts) (notes digest : List ℕ) (first : Matche
           rw t (told-verdict digest m ∙ ap (λ (x : Match). withVerdict (verdictOf x)) v)
 
   -- with a limit on words
-  pub stopped-answer : {place : ℕ} → r ≡ Stopped place → Words place ≡ leftOf (limited bytes most) o notes digest
-  stopped-answer e = rw (stopped e)
+  pub stopped-answer : {place : ℕ} → r ≡ Stopped place → Refused (Words place) ≡ leftOf (limited bytes most) o notes digest
+  stopped-answer e = rw (stopped-at e)
 
   pub through-answer : {m : Matched} → r ≡ Through m → first ≡ begun bytes (length digest) → {a : Judgement} → a ≡ judgedBy bytes (length digest) m → a ≡ leftOf (limited bytes most) o notes digest
-  through-answer e b q = q ∙ through-judged e b ∙ ap (λ (f : Found). withNotes (withDigest bytes (length digest) (verdict o notes digest)) (withWords done o notes f)) (sym (through e .0))
+  through-answer e b q = q ∙ through-judged e b ∙ ap (λ (f : Found). afterNotes (digestWithin bytes (length digest) (verdict o notes digest)) (withWords o notes f)) (sym (through e .0))
 
 -- where room is lent, for so many words: it does not reach, and what the notes need is told; or it does
 module _ (lends : ℕ) (o : Opts) (notes digest : List ℕ) (first : Matched) (most : ℕ) (is : most ≡ roomFor (o .quick) lends) (r : Course) (w : Walked most o notes digest first r) where
   walked : Walked (roomFor (o .quick) lends) o notes digest first r
   walked = rw (← is) w
 
-  pub short-answer : {place n : ℕ} → r ≡ Stopped place → n ≡ max lends (workFor o notes) → Work n ≡ leftOf (lending lends) o notes digest
+  pub short-answer : {place n : ℕ} → r ≡ Stopped place → n ≡ max lends (workFor o notes) → Refused (Work n) ≡ leftOf (lending lends) o notes digest
   short-answer {place} {n} e k =
-      let h : lends < workFor o notes = over o lends notes (stopped mostLent (roomFor (o .quick) lends) o notes digest first r walked e) in
+      let h : lends < workFor o notes = over o lends notes (stopped-at mostLent (roomFor (o .quick) lends) o notes digest first r walked e) in
       let m : n ≡ workFor o notes = omega (arith, h, k) in
-      ap Work m ∙ ap (λ (b : Bool). withNotes (withDigest mostLent (length digest) (verdict o notes digest)) (elim b as (λ t. Answer) [ true ↦ work (workFor o notes) | false ↦ done (digestOf o notes) ])) (sym (lt-ltb lends (workFor o notes) h))
+      ap (λ (k : ℕ). Refused (Work k)) m ∙ ap (λ (b : Bool). afterNotes (digestWithin mostLent (length digest) (verdict o notes digest)) (elim b as (λ t. Finding) [ true ↦ stopped (Work (workFor o notes)) | false ↦ found (digestOf o notes) ])) (sym (lt-ltb lends (workFor o notes) h))
 
   pub lent-answer : {m : Matched} → r ≡ Through m → first ≡ begun mostLent (length digest) → {a : Judgement} → a ≡ judgedBy mostLent (length digest) m → a ≡ leftOf (lending lends) o notes digest
   lent-answer e b q =
       let f = fits o lends notes (through mostLent (roomFor (o .quick) lends) o notes digest first r walked e .0) in
       q ∙ through-judged mostLent (roomFor (o .quick) lends) o notes digest first r walked e b
-      ∙ ap (λ (t : Bool). withNotes (withDigest mostLent (length digest) (verdict o notes digest)) (elim t as (λ x. Answer) [ true ↦ work (workFor o notes) | false ↦ done (digestOf o notes) ])) (sym (le-ltb lends (workFor o notes) f))
+      ∙ ap (λ (t : Bool). afterNotes (digestWithin mostLent (length digest) (verdict o notes digest)) (elim t as (λ x. Finding) [ true ↦ stopped (Work (workFor o notes)) | false ↦ found (digestOf o notes) ])) (sym (le-ltb lends (workFor o notes) f))
 
 -- ---- what is told before
 
@@ -127,22 +126,9 @@ module _ (l : Limits) (block notes : List ℕ) where
   pub checking-left : (digest : List ℕ) (o : Options) → Admits l block notes (Passed o) → checking l block notes digest ≡ leftOf l (meant block o) notes digest
   unfolding checking finding
   checking-left digest o s =
-      ap (λ (b : Block). withNotes (withDigest (l .bytes) (length digest) (verdictUnder block notes digest b)) (withBlock l done block notes (readBlock block))) (s .0 .accepted)
-      ∙ ap (withNotes (withDigest (l .bytes) (length digest) (verdict (meant block o) notes digest))) (s .1 done)
+      ap (λ (b : Block). afterNotes (digestWithin (l .bytes) (length digest) (verdictUnder block notes digest b)) (withBlock l block notes (readBlock block))) (s .0 .accepted)
+      ∙ ap (afterNotes (digestWithin (l .bytes) (length digest) (verdict (meant block o) notes digest))) (s .1)
 
-  refusal-is : (then : Judgement) (a : Answer) → 1 ≤ codeOf a → refusedAs (told a) ≡ withNotes then a
-  refusal-is then (done d) h = absurd (omega (arith, h))
-  refusal-is then (options place) h = refl
-  refusal-is then long h = refl
-  refusal-is then (text place) h = refl
-  refusal-is then (words place) h = refl
-  refusal-is then (room needed) h = refl
-  refusal-is then (work needed) h = refl
-
-  pub refused-answer : (digest : List ℕ) {q : Reply} → Admits l block notes (Refused q) → refusedAs q ≡ checking l block notes digest
+  pub refused-answer : (digest : List ℕ) {r : Refusal} → Admits l block notes (Barred r) → Refused r ≡ checking l block notes digest
   unfolding checking finding
-  refused-answer digest {q} s =
-      let then = withDigest (l .bytes) (length digest) (verdictUnder block notes digest (readBlock block)) in
-      ap refusedAs (s .is)
-      ∙ refusal-is then (s .refusal) (a-refusal-is-no-digest l block notes s)
-      ∙ ap (withNotes then) (sym (s .whole-is done))
+  refused-answer digest s = ap (afterNotes (digestWithin (l .bytes) (length digest) (verdictUnder block notes digest (readBlock block)))) (sym (s .whole-is))

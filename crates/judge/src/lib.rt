@@ -2,7 +2,7 @@
 use checker::Matched;
 use checker::Spot;
 use formatter::Admission;
-use formatter::Reply;
+use formatter::Refusal;
 use options::Options;
 use pieces::Margin;
 use pieces::Piece;
@@ -18,20 +18,17 @@ ghost use Rattle.checker.specs.Matching.{andThen, matchLine, matchWords};
 ghost use Rattle.checker.specs.Contracts.Places.{matched, MatchedIn, Matches, MarginFits, Matchable};
 ghost use Rattle.formatter.specs.Format.{ownRoom};
 ghost use Rattle.formatter.specs.Work.{lending};
-ghost use Rattle.judge.specs.Answers.{numbered};
+ghost use Rattle.lists.specs.Coded.{numbered};
+ghost use Rattle.judge.specs.Answers.{checkCoded};
 ghost use Rattle.judge.specs.Checking.{checking};
-ghost use Rattle.judge.specs.Contracts.Judging.{begun, judgedBy, refusedAs, leftOf, Stepped, Walked};
+ghost use Rattle.judge.specs.Contracts.Judging.{begun, judgedBy, leftOf, Stepped, Walked};
 
-// What the call answers: the digest is accepted, or a refusal with what is told of it.
+// What the call answers: the digest is accepted; the notes are refused; or the digest is, with the line that is named.
 pub enum Judgement {
     Accepted,
-    Options(usize),
-    Long,
-    Text(usize),
-    Words(usize),
+    Refused(Refusal),
     LongDigest,
     Line(usize),
-    Work(usize),
 }
 
 // Where the work stands: the place in the notes and next-mail, and what the digest has come to.
@@ -66,7 +63,7 @@ pub fn check(block: &[u8], notes: &[u8], digest: &[u8]) -> Judgement
     ensures { λ r. ⌜ r ≡ checking ownRoom (now (block .entry)) (now (notes .entry)) (now (digest .entry)) ⌝ }
 {
     match formatter::admit(block, notes) {
-        Admission::Refused(r) => refused(r),
+        Admission::Refused(r) => Judgement::Refused(r),
         Admission::Passed(o) => check_notes(o, block, notes, digest),
     }
 }
@@ -76,23 +73,8 @@ pub fn check_large(block: &[u8], notes: &[u8], digest: &[u8], work: &mut [u32]) 
     ensures { λ r. ⌜ r ≡ checking (lending (length (now (work .entry)))) (now (block .entry)) (now (notes .entry)) (now (digest .entry)) ⌝ }
 {
     match formatter::admit_within(block, notes, formatter::MOST_LARGE) {
-        Admission::Refused(r) => refused(r),
+        Admission::Refused(r) => Judgement::Refused(r),
         Admission::Passed(o) => check_lent(o, block, notes, digest, work),
-    }
-}
-
-// Refusals that are told before any piece is looked at. (They are neither `Done` nor `Room`.)
-fn refused(r: Reply) -> Judgement
-    ensures { λ f. ⌜ f ≡ refusedAs r ⌝ }
-{
-    match r {
-        Reply::Done(_) => Judgement::Long,
-        Reply::Options(place) => Judgement::Options(place),
-        Reply::Long => Judgement::Long,
-        Reply::Text(place) => Judgement::Text(place),
-        Reply::Words(place) => Judgement::Words(place),
-        Reply::Room(_) => Judgement::Long,
-        Reply::Work(needed) => Judgement::Work(needed),
     }
 }
 
@@ -111,7 +93,7 @@ fn check_notes(o: Options, block: &[u8], notes: &[u8], digest: &[u8]) -> Judgeme
         MOST_WORDS,
         &mut table,
     ) {
-        Course::Stopped(place) => Judgement::Words(place),
+        Course::Stopped(place) => Judgement::Refused(Refusal::Words(place)),
         Course::Through(m) => judge(MOST_BYTES, digest.len(), m),
     }
 }
@@ -131,7 +113,12 @@ fn check_lent(o: Options, block: &[u8], notes: &[u8], digest: &[u8], work: &mut 
         most,
         work,
     ) {
-        Course::Stopped(_) => Judgement::Work(walk::work_over(o, block, notes, work.len())),
+        Course::Stopped(_) => Judgement::Refused(Refusal::Work(walk::work_over(
+            o,
+            block,
+            notes,
+            work.len(),
+        ))),
         Course::Through(m) => judge(formatter::MOST_LARGE, digest.len(), m),
     }
 }
@@ -277,17 +264,13 @@ const UPPER: u64 = 4294967296;
 
 // The answer's number.
 pub fn number_of(a: Judgement) -> u64
-    requires { ⌜ numbered a < 2 ^ 64 ⌝ }
-    ensures { λ r. ⌜ r ≡ numbered a ⌝ }
+    requires { ⌜ numbered (checkCoded a) < 2 ^ 64 ⌝ }
+    ensures { λ r. ⌜ r ≡ numbered (checkCoded a) ⌝ }
 {
     match a {
         Judgement::Accepted => 0,
-        Judgement::Options(place) => 1 * UPPER + place as u64,
-        Judgement::Long => 2 * UPPER,
-        Judgement::Text(place) => 3 * UPPER + place as u64,
-        Judgement::Words(place) => 4 * UPPER + place as u64,
+        Judgement::Refused(r) => formatter::refusal_number(r),
         Judgement::LongDigest => 9 * UPPER,
         Judgement::Line(line) => 10 * UPPER + line as u64,
-        Judgement::Work(needed) => 12 * UPPER + needed as u64,
     }
 }

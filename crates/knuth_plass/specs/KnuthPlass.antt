@@ -103,11 +103,11 @@ leastFrom b [] = b
 leastFrom b (c ∷ cs) = leastFrom (cond (ltb (c .demerits) (b .demerits)) c b) cs
 
 -- stands in for the least of no breaks, which is never read: a round begins with a break and leaves one or more
-abbrev pub noBreak : Break
-noBreak = record { places = []; demerits = 0; ratio = noRatio; columns = 0; fresh = false }
+abbrev pub emptyBreak : Break
+emptyBreak = record { places = []; demerits = 0; ratio = noRatio; columns = 0; fresh = false }
 
 unfoldable pub least : List Break → Break
-least [] = noBreak
+least [] = emptyBreak
 least (b ∷ bs) = leastFrom b bs
 
 -- If nothing stays active, restart from the first least one: break before the word if it was not fresh and t − width limit >

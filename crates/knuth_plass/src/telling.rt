@@ -58,9 +58,9 @@ fn try_break(g: Setting, weight: u16, b: Break, total: u64) -> Tried
     if cost + b.demerits == total {
         return Tried::Here(Ending::Chosen {
             columns: b.columns,
-            line: demerits::line_term(ratio),
-            word: weight,
-            ratio: demerits::ratio_term(ratio, old),
+            line_term: demerits::line_term(ratio),
+            word_term: weight,
+            ratio_term: demerits::ratio_term(ratio, old),
             cost,
         });
     }

@@ -195,22 +195,7 @@ fn are_ascii(s: &[u8], i: usize) -> bool
     requires { ⌜ (i ≤ length (now s)) × (8 ≤ length (now s) - i) ⌝ }
     ensures { λ r. ⌜ (r ≡ true → AsciiBody (now (s .entry)) i (i + 8)) ⌝ }
 {
-    let b = i + 1;
-    let c = i + 2;
-    let d = i + 3;
-    let e = i + 4;
-    let f = i + 5;
-    let g = i + 6;
-    let h = i + 7;
-    (s[i] < 0x80)
-        & (s[b] < 0x80)
-        & (s[c] < 0x80)
-        & (s[d] < 0x80)
-        & (s[e] < 0x80)
-        & (s[f] < 0x80)
-        & (s[g] < 0x80)
-        & (s[h] < 0x80)
-        & are_feedless(s, i)
+    text::are_ascii(s, i) & are_feedless(s, i)
 }
 
 // How long a line's body is without a carriage return at its end.
@@ -319,7 +304,7 @@ fn classify(line: &[u8], ascii: bool, o: Options, block: &[u8]) -> Class
             prefix_length: 0,
         });
     };
-    behind_prefix(line, from, &block[start..end], o.exact, tab, glue)
+    behind_prefix(line, from, &block[start..end], o.exact_prefix, tab, glue)
 }
 
 // Whether nothing but blanks is in a line from a place on. A byte below 0x80, as most are, is a character by itself.
@@ -331,7 +316,7 @@ fn is_all_blank(line: &[u8], from: usize) -> bool
     while i < line.len() {
         let b = line[i];
         if b < 0x80 {
-            if widths::is_white_space(wide(b)) {
+            if widths::is_white_space(text::wide(b)) {
                 i = blank_eights(line, i + 1);
             } else {
                 return false;
@@ -396,13 +381,6 @@ fn is_damaged(line: &[u8], ascii: bool) -> bool
         Found::At(_) => true,
         Found::Nowhere => false,
     }
-}
-
-// A cast that needs no proof where it is used.
-fn wide(b: u8) -> u32
-    ensures { λ r. ⌜ r ≡ b ⌝ }
-{
-    b as u32
 }
 
 // The class of a line by its prefix, which must be there with more than blanks after it.
@@ -647,7 +625,7 @@ fn behind(line: &[u8], spot: Spot, tab: usize) -> Spot
     if b < 0x80 {
         return Spot {
             at: at + 1,
-            column: column_behind(spot.column, wide(b), tab),
+            column: column_behind(spot.column, text::wide(b), tab),
         };
     }
     let Char::Good { code, next } = text::decode_at(line, at) else {

@@ -16,12 +16,12 @@ use Rattle.lists.proofs.Parts.{joined-nil, joined-cons, joined-append}
 
 -- Items hold what their strides take, and a stride is the same without the elements after those that it takes.
 module _ {A B S : Type 0} (stride : S → List A → Stride B S) (held : B → List A)
-    (holds : (s : S) (xs : List A) → 0 < length xs → held (stride s xs .item) ≡ take (suc (stride s xs .more)) xs)
-    (keeps : (s : S) (a b : List A) → stride s (a ++ b) .more < length a → stride s a ≡ stride s (a ++ b)) where
+    (holds : (s : S) (xs : List A) → 0 < length xs → held (stride s xs .item) ≡ take (suc (stride s xs .besides)) xs)
+    (keeps : (s : S) (a b : List A) → stride s (a ++ b) .besides < length a → stride s a ≡ stride s (a ++ b)) where
   -- the first stride, where the elements after those that it takes are j and b: without b it is the same, and it leaves j
-  module _ (s : S) (x : A) (r j b : List A) (left : drop (stride s (x ∷ r) .more) r ≡ j ++ b) where
+  module _ (s : S) (x : A) (r j b : List A) (left : drop (stride s (x ∷ r) .besides) r ≡ j ++ b) where
     abbrev more : ℕ
-    more = stride s (x ∷ r) .more
+    more = stride s (x ∷ r) .besides
 
     abbrev front : List A
     front = x ∷ take more r ++ j
@@ -39,7 +39,7 @@ module _ {A B S : Type 0} (stride : S → List A → Stride B S) (held : B → L
             let l = length-take more r in
             let n = length-append (take more r) j in
             let w : front ++ b ≡ x ∷ r = ap (λ (l : List A). x ∷ l) (append-assoc (take more r) j b ∙ ap (λ (l : List A). take more r ++ l) (sym left) ∙ take-append-drop more r) in
-            let m : stride s (front ++ b) .more ≡ more = ap (λ (l : List A). stride s l .more) w in
+            let m : stride s (front ++ b) .besides ≡ more = ap (λ (l : List A). stride s l .besides) w in
             record {
               same = keeps s front b (rw m (omega arith)) ∙ ap (stride s) w;
               leaves = drop-append-le more (take more r) j (omega arith) ∙ ap (λ (l : List A). l ++ j) (drop-of-length-le (take more r) {i = more} (omega arith));
@@ -67,16 +67,16 @@ module _ {A B S : Type 0} (stride : S → List A → Stride B S) (held : B → L
   walk-cut s [] (p ∷ ps) qs e = absurd (let n = ap length (sym (walk-nil stride s) ∙ e) in omega arith)
   walk-cut s (x ∷ r) (p ∷ ps) qs e =
       let t = stride s (x ∷ r) in
-      let u : t .item ∷ walk stride (t .state) (drop (t .more) r) ≡ p ∷ ps ++ qs = sym (walk-step stride s (x ∷ r) (omega arith)) ∙ e in
+      let u : t .item ∷ walk stride (t .state) (drop (t .besides) r) ≡ p ∷ ps ++ qs = sym (walk-step stride s (x ∷ r) (omega arith)) ∙ e in
       let i : t .item ≡ p = cc in
-      let w : walk stride (t .state) (drop (t .more) r) ≡ ps ++ qs = cc in
-      let c = walk-cut (t .state) (drop (t .more) r) ps qs w in
-      let left : drop (t .more) r ≡ joined held ps ++ joined held qs = sym (walk-joined stride held holds (t .state) (drop (t .more) r)) ∙ ap (joined held) w ∙ joined-append held ps qs in
+      let w : walk stride (t .state) (drop (t .besides) r) ≡ ps ++ qs = cc in
+      let c = walk-cut (t .state) (drop (t .besides) r) ps qs w in
+      let left : drop (t .besides) r ≡ joined held ps ++ joined held qs = sym (walk-joined stride held holds (t .state) (drop (t .besides) r)) ∙ ap (joined held) w ∙ joined-append held ps qs in
       let f = same-front s x r (joined held ps) (joined held qs) left in
-      let a : joined held (p ∷ ps) ≡ x ∷ take (t .more) r ++ joined held ps =
+      let a : joined held (p ∷ ps) ≡ x ∷ take (t .besides) r ++ joined held ps =
       joined-cons held p ps ∙ ap (λ (l : List A). l ++ joined held ps) (ap held (sym i) ∙ holds s (x ∷ r) (omega arith)) in
-      let steps = walk-step stride s (x ∷ take (t .more) r ++ joined held ps) (omega arith) in
-      let ends = last-step stride s (x ∷ take (t .more) r ++ joined held ps) (omega arith) in
+      let steps = walk-step stride s (x ∷ take (t .besides) r ++ joined held ps) (omega arith) in
+      let ends = last-step stride s (x ∷ take (t .besides) r ++ joined held ps) (omega arith) in
       record {
         front = ap (walk stride s) a ∙ steps ∙ rw (f .same, f .leaves, i, c .front);
         back = ap (λ (l : List A). walk stride (last stride s l) (joined held qs)) a ∙ ap (λ (v : S). walk stride v (joined held qs)) ends ∙ rw (f .same, f .leaves) (c .back);
@@ -89,5 +89,5 @@ module _ {A B : Type 0} (cut : List A → ℕ) (f : List A → B) (held : B → 
   pub each-cut : (xs : List A) (ps qs : List B) → each cut f xs ≡ ps ++ qs → (each cut f (joined held ps) ≡ ps) × (each cut f (joined held qs) ≡ qs)
   unfolding each piece
   each-cut xs ps qs e =
-      let c = walk-cut (piece cut f) held (λ s ys h. holds ys h) (λ s a b h. let k = keeps a b h in λ i. record { item = k .0 i; more = k .1 i; state = s }) tt xs ps qs e in
+      let c = walk-cut (piece cut f) held (λ s ys h. holds ys h) (λ s a b h. let k = keeps a b h in λ i. record { item = k .0 i; besides = k .1 i; state = s }) tt xs ps qs e in
       (c .front, c .back)

@@ -11,13 +11,13 @@ use Rattle.lists.proofs.Walk.{walk-nil, walk-step, walk-append}
 use Rattle.lists.proofs.Parts.{joined-nil, joined-cons}
 
 module _ {A B S : Type 0} (stride : S → List A → Stride B S) where
-  module _ (held : B → List A) (holds : (s : S) (xs : List A) → 0 < length xs → held (stride s xs .item) ≡ take (suc (stride s xs .more)) xs) where
+  module _ (held : B → List A) (holds : (s : S) (xs : List A) → 0 < length xs → held (stride s xs .item) ≡ take (suc (stride s xs .besides)) xs) where
     joined-upto : (k : ℕ) (s : S) (xs : List A) → length xs ≤ k → joined held (walk stride s xs) ≡ xs
     joined-upto zero s [] h = rw (walk-nil, joined-nil)
     joined-upto zero s (x ∷ xs) h = absurd (omega arith)
     joined-upto (suc k) s [] h = rw (walk-nil, joined-nil)
     joined-upto (suc k) s (x ∷ xs) h =
-        let n = stride s (x ∷ xs) .more in
+        let n = stride s (x ∷ xs) .besides in
         let d = length-drop n xs in
         rw (
           walk-step stride s (x ∷ xs) (omega arith),
@@ -38,7 +38,7 @@ module _ {A B S : Type 0} (stride : S → List A → Stride B S) where
     all-upto zero s (x ∷ xs) h f = absurd (omega arith)
     all-upto (suc k) s [] h f = rw walk-nil tt
     all-upto (suc k) s (x ∷ xs) h f =
-        let n = stride s (x ∷ xs) .more in
+        let n = stride s (x ∷ xs) .besides in
         let d = length-drop n xs in
         rw (walk-step stride s (x ∷ xs) (omega arith)) (gives s (x ∷ xs) (omega arith) f, all-upto k (stride s (x ∷ xs) .state) (drop n xs) (omega arith) (fit-drop (suc n) (x ∷ xs) f))
 
@@ -60,4 +60,4 @@ module _ {A B : Type 0} (cut : List A → ℕ) (f : List A → B) where
       → ((a : List A) → Whole a → 0 < length a → (f (a ++ b) ≡ f a) × (cut (a ++ b) ≡ cut a) × (cut a < length a) × Whole (drop (suc (cut a)) a))
       → (a : List A) → Whole a → each cut f (a ++ b) ≡ each cut f a ++ each cut f b
   unfolding each piece
-  each-append Whole b stays a w = walk-append (piece cut f) Whole b (λ s c v h. let t = stays c v h in (λ i. record { item = t .0 i; more = t .1 i; state = s }, t .2, t .3)) tt a w
+  each-append Whole b stays a w = walk-append (piece cut f) Whole b (λ s c v h. let t = stays c v h in (λ i. record { item = t .0 i; besides = t .1 i; state = s }, t .2, t .3)) tt a w

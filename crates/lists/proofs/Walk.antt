@@ -12,7 +12,7 @@ module _ {A B S : Type 0} (stride : S → List A → Stride B S) where
   unfoldable pub lastUpTo : ℕ → S → List A → S
   lastUpTo zero s xs = s
   lastUpTo (suc k) s [] = s
-  lastUpTo (suc k) s (x ∷ xs) = let t = stride s (x ∷ xs) in lastUpTo k (t .state) (drop (t .more) xs)
+  lastUpTo (suc k) s (x ∷ xs) = let t = stride s (x ∷ xs) in lastUpTo k (t .state) (drop (t .besides) xs)
 
   unfoldable pub last : S → List A → S
   last s xs = lastUpTo (length xs) s xs
@@ -27,8 +27,8 @@ module _ {A B S : Type 0} (stride : S → List A → Stride B S) where
   enough (suc k) (suc j) s [] h g = (refl, refl)
   enough (suc k) (suc j) s (b ∷ r) h g =
       let t = stride s (b ∷ r) in
-      let d = length-drop (t .more) r in
-      let e = enough k j (t .state) (drop (t .more) r) (omega arith) (omega arith) in
+      let d = length-drop (t .besides) r in
+      let e = enough k j (t .state) (drop (t .besides) r) (omega arith) (omega arith) in
       (ap (λ (l : List B). t .item ∷ l) (e .0), e .1)
 
   pub walk-nil : (s : S) → walk stride s [] ≡ []
@@ -39,32 +39,32 @@ module _ {A B S : Type 0} (stride : S → List A → Stride B S) where
   unfolding last lastUpTo
   last-nil s = refl
 
-  pub walk-step : (s : S) (xs : List A) → 0 < length xs → walk stride s xs ≡ stride s xs .item ∷ walk stride (stride s xs .state) (drop (suc (stride s xs .more)) xs)
+  pub walk-step : (s : S) (xs : List A) → 0 < length xs → walk stride s xs ≡ stride s xs .item ∷ walk stride (stride s xs .state) (drop (suc (stride s xs .besides)) xs)
   unfolding walk walkUpTo
   walk-step s [] h = absurd (omega arith)
   walk-step s (b ∷ r) h =
       let t = stride s (b ∷ r) in
-      let d = length-drop (t .more) r in
-      ap (λ (l : List B). t .item ∷ l) (enough (length r) (length (drop (t .more) r)) (t .state) (drop (t .more) r) (omega arith) (omega arith) .0)
+      let d = length-drop (t .besides) r in
+      ap (λ (l : List B). t .item ∷ l) (enough (length r) (length (drop (t .besides) r)) (t .state) (drop (t .besides) r) (omega arith) (omega arith) .0)
 
-  pub last-step : (s : S) (xs : List A) → 0 < length xs → last s xs ≡ last (stride s xs .state) (drop (suc (stride s xs .more)) xs)
+  pub last-step : (s : S) (xs : List A) → 0 < length xs → last s xs ≡ last (stride s xs .state) (drop (suc (stride s xs .besides)) xs)
   unfolding last lastUpTo
   last-step s [] h = absurd (omega arith)
   last-step s (b ∷ r) h =
       let t = stride s (b ∷ r) in
-      let d = length-drop (t .more) r in
-      enough (length r) (length (drop (t .more) r)) (t .state) (drop (t .more) r) (omega arith) (omega arith) .1
+      let d = length-drop (t .besides) r in
+      enough (length r) (length (drop (t .besides) r)) (t .state) (drop (t .besides) r) (omega arith) (omega arith) .1
 
   -- at a place of a longer list: the next stride begins at j
-  pub walk-at : (s : S) (x : List A) (i j : ℕ) → i < length x → j ≡ i + suc (stride s (drop i x) .more)
+  pub walk-at : (s : S) (x : List A) (i j : ℕ) → i < length x → j ≡ i + suc (stride s (drop i x) .besides)
       → walk stride s (drop i x) ≡ stride s (drop i x) .item ∷ walk stride (stride s (drop i x) .state) (drop j x)
   walk-at s x i j h e =
       walk-step s (drop i x) (simp length-drop (omega arith))
-      ∙ ap (λ (l : List A). stride s (drop i x) .item ∷ walk stride (stride s (drop i x) .state) l) (drop-drop (suc (stride s (drop i x) .more)) i x ∙ ap (λ (n : ℕ). drop n x) (sym e))
+      ∙ ap (λ (l : List A). stride s (drop i x) .item ∷ walk stride (stride s (drop i x) .state) l) (drop-drop (suc (stride s (drop i x) .besides)) i x ∙ ap (λ (n : ℕ). drop n x) (sym e))
 
   -- a list that its strides do not look past: what is after it is a walk of its own, from the state that it ends in
   module _ (Whole : List A → Type 0) (b : List A)
-      (stays : (s : S) (a : List A) → Whole a → 0 < length a → (stride s (a ++ b) ≡ stride s a) × (stride s a .more < length a) × Whole (drop (suc (stride s a .more)) a)) where
+      (stays : (s : S) (a : List A) → Whole a → 0 < length a → (stride s (a ++ b) ≡ stride s a) × (stride s a .besides < length a) × Whole (drop (suc (stride s a .besides)) a)) where
     append-upto : (k : ℕ) (s : S) (a : List A) → length a ≤ k → Whole a → walk stride s (a ++ b) ≡ walk stride s a ++ walk stride (last s a) b
     append-upto zero s [] h w = rw (walk-nil, last-nil)
     append-upto zero s (x ∷ r) h w = absurd (omega arith)
@@ -72,14 +72,14 @@ module _ {A B S : Type 0} (stride : S → List A → Stride B S) where
     append-upto (suc k) s (x ∷ r) h w =
         let t = stride s (x ∷ r) in
         let v = stays s (x ∷ r) w (omega arith) in
-        let d = length-drop (t .more) r in
+        let d = length-drop (t .besides) r in
         rw (
           walk-step s (x ∷ r ++ b) (omega arith),
           walk-step s (x ∷ r) (omega arith),
           last-step s (x ∷ r) (omega arith),
           v .0,
-          drop-append-le (suc (t .more)) (x ∷ r) b (v .1),
-          append-upto k (t .state) (drop (suc (t .more)) (x ∷ r)) (omega arith) (v .2),
+          drop-append-le (suc (t .besides)) (x ∷ r) b (v .1),
+          append-upto k (t .state) (drop (suc (t .besides)) (x ∷ r)) (omega arith) (v .2),
         )
 
     pub walk-append : (s : S) (a : List A) → Whole a → walk stride s (a ++ b) ≡ walk stride s a ++ walk stride (last s a) b

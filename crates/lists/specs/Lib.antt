@@ -1,4 +1,5 @@
 pub mod Walk
 pub mod Runs
+pub mod Coded
 pub mod Theorems
 pub mod Trials

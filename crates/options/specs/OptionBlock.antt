@@ -45,7 +45,7 @@ pub record Start : Type 0 where
 unfoldable pub nextField : Start → List ℕ → Stride Field Start
 nextField s xs =
     let f : Field = record { place = s .place; previous = s .previous; bytes = xs } in
-    record { item = f; more = 2 + sizeOf f; state = record { place = s .place + 3 + sizeOf f; previous = tagOf f } }
+    record { item = f; besides = 2 + sizeOf f; state = record { place = s .place + 3 + sizeOf f; previous = tagOf f } }
 
 unfoldable pub fields : List ℕ → List Field
 fields block = walk nextField (record { place = 0; previous = 0 }) block
@@ -120,11 +120,11 @@ optionsOf block fs =
       split = bit 3 flags;
       uniform = bit 4 flags;
       quick = bit 5 flags;
-      exact = bit 6 flags;
+      «exact_prefix» = bit 6 flags;
       «exact_skip» = bit 7 flags;
       keep = bit 8 flags;
       glue = bit 9 flags;
-      characters = bit 10 flags;
+      «by_characters» = bit 10 flags;
       width = widthFrom block width goal;
       goal = goalFrom block width goal;
       tab = max 1 (numberAt block 8 (partOf 4 fs));

@@ -24,7 +24,7 @@ pub record Opts : Type 0 where
   pub keep : Bool
   pub glue : Bool
   -- sentence-start counts blanks by characters, not by bytes (RULES 3.2)
-  pub characters : Bool
+  pub byCharacters : Bool
   pub width : ℕ
   pub goal : ℕ
   pub tab : ℕ
@@ -44,11 +44,11 @@ meant block o = record {
   split = o .split;
   uniform = o .uniform;
   quick = o .quick;
-  exactPrefix = o .exact;
+  exactPrefix = o .«exact_prefix»;
   exactSkip = o .«exact_skip»;
   keep = o .keep;
   glue = o .glue;
-  characters = o .characters;
+  byCharacters = o .«by_characters»;
   width = o .width;
   goal = o .goal;
   tab = o .tab;

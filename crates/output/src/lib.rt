@@ -5,7 +5,7 @@ use records::Word;
 ghost use mathlib.Core.Path.{_≡_};
 ghost use mathlib.Core.Bool.{true, false, cond};
 ghost use mathlib.Core.List.{_++_};
-ghost use Prim.Native.Nat.{_+_, _-_, _≤_, _<_, _^_, min};
+ghost use Prim.Native.Nat.{_+_, _-_, _≤_, _<_, _^_};
 ghost use lib.ListN.{length, replicate};
 ghost use lib.Seq.{slice};
 ghost use Rattle.records.specs.Word.{meaning};
@@ -21,17 +21,6 @@ pub struct Layout {
     pub uniform: bool,
     pub first: Margin,
     pub indent: Margin,
-}
-
-// Where a part of the output begins: at the written end or, where that lies past the output, at the output's end, so that the part is
-// empty. It is also how much of a text fits.
-fn lesser(a: usize, b: usize) -> usize
-    ensures { λ r. ⌜ r ≡ min a b ⌝ }
-{
-    if a < b {
-        return a;
-    }
-    b
 }
 
 // Four bytes that move as one: all are read before the first is stored.
@@ -94,8 +83,8 @@ fn copy_short(text: &[u8], rest: &mut [u8])
     ensures { λ _. ⌜ Wrote (now (rest .entry)) 0 (now (text .entry)) (now (rest .exit)) (length (now (text .entry))) ⌝ }
 {
     let last = text.len() - 4;
-    let second = lesser(4, last);
-    let third = lesser(8, last);
+    let second = lists::lesser(4, last);
+    let third = lists::lesser(8, last);
     copy_four(text, 0, rest);
     copy_four(text, second, rest);
     copy_four(text, third, rest);
@@ -171,9 +160,9 @@ fn copy_long(text: &[u8], rest: &mut [u8])
         copy_two(text, second, rest);
         k = second + 32;
     }
-    copy_sixteen(text, lesser(k, last), rest);
-    copy_sixteen(text, lesser(k + 16, last), rest);
-    copy_sixteen(text, lesser(k + 32, last), rest);
+    copy_sixteen(text, lists::lesser(k, last), rest);
+    copy_sixteen(text, lists::lesser(k + 16, last), rest);
+    copy_sixteen(text, lists::lesser(k + 32, last), rest);
     copy_sixteen(text, last, rest);
 }
 
@@ -200,7 +189,7 @@ pub fn put_text(notes: &[u8], from: usize, to: usize, rest: &mut [u8]) -> usize
     ensures { λ r. ⌜ Wrote (now (rest .entry)) 0 (slice from to (now (notes .entry))) (now (rest .exit)) r ⌝ }
 {
     let size = to - from;
-    let end = from + lesser(size, rest.len());
+    let end = from + lists::lesser(size, rest.len());
     copy(&notes[from..end], rest);
     size
 }
@@ -208,7 +197,7 @@ pub fn put_text(notes: &[u8], from: usize, to: usize, rest: &mut [u8]) -> usize
 pub fn put_spaces(count: usize, rest: &mut [u8]) -> usize
     ensures { λ r. ⌜ Wrote (now (rest .entry)) 0 (replicate count 32) (now (rest .exit)) r ⌝ }
 {
-    let fits = lesser(count, rest.len());
+    let fits = lists::lesser(count, rest.len());
     let mut k = 0;
     while k < fits {
         rest[k] = 32;
@@ -223,7 +212,7 @@ pub fn put_added(count: usize, rest: &mut [u8]) -> usize
     requires { ⌜ count ≤ 2 ⌝ }
     ensures { λ r. ⌜ Wrote (now (rest .entry)) 0 (replicate count 32) (now (rest .exit)) r ⌝ }
 {
-    let room = lesser(count, rest.len());
+    let room = lists::lesser(count, rest.len());
     if room == 0 {
         return count;
     }
@@ -251,7 +240,7 @@ pub fn put_margin(notes: &[u8], m: Margin, rest: &mut [u8]) -> usize
     ensures { λ r. ⌜ Wrote (now (rest .entry)) 0 (marginOf (now (notes .entry)) m) (now (rest .exit)) r ⌝ }
 {
     let k = put_text(notes, m.start, m.end, rest);
-    let place = lesser(k, rest.len());
+    let place = lists::lesser(k, rest.len());
     k + put_spaces(m.more, &mut rest[place..])
 }
 
@@ -262,7 +251,7 @@ pub fn put_break(notes: &[u8], indent: Margin, rest: &mut [u8]) -> usize
     ensures { λ r. ⌜ Wrote (now (rest .entry)) 0 (lineFeed ++ marginOf (now (notes .entry)) indent) (now (rest .exit)) r ⌝ }
 {
     let k = put_feed(rest);
-    let place = lesser(k, rest.len());
+    let place = lists::lesser(k, rest.len());
     k + put_margin(notes, indent, &mut rest[place..])
 }
 
@@ -283,11 +272,11 @@ pub fn put_word(
 {
     if fresh {
         let k = put_break(notes, indent, rest);
-        let place = lesser(k, rest.len());
+        let place = lists::lesser(k, rest.len());
         return k + put_text(notes, w.start, end, &mut rest[place..]);
     }
     let k = put_added(added, rest);
-    let place = lesser(k, rest.len());
+    let place = lists::lesser(k, rest.len());
     k + put_text(notes, w.from, end, &mut rest[place..])
 }
 
@@ -298,7 +287,7 @@ pub fn put_first(notes: &[u8], from: usize, to: usize, first: Margin, rest: &mut
     ensures { λ r. ⌜ Wrote (now (rest .entry)) 0 (marginOf (now (notes .entry)) first ++ slice from to (now (notes .entry))) (now (rest .exit)) r ⌝ }
 {
     let k = put_margin(notes, first, rest);
-    let place = lesser(k, rest.len());
+    let place = lists::lesser(k, rest.len());
     k + put_text(notes, from, to, &mut rest[place..])
 }
 
@@ -398,10 +387,10 @@ fn emit_rest(
         let added = spacing::added_space(l.uniform, w.first, w.sentence, r.punct);
         let fresh = records::starts_line(table, i);
         r = run_from(notes, table, n, l, w.end, w.punct, i + 1);
-        let place = lesser(k, out.len());
+        let place = lists::lesser(k, out.len());
         k += put_word(notes, w, r.end, fresh, added, indent, &mut out[place..]);
     }
-    let place = lesser(k, out.len());
+    let place = lists::lesser(k, out.len());
     k + put_feed(&mut out[place..])
 }
 
@@ -459,7 +448,7 @@ pub fn emit(notes: &[u8], table: &[u32], n: usize, l: Layout, out: &mut [u8], at
     let first = l.first;
     // The first word's own punctuation does not count.
     let run = run_from(notes, table, n, l, w.end, false, 1);
-    let place = lesser(at, out.len());
+    let place = lists::lesser(at, out.len());
     let k = at + put_first(notes, w.start, run.end, first, &mut out[place..]);
     emit_rest(notes, table, n, l, run, out, k)
 }
@@ -470,8 +459,8 @@ pub fn emit_line(notes: &[u8], from: usize, to: usize, out: &mut [u8], at: usize
     requires { ⌜ (from ≤ to) × (to ≤ length (now notes)) × (length (now notes) < 2 ^ 32) × (at < 2 ^ 62) ⌝ }
     ensures { λ r. ⌜ Wrote (now (out .entry)) at (slice from to (now (notes .entry)) ++ lineFeed) (now (out .exit)) r × (r ≤ at + (to - from) + 1) ⌝ }
 {
-    let place = lesser(at, out.len());
+    let place = lists::lesser(at, out.len());
     let k = at + put_text(notes, from, to, &mut out[place..]);
-    let behind = lesser(k, out.len());
+    let behind = lists::lesser(k, out.len());
     k + put_feed(&mut out[behind..])
 }

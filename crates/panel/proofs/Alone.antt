@@ -8,7 +8,7 @@ use lib.Seq.{take-at, drop-append-add}
 use Rattle.lists.specs.Runs.{joined}
 use Rattle.lists.proofs.Parts.{joined-cons}
 use Rattle.lines.specs.Lines.{Line, linesOf}
-use Rattle.panel.specs.Panel.{rowOf, stopWidth, newest, textsOf, shown, panelOf}
+use Rattle.panel.specs.Panel.{rowCells, stopWidth, newest, textsOf, shown, panelOf}
 use Rattle.panel.proofs.Turns.{row-length}
 
 -- the cells of row i
@@ -39,12 +39,12 @@ shown-length digest =
     let n = newest-length (linesOf digest) in
     length-append (replicate (24 - length ls) []) (textsOf ls) ∙ rw (length-replicate, texts-length ls) (omega arith)
 
-pub a-row-is-its-lines : (tab : ℕ) (digest : List ℕ) (i : ℕ) → i < 24 → cellsOf i (panelOf tab digest) ≡ rowOf (stopWidth tab) (getD (shown digest) i [])
+pub a-row-is-its-lines : (tab : ℕ) (digest : List ℕ) (i : ℕ) → i < 24 → cellsOf i (panelOf tab digest) ≡ rowCells (stopWidth tab) (getD (shown digest) i [])
 unfolding panelOf
 a-row-is-its-lines tab digest i h =
-    row-of-joined (rowOf (stopWidth tab)) (row-length (stopWidth tab)) (shown digest) i (rw (shown-length digest) h)
+    row-of-joined (rowCells (stopWidth tab)) (row-length (stopWidth tab)) (shown digest) i (rw (shown-length digest) h)
 
 pub the-cells-of-a-row-depend-on-its-own-line-and-the-tab-width-only : (tab : ℕ) (one other : List ℕ) (i : ℕ) → i < 24
     → getD (shown one) i [] ≡ getD (shown other) i [] → cellsOf i (panelOf tab one) ≡ cellsOf i (panelOf tab other)
 the-cells-of-a-row-depend-on-its-own-line-and-the-tab-width-only tab one other i h e =
-    a-row-is-its-lines tab one i h ∙ ap (rowOf (stopWidth tab)) e ∙ sym (a-row-is-its-lines tab other i h)
+    a-row-is-its-lines tab one i h ∙ ap (rowCells (stopWidth tab)) e ∙ sym (a-row-is-its-lines tab other i h)

@@ -16,7 +16,7 @@ use Rattle.widths.specs.Table.{table}
 use Rattle.widths.specs.Widths.{widthOf}
 use Rattle.text.specs.Rfc3629.{Front, front, nothing, decode}
 use Rattle.spacing.proofs.Laws.{stop-behind}
-use Rattle.panel.specs.Panel.{Row, blank, control, signOf, shownAs, size, signs, begun, taken, drawn, draw, marked, finished, rowOf}
+use Rattle.panel.specs.Panel.{PanelRow, blank, control, signOf, shownAs, size, signs, blankRow, taken, drawn, draw, marked, finished, rowCells}
 use Rattle.panel.specs.declared.Sign.{Sign}
 use Rattle.panel.specs.declared.Sign.the-variants.{Tab, Dropped, One, Two}
 
@@ -105,7 +105,7 @@ no-width : widthOf 0 ≡ 1
 unfolding widthOf widthIn table
 no-width = refl
 
-kept-drawn : (tab : ℕ) → 1 ≤ tab → (r : Row) (s : Sign) → Plain s → Kept (r .cells) (r .column) → Kept (drawn tab r s .cells) (drawn tab r s .column)
+kept-drawn : (tab : ℕ) → 1 ≤ tab → (r : PanelRow) (s : Sign) → Plain s → Kept (r .cells) (r .column) → Kept (drawn tab r s .cells) (drawn tab r s .column)
 unfolding drawn taken
 kept-drawn tab some r Tab p k = let b = stop-behind tab (r .column) some in kept-later _ _ _ (omega arith) k
 kept-drawn tab some r Dropped p k = k
@@ -129,7 +129,7 @@ kept-drawn tab some r (Two c) p k = go (leb (r .column + 2) 80) refl
         rw (← add-one, ← f) two
     go false e = kept-later (r .cells) (r .column) (r .column + 2) (omega arith) k
 
-kept-all : (tab : ℕ) → 1 ≤ tab → (ss : List Sign) → All Plain ss → (r : Row) → Kept (r .cells) (r .column) → Kept (draw tab r ss .cells) (draw tab r ss .column)
+kept-all : (tab : ℕ) → 1 ≤ tab → (ss : List Sign) → All Plain ss → (r : PanelRow) → Kept (r .cells) (r .column) → Kept (draw tab r ss .cells) (draw tab r ss .column)
 unfolding draw
 kept-all tab some [] p r k = k
 kept-all tab some (s ∷ ss) p r k = kept-all tab some ss (p .1) (drawn tab r s) (kept-drawn tab some r s (p .0) k)
@@ -139,8 +139,8 @@ blanks-at zero i = refl
 blanks-at (suc n) zero = refl
 blanks-at (suc n) (suc i) = blanks-at n i
 
-kept-begun : Kept (begun .cells) (begun .column)
-unfolding begun
+kept-begun : Kept (blankRow .cells) (blankRow .column)
+unfolding blankRow
 kept-begun =
     record {
       long = length-replicate 80 blank;
@@ -165,11 +165,11 @@ marked-paired cells l p = go (eqb (getD cells 79 0) 0)
         (stored (set cells 79 0x2B) 78 blank (rw (length-set cells 79 0x2B) (omega arith)) last
         (λ z. absurd (omega (arith, z, getD-set-same cells 79 0x2B blank (omega arith)))) (λ z. absurd (omega (arith, z))))
 
-pub no-filler-without-its-wide-character-before-it : (tab : ℕ) → 1 ≤ tab → (line : List ℕ) (i : ℕ) → getD (rowOf tab line) i blank ≡ 0 → WideBefore (rowOf tab line) i
-unfolding rowOf finished
-no-filler-without-its-wide-character-before-it tab some line = go (draw tab begun (signs line)) (kept-all tab some (signs line) (plain-signs line) begun kept-begun)
+pub no-filler-without-its-wide-character-before-it : (tab : ℕ) → 1 ≤ tab → (line : List ℕ) (i : ℕ) → getD (rowCells tab line) i blank ≡ 0 → WideBefore (rowCells tab line) i
+unfolding rowCells finished
+no-filler-without-its-wide-character-before-it tab some line = go (draw tab blankRow (signs line)) (kept-all tab some (signs line) (plain-signs line) blankRow kept-begun)
   where
-    go : (r : Row) → Kept (r .cells) (r .column) → Paired (cond (r .over) (marked (r .cells)) (r .cells))
+    go : (r : PanelRow) → Kept (r .cells) (r .column) → Paired (cond (r .over) (marked (r .cells)) (r .cells))
     go r k = pick (r .over)
       where
         pick : (t : Bool) → Paired (cond t (marked (r .cells)) (r .cells))

@@ -14,7 +14,7 @@ use Rattle.lists.proofs.Slices.{slice-is}
 use Rattle.lines.specs.Lines.{firstLine, linesOf}
 use Rattle.lines.proofs.Lines.{LineHere, lines-past}
 use Rattle.lines.specs.declared.Extent.{Extent}
-use Rattle.panel.specs.Panel.{blank, begun, draw, finished, rowOf, stopWidth, newest, textsOf, shown, panelOf, answer, cellsAfter}
+use Rattle.panel.specs.Panel.{blank, blankRow, draw, finished, rowCells, stopWidth, newest, textsOf, shown, panelOf, panelAnswer, cellsAfter}
 use Rattle.panel.specs.Contracts.Places.{Newest}
 use Rattle.panel.specs.declared.Answer.the-variants.{Done, Options}
 use Rattle.panel.specs.declared.Tail.{Tail}
@@ -32,15 +32,15 @@ take-replicate {A} (suc k) (suc n) a h = ap (λ (l : List A). a ∷ l) (take-rep
 
 -- ---- blank rows
 
-pub blank-row : (tab : ℕ) → rowOf tab [] ≡ replicate 80 blank
-unfolding rowOf draw finished begun
+pub blank-row : (tab : ℕ) → rowCells tab [] ≡ replicate 80 blank
+unfolding rowCells draw finished blankRow
 blank-row tab = rw signs-nil
 
-blank-rows : (tab r : ℕ) → joined (rowOf tab) (replicate r []) ≡ replicate (r * 80) blank
-blank-rows tab zero = joined-nil (rowOf tab)
+blank-rows : (tab r : ℕ) → joined (rowCells tab) (replicate r []) ≡ replicate (r * 80) blank
+blank-rows tab zero = joined-nil (rowCells tab)
 blank-rows tab (suc r) =
     let e : suc r * 80 ≡ 80 + r * 80 = omega arith in
-    rw (joined-cons (rowOf tab) [] (replicate r []), blank-row tab, blank-rows tab r, e) (replicate-append-replicate 80 (r * 80) blank)
+    rw (joined-cons (rowCells tab) [] (replicate r []), blank-row tab, blank-rows tab r, e) (replicate-append-replicate 80 (r * 80) blank)
 
 -- ---- the turns
 
@@ -49,7 +49,7 @@ pub record Showing (digest : List ℕ) (tab : ℕ) (cells : List ℕ) (at from :
   pub size : length cells ≡ 1920
   pub room : from + length (linesOf (drop at digest)) * 80 ≡ 1920
   pub blanks : drop from cells ≡ replicate (1920 - from) blank
-  pub left : take from cells ++ joined (rowOf tab) (textsOf (linesOf (drop at digest))) ≡ joined (rowOf tab) (shown digest)
+  pub left : take from cells ++ joined (rowCells tab) (textsOf (linesOf (drop at digest))) ≡ joined (rowCells tab) (shown digest)
 
 pub showing-first : (digest : List ℕ) (tab : ℕ) (cells : List ℕ) (t : Tail) → cells ≡ replicate 1920 blank → Newest digest t
     → Showing digest tab cells (t .at) ((24 - t .count) * 80)
@@ -64,15 +64,15 @@ showing-first digest tab cells t e n =
       size = rw e (length-replicate 1920 blank);
       room = omega arith;
       blanks = rw (e, drop-replicate (r * 80) 1920 blank);
-      left = rw (e, take-replicate (r * 80) 1920 blank (omega arith), n .lines, q, joined-append (rowOf tab) (replicate r []) (textsOf (newest (linesOf digest))), blank-rows tab r);
+      left = rw (e, take-replicate (r * 80) 1920 blank (omega arith), n .lines, q, joined-append (rowCells tab) (replicate r []) (textsOf (newest (linesOf digest))), blank-rows tab r);
     }
 
-pub showing-last : (digest : List ℕ) (tab : ℕ) (cells : List ℕ) (at from : ℕ) → Showing digest tab cells at from → length digest ≤ at → cells ≡ joined (rowOf tab) (shown digest)
+pub showing-last : (digest : List ℕ) (tab : ℕ) (cells : List ℕ) (at from : ℕ) → Showing digest tab cells at from → length digest ≤ at → cells ≡ joined (rowCells tab) (shown digest)
 unfolding textsOf
 showing-last digest tab cells at from s h =
     let p = lines-past digest at h in
     let z : from ≡ 1920 = omega (arith, s .room, ap length p) in
-    sym (take-all from cells (omega (arith, s .size))) ∙ sym (append-nil (take from cells)) ∙ rw (p, joined-nil (rowOf tab)) at (s .left)
+    sym (take-all from cells (omega (arith, s .size))) ∙ sym (append-nil (take from cells)) ∙ rw (p, joined-nil (rowCells tab)) at (s .left)
 
 module _ (digest : List ℕ) (tab : ℕ) (cells : List ℕ) (at from : ℕ) (e : Extent) (s : Showing digest tab cells at from) (here : LineHere digest at e) where
   pub row-fits : from + 80 ≤ 1920
@@ -87,7 +87,7 @@ module _ (digest : List ℕ) (tab : ℕ) (cells : List ℕ) (at from : ℕ) (e :
   text-part : firstLine (drop at digest) .text ≡ take (at + e .text - at) (drop at digest)
   text-part = let n : at + e .text - at ≡ e .text = omega arith in rw n (here .text ∙ slice-is at (e .text) digest)
 
-  pub showing-next : (row : List ℕ) → row ≡ rowOf tab (take (at + e .text - at) (drop at digest))
+  pub showing-next : (row : List ℕ) → row ≡ rowCells tab (take (at + e .text - at) (drop at digest))
       → Showing digest tab (take from cells ++ (row ++ drop (from + 80 - from) (drop from cells))) (at + e .whole) (from + 80)
   unfolding textsOf
   showing-next row r =
@@ -120,10 +120,10 @@ stop-bounds tab w h e = pick (eqb tab 0) refl
     pick true f = rw (e, f) (omega arith, omega arith)
     pick false f = let n = eqb-false tab 0 f in rw (e, f) (omega (arith, n), h)
 
-pub refused : (tab : ℕ) (digest : List ℕ) → 100 < tab → (Options ≡ answer tab) × (replicate 1920 blank ≡ cellsAfter tab digest)
-unfolding answer cellsAfter
+pub refused : (tab : ℕ) (digest : List ℕ) → 100 < tab → (Options ≡ panelAnswer tab) × (replicate 1920 blank ≡ cellsAfter tab digest)
+unfolding panelAnswer cellsAfter
 refused tab digest h = rw (lt-leb tab 100 h) (refl, refl)
 
-pub done : (tab w : ℕ) (digest cells : List ℕ) → tab ≤ 100 → w ≡ stopWidth tab → cells ≡ joined (rowOf w) (shown digest) → (Done ≡ answer tab) × (cells ≡ cellsAfter tab digest)
-unfolding answer cellsAfter panelOf
+pub done : (tab w : ℕ) (digest cells : List ℕ) → tab ≤ 100 → w ≡ stopWidth tab → cells ≡ joined (rowCells w) (shown digest) → (Done ≡ panelAnswer tab) × (cells ≡ cellsAfter tab digest)
+unfolding panelAnswer cellsAfter panelOf
 done tab w digest cells h e r = rw (le-leb tab 100 h, ← e) (refl, r)

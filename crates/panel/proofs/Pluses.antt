@@ -13,7 +13,7 @@ use Rattle.lists.proofs.Pieces.{each-induct}
 use Rattle.widths.specs.Widths.{widthOf}
 use Rattle.text.specs.Rfc3629.{Front, front, nothing, encode, decode}
 use Rattle.text.proofs.Decoder.{sound}
-use Rattle.panel.specs.Panel.{Row, blank, control, signOf, shownAs, size, signs, begun, taken, drawn, draw, marked, finished, rowOf}
+use Rattle.panel.specs.Panel.{PanelRow, blank, control, signOf, shownAs, size, signs, blankRow, taken, drawn, draw, marked, finished, rowCells}
 use Rattle.panel.specs.declared.Sign.{Sign}
 use Rattle.panel.specs.declared.Sign.the-variants.{Tab, Dropped, One, Two}
 
@@ -41,7 +41,7 @@ module _ (Q : ℕ → Type 0) (of-blank : Q blank) (of-filler : Q 0) where
   sets-cells [] cells k all q = all
   sets-cells (v ∷ vs) cells k all q = sets-cells vs (set cells k v) (suc k) (set-cells cells k v all (q .0)) (q .1)
 
-  taken-cells : (cs : List ℕ) (r : Row) → All Q cs → Cells Q (r .cells) → Cells Q (taken cs r .cells)
+  taken-cells : (cs : List ℕ) (r : PanelRow) → All Q cs → Cells Q (r .cells) → Cells Q (taken cs r .cells)
   unfolding taken
   taken-cells cs r q all = pick (leb (r .column + length cs) 80)
     where
@@ -49,14 +49,14 @@ module _ (Q : ℕ → Type 0) (of-blank : Q blank) (of-filler : Q 0) where
       pick true = sets-cells cs (r .cells) (r .column) all q
       pick false = all
 
-  drawn-cells : (tab : ℕ) (r : Row) (s : Sign) → Shows Q s → Cells Q (r .cells) → Cells Q (drawn tab r s .cells)
+  drawn-cells : (tab : ℕ) (r : PanelRow) (s : Sign) → Shows Q s → Cells Q (r .cells) → Cells Q (drawn tab r s .cells)
   unfolding drawn
   drawn-cells tab r Tab q all = all
   drawn-cells tab r Dropped q all = all
   drawn-cells tab r (One c) q all = taken-cells (c ∷ []) r (q, tt) all
   drawn-cells tab r (Two c) q all = taken-cells (c ∷ 0 ∷ []) r (q, (of-filler, tt)) all
 
-  draw-cells : (tab : ℕ) (ss : List Sign) → All (Shows Q) ss → (r : Row) → Cells Q (r .cells) → Cells Q (draw tab r ss .cells)
+  draw-cells : (tab : ℕ) (ss : List Sign) → All (Shows Q) ss → (r : PanelRow) → Cells Q (r .cells) → Cells Q (draw tab r ss .cells)
   unfolding draw
   draw-cells tab [] q r all = all
   draw-cells tab (s ∷ ss) q r all = draw-cells tab ss (q .1) (drawn tab r s) (drawn-cells tab r s (q .0) all)
@@ -67,7 +67,7 @@ module _ (Q : ℕ → Type 0) (of-blank : Q blank) (of-filler : Q 0) where
   blank-cells (suc n) (suc i) = blank-cells n i
 
   -- the last cell apart
-  finished-cells : (r : Row) → Cells Q (r .cells) → (i : ℕ) → i < 79 → Q (getD (finished r) i blank)
+  finished-cells : (r : PanelRow) → Cells Q (r .cells) → (i : ℕ) → i < 79 → Q (getD (finished r) i blank)
   unfolding finished marked
   finished-cells r all i h = pick (r .over) (eqb (getD (r .cells) 79 0) 0)
     where
@@ -76,9 +76,9 @@ module _ (Q : ℕ → Type 0) (of-blank : Q blank) (of-filler : Q 0) where
       pick true false = rw (getD-set-other (r .cells) 79 i 0x2B blank (λ e. absurd (omega (arith, e)))) (all i)
       pick true true = rw (getD-set-other (set (r .cells) 78 blank) 79 i 0x2B blank (λ e. absurd (omega (arith, e)))) (set-cells (r .cells) 78 blank all of-blank i)
 
-  row-cells : (tab : ℕ) (line : List ℕ) → All (Shows Q) (signs line) → (i : ℕ) → i < 79 → Q (getD (rowOf tab line) i blank)
-  unfolding rowOf begun
-  row-cells tab line q i h = finished-cells (draw tab begun (signs line)) (draw-cells tab (signs line) q begun (λ j. blank-cells 80 j)) i h
+  row-cells : (tab : ℕ) (line : List ℕ) → All (Shows Q) (signs line) → (i : ℕ) → i < 79 → Q (getD (rowCells tab line) i blank)
+  unfolding rowCells blankRow
+  row-cells tab line q i h = finished-cells (draw tab blankRow (signs line)) (draw-cells tab (signs line) q blankRow (λ j. blank-cells 80 j)) i h
 
   sign-shows : (c : ℕ) → Q c → Shows Q (signOf c)
   unfolding signOf
@@ -118,6 +118,6 @@ module _ (G : Type 0) where
       (λ xs h i g. (shown-plus xs g (decode xs) refl, i (λ m. g (dropped (suc (size (decode xs) - 1)) xs m))))
       line
 
-pub no-cell-but-the-last-is-a-plus-unless-the-line-has-it : (tab : ℕ) (line : List ℕ) (i : ℕ) → i < 79 → getD (rowOf tab line) i blank ≡ 43 → 43 ∈ line
+pub no-cell-but-the-last-is-a-plus-unless-the-line-has-it : (tab : ℕ) (line : List ℕ) (i : ℕ) → i < 79 → getD (rowCells tab line) i blank ≡ 43 → 43 ∈ line
 no-cell-but-the-last-is-a-plus-unless-the-line-has-it tab line i h e =
     row-cells (λ c. c ≡ 43 → 43 ∈ line) (λ z. absurd (omega (arith, z))) (λ z. absurd (omega (arith, z))) tab line (signs-plus (43 ∈ line) line (λ m. m)) i h e

@@ -8,7 +8,7 @@ use lib.Dec.{leb}
 use lib.ListN.{length}
 use borrow.Author.Tests.{leb-true, leb-false, lt-leb}
 use Rattle.spacing.proofs.Laws.{stop-behind}
-use Rattle.panel.specs.Panel.{Row, taken, drawn, draw, marked, finished}
+use Rattle.panel.specs.Panel.{PanelRow, taken, drawn, draw, marked, finished}
 use Rattle.panel.specs.Contracts.Places.{rowAt, stepOf}
 use Rattle.panel.specs.declared.Sign.{Sign}
 use Rattle.panel.specs.declared.Sign.the-variants.{Tab, Dropped, One, Two}
@@ -26,7 +26,7 @@ any [] = false
 any (s ∷ ss) = takes s || any ss
 
 -- cells that do not fit
-taken-over : (cs : List ℕ) (r : Row) → 80 < r .column + length cs → taken cs r ≡ record { cells = r .cells; column = r .column + length cs; over = r .over || true }
+taken-over : (cs : List ℕ) (r : PanelRow) → 80 < r .column + length cs → taken cs r ≡ record { cells = r .cells; column = r .column + length cs; over = r .over || true }
 unfolding taken
 taken-over cs r h = rw (lt-leb (r .column + length cs) 80 h)
 
@@ -38,7 +38,7 @@ past end e = go (leb end 80) refl e
     go false f g = let h = leb-false end 80 f in omega arith
 
 -- what an answer of the code tells of the row
-over-told : (d : Row) → Over ≡ stepOf d → d .over ≡ true
+over-told : (d : PanelRow) → Over ≡ stepOf d → d .over ≡ true
 unfolding stepOf
 over-told d e = go (d .over) refl e
   where
@@ -46,7 +46,7 @@ over-told d e = go (d .over) refl e
     go true f g = f
     go false f g = absurd (let z : _≡_ {A = ℕ} 0 1 = cc in omega arith)
 
-pub on-told : (d : Row) (k : ℕ) → At k ≡ stepOf d → (d .over ≡ false) × (k ≡ min 80 (d .column))
+pub on-told : (d : PanelRow) (k : ℕ) → At k ≡ stepOf d → (d .over ≡ false) × (k ≡ min 80 (d .column))
 unfolding stepOf
 on-told d k e = go (d .over) refl e
   where
@@ -55,19 +55,19 @@ on-told d k e = go (d .over) refl e
     go false f g = (f, cc)
 
 module _ (tab : ℕ) (some : 1 ≤ tab) where
-  pub record Behind (r : Row) (s : Sign) : Type 0 where
+  pub record Behind (r : PanelRow) (s : Sign) : Type 0 where
     pub cells : drawn tab r s .cells ≡ r .cells
     pub column : 80 ≤ drawn tab r s .column
     pub over : drawn tab r s .over ≡ (r .over || takes s)
 
-  behind-one : (r : Row) (s : Sign) → 80 ≤ r .column → Behind r s
+  behind-one : (r : PanelRow) (s : Sign) → 80 ≤ r .column → Behind r s
   unfolding drawn
   behind-one r Tab h = let s = stop-behind tab (r .column) some in record { cells = refl; column = omega arith; over = sym (or-false (r .over)) }
   behind-one r Dropped h = record { cells = refl; column = h; over = sym (or-false (r .over)) }
   behind-one r (One c) h = let e = taken-over (c ∷ []) r (omega arith) in record { cells = rw e; column = rw e (omega arith); over = rw e }
   behind-one r (Two c) h = let e = taken-over (c ∷ 0 ∷ []) r (omega arith) in record { cells = rw e; column = rw e (omega arith); over = rw e }
 
-  behind : (ss : List Sign) (r : Row) → 80 ≤ r .column → finished (draw tab r ss) ≡ cond (r .over || any ss) (marked (r .cells)) (r .cells)
+  behind : (ss : List Sign) (r : PanelRow) → 80 ≤ r .column → finished (draw tab r ss) ≡ cond (r .over || any ss) (marked (r .cells)) (r .cells)
   unfolding finished draw any
   behind [] r h = rw (or-false (r .over))
   behind (s ∷ ss) r h =
@@ -80,7 +80,7 @@ module _ (tab : ℕ) (some : 1 ≤ tab) where
   far cells over a b ss h g = behind ss (record { cells = cells; column = a; over = over }) h ∙ sym (behind ss (record { cells = cells; column = b; over = over }) g)
 
   -- a line that has run over stays so
-  pub over-stays : (r : Row) (ss : List Sign) → 80 ≤ r .column → r .over ≡ true → finished (draw tab r ss) ≡ marked (r .cells)
+  pub over-stays : (r : PanelRow) (ss : List Sign) → 80 ≤ r .column → r .over ≡ true → finished (draw tab r ss) ≡ marked (r .cells)
   over-stays r ss h e = behind ss r h ∙ rw e
 
   -- ---- a step of the code
@@ -101,7 +101,7 @@ module _ (tab : ℕ) (some : 1 ≤ tab) where
       let o = over-told d e in
       sym (over-stays d ss (runs-over column cells s o) o)
 
-  goes-on : (d : Row) (ss : List Sign) (k : ℕ) → d .over ≡ false → k ≡ min 80 (d .column) → finished (draw tab (rowAt k (d .cells)) ss) ≡ finished (draw tab d ss)
+  goes-on : (d : PanelRow) (ss : List Sign) (k : ℕ) → d .over ≡ false → k ≡ min 80 (d .column) → finished (draw tab (rowAt k (d .cells)) ss) ≡ finished (draw tab d ss)
   goes-on d ss k o e = go (leb (d .column) 80) refl
     where
       same : rowAt (d .column) (d .cells) ≡ d

@@ -11,7 +11,7 @@ use Rattle.lists.proofs.Walk.{each-nil, each-at}
 use Rattle.lists.proofs.Views.{drop-none}
 use Rattle.text.specs.Rfc3629.{Front, front, nothing, decode}
 use Rattle.text.proofs.Decoder.{sound}
-use Rattle.panel.specs.Panel.{Row, blank, shownAs, size, signs, begun, taken, drawn, draw, marked, finished, rowOf}
+use Rattle.panel.specs.Panel.{PanelRow, blank, shownAs, size, signs, blankRow, taken, drawn, draw, marked, finished, rowCells}
 use Rattle.panel.specs.Contracts.Places.{seenAt, rowAt, stepOf}
 use Rattle.panel.specs.declared.Seen.{Seen}
 use Rattle.panel.specs.declared.Sign.{Sign}
@@ -61,7 +61,7 @@ sign-here line at seen h e =
 
 -- ---- the cells of a row
 
-taken-length : (cs : List ℕ) (r : Row) → length (taken cs r .cells) ≡ length (r .cells)
+taken-length : (cs : List ℕ) (r : PanelRow) → length (taken cs r .cells) ≡ length (r .cells)
 unfolding taken
 taken-length cs r = pick (leb (r .column + length cs) 80)
   where
@@ -69,7 +69,7 @@ taken-length cs r = pick (leb (r .column + length cs) 80)
     pick true = length-sets (r .cells) (r .column) cs
     pick false = refl
 
-pub drawn-length : (tab : ℕ) (r : Row) (s : Sign) → length (drawn tab r s .cells) ≡ length (r .cells)
+pub drawn-length : (tab : ℕ) (r : PanelRow) (s : Sign) → length (drawn tab r s .cells) ≡ length (r .cells)
 unfolding drawn
 drawn-length tab r Tab = refl
 drawn-length tab r Dropped = refl
@@ -84,7 +84,7 @@ marked-length cells = length-set (cond (eqb (getD cells 79 0) 0) (set cells 78 b
     same true = length-set cells 78 blank
     same false = refl
 
-pub finished-length : (r : Row) → length (finished r) ≡ length (r .cells)
+pub finished-length : (r : PanelRow) → length (finished r) ≡ length (r .cells)
 unfolding finished
 finished-length r = pick (r .over)
   where
@@ -92,15 +92,15 @@ finished-length r = pick (r .over)
     pick true = marked-length (r .cells)
     pick false = refl
 
-draw-length : (tab : ℕ) (r : Row) (ss : List Sign) → length (draw tab r ss .cells) ≡ length (r .cells)
+draw-length : (tab : ℕ) (r : PanelRow) (ss : List Sign) → length (draw tab r ss .cells) ≡ length (r .cells)
 unfolding draw
 draw-length tab r [] = refl
 draw-length tab r (s ∷ ss) = draw-length tab (drawn tab r s) ss ∙ drawn-length tab r s
 
 -- every row has 80 cells
-pub row-length : (tab : ℕ) (line : List ℕ) → length (rowOf tab line) ≡ 80
-unfolding rowOf begun
-row-length tab line = finished-length (draw tab begun (signs line)) ∙ draw-length tab begun (signs line) ∙ length-replicate 80 blank
+pub row-length : (tab : ℕ) (line : List ℕ) → length (rowCells tab line) ≡ 80
+unfolding rowCells blankRow
+row-length tab line = finished-length (draw tab blankRow (signs line)) ∙ draw-length tab blankRow (signs line) ∙ length-replicate 80 blank
 
 -- ---- the turns
 
@@ -108,17 +108,17 @@ pub record Drawing (line : List ℕ) (tab : ℕ) (row : List ℕ) (at column : �
   pub within : at ≤ length line
   pub few : column ≤ 80
   pub size : length row ≡ 80
-  pub left : finished (draw tab (rowAt column row) (signs (drop at line))) ≡ rowOf tab line
+  pub left : finished (draw tab (rowAt column row) (signs (drop at line))) ≡ rowCells tab line
 
 pub eighty : (row : List ℕ) → row ≡ replicate 80 blank → 80 ≡ length row
 eighty row e = sym (ap length e ∙ length-replicate 80 blank)
 
 pub drawing-first : (line : List ℕ) (tab : ℕ) (row : List ℕ) → row ≡ replicate 80 blank → Drawing line tab row 0 0
-unfolding rowOf begun
+unfolding rowCells blankRow
 drawing-first line tab row e =
     record { within = omega arith; few = omega arith; size = rw e (length-replicate 80 blank); left = rw e }
 
-pub drawing-last : (line : List ℕ) (tab : ℕ) (row : List ℕ) (at column : ℕ) → Drawing line tab row at column → length line ≤ at → row ≡ rowOf tab line
+pub drawing-last : (line : List ℕ) (tab : ℕ) (row : List ℕ) (at column : ℕ) → Drawing line tab row at column → length line ≤ at → row ≡ rowCells tab line
 unfolding finished draw
 drawing-last line tab row at column d h = rw (signs-past line at h) at (d .left)
 
@@ -138,5 +138,5 @@ module _ (line : List ℕ) (tab : ℕ) (row : List ℕ) (at column : ℕ) (some 
         left = rw stored (step-on tab some column row (seen .sign) (signs (drop (seen .next) line)) k e ∙ rw (here .first) at (d .left));
       }
 
-  pub drawing-over : Over ≡ stepOf (drawn tab (rowAt column row) (seen .sign)) → marked after ≡ rowOf tab line
+  pub drawing-over : Over ≡ stepOf (drawn tab (rowAt column row) (seen .sign)) → marked after ≡ rowCells tab line
   drawing-over e = rw stored (step-over tab some column row (seen .sign) (signs (drop (seen .next) line)) e ∙ rw (here .first) at (d .left))

@@ -1,12 +1,13 @@
 -- RULES 15: the wall panel, 24 rows of 80 cells, each a code point. A row is a function of its digest line and the tab width.
 use mathlib.Core.Bool.{Bool, false, cond, not, _&&_, _||_}
 use mathlib.Core.List.{List, [], _∷_, _++_, map}
-use Prim.Native.Nat.{ℕ, _+_, _-_, _*_, _^_}
+use Prim.Native.Nat.{ℕ, _+_, _-_}
 use lib.Dec.{ltb, leb, eqb}
 use lib.ListN.{length, getD, drop, set, replicate}
 use lib.Seq.{sets}
 use Rattle.lists.specs.Walk.{each}
 use Rattle.lists.specs.Runs.{joined}
+use Rattle.lists.specs.Coded.{Coded, coded}
 use Rattle.widths.specs.Widths.{widthOf}
 use Rattle.text.specs.Rfc3629.{Front, front, nothing, decode}
 use Rattle.lines.specs.Lines.{Line, linesOf}
@@ -48,30 +49,30 @@ signs = each (λ xs. size (decode xs) - 1) (λ xs. shownAs (decode xs))
 -- ---- a row
 
 -- while it is drawn: its cells, the column of the next character, and whether one would take a cell beyond the last
-pub record Row : Type 0 where
+pub record PanelRow : Type 0 where
   pub cells : List ℕ
   pub column : ℕ
   pub over : Bool
 
 -- it begins as 80 blanks
-unfoldable pub begun : Row
-begun = record { cells = replicate 80 blank; column = 0; over = false }
+unfoldable pub blankRow : PanelRow
+blankRow = record { cells = replicate 80 blank; column = 0; over = false }
 
 -- a character takes cells; where they do not all fit it is dropped, and the line runs past column 80
-unfoldable pub taken : List ℕ → Row → Row
+unfoldable pub taken : List ℕ → PanelRow → PanelRow
 taken cs r =
     let end = r .column + length cs in
     let fits = leb end 80 in
     record { cells = cond fits (sets (r .cells) (r .column) cs) (r .cells); column = end; over = r .over || not fits }
 
 -- a tab moves to the next stop without marking cells; a wide character takes its cell and a filler cell
-unfoldable pub drawn : ℕ → Row → Sign → Row
+unfoldable pub drawn : ℕ → PanelRow → Sign → PanelRow
 drawn tab r Tab = record { cells = r .cells; column = nextStop tab (r .column); over = r .over }
 drawn tab r Dropped = r
 drawn tab r (One c) = taken (c ∷ []) r
 drawn tab r (Two c) = taken (c ∷ filler ∷ []) r
 
-unfoldable pub draw : ℕ → Row → List Sign → Row
+unfoldable pub draw : ℕ → PanelRow → List Sign → PanelRow
 draw tab r [] = r
 draw tab r (s ∷ ss) = draw tab (drawn tab r s) ss
 
@@ -79,12 +80,12 @@ draw tab r (s ∷ ss) = draw tab (drawn tab r s) ss
 unfoldable pub marked : List ℕ → List ℕ
 marked cells = set (cond (eqb (getD cells 79 0) filler) (set cells 78 blank) cells) 79 0x2B
 
-unfoldable pub finished : Row → List ℕ
+unfoldable pub finished : PanelRow → List ℕ
 finished r = cond (r .over) (marked (r .cells)) (r .cells)
 
 -- a row's cells by its line's text
-unfoldable pub rowOf : ℕ → List ℕ → List ℕ
-rowOf tab line = finished (draw tab begun (signs line))
+unfoldable pub rowCells : ℕ → List ℕ → List ℕ
+rowCells tab line = finished (draw tab blankRow (signs line))
 
 -- ---- the panel
 
@@ -105,25 +106,18 @@ shown digest =
     replicate (24 - length ls) [] ++ textsOf ls
 
 unfoldable pub panelOf : ℕ → List ℕ → List ℕ
-panelOf tab digest = joined (rowOf (stopWidth tab)) (shown digest)
+panelOf tab digest = joined (rowCells (stopWidth tab)) (shown digest)
 
 -- ---- the answers
 
 -- refused for a tab width over 100 alone, with all cells left as blanks
-unfoldable pub answer : ℕ → Answer
-answer tab = cond (leb tab 100) Done Options
+unfoldable pub panelAnswer : ℕ → Answer
+panelAnswer tab = cond (leb tab 100) Done Options
 
 unfoldable pub cellsAfter : ℕ → List ℕ → List ℕ
 cellsAfter tab digest = cond (leb tab 100) (panelOf tab digest) (replicate 1920 blank)
 
--- code and N
-abbrev pub code : Answer → ℕ
-code Done = 0
-code Options = 1
-
-abbrev pub value : Answer → ℕ
-value Done = 0
-value Options = 0
-
-unfoldable pub numbered : Answer → ℕ
-numbered a = code a * 2 ^ 32 + value a
+-- the table: code and N
+abbrev pub panelCoded : Answer → Coded
+panelCoded Done = coded 0 0
+panelCoded Options = coded 1 0

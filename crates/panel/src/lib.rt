@@ -6,7 +6,8 @@ ghost use lib.ListN.{length, drop, replicate};
 ghost use Rattle.lists.specs.Runs.{joined};
 ghost use Rattle.lines.specs.Lines.{linesOf};
 ghost use Rattle.lines.specs.Classes.{nextStop};
-ghost use Rattle.panel.specs.Panel.{blank, control, signOf, drawn, marked, rowOf, stopWidth, shown, answer, cellsAfter, numbered};
+ghost use Rattle.lists.specs.Coded.{numbered};
+ghost use Rattle.panel.specs.Panel.{blank, control, signOf, drawn, marked, rowCells, stopWidth, shown, panelAnswer, cellsAfter, panelCoded};
 ghost use Rattle.panel.specs.Contracts.Places.{seenAt, rowAt, stepOf, Newest};
 
 // What the call answers: the panel is drawn, or the tab width is refused.
@@ -43,7 +44,7 @@ struct Tail {
 
 // Draws the panel of a digest. What the cells held before is gone.
 pub fn draw(digest: &[u8], tab: u64, cells: &mut [u32; 1920]) -> Answer
-    ensures { λ r. ⌜ (r ≡ answer tab) × (now (cells .exit) ≡ cellsAfter tab (now (digest .entry))) ⌝ }
+    ensures { λ r. ⌜ (r ≡ panelAnswer tab) × (now (cells .exit) ≡ cellsAfter tab (now (digest .entry))) ⌝ }
 {
     // All cells are made as blanks before any line is drawn.
     *cells = [0x20; 1920];
@@ -56,7 +57,7 @@ pub fn draw(digest: &[u8], tab: u64, cells: &mut [u32; 1920]) -> Answer
 
 // The answer's number: its code is in the upper 32 bits.
 pub fn number_of(a: Answer) -> u64
-    ensures { λ r. ⌜ r ≡ numbered a ⌝ }
+    ensures { λ r. ⌜ r ≡ numbered (panelCoded a) ⌝ }
 {
     match a {
         Answer::Done => 0,
@@ -74,7 +75,7 @@ pub fn stop_width(tab: u64) -> usize
 // Draws the newest lines into rows of blanks, the last at the bottom.
 fn draw_newest(digest: &[u8], tab: usize, cells: &mut [u32])
     requires { ⌜ (1 ≤ tab) × (tab ≤ 100) × (now cells ≡ replicate 1920 blank) ⌝ }
-    ensures { λ r. ⌜ now (cells .exit) ≡ joined (rowOf tab) (shown (now (digest .entry))) ⌝ }
+    ensures { λ r. ⌜ now (cells .exit) ≡ joined (rowCells tab) (shown (now (digest .entry))) ⌝ }
 {
     let t = newest_lines(digest);
     let mut at = t.at;
@@ -121,7 +122,7 @@ fn line_ends(s: &[u8], at: usize) -> usize
 // Draws a line's text into its row of blanks.
 fn draw_row(line: &[u8], tab: usize, row: &mut [u32])
     requires { ⌜ (1 ≤ tab) × (tab ≤ 100) × (now row ≡ replicate 80 blank) ⌝ }
-    ensures { λ r. ⌜ now (row .exit) ≡ rowOf tab (now (line .entry)) ⌝ }
+    ensures { λ r. ⌜ now (row .exit) ≡ rowCells tab (now (line .entry)) ⌝ }
 {
     let mut at = 0;
     let mut column = 0;

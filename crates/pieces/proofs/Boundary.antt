@@ -43,12 +43,12 @@ module _ (o : Opts) where
         go Plain = refl
         go (Formatted s) = paragraph-append nextMail s k ls
 
-  next-within : (nextMail : Bool) (ls : List Line) → 0 < length ls → nextPiece o nextMail ls .more < length ls
+  next-within : (nextMail : Bool) (ls : List Line) → 0 < length ls → nextPiece o nextMail ls .besides < length ls
   unfolding nextPiece paragraphAt
   next-within nextMail [] h = absurd (omega arith)
   next-within nextMail (k ∷ ls) h = go (classify o (k .text))
     where
-      go : (c : Class) → pieceAs o nextMail k ls c .more < suc (length ls)
+      go : (c : Class) → pieceAs o nextMail k ls c .besides < suc (length ls)
       go Blank = omega arith
       go Plain = omega arith
       go (Formatted s) = let h = further-le o (startsMail (o .mail) nextMail s (k .text)) s ls in omega arith

@@ -23,12 +23,12 @@ use Rattle.pieces.specs.Pieces.{Paragraph, Kind, Piece, blankLine, plain
 abbrev pub linesIn : Piece → List Line
 linesIn q = q .lines
 
-pub next-lines : (o : Opts) (nextMail : Bool) (ls : List Line) → 0 < length ls → nextPiece o nextMail ls .item .lines ≡ take (suc (nextPiece o nextMail ls .more)) ls
+pub next-lines : (o : Opts) (nextMail : Bool) (ls : List Line) → 0 < length ls → nextPiece o nextMail ls .item .lines ≡ take (suc (nextPiece o nextMail ls .besides)) ls
 unfolding nextPiece paragraphAt
 next-lines o nextMail [] h = absurd (omega arith)
 next-lines o nextMail (l ∷ ls) h = go (classify o (l .text))
   where
-    go : (c : Class) → pieceAs o nextMail l ls c .item .lines ≡ l ∷ take (pieceAs o nextMail l ls c .more) ls
+    go : (c : Class) → pieceAs o nextMail l ls c .item .lines ≡ l ∷ take (pieceAs o nextMail l ls c .besides) ls
     go Blank = refl
     go Plain = refl
     go (Formatted s) = refl

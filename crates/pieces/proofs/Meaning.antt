@@ -41,7 +41,7 @@ pub record TurnIs (o : Opts) (nextMail : Bool) (notes : List ℕ) (at : ℕ) (ki
   pub kind-is : turnAt o nextMail notes at .item .kind ≡ kind
   pub state-is : turnAt o nextMail notes at .state ≡ state
   pub extent : at + taken (turnAt o nextMail notes at .item .lines) ≡ next
-  pub behind : drop (suc (turnAt o nextMail notes at .more)) (linesOf (drop at notes)) ≡ linesOf (drop next notes)
+  pub behind : drop (suc (turnAt o nextMail notes at .besides)) (linesOf (drop at notes)) ≡ linesOf (drop next notes)
 
 -- a paragraph in places: its indents, its rows, which are the lines of its part of the notes, and where their words begin
 pub record TextIs (o : Opts) (notes : List ℕ) (at : ℕ) (p : ParagraphAt) (q : Paragraph) : Type 0 where
@@ -78,7 +78,7 @@ module _ (o : Opts) (nextMail : Bool) (notes : List ℕ) (at : ℕ) (inside : at
   abbrev rest : List Line
   rest = restAt notes at
 
-  turn-is : (t : Stride Piece Bool) (kind : Kind) (next : ℕ) → nextPiece o nextMail (line ∷ rest) ≡ t → t .item .kind ≡ kind → t .item .lines ≡ line ∷ take (t .more) rest → Lines notes at inside (t .more) next
+  turn-is : (t : Stride Piece Bool) (kind : Kind) (next : ℕ) → nextPiece o nextMail (line ∷ rest) ≡ t → t .item .kind ≡ kind → t .item .lines ≡ line ∷ take (t .besides) rest → Lines notes at inside (t .besides) next
       → TurnIs o nextMail notes at kind (t .state) next
   turn-is t kind next e k ls n =
       let f = here notes at inside .first in
@@ -88,7 +88,7 @@ module _ (o : Opts) (nextMail : Bool) (notes : List ℕ) (at : ℕ) (inside : at
         kind-is = ap (λ (x : Stride Piece Bool). x .item .kind) u ∙ k;
         state-is = ap (λ (x : Stride Piece Bool). x .state) u;
         extent = ap (λ (x : Stride Piece Bool). at + taken (x .item .lines)) u ∙ ap (λ (ys : List Line). at + taken ys) ls ∙ n .count;
-        behind = ap (λ (x : Stride Piece Bool). drop (suc (x .more)) (linesOf (drop at notes))) u ∙ ap (drop (suc (t .more))) f ∙ n .more;
+        behind = ap (λ (x : Stride Piece Bool). drop (suc (x .besides)) (linesOf (drop at notes))) u ∙ ap (drop (suc (t .besides))) f ∙ n .more;
       }
 
   as-class : (k : Class) → classify o (line .text) ≡ k → nextPiece o nextMail (line ∷ rest) ≡ pieceAs o nextMail line rest k

@@ -84,18 +84,18 @@ module _ (o : Opts) where
         go true true c k = absurd (true≢false (c refl))
         go false true c k = ap (laterIndent o (indentOf text s)) (second-front s a b k .second)
 
-    paragraph-front : (nextMail : Bool) (s : Shape) (l : Line) (a b : List Line) → paragraphAt o nextMail s l (a ++ b) .more ≤ length a → paragraphAt o nextMail s l a ≡ paragraphAt o nextMail s l (a ++ b)
+    paragraph-front : (nextMail : Bool) (s : Shape) (l : Line) (a b : List Line) → paragraphAt o nextMail s l (a ++ b) .besides ≤ length a → paragraphAt o nextMail s l a ≡ paragraphAt o nextMail s l (a ++ b)
     unfolding paragraphAt
     paragraph-front nextMail s l a b h =
         let mail = startsMail (o .mail) nextMail s (l .text) in
         rw (further-front mail s a b h, indent-front mail (l .text) s a b h, take-append-le (further o mail s (a ++ b)) a b h)
 
-    next-front : (nextMail : Bool) (a b : List Line) → nextPiece o nextMail (a ++ b) .more < length a → nextPiece o nextMail a ≡ nextPiece o nextMail (a ++ b)
+    next-front : (nextMail : Bool) (a b : List Line) → nextPiece o nextMail (a ++ b) .besides < length a → nextPiece o nextMail a ≡ nextPiece o nextMail (a ++ b)
     unfolding nextPiece
     next-front nextMail [] b h = absurd (omega arith)
     next-front nextMail (l ∷ a) b h = go (classify o (l .text)) h
       where
-        go : (c : Class) → pieceAs o nextMail l (a ++ b) c .more < suc (length a) → pieceAs o nextMail l a c ≡ pieceAs o nextMail l (a ++ b) c
+        go : (c : Class) → pieceAs o nextMail l (a ++ b) c .besides < suc (length a) → pieceAs o nextMail l a c ≡ pieceAs o nextMail l (a ++ b) c
         go Blank k = refl
         go Plain k = refl
         go (Formatted s) k = paragraph-front nextMail s l a b (omega arith)
@@ -124,11 +124,11 @@ next-mail-behind o nextMail (l ∷ ls) [] e = absurd (let n = ap length (sym (wa
 next-mail-behind o nextMail [] (p ∷ ps) e = absurd (let n = ap length (sym (walk-nil (nextPiece o) nextMail) ∙ e) in omega arith)
 next-mail-behind o nextMail (l ∷ ls) (p ∷ ps) e =
     let t = nextPiece o nextMail (l ∷ ls) in
-    let u : t .item ∷ walk (nextPiece o) (t .state) (drop (t .more) ls) ≡ p ∷ ps = sym (walk-step (nextPiece o) nextMail (l ∷ ls) (omega arith)) ∙ e in
+    let u : t .item ∷ walk (nextPiece o) (t .state) (drop (t .besides) ls) ≡ p ∷ ps = sym (walk-step (nextPiece o) nextMail (l ∷ ls) (omega arith)) ∙ e in
     let i : t .item ≡ p = cc in
-    let w : walk (nextPiece o) (t .state) (drop (t .more) ls) ≡ ps = cc in
+    let w : walk (nextPiece o) (t .state) (drop (t .besides) ls) ≡ ps = cc in
     last-step (nextPiece o) nextMail (l ∷ ls) (omega arith)
-    ∙ next-mail-behind o (t .state) (drop (t .more) ls) ps w
+    ∙ next-mail-behind o (t .state) (drop (t .besides) ls) ps w
     ∙ ap (λ (m : Bool). nextMailBehind m ps) (next-state o nextMail (l ∷ ls) (omega arith) ∙ ap (λ (q : Piece). nextMailAs (q .kind)) i)
 
 -- without mail no paragraph starts as mail, so it does not matter
@@ -137,7 +137,7 @@ unfolding startsMail paragraphAt nextPiece
 no-mail o off m n [] = walk-nil (nextPiece o) m ∙ sym (walk-nil (nextPiece o) n)
 no-mail o off m n (l ∷ ls) =
     walk-step (nextPiece o) m (l ∷ ls) (omega arith)
-    ∙ ap (λ (t : Stride Piece Bool). t .item ∷ walk (nextPiece o) (t .state) (drop (suc (t .more)) (l ∷ ls))) same
+    ∙ ap (λ (t : Stride Piece Bool). t .item ∷ walk (nextPiece o) (t .state) (drop (suc (t .besides)) (l ∷ ls))) same
     ∙ sym (walk-step (nextPiece o) n (l ∷ ls) (omega arith))
   where
     never : (k : Bool) (s : Shape) → startsMail (o .mail) k s (l .text) ≡ false

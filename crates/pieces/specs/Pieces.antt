@@ -165,17 +165,17 @@ paragraphAt o nextMail s l ls =
       indent = indentFor o mail (l .text) s ls;
       rows = map (rowOf o) taken;
     } in
-    record { item = record { kind = paragraph p; lines = taken }; more = n; state = mail }
+    record { item = record { kind = paragraph p; lines = taken }; besides = n; state = mail }
 
 -- a blank line sets next-mail true, a plain line false; next-mail after a paragraph tells whether it was mail
 abbrev pub pieceAs : Opts → Bool → Line → List Line → Class → Stride Piece Bool
-pieceAs o nextMail l ls Blank = record { item = record { kind = blankLine; lines = l ∷ [] }; more = 0; state = true }
-pieceAs o nextMail l ls Plain = record { item = record { kind = plainLine (l .text); lines = l ∷ [] }; more = 0; state = false }
+pieceAs o nextMail l ls Blank = record { item = record { kind = blankLine; lines = l ∷ [] }; besides = 0; state = true }
+pieceAs o nextMail l ls Plain = record { item = record { kind = plainLine (l .text); lines = l ∷ [] }; besides = 0; state = false }
 pieceAs o nextMail l ls (Formatted s) = paragraphAt o nextMail s l ls
 
 -- (a stride is asked of a list that has an element, so [] is not reached)
 unfoldable pub nextPiece : Opts → Bool → List Line → Stride Piece Bool
-nextPiece o nextMail [] = record { item = record { kind = blankLine; lines = [] }; more = 0; state = nextMail }
+nextPiece o nextMail [] = record { item = record { kind = blankLine; lines = [] }; besides = 0; state = nextMail }
 nextPiece o nextMail (l ∷ ls) = pieceAs o nextMail l ls (classify o (l .text))
 
 -- next-mail starts true

@@ -17,7 +17,7 @@ use Rattle.endings.specs.declared.Ending.{Ending}
 use Rattle.endings.specs.declared.Ending.the-variants.{Paragraph, Full}
 use Rattle.endings.specs.Endings.{Next, goesOn, ended, breaks, endings}
 use Rattle.quick.specs.Quick.{quickFrom, quickBreaks}
-use Rattle.quick.specs.QuickLines.{linesFrom, quickLines}
+use Rattle.quick.specs.QuickLines.{quickLinesFrom, quickLines}
 use Rattle.quick.proofs.Laws.{reached}
 
 module _ (g : Setting) where
@@ -32,8 +32,8 @@ module _ (g : Setting) where
   breaks-by true e xs ys us vs h k = ap (λ (bs : List Bool). true ∷ bs) h
   breaks-by false e xs ys us vs h k = ap (λ (bs : List Bool). false ∷ bs) k
 
-  breaks-from : (column : ℕ) (punct : Bool) (ws : List Word) → breaks (linesFrom g column punct ws) ≡ quickFrom g column punct ws
-  unfolding breaks linesFrom quickFrom
+  breaks-from : (column : ℕ) (punct : Bool) (ws : List Word) → breaks (quickLinesFrom g column punct ws) ≡ quickFrom g column punct ws
+  unfolding breaks quickLinesFrom quickFrom
   breaks-from column punct [] = refl
   breaks-from column punct (w ∷ ws) =
       breaks-by (ltb (g .width) (reached g column punct w)) (fullBy column punct w) _ _ _ _ (breaks-from (g .indent + w .width) (w .endsPunct) ws) (breaks-from (reached g column punct w) (w .endsPunct) ws)
@@ -46,19 +46,19 @@ module _ (g : Setting) where
   -- ---- why a line ends, one word at a time
 
   told-by : (b z : Bool) (left indent on : ℕ) (e : Ending) (punct : Bool) (ws : List Word) → eqb left 0 ≡ z
-      → getD (endings (elim b as (λ x. List Next) [ true ↦ ended e ∷ linesFrom g indent punct ws | false ↦ goesOn ∷ linesFrom g on punct ws ])) left Paragraph
-      ≡ cond (b && z) e (getD (endings (linesFrom g (cond b indent on) punct ws)) (cond b (left - 1) left) Paragraph)
+      → getD (endings (elim b as (λ x. List Next) [ true ↦ ended e ∷ quickLinesFrom g indent punct ws | false ↦ goesOn ∷ quickLinesFrom g on punct ws ])) left Paragraph
+      ≡ cond (b && z) e (getD (endings (quickLinesFrom g (cond b indent on) punct ws)) (cond b (left - 1) left) Paragraph)
   unfolding endings
   told-by true true left indent on e punct ws h = rw (eqb-true left 0 h)
-  told-by true false left indent on e punct ws h = behind-first Paragraph e (endings (linesFrom g indent punct ws)) left (eqb-false left 0 h)
+  told-by true false left indent on e punct ws h = behind-first Paragraph e (endings (quickLinesFrom g indent punct ws)) left (eqb-false left 0 h)
   told-by false true left indent on e punct ws h = refl
   told-by false false left indent on e punct ws h = refl
 
-  told-cons : (left column : ℕ) (punct : Bool) (w : Word) (ws : List Word) → getD (endings (linesFrom g column punct (w ∷ ws))) left Paragraph
+  told-cons : (left column : ℕ) (punct : Bool) (w : Word) (ws : List Word) → getD (endings (quickLinesFrom g column punct (w ∷ ws))) left Paragraph
       ≡ cond (ltb (g .width) (reached g column punct w) && eqb left 0) (fullBy column punct w)
-      (getD (endings (linesFrom g (cond (ltb (g .width) (reached g column punct w)) (g .indent + w .width) (reached g column punct w)) (w .endsPunct) ws))
+      (getD (endings (quickLinesFrom g (cond (ltb (g .width) (reached g column punct w)) (g .indent + w .width) (reached g column punct w)) (w .endsPunct) ws))
       (cond (ltb (g .width) (reached g column punct w)) (left - 1) left) Paragraph)
-  unfolding linesFrom
+  unfolding quickLinesFrom
   told-cons left column punct w ws = told-by (ltb (g .width) (reached g column punct w)) (eqb left 0) left (g .indent + w .width) (reached g column punct w) (fullBy column punct w) (w .endsPunct) ws refl
 
   told-none : (left : ℕ) → getD (Paragraph ∷ []) left Paragraph ≡ Paragraph
@@ -70,7 +70,7 @@ module _ (g : Setting) where
 module _ (g : Setting) (notes table : List ℕ) (n : ℕ) where
   -- why the line ends that is so many lines after the one that is at a column before word i
   abbrev pub endingFrom : ℕ → Bool → ℕ → ℕ → Ending
-  endingFrom column punct i left = getD (endings (linesFrom g column punct (drop i (wordsIn notes n table)))) left Paragraph
+  endingFrom column punct i left = getD (endings (quickLinesFrom g column punct (drop i (wordsIn notes n table)))) left Paragraph
 
   pub ending-first : (w : Record) (line : ℕ) → w ≡ wordIn table 0 → 0 < n
       → endingFrom (g .first + w .width) false 1 line ≡ getD (endings (quickLines g (wordsIn notes n table))) line Paragraph
@@ -101,5 +101,5 @@ module _ (g : Setting) (notes table : List ℕ) (n : ℕ) where
       rw (behind, fewer) (sym (rw test at (ending-turn column punct i left w r e h is)))
 
   pub ending-last : (column : ℕ) (punct : Bool) (i left : ℕ) → n ≤ i → Paragraph ≡ endingFrom column punct i left
-  unfolding linesFrom endings
+  unfolding quickLinesFrom endings
   ending-last column punct i left h = rw (words-end notes n table i h) (sym (told-none g left))

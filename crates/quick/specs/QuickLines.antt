@@ -11,17 +11,17 @@ use Rattle.endings.specs.declared.Ending.the-variants.{Full}
 use Rattle.endings.specs.Endings.{Next, goesOn, ended}
 
 -- column + gap + S + width > width limit: the line ends before the word
-unfoldable pub linesFrom : Setting → ℕ → Bool → List Word → List Next
-linesFrom g column previousPunct [] = []
-linesFrom g column previousPunct (w ∷ ws) =
+unfoldable pub quickLinesFrom : Setting → ℕ → Bool → List Word → List Next
+quickLinesFrom g column previousPunct [] = []
+quickLinesFrom g column previousPunct (w ∷ ws) =
     let gap = gapAt (g .tab) column w in
     let space = addedSpace (g .uniform) (w .newLine) (w .sentenceStart) previousPunct in
     let reached = column + gap + space + w .width in
     elim (ltb (g .width) reached) [
-      | true ↦ ended (Full column gap space (w .width)) ∷ linesFrom g (g .indent + w .width) (w .endsPunct) ws
-      | false ↦ goesOn ∷ linesFrom g reached (w .endsPunct) ws
+      | true ↦ ended (Full column gap space (w .width)) ∷ quickLinesFrom g (g .indent + w .width) (w .endsPunct) ws
+      | false ↦ goesOn ∷ quickLinesFrom g reached (w .endsPunct) ws
     ]
 
 unfoldable pub quickLines : Setting → List Word → List Next
 quickLines g [] = []
-quickLines g (w ∷ ws) = linesFrom g (g .first + w .width) false ws
+quickLines g (w ∷ ws) = quickLinesFrom g (g .first + w .width) false ws

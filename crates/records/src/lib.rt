@@ -31,13 +31,7 @@ fn read(t: &[u32], i: usize, j: usize) -> usize
     ensures { λ r. ⌜ (r ≡ numberIn (now (t .entry)) i j) × (r < 2 ^ 32) ⌝ }
 {
     let k = i * 7 + j;
-    wide(t[k])
-}
-
-fn wide(x: u32) -> usize
-    ensures { λ r. ⌜ (r ≡ x) × (r < 2 ^ 32) ⌝ }
-{
-    x as usize
+    lists::wide(t[k])
 }
 
 // The count before a tab from its number in the table, and back.

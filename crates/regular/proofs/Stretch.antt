@@ -138,10 +138,10 @@ module _ (sp ink rest : List ℕ) (spaces : every isSpace sp ≡ true) (inked : 
       go [] l = absurd (omega arith)
       go (x ∷ t) l = gl-punct false x t
 
-  is-word : (o : Opts) (newLine previous : Bool) → o .uniform ≡ false → wordOf (counting (o .characters)) o newLine previous first ≡ plainWord newLine previous sp ink
+  is-word : (o : Opts) (newLine previous : Bool) → o .uniform ≡ false → wordOf (counting (o .byCharacters)) o newLine previous first ≡ plainWord newLine previous sp ink
   unfolding wordOf wideGap gapOf counting
   is-word o newLine previous u =
-      rw (u, gl-gap (o .tab) 0 sp spaces, gl-bytes sp, gl-bytes ink, gl-width ink, gl-length sp, punct-is, same (o .characters) (length sp), none)
+      rw (u, gl-gap (o .tab) 0 sp spaces, gl-bytes sp, gl-bytes ink, gl-width ink, gl-length sp, punct-is, same (o .byCharacters) (length sp), none)
     where
       same : (c : Bool) (n : ℕ) → cond c n n ≡ n
       same true n = refl
@@ -151,7 +151,7 @@ module _ (sp ink rest : List ℕ) (spaces : every isSpace sp ≡ true) (inked : 
       none = omega arith
 
   line-words : (o : Opts) (newLine previous : Bool)
-      → lineWords (counting (o .characters)) o newLine previous (first ∷ runs (gl rest)) ≡ wordOf (counting (o .characters)) o newLine previous first ∷ lineWords (counting (o .characters)) o false (punctAtEnd (gl ink)) (runs (gl rest))
+      → lineWords (counting (o .byCharacters)) o newLine previous (first ∷ runs (gl rest)) ≡ wordOf (counting (o .byCharacters)) o newLine previous first ∷ lineWords (counting (o .byCharacters)) o false (punctAtEnd (gl ink)) (runs (gl rest))
   unfolding lineWords
   line-words o newLine previous = pick (gl ink) (rw gl-length some) _
     where
@@ -163,4 +163,4 @@ module _ (sp ink rest : List ℕ) (spaces : every isSpace sp ≡ true) (inked : 
   pub word-first : (o : Opts) (newLine previous : Bool) → o .uniform ≡ false
       → stretchWords o newLine previous (sp ++ (ink ++ rest)) ≡ plainWord newLine previous sp ink ∷ stretchWords o false (lastly false ink) rest
   unfolding stretchWords
-  word-first o newLine previous u = ap (lineWords (counting (o .characters)) o newLine previous) runs-are ∙ line-words o newLine previous ∙ rw (is-word o newLine previous u, punct-is)
+  word-first o newLine previous u = ap (lineWords (counting (o .byCharacters)) o newLine previous) runs-are ∙ line-words o newLine previous ∙ rw (is-word o newLine previous u, punct-is)

@@ -8,7 +8,7 @@ use words::Count;
 ghost use mathlib.Core.Path.{_≡_};
 ghost use mathlib.Core.Bool.{true, false};
 ghost use mathlib.Core.List.{List, _++_};
-ghost use Prim.Native.Nat.{ℕ, _+_, _-_, _*_, _≤_, _<_, _^_, min};
+ghost use Prim.Native.Nat.{ℕ, _+_, _-_, _*_, _≤_, _<_, _^_};
 ghost use lib.ListN.{length, getD, replicate};
 ghost use lib.Seq.{slice};
 ghost use Rattle.options.specs.Opts.{meant};
@@ -150,15 +150,6 @@ fn cut_line(s: &[u8], p: usize, e: usize, room: usize) -> Cut
     }
 }
 
-fn lesser(a: usize, b: usize) -> usize
-    ensures { λ r. ⌜ r ≡ min a b ⌝ }
-{
-    if a < b {
-        return a;
-    }
-    b
-}
-
 // The columns that are left, if any.
 fn room_of(width: usize, column: usize) -> usize
     ensures { λ r. ⌜ r ≡ width - column ⌝ }
@@ -174,7 +165,7 @@ fn put_at(s: &[u8], from: usize, to: usize, out: &mut [u8], k: usize) -> usize
     requires { ⌜ (from ≤ to) × (to ≤ length (now s)) × (length (now s) ≤ 2 ^ 20) × (k < 2 ^ 63) ⌝ }
     ensures { λ r. ⌜ Wrote (now (out .entry)) k (slice from to (now (s .entry))) (now (out .exit)) r ⌝ }
 {
-    let place = lesser(k, out.len());
+    let place = lists::lesser(k, out.len());
     k + output::put_text(s, from, to, &mut out[place..])
 }
 
@@ -183,7 +174,7 @@ fn break_at(s: &[u8], indent: Margin, out: &mut [u8], k: usize) -> usize
     requires { ⌜ MarginIn (length (now s)) indent × (length (now s) ≤ 2 ^ 20) × (k < 2 ^ 63) ⌝ }
     ensures { λ r. ⌜ Wrote (now (out .entry)) k (lineFeed ++ marginOf (now (s .entry)) indent) (now (out .exit)) r × (r ≤ k + 2 ^ 33) ⌝ }
 {
-    let place = lesser(k, out.len());
+    let place = lists::lesser(k, out.len());
     k + output::put_break(s, indent, &mut out[place..])
 }
 
@@ -248,7 +239,7 @@ fn spaces_at(count: usize, out: &mut [u8], k: usize) -> usize
     requires { ⌜ (count ≤ 2) × (k < 2 ^ 63) ⌝ }
     ensures { λ r. ⌜ Wrote (now (out .entry)) k (replicate count 32) (now (out .exit)) r × (r ≤ k + 2) ⌝ }
 {
-    let place = lesser(k, out.len());
+    let place = lists::lesser(k, out.len());
     k + output::put_added(count, &mut out[place..])
 }
 
@@ -581,7 +572,7 @@ fn margin_at(s: &[u8], m: Margin, out: &mut [u8], k: usize) -> usize
     requires { ⌜ MarginIn (length (now s)) m × (length (now s) ≤ 2 ^ 20) × (k < 2 ^ 63) ⌝ }
     ensures { λ r. ⌜ Wrote (now (out .entry)) k (marginOf (now (s .entry)) m) (now (out .exit)) r × (r ≤ k + 2 ^ 33) ⌝ }
 {
-    let place = lesser(k, out.len());
+    let place = lists::lesser(k, out.len());
     k + output::put_margin(s, m, &mut out[place..])
 }
 
@@ -590,7 +581,7 @@ fn feed_at(out: &mut [u8], k: usize) -> usize
     requires { ⌜ k < 2 ^ 63 ⌝ }
     ensures { λ r. ⌜ Wrote (now (out .entry)) k lineFeed (now (out .exit)) r ⌝ }
 {
-    let place = lesser(k, out.len());
+    let place = lists::lesser(k, out.len());
     k + output::put_feed(&mut out[place..])
 }
 

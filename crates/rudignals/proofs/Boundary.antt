@@ -24,7 +24,7 @@ use Rattle.pieces.specs.Pieces.{Piece, pieces}
 use Rattle.pieces.proofs.Boundary.{blankPiece, blank-stands}
 use Rattle.formatter.specs.Answers.{done}
 use Rattle.walk.specs.Digest.{outputOf, pieceOutput, digest, extentOf, tooMany, longParagraph}
-use Rattle.formatter.specs.Format.{Words, upTo, lent, Limits, damageIn, finding, isTold, measuring}
+use Rattle.formatter.specs.Format.{Words, upTo, lent, Limits, found, damageIn, finding, isTold, measuring}
 use Rattle.rudignals.specs.Theorems.LineEnds.{LineEnd, feed, returnAndFeed, byFeed}
 use Rattle.walk.specs.Work.{mostWork, workFor}
 use Rattle.walk.proofs.Work.{work-append}
@@ -117,7 +117,7 @@ module _ (l : Limits) (joining : Joining (l .words)) (block first line end secon
     bytes-are = rw (a₁ .bytes-are, a₂ .bytes-are) (sym (digest-boundary m first line end second c f e k));
   }
 
-  pub finding-boundary : finding l block first ≡ done digest₁ → finding l block second ≡ done digest₂ → finding l block (first ++ (line ++ (end ++ second))) ≡ done (digest₁ ++ 10 ∷ digest₂)
+  pub finding-boundary : finding l block first ≡ found digest₁ → finding l block second ≡ found digest₂ → finding l block (first ++ (line ++ (end ++ second))) ≡ found (digest₁ ++ 10 ∷ digest₂)
   finding-boundary h₁ h₂ = done-found l block (first ++ (line ++ (end ++ second))) o (digest₁ ++ 10 ∷ digest₂) b n (done-boundary (found-done l block first o digest₁ b h₁) (found-done l block second o digest₂ b h₂))
 
   pub measuring-boundary : measuring l block first ≡ done digest₁ → measuring l block second ≡ done digest₂ → isTold (l .words) (length (digest₁ ++ 10 ∷ digest₂)) ≡ true

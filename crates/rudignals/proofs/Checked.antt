@@ -1,5 +1,5 @@
 -- What the formatter writes, the checker accepts: from the order of its words (Order). So does the call, within 65,536 bytes.
-use mathlib.Core.Path.{_≡_, refl, ap}
+use mathlib.Core.Path.{_≡_, refl}
 use mathlib.Core.List.{List, [], _∷_}
 use Prim.Native.Nat.{ℕ, _≤_}
 use native.Mathlib.Omega.{arith}
@@ -14,8 +14,7 @@ use Rattle.options.specs.declared.Block.the-variants.{Accepted as BlockAccepted
 use Rattle.pieces.specs.Pieces.{Kind, Piece, blankLine, plainLine, paragraph, pieces}
 use Rattle.words.specs.Words.{wordsOf}
 use Rattle.walk.specs.Digest.{formatted, outputOf, pieceOutput, digest}
-use Rattle.formatter.specs.Answers.{done, code}
-use Rattle.formatter.specs.Format.{Limits, withBlock, finding}
+use Rattle.formatter.specs.Format.{Limits, found, withBlock, finding}
 use Rattle.formatter.proofs.Answers.{found-done}
 use Rattle.checker.specs.Acceptable.{PieceIn, PiecesIn, Acceptable}
 use Rattle.checker.specs.Matching.{accepted, verdict}
@@ -47,16 +46,17 @@ pub what-is-written-is-accepted : (o : Opts) (notes : List ℕ) → verdict o no
 what-is-written-is-accepted o notes = what-is-acceptable-is-accepted o notes (digest o notes) (what-is-written-is-acceptable o notes)
 
 -- All that our formatter writes within the limit, 65,536 bytes in RULES 2.2, is accepted with the notes it was written for.
-pub what-is-written-the-call-accepts : (l : Limits) (block notes bytes : List ℕ) → finding l block notes ≡ done bytes → length bytes ≤ l .bytes → checking l block notes bytes ≡ Accepted
+pub what-is-written-the-call-accepts : (l : Limits) (block notes bytes : List ℕ) → finding l block notes ≡ found bytes → length bytes ≤ l .bytes → checking l block notes bytes ≡ Accepted
 unfolding finding
 what-is-written-the-call-accepts l block notes bytes e h = go (readBlock block) refl e
   where
-    go : (b : Block) → readBlock block ≡ b → withBlock l done block notes b ≡ done bytes → checking l block notes bytes ≡ Accepted
-    go (Fault place) q k = absurd (let z = ap code k in omega (arith, z))
+    go : (b : Block) → readBlock block ≡ b → withBlock l block notes b ≡ found bytes → checking l block notes bytes ≡ Accepted
+    go (Fault place) q k = absurd (let z : _≡_ {A = ℕ} 0 1 = cc in omega arith)
     go (BlockAccepted o) q k = what-is-acceptable-the-call-accepts l block notes bytes (record {
       options = o;
       accepted = q;
-      passed = ap code e;
+      bytes = bytes;
+      passed = e;
       short = h;
       holds = rw (found-done l block notes o bytes q e .bytes-are) (what-is-written-is-acceptable (meant block o) notes);
     })

@@ -25,8 +25,7 @@ use Rattle.words.specs.Words.{wordsOf}
 use Rattle.words.proofs.Order.{Whole, paragraph-whole}
 use Rattle.output.specs.Emission.{lineFeed, spaceBefore}
 use Rattle.walk.specs.Digest.{digest}
-use Rattle.formatter.specs.Answers.{Answer, done, options, long, text, words, room, work}
-use Rattle.formatter.specs.Format.{Limits, finding}
+use Rattle.formatter.specs.Format.{Limits, Finding, found, stopped, finding}
 use Rattle.checker.specs.Named.{feeds, firstLines}
 use Rattle.checker.proofs.Pieces.{PieceFits, KindFits}
 use Rattle.checker.proofs.Notes.{pieces-fit}
@@ -39,7 +38,8 @@ use Rattle.explain.specs.Reasons.{lineEndings}
 use Rattle.explain.specs.Explain.{because, noLine, lookUp, afterMeasuring, explaining}
 use Rattle.explain.specs.Theorems.Ends.{EndsThere}
 use Rattle.explain.proofs.Ends.{lines-end-there}
-use Rattle.explain.specs.Theorems.LineFeeds.{linesFrom, fed, textLines, kindLines, pieceLines, digestLines}
+use Rattle.explain.specs.Theorems.LineFeeds.{fed, textLines, kindLines, pieceLines, digestLines}
+use Rattle.output.specs.EmittedLines.{linesFrom}
 use Rattle.explain.proofs.LineFeeds.{the-digest-is-its-lines, each-line-has-its-reason}
 use Rattle.indexer.proofs.Counts.{space-feed}
 
@@ -125,14 +125,14 @@ a-line-ends-where-the-call-says l block notes o i e b h = go (finding l block no
     es : List Ending
     es = lineEndings (meant block o) notes
 
-    found : (t : Bool) → ltb i (length es) ≡ t → cond t (because (getD es i OfParagraph)) (noLine (length es)) ≡ because e
+    told : (t : Bool) → ltb i (length es) ≡ t → cond t (because (getD es i OfParagraph)) (noLine (length es)) ≡ because e
         → EndsThere (meant block o) (pieces (meant block o) notes) e (firstLines (suc i) (digest (meant block o) notes))
-    found true t k = let q : getD es i OfParagraph ≡ e = cc in rw (← q) (the-digest-ends-where-the-reason-says (meant block o) notes i (ltb-true i (length es) t))
-    found false t k = absurd (let z : _≡_ {A = ℕ} 0 1 = cc in omega arith)
+    told true t k = let q : getD es i OfParagraph ≡ e = cc in rw (← q) (the-digest-ends-where-the-reason-says (meant block o) notes i (ltb-true i (length es) t))
+    told false t k = absurd (let z : _≡_ {A = ℕ} 0 1 = cc in omega arith)
 
-    go : (a : Answer) → afterMeasuring (lookUp i es) a ≡ because e → EndsThere (meant block o) (pieces (meant block o) notes) e (firstLines (suc i) (digest (meant block o) notes))
-    go (done d) k = found (ltb i (length es)) refl k
-    go (options place) k = absurd (let z : _≡_ {A = ℕ} 0 1 = cc in omega arith)
+    go : (f : Finding) → afterMeasuring (lookUp i es) f ≡ because e → EndsThere (meant block o) (pieces (meant block o) notes) e (firstLines (suc i) (digest (meant block o) notes))
+    go (found d) k = told (ltb i (length es)) refl k
+    go (stopped r) k = absurd (let z : _≡_ {A = ℕ} 0 1 = cc in omega arith)
     go long k = absurd (let z : _≡_ {A = ℕ} 0 1 = cc in omega arith)
     go (text place) k = absurd (let z : _≡_ {A = ℕ} 0 1 = cc in omega arith)
     go (words place) k = absurd (let z : _≡_ {A = ℕ} 0 1 = cc in omega arith)

@@ -14,7 +14,8 @@ use Rattle.index.specs.declared.Record.{Record}
 use Rattle.index.specs.Contracts.Lists.{noRecord}
 use Rattle.index.specs.Contracts.Reading.{front, readFrom}
 use Rattle.indexer.specs.declared.Told.{Told}
-use Rattle.indexer.specs.Answers.{Indexed, done, options, long, text, words, full, room, work, numbered, outputAfter, recordsAfter, filledAfter}
+use Rattle.lists.specs.Coded.{numbered}
+use Rattle.indexer.specs.Answers.{Indexed, done, refused, full, room, indexCoded, indexOutputAfter, recordsAfter, filledAfter}
 use Rattle.indexer.specs.Contracts.Noting.{Marked, recordsOf}
 use Rattle.indexer.proofs.Told as Tol
 use Rattle.indexer.proofs.Told.Laws as Tol′
@@ -23,13 +24,9 @@ use Rattle.indexer.proofs.Told.Laws as Tol′
 records-left : (a : Indexed) (xs : List Record) → recordsOf a ++ drop (filledAfter a) xs ≡ recordsAfter a xs
 unfolding recordsAfter
 records-left (done digest index) xs = refl
-records-left (options place) xs = refl
-records-left long xs = refl
-records-left (text place) xs = refl
-records-left (words place) xs = refl
+records-left (refused r) xs = refl
 records-left (full pieces) xs = refl
 records-left (room needed) xs = refl
-records-left (work needed) xs = refl
 
 -- the row of `Told`
 abbrev pub T : RattleType
@@ -62,7 +59,7 @@ records-fit t w is = LL.owed Tol.the-type Tol′.the-laws t _ is .1 .0 .1
 -- what is said at the end of an answer: of its number, the output, the records and the count
 module _ (answer : Indexed) (output : List ℕ) (index : List Record) where
   abbrev pub Left : ℕ → List ℕ → List Record → ℕ → Type 0
-  Left r out′ index′ filled′ = (r ≡ numbered answer) × (out′ ≡ outputAfter answer output) × (index′ ≡ recordsAfter answer index) × (filled′ ≡ filledAfter answer)
+  Left r out′ index′ filled′ = (r ≡ numbered (indexCoded answer)) × (out′ ≡ indexOutputAfter answer output) × (index′ ≡ recordsAfter answer index) × (filled′ ≡ filledAfter answer)
 
   pub left : (out′ : List ℕ) (filled′ : ℕ) (ms : List ℕ) (t : Told) (index′ : List Record) → Marked answer (length index) output out′ filled′ ms t → index′ ≡ readFrom (marksIn (front ms)) (t .records) noRecord ++ drop (t .records) index → Left (t .answer) out′ index′ filled′
   left out′ filled′ ms t index′ noted stored = (

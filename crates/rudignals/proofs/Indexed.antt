@@ -20,11 +20,10 @@ use Rattle.lines.specs.declared.Class.the-variants.{Blank}
 use Rattle.lines.specs.Theorems.Closed.{Closed}
 use Rattle.pieces.proofs.Boundary.{blankPiece}
 use Rattle.walk.specs.Digest.{outputOf, digest, extentOf}
-use Rattle.formatter.specs.Answers.{Answer, done as measured, options as faulty, long as tooLong, text as damaged, words as manyWords, room as noRoom, work as noWork}
-use Rattle.formatter.specs.Format.{Words, Limits, finding, mostTold, isTold}
+use Rattle.formatter.specs.Format.{Words, Limits, Finding, found, stopped, finding, mostTold, isTold}
 use Rattle.index.specs.declared.Record.{Record}
 use Rattle.indexer.specs.Index.{lineCount, indexOf}
-use Rattle.indexer.specs.Answers.{Indexed, done, options, long, text, words, full, room, work, code}
+use Rattle.indexer.specs.Answers.{Indexed, done, refused, full, room}
 use Rattle.indexer.specs.Indexing.{inIndex, indexUnder, indexing}
 use Rattle.indexer.specs.Theorems.Follows.{shifted}
 use Rattle.indexer.proofs.Follows.{index-between}
@@ -62,44 +61,31 @@ module _ (o : Opts) (first line end second : List ℕ) (closed : Closed first) (
 
 digestIn : Indexed → List ℕ
 digestIn (done d i) = d
-digestIn (options place) = []
-digestIn long = []
-digestIn (text place) = []
-digestIn (words place) = []
+digestIn (refused r) = []
 digestIn (full pieces) = []
 digestIn (room needed) = []
-digestIn (work needed) = []
 
 recordsIn : Indexed → List Record
 recordsIn (done d i) = i
-recordsIn (options place) = []
-recordsIn long = []
-recordsIn (text place) = []
-recordsIn (words place) = []
+recordsIn (refused r) = []
 recordsIn (full pieces) = []
 recordsIn (room needed) = []
-recordsIn (work needed) = []
 
--- it was measured as done, and its records are the index
-pub record IsDone (rs : List Record) (a : Answer) (d : List ℕ) (i : List Record) : Type 0 where
-  pub is : a ≡ measured d
+-- it was found to be done, and its records are the index
+pub record IsDone (rs : List Record) (f : Finding) (d : List ℕ) (i : List Record) : Type 0 where
+  pub is : f ≡ found d
   pub index : i ≡ rs
 
-in-done : (w : Words) (space records : ℕ) (rs : List Record) (a : Answer) (d : List ℕ) (i : List Record) → inIndex w space records rs a ≡ done d i → IsDone rs a d i
+in-done : (w : Words) (space records : ℕ) (rs : List Record) (f : Finding) (d : List ℕ) (i : List Record) → inIndex w space records rs f ≡ done d i → IsDone rs f d i
 unfolding digestIn recordsIn
-in-done w space records rs (measured e) d i h = go (leb (length rs) records) (isTold w (length e)) (leb (length e) space) h
+in-done w space records rs (found e) d i h = go (leb (length rs) records) (isTold w (length e)) (leb (length e) space) h
   where
-    go : (a t b : Bool) → cond a (cond t (cond b (done e rs) (room (length e))) (room mostTold)) (full (length rs)) ≡ done d i → IsDone rs (measured e) d i
-    go true true true k = record { is = ap measured (ap digestIn k); index = sym (ap recordsIn k) }
-    go true true false k = absurd (let z = ap code k in omega (arith, z))
-    go true false b k = absurd (let z = ap code k in omega (arith, z))
-    go false t b k = absurd (let z = ap code k in omega (arith, z))
-in-done w space records rs (faulty place) d i h = absurd (let z = ap code h in omega (arith, z))
-in-done w space records rs tooLong d i h = absurd (let z = ap code h in omega (arith, z))
-in-done w space records rs (damaged place) d i h = absurd (let z = ap code h in omega (arith, z))
-in-done w space records rs (manyWords place) d i h = absurd (let z = ap code h in omega (arith, z))
-in-done w space records rs (noRoom needed) d i h = absurd (let z = ap code h in omega (arith, z))
-in-done w space records rs (noWork needed) d i h = absurd (let z = ap code h in omega (arith, z))
+    go : (a t b : Bool) → cond a (cond t (cond b (done e rs) (room (length e))) (room mostTold)) (full (length rs)) ≡ done d i → IsDone rs (found e) d i
+    go true true true k = record { is = ap found (ap digestIn k); index = sym (ap recordsIn k) }
+    go true true false k = absurd (let z : _≡_ {A = ℕ} 0 1 = cc in omega arith)
+    go true false b k = absurd (let z : _≡_ {A = ℕ} 0 1 = cc in omega arith)
+    go false t b k = absurd (let z : _≡_ {A = ℕ} 0 1 = cc in omega arith)
+in-done w space records rs (stopped r) d i h = absurd (let z : _≡_ {A = ℕ} 0 1 = cc in omega arith)
 
 pub indexed-done : (l : Limits) (block notes : List ℕ) (o : Options) (space records : ℕ) (d : List ℕ) (i : List Record) → readBlock block ≡ Accepted o → indexing l block notes space records ≡ done d i
     → IsDone (indexOf (meant block o) notes) (finding l block notes) d i
@@ -107,7 +93,7 @@ unfolding indexing
 indexed-done l block notes o space records d i b h =
     in-done (l .words) space records (indexOf (meant block o) notes) (finding l block notes) d i (ap (λ (x : Block). inIndex (l .words) space records (indexUnder block notes x) (finding l block notes)) (sym b) ∙ h)
 
-pub done-indexed : (l : Limits) (block notes : List ℕ) (o : Options) (space records : ℕ) (d : List ℕ) → readBlock block ≡ Accepted o → finding l block notes ≡ measured d → isTold (l .words) (length d) ≡ true
+pub done-indexed : (l : Limits) (block notes : List ℕ) (o : Options) (space records : ℕ) (d : List ℕ) → readBlock block ≡ Accepted o → finding l block notes ≡ found d → isTold (l .words) (length d) ≡ true
     → length d ≤ space → length (indexOf (meant block o) notes) ≤ records → indexing l block notes space records ≡ done d (indexOf (meant block o) notes)
 unfolding indexing
 done-indexed l block notes o space records d b m t r s =

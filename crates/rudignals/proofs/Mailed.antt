@@ -9,7 +9,10 @@ use borrow.Author.Tests.{le-ltb, le-leb}
 use Rattle.lists.specs.Runs.{joined}
 use Rattle.options.specs.Opts.{meant}
 use Rattle.pieces.specs.Pieces.{Piece, pieces}
-use Rattle.formatter.specs.Answers.{Answer, done, options, long, text, words, room, work, numbered, outputAfter}
+use Rattle.lists.specs.Coded.{numbered}
+use Rattle.formatter.specs.Answers.{Answer, done, refused, room, refusalCoded, answerCoded, outputAfter}
+use Rattle.formatter.specs.declared.Refusal.{Refusal}
+use Rattle.formatter.specs.declared.Refusal.the-variants.{Options as Faulty, Long, Text as Damaged, Words as Many, Work}
 use Rattle.formatter.specs.Format.{Limits}
 use Rattle.unflow.specs.Unflow.{asLine, unflowed, done as read, unflow as reading}
 use Rattle.flow.specs.Flow.{mailed}
@@ -19,21 +22,24 @@ use Rattle.flow.proofs.Call.{ComesBack, what-the-call-wrote-comes-back}
 
 -- what `rudignals_flow` promises of its answer and its output
 pub record Mailed (l : Limits) (block notes output : List ℕ) (r : ℕ) (output′ : List ℕ) : Type 0 where
-  pub number : r ≡ numbered (flow l block notes (length output))
+  pub number : r ≡ numbered (answerCoded (flow l block notes (length output)))
   pub bytes : output′ ≡ outputAfter (flow l block notes (length output)) output
 
 -- an answer below 2 ^ 32 tells that all was written: so many bytes
-written : (a : Answer) (output : List ℕ) (r : ℕ) → r ≡ numbered a → r < 2 ^ 32 → a ≡ done (take r (outputAfter a output))
+written : (a : Answer) (output : List ℕ) (r : ℕ) → r ≡ numbered (answerCoded a) → r < 2 ^ 32 → a ≡ done (take r (outputAfter a output))
 unfolding numbered outputAfter
 written (done bytes) output r e h =
     let n : r ≡ length bytes = omega (arith, e) in
     ap done (sym (ap (λ (k : ℕ). take k (bytes ++ drop (length bytes) output)) n ∙ take-append-seam bytes (drop (length bytes) output)))
-written (options place) output r e h = absurd (omega (arith, e, h))
-written long output r e h = absurd (omega (arith, e, h))
-written (text place) output r e h = absurd (omega (arith, e, h))
-written (words place) output r e h = absurd (omega (arith, e, h))
+written (refused q) output r e h = absurd (let k = some q in omega (arith, e, h, k))
+  where
+    some : (q : Refusal) → 1 ≤ refusalCoded q .code
+    some (Faulty place) = omega arith
+    some Long = omega arith
+    some (Damaged place) = omega arith
+    some (Many place) = omega arith
+    some (Work needed) = omega arith
 written (room needed) output r e h = absurd (omega (arith, e, h))
-written (work needed) output r e h = absurd (omega (arith, e, h))
 
 module _ (l : Limits) (block notes output : List ℕ) (r : ℕ) (output′ : List ℕ) (m : Mailed l block notes output r output′) (fine : r < 2 ^ 32) where
   pub what-was-mailed-comes-back : ComesBack l block notes (length output) (take r output′)

@@ -36,9 +36,10 @@ use Rattle.words.specs.Theorems.Ink.{rowInk}
 use Rattle.words.specs.Theorems.Standing.{Ascends, Stands, WordsStand}
 use Rattle.words.proofs.Order.{Whole, row-ink, paragraph-whole}
 use Rattle.output.specs.Theorems.Order.{InOrder}
-use Rattle.formatter.specs.Answers.{done, numbered}
+use Rattle.lists.specs.Coded.{numbered}
+use Rattle.formatter.specs.Answers.{done, answerCoded}
 use Rattle.walk.specs.Digest.{pieceOutput, digest, mostWords, extentOf}
-use Rattle.formatter.specs.Format.{Limits, limited, mostBytes, ownRoom, answer, finding, isTold, measured, measuring, inRoom, writing}
+use Rattle.formatter.specs.Format.{Limits, limited, mostBytes, ownRoom, found, answer, finding, isTold, measured, measuring, inRoom, writing}
 use Rattle.rudignals.specs.Theorems.LineEnds.{LineEnd, feed, LineIs}
 use Rattle.rudignals.specs.Theorems.Parts.{upToPiece, fromPiece, MayCut, ByParts, both, behindFirst, bothReasons}
 use Rattle.formatter.proofs.Together.{together-they-do-what-the-old-call-did, measured-room-suffices}
@@ -107,7 +108,7 @@ module _ (l : Limits) (joining : Joining (l .words)) (block first line end secon
         measuring-boundary l joining block first line end second o digest₁ digest₂ block-accepted first-ends one-line line-ends blank within-limit first-measured second-measured can-be-told
 
     -- So the number that the host gets is the sum of the two parts' numbers and one.
-    pub the-measured-counts-add-up : numbered (measuring l block (first ++ (line ++ (end ++ second)))) ≡ numbered (measuring l block first) + 1 + numbered (measuring l block second)
+    pub the-measured-counts-add-up : numbered (answerCoded (measuring l block (first ++ (line ++ (end ++ second))))) ≡ numbered (answerCoded (measuring l block first)) + 1 + numbered (answerCoded (measuring l block second))
     unfolding numbered
     the-measured-counts-add-up = rw (a-blank-line-is-a-full-boundary-for-measuring, first-measured, second-measured, length-append) (omega arith)
 
@@ -138,8 +139,8 @@ module _ (most words : ℕ) (block first line end second : List ℕ) (o : Option
       ∙ a-blank-line-is-a-full-boundary-for-writing (limited most words) tt block first line end second o digest₁ digest₂ block-accepted first-ends one-line line-ends blank within-limit refl room₁ room₂ space enough-room
       (together-they-do-what-the-old-call-did most words block first room₁ ∙ first-done) (together-they-do-what-the-old-call-did most words block second room₂ ∙ second-done)
 
-  pub the-counts-of-the-parts-add-up : numbered (answer (limited most words) block (first ++ (line ++ (end ++ second))) space)
-      ≡ numbered (answer (limited most words) block first room₁) + 1 + numbered (answer (limited most words) block second room₂)
+  pub the-counts-of-the-parts-add-up : numbered (answerCoded (answer (limited most words) block (first ++ (line ++ (end ++ second))) space))
+      ≡ numbered (answerCoded (answer (limited most words) block first room₁)) + 1 + numbered (answerCoded (answer (limited most words) block second room₂))
   unfolding numbered
   the-counts-of-the-parts-add-up = rw (a-blank-line-is-a-full-boundary, first-done, second-done, length-append) (omega arith)
 
@@ -160,7 +161,7 @@ module _ (block first second : List ℕ) (o : Options) (digest₁ digest₂ : Li
       an-empty-line-is-a-full-boundary =
           a-blank-line-is-a-full-boundary mostBytes mostWords block first [] (10 ∷ []) second o digest₁ digest₂ block-accepted first-ends (every-nil noFeed) (feed refl (λ z. z)) (empty-blank (meant block o)) within-limit room₁ room₂ space enough-room first-done second-done
 
-      pub the-counts-add-up : numbered (answer ownRoom block (first ++ 10 ∷ second) space) ≡ numbered (answer ownRoom block first room₁) + 1 + numbered (answer ownRoom block second room₂)
+      pub the-counts-add-up : numbered (answerCoded (answer ownRoom block (first ++ 10 ∷ second) space)) ≡ numbered (answerCoded (answer ownRoom block first room₁)) + 1 + numbered (answerCoded (answer ownRoom block second room₂))
       the-counts-add-up =
           the-counts-of-the-parts-add-up mostBytes mostWords block first [] (10 ∷ []) second o digest₁ digest₂ block-accepted first-ends (every-nil noFeed) (feed refl (λ z. z)) (empty-blank (meant block o)) within-limit room₁ room₂ space enough-room first-done second-done
 
@@ -432,8 +433,8 @@ module _ (block notes : List ℕ) (o : Options) (k : ℕ)
     -- Nothing is refused of either part: a line of the first part's output has its reason there, and a line after them the reason that it has in the
     -- second part; after all lines their number is told. (`finding`: formatter/specs/Format.antt; `feeds` counts line feeds: checker/specs/Named.antt.)
     pub the-reasons-of-the-parts-join : (line : ℕ) (digest₁ digest₂ : List ℕ)
-        → finding l block first-part ≡ done digest₁
-        → finding l block second-part ≡ done digest₂
+        → finding l block first-part ≡ found digest₁
+        → finding l block second-part ≡ found digest₂
         → explaining l block notes line ≡ bothReasons (explaining l block first-part line) (explaining l block second-part (line - feeds digest₁))
     the-reasons-of-the-parts-join = explaining-parts block notes o k block-accepted may-cut l by-parts within-limit
 
@@ -456,6 +457,6 @@ module _ (block notes : List ℕ) (o : Options) (k : ℕ)
           ∙ what-is-written-of-the-parts-joins (limited most words) tt within-limit digest₁ digest₂ room₁ room₂ space
           (together-they-do-what-the-old-call-did most words block first-part room₁ ∙ first-done) (together-they-do-what-the-old-call-did most words block second-part room₂ ∙ second-done) refl enough-room
 
-      pub the-numbers-of-the-parts-add-up : numbered (answer (limited most words) block notes space) ≡ numbered (answer (limited most words) block first-part room₁) + numbered (answer (limited most words) block second-part room₂)
+      pub the-numbers-of-the-parts-add-up : numbered (answerCoded (answer (limited most words) block notes space)) ≡ numbered (answerCoded (answer (limited most words) block first-part room₁)) + numbered (answerCoded (answer (limited most words) block second-part room₂))
       unfolding numbered
       the-numbers-of-the-parts-add-up = rw (the-outputs-of-the-parts-join, first-done, second-done, length-append) (omega arith)

@@ -26,12 +26,12 @@ use Rattle.endings.specs.declared.Ending.{Ending}
 use Rattle.endings.specs.declared.Ending.the-variants.{Paragraph as OfParagraph}
 use Rattle.walk.specs.Digest.{digest, extentOf, tooMany, longParagraph}
 use Rattle.walk.proofs.Starts.{bytes-are, parts-are-notes, first-pieces, second-pieces, pieces-of-parts, digest-of-parts}
-use Rattle.formatter.specs.Answers.{Answer, done, options, long, text, words, room, work, code}
-use Rattle.formatter.specs.Format.{Words, upTo, lent, Limits, damageIn, withWords, withWork, within, withText, withNotes, finding, mostTold, isTold, measured, measuring}
+use Rattle.formatter.specs.Answers.{done, refused, room}
+use Rattle.formatter.specs.declared.Refusal.the-variants.{Text as Damaged, Work}
+use Rattle.formatter.specs.Format.{Words, upTo, lent, Limits, Finding, found, stopped, damageIn, withWords, withWork, within, withText, withNotes, finding, answering, mostTold, isTold, measured, measuring}
 use Rattle.walk.specs.Work.{mostWork, workFor}
 use Rattle.walk.proofs.Work.{work-append}
 use Rattle.formatter.specs.Work.{lending}
-use Rattle.formatter.proofs.Together.{retold, measured-at-once, finding-never-answers-five}
 use Rattle.formatter.proofs.Answers.{found-done}
 use Rattle.checker.specs.Named.{feeds}
 use Rattle.index.specs.declared.Record.{Record}
@@ -43,7 +43,7 @@ use Rattle.indexer.proofs.Follows.{index-append}
 use Rattle.explain.proofs.Ends.{reason-behind}
 use Rattle.explain.specs.Reasons.{pieceEndings, lineEndings}
 use Rattle.explain.specs.Explain.{lookUp, explaining}
-use Rattle.rudignals.specs.Theorems.Parts.{upToPiece, fromPiece, MayCut, ByParts, both, behindFirst, bothReasons}
+use Rattle.rudignals.specs.Theorems.Parts.{upToPiece, fromPiece, MayCut, ByParts, moved, bothFound, both, behindFirst, bothReasons}
 use Rattle.rudignals.proofs.LineEnds.{line-at}
 use Rattle.rudignals.proofs.Undamaged.{empty-sound, damage-closed}
 use Rattle.rudignals.proofs.Explained.{as-many-line-feeds-as-reasons}
@@ -91,15 +91,15 @@ lending-is-by-parts lends o first second notes e = ap (mostWork o) e ∙ work-ap
 -- ---- what is found in both parts, from what is found in each
 
 -- damage in the second part, and none in the first
-text-wins : (w : Words) (o : Opts) (part : List ℕ) (size place : ℕ) → text (size + place) ≡ both done size (within w done o part) (text place)
+text-wins : (w : Words) (o : Opts) (part : List ℕ) (size place : ℕ) → stopped (Damaged (size + place)) ≡ bothFound size (within w o part) (stopped (Damaged place))
 text-wins (upTo most) o part size place = go (longParagraph most o 0 (pieces o part))
   where
-    go : (f : Found) → text (size + place) ≡ both done size (withWords done o part f) (text place)
+    go : (f : Found) → stopped (Damaged (size + place)) ≡ bothFound size (withWords o part f) (stopped (Damaged place))
     go (At early) = refl
     go Nowhere = refl
 text-wins (lent lends need) o part size place = go (ltb lends (need o part))
   where
-    go : (b : Bool) → text (size + place) ≡ both done size (elim b as (λ t. Answer) [ true ↦ work (need o part) | false ↦ done (digest o part) ]) (text place)
+    go : (b : Bool) → stopped (Damaged (size + place)) ≡ bothFound size (elim b as (λ t. Finding) [ true ↦ stopped (Work (need o part)) | false ↦ found (digest o part) ]) (stopped (Damaged place))
     go true = refl
     go false = refl
 
@@ -107,46 +107,51 @@ module _ (o : Opts) (notes first second : List ℕ)
     (digests : digest o notes ≡ digest o first ++ digest o second)
     (all-pieces : pieces o notes ≡ pieces o first ++ pieces o second)
     (size : length (joined extentOf (pieces o first)) ≡ length first) where
-  words-both : (f g : Found) → withWords done o notes (orLater (length first) f g) ≡ both done (length first) (withWords done o first f) (withWords done o second g)
+  words-both : (f g : Found) → withWords o notes (orLater (length first) f g) ≡ bothFound (length first) (withWords o first f) (withWords o second g)
   words-both (At place) (At later) = refl
   words-both (At place) Nowhere = refl
   words-both Nowhere (At place) = refl
-  words-both Nowhere Nowhere = ap done digests
+  words-both Nowhere Nowhere = ap found digests
 
   longs : (most : ℕ) → longParagraph most o 0 (pieces o notes) ≡ orLater (length first) (longParagraph most o 0 (pieces o first)) (longParagraph most o 0 (pieces o second))
   longs most =
       ap (longParagraph most o 0) all-pieces ∙ long-both most o 0 (pieces o first) (pieces o second)
       ∙ ap (λ (n : ℕ). orLater n (longParagraph most o 0 (pieces o first)) (longParagraph most o 0 (pieces o second))) (omega (arith, size))
 
-  work-both : (lends n m : ℕ) → withWork done o notes lends (max n m) ≡ both done (length first) (withWork done o first lends n) (withWork done o second lends m)
+  work-both : (lends n m : ℕ) → withWork o notes lends (max n m) ≡ bothFound (length first) (withWork o first lends n) (withWork o second lends m)
   work-both lends n m = go (ltb lends n) (ltb lends m) refl refl
     where
-      asked : List ℕ → ℕ → Bool → Answer
-      asked part needed b = elim b as (λ t. Answer) [ true ↦ work needed | false ↦ done (digest o part) ]
+      asked : List ℕ → ℕ → Bool → Finding
+      asked part needed b = elim b as (λ t. Finding) [ true ↦ stopped (Work needed) | false ↦ found (digest o part) ]
 
-      go : (s t : Bool) → ltb lends n ≡ s → ltb lends m ≡ t → withWork done o notes lends (max n m) ≡ both done (length first) (asked first n s) (asked second m t)
+      go : (s t : Bool) → ltb lends n ≡ s → ltb lends m ≡ t → withWork o notes lends (max n m) ≡ bothFound (length first) (asked first n s) (asked second m t)
       go true true a b = let h = ltb-true lends n a in rw (withWork, lt-ltb lends (max n m) (omega (arith, h)))
       go true false a b =
           let h = ltb-true lends n a in
           let k = ltb-false lends m b in
           let z : max n m ≡ n = omega (arith, h, k) in
-          rw (withWork, lt-ltb lends (max n m) (omega (arith, z, h))) (ap work z)
+          rw (withWork, lt-ltb lends (max n m) (omega (arith, z, h))) (ap (λ (k : ℕ). stopped (Work k)) z)
       go false true a b =
           let h = ltb-false lends n a in
           let k = ltb-true lends m b in
           let z : max n m ≡ m = omega (arith, h, k) in
-          rw (withWork, lt-ltb lends (max n m) (omega (arith, z, k))) (ap work z)
+          rw (withWork, lt-ltb lends (max n m) (omega (arith, z, k))) (ap (λ (k : ℕ). stopped (Work k)) z)
       go false false a b =
           let h = ltb-false lends n a in
           let k = ltb-false lends m b in
           rw (withWork, le-ltb lends (max n m) (omega (arith, h, k)), digests)
 
-  within-both : (w : Words) → ByParts w → within w done o notes ≡ both done (length first) (within w done o first) (within w done o second)
-  within-both (upTo most) j = ap (withWords done o notes) (longs most) ∙ words-both (longParagraph most o 0 (pieces o first)) (longParagraph most o 0 (pieces o second))
-  within-both (lent lends need) j = ap (withWork done o notes lends) (j o first second notes all-pieces) ∙ work-both lends (need o first) (need o second)
+  within-both : (w : Words) → ByParts w → within w o notes ≡ bothFound (length first) (within w o first) (within w o second)
+  within-both (upTo most) j = ap (withWords o notes) (longs most) ∙ words-both (longParagraph most o 0 (pieces o first)) (longParagraph most o 0 (pieces o second))
+  within-both (lent lends need) j = ap (withWork o notes lends) (j o first second notes all-pieces) ∙ work-both lends (need o first) (need o second)
 
-  text-both : (w : Words) → ByParts w → (f g : Found) → withText w done o notes (orLater (length first) f g) ≡ both done (length first) (withText w done o first f) (withText w done o second g)
-  text-both w j (At place) g = refl
+  text-both : (w : Words) → ByParts w → (f g : Found) → withText w o notes (orLater (length first) f g) ≡ bothFound (length first) (withText w o first f) (withText w o second g)
+  text-both w j (At place) (At later) = refl
+  text-both w j (At place) Nowhere = text-first (within w o second)
+    where
+      text-first : (f : Finding) → stopped (Damaged place) ≡ bothFound (length first) (stopped (Damaged place)) f
+      text-first (found d) = refl
+      text-first (stopped r) = refl
   text-both w j Nowhere (At place) = text-wins w o first (length first) place
   text-both w j Nowhere Nowhere = within-both w j
 
@@ -167,57 +172,20 @@ told-both (lent lends need) size x y = go (leb (length x) mostTold) (leb (length
     go false true a b = let h = leb-false (length x) mostTold a in rw (lt-leb (length (x ++ y)) mostTold (omega (arith, n, h)))
     go false false a b = let h = leb-false (length x) mostTold a in rw (lt-leb (length (x ++ y)) mostTold (omega (arith, n, h)))
 
--- what is refused of the second part is refused whatever is told of the first
-first-told : (w : Words) (size : ℕ) (x : List ℕ) (s : Bool) (b : Answer) → 1 ≤ code b
-    → retold w (both done size (done x) b) ≡ both (measured w) size (cond s (done x) (room mostTold)) (retold w b)
-first-told w size x s (done y) k = absurd (omega arith)
-first-told w size x true (options place) k = refl
-first-told w size x false (options place) k = refl
-first-told w size x true long k = refl
-first-told w size x false long k = refl
-first-told w size x true (text place) k = refl
-first-told w size x false (text place) k = refl
-first-told w size x true (words place) k = refl
-first-told w size x false (words place) k = refl
-first-told w size x true (room needed) k = refl
-first-told w size x false (room needed) k = refl
-first-told w size x true (work needed) k = refl
-first-told w size x false (work needed) k = refl
-
-told-of-both : (w : Words) (size : ℕ) (a b : Answer) → (code a ≡ 5 → ⊥) → retold w (both done size a b) ≡ both (measured w) size (retold w a) (retold w b)
-told-of-both w size (done x) (done y) never = told-both w size x y
-told-of-both w size (done x) (options place) never = first-told w size x (isTold w (length x)) (options place) (omega arith)
-told-of-both w size (done x) long never = first-told w size x (isTold w (length x)) long (omega arith)
-told-of-both w size (done x) (text place) never = first-told w size x (isTold w (length x)) (text place) (omega arith)
-told-of-both w size (done x) (words place) never = first-told w size x (isTold w (length x)) (words place) (omega arith)
-told-of-both w size (done x) (room needed) never = first-told w size x (isTold w (length x)) (room needed) (omega arith)
-told-of-both w size (done x) (work needed) never = first-told w size x (isTold w (length x)) (work needed) (omega arith)
-told-of-both w size (options fault) b never = refl
-told-of-both w size long b never = refl
-told-of-both w size (text early) b never = refl
-told-of-both w size (words early) (done y) never = go (isTold w (length y))
+-- what is refused of one part is refused whatever is told of the other
+told-of-both : (w : Words) (size : ℕ) (a b : Finding) → answering (measured w) (bothFound size a b) ≡ both (measured w) size (answering (measured w) a) (answering (measured w) b)
+told-of-both w size (found x) (found y) = told-both w size x y
+told-of-both w size (found x) (stopped r) = go (isTold w (length x))
   where
-    go : (t : Bool) → words early ≡ both (measured w) size (words early) (cond t (done y) (room mostTold))
+    go : (t : Bool) → refused (moved size r) ≡ both (measured w) size (cond t (done x) (room mostTold)) (refused r)
     go true = refl
     go false = refl
-told-of-both w size (words early) (options place) never = refl
-told-of-both w size (words early) long never = refl
-told-of-both w size (words early) (text place) never = refl
-told-of-both w size (words early) (words place) never = refl
-told-of-both w size (words early) (room needed) never = refl
-told-of-both w size (words early) (work needed) never = refl
-told-of-both w size (work asked) (done y) never = go (isTold w (length y))
+told-of-both w size (stopped q) (found y) = go (isTold w (length y))
   where
-    go : (t : Bool) → work asked ≡ both (measured w) size (work asked) (cond t (done y) (room mostTold))
+    go : (t : Bool) → refused q ≡ both (measured w) size (refused q) (cond t (done y) (room mostTold))
     go true = refl
     go false = refl
-told-of-both w size (work asked) (options place) never = refl
-told-of-both w size (work asked) long never = refl
-told-of-both w size (work asked) (text place) never = refl
-told-of-both w size (work asked) (words place) never = refl
-told-of-both w size (work asked) (room needed) never = refl
-told-of-both w size (work asked) (work needed) never = refl
-told-of-both w size (room most) b never = absurd (never refl)
+told-of-both w size (stopped q) (stopped r) = refl
 
 -- ---- reasons of one list of lines after the other
 
@@ -326,24 +294,21 @@ module _ (block notes : List ℕ) (o : Options) (k : ℕ) (accepts : readBlock b
   -- ---- the calls, with any limits
 
   module _ (l : Limits) (by-parts : ByParts (l .words)) (within-limit : length notes ≤ l .bytes) where
-    short : (part : List ℕ) → length part ≤ length notes → finding l block part ≡ withText (l .words) done m part (damageIn (m .keep) part)
+    short : (part : List ℕ) → length part ≤ length notes → finding l block part ≡ withText (l .words) m part (damageIn (m .keep) part)
     unfolding finding
     short part h = rw (accepts, withNotes, le-ltb (l .bytes) (length part) (omega arith))
 
-    pub finding-parts : finding l block notes ≡ both done (length first) (finding l block first) (finding l block second)
+    pub finding-parts : finding l block notes ≡ bothFound (length first) (finding l block first) (finding l block second)
     finding-parts =
         let n = ap length parts-are ∙ length-append first second in
         short notes (omega arith)
-        ∙ ap (withText (l .words) done m notes) damage-in-parts
+        ∙ ap (withText (l .words) m notes) damage-in-parts
         ∙ text-both m notes first second digest-parts both-pieces (ap (λ (qs : List Piece). length (joined extentOf qs)) (parts-pieces .0)) (l .words) by-parts (damageIn (m .keep) first) (damageIn (m .keep) second)
-        ∙ ap₂ (both done (length first)) (sym (short first (omega arith))) (sym (short second (omega arith)))
+        ∙ ap₂ (bothFound (length first)) (sym (short first (omega arith))) (sym (short second (omega arith)))
 
     pub measuring-parts : measuring l block notes ≡ both (measured (l .words)) (length first) (measuring l block first) (measuring l block second)
-    measuring-parts =
-        sym (measured-at-once l block notes)
-        ∙ ap (retold (l .words)) finding-parts
-        ∙ told-of-both (l .words) (length first) (finding l block first) (finding l block second) (finding-never-answers-five l first block)
-        ∙ ap₂ (both (measured (l .words)) (length first)) (measured-at-once l block first) (measured-at-once l block second)
+    unfolding measuring
+    measuring-parts = ap (answering (measured (l .words))) finding-parts ∙ told-of-both (l .words) (length first) (finding l block first) (finding l block second)
 
     -- each part by itself is done with an index, whatever room it had, and there is room for both
     pub indexing-parts : (digest₁ digest₂ : List ℕ) (index₁ index₂ : List Record) (space₁ records₁ space₂ records₂ space records : ℕ)
@@ -353,7 +318,7 @@ module _ (block notes : List ℕ) (o : Options) (k : ℕ) (accepts : readBlock b
     indexing-parts digest₁ digest₂ index₁ index₂ space₁ records₁ space₂ records₂ space records h₁ h₂ t r s =
         let a₁ = indexed-done l block first o space₁ records₁ digest₁ index₁ accepts h₁ in
         let a₂ = indexed-done l block second o space₂ records₂ digest₂ index₂ accepts h₂ in
-        let w : finding l block notes ≡ done (digest₁ ++ digest₂) = finding-parts ∙ ap₂ (both done (length first)) (a₁ .is) (a₂ .is) in
+        let w : finding l block notes ≡ found (digest₁ ++ digest₂) = finding-parts ∙ ap₂ (bothFound (length first)) (a₁ .is) (a₂ .is) in
         let i : indexOf m notes ≡ index₁ ++ behindFirst first digest₁ index₂ = rw (a₁ .index, a₂ .index, found-done l block first o digest₁ accepts (a₁ .is) .bytes-are) index-parts in
         let n = length-append digest₁ digest₂ in
         let p = ap length i ∙ length-append index₁ (behindFirst first digest₁ index₂) in
@@ -361,16 +326,16 @@ module _ (block notes : List ℕ) (o : Options) (k : ℕ) (accepts : readBlock b
         done-indexed l block notes o space records (digest₁ ++ digest₂) accepts w t (omega (arith, n, r)) (omega (arith, p, q, s)) ∙ ap (indexed (digest₁ ++ digest₂)) i
 
     -- each part by itself is found to be done: a line has its reason in its part
-    pub explaining-parts : (line : ℕ) (digest₁ digest₂ : List ℕ) → finding l block first ≡ done digest₁ → finding l block second ≡ done digest₂
+    pub explaining-parts : (line : ℕ) (digest₁ digest₂ : List ℕ) → finding l block first ≡ found digest₁ → finding l block second ≡ found digest₂
         → explaining l block notes line ≡ bothReasons (explaining l block first line) (explaining l block second (line - feeds digest₁))
     unfolding explaining
     explaining-parts line digest₁ digest₂ h₁ h₂ =
-        let w : finding l block notes ≡ done (digest₁ ++ digest₂) = finding-parts ∙ ap₂ (both done (length first)) h₁ h₂ in
+        let w : finding l block notes ≡ found (digest₁ ++ digest₂) = finding-parts ∙ ap₂ (bothFound (length first)) h₁ h₂ in
         let n : feeds digest₁ ≡ length (lineEndings m first) = ap feeds (found-done l block first o digest₁ accepts h₁ .bytes-are) ∙ as-many-line-feeds-as-reasons m first in
         explained notes line w
         ∙ ap (lookUp line) reasons-parts
         ∙ look-both line (lineEndings m first) (lineEndings m second)
         ∙ ap₂ bothReasons (sym (explained first line h₁)) (ap (λ (i : ℕ). lookUp (line - i) (lineEndings m second)) (sym n) ∙ sym (explained second (line - feeds digest₁) h₂))
       where
-        explained : (part : List ℕ) {found : List ℕ} (asked : ℕ) → finding l block part ≡ done found → explaining l block part asked ≡ lookUp asked (lineEndings m part)
+        explained : (part : List ℕ) {bytes : List ℕ} (asked : ℕ) → finding l block part ≡ found bytes → explaining l block part asked ≡ lookUp asked (lineEndings m part)
         explained part asked h = rw (h, accepts)

@@ -75,7 +75,8 @@ use Rattle.words.specs.declared.Count.the-variants.{Words}
 use Rattle.words.proofs.Unique.{count-unique, split-unique}
 use Rattle.spacing.specs.declared.Setting.{Setting}
 use Rattle.quick.specs.Quick.{quickBreaks}
-use Rattle.formatter.specs.Answers.{Answer, numbered, outputAfter}
+use Rattle.lists.specs.Coded.{numbered}
+use Rattle.formatter.specs.Answers.{Answer, answerCoded, outputAfter}
 
 pub equal-unique : {A : Type 0} (x a b : A) → a ≡ x → b ≡ x → a ≡ b
 equal-unique x a b e f = e ∙ sym f
@@ -100,5 +101,5 @@ pub spaces-unique : (x : List ℕ) (r s : ℕ) → replicate r 32 ≡ x → repl
 spaces-unique x r s h k = sym (length-replicate {A = ℕ} r 32) ∙ ap length (h ∙ sym k) ∙ length-replicate {A = ℕ} s 32
 
 -- the number that the host gets, and every byte of its slice: of `answer` or of `writing`
-pub call-unique : (a : Answer) (output : List ℕ) (r s : ℕ) (x y : List ℕ) → (r ≡ numbered a) × (x ≡ outputAfter a output) → (s ≡ numbered a) × (y ≡ outputAfter a output) → (r ≡ s) × (x ≡ y)
+pub call-unique : (a : Answer) (output : List ℕ) (r s : ℕ) (x y : List ℕ) → (r ≡ numbered (answerCoded a)) × (x ≡ outputAfter a output) → (s ≡ numbered (answerCoded a)) × (y ≡ outputAfter a output) → (r ≡ s) × (x ≡ y)
 call-unique a output r s x y h k = (h .0 ∙ sym (k .0), h .1 ∙ sym (k .1))

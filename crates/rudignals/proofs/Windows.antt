@@ -74,12 +74,12 @@ module _ (o : Opts) where
       go true = ap (laterIndent o (indentOf text s)) (second-grows s a b h)
       go false = refl
 
-  next-grows : (nextMail : Bool) (a b : List Line) → suc (nextPiece o nextMail a .more) < length a → nextPiece o nextMail (a ++ b) ≡ nextPiece o nextMail a
+  next-grows : (nextMail : Bool) (a b : List Line) → suc (nextPiece o nextMail a .besides) < length a → nextPiece o nextMail (a ++ b) ≡ nextPiece o nextMail a
   unfolding nextPiece paragraphAt
   next-grows nextMail [] b h = absurd (omega arith)
   next-grows nextMail (l ∷ a) b h = go (classify o (l .text)) h
     where
-      go : (c : Class) → suc (pieceAs o nextMail l a c .more) < suc (length a) → pieceAs o nextMail l (a ++ b) c ≡ pieceAs o nextMail l a c
+      go : (c : Class) → suc (pieceAs o nextMail l a c .besides) < suc (length a) → pieceAs o nextMail l (a ++ b) c ≡ pieceAs o nextMail l a c
       go Blank k = refl
       go Plain k = refl
       go (Formatted s) k =
@@ -101,13 +101,13 @@ module _ (o : Opts) where
   lines-front (suc k) nextMail (l ∷ a) b h =
       let t = nextPiece o nextMail (l ∷ a) in
       let w = walk-step (nextPiece o) nextMail (l ∷ a) (omega arith) in
-      let n = some-left (t .state) (t .more) a (omega (arith, ap length w)) in
+      let n = some-left (t .state) (t .besides) a (omega (arith, ap length w)) in
       let g = next-grows nextMail (l ∷ a) b (omega arith) in
-      let v : walk (nextPiece o) nextMail (l ∷ a ++ b) ≡ t .item ∷ walk (nextPiece o) (t .state) (drop (t .more) a ++ b) =
+      let v : walk (nextPiece o) nextMail (l ∷ a ++ b) ≡ t .item ∷ walk (nextPiece o) (t .state) (drop (t .besides) a ++ b) =
       walk-step (nextPiece o) nextMail (l ∷ a ++ b) (omega arith)
-      ∙ ap (λ (u : Stride Piece Bool). u .item ∷ walk (nextPiece o) (u .state) (drop (suc (u .more)) (l ∷ a ++ b))) g
-      ∙ ap (λ (ls : List Line). t .item ∷ walk (nextPiece o) (t .state) ls) (drop-append-le (t .more) a b (omega arith)) in
-      rw (v, w) (ap (λ (ps : List Piece). t .item ∷ ps) (lines-front k (t .state) (drop (t .more) a) b (omega (arith, ap length w))))
+      ∙ ap (λ (u : Stride Piece Bool). u .item ∷ walk (nextPiece o) (u .state) (drop (suc (u .besides)) (l ∷ a ++ b))) g
+      ∙ ap (λ (ls : List Line). t .item ∷ walk (nextPiece o) (t .state) ls) (drop-append-le (t .besides) a b (omega arith)) in
+      rw (v, w) (ap (λ (ps : List Piece). t .item ∷ ps) (lines-front k (t .state) (drop (t .besides) a) b (omega (arith, ap length w))))
 
   -- of a text that ends in a line feed
   pub pieces-front : (k : ℕ) (a b : List ℕ) → Closed a → k < length (pieces o a) → take k (pieces o (a ++ b)) ≡ take k (pieces o a)

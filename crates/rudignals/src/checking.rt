@@ -3,13 +3,14 @@ ghost use mathlib.Core.Path.{_≡_};
 ghost use lib.ListN.{length};
 ghost use Rattle.formatter.specs.Format.{ownRoom};
 ghost use Rattle.formatter.specs.Work.{lending};
-ghost use Rattle.judge.specs.Answers.{numbered};
+ghost use Rattle.lists.specs.Coded.{numbered};
+ghost use Rattle.judge.specs.Answers.{checkCoded};
 ghost use Rattle.judge.specs.Checking.{checking};
 
 // The answer's number. Nothing is written.
 #[no_mangle]
 pub extern "C" fn rudignals_check(options: &[u8], notes: &[u8], digest: &[u8]) -> u64
-    ensures { λ r. ⌜ r ≡ numbered (checking ownRoom (now (options .entry)) (now (notes .entry)) (now (digest .entry))) ⌝ }
+    ensures { λ r. ⌜ r ≡ numbered (checkCoded (checking ownRoom (now (options .entry)) (now (notes .entry)) (now (digest .entry)))) ⌝ }
 {
     judge::number_of(judge::check(options, notes, digest))
 }
@@ -22,7 +23,7 @@ pub extern "C" fn rudignals_check_large(
     digest: &[u8],
     work: &mut [u32],
 ) -> u64
-    ensures { λ r. ⌜ r ≡ numbered (checking (lending (length (now (work .entry)))) (now (options .entry)) (now (notes .entry)) (now (digest .entry))) ⌝ }
+    ensures { λ r. ⌜ r ≡ numbered (checkCoded (checking (lending (length (now (work .entry)))) (now (options .entry)) (now (notes .entry)) (now (digest .entry)))) ⌝ }
 {
     judge::number_of(judge::check_large(options, notes, digest, work))
 }

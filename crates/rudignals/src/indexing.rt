@@ -5,7 +5,8 @@ ghost use mathlib.Core.Path.{_≡_};
 ghost use lib.ListN.{length};
 ghost use Rattle.index.specs.Lookup.{lookup, answered, partAfter};
 ghost use Rattle.formatter.specs.Format.{ownRoom};
-ghost use Rattle.indexer.specs.Answers.{numbered, outputAfter, recordsAfter, filledAfter};
+ghost use Rattle.lists.specs.Coded.{numbered};
+ghost use Rattle.indexer.specs.Answers.{indexCoded, indexOutputAfter, recordsAfter, filledAfter};
 ghost use Rattle.indexer.specs.Indexing.{indexLending, indexing};
 use index::Record;
 
@@ -22,7 +23,7 @@ pub extern "C" fn rudignals_write_indexed(
     index: &mut [Record],
     filled: &mut u64,
 ) -> u64
-    ensures { λ r. ⌜ (r ≡ numbered (indexing ownRoom (now (options .entry)) (now (notes .entry)) (length (now (output .entry))) (length (now (index .entry))))) × (now (output .exit) ≡ outputAfter (indexing ownRoom (now (options .entry)) (now (notes .entry)) (length (now (output .entry))) (length (now (index .entry)))) (now (output .entry))) × (now (index .exit) ≡ recordsAfter (indexing ownRoom (now (options .entry)) (now (notes .entry)) (length (now (output .entry))) (length (now (index .entry)))) (now (index .entry))) × (now (filled .exit) ≡ filledAfter (indexing ownRoom (now (options .entry)) (now (notes .entry)) (length (now (output .entry))) (length (now (index .entry))))) ⌝ }
+    ensures { λ r. ⌜ (r ≡ numbered (indexCoded (indexing ownRoom (now (options .entry)) (now (notes .entry)) (length (now (output .entry))) (length (now (index .entry)))))) × (now (output .exit) ≡ indexOutputAfter (indexing ownRoom (now (options .entry)) (now (notes .entry)) (length (now (output .entry))) (length (now (index .entry)))) (now (output .entry))) × (now (index .exit) ≡ recordsAfter (indexing ownRoom (now (options .entry)) (now (notes .entry)) (length (now (output .entry))) (length (now (index .entry)))) (now (index .entry))) × (now (filled .exit) ≡ filledAfter (indexing ownRoom (now (options .entry)) (now (notes .entry)) (length (now (output .entry))) (length (now (index .entry))))) ⌝ }
 {
     let mut work = [0u32; NUMBERS];
     let t = indexer::write_marked(options, notes, output, index.len(), filled, &mut work);
@@ -40,7 +41,7 @@ pub extern "C" fn rudignals_write_indexed_large(
     filled: &mut u64,
     work: &mut [u32],
 ) -> u64
-    ensures { λ r. ⌜ (r ≡ numbered (indexing (indexLending (length (now (work .entry)))) (now (options .entry)) (now (notes .entry)) (length (now (output .entry))) (length (now (index .entry))))) × (now (output .exit) ≡ outputAfter (indexing (indexLending (length (now (work .entry)))) (now (options .entry)) (now (notes .entry)) (length (now (output .entry))) (length (now (index .entry)))) (now (output .entry))) × (now (index .exit) ≡ recordsAfter (indexing (indexLending (length (now (work .entry)))) (now (options .entry)) (now (notes .entry)) (length (now (output .entry))) (length (now (index .entry)))) (now (index .entry))) × (now (filled .exit) ≡ filledAfter (indexing (indexLending (length (now (work .entry)))) (now (options .entry)) (now (notes .entry)) (length (now (output .entry))) (length (now (index .entry))))) ⌝ }
+    ensures { λ r. ⌜ (r ≡ numbered (indexCoded (indexing (indexLending (length (now (work .entry)))) (now (options .entry)) (now (notes .entry)) (length (now (output .entry))) (length (now (index .entry)))))) × (now (output .exit) ≡ indexOutputAfter (indexing (indexLending (length (now (work .entry)))) (now (options .entry)) (now (notes .entry)) (length (now (output .entry))) (length (now (index .entry)))) (now (output .entry))) × (now (index .exit) ≡ recordsAfter (indexing (indexLending (length (now (work .entry)))) (now (options .entry)) (now (notes .entry)) (length (now (output .entry))) (length (now (index .entry)))) (now (index .entry))) × (now (filled .exit) ≡ filledAfter (indexing (indexLending (length (now (work .entry)))) (now (options .entry)) (now (notes .entry)) (length (now (output .entry))) (length (now (index .entry))))) ⌝ }
 {
     let t = indexer::write_marked_large(options, notes, output, index.len(), filled, work);
     index::store_records(index, t.records, work);

@@ -7,8 +7,9 @@ use native.Mathlib.Nat.{zero-add}
 use lib.ListN.{length, length-map}
 use lib.Seq.{sets, sets-eq}
 use borrow.Author.Tests.{lt-ltb, le-ltb}
-use Rattle.salvage.specs.Mending.{Change, mended, changes, Answer, done, long, full, room, mend, numbered, over, copyAfter, placesAfter, bytesAfter}
-use Rattle.salvage.specs.Restoring.{Back, done as given, long as longCopy, stray, room as roomBack, belonging, restored, restore, backNumbered, notesAfter}
+use Rattle.lists.specs.Coded.{numbered}
+use Rattle.salvage.specs.Mending.{Change, mended, changes, MendAnswer, done, long, full, room, mend, mendCoded, over, copyAfter, placesAfter, bytesAfter}
+use Rattle.salvage.specs.Restoring.{Back, done as given, long as longCopy, stray, room as roomBack, belonging, restored, restore, restoreCoded, notesAfter}
 use Rattle.salvage.specs.Contracts.Steps.{told, numberOf, toldBack, numberBack, Mends, Restores, Counted, Fits}
 use Rattle.salvage.specs.declared.Mended.the-variants.{Done, Long, Full, Room}
 use Rattle.salvage.specs.declared.Restored.the-variants.{Done as Given, Long as LongCopy, Stray, Room as RoomBack}
@@ -19,15 +20,15 @@ over-front xs old h = sets-eq xs old 0 (omega arith) ∙ rw (zero-add (length xs
 
 -- ---- the numbers
 
-pub number-told : (a : Answer) → numberOf (told a) ≡ numbered a
+pub number-told : (a : MendAnswer) → numberOf (told a) ≡ numbered (mendCoded a)
 unfolding numbered
 number-told (done copy list) = omega arith
 number-told long = refl
 number-told (full number) = refl
 number-told (room needed) = refl
 
-pub number-told-back : (a : Back) → numberBack (toldBack a) ≡ backNumbered a
-unfolding backNumbered
+pub number-told-back : (a : Back) → numberBack (toldBack a) ≡ numbered (restoreCoded a)
+unfolding numbered
 number-told-back (given notes) = omega arith
 number-told-back longCopy = refl
 number-told-back (stray entry) = refl

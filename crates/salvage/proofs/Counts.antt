@@ -12,7 +12,7 @@ use Rattle.lists.specs.Runs.{joined}
 use Rattle.lists.proofs.Parts.{joined-nil, joined-cons}
 use Rattle.lists.proofs.Views.{drop-here}
 use Rattle.text.specs.Rfc3629.{encode}
-use Rattle.salvage.specs.Lines.{wellFormed, linesOf}
+use Rattle.salvage.specs.Lines.{isUtf8, wholeLines}
 use Rattle.salvage.specs.Mending.{mendedLine, mended, highBytes, lineChanges, changesFrom, changes}
 use Rattle.salvage.specs.Contracts.Steps.{LineAt, HighCounted, LineCounted, Counted}
 use Rattle.salvage.proofs.Lines.{no-lines}
@@ -110,25 +110,25 @@ count-last line n i h p = let e : n + 0 ≡ n = omega arith in rw e at (p .count
 -- ---- of a line, mended or left
 
 module _ (line : List ℕ) where
-  pub left-as-found : wellFormed line ≡ true → (mendedLine line ≡ line) × ((at : ℕ) → lineChanges at line ≡ [])
+  pub left-as-found : isUtf8 line ≡ true → (mendedLine line ≡ line) × ((at : ℕ) → lineChanges at line ≡ [])
   unfolding mendedLine lineChanges
   left-as-found h = (rw h, λ at. rw h)
 
-  pub changed : wellFormed line ≡ false → (mendedLine line ≡ joined encode line) × ((at : ℕ) → lineChanges at line ≡ highBytes at line)
+  pub changed : isUtf8 line ≡ false → (mendedLine line ≡ joined encode line) × ((at : ℕ) → lineChanges at line ≡ highBytes at line)
   unfolding mendedLine lineChanges
   changed h = (rw h, λ at. rw h)
 
-  pub counted-found : wellFormed line ≡ true → LineCounted line 0
+  pub counted-found : isUtf8 line ≡ true → LineCounted line 0
   counted-found h = let f = left-as-found h in record { count = rw (f .1 0); mended = rw (f .0) (omega arith) }
 
-  pub counted-changed : (r : ℕ) → wellFormed line ≡ false → HighCounted line r → LineCounted line r
+  pub counted-changed : (r : ℕ) → isUtf8 line ≡ false → HighCounted line r → LineCounted line r
   counted-changed r h q = let f = changed h in record { count = rw (f .1 0) (q .count); mended = rw (f .0) (q .mended) }
 
   -- formed or not
-  pub formed-or-not : {P : Type 0} → (wellFormed line ≡ true → P) → (wellFormed line ≡ false → P) → P
-  formed-or-not {P} y n = pick (wellFormed line) refl
+  pub formed-or-not : {P : Type 0} → (isUtf8 line ≡ true → P) → (isUtf8 line ≡ false → P) → P
+  formed-or-not {P} y n = pick (isUtf8 line) refl
     where
-      pick : (t : Bool) → wellFormed line ≡ t → P
+      pick : (t : Bool) → isUtf8 line ≡ t → P
       pick true e = y e
       pick false e = n e
 
@@ -144,7 +144,7 @@ pub mended-nil : mended [] ≡ []
 unfolding mended
 mended-nil = rw (no-lines, joined-nil)
 
-changes-none : (at : ℕ) → changesFrom at (linesOf []) ≡ []
+changes-none : (at : ℕ) → changesFrom at (wholeLines []) ≡ []
 unfolding changesFrom
 changes-none at = rw no-lines
 
@@ -156,7 +156,7 @@ module _ (s : List ℕ) (at end : ℕ) (l : LineAt s at end) where
   pub line-length : length (take (end - at) (drop at s)) ≡ end - at
   line-length = simp (length-take, length-drop) (omega (arith, l .within))
 
-  pub changes-line : changesFrom at (linesOf (drop at s)) ≡ lineChanges at (take (end - at) (drop at s)) ++ changesFrom end (linesOf (drop end s))
+  pub changes-line : changesFrom at (wholeLines (drop at s)) ≡ lineChanges at (take (end - at) (drop at s)) ++ changesFrom end (wholeLines (drop end s))
   unfolding changesFrom
   changes-line = let e : at + (end - at) ≡ end = omega (arith, l .on) in rw (l .first, changesFrom, line-length, e)
 
@@ -164,14 +164,14 @@ module _ (s : List ℕ) (i : ℕ) (h : length s ≤ i) where
   pub mended-past : mended (drop i s) ≡ []
   mended-past = rw (drop-of-length-le s {i = i} h) mended-nil
 
-  pub changes-past : changesFrom i (linesOf (drop i s)) ≡ []
+  pub changes-past : changesFrom i (wholeLines (drop i s)) ≡ []
   changes-past = rw (drop-of-length-le s {i = i} h) (changes-none i)
 
 -- n are counted up to place at of the notes
 pub record NotesLeft (notes : List ℕ) (n at : ℕ) : Type 0 where
   pub within : at ≤ length notes
   pub few : n ≤ at
-  pub count : n + length (changesFrom at (linesOf (drop at notes))) ≡ length (changes notes)
+  pub count : n + length (changesFrom at (wholeLines (drop at notes))) ≡ length (changes notes)
   pub mended : at + n + length (mended (drop at notes)) ≡ length (mended notes)
 
 pub notes-first : (notes : List ℕ) → NotesLeft notes 0 0
@@ -188,7 +188,7 @@ pub notes-more : (notes : List ℕ) (n at end r : ℕ) → NotesLeft notes n at 
 notes-more notes n at end r p l q =
     let line = take (end - at) (drop at notes) in
     let k = line-length notes at end l in
-    let a = ap length (changes-line notes at end l) ∙ length-append (lineChanges at line) (changesFrom end (linesOf (drop end notes))) in
+    let a = ap length (changes-line notes at end l) ∙ length-append (lineChanges at line) (changesFrom end (wholeLines (drop end notes))) in
     let b = ap length (mended-line notes at end l) ∙ length-append (mendedLine line) (mended (drop end notes)) in
     let f : r ≤ length line = few line r q in
     record {

@@ -12,21 +12,21 @@ use Rattle.lists.proofs.Walk.{each-nil, each-step}
 use Rattle.lists.proofs.RunsAt.{run-past, run-end}
 use Rattle.lists.proofs.Parts.{while-behind}
 use Rattle.lists.proofs.Views.{drop-none}
-use Rattle.salvage.specs.Lines.{noFeed, firstLine, linesOf}
+use Rattle.salvage.specs.Lines.{noFeed, firstWholeLine, wholeLines}
 use Rattle.salvage.specs.Contracts.Steps.{Run, LineAt}
 use Rattle.salvage.proofs.Runs.{run-while}
 
-pub no-lines : linesOf [] ≡ []
-unfolding linesOf
+pub no-lines : wholeLines [] ≡ []
+unfolding wholeLines
 no-lines = each-nil _ _
 
-pub first-and-rest : (xs : List ℕ) → 0 < length xs → linesOf xs ≡ firstLine xs ∷ linesOf (drop (suc (length (while noFeed xs))) xs)
-unfolding linesOf
+pub first-and-rest : (xs : List ℕ) → 0 < length xs → wholeLines xs ≡ firstWholeLine xs ∷ wholeLines (drop (suc (length (while noFeed xs))) xs)
+unfolding wholeLines
 first-and-rest xs h = each-step _ _ xs h
 
 -- a line by its length
-pub first-line-is : (xs : List ℕ) → firstLine xs ≡ take (suc (length (while noFeed xs))) xs
-unfolding firstLine
+pub first-line-is : (xs : List ℕ) → firstWholeLine xs ≡ take (suc (length (while noFeed xs))) xs
+unfolding firstWholeLine
 first-line-is xs =
     let w = while noFeed xs in
     let b = behind noFeed xs in

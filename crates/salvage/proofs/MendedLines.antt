@@ -16,7 +16,7 @@ use Rattle.lists.proofs.Parts.{joined-nil, joined-cons, joined-append, while-ni
 use Rattle.lists.proofs.Extents.{each-joined}
 use Rattle.text.specs.Rfc3629.{Front, front, nothing, encode, decode}
 use Rattle.text.proofs.Decoder.{scalar-true, sound, complete}
-use Rattle.salvage.specs.Lines.{noFeed, firstLine, linesOf, wellFormed}
+use Rattle.salvage.specs.Lines.{noFeed, firstWholeLine, wholeLines, isUtf8}
 use Rattle.salvage.specs.Mending.{mendedLine, mended}
 use Rattle.salvage.proofs.Lines.{no-lines, first-and-rest, first-line-is}
 use Rattle.salvage.proofs.WellFormed.{formed-nil, formed-behind, ill-formed}
@@ -37,9 +37,9 @@ bytes-back [] ys b = b
 bytes-back (x ∷ xs) ys b = bytes-back xs ys (λ j. b (suc j))
 
 -- the lines joined are the text
-pub lines-joined : (xs : List ℕ) → joined (λ line. line) (linesOf xs) ≡ xs
-unfolding linesOf
-lines-joined = each-joined _ firstLine (λ line. line) (λ xs h. first-line-is xs)
+pub lines-joined : (xs : List ℕ) → joined (λ line. line) (wholeLines xs) ≡ xs
+unfolding wholeLines
+lines-joined = each-joined _ firstWholeLine (λ line. line) (λ xs h. first-line-is xs)
 
 -- ---- texts without a line feed
 
@@ -64,12 +64,12 @@ drop-all : (bs : List ℕ) → drop (suc (length bs)) bs ≡ []
 drop-all [] = refl
 drop-all (b ∷ bs) = drop-all bs
 
-pub one-line : (bs : List ℕ) → 0 < length bs → Feedless bs → linesOf bs ≡ bs ∷ []
-unfolding firstLine
+pub one-line : (bs : List ℕ) → 0 < length bs → Feedless bs → wholeLines bs ≡ bs ∷ []
+unfolding firstWholeLine
 one-line bs h f = let w = while-all bs f in first-and-rest bs h ∙ rw (w .0, w .1, append-nil bs, drop-all bs, no-lines)
 
-pub line-by-line : (bs xs : List ℕ) → Feedless bs → linesOf (bs ++ 10 ∷ xs) ≡ (bs ++ 10 ∷ []) ∷ linesOf xs
-unfolding firstLine
+pub line-by-line : (bs xs : List ℕ) → Feedless bs → wholeLines (bs ++ 10 ∷ xs) ≡ (bs ++ 10 ∷ []) ∷ wholeLines xs
+unfolding firstWholeLine
 line-by-line bs xs f =
     let w = while-fed bs xs f in
     first-and-rest (bs ++ 10 ∷ xs) (omega (arith, length-append bs (10 ∷ xs))) ∙ rw (w .0, w .1, drop-fed bs xs)
@@ -138,26 +138,26 @@ line-fed bs b f =
 -- ---- well formed
 
 -- after a byte's octets
-formed-byte : (b : ℕ) (xs : List ℕ) → b < 256 → wellFormed (encode b ++ xs) ≡ wellFormed xs
+formed-byte : (b : ℕ) (xs : List ℕ) → b < 256 → isUtf8 (encode b ++ xs) ≡ isUtf8 xs
 formed-byte b xs h =
     let s = scalar-true b (record { most = omega arith; noSurrogate = λ l k. omega arith }) in
     formed-behind (encode b ++ xs) b (length (encode b)) (complete b (encode b ++ xs) xs (record { isScalar = rw s tt; octets = refl }))
     ∙ rw (drop-append-seam (encode b) xs)
 
-formed-joined : (bs xs : List ℕ) → Bytes bs → wellFormed (joined encode bs ++ xs) ≡ wellFormed xs
+formed-joined : (bs xs : List ℕ) → Bytes bs → isUtf8 (joined encode bs ++ xs) ≡ isUtf8 xs
 formed-joined [] xs b = rw joined-nil
 formed-joined (x ∷ bs) xs b = rw (joined-cons, append-assoc) (formed-byte x (joined encode bs ++ xs) (b 0) ∙ formed-joined bs xs (λ i. b (suc i)))
 
 -- after a well-formed text
-formed-upto : (k : ℕ) (a b : List ℕ) → length a ≤ k → wellFormed a ≡ true → wellFormed (a ++ b) ≡ wellFormed b
+formed-upto : (k : ℕ) (a b : List ℕ) → length a ≤ k → isUtf8 a ≡ true → isUtf8 (a ++ b) ≡ isUtf8 b
 formed-upto zero [] b h w = refl
 formed-upto zero (x ∷ a) b h w = absurd (omega arith)
 formed-upto (suc k) [] b h w = refl
 formed-upto (suc k) (x ∷ a) b h w = pick (decode (x ∷ a)) refl (λ n. formed-upto k (drop n (x ∷ a)) b)
   where
     pick : (f : Front) → decode (x ∷ a) ≡ f
-        → ((n : ℕ) → length (drop n (x ∷ a)) ≤ k → wellFormed (drop n (x ∷ a)) ≡ true → wellFormed (drop n (x ∷ a) ++ b) ≡ wellFormed b)
-        → wellFormed (x ∷ a ++ b) ≡ wellFormed b
+        → ((n : ℕ) → length (drop n (x ∷ a)) ≤ k → isUtf8 (drop n (x ∷ a)) ≡ true → isUtf8 (drop n (x ∷ a) ++ b) ≡ isUtf8 b)
+        → isUtf8 (x ∷ a ++ b) ≡ isUtf8 b
     pick nothing e ih = absurd (let z = sym (ill-formed (x ∷ a) (omega arith) e) ∙ w in let y : _≡_ {A = ℕ} 0 1 = cc in omega arith)
     pick (front c n) e ih =
         let d = sound (x ∷ a) c n e in
@@ -168,38 +168,38 @@ formed-upto (suc k) (x ∷ a) b h w = pick (decode (x ∷ a)) refl (λ n. formed
         ∙ rw (← d .count, drop-append-le n (x ∷ a) b (d .within))
         (ih n (omega (arith, d .some, length-drop n (x ∷ a))) (sym (formed-behind (x ∷ a) c n e) ∙ w))
 
-formed-append : (a b : List ℕ) → wellFormed a ≡ true → wellFormed (a ++ b) ≡ wellFormed b
+formed-append : (a b : List ℕ) → isUtf8 a ≡ true → isUtf8 (a ++ b) ≡ isUtf8 b
 formed-append a b w = formed-upto (length a) a b (omega arith) w
 
-pub formed-line : (line xs : List ℕ) → Bytes line → wellFormed (mendedLine line ++ xs) ≡ wellFormed xs
+pub formed-line : (line xs : List ℕ) → Bytes line → isUtf8 (mendedLine line ++ xs) ≡ isUtf8 xs
 formed-line line xs b =
     formed-or-not line
     (λ w. rw (left-as-found line w .0) (formed-append line xs w))
     (λ w. rw (changed line w .0) (formed-joined line xs b))
 
-line-formed : (line : List ℕ) → Bytes line → wellFormed (mendedLine line) ≡ true
-line-formed line b = ap wellFormed (sym (append-nil (mendedLine line))) ∙ formed-line line [] b ∙ formed-nil
+line-formed : (line : List ℕ) → Bytes line → isUtf8 (mendedLine line) ≡ true
+line-formed line b = ap isUtf8 (sym (append-nil (mendedLine line))) ∙ formed-line line [] b ∙ formed-nil
 
 -- every line of a mended copy, and the copy read from its front
-pub lines-formed : (notes : List ℕ) → Bytes notes → All (λ line. wellFormed line ≡ true) (linesOf (mended notes))
+pub lines-formed : (notes : List ℕ) → Bytes notes → All (λ line. isUtf8 line ≡ true) (wholeLines (mended notes))
 lines-formed =
-    lines-induct (λ xs. Bytes xs → All (λ line. wellFormed line ≡ true) (linesOf (mended xs)))
+    lines-induct (λ xs. Bytes xs → All (λ line. isUtf8 line ≡ true) (wholeLines (mended xs)))
     (λ b. rw (mended-nil, no-lines) tt)
     (λ bs h f b. let m = last-feedless bs h b f in rw (mended-last bs h f, one-line (mendedLine bs) (m .0) (m .1)) (line-formed bs b, tt))
     step
   where
-    step : (bs xs : List ℕ) → Feedless bs → (Bytes xs → All (λ line. wellFormed line ≡ true) (linesOf (mended xs)))
-        → Bytes (bs ++ 10 ∷ xs) → All (λ line. wellFormed line ≡ true) (linesOf (mended (bs ++ 10 ∷ xs)))
+    step : (bs xs : List ℕ) → Feedless bs → (Bytes xs → All (λ line. isUtf8 line ≡ true) (wholeLines (mended xs)))
+        → Bytes (bs ++ 10 ∷ xs) → All (λ line. isUtf8 line ≡ true) (wholeLines (mended (bs ++ 10 ∷ xs)))
     step bs xs f ih b =
         let l = line-fed bs (bytes-front bs (10 ∷ xs) b) f in
         let c : Bytes (bs ++ 10 ∷ []) = bytes-front (bs ++ 10 ∷ []) xs (rw (append-assoc bs (10 ∷ []) xs) b) in
-        let w : wellFormed (l .text ++ 10 ∷ []) ≡ true = rw (← l .is) (line-formed (bs ++ 10 ∷ []) c) in
+        let w : isUtf8 (l .text ++ 10 ∷ []) ≡ true = rw (← l .is) (line-formed (bs ++ 10 ∷ []) c) in
         rw (mended-more bs xs f, l .is, append-assoc (l .text) (10 ∷ []) (mended xs), line-by-line (l .text) (mended xs) (l .feedless))
         (w, ih (λ i. bytes-back bs (10 ∷ xs) b (suc i)))
 
-pub text-formed : (notes : List ℕ) → Bytes notes → wellFormed (mended notes) ≡ true
+pub text-formed : (notes : List ℕ) → Bytes notes → isUtf8 (mended notes) ≡ true
 text-formed =
-    lines-induct (λ xs. Bytes xs → wellFormed (mended xs) ≡ true)
+    lines-induct (λ xs. Bytes xs → isUtf8 (mended xs) ≡ true)
     (λ b. rw mended-nil formed-nil)
     (λ bs h f b. rw (mended-last bs h f) (line-formed bs b))
     (λ bs xs f ih b.

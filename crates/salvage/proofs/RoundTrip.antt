@@ -14,7 +14,7 @@ use Rattle.lists.specs.Theorems.All.{All}
 use Rattle.lists.proofs.Runs.{begins-append, begins-front}
 use Rattle.lists.proofs.Parts.{joined-nil, joined-cons}
 use Rattle.text.specs.Rfc3629.{encode}
-use Rattle.salvage.specs.Lines.{linesOf, wellFormed}
+use Rattle.salvage.specs.Lines.{wholeLines, isUtf8}
 use Rattle.salvage.specs.Mending.{Change, mendedLine, mended, highBytes, lineChanges, changesFrom, changes, done, long, full, room, mend, over, placesAfter, bytesAfter}
 use Rattle.salvage.specs.Restoring.{done as given, long as longCopy, stray, room as roomBack, listed, belongs, belonging, restored, restore, expanded}
 use Rattle.salvage.proofs.Counts.{encode-low, encode-high, high-nil, high-low, high-high, low-or-high, left-as-found, changed, formed-or-not}
@@ -124,7 +124,7 @@ backs-lines at (line ∷ lines) o =
 
 notes-back : (notes : List ℕ) → Bytes notes → Backs 0 (mended notes) (changes notes) notes
 unfolding mended changes
-notes-back notes o = rw (lines-joined notes) at (backs-lines 0 (linesOf notes) (rw (lines-joined notes) o))
+notes-back notes o = rw (lines-joined notes) at (backs-lines 0 (wholeLines notes) (rw (lines-joined notes) o))
 
 -- ---- lengths
 
@@ -154,7 +154,7 @@ lengths-lines at (line ∷ lines) o =
 
 pub mended-length : (notes : List ℕ) → Bytes notes → (length (mended notes) ≡ length notes + length (changes notes)) × (length (changes notes) ≤ length notes)
 unfolding mended changes
-mended-length notes o = rw (lines-joined notes) at (lengths-lines 0 (linesOf notes) (rw (lines-joined notes) o))
+mended-length notes o = rw (lines-joined notes) at (lengths-lines 0 (wholeLines notes) (rw (lines-joined notes) o))
 
 -- ---- when mending is done
 
@@ -182,7 +182,7 @@ back-exactly notes o space h k =
 
 -- ---- mending again
 
-again-lines : (at : ℕ) (lines : List (List ℕ)) → All (λ line. wellFormed line ≡ true) lines → (joined mendedLine lines ≡ joined (λ l. l) lines) × (changesFrom at lines ≡ [])
+again-lines : (at : ℕ) (lines : List (List ℕ)) → All (λ line. isUtf8 line ≡ true) lines → (joined mendedLine lines ≡ joined (λ l. l) lines) × (changesFrom at lines ≡ [])
 unfolding changesFrom
 again-lines at [] a = (joined-nil mendedLine ∙ sym (joined-nil (λ (l : List ℕ). l)), refl)
 again-lines at (line ∷ lines) a =
@@ -190,9 +190,9 @@ again-lines at (line ∷ lines) a =
     let r = again-lines (at + length line) lines (a .1) in
     (joined-cons mendedLine line lines ∙ rw (f .0, r .0) (sym (joined-cons (λ (l : List ℕ). l) line lines)), rw (f .1 at) (r .1))
 
-formed-again : (xs : List ℕ) → All (λ line. wellFormed line ≡ true) (linesOf xs) → (mended xs ≡ xs) × (changes xs ≡ [])
+formed-again : (xs : List ℕ) → All (λ line. isUtf8 line ≡ true) (wholeLines xs) → (mended xs ≡ xs) × (changes xs ≡ [])
 unfolding mended changes
-formed-again xs a = let r = again-lines 0 (linesOf xs) a in (r .0 ∙ lines-joined xs, r .1)
+formed-again xs a = let r = again-lines 0 (wholeLines xs) a in (r .0 ∙ lines-joined xs, r .1)
 
 pub again-same : (notes : List ℕ) → Bytes notes → (space entries : ℕ) → length (mended notes) ≤ 65536 → length (mended notes) ≤ space → mend (mended notes) space entries ≡ done (mended notes) []
 again-same notes o space entries h k =

@@ -1,14 +1,14 @@
 -- RULES 14 in plain sentences. Each statement is about the definitions of specs/ alone, no code, and is proved with nothing assumed;
 -- where a proof is long it is in the file cited. The notes are bytes: numbers below 256. `mend` and `done` stand in
--- specs/Mending.antt (`done copy list` is code 0 with that copy and that list), `restore` and `Back` in specs/Restoring.antt, `linesOf`
--- and `wellFormed` in specs/Lines.antt, `All` in lists/specs/Theorems/All.antt.
+-- specs/Mending.antt (`done copy list` is code 0 with that copy and that list), `restore` and `Back` in specs/Restoring.antt, `wholeLines`
+-- and `isUtf8` in specs/Lines.antt, `All` in lists/specs/Theorems/All.antt.
 use mathlib.Core.Path.{_≡_}
 use mathlib.Core.Bool.{true}
 use mathlib.Core.List.{List, []}
 use Prim.Native.Nat.{ℕ, _+_, _≤_, _<_}
 use lib.ListN.{length, getD, take}
 use Rattle.lists.specs.Theorems.All.{All}
-use Rattle.salvage.specs.Lines.{linesOf, wellFormed}
+use Rattle.salvage.specs.Lines.{wholeLines, isUtf8}
 use Rattle.salvage.specs.Mending.{Change, done, mend, placesAfter, bytesAfter}
 use Rattle.salvage.specs.Restoring.{done as given, listed, restore, expanded}
 use Rattle.salvage.proofs.MendedLines.{lines-formed, text-formed}
@@ -33,11 +33,11 @@ module _ (notes : List ℕ) (space entries : ℕ) (copy : List ℕ) (list : List
   the-slices-hold-the-list = slices-hold copy list
 
   -- Every line of the mended copy is well formed by RFC 3629, ..
-  pub every-line-is-well-formed : All (λ line. wellFormed line ≡ true) (linesOf copy)
+  pub every-line-is-well-formed : All (λ line. isUtf8 line ≡ true) (wholeLines copy)
   every-line-is-well-formed = let m = mend-means notes space entries copy list mends in rw (m .copy-is) (lines-formed notes bytes)
 
   -- .. and so is the copy as a whole, read from its front. So formatting it never gives code 3: `rudignals/proofs/Mended`.
-  pub the-copy-is-well-formed : wellFormed copy ≡ true
+  pub the-copy-is-well-formed : isUtf8 copy ≡ true
   the-copy-is-well-formed = let m = mend-means notes space entries copy list mends in rw (m .copy-is) (text-formed notes bytes)
 
   -- Mending again a copy within the limit changes nothing, whatever room the list has.

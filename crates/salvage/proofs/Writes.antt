@@ -12,7 +12,7 @@ use Rattle.lists.specs.Runs.{joined}
 use Rattle.lists.proofs.Parts.{joined-nil, joined-cons}
 use Rattle.lists.proofs.Views.{drop-here, drop-none}
 use Rattle.text.specs.Rfc3629.{encode}
-use Rattle.salvage.specs.Lines.{wellFormed, linesOf}
+use Rattle.salvage.specs.Lines.{isUtf8, wholeLines}
 use Rattle.salvage.specs.Mending.{Change, mendedLine, mended, highBytes, lineChanges, changesFrom, changes}
 use Rattle.salvage.specs.Contracts.Steps.{LineAt, Fits, Put}
 use Rattle.salvage.proofs.Counts.{encode-low, encode-high, high-nil, high-low, high-high, high-cons, mended-line, changes-line, mended-past, changes-past, left-as-found, line-length}
@@ -163,7 +163,7 @@ module _ {line : List ℕ} {at n : ℕ} {copy₀ places₀ bytes₀ : List ℕ} 
 
 -- ---- a line as it is
 
-pub line-as-it-is : (line : List ℕ) (at n : ℕ) (copy places bytes copy′ : List ℕ) → wellFormed line ≡ true → copy′ ≡ sets copy (at + n) line
+pub line-as-it-is : (line : List ℕ) (at n : ℕ) (copy places bytes copy′ : List ℕ) → isUtf8 line ≡ true → copy′ ≡ sets copy (at + n) line
     → Put at n (mendedLine line) (lineChanges at line) copy places bytes (at + length line) n copy′ places bytes
 line-as-it-is line at n copy places bytes copy′ h e =
     let f = left-as-found line h in
@@ -173,7 +173,7 @@ line-as-it-is line at n copy places bytes copy′ h e =
 
 pub record NotesPart (notes copy₀ places₀ bytes₀ : List ℕ) (at n : ℕ) (copy places bytes : List ℕ) : Type 0 where
   pub within : at ≤ length notes
-  pub left : Left 0 0 (mended notes) (changes notes) copy₀ places₀ bytes₀ at n (mended (drop at notes)) (changesFrom at (linesOf (drop at notes))) copy places bytes
+  pub left : Left 0 0 (mended notes) (changes notes) copy₀ places₀ bytes₀ at n (mended (drop at notes)) (changesFrom at (wholeLines (drop at notes))) copy places bytes
 
 pub notes-begin : (notes copy places bytes : List ℕ) → NotesPart notes copy places bytes 0 0 copy places bytes
 unfolding changes
@@ -182,13 +182,13 @@ notes-begin notes copy places bytes = record { within = omega arith; left = left
 module _ {notes copy₀ places₀ bytes₀ : List ℕ} {at n : ℕ} {copy places bytes : List ℕ} (p : NotesPart notes copy₀ places₀ bytes₀ at n copy places bytes) where
   module _ {end : ℕ} (l : LineAt notes at end) where
     line-and-rest : Left 0 0 (mended notes) (changes notes) copy₀ places₀ bytes₀ at n
-        (mendedLine (take (end - at) (drop at notes)) ++ mended (drop end notes)) (lineChanges at (take (end - at) (drop at notes)) ++ changesFrom end (linesOf (drop end notes))) copy places bytes
+        (mendedLine (take (end - at) (drop at notes)) ++ mended (drop end notes)) (lineChanges at (take (end - at) (drop at notes)) ++ changesFrom end (wholeLines (drop end notes))) copy places bytes
     line-and-rest = rw (← mended-line notes at end l, ← changes-line notes at end l) (p .left)
 
     pub line-fits : Fits 0 0 (mended notes) (changes notes) copy₀ places₀ bytes₀
         → Fits at n (mendedLine (take (end - at) (drop at notes))) (lineChanges at (take (end - at) (drop at notes))) copy places bytes
     line-fits f =
-        fits-front (mendedLine (take (end - at) (drop at notes))) (mended (drop end notes)) (lineChanges at (take (end - at) (drop at notes))) (changesFrom end (linesOf (drop end notes)))
+        fits-front (mendedLine (take (end - at) (drop at notes))) (mended (drop end notes)) (lineChanges at (take (end - at) (drop at notes))) (changesFrom end (wholeLines (drop end notes)))
         (left-fits line-and-rest f)
 
     pub line-then : {n′ : ℕ} {copy′ places′ bytes′ : List ℕ}

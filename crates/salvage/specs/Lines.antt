@@ -12,24 +12,24 @@ abbrev pub noFeed : ℕ → Bool
 noFeed b = not (eqb b 10)
 
 -- the first line of a text: the bytes before its first line feed, and the line feed, if there is one
-unfoldable pub firstLine : List ℕ → List ℕ
-firstLine xs = while noFeed xs ++ take 1 (behind noFeed xs)
+unfoldable pub firstWholeLine : List ℕ → List ℕ
+firstWholeLine xs = while noFeed xs ++ take 1 (behind noFeed xs)
 
-unfoldable pub linesOf : List ℕ → List (List ℕ)
-linesOf = each (λ xs. length (while noFeed xs)) firstLine
+unfoldable pub wholeLines : List ℕ → List (List ℕ)
+wholeLines = each (λ xs. length (while noFeed xs)) firstWholeLine
 
 -- the characters of a text, read from the front; a byte at which none begins is passed by itself
 abbrev pub octetsBehind : Front → ℕ
 octetsBehind (front c n) = n - 1
 octetsBehind nothing = 0
 
-unfoldable pub characters : List ℕ → List Front
-characters = each (λ xs. octetsBehind (decode xs)) decode
+unfoldable pub fronts : List ℕ → List Front
+fronts = each (λ xs. octetsBehind (decode xs)) decode
 
 abbrev pub isCharacter : Front → Bool
 isCharacter (front c n) = true
 isCharacter nothing = false
 
 -- nothing but characters, up to the end
-unfoldable pub wellFormed : List ℕ → Bool
-wellFormed xs = every isCharacter (characters xs)
+unfoldable pub isUtf8 : List ℕ → Bool
+isUtf8 xs = every isCharacter (fronts xs)

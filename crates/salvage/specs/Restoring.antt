@@ -1,10 +1,11 @@
 -- The way back from a mended copy and its list to the old notes: which lists belong to a copy, what comes back, and the answers.
 use mathlib.Core.Bool.{Bool, true, false, cond, _&&_}
 use mathlib.Core.List.{List, [], _∷_, _++_}
-use Prim.Native.Nat.{ℕ, suc, _+_, _-_, _*_, _^_}
+use Prim.Native.Nat.{ℕ, suc, _+_, _-_}
 use lib.Dec.{ltb, leb}
 use lib.ListN.{length, take, drop}
 use Rattle.lists.specs.Runs.{begins}
+use Rattle.lists.specs.Coded.{Coded, coded}
 use Rattle.text.specs.Rfc3629.{encode}
 use Rattle.salvage.specs.Mending.{Change, over}
 
@@ -51,20 +52,11 @@ restore copy list bytes =
     (done (restored 0 copy list))))
 
 -- the table: code and N
-abbrev pub backCode : Back → ℕ
-backCode (done notes) = 0
-backCode long = 2
-backCode (stray entry) = 11
-backCode (room needed) = 5
-
-abbrev pub backValue : Back → ℕ
-backValue (done notes) = length notes
-backValue long = 0
-backValue (stray entry) = entry
-backValue (room needed) = needed
-
-unfoldable pub backNumbered : Back → ℕ
-backNumbered a = backCode a * 2 ^ 32 + backValue a
+abbrev pub restoreCoded : Back → Coded
+restoreCoded (done notes) = coded 0 (length notes)
+restoreCoded long = coded 2 0
+restoreCoded (stray entry) = coded 11 entry
+restoreCoded (room needed) = coded 5 needed
 
 -- the slice afterwards: on a refusal it is unchanged
 unfoldable pub notesAfter : Back → List ℕ → List ℕ

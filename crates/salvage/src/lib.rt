@@ -8,10 +8,10 @@ ghost use lib.ListN.{length, drop};
 ghost use lib.Seq.{sets};
 ghost use Rattle.lists.specs.Runs.{joined};
 ghost use Rattle.text.specs.Rfc3629.{encode};
-ghost use Rattle.salvage.specs.Lines.{noFeed, wellFormed};
+ghost use Rattle.salvage.specs.Lines.{noFeed, isUtf8};
 ghost use Rattle.salvage.specs.Mending.{mend as mendOf, mendedLine, mended, highBytes, lineChanges, changes};
 ghost use Rattle.salvage.specs.Restoring.{listed, belongs, belonging, restored, restore as restoreOf};
-ghost use Rattle.salvage.specs.Contracts.Steps.{Mends, numberOf, numberBack, Restores, Run, isAscii, LineAt, HighCounted, LineCounted, Counted, Fits, Put, Whole};
+ghost use Rattle.salvage.specs.Contracts.Steps.{Mends, numberOf, numberBack, Restores, Run, LineAt, HighCounted, LineCounted, Counted, Fits, Put, Whole};
 
 // What mending answers: the copy's length, or a refusal with what is told of it.
 pub enum Mended {
@@ -37,7 +37,7 @@ pub fn mend(notes: &[u8], copy: &mut [u8], places: &mut [u32], bytes: &mut [u8])
         return Mended::Long;
     }
     let changed = count_changes(notes);
-    if lesser(places.len(), bytes.len()) < changed {
+    if lists::lesser(places.len(), bytes.len()) < changed {
         return Mended::Full(changed);
     }
     let needed = notes.len() + changed;
@@ -46,15 +46,6 @@ pub fn mend(notes: &[u8], copy: &mut [u8], places: &mut [u32], bytes: &mut [u8])
     }
     put_all(notes, copy, places, bytes);
     Mended::Done(needed)
-}
-
-fn lesser(a: usize, b: usize) -> usize
-    ensures { λ r. ⌜ r ≡ min a b ⌝ }
-{
-    if a < b {
-        return a;
-    }
-    b
 }
 
 // The answer's code is in the upper 32 bits of its number, what it tells in the lower.
@@ -190,12 +181,12 @@ fn are_feedless(s: &[u8], i: usize) -> bool
 
 // Whether a line is well formed: by RFC 3629 in full, whatever formatting accepts.
 fn is_well_formed(line: &[u8]) -> bool
-    ensures { λ r. ⌜ r ≡ wellFormed (now (line .entry)) ⌝ }
+    ensures { λ r. ⌜ r ≡ isUtf8 (now (line .entry)) ⌝ }
 {
     let mut i = 0;
     while i < line.len() {
         if line[i] < 0x80 {
-            i = ascii_end(line, i + 1);
+            i = text::ascii_end(line, i + 1);
         } else {
             let Char::Good { code: _, next } = text::decode_at(line, i) else {
                 return false;
@@ -204,58 +195,6 @@ fn is_well_formed(line: &[u8]) -> bool
         }
     }
     true
-}
-
-// The end of the bytes below 0x80 at a place, of which each is a character.
-fn ascii_end(s: &[u8], from: usize) -> usize
-    requires { ⌜ from ≤ length (now s) ⌝ }
-    ensures { λ r. ⌜ Run isAscii (now (s .entry)) from r ⌝ }
-{
-    let mut i = ascii_eights(s, from);
-    while i < s.len() {
-        if 0x80 <= s[i] {
-            return i;
-        }
-        i += 1;
-    }
-    i
-}
-
-fn ascii_eights(s: &[u8], from: usize) -> usize
-    requires { ⌜ from ≤ length (now s) ⌝ }
-    ensures { λ r. ⌜ Run isAscii (now (s .entry)) from r ⌝ }
-{
-    let mut i = from;
-    while 8 <= s.len() - i {
-        if are_ascii(s, i) {
-            i += 8;
-        } else {
-            return i;
-        }
-    }
-    i
-}
-
-// Whether the eight bytes at a place are below 0x80.
-fn are_ascii(s: &[u8], i: usize) -> bool
-    requires { ⌜ (i ≤ length (now s)) × (8 ≤ length (now s) - i) ⌝ }
-    ensures { λ r. ⌜ (r ≡ true → Run isAscii (now (s .entry)) i (i + 8)) ⌝ }
-{
-    let b = i + 1;
-    let c = i + 2;
-    let d = i + 3;
-    let e = i + 4;
-    let f = i + 5;
-    let g = i + 6;
-    let h = i + 7;
-    (s[i] < 0x80)
-        & (s[b] < 0x80)
-        & (s[c] < 0x80)
-        & (s[d] < 0x80)
-        & (s[e] < 0x80)
-        & (s[f] < 0x80)
-        & (s[g] < 0x80)
-        & (s[h] < 0x80)
 }
 
 // ---- writing: a place in the copy is the place in the notes and the number of changes before it
@@ -361,7 +300,7 @@ pub fn restore(copy: &[u8], places: &[u32], bytes: &[u8], notes: &mut [u8]) -> R
     if 131072 < copy.len() {
         return Restored::Long;
     }
-    let count = lesser(places.len(), bytes.len());
+    let count = lists::lesser(places.len(), bytes.len());
     let fit = count_belonging(copy, places, bytes);
     if fit < count {
         return Restored::Stray(fit);
@@ -379,11 +318,11 @@ fn count_belonging(copy: &[u8], places: &[u32], bytes: &[u8]) -> usize
     requires { ⌜ length (now copy) ≤ 131072 ⌝ }
     ensures { λ r. ⌜ r ≡ belonging 0 (now (copy .entry)) (listed (now (places .entry)) (now (bytes .entry))) ⌝ }
 {
-    let count = lesser(places.len(), bytes.len());
+    let count = lists::lesser(places.len(), bytes.len());
     let mut at = 0;
     let mut k = 0;
     while k < count {
-        let place = wide(places[k]);
+        let place = lists::wide(places[k]);
         if is_belonging(copy, at, k, place, bytes[k]) {
             at = place + 1;
             k += 1;
@@ -392,13 +331,6 @@ fn count_belonging(copy: &[u8], places: &[u32], bytes: &[u8]) -> usize
         }
     }
     k
-}
-
-// A cast that needs no proof where it is used.
-fn wide(x: u32) -> usize
-    ensures { λ r. ⌜ (r ≡ x) × (r < 2 ^ 32) ⌝ }
-{
-    x as usize
 }
 
 // Whether an entry after k others belongs to the copy from the old place `at` on.
@@ -431,11 +363,11 @@ fn put_back(copy: &[u8], places: &[u32], bytes: &[u8], notes: &mut [u8])
     requires { ⌜ Whole (now copy) (listed (now places) (now bytes)) (now notes) ⌝ }
     ensures { λ _. ⌜ now (notes .exit) ≡ sets (now (notes .entry)) 0 (restored 0 (now (copy .entry)) (listed (now (places .entry)) (now (bytes .entry)))) ⌝ }
 {
-    let count = lesser(places.len(), bytes.len());
+    let count = lists::lesser(places.len(), bytes.len());
     let mut at = 0;
     let mut k = 0;
     while k < count {
-        let place = wide(places[k]);
+        let place = lists::wide(places[k]);
         let from = at + k;
         let to = place + k;
         put_text(&copy[from..to], notes, at);

@@ -156,7 +156,7 @@ fn four(s: &[u8], at: usize) -> Char
 }
 
 // A cast that needs no proof where it is used.
-fn wide(b: u8) -> u32
+pub fn wide(b: u8) -> u32
     ensures { λ r. ⌜ r ≡ b ⌝ }
 {
     b as u32
@@ -362,7 +362,7 @@ fn end_joined(s: &[u8]) -> bool
 }
 
 // The end of the bytes below 0x80 at a place, of which each is a character.
-fn ascii_end(s: &[u8], from: usize) -> usize
+pub fn ascii_end(s: &[u8], from: usize) -> usize
     requires { ⌜ from ≤ length (now s) ⌝ }
     ensures { λ r. ⌜ Ascii (now (s .entry)) from r ⌝ }
 {
@@ -393,7 +393,7 @@ fn ascii_eights(s: &[u8], from: usize) -> usize
 }
 
 // Whether the eight bytes at a place are below 0x80.
-fn are_ascii(s: &[u8], i: usize) -> bool
+pub fn are_ascii(s: &[u8], i: usize) -> bool
     requires { ⌜ (i ≤ length (now s)) × (8 ≤ length (now s) - i) ⌝ }
     ensures { λ r. ⌜ (r ≡ true → Ascii (now (s .entry)) i (i + 8)) ⌝ }
 {

@@ -7,11 +7,12 @@ use lib.ListN.{length, replicate}
 use borrow.Author.Tests.{lt-ltb, le-ltb, lt-leb, le-leb}
 use Rattle.output.specs.Contracts.Sink.{Wrote}
 use Rattle.output.proofs.Sink.{written-fits, wrote-length}
-use Rattle.unflow.specs.Unflow.{unflowed, Answer, done, long, room, unflow, numbered, outputAfter}
+use Rattle.lists.specs.Coded.{numbered}
+use Rattle.unflow.specs.Unflow.{unflowed, UnflowAnswer, done, long, room, unflow, unflowCoded, unflowOutputAfter}
 use Rattle.unflow.specs.Contracts.Steps.{told, numberOf, Reads}
 use Rattle.unflow.specs.declared.Reading.the-variants.{Done, Long, Room}
 
-pub number-told : (a : Answer) → numberOf (told a) ≡ numbered a
+pub number-told : (a : UnflowAnswer) → numberOf (told a) ≡ numbered (unflowCoded a)
 unfolding numbered
 number-told (done read) = omega arith
 number-told long = refl
@@ -19,7 +20,7 @@ number-told (room needed) = refl
 
 module _ (text out : List ℕ) where
   pub reads-long : 65536 < length text → Reads (unflow text (length out)) out Long out
-  unfolding unflow outputAfter
+  unfolding unflow unflowOutputAfter
   reads-long h = rw (lt-ltb 65536 (length text) h) (record { is = refl; output = refl; small = omega arith })
 
   module _ (h : length text ≤ 65536) {out′ : List ℕ} {n : ℕ} (w : Wrote out 0 (unflowed text) out′ n) (few : n ≤ 4 * length text) where
@@ -27,14 +28,14 @@ module _ (text out : List ℕ) where
     size = omega (arith, w .count)
 
     pub reads-done : n ≤ length out′ → Reads (unflow text (length out)) out (Done n) out′
-    unfolding unflow outputAfter
+    unfolding unflow unflowOutputAfter
     reads-done k =
         let l = wrote-length w in
         rw (le-ltb 65536 (length text) h, le-leb (length (unflowed text)) (length out) (omega (arith, size)))
         (record { is = ap Done (omega (arith, size)); output = w .bytes ∙ written-fits 0 out (unflowed text) (omega (arith, size)); small = omega arith })
 
     pub reads-room : {out″ : List ℕ} → length out′ < n → out″ ≡ replicate (length out′) 0 → Reads (unflow text (length out)) out (Room n) out″
-    unfolding unflow outputAfter
+    unfolding unflow unflowOutputAfter
     reads-room k z =
         let l = wrote-length w in
         rw (le-ltb 65536 (length text) h, lt-leb (length (unflowed text)) (length out) (omega (arith, size)))

@@ -9,13 +9,13 @@ use borrow.Author.Tests.{eqb-true}
 use Rattle.lists.specs.Runs.{joined}
 use Rattle.lists.proofs.Parts.{joined-nil, joined-cons}
 use Rattle.unflow.specs.Flowed.{quoteMark, crLf, quoteDepth, stuffing, contentOf, isSeparator, endsInSpace, isSoft}
-use Rattle.unflow.specs.Unflow.{goesOn, Paragraph, begun, longer, paragraphsFrom, paragraphs, asLine}
+use Rattle.unflow.specs.Unflow.{goesOnIn, FlowedParagraph, begunWith, longer, paragraphsFrom, paragraphs, asLine}
 use Rattle.unflow.specs.Contracts.Steps.{joins, endOf, startOf, placed, placedFrom}
 use Rattle.unflow.proofs.Lines.{stuffing-soft, ends-append, ends-some, soft-ends}
 
 -- a line goes on in the paragraph that the line before it left open
-joins-goes : (line next : List ℕ) → joins (isSoft line) (quoteDepth line) next ≡ goesOn line next
-unfolding joins goesOn
+joins-goes : (line next : List ℕ) → joins (isSoft line) (quoteDepth line) next ≡ goesOnIn line next
+unfolding joins goesOnIn
 joins-goes line next = refl
 
 end-both : (soft : Bool) → endOf (not soft) ++ endOf soft ≡ crLf
@@ -24,14 +24,14 @@ end-both true = refl
 end-both false = refl
 
 -- a paragraph so far, with the line that it ends in: a soft one leaves its text ending in a space
-record Sound (p : Paragraph) (line : List ℕ) : Type 0 where
+record Sound (p : FlowedParagraph) (line : List ℕ) : Type 0 where
   depth : p .depth ≡ quoteDepth line
   ends : isSoft line ≡ true → endsInSpace (p .content) ≡ true
 
-begun-sound : (line : List ℕ) → Sound (begun line) line
+begun-sound : (line : List ℕ) → Sound (begunWith line) line
 begun-sound line = record { depth = refl; ends = soft-ends line }
 
-longer-sound : (p : Paragraph) (line next : List ℕ) → Sound p line → quoteDepth line ≡ quoteDepth next → Sound (longer next p) next
+longer-sound : (p : FlowedParagraph) (line next : List ℕ) → Sound p line → quoteDepth line ≡ quoteDepth next → Sound (longer next p) next
 longer-sound p line next s e =
     record {
       depth = s .depth ∙ e;
@@ -42,19 +42,19 @@ record Goes (line next : List ℕ) : Type 0 where
   soft : isSoft line ≡ true
   depth : quoteDepth line ≡ quoteDepth next
 
-goes : (line next : List ℕ) → goesOn line next ≡ true → Goes line next
-unfolding goesOn
+goes : (line next : List ℕ) → goesOnIn line next ≡ true → Goes line next
+unfolding goesOnIn
 goes line next h =
     let a = and-eq-true-iff (isSoft line && eqb (quoteDepth line) (quoteDepth next)) (not (isSeparator next)) .0 h .0 in
     let b = and-eq-true-iff (isSoft line) (eqb (quoteDepth line) (quoteDepth next)) .0 a in
     record { soft = b .0; depth = eqb-true (quoteDepth line) (quoteDepth next) (b .1) }
 
 -- what is written of the next line
-placed-on : (line next : List ℕ) → goesOn line next ≡ true → placed (isSoft line) (quoteDepth line) next ≡ contentOf next ++ endOf (not (isSoft next))
+placed-on : (line next : List ℕ) → goesOnIn line next ≡ true → placed (isSoft line) (quoteDepth line) next ≡ contentOf next ++ endOf (not (isSoft next))
 unfolding placed startOf
 placed-on line next h = rw (joins-goes line next, h)
 
-placed-apart : (line next : List ℕ) → goesOn line next ≡ false
+placed-apart : (line next : List ℕ) → goesOnIn line next ≡ false
     → placed (isSoft line) (quoteDepth line) next
     ≡ (endOf (isSoft line) ++ (replicate (quoteDepth next) quoteMark ++ stuffing (contentOf next))) ++ (contentOf next ++ endOf (not (isSoft next)))
 unfolding placed startOf
@@ -71,12 +71,12 @@ apart-joined : (m s p a b n r c t u : List ℕ) → (m ++ (s ++ (p ++ (a ++ b)))
 apart-joined m s p a b n r c t u = simp append-assoc
 
 -- the paragraphs after a line, as the lines write them
-written-from : (p : Paragraph) (line : List ℕ) (lines : List (List ℕ)) → Sound p line
+written-from : (p : FlowedParagraph) (line : List ℕ) (lines : List (List ℕ)) → Sound p line
     → joined asLine (paragraphsFrom p line lines)
     ≡ replicate (p .depth) quoteMark ++ (stuffing (p .content) ++ (p .content ++ (endOf (not (isSoft line)) ++ placedFrom (isSoft line) (quoteDepth line) lines)))
 unfolding paragraphsFrom placedFrom asLine
 written-from p line [] s = rw (joined-cons asLine p [], joined-nil asLine, end-both (isSoft line)) (append-nil (asLine p))
-written-from p line (next ∷ lines) s = go (goesOn line next) refl (written-from (longer next p) next lines) (written-from (begun next) next lines)
+written-from p line (next ∷ lines) s = go (goesOnIn line next) refl (written-from (longer next p) next lines) (written-from (begunWith next) next lines)
   where
     t : List ℕ
     t = endOf (not (isSoft next))
@@ -93,10 +93,10 @@ written-from p line (next ∷ lines) s = go (goesOn line next) refl (written-fro
     n : List ℕ
     n = replicate (quoteDepth next) quoteMark
 
-    go : (b : Bool) → goesOn line next ≡ b
+    go : (b : Bool) → goesOnIn line next ≡ b
         → (Sound (longer next p) next → joined asLine (paragraphsFrom (longer next p) next lines) ≡ m ++ (stuffing (p .content ++ c) ++ ((p .content ++ c) ++ (t ++ u))))
-        → (Sound (begun next) next → joined asLine (paragraphsFrom (begun next) next lines) ≡ n ++ (stuffing c ++ (c ++ (t ++ u))))
-        → joined asLine (elim b as (λ x. List Paragraph) [ true ↦ paragraphsFrom (longer next p) next lines | false ↦ p ∷ paragraphsFrom (begun next) next lines ])
+        → (Sound (begunWith next) next → joined asLine (paragraphsFrom (begunWith next) next lines) ≡ n ++ (stuffing c ++ (c ++ (t ++ u))))
+        → joined asLine (elim b as (λ x. List FlowedParagraph) [ true ↦ paragraphsFrom (longer next p) next lines | false ↦ p ∷ paragraphsFrom (begunWith next) next lines ])
         ≡ m ++ (stuffing (p .content) ++ (p .content ++ (endOf (not (isSoft line)) ++ (placed (isSoft line) (quoteDepth line) next ++ u))))
     go true e on off =
         let g = goes line next e in
@@ -104,7 +104,7 @@ written-from p line (next ∷ lines) s = go (goesOn line next) refl (written-fro
         ∙ rw (placed-on line next e, end-soft (isSoft line) (g .soft), stuffing-soft (p .content) c (s .ends (g .soft)))
         (on-joined m (stuffing (p .content)) (p .content) c t u)
     go false e on off =
-        rw (joined-cons asLine p (paragraphsFrom (begun next) next lines), off (begun-sound next), placed-apart line next e, ← end-both (isSoft line))
+        rw (joined-cons asLine p (paragraphsFrom (begunWith next) next lines), off (begun-sound next), placed-apart line next e, ← end-both (isSoft line))
         (apart-joined m (stuffing (p .content)) (p .content) (endOf (not (isSoft line))) (endOf (isSoft line)) n (stuffing c) c t u)
 
 first-joined : (n s c t u : List ℕ) → n ++ (s ++ (c ++ (t ++ u))) ≡ (([] ++ (n ++ s)) ++ (c ++ t)) ++ u
@@ -114,5 +114,5 @@ first-joined n s c t u = simp append-assoc
 pub written-lines : (lines : List (List ℕ)) → joined asLine (paragraphs lines) ≡ placedFrom false 0 lines
 unfolding paragraphs placedFrom placed startOf endOf joins
 written-lines [] = joined-nil asLine
-written-lines (line ∷ lines) = written-from (begun line) line lines (begun-sound line)
+written-lines (line ∷ lines) = written-from (begunWith line) line lines (begun-sound line)
     ∙ first-joined (replicate (quoteDepth line) quoteMark) (stuffing (contentOf line)) (contentOf line) (endOf (not (isSoft line))) (placedFrom (isSoft line) (quoteDepth line) lines)

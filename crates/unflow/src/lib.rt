@@ -1,6 +1,6 @@
 // Reading mail: lines of format=flowed (RFC 3676, DelSp=no) are joined to paragraphs, and each paragraph is written as one line.
 ghost use mathlib.Core.Path.{_≡_};
-ghost use Prim.Native.Nat.{_+_, _*_, _^_, _≤_, _<_, min};
+ghost use Prim.Native.Nat.{_+_, _*_, _^_, _≤_, _<_};
 ghost use lib.ListN.{length, drop, replicate};
 ghost use Rattle.output.specs.Contracts.Sink.{Wrote};
 ghost use Rattle.unflow.specs.Flowed.{quoteDepth, stuffing, contentOf, isDashes, isSeparator, endsInSpace};
@@ -64,13 +64,13 @@ fn put_paragraphs(text: &[u8], out: &mut [u8]) -> usize
         let extent = lines::first_line(&text[at..]);
         let end = at + extent.text;
         let l = take_apart(&text[at..end]);
-        let place = lesser(k, out.len());
+        let place = lists::lesser(k, out.len());
         k += put_line(&text[at..end], l, going, depth, &mut out[place..]);
         at += extent.whole;
         going = l.soft;
         depth = l.depth;
     }
-    let place = lesser(k, out.len());
+    let place = lists::lesser(k, out.len());
     k + put_end(going, &mut out[place..])
 }
 
@@ -152,9 +152,9 @@ fn put_line(line: &[u8], l: Line, going: bool, depth: usize, rest: &mut [u8]) ->
     ensures { λ r. ⌜ Wrote (now (rest .entry)) 0 (placed going depth (now (line .entry))) (now (rest .exit)) r ⌝ }
 {
     let k = put_start(line, l, going, depth, rest);
-    let place = lesser(k, rest.len());
+    let place = lists::lesser(k, rest.len());
     let m = k + output::put_text(line, l.start, line.len(), &mut rest[place..]);
-    let behind = lesser(m, rest.len());
+    let behind = lists::lesser(m, rest.len());
     m + put_end(!l.soft, &mut rest[behind..])
 }
 
@@ -168,9 +168,9 @@ fn put_start(line: &[u8], l: Line, going: bool, depth: usize, rest: &mut [u8]) -
     }
     let start = l.start;
     let k = put_end(going, rest);
-    let place = lesser(k, rest.len());
+    let place = lists::lesser(k, rest.len());
     let m = k + output::put_text(line, 0, l.depth, &mut rest[place..]);
-    let behind = lesser(m, rest.len());
+    let behind = lists::lesser(m, rest.len());
     m + output::put_added(stuffing_of(&line[start..]), &mut rest[behind..])
 }
 
@@ -210,16 +210,6 @@ pub fn put_end(ends: bool, rest: &mut [u8]) -> usize
     }
     rest[1] = 10;
     2
-}
-
-// Where a part of the output begins: at the written end or, where that lies past the output, at the output's end.
-fn lesser(a: usize, b: usize) -> usize
-    ensures { λ r. ⌜ r ≡ min a b ⌝ }
-{
-    if a < b {
-        return a;
-    }
-    b
 }
 
 // No byte stays where there is no room for all.

@@ -165,4 +165,4 @@ unfolding rowWords
 row-counted o row s h e b =
     let i = formatted-indented o (row .text) s e in
     rw (b, from-indented o (row .text) s i)
-    (line-counted (counting (o .characters)) o h true false (runs (i .rest)) (i .rest) (runs-split (o .glue) (i .rest) (rw (from-indented o (row .text) s i) at (from-lined (o .glue) (row .text) (s .«indent_end»)))) (all-back _ (i .front) (i .rest) (i .spell)) (λ z. i .ink))
+    (line-counted (counting (o .byCharacters)) o h true false (runs (i .rest)) (i .rest) (runs-split (o .glue) (i .rest) (rw (from-indented o (row .text) s i) at (from-lined (o .glue) (row .text) (s .«indent_end»)))) (all-back _ (i .front) (i .rest) (i .spell)) (λ z. i .ink))

@@ -91,7 +91,7 @@ row-half o mail row = read mail
     read false =
         let rest = glyphsFrom (row .start) gs in
         let k = inked-few (o .glue) (runs rest) rest (runs-split (o .glue) rest (from-lined (o .glue) (row .text) (row .start))) .0 in
-        let n = line-inked (o .glue) (counting (o .characters)) o true false (runs rest) in
+        let n = line-inked (o .glue) (counting (o .byCharacters)) o true false (runs rest) in
         let e = sym (length-append (glyphsBefore (row .start) gs) rest) ∙ ap length (upTo-from (row .start) gs) in
         omega (arith, all, k, n, e)
 

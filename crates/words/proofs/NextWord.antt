@@ -130,12 +130,12 @@ module _ (o : Opts) (newLine : Bool) (s : List ℕ) (at : ℕ) (b : Blanks) (ove
     blank-wide true = tabless-wide (o .tab) (run .blanks) ∙ ap (λ (g : Gap). hasTab (g .before) || ltb 1 (g .after)) blank-gap
     blank-wide false = ap₂ (λ (g : Gap) (n : ℕ). hasTab (g .before) || ltb 1 n) blank-gap blank-count
 
-    line-means : (previous : Bool) → meaning s (wordAt (o .uniform) (o .characters) newLine previous at b w) ≡ wordFor o false newLine previous run
+    line-means : (previous : Bool) → meaning s (wordAt (o .uniform) (o .byCharacters) newLine previous at b w) ≡ wordFor o false newLine previous run
     unfolding meaning wordFor wordOf
     line-means previous =
-        rw (text-width, text-punct, blank-wide (o .characters), blank-gap, text-bytes, blank-bytes) (pick (o .uniform))
+        rw (text-width, text-punct, blank-wide (o .byCharacters), blank-gap, text-bytes, blank-bytes) (pick (o .uniform))
       where
-        pick : (u : Bool) → meaning s (wordAt u (o .characters) newLine previous at b w) ≡ record {
+        pick : (u : Bool) → meaning s (wordAt u (o .byCharacters) newLine previous at b w) ≡ record {
           blanks = cond u [] (slice at (b .end) s);
           text = slice (b .end) (w .end) s;
           width = w .width;
@@ -143,7 +143,7 @@ module _ (o : Opts) (newLine : Bool) (s : List ℕ) (at : ℕ) (b : Blanks) (ove
           after = cond u noGap (gapIn b) .after;
           newLine = newLine;
           endsPunct = w .punct;
-          sentenceStart = previous && (hasTab (b .before) || ltb 1 (cond (o .characters) (b .after) (b .end - at)));
+          sentenceStart = previous && (hasTab (b .before) || ltb 1 (cond (o .byCharacters) (b .after) (b .end - at)));
         }
         pick true = rw (slice-empty (b .end) s)
         pick false = refl
@@ -160,9 +160,9 @@ module _ (o : Opts) (newLine : Bool) (s : List ℕ) (at : ℕ) (b : Blanks) (ove
       after = omega arith;
     }
 
-    pub next-line : (previous : Bool) → NextWord o false newLine previous s at (wordAt (o .uniform) (o .characters) newLine previous at b w)
+    pub next-line : (previous : Bool) → NextWord o false newLine previous s at (wordAt (o .uniform) (o .byCharacters) newLine previous at b w)
     next-line previous = let e = ends in record {
-      first = onward false previous (wordAt (o .uniform) (o .characters) newLine previous at b w) (line-means previous) refl;
+      first = onward false previous (wordAt (o .uniform) (o .byCharacters) newLine previous at b w) (line-means previous) refl;
       place = placed;
       within = pick-within (o .uniform);
       on = omega (arith, over .end);
@@ -171,7 +171,7 @@ module _ (o : Opts) (newLine : Bool) (s : List ℕ) (at : ℕ) (b : Blanks) (ove
       after = pick-after (o .uniform);
     }
       where
-        pick-within : (u : Bool) → Within (length s) (wordAt u (o .characters) newLine previous at b w)
+        pick-within : (u : Bool) → Within (length s) (wordAt u (o .byCharacters) newLine previous at b w)
         pick-within true = let e = ends in record { gap = omega arith; text = omega arith; end = ink .within }
         pick-within false = let e = ends in record { gap = omega (arith, over .end); text = omega arith; end = ink .within }
 

@@ -46,7 +46,7 @@ module _ (o : Options) (block : List ℕ) where
   row-same : (mail : Bool) (row : Row) → rowWords (meant block o) mail row ≡ rowWords (meant [] o) mail row
   unfolding rowWords meant
   row-same true row = refl
-  row-same false row = line-same (counting (o .characters)) true false _
+  row-same false row = line-same (counting (o .«by_characters»)) true false _
 
   rows-same : (mail : Bool) (rows : List Row) → joined (rowWords (meant block o) mail) rows ≡ joined (rowWords (meant [] o) mail) rows
   unfolding joined

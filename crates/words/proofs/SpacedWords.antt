@@ -130,7 +130,7 @@ module _ (s : List ℕ) (at e : ℕ) (line : EndsAt s at e) (first : Bool) (b : 
             as-counted b (g .counts) (blanks-spaces start (g .over .on) (λ i x y. rw (byte i (omega arith)) (g .over .spaces i x y)) (record { within = rw size (omega arith); ink = begins .isBlank }) few)
 
   pub spaced-next : (o : Opts) (previous : Bool) → o .tab ≤ 100
-      → NextWord o false first previous (take e s) at (wordAt (o .uniform) (o .characters) first previous at b (plainInk s start end))
+      → NextWord o false first previous (take e s) at (wordAt (o .uniform) (o .byCharacters) first previous at b (plainInk s start end))
   unfolding text
   spaced-next o previous few = next-line o first text at b (over-blanks (o .glue) (o .tab) few) (plainInk s start end) (over-ink (o .glue)) (let h = spaced-reaches in let l = p .word .some in rw size (omega arith)) previous
 
@@ -138,7 +138,7 @@ module _ (s : List ℕ) (at e : ℕ) (line : EndsAt s at e) (first : Bool) (b : 
 
 -- a plain word of the notes before next: w is its record, after the first n of the table
 module _ (o : Opts) (notes : List ℕ) (next at : ℕ) (first previous : Bool) (b : Blanks) (stop : ℕ) (w : Record) (fits : next ≤ length notes) (few : o .tab ≤ 100) (p : PlainBehind (take next notes) at first b stop)
-    (is : w ≡ wordAt (o .uniform) (o .characters) first previous at b (plainInk (take next notes) (b .end) stop)) where
+    (is : w ≡ wordAt (o .uniform) (o .byCharacters) first previous at b (plainInk (take next notes) (b .end) stop)) where
   ends-there : w .end ≡ stop
   ends-there = rw is
 

@@ -202,4 +202,4 @@ unfolding rowWords
 row-spelled o true row = rw or-true (mail-spelled (o .glue) _ _ (runs-split (o .glue) (glyphs (o .glue) (row .text)) (line-lined (o .glue) (row .text))))
 row-spelled o false row =
     rw or-false
-    (line-spelled (o .glue) (counting (o .characters)) o true false _ _ (runs-split (o .glue) (glyphsFrom (row .start) (glyphs (o .glue) (row .text))) (from-lined (o .glue) (row .text) (row .start))) (λ e. absurd (true≢false e)))
+    (line-spelled (o .glue) (counting (o .byCharacters)) o true false _ _ (runs-split (o .glue) (glyphsFrom (row .start) (glyphs (o .glue) (row .text))) (from-lined (o .glue) (row .text) (row .start))) (λ e. absurd (true≢false e)))

@@ -80,10 +80,10 @@ module _ (count : List Glyph → ℕ) (o : Opts) (newLine previous : Bool) (r : 
 -- blanks alone make no word
 pub words-none : (o : Opts) (mail newLine previous : Bool) (gs : List Glyph) → behind isBlank gs ≡ [] → wordsFrom o mail newLine previous gs ≡ []
 unfolding runOf while wordsFrom
-words-none o true newLine previous [] e = rw runs-nil (no-runs (counting (o .characters)) o newLine previous .0)
-words-none o false newLine previous [] e = rw runs-nil (no-runs (counting (o .characters)) o newLine previous .1)
-words-none o true newLine previous (g ∷ gs) e = rw (runs-step (g ∷ gs) (omega arith)) (text-none (counting (o .characters)) o newLine previous (runOf (g ∷ gs)) _ (rw e) .0)
-words-none o false newLine previous (g ∷ gs) e = rw (runs-step (g ∷ gs) (omega arith)) (text-none (counting (o .characters)) o newLine previous (runOf (g ∷ gs)) _ (rw e) .1)
+words-none o true newLine previous [] e = rw runs-nil (no-runs (counting (o .byCharacters)) o newLine previous .0)
+words-none o false newLine previous [] e = rw runs-nil (no-runs (counting (o .byCharacters)) o newLine previous .1)
+words-none o true newLine previous (g ∷ gs) e = rw (runs-step (g ∷ gs) (omega arith)) (text-none (counting (o .byCharacters)) o newLine previous (runOf (g ∷ gs)) _ (rw e) .0)
+words-none o false newLine previous (g ∷ gs) e = rw (runs-step (g ∷ gs) (omega arith)) (text-none (counting (o .byCharacters)) o newLine previous (runOf (g ∷ gs)) _ (rw e) .1)
 
 -- and have no place
 places-empty : (at : ℕ) → placesFrom at [] ≡ []
@@ -111,7 +111,7 @@ places-text-some at start end r rs e p q = rw (q, p) (pick (r .text) e _)
 -- a word
 unfoldable pub wordFor : Opts → Bool → Bool → Bool → Run → Word
 wordFor o true newLine previous r = mailWord r
-wordFor o false newLine previous r = wordOf (counting (o .characters)) o newLine previous r
+wordFor o false newLine previous r = wordOf (counting (o .byCharacters)) o newLine previous r
 
 module _ (gs : List Glyph) {g : Glyph} {rest : List Glyph} (some : behind isBlank gs ≡ g ∷ rest) where
   pub text-is : while isInk (behind isBlank gs) ≡ g ∷ while isInk rest
@@ -136,5 +136,5 @@ module _ (gs : List Glyph) {g : Glyph} {rest : List Glyph} (some : behind isBlan
   pub words-one : (o : Opts) (mail newLine previous : Bool)
       → wordsFrom o mail newLine previous gs ≡ wordFor o mail newLine previous (runOf gs) ∷ wordsFrom o mail false (punctAtEnd (while isInk (behind isBlank gs))) (behind isInk (behind isBlank gs))
   unfolding runOf wordFor wordsFrom
-  words-one o true newLine previous = rw runs-first (text-some (counting (o .characters)) o newLine previous (runOf gs) _ text-is .0)
-  words-one o false newLine previous = rw runs-first (text-some (counting (o .characters)) o newLine previous (runOf gs) _ text-is .1)
+  words-one o true newLine previous = rw runs-first (text-some (counting (o .byCharacters)) o newLine previous (runOf gs) _ text-is .0)
+  words-one o false newLine previous = rw runs-first (text-some (counting (o .byCharacters)) o newLine previous (runOf gs) _ text-is .1)

@@ -79,7 +79,7 @@ punctAtEnd (g ∷ h ∷ gs) = punctAtEnd (h ∷ gs)
 
 -- the counting rule, by which blanks are counted where sentences part: by bytes, or by characters if the options say so (RULES 6.2)
 unfoldable pub counting : Bool → List Glyph → ℕ
-counting characters bs = cond characters (length bs) (length (bytesOf bs))
+counting byCharacters bs = cond byCharacters (length bs) (length (bytesOf bs))
 
 -- a gap that can part two sentences: a tab, or more than one blank by the counting rule
 unfoldable pub wideGap : (List Glyph → ℕ) → ℕ → List Glyph → Bool
@@ -127,7 +127,7 @@ mailWords (r ∷ rs) = elim (r .text) as (λ t. List Word) [ [] ↦ [] | g ∷ (
 unfoldable pub rowWords : Opts → Bool → Row → List Word
 rowWords o mail row =
     let gs = glyphs (o .glue) (row .text) in
-    elim mail [ true ↦ mailWords (runs gs) | false ↦ lineWords (counting (o .characters)) o true false (runs (glyphsFrom (row .start) gs)) ]
+    elim mail [ true ↦ mailWords (runs gs) | false ↦ lineWords (counting (o .byCharacters)) o true false (runs (glyphsFrom (row .start) gs)) ]
 
 unfoldable pub wordsOf : Opts → Paragraph → List Word
 wordsOf o p = joined (rowWords o (p .mail)) (p .rows)

@@ -169,7 +169,7 @@ fn spaced_words(
         }
         let w = word_of(
             o.uniform,
-            o.characters,
+            o.by_characters,
             r.first,
             r.punct,
             at,
@@ -253,7 +253,7 @@ fn plain_ink(s: &[u8], start: usize, end: usize) -> Ink
     Ink {
         end,
         width: end - start,
-        punct: is_punct(wide(s[last])),
+        punct: is_punct(text::wide(s[last])),
     }
 }
 
@@ -438,7 +438,7 @@ pub fn next_word(s: &[u8], at: usize, mail: bool, first: bool, previous: bool, o
     if mail {
         return Next::One(mail_word(start, w.end));
     }
-    Next::One(word_of(o.uniform, o.characters, first, previous, at, b, w))
+    Next::One(word_of(o.uniform, o.by_characters, first, previous, at, b, w))
 }
 
 // The record of a word after blanks that begin at a place.
@@ -764,7 +764,7 @@ fn over_plain(s: &[u8], w: Ink) -> Ink
     Ink {
         end,
         width: w.width + (end - from),
-        punct: is_punct(wide(s[last])),
+        punct: is_punct(text::wide(s[last])),
     }
 }
 
@@ -858,13 +858,6 @@ fn digit(b: u8) -> u64
     ensures { λ r. ⌜ (r ≡ b) × (r < 256) ⌝ }
 {
     b as u64
-}
-
-// A cast that needs no proof where it is used.
-fn wide(b: u8) -> u32
-    ensures { λ r. ⌜ r ≡ b ⌝ }
-{
-    b as u32
 }
 
 // In the original: `WordSplit::is_punctuation`.

@@ -2,9 +2,10 @@
 use mathlib.Core.Path.{_≡_}
 use mathlib.Core.Bool.{Bool, true, false, _||_}
 use mathlib.Core.List.{List}
-use Prim.Native.Nat.{ℕ, _+_, _-_, _*_, _^_, _≤_, _<_}
+use Prim.Native.Nat.{ℕ, _-_, _≤_, _<_}
 use lib.ListN.{length}
 use Rattle.lists.specs.Runs.{joined}
+use Rattle.lists.specs.Coded.{Coded, coded}
 use Rattle.text.specs.declared.Found.{Found}
 use Rattle.text.specs.declared.Found.the-variants.{At, Nowhere}
 use Rattle.options.specs.Opts.{Opts}
@@ -17,9 +18,8 @@ use Rattle.endings.specs.Endings.{numbersOf, endings}
 use Rattle.paragraphs.specs.Contracts.Steps.{settingFor, wordsFor}
 use Rattle.walk.specs.Digest.{tooMany, longParagraph}
 use Rattle.walk.specs.Contracts.Course.{piecesFrom, FirstPiece}
-use Rattle.formatter.specs.Answers.{done}
+use Rattle.formatter.specs.Answers.{refusalCoded}
 use Rattle.formatter.specs.Format.{Limits, within}
-use Rattle.formatter.specs.Contracts.Call.{told as replied, replyNumber}
 use Rattle.explain.specs.declared.Asked.{Asked}
 use Rattle.explain.specs.declared.Asked.the-variants.{Told, Behind as Ahead}
 use Rattle.explain.specs.declared.Seek.{Seek}
@@ -119,14 +119,14 @@ asking line (Ahead left) = noLine (line - left)
 
 abbrev pub told : Explanation → Explained
 told (because e) = Because e
-told (refused a) = Refused (replied a)
+told (refused r) = Refused r
 told (noLine lines) = NoLine lines
 
--- its number, and the reason that it leaves
-abbrev pub toldNumber : Explained → ℕ
-toldNumber (Because e) = 0
-toldNumber (Refused r) = replyNumber r
-toldNumber (NoLine lines) = 8 * 2 ^ 32 + lines
+-- its code and N, and the reason that it leaves
+abbrev pub explainedCoded : Explained → Coded
+explainedCoded (Because e) = coded 0 0
+explainedCoded (Refused r) = refusalCoded r
+explainedCoded (NoLine lines) = coded 8 lines
 
 abbrev pub toldReason : Explained → List ℕ → List ℕ
 toldReason (Because e) reason = numbersOf e
@@ -135,4 +135,4 @@ toldReason (NoLine lines) reason = reason
 
 -- what is left to be told after codes 1 to 3
 abbrev pub leftOf : Limits → Opts → List ℕ → ℕ → Explanation
-leftOf l o notes line = afterMeasuring (lookUp line (lineEndings o notes)) (within (l .words) done o notes)
+leftOf l o notes line = afterMeasuring (lookUp line (lineEndings o notes)) (within (l .words) o notes)

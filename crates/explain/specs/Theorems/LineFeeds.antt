@@ -1,5 +1,5 @@
 -- The digest line by line: a line starts with each word before which a line has ended.
-use mathlib.Core.Bool.{Bool, true, false, _||_}
+use mathlib.Core.Bool.{Bool, false, _||_}
 use mathlib.Core.List.{List, [], _∷_, _++_}
 use Prim.Native.Nat.{ℕ}
 use Rattle.lists.specs.Runs.{joined}
@@ -7,17 +7,11 @@ use Rattle.options.specs.Opts.{Opts}
 use Rattle.pieces.specs.Pieces.{Piece, Kind, blankLine, plainLine, paragraph, pieces}
 use Rattle.records.specs.Word.{Word}
 use Rattle.words.specs.Words.{wordsOf}
-use Rattle.output.specs.Emission.{lineFeed, spaceBefore}
+use Rattle.output.specs.Emission.{lineFeed}
+use Rattle.output.specs.EmittedLines.{linesFrom}
 use Rattle.endings.specs.Endings.{Next, breaks}
 use Rattle.paragraphs.specs.Breaks.{settingOf}
 use Rattle.explain.specs.Reasons.{linesBy}
-
--- the lines from one on that stands so far; previousPunct is how its last word ended
-unfoldable pub linesFrom : Bool → List ℕ → List ℕ → Bool → List Bool → List Word → List (List ℕ)
-linesFrom uniform indent line previousPunct breaks [] = line ∷ []
-linesFrom uniform indent line previousPunct [] (w ∷ ws) = linesFrom uniform indent (line ++ (spaceBefore uniform previousPunct w ++ w .text)) (w .endsPunct) [] ws
-linesFrom uniform indent line previousPunct (true ∷ bs) (w ∷ ws) = line ∷ linesFrom uniform indent (indent ++ w .text) (w .endsPunct) bs ws
-linesFrom uniform indent line previousPunct (false ∷ bs) (w ∷ ws) = linesFrom uniform indent (line ++ (spaceBefore uniform previousPunct w ++ w .text)) (w .endsPunct) bs ws
 
 -- each with its line feed
 abbrev pub fed : List (List ℕ) → List ℕ

@@ -17,8 +17,8 @@ returns c = unfit-answer ownRoom ownRoom-sound _ _ _ (sym (c .before .is-unfit .
 admit-requires : tie.Need-admit-requires
 admit-requires c κs = search needs
 
-enum-known-reply : tie.Need-enum-known-reply
-enum-known-reply c = search needs
+enum-known-r : tie.Need-enum-known-r
+enum-known-r c = search needs
 
 enum-known-o : tie.Need-enum-known-o
 enum-known-o c = search needs
@@ -30,7 +30,7 @@ send-notes-requires : tie.Need-send-notes-requires
 send-notes-requires c κs = rw (c .before .mailed .ensures) (passed-ready ownRoom ownRoom-sound _ _ (sym (c .before .before .before .before .before .before .before .is-unfit .ensures) ∙ c .before .before .before .before .before .before .if1 .left) (c .before .before .before .before .before .admit .ensures) (c .before .before .before .o .given .1))
 
 returns-2 : tie.Need-returns-2
-returns-2 c = refused-answer ownRoom ownRoom-sound _ _ (sym (c .before .before .before .before .before .is-unfit .ensures) ∙ c .before .before .before .before .if1 .left) _ (c .before .before .before .admit .ensures) (c .before .reply .given .1)
+returns-2 c = refused-answer ownRoom ownRoom-sound _ _ (sym (c .before .before .before .before .before .is-unfit .ensures) ∙ c .before .before .before .before .if1 .left) _ (c .before .before .before .admit .ensures) (c .before .r .given .1)
 
 same-length : tie.Need-same-length
 same-length c = search needs
@@ -45,7 +45,7 @@ flow-spec =
     is-unfit-requires
     returns
     admit-requires
-    enum-known-reply
+    enum-known-r
     enum-known-o
     mailed-requires
     send-notes-requires

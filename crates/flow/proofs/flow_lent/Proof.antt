@@ -19,8 +19,8 @@ returns c = unfit-answer (lending (length (now (c .before .before .before .befor
 admit-within-requires : tie.Need-admit-within-requires
 admit-within-requires c κs = omega arith
 
-enum-known-reply : tie.Need-enum-known-reply
-enum-known-reply c = search needs
+enum-known-r : tie.Need-enum-known-r
+enum-known-r c = search needs
 
 enum-known-o : tie.Need-enum-known-o
 enum-known-o c = search needs
@@ -32,7 +32,7 @@ send-large-requires : tie.Need-send-large-requires
 send-large-requires c κs = rw (c .before .before .mailed .ensures) (passed-ready (lending (length (now (c .before .before .before .before .before .before .before .before .before .before .before .before .before .args .work)))) (lending-sound (length (now (c .before .before .before .before .before .before .before .before .before .before .before .before .before .args .work)))) _ _ (sym (c .before .before .before .before .before .before .before .before .is-unfit .ensures) ∙ c .before .before .before .before .before .before .before .if1 .left) (c .before .before .before .before .before .before .admit-within .ensures (lending (length (now (c .before .before .before .before .before .before .before .before .before .before .before .before .before .args .work))) .words)) (c .before .before .before .before .o .given .1))
 
 returns-2 : tie.Need-returns-2
-returns-2 c = refused-answer (lending (length (now (c .before .before .before .before .before .before .before .before .before .before .args .work)))) (lending-sound (length (now (c .before .before .before .before .before .before .before .before .before .before .args .work)))) _ _ (sym (c .before .before .before .before .before .is-unfit .ensures) ∙ c .before .before .before .before .if1 .left) _ (c .before .before .before .admit-within .ensures (lending (length (now (c .before .before .before .before .before .before .before .before .before .before .args .work))) .words)) (c .before .reply .given .1)
+returns-2 c = refused-answer (lending (length (now (c .before .before .before .before .before .before .before .before .before .before .args .work)))) (lending-sound (length (now (c .before .before .before .before .before .before .before .before .before .before .args .work)))) _ _ (sym (c .before .before .before .before .before .is-unfit .ensures) ∙ c .before .before .before .before .if1 .left) _ (c .before .before .before .admit-within .ensures (lending (length (now (c .before .before .before .before .before .before .before .before .before .before .args .work))) .words)) (c .before .r .given .1)
 
 same-length : tie.Need-same-length
 same-length c = search needs
@@ -50,7 +50,7 @@ flow-lent-spec =
     is-unfit-requires
     returns
     admit-within-requires
-    enum-known-reply
+    enum-known-r
     enum-known-o
     mailed-requires
     send-large-requires

@@ -6,6 +6,7 @@ use Prim.Native.Nat.{ℕ, _+_, _*_, _^_, _≤_, _<_}
 use lib.ListN.{length, drop, replicate}
 use lib.Seq.{slice}
 use Rattle.lists.specs.Runs.{joined}
+use Rattle.lists.specs.Coded.{numbered}
 use Rattle.text.specs.declared.Found.the-variants.{At, Nowhere}
 use Rattle.options.specs.Opts.{Opts}
 use Rattle.options.specs.OptionBlock.{bit, readBlock}
@@ -27,9 +28,9 @@ use Rattle.quick.specs.Quick.{quickBreaks}
 use Rattle.paragraphs.specs.Contracts.Steps.{settingFor, wordsFor}
 use Rattle.walk.specs.Digest.{tooMany, longParagraph}
 use Rattle.walk.specs.Contracts.Course.{Admitted, piecesFrom, longFrom, FirstPiece}
-use Rattle.formatter.specs.Answers.{Answer, done, options, long, text, words, room, work, outputAfter}
-use Rattle.formatter.specs.Format.{Limits, within}
-use Rattle.formatter.specs.Contracts.Call.{told, replyNumber}
+use Rattle.formatter.specs.Answers.{Answer, done, refused, room, outputAfter}
+use Rattle.formatter.specs.Format.{Limits, within, answering}
+use Rattle.formatter.specs.Contracts.Call.{told, replyCoded}
 use Rattle.unflow.specs.Flowed.{stuffing}
 use Rattle.flow.specs.Flow.{isDashed, sent, sentLines, flowed, pieceDashes, dashesIn}
 use Rattle.flow.specs.Answers.{isGiven, unfit, sentIn}
@@ -66,11 +67,11 @@ switched o = record {
   split = o .split;
   uniform = true;
   quick = true;
-  exact = o .exact;
+  «exact_prefix» = o .«exact_prefix»;
   «exact_skip» = o .«exact_skip»;
   keep = o .keep;
   glue = o .glue;
-  characters = o .characters;
+  «by_characters» = o .«by_characters»;
   width = o .width;
   goal = o .goal;
   tab = o .tab;
@@ -175,21 +176,17 @@ pub record Sends (a : Answer) (dashes : ℕ) (out : List ℕ) (r : Outcome) (out
   pub is : r .reply ≡ told a
   pub output : out′ ≡ outputAfter a out
   pub counts : r .dashes ≡ dashes
-  pub small : replyNumber (r .reply) < 2 ^ 64
+  pub small : numbered (replyCoded (r .reply)) < 2 ^ 64
 
 -- what is left to be told where codes 1 to 3 are not due
 abbrev pub leftOf : Limits → Opts → List ℕ → ℕ → Answer
-leftOf l o notes space = within (l .words) (λ d. sentIn (l .words) space (flowed o notes)) o notes
+leftOf l o notes space = answering (λ d. sentIn (l .words) space (flowed o notes)) (within (l .words) o notes)
 
 -- the count of lines `--`, which is 0 on a refusal
 abbrev pub ifDone : Answer → ℕ → ℕ
 ifDone (done bytes) n = n
-ifDone (options place) n = 0
-ifDone long n = 0
-ifDone (text place) n = 0
-ifDone (words place) n = 0
+ifDone (refused r) n = 0
 ifDone (room needed) n = 0
-ifDone (work needed) n = 0
 
 abbrev pub leftDashes : Limits → Opts → List ℕ → ℕ → ℕ
 leftDashes l o notes space = ifDone (leftOf l o notes space) (dashesIn o (pieces o notes))

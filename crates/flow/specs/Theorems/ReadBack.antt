@@ -11,7 +11,7 @@ use Rattle.pieces.specs.Pieces.{Kind, blankLine, plainLine, paragraph}
 use Rattle.options.specs.Opts.{Opts}
 use Rattle.records.specs.Word.{Word}
 use Rattle.unflow.specs.Flowed.{space, isDashes, endsInSpace}
-use Rattle.unflow.specs.Unflow.{Paragraph}
+use Rattle.unflow.specs.Unflow.{FlowedParagraph}
 use Rattle.flow.specs.Flow.{paragraphLines, isDashed, plainSent}
 
 -- ---- lines that were sent, as they are read: one that ends in a space goes on in the next, unless either is `-- `
@@ -29,7 +29,7 @@ read [] = []
 read (line ∷ lines) = readFrom line line lines
 
 -- a paragraph of the mail that is not quoted
-abbrev pub unquoted : List ℕ → Paragraph
+abbrev pub unquoted : List ℕ → FlowedParagraph
 unquoted text = record { depth = 0; content = text }
 
 -- ---- a piece of the notes as it comes back: a paragraph is one text, its lines with a space between them, but it ends after a line `--`

@@ -23,7 +23,8 @@ use Rattle.output.specs.Emission.{spaceBefore}
 use Rattle.quick.specs.Quick.{quickFrom, quickBreaks}
 use Rattle.paragraphs.specs.Breaks.{settingOf}
 use Rattle.unflow.specs.Flowed.{needsSpace, stuffing, isDashes}
-use Rattle.flow.specs.Flow.{linesFrom, brokenInto, paragraphLines, isDashed, softened, allButLast, dashesAmong, trimmed, plainSent, sentLines, sent, sentPiece, flowed, dashesIn}
+use Rattle.output.specs.EmittedLines.{linesFrom}
+use Rattle.flow.specs.Flow.{brokenInto, paragraphLines, isDashed, softened, allButLast, dashesAmong, trimmed, plainSent, sentLines, sent, sentPiece, flowed, dashesIn}
 
 -- width 10 and no other option, but a skip prefix perhaps
 abbrev pub narrow : Text → Opts
@@ -38,7 +39,7 @@ narrow skip = record {
   exactSkip = false;
   keep = false;
   glue = false;
-  characters = false;
+  byCharacters = false;
   width = 10;
   goal = 7;
   tab = 8;

@@ -7,14 +7,14 @@ use lib.Dec.{ltb, leb}
 use lib.ListN.{length, getD, drop}
 use Rattle.text.specs.Characters.{glyph, characters, extent}
 use Rattle.lines.specs.Classes.{columnBehind}
-use Rattle.fold.specs.Fold.{staying, firstRow, Answer, done, options, long, room, outputAfter}
+use Rattle.fold.specs.Fold.{stayingOn, firstRow, FoldAnswer, done, options, long, room, foldOutputAfter}
 use Rattle.fold.specs.declared.Folding.{Folding}
 use Rattle.fold.specs.declared.Folding.the-variants.{Done, Options, Long, Room}
 use Rattle.fold.specs.declared.Spot.{Spot}
 
 -- ---- the answer in code: without the bytes, which are in the output
 
-abbrev pub told : Answer → Folding
+abbrev pub told : FoldAnswer → Folding
 told (done all) = Done (length all)
 told options = Options
 told long = Long
@@ -27,9 +27,9 @@ numberOf Long = 2 * 2 ^ 32
 numberOf (Room needed) = 5 * 2 ^ 32 + needed
 
 -- an answer, and the output after it
-pub record Folds (a : Answer) (out : List ℕ) (r : Folding) (out′ : List ℕ) : Type 0 where
+pub record Folds (a : FoldAnswer) (out : List ℕ) (r : Folding) (out′ : List ℕ) : Type 0 where
   pub is : r ≡ told a
-  pub output : out′ ≡ outputAfter a out
+  pub output : out′ ≡ foldOutputAfter a out
   pub small : numberOf r < 2 ^ 64
 
 -- ---- places of a line
@@ -57,7 +57,7 @@ pub record Behind (tab : ℕ) (line : List ℕ) (at column : ℕ) (r : Spot) : T
 
 -- where a row ends that is at a column at a place, or begins there
 unfoldable pub stayEnd : ℕ → ℕ → List ℕ → ℕ → ℕ → ℕ
-stayEnd tab columns line at column = at + extent (staying tab columns column (characters (drop at line)))
+stayEnd tab columns line at column = at + extent (stayingOn tab columns column (characters (drop at line)))
 
 unfoldable pub rowEnd : ℕ → ℕ → List ℕ → ℕ → ℕ
 rowEnd tab columns line at = at + extent (firstRow tab columns (characters (drop at line)))

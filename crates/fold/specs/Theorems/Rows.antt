@@ -7,7 +7,7 @@ use Rattle.lists.specs.Runs.{every, joined}
 use Rattle.text.specs.Characters.{Glyph, characters}
 use Rattle.lines.specs.Lines.{Line, linesOf}
 use Rattle.lines.specs.Classes.{columnBehind, columnsOf}
-use Rattle.fold.specs.Fold.{feed, rowsOf, bytesOf, endOf}
+use Rattle.fold.specs.Fold.{feed, rowsOf, rowBytes, endOf}
 
 -- ---- rows
 
@@ -38,7 +38,7 @@ addedFeed = record { byte = feed; added = true }
 -- a line's rows with their bytes kept, an added line feed before each but the first; and its line end, kept
 unfoldable pub markedRows : List (List Glyph) → List Marked
 markedRows [] = []
-markedRows (row ∷ rows) = map kept (bytesOf row) ++ joined (λ r. addedFeed ∷ map kept (bytesOf r)) rows
+markedRows (row ∷ rows) = map kept (rowBytes row) ++ joined (λ r. addedFeed ∷ map kept (rowBytes r)) rows
 
 unfoldable pub markedLine : ℕ → ℕ → Line → List Marked
 markedLine tab columns l = markedRows (rowsOf tab columns (characters (l .text))) ++ map kept (endOf l)

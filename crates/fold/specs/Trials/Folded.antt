@@ -16,7 +16,7 @@ use Rattle.text.specs.Characters.{glyph, characters}
 use Rattle.lines.specs.Lines.{body, withoutReturn, firstLine, linesOf}
 use Rattle.lines.specs.Classes.{nextStop, columnBehind}
 use Rattle.panel.specs.Panel.{stopWidth}
-use Rattle.fold.specs.Fold.{stays, staying, firstRow, rowsOf, bytesOf, fed, inRows, endOf, foldedLine, folded}
+use Rattle.fold.specs.Fold.{stays, stayingOn, firstRow, rowsOf, rowBytes, fed, inRows, endOf, foldedLine, folded}
 
 pub record Row : Type 0 where
   pub tab : ℕ
@@ -72,5 +72,5 @@ table =
     ∷ []
 
 pub folded-texts : T (every right table)
-unfolding utf8 walkUpTo walk piece each while every begins joined widthIn widthTable widthOf whiteSpace scalar encode spelled decode glyph characters body withoutReturn firstLine linesOf nextStop columnBehind stopWidth stays staying firstRow rowsOf bytesOf fed inRows endOf foldedLine folded
+unfolding utf8 walkUpTo walk piece each while every begins joined widthIn widthTable widthOf whiteSpace scalar encode spelled decode glyph characters body withoutReturn firstLine linesOf nextStop columnBehind stopWidth stays stayingOn firstRow rowsOf rowBytes fed inRows endOf foldedLine folded
 folded-texts = tt

@@ -15,7 +15,7 @@ use Rattle.text.specs.Rfc3629.{scalar, encode, spelled, decode}
 use Rattle.text.specs.Characters.{glyph, characters}
 use Rattle.lines.specs.Lines.{body, withoutReturn, firstLine, linesOf}
 use Rattle.lines.specs.Classes.{nextStop, columnBehind, columnsOf}
-use Rattle.fold.specs.Fold.{stays, staying, firstRow, rowsOf, bytesOf, endOf}
+use Rattle.fold.specs.Fold.{stays, stayingOn, firstRow, rowsOf, rowBytes, endOf}
 use Rattle.fold.specs.Theorems.Rows.{Marked, isAlone, fits, markedRows, markedLine, marked}
 use Rattle.fold.specs.Trials.Folded.{utf8}
 
@@ -53,5 +53,5 @@ abbrev pub isAdded : Marked → ℕ
 isAdded m = elim (m .added) [ true ↦ 1 | false ↦ 0 ]
 
 pub marks : map isAdded (marked 8 2 (utf8 "abcde\nfg")) ≡ 0 ∷ 0 ∷ 1 ∷ 0 ∷ 0 ∷ 1 ∷ 0 ∷ 0 ∷ 0 ∷ 0 ∷ []
-unfolding utf8 walkUpTo walk piece each while every begins joined widthIn widthTable widthOf whiteSpace scalar encode spelled decode glyph characters body withoutReturn firstLine linesOf nextStop columnBehind stays staying firstRow rowsOf bytesOf endOf markedRows markedLine marked
+unfolding utf8 walkUpTo walk piece each while every begins joined widthIn widthTable widthOf whiteSpace scalar encode spelled decode glyph characters body withoutReturn firstLine linesOf nextStop columnBehind stays stayingOn firstRow rowsOf rowBytes endOf markedRows markedLine marked
 marks = refl

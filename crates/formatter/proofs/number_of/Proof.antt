@@ -1,16 +1,26 @@
 -- `formatter::number_of` meets its contract.
-use mathlib.Core.Path.{_≡_, sym, ap}
-use Prim.Native.Nat.{_<_, _^_}
+use mathlib.Core.Path.{_≡_, sym, ap, _∙_}
+use Prim.Native.Nat.{ℕ, _<_, _^_}
 use native.Mathlib.Omega.{arith}
 use borrow.Author.Needs.{needs}
-use Rattle.formatter.specs.Contracts.Call.{replyNumber}
+use Rattle.lists.specs.Coded.{numbered}
+use Rattle.formatter.specs.Contracts.Call.{replyCoded}
 use Rattle.formatter.specs.declared.Reply.{Reply}
+use Rattle.formatter.specs.declared.Reply.the-variants.{Done}
 use Rattle.formatter.proofs.number_of.Statement.{statement}
 use Rattle.formatter.proofs.number_of.Tie as tie
 
--- the number of what a value was found to be fits as well
-fits : {a b : Reply} → a ≡ b → replyNumber a < 2 ^ 64 → replyNumber b < 2 ^ 64
+abbrev number : Reply → ℕ
+number a = numbered (replyCoded a)
+
+-- the number of what a reply was found to be fits as well
+fits : {a b : Reply} → a ≡ b → number a < 2 ^ 64 → number b < 2 ^ 64
 fits e h = rw (← e) h
+
+-- that of a digest's length is the length
+done-number : {a : Reply} {n : ℕ} → a ≡ Done n → n ≡ number a
+unfolding numbered
+done-number e = rw e (omega arith)
 
 enum-known-a : tie.Need-enum-known-a
 enum-known-a c = search needs
@@ -18,74 +28,28 @@ enum-known-a c = search needs
 enum-known-a-2 : tie.Need-enum-known-a-2
 enum-known-a-2 c = search needs
 
-mul-result : tie.Need-mul-result
-mul-result c = search needs
-
-add-result : tie.Need-add-result
-add-result c = omega (arith, fits (c .before .a2 .given .1) (c .before .before .before .pre))
-
-enum-told : tie.Need-enum-told
-enum-told c = search needs
-
-mul-result-2 : tie.Need-mul-result-2
-mul-result-2 c = search needs
+refusal-number-requires : tie.Need-refusal-number-requires
+refusal-number-requires c κs = fits (c .before .a2 .given .1) (c .before .before .before .pre)
 
 enum-known-a-3 : tie.Need-enum-known-a-3
 enum-known-a-3 c = search needs
 
-mul-result-3 : tie.Need-mul-result-3
-mul-result-3 c = search needs
+mul-result : tie.Need-mul-result
+mul-result c = search needs
 
-add-result-2 : tie.Need-add-result-2
-add-result-2 c = omega (arith, fits (c .before .a3 .given .1) (c .before .before .before .pre))
-
-enum-known-a-4 : tie.Need-enum-known-a-4
-enum-known-a-4 c = search needs
-
-mul-result-4 : tie.Need-mul-result-4
-mul-result-4 c = search needs
-
-add-result-3 : tie.Need-add-result-3
-add-result-3 c = omega (arith, fits (c .before .a4 .given .1) (c .before .before .before .pre))
-
-enum-known-a-5 : tie.Need-enum-known-a-5
-enum-known-a-5 c = search needs
-
-mul-result-5 : tie.Need-mul-result-5
-mul-result-5 c = search needs
-
-add-result-4 : tie.Need-add-result-4
-add-result-4 c = omega (arith, fits (c .before .a5 .given .1) (c .before .before .before .pre))
-
-enum-known-a-6 : tie.Need-enum-known-a-6
-enum-known-a-6 c = search needs
-
-mul-result-6 : tie.Need-mul-result-6
-mul-result-6 c = search needs
-
-add-result-5 : tie.Need-add-result-5
-add-result-5 c = omega (arith, fits (c .before .a6 .given .1) (c .before .before .before .pre))
+add-result : tie.Need-add-result
+unfolding numbered
+add-result c = omega (arith, fits (c .before .a3 .given .1) (c .before .before .before .pre))
 
 returns : tie.Need-returns
-returns c = search needs
+returns c = done-number (c .before .a .given .1)
 
 returns-2 : tie.Need-returns-2
-returns-2 c = ap replyNumber (sym (c .before .a2 .given .1))
+returns-2 c = c .refusal-number .ensures ∙ ap number (sym (c .before .before .a2 .given .1))
 
 returns-3 : tie.Need-returns-3
-returns-3 c = search needs
-
-returns-4 : tie.Need-returns-4
-returns-4 c = ap replyNumber (sym (c .before .a3 .given .1))
-
-returns-5 : tie.Need-returns-5
-returns-5 c = ap replyNumber (sym (c .before .a4 .given .1))
-
-returns-6 : tie.Need-returns-6
-returns-6 c = ap replyNumber (sym (c .before .a5 .given .1))
-
-returns-7 : tie.Need-returns-7
-returns-7 c = ap replyNumber (sym (c .before .a6 .given .1))
+unfolding numbered
+returns-3 c = ap number (sym (c .before .a3 .given .1))
 
 pub number-of-spec : {M : Type 1} → statement M
 number-of-spec =
@@ -93,26 +57,10 @@ number-of-spec =
     (tie.spec
     enum-known-a
     enum-known-a-2
+    refusal-number-requires
+    enum-known-a-3
     mul-result
     add-result
-    enum-told
-    mul-result-2
-    enum-known-a-3
-    mul-result-3
-    add-result-2
-    enum-known-a-4
-    mul-result-4
-    add-result-3
-    enum-known-a-5
-    mul-result-5
-    add-result-4
-    enum-known-a-6
-    mul-result-6
-    add-result-5
     returns
     returns-2
-    returns-3
-    returns-4
-    returns-5
-    returns-6
-    returns-7)
+    returns-3)

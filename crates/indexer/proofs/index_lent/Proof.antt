@@ -28,8 +28,8 @@ sub-rest c = c .if1 .left
 work-over-requires-2 : tie.Need-work-over-requires-2
 work-over-requires-2 c κs = c .before .before .before .before .before .before .pre
 
-add-t15 : tie.Need-add-t15
-add-t15 c = record { fits = lent-fits (meant (c .before .before .before .before .before .before .before .before .args .block .now) (c .before .before .before .before .before .before .before .before .args .o)) (c .before .before .before .before .before .before .before .before .args .notes .now) (c .before .before .before .marks-for .ensures) (need-is _ _ _ (c .before .work-over2 .ensures) (c .if2 .taken)) (c .before .before .before .before .before .before .before .before .pre .short) }
+add-t16 : tie.Need-add-t16
+add-t16 c = record { fits = lent-fits (meant (c .before .before .before .before .before .before .before .before .args .block .now) (c .before .before .before .before .before .before .before .before .args .o)) (c .before .before .before .before .before .before .before .before .args .notes .now) (c .before .before .before .marks-for .ensures) (need-is _ _ _ (c .before .work-over2 .ensures) (c .if2 .taken)) (c .before .before .before .before .before .before .before .before .pre .short) }
 
 returns-2 : tie.Need-returns-2
 returns-2 c = lent-refused (meant (c .before .before .before .before .before .before .before .before .args .block .now) (c .before .before .before .before .before .before .before .before .args .o)) (c .before .before .before .before .before .before .before .before .args .notes .now) _ _ (length (c .before .before .before .before .before .before .before .before .args .work .now)) _ _ (c .before .before .before .marks-for .ensures) _ _ (need-is _ _ _ (c .before .work-over2 .ensures) (c .if2 .taken)) (omega (arith, c .if2 .taken, c .before .before .if1 .left))
@@ -57,7 +57,7 @@ index-lent-spec =
     returns
     sub-rest
     work-over-requires-2
-    add-t15
+    add-t16
     returns-2
     index-with-requires
     same-length

@@ -17,18 +17,6 @@ enum-told-2 c = search needs
 enum-told-3 : tie.Need-enum-told-3
 enum-told-3 c = search needs
 
-enum-told-4 : tie.Need-enum-told-4
-enum-told-4 c = search needs
-
-enum-told-5 : tie.Need-enum-told-5
-enum-told-5 c = search needs
-
-enum-told-6 : tie.Need-enum-told-6
-enum-told-6 c = search needs
-
-enum-told-7 : tie.Need-enum-told-7
-enum-told-7 c = search needs
-
 returns : tie.Need-returns
 returns c = sym (ap toldFilled (c .before .r .given .1))
 
@@ -41,18 +29,6 @@ returns-3 c = sym (ap toldFilled (c .enum-told2 .given .1))
 returns-4 : tie.Need-returns-4
 returns-4 c = sym (ap toldFilled (c .enum-told3 .given .1))
 
-returns-5 : tie.Need-returns-5
-returns-5 c = sym (ap toldFilled (c .enum-told4 .given .1))
-
-returns-6 : tie.Need-returns-6
-returns-6 c = sym (ap toldFilled (c .enum-told5 .given .1))
-
-returns-7 : tie.Need-returns-7
-returns-7 c = sym (ap toldFilled (c .enum-told6 .given .1))
-
-returns-8 : tie.Need-returns-8
-returns-8 c = sym (ap toldFilled (c .enum-told7 .given .1))
-
 pub records-in-spec : {M : Type 1} → statement M
 records-in-spec =
     tie.close
@@ -61,15 +37,7 @@ records-in-spec =
     enum-told
     enum-told-2
     enum-told-3
-    enum-told-4
-    enum-told-5
-    enum-told-6
-    enum-told-7
     returns
     returns-2
     returns-3
-    returns-4
-    returns-5
-    returns-6
-    returns-7
-    returns-8)
+    returns-4)

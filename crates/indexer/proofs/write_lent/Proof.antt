@@ -14,9 +14,6 @@ admit-within-requires c κs = omega arith
 enum-known-r : tie.Need-enum-known-r
 enum-known-r c = search needs
 
-refused-requires : tie.Need-refused-requires
-refused-requires c κs = search needs
-
 enum-known-o : tie.Need-enum-known-o
 enum-known-o c = search needs
 
@@ -24,7 +21,7 @@ index-lent-requires : tie.Need-index-lent-requires
 index-lent-requires c κs = let l = indexLending (length (c .before .before .before .before .before .before .before .before .before .before .args .work .now)) in passed l _ _ (c .before .before .before .before .before .admit-within .ensures (l .words)) (c .before .before .before .o .given .1) .0
 
 returns : tie.Need-returns
-returns c = let l = indexLending (length (c .before .before .before .before .before .before .before .before .before .args .work .now)) in rw (c .refused .ensures) (refused-answer l _ _ _ _ _ _ _ (refused l _ _ (c .before .before .before .before .admit-within .ensures (l .words)) (c .before .before .r .given .1)))
+returns c = let l = indexLending (length (c .before .before .before .before .before .before .before .before .args .work .now)) in refused-answer l _ _ _ _ _ _ _ (refused l _ _ (c .before .before .before .admit-within .ensures (l .words)) (c .before .r .given .1))
 
 same-length : tie.Need-same-length
 same-length c = search needs
@@ -41,7 +38,6 @@ write-lent-spec =
     (tie.spec
     admit-within-requires
     enum-known-r
-    refused-requires
     enum-known-o
     index-lent-requires
     returns

@@ -12,9 +12,6 @@ admit-requires c κs = search needs
 enum-known-r : tie.Need-enum-known-r
 enum-known-r c = search needs
 
-refused-requires : tie.Need-refused-requires
-refused-requires c κs = search needs
-
 enum-known-o : tie.Need-enum-known-o
 enum-known-o c = search needs
 
@@ -22,7 +19,7 @@ index-notes-requires : tie.Need-index-notes-requires
 index-notes-requires c κs = let a = passed ownRoom _ _ (c .before .before .before .before .before .admit .ensures) (c .before .before .before .o .given .1) in (a .0, a .2, c .before .before .before .before .before .before .before .before .before .before .pre)
 
 returns : tie.Need-returns
-returns c = rw (c .refused .ensures) (refused-answer ownRoom _ _ _ _ _ _ _ (refused ownRoom _ _ (c .before .before .before .before .admit .ensures) (c .before .before .r .given .1)))
+returns c = refused-answer ownRoom _ _ _ _ _ _ _ (refused ownRoom _ _ (c .before .before .before .admit .ensures) (c .before .r .given .1))
 
 same-length : tie.Need-same-length
 same-length c = search needs
@@ -39,7 +36,6 @@ write-pieces-spec =
     (tie.spec
     admit-requires
     enum-known-r
-    refused-requires
     enum-known-o
     index-notes-requires
     returns

@@ -3,8 +3,9 @@
 use mathlib.Core.Path.{_≡_}
 use mathlib.Core.Bool.{true, false}
 use mathlib.Core.List.{List, [], _∷_}
-use Prim.Native.Nat.{ℕ, _+_, _-_, _*_, _^_, _≤_, _<_}
+use Prim.Native.Nat.{ℕ, _+_, _-_, _*_, _≤_, _<_}
 use lib.ListN.{length, take, drop, getD, set}
+use Rattle.lists.specs.Coded.{Coded, coded, numbered}
 use Rattle.text.specs.declared.Found.the-variants.{At, Nowhere}
 use Rattle.options.specs.Opts.{Opts}
 use Rattle.lines.specs.Lines.{linesOf}
@@ -16,20 +17,18 @@ use Rattle.paragraphs.specs.declared.Step.{Step}
 use Rattle.paragraphs.specs.declared.Step.the-variants.{On, Over}
 use Rattle.walk.specs.Digest.{digest, extentOf, longParagraph}
 use Rattle.walk.specs.Contracts.Course.{longFrom, Put}
-use Rattle.formatter.specs.Answers.{done as measured}
+use Rattle.formatter.specs.Answers.{refusalCoded}
 use Rattle.formatter.specs.Format.{Words as WordLimit, lent, Limits, withWords, within}
-use Rattle.formatter.specs.declared.Reply.{Reply}
-use Rattle.formatter.specs.declared.Reply.the-variants.{Done as ReplyDone, Options as ReplyOptions, Long as ReplyLong, Text as ReplyText, Words as ReplyWords, Room as ReplyRoom, Work as ReplyWork}
 use Rattle.marks.specs.Contracts.Marks.{marksIn}
 use Rattle.index.specs.declared.Record.{Record}
 use Rattle.index.specs.Contracts.Lists.{noRecord}
 use Rattle.index.specs.Contracts.Reading.{front, readFrom}
 use Rattle.indexer.specs.Index.{lineCount, indexOf}
-use Rattle.indexer.specs.Answers.{Indexed, done, options, long, text, words, full, room, work, numbered, outputAfter, filledAfter}
+use Rattle.indexer.specs.Answers.{Indexed, done, refused, full, room, indexCoded, indexOutputAfter, filledAfter}
 use Rattle.indexer.specs.Indexing.{inIndex}
 use Rattle.indexer.specs.declared.Told.{Told}
 use Rattle.indexer.specs.declared.Filled.{Filled}
-use Rattle.indexer.specs.declared.Filled.the-variants.{Done, Options as Faulty, Long, Text, Words, Full, Room, Work}
+use Rattle.indexer.specs.declared.Filled.the-variants.{Done, Refused, Full, Room}
 use Rattle.indexer.specs.declared.Pieces.{Pieces}
 use Rattle.indexer.specs.declared.Pieces.the-variants.{All, Stopped}
 
@@ -83,78 +82,52 @@ Noted most o notes out out′ work′ (Stopped place) = (longParagraph most o 0 
 
 abbrev pub told : Indexed → Filled
 told (done digest index) = Done (length digest) (length index)
-told (options place) = Faulty place
-told long = Long
-told (text place) = Text place
-told (words place) = Words place
+told (refused r) = Refused r
 told (full pieces) = Full pieces
 told (room needed) = Room needed
-told (work needed) = Work needed
 
--- its number, and its count of filled records
-abbrev pub toldNumber : Filled → ℕ
-toldNumber (Done n k) = n
-toldNumber (Faulty place) = 1 * 2 ^ 32 + place
-toldNumber Long = 2 * 2 ^ 32
-toldNumber (Text place) = 3 * 2 ^ 32 + place
-toldNumber (Words place) = 4 * 2 ^ 32 + place
-toldNumber (Full pieces) = 6 * 2 ^ 32 + pieces
-toldNumber (Room needed) = 5 * 2 ^ 32 + needed
-toldNumber (Work needed) = 12 * 2 ^ 32 + needed
+-- its code and N, and its count of filled records
+abbrev pub filledCoded : Filled → Coded
+filledCoded (Done n k) = coded 0 n
+filledCoded (Refused r) = refusalCoded r
+filledCoded (Full pieces) = coded 6 pieces
+filledCoded (Room needed) = coded 5 needed
 
 abbrev pub toldFilled : Filled → ℕ
 toldFilled (Done n k) = k
-toldFilled (Faulty place) = 0
-toldFilled Long = 0
-toldFilled (Text place) = 0
-toldFilled (Words place) = 0
+toldFilled (Refused r) = 0
 toldFilled (Full pieces) = 0
 toldFilled (Room needed) = 0
-toldFilled (Work needed) = 0
 
 -- the records of an answer: none on a refusal
 abbrev pub recordsOf : Indexed → List Record
 recordsOf (done digest index) = index
-recordsOf (options place) = []
-recordsOf long = []
-recordsOf (text place) = []
-recordsOf (words place) = []
+recordsOf (refused r) = []
 recordsOf (full pieces) = []
 recordsOf (room needed) = []
-recordsOf (work needed) = []
 
 -- what a function that gives the answer leaves after
 pub record Indexes (a : Indexed) (out : List ℕ) (r : Filled) (out′ work′ : List ℕ) : Type 0 where
   pub is : r ≡ told a
-  pub output : out′ ≡ outputAfter a out
+  pub output : out′ ≡ indexOutputAfter a out
   pub read : readFrom (marksIn (front work′)) (filledAfter a) noRecord ≡ recordsOf a
 
 -- what the call leaves after, and tells
 pub record Marked (a : Indexed) (records : ℕ) (out out′ : List ℕ) (filled′ : ℕ) (work′ : List ℕ) (t : Told) : Type 0 where
-  pub answer : t .answer ≡ numbered a
-  pub output : out′ ≡ outputAfter a out
+  pub answer : t .answer ≡ numbered (indexCoded a)
+  pub output : out′ ≡ indexOutputAfter a out
   pub filled : filled′ ≡ filledAfter a
   pub count : t .records ≡ filledAfter a
   pub few : t .records ≤ records
   pub read : readFrom (marksIn (front work′)) (t .records) noRecord ≡ recordsOf a
 
--- a refusal that is told before any piece is looked at (it is not `Done`)
-abbrev pub refusedAs : Reply → Filled
-refusedAs (ReplyDone n) = Room n
-refusedAs (ReplyOptions place) = Faulty place
-refusedAs ReplyLong = Long
-refusedAs (ReplyText place) = Text place
-refusedAs (ReplyWords place) = Words place
-refusedAs (ReplyRoom needed) = Room needed
-refusedAs (ReplyWork needed) = Work needed
-
--- what is left to be told after them
+-- what is left to be told where none of codes 1 to 3 is due
 abbrev pub leftOf : Limits → Opts → List ℕ → ℕ → ℕ → Indexed
-leftOf l o notes space records = inIndex (l .words) space records (indexOf o notes) (within (l .words) measured o notes)
+leftOf l o notes space records = inIndex (l .words) space records (indexOf o notes) (within (l .words) o notes)
 
 -- and of the pieces: the place of the first paragraph of over so many words; or what is told of the digest, if N has room for its length
 abbrev pub numbering : WordLimit
 numbering = lent 0 (λ o notes. 0)
 
 abbrev pub foundOf : ℕ → Opts → List ℕ → ℕ → ℕ → Indexed
-foundOf most o notes space records = inIndex numbering space records (indexOf o notes) (withWords measured o notes (longParagraph most o 0 (pieces o notes)))
+foundOf most o notes space records = inIndex numbering space records (indexOf o notes) (withWords o notes (longParagraph most o 0 (pieces o notes)))

@@ -13,9 +13,6 @@ admit-requires c κs = search needs
 enum-known-r : tie.Need-enum-known-r
 enum-known-r c = search needs
 
-refused-requires : tie.Need-refused-requires
-refused-requires c κs = search needs
-
 enum-known-o : tie.Need-enum-known-o
 enum-known-o c = search needs
 
@@ -23,7 +20,7 @@ check-notes-requires : tie.Need-check-notes-requires
 check-notes-requires c κs = passed ownRoom _ _ (c .before .before .before .admit .ensures) (c .before .o .given .1) .0
 
 returns : tie.Need-returns
-returns c = c .refused .ensures ∙ refused-answer ownRoom _ _ _ (refused ownRoom _ _ (c .before .before .before .before .admit .ensures) (c .before .before .r .given .1))
+returns c = refused-answer ownRoom _ _ _ (refused ownRoom _ _ (c .before .before .before .admit .ensures) (c .before .r .given .1))
 
 returns-2 : tie.Need-returns-2
 returns-2 c = c .check-notes .ensures ∙ sym (checking-left ownRoom _ _ _ _ (passed ownRoom _ _ (c .before .before .before .before .admit .ensures) (c .before .before .o .given .1)))
@@ -34,7 +31,6 @@ check-spec =
     (tie.spec
     admit-requires
     enum-known-r
-    refused-requires
     enum-known-o
     check-notes-requires
     returns

@@ -15,9 +15,6 @@ admit-within-requires c κs = omega arith
 enum-known-r : tie.Need-enum-known-r
 enum-known-r c = search needs
 
-refused-requires : tie.Need-refused-requires
-refused-requires c κs = search needs
-
 enum-known-o : tie.Need-enum-known-o
 enum-known-o c = search needs
 
@@ -25,7 +22,7 @@ check-lent-requires : tie.Need-check-lent-requires
 check-lent-requires c κs = let l = lending (length (c .before .before .before .before .before .before .before .before .before .args .work .now)) in passed l _ _ (c .before .before .before .before .admit-within .ensures (l .words)) (c .before .before .o .given .1) .0
 
 returns : tie.Need-returns
-returns c = let l = lending (length (c .before .before .before .before .before .before .before .before .before .args .work .now)) in c .refused .ensures ∙ refused-answer l _ _ _ (refused l _ _ (c .before .before .before .before .admit-within .ensures (l .words)) (c .before .before .r .given .1))
+returns c = let l = lending (length (c .before .before .before .before .before .before .before .before .args .work .now)) in refused-answer l _ _ _ (refused l _ _ (c .before .before .before .admit-within .ensures (l .words)) (c .before .r .given .1))
 
 same-length : tie.Need-same-length
 same-length c = search needs
@@ -36,4 +33,4 @@ returns-2 c = let l = lending (length (c .before .before .before .before .before
 pub check-large-spec : {M : Type 1} → statement M
 check-large-spec =
     tie.close
-    (tie.spec admit-within-requires enum-known-r refused-requires enum-known-o check-lent-requires returns same-length returns-2)
+    (tie.spec admit-within-requires enum-known-r enum-known-o check-lent-requires returns same-length returns-2)

@@ -11,17 +11,14 @@ use Rattle.options.specs.Opts.{Opts}
 use Rattle.pieces.specs.Pieces.{Kind, pieces}
 use Rattle.walk.specs.Digest.{tooMany, longParagraph}
 use Rattle.walk.specs.Contracts.Course.{piecesFrom, FirstPiece}
-use Rattle.formatter.specs.Answers.{done}
 use Rattle.formatter.specs.Format.{Limits, within}
-use Rattle.formatter.specs.declared.Reply.{Reply}
-use Rattle.formatter.specs.declared.Reply.the-variants.{Done as ReplyDone, Options as ReplyOptions, Long as ReplyLong, Text as ReplyText, Words as ReplyWords, Room as ReplyRoom, Work as ReplyWork}
 use Rattle.checker.specs.Matching.{andThen, matchPiece, matchPieces, verdict}
 use Rattle.checker.specs.Contracts.Places.{matched, Matches}
 use Rattle.checker.specs.declared.Matched.{Matched}
 use Rattle.checker.specs.declared.Matched.the-variants.{On as MatchedOn, Fault}
-use Rattle.judge.specs.Checking.{withDigest, withNotes}
+use Rattle.judge.specs.Checking.{digestWithin, afterNotes}
 use Rattle.judge.specs.declared.Judgement.{Judgement}
-use Rattle.judge.specs.declared.Judgement.the-variants.{Accepted, Options, Long, Text, Words, LongDigest, Line, Work}
+use Rattle.judge.specs.declared.Judgement.the-variants.{Accepted, LongDigest, Line}
 use Rattle.judge.specs.declared.Stand.{Stand}
 use Rattle.judge.specs.declared.Step.{Step}
 use Rattle.judge.specs.declared.Step.the-variants.{On, Over}
@@ -66,16 +63,6 @@ toldOf size (MatchedOn p) = cond (ltb (p .at) size) (Line (p .line)) Accepted
 abbrev pub judgedBy : ℕ → ℕ → Matched → Judgement
 judgedBy bytes size m = cond (ltb bytes size) LongDigest (toldOf size m)
 
--- a refusal that is told before any piece is looked at (it is neither `Done` nor `Room`)
-abbrev pub refusedAs : Reply → Judgement
-refusedAs (ReplyDone n) = Long
-refusedAs (ReplyOptions place) = Options place
-refusedAs ReplyLong = Long
-refusedAs (ReplyText place) = Text place
-refusedAs (ReplyWords place) = Words place
-refusedAs (ReplyRoom needed) = Long
-refusedAs (ReplyWork needed) = Work needed
-
--- what is left to be told after them
+-- what is left to be told where none of codes 1 to 3 is due
 abbrev pub leftOf : Limits → Opts → List ℕ → List ℕ → Judgement
-leftOf l o notes digest = withNotes (withDigest (l .bytes) (length digest) (verdict o notes digest)) (within (l .words) done o notes)
+leftOf l o notes digest = afterNotes (digestWithin (l .bytes) (length digest) (verdict o notes digest)) (within (l .words) o notes)

@@ -8,12 +8,12 @@ use Rattle.options.specs.Opts.{Opts, meant}
 use Rattle.options.specs.OptionBlock.{readBlock}
 use Rattle.options.specs.declared.Options.{Options}
 use Rattle.options.specs.declared.Block.the-variants.{Accepted}
-use Rattle.formatter.specs.Answers.{code}
-use Rattle.formatter.specs.Format.{Limits, finding}
+use Rattle.formatter.specs.Format.{Limits, found, finding}
 
 pub record Looked (l : Limits) (block notes digest : List ℕ) (Holds : Opts → Type 0) : Type 0 where
   pub options : Options
   pub accepted : readBlock block ≡ Accepted options
-  pub passed : code (finding l block notes) ≡ 0
+  pub bytes : List ℕ
+  pub passed : finding l block notes ≡ found bytes
   pub short : length digest ≤ l .bytes
   pub holds : Holds (meant block options)

@@ -1,83 +1,19 @@
 -- `lines::are_ascii` meets its contract: it says so only where each test held.
 use mathlib.Core.Bool.{and-eq-true-iff}
 use borrow.Author.Needs.{needs}
-use Rattle.text.proofs.Rows.{allAt}
-use Rattle.text.proofs.Asciis.{ascii-eight}
 use Rattle.lines.proofs.are_ascii.Statement.{statement}
 use Rattle.lines.proofs.are_ascii.Tie as tie
 
-add-b : tie.Need-add-b
-add-b c = search needs
-
-add-c : tie.Need-add-c
-add-c c = search needs
-
-add-d : tie.Need-add-d
-add-d c = search needs
-
-add-e : tie.Need-add-e
-add-e c = search needs
-
-add-f : tie.Need-add-f
-add-f c = search needs
-
-add-g : tie.Need-add-g
-add-g c = search needs
-
-add-h : tie.Need-add-h
-add-h c = search needs
-
-shared-slice-read-result : tie.Need-shared-slice-read-result
-shared-slice-read-result c = search needs
-
-shared-slice-read-result-2 : tie.Need-shared-slice-read-result-2
-shared-slice-read-result-2 c = search needs
-
-shared-slice-read-result-3 : tie.Need-shared-slice-read-result-3
-shared-slice-read-result-3 c = search needs
-
-shared-slice-read-result-4 : tie.Need-shared-slice-read-result-4
-shared-slice-read-result-4 c = search needs
-
-shared-slice-read-result-5 : tie.Need-shared-slice-read-result-5
-shared-slice-read-result-5 c = search needs
-
-shared-slice-read-result-6 : tie.Need-shared-slice-read-result-6
-shared-slice-read-result-6 c = search needs
-
-shared-slice-read-result-7 : tie.Need-shared-slice-read-result-7
-shared-slice-read-result-7 c = search needs
-
-shared-slice-read-result-8 : tie.Need-shared-slice-read-result-8
-shared-slice-read-result-8 c = search needs
+are-ascii-requires : tie.Need-are-ascii-requires
+are-ascii-requires c κs = search needs
 
 are-feedless-requires : tie.Need-are-feedless-requires
 are-feedless-requires c κs = search needs
 
 returns : tie.Need-returns
-unfolding allAt
 returns c = λ e.
     let t = and-eq-true-iff _ _ .0 e in
-    record { ascii = ascii-eight _ _ (search needs) (t .0); same = c .are-feedless .ensures (t .1) }
+    record { ascii = c .before .are-ascii .ensures (t .0); same = c .are-feedless .ensures (t .1) }
 
 pub are-ascii-spec : {M : Type 1} → statement M
-are-ascii-spec =
-    tie.close
-    (tie.spec
-    add-b
-    add-c
-    add-d
-    add-e
-    add-f
-    add-g
-    add-h
-    shared-slice-read-result
-    shared-slice-read-result-2
-    shared-slice-read-result-3
-    shared-slice-read-result-4
-    shared-slice-read-result-5
-    shared-slice-read-result-6
-    shared-slice-read-result-7
-    shared-slice-read-result-8
-    are-feedless-requires
-    returns)
+are-ascii-spec = tie.close (tie.spec are-ascii-requires are-feedless-requires returns)

@@ -1,5 +1,5 @@
 -- `panel::number_of` meets its contract.
-use Rattle.panel.specs.Panel.{numbered}
+use Rattle.lists.specs.Coded.{numbered}
 use borrow.Author.Needs.{needs}
 use Rattle.panel.proofs.number_of.Statement.{statement}
 use Rattle.panel.proofs.number_of.Tie as tie

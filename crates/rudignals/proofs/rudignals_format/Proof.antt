@@ -4,7 +4,8 @@ use lib.ListN.{length}
 use borrow.Author.Needs.{needs}
 use denote.Ref.{now}
 use Rattle.walk.specs.Digest.{mostWords}
-use Rattle.formatter.specs.Answers.{Answer, numbered, outputAfter}
+use Rattle.lists.specs.Coded.{numbered}
+use Rattle.formatter.specs.Answers.{Answer, answerCoded, outputAfter}
 use Rattle.formatter.specs.Format.{mostBytes}
 use Rattle.formatter.proofs.Together.{together-they-do-what-the-old-call-did}
 use Rattle.rudignals.proofs.rudignals_format.Statement.{statement}
@@ -24,7 +25,7 @@ returns c =
     let w = c .before .before .rudignals-write .ensures in
     let out = now (c .before .before .before .before .before .before .before .before .args .output) in
     let t = together-they-do-what-the-old-call-did mostBytes mostWords (now (c .before .before .before .before .before .before .before .before .args .options)) (now (c .before .before .before .before .before .before .before .before .args .notes)) (length out) in
-    (w .0 ∙ ap numbered t, w .1 ∙ ap (λ (a : Answer). outputAfter a out) t)
+    (w .0 ∙ ap (λ (a : Answer). numbered (answerCoded a)) t, w .1 ∙ ap (λ (a : Answer). outputAfter a out) t)
 
 pub rudignals-format-spec : {M : Type 1} → statement M
 rudignals-format-spec =

@@ -1,9 +1,11 @@
 -- `rudignals::rudignals_measure` meets its contract.
 use mathlib.Core.Path.{ap, _∙_}
 use borrow.Author.Needs.{needs}
+use Rattle.lists.specs.Coded.{numbered}
 use Rattle.formatter.specs.Format.{ownRoom}
-use Rattle.formatter.specs.Contracts.Call.{replyNumber}
-use Rattle.formatter.proofs.Values.{ownRoom-sound, told-number, measured-fits}
+use Rattle.formatter.specs.Contracts.Call.{replyCoded}
+use Rattle.formatter.specs.declared.Reply.{Reply}
+use Rattle.formatter.proofs.Values.{ownRoom-sound, told-coded, measured-fits}
 use Rattle.rudignals.proofs.rudignals_measure.Statement.{statement}
 use Rattle.rudignals.proofs.rudignals_measure.Tie as tie
 
@@ -14,7 +16,7 @@ number-of-requires : tie.Need-number-of-requires
 number-of-requires c κs = rw (c .measure .ensures) (measured-fits ownRoom ownRoom-sound _ _)
 
 returns : tie.Need-returns
-returns c = c .number-of .ensures ∙ ap replyNumber (c .before .measure .ensures) ∙ told-number _
+returns c = c .number-of .ensures ∙ ap (λ (q : Reply). numbered (replyCoded q)) (c .before .measure .ensures) ∙ ap numbered (told-coded _)
 
 pub rudignals-measure-spec : {M : Type 1} → statement M
 rudignals-measure-spec =

@@ -1,8 +1,10 @@
 -- `rudignals::rudignals_measure_large` meets its contract.
 use mathlib.Core.Path.{ap, _∙_}
 use borrow.Author.Needs.{needs}
-use Rattle.formatter.specs.Contracts.Call.{replyNumber}
-use Rattle.formatter.proofs.Values.{told-number, measured-fits}
+use Rattle.lists.specs.Coded.{numbered}
+use Rattle.formatter.specs.Contracts.Call.{replyCoded}
+use Rattle.formatter.specs.declared.Reply.{Reply}
+use Rattle.formatter.proofs.Values.{told-coded, measured-fits}
 use Rattle.formatter.proofs.Work.{lending-sound}
 use Rattle.rudignals.proofs.rudignals_measure_large.Statement.{statement}
 use Rattle.rudignals.proofs.rudignals_measure_large.Tie as tie
@@ -17,7 +19,7 @@ same-length : tie.Need-same-length
 same-length c = search needs
 
 returns : tie.Need-returns
-returns c = c .number-of .ensures ∙ ap replyNumber (c .before .before .before .measure-lent .ensures) ∙ told-number _
+returns c = c .number-of .ensures ∙ ap (λ (q : Reply). numbered (replyCoded q)) (c .before .before .before .measure-lent .ensures) ∙ ap numbered (told-coded _)
 
 pub rudignals-measure-large-spec : {M : Type 1} → statement M
 rudignals-measure-large-spec =

@@ -1,8 +1,10 @@
 -- `rudignals::rudignals_write_large` meets its contract.
 use mathlib.Core.Path.{ap, _∙_}
 use borrow.Author.Needs.{needs}
-use Rattle.formatter.specs.Contracts.Call.{replyNumber}
-use Rattle.formatter.proofs.Values.{told-number, written-fits}
+use Rattle.lists.specs.Coded.{numbered}
+use Rattle.formatter.specs.Contracts.Call.{replyCoded}
+use Rattle.formatter.specs.declared.Reply.{Reply}
+use Rattle.formatter.proofs.Values.{told-coded, written-fits}
 use Rattle.formatter.proofs.Work.{lending-sound}
 use Rattle.rudignals.proofs.rudignals_write_large.Statement.{statement}
 use Rattle.rudignals.proofs.rudignals_write_large.Tie as tie
@@ -22,7 +24,7 @@ same-length-2 c = search needs
 returns : tie.Need-returns
 returns c =
     let a = c .before .before .before .before .before .write-lent .ensures in
-    (c .number-of .ensures ∙ ap replyNumber (a .is) ∙ told-number _, a .output)
+    (c .number-of .ensures ∙ ap (λ (q : Reply). numbered (replyCoded q)) (a .is) ∙ ap numbered (told-coded _), a .output)
 
 pub rudignals-write-large-spec : {M : Type 1} → statement M
 rudignals-write-large-spec =

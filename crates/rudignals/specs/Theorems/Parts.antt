@@ -10,11 +10,13 @@ use Rattle.lines.specs.Lines.{linesOf}
 use Rattle.pieces.specs.Pieces.{pieces}
 use Rattle.pieces.specs.Theorems.NextMail.{nextMailBehind}
 use Rattle.walk.specs.Digest.{extentOf}
-use Rattle.formatter.specs.Answers.{Answer, done, options, long, text, words, room, work}
-use Rattle.formatter.specs.Format.{Words, upTo, lent}
+use Rattle.formatter.specs.Answers.{Answer, done, refused, room}
+use Rattle.formatter.specs.Format.{Words, upTo, lent, Finding, found, stopped}
+use Rattle.formatter.specs.declared.Refusal.{Refusal}
+use Rattle.formatter.specs.declared.Refusal.the-variants.{Options as Faulty, Long, Text as Damaged, Words as Many, Work}
 use Rattle.index.specs.declared.Record.{Record}
 use Rattle.indexer.specs.Theorems.Follows.{shifted}
-use Rattle.explain.specs.Explain.{Explanation, because, refused, noLine}
+use Rattle.explain.specs.Explain.{Explanation, because, refused as refusedAlso, noLine}
 
 -- the bytes of the first k pieces, and those of the others
 abbrev pub upToPiece : Opts → ℕ → List ℕ → List ℕ
@@ -32,50 +34,60 @@ abbrev pub ByParts : Words → Type 0
 ByParts (upTo most) = Unit {0}
 ByParts (lent lends need) = (o : Opts) (first second notes : List ℕ) → pieces o notes ≡ pieces o first ++ pieces o second → need o notes ≡ max (need o first) (need o second)
 
--- ---- what is answered. `then` is what is answered with the digest of both; a place in the second part is so many bytes further on in the notes
--- ---- as the first part is long
+-- ---- what is answered
 
--- the first part is not refused: what the second answers, with its digest `then`
-abbrev pub behind : (List ℕ → Answer) → ℕ → Answer → Answer
-behind then size (done second) = then second
-behind then size (options place) = options place
-behind then size long = long
-behind then size (text place) = text (size + place)
-behind then size (words place) = words (size + place)
-behind then size (room needed) = room needed
-behind then size (work needed) = work needed
+-- a place in the second part is so many bytes further on in the notes as the first part is long
+abbrev pub moved : ℕ → Refusal → Refusal
+moved size (Faulty place) = Faulty place
+moved size Long = Long
+moved size (Damaged place) = Damaged (size + place)
+moved size (Many place) = Many (size + place)
+moved size (Work needed) = Work needed
 
 -- the first part has a paragraph of too many words: damage in the second part has the lower number, and wins
-abbrev pub behindWords : ℕ → ℕ → Answer → Answer
-behindWords size place (done second) = words place
-behindWords size place (options fault) = options fault
-behindWords size place long = long
-behindWords size place (text later) = text (size + later)
-behindWords size place (words later) = words place
--- (one limit does not answer both 4 and these)
-behindWords size place (room needed) = words place
-behindWords size place (work needed) = words place
+abbrev pub behindWords : ℕ → ℕ → Refusal → Refusal
+behindWords size place (Faulty fault) = Faulty fault
+behindWords size place Long = Long
+behindWords size place (Damaged later) = Damaged (size + later)
+behindWords size place (Many later) = Many place
+-- (one limit does not answer both 4 and 12)
+behindWords size place (Work needed) = Many place
 
 -- the first part needs more working room than is lent: the greater room of both, or damage in the second part wins
-abbrev pub behindWork : ℕ → ℕ → Answer → Answer
-behindWork size needed (done second) = work needed
-behindWork size needed (options fault) = options fault
-behindWork size needed long = long
-behindWork size needed (text later) = text (size + later)
+abbrev pub behindWork : ℕ → ℕ → Refusal → Refusal
+behindWork size needed (Faulty fault) = Faulty fault
+behindWork size needed Long = Long
+behindWork size needed (Damaged later) = Damaged (size + later)
 -- (one limit does not answer both 4 and 12)
-behindWork size needed (words later) = words (size + later)
-behindWork size needed (room most) = work needed
-behindWork size needed (work more) = work (max needed more)
+behindWork size needed (Many later) = Many (size + later)
+behindWork size needed (Work more) = Work (max needed more)
 
+-- both are refused
+abbrev pub bothRefused : ℕ → Refusal → Refusal → Refusal
+bothRefused size (Faulty place) second = Faulty place
+bothRefused size Long second = Long
+bothRefused size (Damaged place) second = Damaged place
+bothRefused size (Many place) second = behindWords size place second
+bothRefused size (Work needed) second = behindWork size needed second
+
+-- what is found in the notes
+abbrev pub bothFound : ℕ → Finding → Finding → Finding
+bothFound size (found first) (found second) = found (first ++ second)
+bothFound size (found first) (stopped r) = stopped (moved size r)
+bothFound size (stopped q) (found second) = stopped q
+bothFound size (stopped q) (stopped r) = stopped (bothRefused size q r)
+
+-- what is answered: `then` is what is answered with the digest of both. (Where the first digest is longer than N can tell, so is that of both.)
 abbrev pub both : (List ℕ → Answer) → ℕ → Answer → Answer → Answer
-both then size (done first) second = behind (λ digest. then (first ++ digest)) size second
-both then size (options place) second = options place
-both then size long second = long
-both then size (text place) second = text place
-both then size (words place) second = behindWords size place second
--- (the first digest is longer than N can tell, and so is that of both)
-both then size (room most) second = behind (λ digest. room most) size second
-both then size (work needed) second = behindWork size needed second
+both then size (done first) (done second) = then (first ++ second)
+both then size (done first) (refused r) = refused (moved size r)
+both then size (done first) (room needed) = room needed
+both then size (refused q) (done second) = refused q
+both then size (refused q) (refused r) = refused (bothRefused size q r)
+both then size (refused q) (room needed) = refused q
+both then size (room most) (done second) = room most
+both then size (room most) (refused r) = refused (moved size r)
+both then size (room most) (room needed) = room needed
 
 -- ---- the index, and the reasons
 
@@ -86,7 +98,7 @@ behindFirst first digest rs = map (shifted (length first) (length (linesOf diges
 -- a line of the first part has its reason there; a line after them has that of the second part
 abbrev pub bothReasons : Explanation → Explanation → Explanation
 bothReasons (because e) second = because e
-bothReasons (refused a) second = refused a
+bothReasons (refusedAlso r) second = refusedAlso r
 bothReasons (noLine n) (because e) = because e
-bothReasons (noLine n) (refused a) = refused a
+bothReasons (noLine n) (refusedAlso r) = refusedAlso r
 bothReasons (noLine n) (noLine m) = noLine (n + m)

@@ -6,7 +6,7 @@ use lib.Dec.{T, eqb}
 use Rattle.lists.specs.Runs.{every}
 use Rattle.lists.specs.Trials.Bytes.{bytes}
 use Rattle.checker.specs.Matching.{matchText, matchFeed, matchLine, spaces, parting, lead, matchSpaced, matchNext, matchRest, matchWords, matchPiece, matchPieces, verdict}
-use Rattle.judge.specs.Answers.{code, value}
+use Rattle.judge.specs.Answers.{checkCoded}
 use Rattle.formatter.specs.Format.{ownRoom}
 use Rattle.judge.specs.Checking.{checking}
 use Rattle.rudignals.specs.Trials.Computing.{everything}
@@ -24,7 +24,7 @@ abbrev pub checked : List ℕ → List ℕ → List ℕ → ℕ → ℕ → Chec
 checked b n d c k = record { block = b; notes = n; digest = d; code = c; number = k }
 
 abbrev pub told : Checked → Bool
-told r = let a = checking ownRoom (r .block) (r .notes) (r .digest) in eqb (code a) (r .code) && eqb (value a) (r .number)
+told r = let a = checkCoded (checking ownRoom (r .block) (r .notes) (r .digest)) in eqb (a .code) (r .code) && eqb (a .value) (r .number)
 
 abbrev pub noBreakSpace : List ℕ
 noBreakSpace = 0xC2 ∷ 0xA0 ∷ []

@@ -19,7 +19,8 @@ use Rattle.output.specs.Emission.{spaceBefore, emitRest, emit}
 use Rattle.quick.specs.Quick.{quickFrom, quickBreaks}
 use Rattle.demerits.specs.Demerits.{term, ratio, wordTerm, cost}
 use Rattle.knuth_plass.specs.KnuthPlass.{firstBreak, reduced, reached, staying, offerOf, lesser, bestOffer, leastFrom, least, restart, round, roundsFrom, pathOf, startsLine, marksFrom, bestBreaks}
-use Rattle.formatter.specs.Answers.{numbered, outputAfter}
+use Rattle.lists.specs.Coded.{numbered}
+use Rattle.formatter.specs.Answers.{outputAfter}
 use Rattle.paragraphs.specs.Breaks.{settingOf}
 use Rattle.walk.specs.Digest.{formatted, outputOf, digest, extentOf, longParagraph}
 use Rattle.formatter.specs.Format.{answer, finding, measuring, writing}

@@ -7,7 +7,8 @@ use lib.Dec.{T, eqb}
 use lib.ListN.{length, replicate}
 use Rattle.lists.specs.Runs.{every}
 use Rattle.lists.specs.Trials.Bytes.{bytes, same}
-use Rattle.formatter.specs.Answers.{numbered, outputAfter}
+use Rattle.lists.specs.Coded.{numbered}
+use Rattle.formatter.specs.Answers.{answerCoded, outputAfter}
 use Rattle.formatter.specs.Format.{ownRoom, answer}
 use Rattle.rudignals.specs.Trials.Computing.{everything}
 
@@ -26,7 +27,7 @@ output d = replicate (length d) 46 ++ 46 ∷ 46 ∷ []
 abbrev pub right : Row → Bool
 right r =
     let a = answer ownRoom (r .block) (r .notes) (length (output (r .digest))) in
-    eqb (numbered a) (length (r .digest)) && same (outputAfter a (output (r .digest))) (r .digest ++ 46 ∷ 46 ∷ [])
+    eqb (numbered (answerCoded a)) (length (r .digest)) && same (outputAfter a (output (r .digest))) (r .digest ++ 46 ∷ 46 ∷ [])
 
 abbrev pub none : List ℕ
 none = []

@@ -11,16 +11,17 @@ use Rattle.options.specs.declared.Block.{Block}
 use Rattle.options.specs.declared.Block.the-variants.{Accepted, Fault}
 use Rattle.endings.specs.declared.Ending.{Ending}
 use Rattle.endings.specs.Endings.{numbersOf, breaks, endings}
-use Rattle.quick.specs.QuickLines.{linesFrom, quickLines}
+use Rattle.quick.specs.QuickLines.{quickLinesFrom, quickLines}
 use Rattle.knuth_plass.specs.BestLines.{offering, chosenOf, maker, makersFrom, makersOf, nextAt, nextsFrom, bestLines}
 use Rattle.explain.specs.Reasons.{paragraphEndings, endingsOf, lineEndings}
+use Rattle.lists.specs.Coded.{numbered}
 use Rattle.formatter.specs.Format.{ownRoom}
-use Rattle.explain.specs.Explain.{explaining, explainedNumber}
+use Rattle.explain.specs.Explain.{explaining, explainCoded}
 use Rattle.rudignals.specs.Trials.Computing.{everything}
 use Rattle.rudignals.specs.Trials.MarkedTexts.{none, flags, width10}
 
 unfoldable reasons : Unit {0}
-unfolding numbersOf breaks endings linesFrom quickLines offering chosenOf maker makersFrom makersOf nextAt nextsFrom bestLines paragraphEndings endingsOf lineEndings explaining explainedNumber
+unfolding numbersOf breaks endings quickLinesFrom quickLines offering chosenOf maker makersFrom makersOf nextAt nextsFrom bestLines paragraphEndings endingsOf lineEndings explaining numbered
 reasons = tt
 
 abbrev toldBy : List ℕ → List ℕ → Block → List ℕ
@@ -51,6 +52,6 @@ pub forced-after : told width10 "aa bbbbbbbb c\n" ≡ 6 ∷ 0 ∷ 0 ∷ 0 ∷ 0 
 unfolding everything reasons
 forced-after = refl
 
-pub no-line : explainedNumber (explaining ownRoom none (bytes "a\n") 1) ≡ 8 * 2 ^ 32 + 1
+pub no-line : numbered (explainCoded (explaining ownRoom none (bytes "a\n") 1)) ≡ 8 * 2 ^ 32 + 1
 unfolding everything reasons
 no-line = refl

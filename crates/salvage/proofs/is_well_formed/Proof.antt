@@ -5,22 +5,21 @@ use mathlib.Core.Path.{_≡_, refl, sym, _∙_}
 use Prim.Native.Nat.{_≤_, _<_, _-_}
 use native.Mathlib.Omega.{arith}
 use lib.ListN.{length, drop, length-drop}
-use borrow.Author.Tests.{lt-ltb}
 use Rattle.text.proofs.Places.{damaged-front}
-use Rattle.salvage.specs.Lines.{wellFormed}
-use Rattle.salvage.proofs.Runs.{run-one, run-more}
+use Rattle.text.proofs.Asciis.{ascii-more, ascii-one}
+use Rattle.salvage.specs.Lines.{isUtf8}
 use Rattle.salvage.proofs.WellFormed.{ill-formed, formed-past, formed-ascii, read-on}
 use Rattle.salvage.proofs.is_well_formed.Statement.{statement}
 use Rattle.salvage.proofs.is_well_formed.Tie as tie
 
 abbrev Inv-loop : tie.InvT-loop
-Inv-loop line i₀ i = (i ≤ length line) × (wellFormed (drop i line) ≡ wellFormed line)
+Inv-loop line i₀ i = (i ≤ length line) × (isUtf8 (drop i line) ≡ isUtf8 line)
 
 abbrev μ-loop : tie.MeasureT-loop
 μ-loop line i₀ i = length line - i
 
 -- the character that the turn reads, and the line behind it
-read : (c : tie.After-known-told Inv-loop μ-loop) → (c .before .before .before .before .before .before .before .loop .i < c .before .next .given .0 .1 .0) × (c .before .next .given .0 .1 .0 ≤ length (now (c .before .before .before .before .before .before .before .before .before .args .line))) × (wellFormed (drop (c .before .before .before .before .before .before .before .loop .i) (now (c .before .before .before .before .before .before .before .before .before .args .line))) ≡ wellFormed (drop (c .before .next .given .0 .1 .0) (now (c .before .before .before .before .before .before .before .before .before .args .line))))
+read : (c : tie.After-known-told Inv-loop μ-loop) → (c .before .before .before .before .before .before .before .loop .i < c .before .next .given .0 .1 .0) × (c .before .next .given .0 .1 .0 ≤ length (now (c .before .before .before .before .before .before .before .before .before .args .line))) × (isUtf8 (drop (c .before .before .before .before .before .before .before .loop .i) (now (c .before .before .before .before .before .before .before .before .before .args .line))) ≡ isUtf8 (drop (c .before .next .given .0 .1 .0) (now (c .before .before .before .before .before .before .before .before .before .args .line))))
 read c = read-on _ _ _ _ (c .before .before .before .before .before .before .before .loop .inv .0) (sym (c .before .before .before .decode-at .ensures) ∙ c .before .next .given .1)
 
 loop-holds : tie.Need-loop-holds Inv-loop μ-loop
@@ -40,7 +39,7 @@ loop-less c = omega (arith, c .ascii-end .ensures .on)
 
 loop-again : tie.Need-loop-again Inv-loop μ-loop
 loop-again c =
-    let a = run-more (run-one (c .before .before .before .loop-test .taken) (lt-ltb _ _ (c .before .if1 .taken))) (c .ascii-end .ensures) in
+    let a = ascii-more (ascii-one (c .before .before .before .loop-test .taken) (c .before .if1 .taken)) (c .ascii-end .ensures) in
     (a .within, sym (formed-ascii _ _ _ a) ∙ c .before .before .before .before .loop .inv .1)
 
 decode-at-requires : tie.Need-decode-at-requires Inv-loop μ-loop

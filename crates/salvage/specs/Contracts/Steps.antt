@@ -3,13 +3,12 @@ use mathlib.Core.Path.{_≡_}
 use mathlib.Core.Bool.{Bool, true}
 use mathlib.Core.List.{List, _∷_, map}
 use Prim.Native.Nat.{ℕ, _+_, _-_, _*_, _^_, _≤_, _<_}
-use lib.Dec.{ltb}
 use lib.ListN.{length, getD, take, drop}
 use lib.Seq.{sets}
 use Rattle.lists.specs.Runs.{joined}
 use Rattle.text.specs.Rfc3629.{encode}
-use Rattle.salvage.specs.Lines.{linesOf}
-use Rattle.salvage.specs.Mending.{Change, mendedLine, mended, highBytes, lineChanges, changes, Answer, done, long, full, room, copyAfter, placesAfter, bytesAfter}
+use Rattle.salvage.specs.Lines.{wholeLines}
+use Rattle.salvage.specs.Mending.{Change, mendedLine, mended, highBytes, lineChanges, changes, MendAnswer, done, long, full, room, copyAfter, placesAfter, bytesAfter}
 use Rattle.salvage.specs.Restoring.{Back, done as given, long as longCopy, stray, room as roomBack, belonging, restored, notesAfter}
 use Rattle.salvage.specs.declared.Mended.{Mended}
 use Rattle.salvage.specs.declared.Mended.the-variants.{Done, Long, Full, Room}
@@ -18,7 +17,7 @@ use Rattle.salvage.specs.declared.Restored.the-variants.{Done as Given, 
 
 -- ---- the answers in code: without the bytes, which are in the slices
 
-abbrev pub told : Answer → Mended
+abbrev pub told : MendAnswer → Mended
 told (done copy list) = Done (length copy)
 told long = Long
 told (full number) = Full number
@@ -43,7 +42,7 @@ numberBack (Stray entry) = 11 * 2 ^ 32 + entry
 numberBack (RoomBack needed) = 5 * 2 ^ 32 + needed
 
 -- an answer of mending, and the slices after it
-pub record Mends (a : Answer) (copy places bytes : List ℕ) (r : Mended) (copy′ places′ bytes′ : List ℕ) : Type 0 where
+pub record Mends (a : MendAnswer) (copy places bytes : List ℕ) (r : Mended) (copy′ places′ bytes′ : List ℕ) : Type 0 where
   pub is : r ≡ told a
   pub copied : copy′ ≡ copyAfter a copy
   pub placed : places′ ≡ placesAfter a places
@@ -64,14 +63,11 @@ pub record Run (test : ℕ → Bool) (s : List ℕ) (from to : ℕ) : Type 0 whe
   pub within : to ≤ length s
   pub pass : (i : ℕ) → from ≤ i → i < to → test (getD s i 0) ≡ true
 
-abbrev pub isAscii : ℕ → Bool
-isAscii b = ltb b 0x80
-
 -- the line that begins at a place ends before another
 pub record LineAt (s : List ℕ) (at end : ℕ) : Type 0 where
   pub on : at < end
   pub within : end ≤ length s
-  pub first : linesOf (drop at s) ≡ take (end - at) (drop at s) ∷ linesOf (drop end s)
+  pub first : wholeLines (drop at s) ≡ take (end - at) (drop at s) ∷ wholeLines (drop end s)
 
 -- ---- counts
 

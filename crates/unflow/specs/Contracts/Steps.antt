@@ -6,14 +6,14 @@ use Prim.Native.Nat.{ℕ, _+_, _*_, _^_, _≤_, _<_}
 use lib.Dec.{eqb}
 use lib.ListN.{length, drop, take, replicate}
 use Rattle.unflow.specs.Flowed.{quoteMark, crLf, quoteDepth, stuffing, contentOf, isSeparator, isSoft}
-use Rattle.unflow.specs.Unflow.{Answer, done, long, room, outputAfter}
+use Rattle.unflow.specs.Unflow.{UnflowAnswer, done, long, room, unflowOutputAfter}
 use Rattle.unflow.specs.declared.Line.{Line}
 use Rattle.unflow.specs.declared.Reading.{Reading}
 use Rattle.unflow.specs.declared.Reading.the-variants.{Done, Long, Room}
 
 -- ---- the answer in code: without the bytes, which are in the output
 
-abbrev pub told : Answer → Reading
+abbrev pub told : UnflowAnswer → Reading
 told (done read) = Done (length read)
 told long = Long
 told (room needed) = Room needed
@@ -24,9 +24,9 @@ numberOf Long = 2 * 2 ^ 32
 numberOf (Room needed) = 5 * 2 ^ 32 + needed
 
 -- an answer, and the output after it
-pub record Reads (a : Answer) (out : List ℕ) (r : Reading) (out′ : List ℕ) : Type 0 where
+pub record Reads (a : UnflowAnswer) (out : List ℕ) (r : Reading) (out′ : List ℕ) : Type 0 where
   pub is : r ≡ told a
-  pub output : out′ ≡ outputAfter a out
+  pub output : out′ ≡ unflowOutputAfter a out
   pub small : numberOf r < 2 ^ 64
 
 -- ---- a line

@@ -9,7 +9,7 @@ use Rattle.lists.specs.Trials.Bytes.{bytes, same}
 use Rattle.lines.specs.Lines.{body, withoutReturn, firstLine, linesOf}
 use Rattle.pieces.specs.Pieces.{fromWord}
 use Rattle.unflow.specs.Flowed.{quoteDepth, needsSpace, stuffing, unstuffed, contentOf, isDashes, isSeparator, endsInSpace, isSoft}
-use Rattle.unflow.specs.Unflow.{goesOn, paragraphsFrom, paragraphs, asLine, mailLines, unflowed}
+use Rattle.unflow.specs.Unflow.{goesOnIn, paragraphsFrom, paragraphs, asLine, mailLines, unflowed}
 
 pub record Row : Type 0 where
   pub text : String
@@ -49,5 +49,5 @@ table =
     ∷ []
 
 pub read-texts : T (every right table)
-unfolding walkUpTo walk piece each while behind every begins joined body withoutReturn firstLine linesOf fromWord quoteDepth needsSpace stuffing unstuffed contentOf isDashes isSeparator endsInSpace isSoft goesOn paragraphsFrom paragraphs asLine mailLines unflowed
+unfolding walkUpTo walk piece each while behind every begins joined body withoutReturn firstLine linesOf fromWord quoteDepth needsSpace stuffing unstuffed contentOf isDashes isSeparator endsInSpace isSoft goesOnIn paragraphsFrom paragraphs asLine mailLines unflowed
 read-texts = tt

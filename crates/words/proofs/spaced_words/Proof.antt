@@ -67,7 +67,7 @@ word-of-requires c κs = c .before .before .before .before .before .spaces-befor
 
 -- and its record
 record-is : (c : tie.After-word-of Inv-loop μ-loop)
-    → c .word-of .result ≡ wordAt (meant [] (c .before .before .before .before .before .before .before .before .before .before .before .before .args .o) .uniform) (meant [] (c .before .before .before .before .before .before .before .before .before .before .before .before .args .o) .characters) (c .before .before .before .before .before .before .before .loop .r .first) (c .before .before .before .before .before .before .before .loop .r .punct) (c .before .before .before .before .before .before .before .loop .r .at) (c .before .before .before .before .before .before .spaces-before .result) (plainInk (take (c .before .before .before .before .before .before .before .before .before .before .before .before .args .next) (now (c .before .before .before .before .before .before .before .before .before .before .before .before .args .notes))) (c .before .before .before .before .before .before .spaces-before .result .end) (c .before .before .before .before .before .plain-word-end .result))
+    → c .word-of .result ≡ wordAt (meant [] (c .before .before .before .before .before .before .before .before .before .before .before .before .args .o) .uniform) (meant [] (c .before .before .before .before .before .before .before .before .before .before .before .before .args .o) .byCharacters) (c .before .before .before .before .before .before .before .loop .r .first) (c .before .before .before .before .before .before .before .loop .r .punct) (c .before .before .before .before .before .before .before .loop .r .at) (c .before .before .before .before .before .before .spaces-before .result) (plainInk (take (c .before .before .before .before .before .before .before .before .before .before .before .before .args .next) (now (c .before .before .before .before .before .before .before .before .before .before .before .before .args .notes))) (c .before .before .before .before .before .before .spaces-before .result .end) (c .before .before .before .before .before .plain-word-end .result))
 unfolding meant
 record-is c = rw (c .before .plain-ink .ensures) at (c .word-of .ensures)
 

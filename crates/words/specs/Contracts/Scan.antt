@@ -117,7 +117,7 @@ mailAt start end = record { from = start; start = start; end = end; width = end 
 -- the words of the glyphs that are left of a line: whether the next is its first, and whether the one before it ends in punctuation
 unfoldable pub wordsFrom : Opts → Bool → Bool → Bool → List Glyph → List Word
 wordsFrom o true newLine previousPunct gs = mailWords (runs gs)
-wordsFrom o false newLine previousPunct gs = lineWords (counting (o .characters)) o newLine previousPunct (runs gs)
+wordsFrom o false newLine previousPunct gs = lineWords (counting (o .byCharacters)) o newLine previousPunct (runs gs)
 
 -- w is the next word at a place; the first of its line begins there, and after others there are blanks
 pub record NextWord (o : Opts) (mail newLine previousPunct : Bool) (s : List ℕ) (at : ℕ) (w : Record) : Type 0 where

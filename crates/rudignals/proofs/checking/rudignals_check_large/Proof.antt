@@ -2,7 +2,9 @@
 use mathlib.Core.Path.{ap, _∙_}
 use borrow.Author.Needs.{needs}
 use Rattle.formatter.proofs.Work.{lending-sound}
-use Rattle.judge.specs.Answers.{numbered}
+use Rattle.lists.specs.Coded.{numbered}
+use Rattle.judge.specs.Answers.{checkCoded}
+use Rattle.judge.specs.declared.Judgement.{Judgement}
 use Rattle.judge.proofs.Values.{number-fits}
 use Rattle.rudignals.proofs.checking.rudignals_check_large.Statement.{statement}
 use Rattle.rudignals.proofs.checking.rudignals_check_large.Tie as tie
@@ -17,7 +19,7 @@ same-length : tie.Need-same-length
 same-length c = search needs
 
 returns : tie.Need-returns
-returns c = c .number-of .ensures ∙ ap numbered (c .before .before .before .check-large .ensures)
+returns c = c .number-of .ensures ∙ ap (λ (j : Judgement). numbered (checkCoded j)) (c .before .before .before .check-large .ensures)
 
 pub rudignals-check-large-spec : {M : Type 1} → statement M
 rudignals-check-large-spec = tie.close (tie.spec check-large-requires number-of-requires same-length returns)

@@ -1,8 +1,10 @@
 -- `rudignals::mail::rudignals_flow_large` meets its contract.
 use borrow.Author.Needs.{needs}
 use mathlib.Core.Path.{ap, _∙_}
-use Rattle.formatter.specs.Contracts.Call.{replyNumber}
-use Rattle.formatter.proofs.Values.{told-number}
+use Rattle.lists.specs.Coded.{numbered}
+use Rattle.formatter.specs.Contracts.Call.{replyCoded}
+use Rattle.formatter.specs.declared.Reply.{Reply}
+use Rattle.formatter.proofs.Values.{told-coded}
 use Rattle.rudignals.proofs.mail.rudignals_flow_large.Statement.{statement}
 use Rattle.rudignals.proofs.mail.rudignals_flow_large.Tie as tie
 
@@ -21,7 +23,7 @@ same-length-2 c = search needs
 returns : tie.Need-returns
 returns c =
     let a = c .before .before .before .before .before .flow-lent .ensures in
-    (c .number-of .ensures ∙ ap replyNumber (a .is) ∙ told-number _, a .output, a .counts)
+    (c .number-of .ensures ∙ ap (λ (q : Reply). numbered (replyCoded q)) (a .is) ∙ ap numbered (told-coded _), a .output, a .counts)
 
 pub rudignals-flow-large-spec : {M : Type 1} → statement M
 rudignals-flow-large-spec = tie.close (tie.spec flow-lent-requires number-of-requires same-length same-length-2 returns)

@@ -1,7 +1,9 @@
 -- `wall::rudignals_panel` meets its contract.
 use borrow.Author.Needs.{needs}
 use mathlib.Core.Path.{ap, _∙_}
-use Rattle.panel.specs.Panel.{numbered}
+use Rattle.lists.specs.Coded.{numbered}
+use Rattle.panel.specs.Panel.{panelCoded}
+use Rattle.panel.specs.declared.Answer.{Answer}
 use Rattle.rudignals.proofs.wall.rudignals_panel.Statement.{statement}
 use Rattle.rudignals.proofs.wall.rudignals_panel.Tie as tie
 
@@ -12,7 +14,7 @@ number-of-requires : tie.Need-number-of-requires
 number-of-requires c κs = search needs
 
 returns : tie.Need-returns
-returns c = (c .number-of .ensures ∙ ap numbered (c .before .draw .ensures .0), c .before .draw .ensures .1)
+returns c = (c .number-of .ensures ∙ ap (λ (a : Answer). numbered (panelCoded a)) (c .before .draw .ensures .0), c .before .draw .ensures .1)
 
 pub rudignals-panel-spec : {M : Type 1} → statement M
 rudignals-panel-spec = tie.close (tie.spec draw-requires number-of-requires returns)
