@@ -68,7 +68,7 @@ const char *const REPORT_STYLE[] = {
     NULL,
 };
 
-const char REPORT_SCRIPT_HASH[] = "eyGwgV2roJK1JqvmUqTYKsegW31yZ/VWi7bJ0L6xicw=";
+const char REPORT_SCRIPT_HASH[] = "7WFeXafOcMy/cYHW3wx8YCupTV53R6ryzTMxRAWjDCs=";
 
 const char *const REPORT_SCRIPT[] = {
     "\"use strict\";\n",
@@ -79,6 +79,12 @@ const char *const REPORT_SCRIPT[] = {
     "if (open) pairs[at].open = true;\n",
     "pairs[at].scrollIntoView({ block: \"start\" });\n",
     "pairs[at].querySelector(\"summary\").focus({ preventScroll: true });\n",
+    "}\n",
+    "function bringMarks(event) {\n",
+    "for (const text of event.target.querySelectorAll(\".two > div\")) {\n",
+    "const mark = text.querySelector(\"mark, .at\");\n",
+    "if (mark) text.scrollTop += mark.getBoundingClientRect().top - text.getBoundingClientRect().top - text.clientHeight / 3;\n",
+    "}\n",
     "}\n",
     "function goToHash() {\n",
     "const found = pairs.findIndex(pair => \"#\" + pair.id === location.hash);\n",
@@ -96,6 +102,7 @@ const char *const REPORT_SCRIPT[] = {
     "}\n",
     "addEventListener(\"DOMContentLoaded\", () => {\n",
     "pairs = [...document.querySelectorAll(\"details\")];\n",
+    "addEventListener(\"toggle\", bringMarks, true);\n",
     "addEventListener(\"hashchange\", goToHash);\n",
     "addEventListener(\"keydown\", onKey);\n",
     "addEventListener(\"beforeprint\", () => { if (pairs.length <= 50) pairs.forEach(pair => { pair.open = true; }); });\n",

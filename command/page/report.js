@@ -10,6 +10,14 @@ function go(to, open) {
   pairs[at].querySelector("summary").focus({ preventScroll: true });
 }
 
+// Of each text of a pair that is opened the first mark is brought into sight, with the lines before it.
+function bringMarks(event) {
+  for (const text of event.target.querySelectorAll(".two > div")) {
+    const mark = text.querySelector("mark, .at");
+    if (mark) text.scrollTop += mark.getBoundingClientRect().top - text.getBoundingClientRect().top - text.clientHeight / 3;
+  }
+}
+
 function goToHash() {
   const found = pairs.findIndex(pair => "#" + pair.id === location.hash);
   if (found >= 0) go(found, true);
@@ -28,6 +36,7 @@ function onKey(event) {
 
 addEventListener("DOMContentLoaded", () => {
   pairs = [...document.querySelectorAll("details")];
+  addEventListener("toggle", bringMarks, true);
   addEventListener("hashchange", goToHash);
   addEventListener("keydown", onKey);
   // On paper nothing can be opened: few pairs are printed whole, of many those that are open.

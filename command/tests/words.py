@@ -45,9 +45,9 @@ REFUSED_NOTES = [
     ([], b"a \xc3\n", "line 1, column 3: byte C3 " + DAMAGED),
     ([], b"a" * 1048577, "line 1, column 1: " + LONG),
     (["--keep"], b"\xb0" * 1100000, "line 1, column 1: " + LONG),
-    ([], b"x\n\nb\n" + b"a " * 524288 + b"\n", "line 3, column 1: " + LONG),
+    ([], b"x\n\nb\n" + b"a " * 524288 + b"\n", "line 4, column 1: " + LONG),  # the line, not the paragraph that it is in
     (["--keep"], b"\xb0\n" + b"a\n" * 524289, "line 2, column 1: " + LONG),
-    (["-s"], b"a\n" * 2000 + b"a " * 524289, "line 2000, column 1: " + LONG),  # where a paragraph ends is seen by the line after it, and that one has no end
+    (["-s"], b"a\n" * 2000 + b"a " * 524289, "line 2001, column 1: " + LONG),  # where a paragraph ends is seen by the line after it, and that one is the long one
 ]
 
 # calls that are wrong, and the words for it

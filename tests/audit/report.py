@@ -5,6 +5,7 @@ import pathlib
 import subprocess
 import sys
 import tempfile
+import time
 
 HERE = pathlib.Path(__file__).resolve().parent
 sys.path.insert(0, str(HERE.parent / "page"))
@@ -13,6 +14,7 @@ from browser import Browser, NotStarted, missing  # noqa: E402
 EVIL = b"<img src=x onerror=alert(1)> </mark></li><script>alert(2)</script> \"'><svg/onload=alert(3)> {{7*7}}\n\x1b[2J\x00 \xe2\x80\xae\xff\n"
 NAMES = {"2025-03-01": (b"a b\nc d\n", b"a b c d\n"), "2025-03-02": (b"one two\nthree\n", b"one two\n"), "2025-03-03": (b"x y\n", b"x y \n"),
          "2025-03-04<img src=x onerror=alert(4)>": (EVIL, b"</ol></div><script>alert(5)</script>\n"), "2025-04-30": (b"gone\n", None)}
+LONG = b"".join(b"line %d\n\n" % i for i in range(1, 201))
 tried = failed = 0
 
 
@@ -63,6 +65,24 @@ def drive(browser, page):
         expect(f"nothing runs out of the window at {width}", browser.run("return document.documentElement.scrollWidth <= innerWidth"), True)
 
 
+# Is the first mark of the notes in sight, in their box and in the window?
+IN_SIGHT = """
+const mark = document.querySelector('details[open] mark').getBoundingClientRect(), box = document.querySelector('details[open] .two > div').getBoundingClientRect();
+return mark.top >= box.top && mark.bottom <= box.bottom && mark.top >= 0 && mark.bottom <= innerHeight;
+"""
+
+
+def long_pair(browser, command, folder):
+    """Of long notes what is missing is seen when the pair is opened."""
+    (folder / "notes.txt").write_bytes(LONG + b"the end\n")
+    (folder / "digest.txt").write_bytes(LONG)
+    subprocess.run([command, "audit", "--html", folder / "long.html", folder / "notes.txt", folder / "digest.txt"], stdout=subprocess.DEVNULL)
+    for width, height, phone in (1920, 1080, False), (1280, 720, False), (390, 844, True):
+        browser.open(folder / "long.html", "#p1", width, height, phone)
+        time.sleep(0.2)
+        expect(f"what is missing is in sight at {width}", browser.run(IN_SIGHT), True)
+
+
 def main():
     if missing():
         print(f"report: {', '.join(missing())} not at hand")
@@ -75,6 +95,7 @@ def main():
     with tempfile.TemporaryDirectory() as name:
         try:
             drive(browser, make(sys.argv[1], pathlib.Path(name)))
+            long_pair(browser, sys.argv[1], pathlib.Path(name))
         finally:
             browser.close()
     print(f"report: {tried - failed} of {tried} as expected")
