@@ -165,7 +165,7 @@ fn are_feedless(s: &[u8], i: usize) -> bool
 fn ascii_body(s: &[u8]) -> usize
     ensures { λ r. ⌜ AsciiBody (now (s .entry)) 0 r ⌝ }
 {
-    let mut i = ascii_eights(s);
+    let mut i = ascii_eights(s, ascii_sixteens(s));
     while !ends_body(s, i) {
         if 0x80 <= s[i] {
             return i;
@@ -175,14 +175,14 @@ fn ascii_body(s: &[u8]) -> usize
     i
 }
 
-// Passes such bytes, eight at a time.
-fn ascii_eights(s: &[u8]) -> usize
+// Passes such bytes, sixteen at a time.
+fn ascii_sixteens(s: &[u8]) -> usize
     ensures { λ r. ⌜ AsciiBody (now (s .entry)) 0 r ⌝ }
 {
     let mut i = 0;
-    while 8 <= s.len() - i {
+    while 16 <= s.len() - i {
         if are_ascii(s, i) {
-            i += 8;
+            i += 16;
         } else {
             return i;
         }
@@ -190,12 +190,50 @@ fn ascii_eights(s: &[u8]) -> usize
     i
 }
 
-// Whether the eight bytes at a place are below 0x80 and no line feed.
+// Whether the sixteen bytes at a place are below 0x80 and no line feed: without a branch between them the compiler tests them as one.
 fn are_ascii(s: &[u8], i: usize) -> bool
-    requires { ⌜ (i ≤ length (now s)) × (8 ≤ length (now s) - i) ⌝ }
-    ensures { λ r. ⌜ (r ≡ true → AsciiBody (now (s .entry)) i (i + 8)) ⌝ }
+    requires { ⌜ (i ≤ length (now s)) × (16 ≤ length (now s) - i) ⌝ }
+    ensures { λ r. ⌜ (r ≡ true → AsciiBody (now (s .entry)) i (i + 16)) ⌝ }
 {
-    text::are_ascii(s, i) & are_feedless(s, i)
+    let mut all = true;
+    let mut k = 0;
+    while k < 16 {
+        let at = i + k;
+        all = all & (s[at] < 0x80) & (s[at] != 10);
+        k += 1;
+    }
+    all
+}
+
+// On over such bytes, eight at a time, up to one below 32 or the last eight.
+fn ascii_eights(s: &[u8], from: usize) -> usize
+    requires { ⌜ from ≤ length (now s) ⌝ }
+    ensures { λ r. ⌜ AsciiBody (now (s .entry)) from r ⌝ }
+{
+    let mut i = from;
+    while 8 <= s.len() - i {
+        let n = printable_among(s, i);
+        i += n;
+        if n < 8 {
+            return i;
+        }
+    }
+    i
+}
+
+// How many of the eight bytes at a place, from the first on, are from 32 to 127; none if one of the eight is above. With 96 added, each byte
+// from 32 on has its high bit set. Below the first high bit that is clear stand eight zeros for each byte before it.
+fn printable_among(s: &[u8], i: usize) -> usize
+    requires { ⌜ (i ≤ length (now s)) × (8 ≤ length (now s) - i) ⌝ }
+    ensures { λ r. ⌜ (r ≤ 8) × AsciiBody (now (s .entry)) i (i + r) ⌝ }
+{
+    let x = text::eight(s, i);
+    if x & 0x8080808080808080 != 0 {
+        return 0;
+    }
+    let clear = 0x8080808080808080 - ((x + 0x6060606060606060) & 0x8080808080808080);
+    let zeros = u64::trailing_zeros(clear);
+    (zeros / 8) as usize
 }
 
 // How long a line's body is without a carriage return at its end.

@@ -1,8 +1,10 @@
 -- Where each octet joins the three before it, no place is damaged: by the characters of a text, one after the other.
 use mathlib.Core.Path.{_≡_, refl, sym, ap, _∙_}
 use mathlib.Core.Bool.{Bool, true, false, not, _&&_, _||_, and-eq-true-iff, or-true}
+use mathlib.Core.Logic.{⊎-elim}
 use mathlib.Core.List.{List, [], _∷_}
 use Prim.Native.Nat.{ℕ, zero, suc, _+_, _-_, _*_, _/_, _%_, _≤_, _<_}
+use native.Mathlib.Nat.{eq-or-lt-of-le}
 use native.Mathlib.Omega.{arith}
 use lib.Dec.{ltb, leb, eqb}
 use lib.ListN.{length, getD, drop}
@@ -11,7 +13,7 @@ use Rattle.lists.proofs.Views.{drop-here, drop-none}
 use Rattle.text.specs.Rfc3629.{decode}
 use Rattle.text.specs.Characters.{damage}
 use Rattle.text.specs.Contracts.Places.{readAs}
-use Rattle.text.specs.Contracts.Joins.{asked, goesOn, joins, joinsAt, Joined, JoinedFrom}
+use Rattle.text.specs.Contracts.Joins.{asked, goesOn, joins, joinsAt, EachJoins, Joined, JoinedFrom}
 use Rattle.text.specs.declared.Found.the-variants.{Nowhere}
 use Rattle.text.specs.declared.Char.the-variants.{Good}
 use Rattle.text.proofs.Forms.{ascii, is-two, is-three, is-four}
@@ -205,3 +207,28 @@ joined-more s i h k e j =
 
 pub joined-end : (s : List ℕ) → (getD s (length s - 3) 0 < 0xF0) × (getD s (length s - 2) 0 < 0xE0) × (getD s (length s - 1) 0 < 0xC0) → JoinedFrom s (length s)
 joined-end s h = rw (drop-none 0 s (length s) (omega arith)) h
+
+-- where each octet from a place on joins, and none is missing at the end
+pub joined-each : (s : List ℕ) (n i : ℕ) → i + n ≡ length s → 3 ≤ i → EachJoins s i (length s) → JoinedFrom s (length s) → JoinedFrom s i
+joined-each s zero i e h all j = let q : length s ≡ i = omega arith in rw q at j
+joined-each s (suc n) i e h all j =
+    joined-more s i h (omega arith) (all .each i (omega arith) (omega arith))
+    (joined-each s n (i + 1) (omega arith) (omega arith) (record { each = λ k a b. all .each k (omega arith) b }) j)
+
+-- each octet of a stretch: of none, and one more
+pub each-none : (s : List ℕ) (from to : ℕ) → to ≤ from → EachJoins s from to
+each-none s from to h = record { each = λ k a b. absurd (omega arith) }
+
+pub each-same : {s : List ℕ} {from to : ℕ} (end : ℕ) → to ≡ end → EachJoins s from to → EachJoins s from end
+each-same end e all = rw (← e) all
+
+pub each-more : (s : List ℕ) (from to : ℕ) → EachJoins s from to → joinsAt s to ≡ true → EachJoins s from (to + 1)
+each-more s from to all e = record { each = λ k a b. ⊎-elim (λ (q : k ≡ to). rw q e) (λ (l : k < to). all .each k a l) (eq-or-lt-of-le (let g : k ≤ to = omega arith in g)) }
+
+-- stretches that touch or overlap
+pub each-both : {s : List ℕ} {from mid on to : ℕ} → on ≤ mid → EachJoins s from mid → EachJoins s on to → EachJoins s from to
+each-both {s} {from} {mid} {on} {to} h a b = record { each = λ k l m. pick k l m (ltb k mid) refl }
+  where
+    pick : (k : ℕ) → from ≤ k → k < to → (t : Bool) → ltb k mid ≡ t → joinsAt s k ≡ true
+    pick k l m true e = a .each k l (ltb-true k mid e)
+    pick k l m false e = let q = ltb-false k mid e in b .each k (omega arith) m

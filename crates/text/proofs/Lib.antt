@@ -9,6 +9,7 @@ pub mod Damage
 pub mod Joining
 pub mod Rows
 pub mod Asciis
+pub mod Eights
 mod Worked
 pub mod Extents
 pub mod Spelling

@@ -1,12 +1,13 @@
 // Characters: what is at a place of a line. RFC 3629 decides which bytes are characters.
 ghost use mathlib.Core.Path.{_≡_};
 ghost use mathlib.Core.Bool.{true, false, _&&_};
-ghost use Prim.Native.Nat.{_+_, _-_, _≤_, _<_};
+ghost use Prim.Native.Nat.{_+_, _-_, _*_, _^_, _≤_, _<_};
 ghost use lib.ListN.{length, getD, drop};
 ghost use Rattle.text.specs.Rfc3629.{decode};
 ghost use Rattle.text.specs.Characters.{glyph, characters, inkAhead, damage};
 ghost use Rattle.text.specs.Contracts.Places.{readAs, glyphOf, seenAs, letterAt, Ascii, noBreakAt, gluedExtent, RunOver};
-ghost use Rattle.text.specs.Contracts.Joins.{joins, joinsAt, Joined, JoinedFrom};
+ghost use Rattle.text.specs.Contracts.Eights.{asNumber, eightAt};
+ghost use Rattle.text.specs.Contracts.Joins.{joins, joinsAt, EachJoins, Joined, JoinedFrom};
 
 // A place, or none.
 pub enum Found {
@@ -48,7 +49,11 @@ pub fn decode_at(s: &[u8], at: usize) -> Char
     if a < 0xE0 {
         return two(s, at);
     }
-    long_at(s, at)
+    // Not by `long_at`: with one caller that is made part of the loop over words, which spares a call for each character.
+    if a < 0xF0 {
+        return three(s, at);
+    }
+    four(s, at)
 }
 
 // The longer forms. A byte that continues a character is 10xxxxxx: b / 64 is 2, and b % 64 has its free bits.
@@ -297,21 +302,68 @@ fn damage_among(s: &[u8]) -> Found
     Found::Nowhere
 }
 
-// Whether each byte joins the three before it, so that every character is whole: one test for all scripts, without a branch, which the
-// compiler makes for sixteen bytes at a time. A text of fewer than three bytes is not asked.
+// Whether each byte joins the three before it, so that every character is whole: one test for all scripts, without a branch. A text of fewer
+// than three bytes is not asked.
 fn are_joined(s: &[u8]) -> bool
     ensures { λ r. ⌜ (r ≡ true → Joined 0 0 0 (now (s .entry))) ⌝ }
 {
     if s.len() < 3 {
         return false;
     }
-    let mut all = begin_joined(s);
+    if !begin_joined(s) {
+        return false;
+    }
+    if !rest_joined(s) {
+        return false;
+    }
+    end_joined(s)
+}
+
+// The same of the bytes after the first three, sixteen at a time. The last sixteen may have been asked in part: that is quicker than one
+// by one.
+fn rest_joined(s: &[u8]) -> bool
+    requires { ⌜ 3 ≤ length (now s) ⌝ }
+    ensures { λ r. ⌜ (r ≡ true → EachJoins (now (s .entry)) 3 (length (now (s .entry)))) ⌝ }
+{
+    let mut i = 3;
+    while 16 <= s.len() - i {
+        if !sixteen_join(s, i) {
+            return false;
+        }
+        i += 16;
+    }
+    if s.len() < 19 {
+        return few_join(s);
+    }
+    sixteen_join(s, s.len() - 16)
+}
+
+// The sixteen bytes at a place, which the compiler tests as one.
+fn sixteen_join(s: &[u8], i: usize) -> bool
+    requires { ⌜ (3 ≤ i) × (i + 16 ≤ length (now s)) ⌝ }
+    ensures { λ r. ⌜ (r ≡ true → EachJoins (now (s .entry)) i (i + 16)) ⌝ }
+{
+    let mut all = true;
+    let mut k = 0;
+    while k < 16 {
+        all = all & joins_at(s, i + k);
+        k += 1;
+    }
+    all
+}
+
+// All after the first three, one by one.
+fn few_join(s: &[u8]) -> bool
+    requires { ⌜ 3 ≤ length (now s) ⌝ }
+    ensures { λ r. ⌜ (r ≡ true → EachJoins (now (s .entry)) 3 (length (now (s .entry)))) ⌝ }
+{
+    let mut all = true;
     let mut i = 3;
     while i < s.len() {
         all = all & joins_at(s, i);
         i += 1;
     }
-    all & end_joined(s)
+    all
 }
 
 // The first three bytes: nothing before them can ask for one of them.
@@ -393,7 +445,7 @@ fn ascii_eights(s: &[u8], from: usize) -> usize
 }
 
 // Whether the eight bytes at a place are below 0x80.
-pub fn are_ascii(s: &[u8], i: usize) -> bool
+fn are_ascii(s: &[u8], i: usize) -> bool
     requires { ⌜ (i ≤ length (now s)) × (8 ≤ length (now s) - i) ⌝ }
     ensures { λ r. ⌜ (r ≡ true → Ascii (now (s .entry)) i (i + 8)) ⌝ }
 {
@@ -412,4 +464,35 @@ pub fn are_ascii(s: &[u8], i: usize) -> bool
         & (s[f] < 0x80)
         & (s[g] < 0x80)
         & (s[h] < 0x80)
+}
+
+// The eight bytes at a place as one number, so that one sum tests them all.
+pub fn eight(s: &[u8], i: usize) -> u64
+    requires { ⌜ (i ≤ length (now s)) × (8 ≤ length (now s) - i) ⌝ }
+    ensures { λ r. ⌜ r ≡ asNumber (eightAt (now (s .entry)) i) ⌝ }
+{
+    let b = i + 1;
+    let c = i + 2;
+    let d = i + 3;
+    let e = i + 4;
+    let f = i + 5;
+    let g = i + 6;
+    let h = i + 7;
+    let x = with_digit(s[g], with_digit(s[h], 0));
+    let y = with_digit(s[d], with_digit(s[e], with_digit(s[f], x)));
+    with_digit(s[i], with_digit(s[b], with_digit(s[c], y)))
+}
+
+// A number with one digit more, its least: a byte.
+fn with_digit(b: u8, digits: u64) -> u64
+    requires { ⌜ digits < 2 ^ 56 ⌝ }
+    ensures { λ r. ⌜ (r ≡ b + 256 * digits) × (r < 256 * digits + 256) ⌝ }
+{
+    digit(b) + 256 * digits
+}
+
+fn digit(b: u8) -> u64
+    ensures { λ r. ⌜ (r ≡ b) × (r < 256) ⌝ }
+{
+    b as u64
 }

@@ -17,7 +17,7 @@ ghost use Rattle.records.specs.Contracts.Table.{Holds, wordsIn};
 ghost use Rattle.words.specs.Words.{hasTab, runs};
 ghost use Rattle.words.specs.Places.{placesFrom};
 ghost use Rattle.words.specs.Contracts.Places.{wordsAt, placesAt};
-ghost use Rattle.words.specs.Contracts.Scan.{glyphsBehind, gapIn, gapBehind, noBlanks, OverBlanks, punctCode, gluedBytes, OverInk, asNumber, eightAt, Plain, OverPlain, InkBegins, OneSpace, wordAt, mailAt, wordsFrom, NextIs};
+ghost use Rattle.words.specs.Contracts.Scan.{glyphsBehind, gapIn, gapBehind, noBlanks, OverBlanks, punctCode, gluedBytes, OverInk, Plain, OverPlain, InkBegins, OneSpace, wordAt, mailAt, wordsFrom, NextIs};
 ghost use Rattle.words.specs.Contracts.Split.{Kept, placesIn, WordsFilled, Split};
 ghost use Rattle.words.specs.Contracts.Taken.{TakenTo};
 ghost use Rattle.words.specs.Contracts.Spaced.{OverSpaces, SpacesBefore, plainInk, PlainWord, EndsAt, SpacedTo};
@@ -820,44 +820,13 @@ fn plain_among(s: &[u8], i: usize) -> usize
     requires { ⌜ (i ≤ length (now s)) × (8 ≤ length (now s) - i) ⌝ }
     ensures { λ r. ⌜ (r ≤ 8) × Plain (now (s .entry)) i (i + r) ⌝ }
 {
-    let x = eight(s, i);
+    let x = text::eight(s, i);
     if x & 0x8080808080808080 != 0 {
         return 0;
     }
     let clear = 0x8080808080808080 - ((x + 0x5F5F5F5F5F5F5F5F) & 0x8080808080808080);
     let zeros = u64::trailing_zeros(clear);
     (zeros / 8) as usize
-}
-
-// The eight bytes at a place as one number, so that one sum tests them all.
-fn eight(s: &[u8], i: usize) -> u64
-    requires { ⌜ (i ≤ length (now s)) × (8 ≤ length (now s) - i) ⌝ }
-    ensures { λ r. ⌜ r ≡ asNumber (eightAt (now (s .entry)) i) ⌝ }
-{
-    let b = i + 1;
-    let c = i + 2;
-    let d = i + 3;
-    let e = i + 4;
-    let f = i + 5;
-    let g = i + 6;
-    let h = i + 7;
-    let x = with_digit(s[g], with_digit(s[h], 0));
-    let y = with_digit(s[d], with_digit(s[e], with_digit(s[f], x)));
-    with_digit(s[i], with_digit(s[b], with_digit(s[c], y)))
-}
-
-// A number with one digit more, its least: a byte.
-fn with_digit(b: u8, digits: u64) -> u64
-    requires { ⌜ digits < 2 ^ 56 ⌝ }
-    ensures { λ r. ⌜ (r ≡ b + 256 * digits) × (r < 256 * digits + 256) ⌝ }
-{
-    digit(b) + 256 * digits
-}
-
-fn digit(b: u8) -> u64
-    ensures { λ r. ⌜ (r ≡ b) × (r < 256) ⌝ }
-{
-    b as u64
 }
 
 // In the original: `WordSplit::is_punctuation`.

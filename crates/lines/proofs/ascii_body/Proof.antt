@@ -15,11 +15,14 @@ Inv-loop s i₀ i = AsciiBody s 0 i
 abbrev μ-loop : tie.MeasureT-loop
 μ-loop s i₀ i = length s - i
 
+ascii-sixteens-requires : tie.Need-ascii-sixteens-requires Inv-loop μ-loop
+ascii-sixteens-requires c κs = search needs
+
 ascii-eights-requires : tie.Need-ascii-eights-requires Inv-loop μ-loop
-ascii-eights-requires c κs = search needs
+ascii-eights-requires c κs = c .ascii-sixteens .ensures .ascii .within
 
 loop-holds : tie.Need-loop-holds Inv-loop μ-loop
-loop-holds c = c .ascii-eights .ensures
+loop-holds c = run-more (c .before .ascii-sixteens .ensures) (c .ascii-eights .ensures)
 
 ends-body-requires : tie.Need-ends-body-requires Inv-loop μ-loop
 ends-body-requires c κs = search needs
@@ -50,6 +53,7 @@ ascii-body-spec =
     (tie.spec
     Inv-loop
     μ-loop
+    ascii-sixteens-requires
     ascii-eights-requires
     loop-holds
     ends-body-requires

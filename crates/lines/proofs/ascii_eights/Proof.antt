@@ -8,10 +8,10 @@ use Rattle.lines.proofs.ascii_eights.Statement.{statement}
 use Rattle.lines.proofs.ascii_eights.Tie as tie
 
 abbrev Inv-loop : tie.InvT-loop
-Inv-loop s i₀ i = AsciiBody s 0 i
+Inv-loop s from i₀ i = AsciiBody s from i
 
 abbrev μ-loop : tie.MeasureT-loop
-μ-loop s i₀ i = length s - i
+μ-loop s from i₀ i = length s - i
 
 loop-holds : tie.Need-loop-holds Inv-loop μ-loop
 loop-holds c = run-none (search needs)
@@ -19,20 +19,20 @@ loop-holds c = run-none (search needs)
 sub-loop : tie.Need-sub-loop Inv-loop μ-loop
 sub-loop c = search needs
 
-are-ascii-requires : tie.Need-are-ascii-requires Inv-loop μ-loop
-are-ascii-requires c κs = search needs
+printable-among-requires : tie.Need-printable-among-requires Inv-loop μ-loop
+printable-among-requires c κs = search needs
 
 add-i : tie.Need-add-i Inv-loop μ-loop
 add-i c = search needs
+
+returns : tie.Need-returns Inv-loop μ-loop
+returns c = run-more (c .before .before .before .loop .inv) (c .before .printable-among .ensures .1)
 
 loop-less : tie.Need-loop-less Inv-loop μ-loop
 loop-less c = search needs
 
 loop-again : tie.Need-loop-again Inv-loop μ-loop
-loop-again c = run-more (c .before .before .before .loop .inv) (c .before .are-ascii .ensures (c .if1 .taken))
-
-returns : tie.Need-returns Inv-loop μ-loop
-returns c = search needs
+loop-again c = run-more (c .before .before .before .loop .inv) (c .before .printable-among .ensures .1)
 
 returns-2 : tie.Need-returns-2 Inv-loop μ-loop
 returns-2 c = search needs
@@ -45,9 +45,9 @@ ascii-eights-spec =
     μ-loop
     loop-holds
     sub-loop
-    are-ascii-requires
+    printable-among-requires
     add-i
+    returns
     loop-less
     loop-again
-    returns
     returns-2)

@@ -1,72 +1,48 @@
--- `text::are_joined` meets its contract. Invariant: the text is joined if it is from the place reached on.
+-- `text::are_joined` meets its contract: the first three bytes, the others, and nothing missing at the end.
 use borrow.Author.Needs.{needs}
 use denote.Ref.{now}
 use mathlib.Core.Path.{_≡_, sym, _∙_}
-use mathlib.Core.Bool.{true, and-eq-true-iff}
-use Prim.Native.Nat.{ℕ, _≤_, _-_}
+use Prim.Native.Nat.{ℕ, _-_}
 use native.Mathlib.Omega.{arith}
 use lib.ListN.{length}
-use Rattle.text.specs.Contracts.Joins.{Joined, JoinedFrom}
-use Rattle.text.proofs.Joining.{joined-begin, joined-more}
+use borrow.Author.Tests.{not-false}
+use Rattle.text.proofs.Joining.{joined-begin, joined-each}
 use Rattle.text.proofs.are_joined.Statement.{statement}
 use Rattle.text.proofs.are_joined.Tie as tie
 
-abbrev Inv-loop : tie.InvT-loop
-Inv-loop s all₀ i₀ all i = (3 ≤ i) × (i ≤ length s) × (all ≡ true → JoinedFrom s i → Joined 0 0 0 s)
-
-abbrev μ-loop : tie.MeasureT-loop
-μ-loop s all₀ i₀ all i = length s - i
-
-returns : tie.Need-returns Inv-loop μ-loop
+returns : tie.Need-returns
 returns c = λ e. absurd (let z : _≡_ {A = ℕ} 0 1 = cc in omega arith)
 
-begin-joined-requires : tie.Need-begin-joined-requires Inv-loop μ-loop
+begin-joined-requires : tie.Need-begin-joined-requires
 begin-joined-requires c κs = search needs
 
-loop-holds : tie.Need-loop-holds Inv-loop μ-loop
-loop-holds c = (omega arith, c .before .if1 .left, λ e. joined-begin (now (c .before .before .before .args .s)) (c .before .if1 .left) (sym (c .begin-joined .ensures) ∙ e))
+returns-2 : tie.Need-returns-2
+returns-2 c = λ e. absurd (let z : _≡_ {A = ℕ} 0 1 = cc in omega arith)
 
-joins-at-requires : tie.Need-joins-at-requires Inv-loop μ-loop
-joins-at-requires c κs = (c .before .loop .inv .0, c .loop-test .taken)
+rest-joined-requires : tie.Need-rest-joined-requires
+rest-joined-requires c κs = search needs
 
-add-i : tie.Need-add-i Inv-loop μ-loop
-add-i c = search needs
+returns-3 : tie.Need-returns-3
+returns-3 c = λ e. absurd (let z : _≡_ {A = ℕ} 0 1 = cc in omega arith)
 
-loop-less : tie.Need-loop-less Inv-loop μ-loop
-loop-less c = omega (arith, c .before .loop-test .taken)
+end-joined-requires : tie.Need-end-joined-requires
+end-joined-requires c κs = search needs
 
-loop-again : tie.Need-loop-again Inv-loop μ-loop
-loop-again c =
-    let l = c .before .before .loop in (
-      omega (arith, l .inv .0),
-      omega (arith, c .before .loop-test .taken),
-      λ e j.
-          let t = and-eq-true-iff (l .all) (c .joins-at .result) .0 e in
-          l .inv .2 (t .0) (joined-more _ (l .i) (l .inv .0) (c .before .loop-test .taken) (sym (c .joins-at .ensures) ∙ t .1) j),
-    )
-
-end-joined-requires : tie.Need-end-joined-requires Inv-loop μ-loop
-end-joined-requires c κs = let i = c .before .loop .inv in omega (arith, i .0, i .1)
-
-returns-2 : tie.Need-returns-2 Inv-loop μ-loop
-returns-2 c = λ e.
-    let l = c .before .before .loop in
-    let t = and-eq-true-iff (l .all) (c .end-joined .result) .0 e in
-    let n : length (now (c .before .before .before .before .before .before .args .s)) ≡ l .i = omega (arith, l .inv .1, c .before .loop-test .left) in
-    l .inv .2 (t .0) (rw n at (c .end-joined .ensures (t .1)))
+returns-4 : tie.Need-returns-4
+returns-4 c = λ e.
+    let h = c .before .before .before .before .before .if1 .left in
+    let n = length (now (c .before .before .before .before .before .before .before .args .s)) - 3 in
+    joined-begin (now (c .before .before .before .before .before .before .before .args .s)) h (sym (c .before .before .before .before .begin-joined .ensures) ∙ not-false _ (c .before .before .before .if2 .left))
+    (joined-each (now (c .before .before .before .before .before .before .before .args .s)) n 3 (omega (arith, h)) (omega arith) (c .before .before .rest-joined .ensures (not-false _ (c .before .if3 .left))) (c .end-joined .ensures e))
 
 pub are-joined-spec : {M : Type 1} → statement M
 are-joined-spec =
     tie.close
     (tie.spec
-    Inv-loop
-    μ-loop
     returns
     begin-joined-requires
-    loop-holds
-    joins-at-requires
-    add-i
-    loop-less
-    loop-again
+    returns-2
+    rest-joined-requires
+    returns-3
     end-joined-requires
-    returns-2)
+    returns-4)

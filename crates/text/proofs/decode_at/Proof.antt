@@ -30,11 +30,17 @@ two-requires c κs = search needs
 returns-4 : tie.Need-returns-4
 returns-4 c = search needs
 
-long-at-requires : tie.Need-long-at-requires
-long-at-requires c κs = search needs
+three-requires : tie.Need-three-requires
+three-requires c κs = search needs
 
 returns-5 : tie.Need-returns-5
 returns-5 c = search needs
+
+four-requires : tie.Need-four-requires
+four-requires c κs = search needs
+
+returns-6 : tie.Need-returns-6
+returns-6 c = search needs
 
 pub decode-at-spec : {M : Type 1} → statement M
 decode-at-spec =
@@ -48,5 +54,7 @@ decode-at-spec =
     returns-3
     two-requires
     returns-4
-    long-at-requires
-    returns-5)
+    three-requires
+    returns-5
+    four-requires
+    returns-6)

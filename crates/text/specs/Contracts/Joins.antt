@@ -2,7 +2,7 @@
 use mathlib.Core.Path.{_≡_}
 use mathlib.Core.Bool.{Bool, true, not, _&&_, _||_}
 use mathlib.Core.List.{List, [], _∷_}
-use Prim.Native.Nat.{ℕ, _-_, _/_, _<_}
+use Prim.Native.Nat.{ℕ, _-_, _/_, _≤_, _<_}
 use lib.Dec.{ltb, leb, eqb}
 use lib.ListN.{getD, drop}
 
@@ -34,6 +34,10 @@ Joined p q r (b ∷ bs) = (joins p q r b ≡ true) × Joined q r b bs
 -- at a place of a text, and from a place on
 abbrev pub joinsAt : List ℕ → ℕ → Bool
 joinsAt s i = joins (getD s (i - 3) 0) (getD s (i - 2) 0) (getD s (i - 1) 0) (getD s i 0)
+
+-- at each place from one up to another
+pub record EachJoins (s : List ℕ) (from to : ℕ) : Type 0 where
+  pub each : (k : ℕ) → from ≤ k → k < to → joinsAt s k ≡ true
 
 abbrev pub JoinedFrom : List ℕ → ℕ → Type 0
 JoinedFrom s i = Joined (getD s (i - 3) 0) (getD s (i - 2) 0) (getD s (i - 1) 0) (drop i s)

@@ -3,7 +3,8 @@ use Prim.Native.Nat.{_+_}
 use native.Mathlib.Omega.{arith}
 use denote.Ref.{now}
 use lib.Bits.{and-le-r}
-use Rattle.words.proofs.Eights.{clearOf, none-plain, zeros-few, sum-fits, plain-count}
+use Rattle.text.proofs.Eights.{clearOf, zeros-few}
+use Rattle.words.proofs.Eights.{none-plain, sum-fits, plain-count}
 use borrow.Author.Needs.{needs}
 use Rattle.words.proofs.plain_among.Statement.{statement}
 use Rattle.words.proofs.plain_among.Tie as tie
@@ -21,10 +22,10 @@ sub-clear : tie.Need-sub-clear
 sub-clear c = and-le-r (c .before .eight .result + 0x5F5F5F5F5F5F5F5F) 0x8080808080808080
 
 cast-result : tie.Need-cast-result
-cast-result c = record { fits = let h = zeros-few (clearOf (c .before .eight .result)) in omega arith }
+cast-result c = record { fits = let h = zeros-few (clearOf 0x5F5F5F5F5F5F5F5F (c .before .eight .result)) in omega arith }
 
 returns-2 : tie.Need-returns-2
-returns-2 c = (zeros-few (clearOf (c .before .eight .result)), plain-count (now (c .before .before .before .args .s)) (c .before .before .before .args .i) (λ k. omega (arith, c .before .before .shared-slice-known .given k)) (c .before .eight .result) (c .before .eight .ensures) (c .if1 .left) (search needs))
+returns-2 c = (zeros-few (clearOf 0x5F5F5F5F5F5F5F5F (c .before .eight .result)), plain-count (now (c .before .before .before .args .s)) (c .before .before .before .args .i) (λ k. omega (arith, c .before .before .shared-slice-known .given k)) (c .before .eight .result) (c .before .eight .ensures) (c .if1 .left) (search needs))
 
 pub plain-among-spec : {M : Type 1} → statement M
 plain-among-spec =

@@ -62,16 +62,6 @@ pub record OverInk (glue : Bool) (s : List ℕ) (at : ℕ) (r : Ink) : Type 0 wh
   pub within : r .end ≤ length s
   pub narrow : r .width ≤ r .end
 
--- bytes as one number, the first its least digit
-unfoldable pub asNumber : List ℕ → ℕ
-asNumber [] = 0
-asNumber (b ∷ bs) = b + 256 * asNumber bs
-
--- the eight bytes at a place
-abbrev pub eightAt : List ℕ → ℕ → List ℕ
-eightAt s i =
-    getD s i 0 ∷ getD s (i + 1) 0 ∷ getD s (i + 2) 0 ∷ getD s (i + 3) 0 ∷ getD s (i + 4) 0 ∷ getD s (i + 5) 0 ∷ getD s (i + 6) 0 ∷ getD s (i + 7) 0 ∷ []
-
 -- plain characters, ASCII from `!` on, stand from a place up to another
 pub record Plain (s : List ℕ) (from to : ℕ) : Type 0 where
   pub on : from ≤ to

@@ -1,8 +1,8 @@
--- `words::eight` meets its contract: byte before byte.
+-- `text::eight` meets its contract: byte before byte.
 use borrow.Author.Needs.{needs}
-use Rattle.words.specs.Contracts.Scan.{asNumber}
-use Rattle.words.proofs.eight.Statement.{statement}
-use Rattle.words.proofs.eight.Tie as tie
+use Rattle.text.specs.Contracts.Eights.{asNumber}
+use Rattle.text.proofs.eight.Statement.{statement}
+use Rattle.text.proofs.eight.Tie as tie
 
 add-b : tie.Need-add-b
 add-b c = search needs
