@@ -73,10 +73,10 @@ returns-2 c =
     let at-count-lines = at-mark .before .before .before in
     let at-if1 = at-count-lines .before .before in
     record {
-  stays = λ f. absurd (omega (arith, f, at-if1 .if1 .left));
-  moves = λ _. rw (at-count-lines .count-lines .ensures .0);
-  marked = λ _. at-mark2 .mark2 .ensures ∙ rw (at-mark .mark .ensures, at-count-lines .count-lines .ensures .0);
-}
+      stays = λ f. absurd (omega (arith, f, at-if1 .if1 .left));
+      moves = λ _. rw (at-count-lines .count-lines .ensures .0);
+      marked = λ _. at-mark2 .mark2 .ensures ∙ rw (at-mark .mark .ensures, at-count-lines .count-lines .ensures .0);
+    }
 
 pub spell-spec : {M : Type 1} → statement M
 spell-spec =
