@@ -26,14 +26,13 @@ ghost use Rattle.output.specs.Contracts.Sink.{Wrote};
 ghost use Rattle.output.specs.Contracts.Writers.{marginOf, MarginIn, Laid};
 ghost use Rattle.paragraphs.specs.Contracts.Steps.{roomFor, settingFor, Placed};
 ghost use Rattle.unflow.specs.Flowed.{stuffing, isDashes};
-ghost use Rattle.pieces.specs.Pieces.{pieces};
 ghost use Rattle.walk.specs.Work.{workFor};
 ghost use Rattle.formatter.specs.Format.{ownRoom};
 ghost use Rattle.formatter.specs.Work.{lending};
-ghost use Rattle.flow.specs.Flow.{plainSent, trimmed, sent, flowed, dashesIn};
-ghost use Rattle.flow.specs.Answers.{flagsOf, sentIn, flow as flowOf, dashesOf};
+ghost use Rattle.flow.specs.Flow.{plainSent, trimmed, sent};
+ghost use Rattle.flow.specs.Answers.{flagsOf};
 ghost use Rattle.flow.specs.Contracts.Words.{lineEnd};
-ghost use Rattle.flow.specs.Contracts.Sending.{switched, Ready, refusedFor, shaped, Opens, Turned, RestSent, ParagraphSent, TextStepped, CursorIn, PieceStepped, Finished, Sends, leftOf, ifDone, leftDashes};
+ghost use Rattle.flow.specs.Contracts.Sending.{switched, Ready, refusedFor, shaped, Opens, Turned, RestSent, ParagraphSent, TextStepped, CursorIn, PieceStepped, Finished, Flows, FlowsLeft, FlowsAll};
 
 // What the writer answers: the reply of a writing call, and the count of lines `--`.
 pub struct Outcome {
@@ -76,7 +75,7 @@ struct Turn {
 
 // Writes the notes as mail. A block that the writer does not take is refused before the notes are looked at.
 pub fn flow(block: &[u8], notes: &[u8], out: &mut [u8]) -> Outcome
-    ensures { λ r. ⌜ Sends (flowOf ownRoom (now (block .entry)) (now (notes .entry)) (length (now (out .entry)))) (dashesOf ownRoom (now (block .entry)) (now (notes .entry)) (length (now (out .entry)))) (now (out .entry)) r (now (out .exit)) ⌝ }
+    ensures { λ r. ⌜ Flows ownRoom (now (block .entry)) (now (notes .entry)) (now (out .entry)) r (now (out .exit)) ⌝ }
 {
     if is_unfit(block) {
         return Outcome {
@@ -95,7 +94,7 @@ pub fn flow(block: &[u8], notes: &[u8], out: &mut [u8]) -> Outcome
 
 // The same with working room that is lent.
 pub fn flow_lent(block: &[u8], notes: &[u8], out: &mut [u8], work: &mut [u32]) -> Outcome
-    ensures { λ r. ⌜ Sends (flowOf (lending (length (now (work .entry)))) (now (block .entry)) (now (notes .entry)) (length (now (out .entry)))) (dashesOf (lending (length (now (work .entry)))) (now (block .entry)) (now (notes .entry)) (length (now (out .entry)))) (now (out .entry)) r (now (out .exit)) ⌝ }
+    ensures { λ r. ⌜ Flows (lending (length (now (work .entry)))) (now (block .entry)) (now (notes .entry)) (now (out .entry)) r (now (out .exit)) ⌝ }
 {
     if is_unfit(block) {
         return Outcome {
@@ -188,7 +187,7 @@ const QUICK_MOST: usize = 7168;
 // Writes what fits of the notes, and counts what is needed.
 fn send_notes(o: Options, block: &[u8], notes: &[u8], out: &mut [u8]) -> Outcome
     requires { ⌜ Ready (now block) (now notes) o ⌝ }
-    ensures { λ r. ⌜ Sends (leftOf ownRoom (meant (now (block .entry)) o) (now (notes .entry)) (length (now (out .entry)))) (leftDashes ownRoom (meant (now (block .entry)) o) (now (notes .entry)) (length (now (out .entry)))) (now (out .entry)) r (now (out .exit)) ⌝ }
+    ensures { λ r. ⌜ FlowsLeft ownRoom (meant (now (block .entry)) o) (now (notes .entry)) (now (out .entry)) r (now (out .exit)) ⌝ }
 {
     let mut work = [0u32; QUICK_MOST];
     match send_pieces(o, block, notes, out, &mut work) {
@@ -218,7 +217,7 @@ fn send_notes(o: Options, block: &[u8], notes: &[u8], out: &mut [u8]) -> Outcome
 // The same with lent room. The need is counted before a byte is written.
 fn send_large(o: Options, block: &[u8], notes: &[u8], out: &mut [u8], work: &mut [u32]) -> Outcome
     requires { ⌜ Ready (now block) (now notes) o ⌝ }
-    ensures { λ r. ⌜ Sends (leftOf (lending (length (now (work .entry)))) (meant (now (block .entry)) o) (now (notes .entry)) (length (now (out .entry)))) (leftDashes (lending (length (now (work .entry)))) (meant (now (block .entry)) o) (now (notes .entry)) (length (now (out .entry)))) (now (out .entry)) r (now (out .exit)) ⌝ }
+    ensures { λ r. ⌜ FlowsLeft (lending (length (now (work .entry)))) (meant (now (block .entry)) o) (now (notes .entry)) (now (out .entry)) r (now (out .exit)) ⌝ }
 {
     let lends = work.len();
     let needed = walk::work_with(o, block, notes, lends);
@@ -237,7 +236,7 @@ const MOST_TOLD: usize = 4294967295;
 // With room for every paragraph.
 fn send_enough(o: Options, block: &[u8], notes: &[u8], out: &mut [u8], work: &mut [u32]) -> Outcome
     requires { ⌜ Ready (now block) (now notes) o × (workFor (meant (now block) o) (now notes) ≤ length (now work)) ⌝ }
-    ensures { λ r. ⌜ Sends (sentIn (lending (length (now (work .entry))) .words) (length (now (out .entry))) (flowed (meant (now (block .entry)) o) (now (notes .entry)))) (ifDone (sentIn (lending (length (now (work .entry))) .words) (length (now (out .entry))) (flowed (meant (now (block .entry)) o) (now (notes .entry)))) (dashesIn (meant (now (block .entry)) o) (pieces (meant (now (block .entry)) o) (now (notes .entry))))) (now (out .entry)) r (now (out .exit)) ⌝ }
+    ensures { λ r. ⌜ FlowsAll (lending (length (now (work .entry)))) (meant (now (block .entry)) o) (now (notes .entry)) (now (out .entry)) r (now (out .exit)) ⌝ }
 {
     match send_pieces(o, block, notes, out, work) {
         // There is room for every paragraph, so the work does not stop.

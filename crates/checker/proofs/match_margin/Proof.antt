@@ -23,13 +23,23 @@ enum-known-q : tie.Need-enum-known-q
 enum-known-q c = search needs
 
 match-spaces-requires : tie.Need-match-spaces-requires
-match-spaces-requires c κs = (c .before .before .before .before .before .before .before .pre .0 .more, on-in (c .before .before .before .match-text .ensures) (c .before .q .given .1))
+match-spaces-requires c κs =
+    let at-match-text = c .before .before .before in
+    let at-pre = at-match-text .before .before .before .before in
+    (at-pre .pre .0 .more, on-in (at-match-text .match-text .ensures) (c .before .q .given .1))
 
 returns : tie.Need-returns
-returns c = append-fault _ _ _ (c .before .before .before .before .before .before .before .args .p) (part-text _ _ _ _ (c .before .before .before .before .before .before .before .args .p) (c .before .before .before .before .before .before .before .pre .0 .order) (c .before .before .before .match-text .ensures)) (c .before .line .given .1)
+returns c =
+    let at-match-text = c .before .before .before in
+    let at-args = at-match-text .before .before .before .before in
+    append-fault _ _ _ (at-args .args .p) (part-text _ _ _ _ (at-args .args .p) (at-args .pre .0 .order) (at-match-text .match-text .ensures)) (c .before .line .given .1)
 
 returns-2 : tie.Need-returns-2
-returns-2 c = append-on _ _ _ (c .before .before .before .before .before .before .before .before .args .p) (part-text _ _ _ _ (c .before .before .before .before .before .before .before .before .args .p) (c .before .before .before .before .before .before .before .before .pre .0 .order) (c .before .before .before .before .match-text .ensures)) (c .before .before .q .given .1) (c .match-spaces .ensures)
+returns-2 c =
+    let at-q = c .before .before in
+    let at-match-text = at-q .before .before in
+    let at-args = at-match-text .before .before .before .before in
+    append-on _ _ _ (at-args .args .p) (part-text _ _ _ _ (at-args .args .p) (at-args .pre .0 .order) (at-match-text .match-text .ensures)) (at-q .q .given .1) (c .match-spaces .ensures)
 
 pub match-margin-spec : {M : Type 1} → statement M
 match-margin-spec =

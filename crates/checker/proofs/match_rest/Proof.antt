@@ -14,28 +14,45 @@ abbrev μ-loop : tie.MeasureT-loop
 μ-loop notes table n indent glue digest from i₀ p i = n - i
 
 loop-holds : tie.Need-loop-holds Inv-loop μ-loop
-loop-holds c = rest-first _ _ _ _ _ _ _ (c .before .before .before .pre .1) (c .before .before .before .pre .0 .some)
+loop-holds c =
+    let at-pre = c .before .before .before in
+    rest-first _ _ _ _ _ _ _ (at-pre .pre .1) (at-pre .pre .0 .some)
 
 get-requires : tie.Need-get-requires Inv-loop μ-loop
 get-requires c κs = let p = c .before .before .before .before .before .pre .0 .held in omega arith
 
 sub-match-next : tie.Need-sub-match-next Inv-loop μ-loop
-sub-match-next c = let w = word-within (c .before .before .before .before .before .before .pre .0 .words) (c .get .ensures) (c .before .loop-test .taken) in omega (arith, w .text)
+sub-match-next c =
+    let at-pre = c .before .before .before .before .before .before in
+    let w = word-within (at-pre .pre .0 .words) (c .get .ensures) (c .before .loop-test .taken) in omega (arith, w .text)
 
 part-match-next-start : tie.Need-part-match-next-start Inv-loop μ-loop
-part-match-next-start c = let w = word-within (c .before .before .before .before .before .before .pre .0 .words) (c .get .ensures) (c .before .loop-test .taken) in omega (arith, w .text, w .end)
+part-match-next-start c =
+    let at-pre = c .before .before .before .before .before .before in
+    let w = word-within (at-pre .pre .0 .words) (c .get .ensures) (c .before .loop-test .taken) in omega (arith, w .text, w .end)
 
 part-match-next-end : tie.Need-part-match-next-end Inv-loop μ-loop
-part-match-next-end c = let w = word-within (c .before .before .before .before .before .before .pre .0 .words) (c .get .ensures) (c .before .loop-test .taken) in omega (arith, w .text, w .end)
+part-match-next-end c =
+    let at-pre = c .before .before .before .before .before .before in
+    let w = word-within (at-pre .pre .0 .words) (c .get .ensures) (c .before .loop-test .taken) in omega (arith, w .text, w .end)
 
 match-next-requires : tie.Need-match-next-requires Inv-loop μ-loop
-match-next-requires c κs = (c .before .before .before .before .before .before .before .pre .0 .fits, c .before .before .before .loop .inv .inside)
+match-next-requires c κs =
+    let at-loop = c .before .before .before in
+    let at-pre = at-loop .before .before .before .before in
+    (at-pre .pre .0 .fits, at-loop .loop .inv .inside)
 
 enum-known-line : tie.Need-enum-known-line Inv-loop μ-loop
 enum-known-line c = search needs
 
 returns : tie.Need-returns Inv-loop μ-loop
-returns c = let w = word-within (c .before .before .before .before .before .before .before .before .before .before .before .pre .0 .words) (c .before .before .before .before .before .get .ensures) (c .before .before .before .before .before .before .loop-test .taken) in rest-fault _ _ _ _ _ _ _ _ _ (c .before .before .before .before .before .before .before .loop .inv) _ (c .before .before .before .before .before .get .ensures) (c .before .before .before .before .before .before .loop-test .taken) (w .text) (c .before .before .before .match-next .ensures) (c .before .line .given .1)
+returns c =
+    let at-match-next = c .before .before .before in
+    let at-get = at-match-next .before .before in
+    let at-loop-test = at-get .before in
+    let at-loop = at-loop-test .before in
+    let at-pre = at-loop .before .before .before .before in
+    let w = word-within (at-pre .pre .0 .words) (at-get .get .ensures) (at-loop-test .loop-test .taken) in rest-fault _ _ _ _ _ _ _ _ _ (at-loop .loop .inv) _ (at-get .get .ensures) (at-loop-test .loop-test .taken) (w .text) (at-match-next .match-next .ensures) (c .before .line .given .1)
 
 enum-known-q : tie.Need-enum-known-q Inv-loop μ-loop
 enum-known-q c = search needs
@@ -44,10 +61,18 @@ add-i : tie.Need-add-i Inv-loop μ-loop
 add-i c = search needs
 
 loop-less : tie.Need-loop-less Inv-loop μ-loop
-loop-less c = let t = c .before .before .before .before .before .before .loop-test .taken in omega arith
+loop-less c =
+    let at-loop-test = c .before .before .before .before .before .before in
+    let t = at-loop-test .loop-test .taken in omega arith
 
 loop-again : tie.Need-loop-again Inv-loop μ-loop
-loop-again c = let w = word-within (c .before .before .before .before .before .before .before .before .before .before .before .pre .0 .words) (c .before .before .before .before .before .get .ensures) (c .before .before .before .before .before .before .loop-test .taken) in rest-more _ _ _ _ _ _ _ _ _ (c .before .before .before .before .before .before .before .loop .inv) _ (c .before .before .before .before .before .get .ensures) (c .before .before .before .before .before .before .loop-test .taken) (w .text) (c .before .before .before .match-next .ensures) (c .before .q .given .1)
+loop-again c =
+    let at-match-next = c .before .before .before in
+    let at-get = at-match-next .before .before in
+    let at-loop-test = at-get .before in
+    let at-loop = at-loop-test .before in
+    let at-pre = at-loop .before .before .before .before in
+    let w = word-within (at-pre .pre .0 .words) (at-get .get .ensures) (at-loop-test .loop-test .taken) in rest-more _ _ _ _ _ _ _ _ _ (at-loop .loop .inv) _ (at-get .get .ensures) (at-loop-test .loop-test .taken) (w .text) (at-match-next .match-next .ensures) (c .before .q .given .1)
 
 match-feed-requires : tie.Need-match-feed-requires Inv-loop μ-loop
 match-feed-requires c κs = c .before .loop .inv .inside

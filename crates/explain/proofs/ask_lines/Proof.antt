@@ -15,7 +15,10 @@ mark-breaks-requires : tie.Need-mark-breaks-requires
 mark-breaks-requires c κs = c .before .before .pre
 
 find-line-requires : tie.Need-find-line-requires
-find-line-requires c κs = let p = c .before .before .before .before .before .before .pre in (p .1, omega (arith, p .3 .held, c .before .before .before .mark-breaks .ensures .sized))
+find-line-requires c κs =
+    let at-mark-breaks = c .before .before .before in
+    let at-pre = at-mark-breaks .before .before .before in
+    let p = at-pre .pre in (p .1, omega (arith, p .3 .held, at-mark-breaks .mark-breaks .ensures .sized))
 
 enum-told : tie.Need-enum-told
 enum-told c = search needs
@@ -28,10 +31,14 @@ enum-known-e c = search needs
 
 ending-before-requires : tie.Need-ending-before-requires
 ending-before-requires c κs =
-    let p = c .before .before .before .before .before .before .before .before .before .before .before .pre in
-    let a = c .before .before .before .before .before .before .before .before .before .before .before .args in
-    let b = c .before .before .before .before .before .before .before .before .mark-breaks .ensures in
-    let h = sym (c .before .before .e .given .1) ∙ c .before .before .before .before .find-line .ensures in (
+    let at-e = c .before .before in
+    let at-find-line = at-e .before .before in
+    let at-mark-breaks = at-find-line .before .before .before .before in
+    let at-pre = at-mark-breaks .before .before .before in
+    let p = at-pre .pre in
+    let a = at-pre .args in
+    let b = at-mark-breaks .mark-breaks .ensures in
+    let h = sym (at-e .e .given .1) ∙ at-find-line .find-line .ensures in (
       p .0,
       p .1,
       p .2,
@@ -45,22 +52,35 @@ same-length : tie.Need-same-length
 same-length c = search needs
 
 returns : tie.Need-returns
-returns c = let a = c .before .before .before .before .before .before .before .before .before .args in λ notes. asked-last (a .fast) (a .g) (a .line) (wordsIn notes (a .n) (a .work .now)) _ (c .before .before .before .before .before .before .mark-breaks .ensures .breaks notes) (sym (c .enum-told .given .1) ∙ c .before .before .find-line .ensures)
+returns c =
+    let at-find-line = c .before .before in
+    let at-mark-breaks = at-find-line .before .before .before .before in
+    let at-args = at-mark-breaks .before .before .before in
+    let a = at-args .args in λ notes. asked-last (a .fast) (a .g) (a .line) (wordsIn notes (a .n) (a .work .now)) _ (at-mark-breaks .mark-breaks .ensures .breaks notes) (sym (c .enum-told .given .1) ∙ at-find-line .find-line .ensures)
 
 same-length-2 : tie.Need-same-length-2
 same-length-2 c = search needs
 
 returns-2 : tie.Need-returns-2
-returns-2 c = let a = c .before .before .before .before .before .before .before .before .before .before .args in λ notes. asked-behind (a .fast) (a .g) (a .line) (wordsIn notes (a .n) (a .work .now)) _ (c .before .before .before .before .before .before .before .mark-breaks .ensures .breaks notes) _ (sym (c .before .rest .given .1) ∙ c .before .before .before .find-line .ensures)
+returns-2 c =
+    let at-find-line = c .before .before .before in
+    let at-mark-breaks = at-find-line .before .before .before .before in
+    let at-args = at-mark-breaks .before .before .before in
+    let a = at-args .args in λ notes. asked-behind (a .fast) (a .g) (a .line) (wordsIn notes (a .n) (a .work .now)) _ (at-mark-breaks .mark-breaks .ensures .breaks notes) _ (sym (c .before .rest .given .1) ∙ at-find-line .find-line .ensures)
 
 same-length-3 : tie.Need-same-length-3
 same-length-3 c = search needs
 
 returns-3 : tie.Need-returns-3
 returns-3 c =
-    let a = c .before .before .before .before .before .before .before .before .before .before .before .before .before .before .args in
-    let b = c .before .before .before .before .before .before .before .before .before .before .before .mark-breaks .ensures in
-    λ notes. asked-before (a .fast) (a .g) (a .line) (wordsIn notes (a .n) (a .work .now)) _ (b .breaks notes) _ _ (sym (c .before .before .before .before .before .e .given .1) ∙ c .before .before .before .before .before .before .before .find-line .ensures) (rw (words-same notes _ _ _ (b .words)) at (c .before .before .ending-before .ensures notes))
+    let at-ending-before = c .before .before in
+    let at-e = at-ending-before .before .before .before in
+    let at-find-line = at-e .before .before in
+    let at-mark-breaks = at-find-line .before .before .before .before in
+    let at-args = at-mark-breaks .before .before .before in
+    let a = at-args .args in
+    let b = at-mark-breaks .mark-breaks .ensures in
+    λ notes. asked-before (a .fast) (a .g) (a .line) (wordsIn notes (a .n) (a .work .now)) _ (b .breaks notes) _ _ (sym (at-e .e .given .1) ∙ at-find-line .find-line .ensures) (rw (words-same notes _ _ _ (b .words)) at (at-ending-before .ending-before .ensures notes))
 
 pub ask-lines-spec : {M : Type 1} → statement M
 ask-lines-spec =

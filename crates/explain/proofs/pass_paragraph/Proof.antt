@@ -25,7 +25,10 @@ same-length : tie.Need-same-length
 same-length c = search needs
 
 returns : tie.Need-returns
-returns c = λ block. rw (← c .before .before .before .before .before .before .room-for .ensures) (split-many (c .before .before .before .before .split-words .ensures block) (c .enum-told .given .1))
+returns c =
+    let at-split-words = c .before .before .before .before in
+    let at-room-for = at-split-words .before .before in
+    λ block. rw (← at-room-for .room-for .ensures) (split-many (at-split-words .split-words .ensures block) (c .enum-told .given .1))
 
 enum-known-asked : tie.Need-enum-known-asked
 enum-known-asked c = search needs
@@ -37,9 +40,13 @@ same-length-2 : tie.Need-same-length-2
 same-length-2 c = search needs
 
 returns-2 : tie.Need-returns-2
-returns-2 c = λ block.
+returns-2 c =
+    let at-n = c .before .before .before in
+    let at-split-words = at-n .before .before .before .before in
+    let at-room-for = at-split-words .before .before in
+    λ block.
     record {
-      few = omega (arith, split-few (c .before .before .before .before .before .before .before .split-words .ensures block) _ (c .before .before .before .n .given .1) .1, c .before .before .before .before .before .before .before .before .before .room-for .ensures);
+      few = omega (arith, split-few (at-split-words .split-words .ensures block) _ (at-n .n .given .1) .1, at-room-for .room-for .ensures);
       next = refl;
       mail = refl;
       asked = rw (c .enum-told2 .given .1) (passed-told _ _);
@@ -50,15 +57,20 @@ setting-of-requires c κs = search needs
 
 ask-lines-requires : tie.Need-ask-lines-requires
 ask-lines-requires c κs =
-    let p = c .before .before .before .before .before .before .before .before .before .before .before .before .before .before .before .before .before .pre in
-    let s = c .before .before .before .before .before .before .before .before .before .before .before .before .split-words .ensures (p .block) in
-    let w = c .before .before .before .before .before .before .before .before .n .given .1 in
+    let at-n = c .before .before .before .before .before .before .before .before in
+    let at-work = at-n .before .before .before in
+    let at-split-words = at-work .before in
+    let at-room-for = at-split-words .before .before in
+    let at-pre = at-room-for .before .before .before in
+    let p = at-pre .pre in
+    let s = at-split-words .split-words .ensures (p .block) in
+    let w = at-n .n .given .1 in
     let n = split-few s _ w in
     let k = s .kept _ w in (
       rw (c .before .setting-of .ensures (p .block)) (limits-of _ _ _ _ p (p .block)),
       omega (arith, n .0, p .some),
       omega (arith, n .0, p .few, p .short),
-      roomy (c .before .before .before .before .before .before .before .before .before .before .before .before .before .before .before .before .before .args .o .quick) (c .before .before .before .before .before .before .before .before .before .before .before .before .before .before .before .before .before .args .p .mail) (c .before .before .before .before .before .before .before .before .before .before .before .work .given) (c .before .before .before .before .before .before .before .before .before .before .before .before .before .before .room-for .ensures) (k .few) refl,
+      roomy (at-pre .args .o .quick) (at-pre .args .p .mail) (at-work .work .given) (at-room-for .room-for .ensures) (k .few) refl,
       split-narrow s _ w (p .short),
     )
 
@@ -66,14 +78,22 @@ same-length-3 : tie.Need-same-length-3
 same-length-3 c = search needs
 
 returns-3 : tie.Need-returns-3
-returns-3 c = λ block.
-    let s = c .before .before .before .before .before .before .before .before .before .before .before .before .before .before .before .split-words .ensures block in
-    let w = c .before .before .before .before .before .before .before .before .before .before .before .n .given .1 in
+returns-3 c =
+    let at-ask-lines = c .before .before in
+    let at-setting-of = at-ask-lines .before .before in
+    let at-asked = at-setting-of .before .before .before .before in
+    let at-n = at-asked .before .before .before in
+    let at-split-words = at-n .before .before .before .before in
+    let at-room-for = at-split-words .before .before in
+    let at-args = at-room-for .before .before .before in
+    λ block.
+    let s = at-split-words .split-words .ensures block in
+    let w = at-n .n .given .1 in
     record {
-      few = omega (arith, split-few s _ w .1, c .before .before .before .before .before .before .before .before .before .before .before .before .before .before .before .before .before .room-for .ensures);
+      few = omega (arith, split-few s _ w .1, at-room-for .room-for .ensures);
       next = refl;
       mail = refl;
-      asked = passed-as (c .before .before .before .before .before .before .before .before .before .before .before .before .before .before .before .before .before .before .before .before .args .o .quick || c .before .before .before .before .before .before .before .before .before .before .before .before .before .before .before .before .before .before .before .before .args .p .mail) _ _ _ _ _ _ _ (c .before .before .ask-lines .ensures _) (c .before .before .before .before .before .before .before .before .asked .given .1) (c .before .before .before .before .setting-of .ensures block) (s .words _ w);
+      asked = passed-as (at-args .args .o .quick || at-args .args .p .mail) _ _ _ _ _ _ _ (at-ask-lines .ask-lines .ensures _) (at-asked .asked .given .1) (at-setting-of .setting-of .ensures block) (s .words _ w);
     }
 
 pub pass-paragraph-spec : {M : Type 1} → statement M

@@ -28,20 +28,28 @@ enum-known-p c = search needs
 
 pass-paragraph-requires : tie.Need-pass-paragraph-requires
 pass-paragraph-requires c κs =
-    let s = c .before .before .before .before .before .before .before .before in
+    let at-p = c .before .before in
+    let at-next-piece = at-p .before .before in
+    let s = at-next-piece .before .before .before .before in
     let cursor : Cursor = record { at = s .args .s .at; written = 0; mail = s .args .s .mail } in
-    begins-placed _ _ _ cursor _ (s .pre .0) (found-begins _ _ _ cursor _ (s .pre .1) (c .before .before .before .before .next-piece .ensures) (c .before .before .p .given .1))
+    begins-placed _ _ _ cursor _ (s .pre .0) (found-begins _ _ _ cursor _ (s .pre .1) (at-next-piece .next-piece .ensures) (at-p .p .given .1))
 
 returns : tie.Need-returns
 returns c =
-    let p = c .before .before .before .before .before .before .before .before .pre in
-    let m = found-goes _ _ _ (p .0) _ _ _ _ (p .1) (c .before .before .before .before .next-piece .ensures) (c .before .before .next .given .1) in
+    let at-next = c .before .before in
+    let at-next-piece = at-next .before .before in
+    let at-pre = at-next-piece .before .before .before .before in
+    let p = at-pre .pre in
+    let m = found-goes _ _ _ (p .0) _ _ _ _ (p .1) (at-next-piece .next-piece .ensures) (at-next .next .given .1) in
     blank-behind _ _ _ _ _ _ m (c .pass-line .ensures)
 
 returns-2 : tie.Need-returns-2
 returns-2 c =
-    let p = c .before .before .before .before .before .before .before .before .pre in
-    let m = found-goes _ _ _ (p .0) _ _ _ _ (p .1) (c .before .before .before .before .next-piece .ensures) (c .before .before .next2 .given .1) in
+    let at-next2 = c .before .before in
+    let at-next-piece = at-next2 .before .before in
+    let at-pre = at-next-piece .before .before .before .before in
+    let p = at-pre .pre in
+    let m = found-goes _ _ _ (p .0) _ _ _ _ (p .1) (at-next-piece .next-piece .ensures) (at-next2 .next2 .given .1) in
     plain-behind _ _ _ _ _ _ (m .0) (c .pass-line2 .ensures)
 
 same-length : tie.Need-same-length
@@ -49,9 +57,12 @@ same-length c = search needs
 
 returns-3 : tie.Need-returns-3
 returns-3 c =
-    let s = c .before .before .before .before .before .before .before .before .before .before .before in
-    let m = found-goes _ _ _ (s .pre .0) _ _ _ _ (s .pre .1) (c .before .before .before .before .before .before .before .next-piece .ensures) (c .before .before .before .before .before .p .given .1) in
-    text-passed (roomFor (s .args .o .quick) (length (s .args .work .now))) (s .args .block .now) (s .args .notes .now) (s .args .o) (s .args .s) _ m (c .before .before .pass-paragraph .result) (c .before .before .pass-paragraph .ensures (s .args .block .now))
+    let at-pass-paragraph = c .before .before in
+    let at-p = at-pass-paragraph .before .before .before in
+    let at-next-piece = at-p .before .before in
+    let s = at-next-piece .before .before .before .before in
+    let m = found-goes _ _ _ (s .pre .0) _ _ _ _ (s .pre .1) (at-next-piece .next-piece .ensures) (at-p .p .given .1) in
+    text-passed (roomFor (s .args .o .quick) (length (s .args .work .now))) (s .args .block .now) (s .args .notes .now) (s .args .o) (s .args .s) _ m (at-pass-paragraph .pass-paragraph .result) (at-pass-paragraph .pass-paragraph .ensures (s .args .block .now))
 
 pub pass-piece-spec : {M : Type 1} → statement M
 pass-piece-spec =

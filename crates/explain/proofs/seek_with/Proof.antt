@@ -21,7 +21,9 @@ loop-holds : tie.Need-loop-holds Inv-loop μ-loop
 loop-holds c = (λ most few. seeking-first _ _ _ _ (c .before .before .before .pre .1), refl)
 
 pass-piece-requires : tie.Need-pass-piece-requires Inv-loop μ-loop
-pass-piece-requires c κs = let p = c .before .before .before .before .before .before .before .pre in (p .0, c .before .if1 .taken)
+pass-piece-requires c κs =
+    let at-pre = c .before .before .before .before .before .before .before in
+    let p = at-pre .pre in (p .0, c .before .if1 .taken)
 
 enum-known-t : tie.Need-enum-known-t Inv-loop μ-loop
 enum-known-t c = search needs
@@ -30,22 +32,32 @@ enum-told : tie.Need-enum-told Inv-loop μ-loop
 enum-told c = search needs
 
 same-length : tie.Need-same-length Inv-loop μ-loop
-same-length c = c .before .before .before .work .given ∙ c .before .before .before .before .before .before .before .before .loop .inv .1
+same-length c =
+    let at-work = c .before .before .before in
+    let at-loop = at-work .before .before .before .before .before in
+    at-work .work .given ∙ at-loop .loop .inv .1
 
 returns : tie.Need-returns Inv-loop μ-loop
 returns c =
-    let i = c .before .before .before .before .before .before .before .before .loop .inv in
-    λ most few. (i .0 most few, rw (← i .1) (piece-over _ _ _ _ _ (c .before .before .before .before .pass-piece .ensures) (c .enum-told .given .1)))
+    let at-pass-piece = c .before .before .before .before in
+    let at-loop = at-pass-piece .before .before .before .before in
+    let i = at-loop .loop .inv in
+    λ most few. (i .0 most few, rw (← i .1) (piece-over _ _ _ _ _ (at-pass-piece .pass-piece .ensures) (c .enum-told .given .1)))
 
 loop-less : tie.Need-loop-less Inv-loop μ-loop
-loop-less c = let p = piece-on _ _ _ _ _ (c .before .before .before .before .before .pass-piece .ensures) (c .before .t .given .1) in omega (arith, p .goes .on, p .goes .within)
+loop-less c =
+    let at-pass-piece = c .before .before .before .before .before in
+    let p = piece-on _ _ _ _ _ (at-pass-piece .pass-piece .ensures) (c .before .t .given .1) in omega (arith, p .goes .on, p .goes .within)
 
 loop-again : tie.Need-loop-again Inv-loop μ-loop
 loop-again c =
-    let p = piece-on _ _ _ _ _ (c .before .before .before .before .before .pass-piece .ensures) (c .before .t .given .1) in
-    let i = c .before .before .before .before .before .before .before .before .before .loop .inv in (
+    let at-work = c .before .before .before .before in
+    let at-pass-piece = at-work .before in
+    let at-loop = at-pass-piece .before .before .before .before in
+    let p = piece-on _ _ _ _ _ (at-pass-piece .pass-piece .ensures) (c .before .t .given .1) in
+    let i = at-loop .loop .inv in (
       λ most few. seeking-on _ _ _ (i .0 most few) (rw (i .1) few) p,
-      c .before .before .before .before .work .given ∙ i .1,
+      at-work .work .given ∙ i .1,
     )
 
 same-length-2 : tie.Need-same-length-2 Inv-loop μ-loop

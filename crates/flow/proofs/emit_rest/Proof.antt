@@ -24,7 +24,9 @@ abbrev μ-loop : tie.MeasureT-loop
 μ-loop notes table n out₀ indent punct₀ t₀ i₀ out punct t i = n - i
 
 loop-holds : tie.Need-loop-holds Inv-loop μ-loop
-loop-holds c = (omega arith, c .before .before .before .before .pre .0 .some, omega (arith, c .before .before .before .before .pre .1), omega (arith, c .before .before .before .before .pre .2), refl, left-first _ _ _, omega (arith, c .before .before .before .before .pre .2))
+loop-holds c =
+    let at-pre = c .before .before .before .before in
+    (omega arith, at-pre .pre .0 .some, omega (arith, at-pre .pre .1), omega (arith, at-pre .pre .2), refl, left-first _ _ _, omega (arith, at-pre .pre .2))
 
 get-requires : tie.Need-get-requires Inv-loop μ-loop
 get-requires c κs = search needs
@@ -39,23 +41,38 @@ add-i : tie.Need-add-i Inv-loop μ-loop
 add-i c = search needs
 
 put-next-requires : tie.Need-put-next-requires Inv-loop μ-loop
-put-next-requires c κs = let p = c .before .before .before .before .before .before .before .before .before .before .pre .0 in let i = c .before .before .before .before .before .loop .inv in (turn-within p (c .before .before .before .get .ensures) (c .before .before .before .before .loop-test .taken), p .indent, p .small, c .before .before .added-space .ensures .most, omega (arith, i .2, i .1, p .few, c .before .before .before .before .before .before .before .before .before .before .pre .1), omega (arith, i .3, i .1, p .few))
+put-next-requires c κs =
+    let at-added-space = c .before .before in
+    let at-get = at-added-space .before in
+    let at-loop-test = at-get .before in
+    let at-loop = at-loop-test .before in
+    let at-pre = at-loop .before .before .before .before .before in
+    let p = at-pre .pre .0 in let i = at-loop .loop .inv in (turn-within p (at-get .get .ensures) (at-loop-test .loop-test .taken), p .indent, p .small, at-added-space .added-space .ensures .most, omega (arith, i .2, i .1, p .few, at-pre .pre .1), omega (arith, i .3, i .1, p .few))
 
 loop-less : tie.Need-loop-less Inv-loop μ-loop
-loop-less c = omega (arith, c .before .before .before .before .before .before .before .loop-test .taken)
+loop-less c =
+    let at-loop-test = c .before .before .before .before .before .before .before in
+    omega (arith, at-loop-test .loop-test .taken)
 
 loop-again : tie.Need-loop-again Inv-loop μ-loop
 loop-again c =
-    let p = c .before .before .before .before .before .before .before .before .before .before .before .before .before .pre .0 in
-    let i = c .before .before .before .before .before .before .before .before .loop .inv in
-    let q = rw (c .before .before .before .before .starts-line .ensures) at (c .before .before .put-next .ensures) in (
+    let at-put-next = c .before .before in
+    let at-starts-line = at-put-next .before .before in
+    let at-added-space = at-starts-line .before in
+    let at-get = at-added-space .before in
+    let at-loop-test = at-get .before in
+    let at-loop = at-loop-test .before in
+    let at-pre = at-loop .before .before .before .before .before in
+    let p = at-pre .pre .0 in
+    let i = at-loop .loop .inv in
+    let q = rw (at-starts-line .starts-line .ensures) at (at-put-next .put-next .ensures) in (
       omega arith,
-      omega (arith, c .before .before .before .before .before .before .before .loop-test .taken),
+      omega (arith, at-loop-test .loop-test .taken),
       omega (arith, i .2, q .few),
       omega (arith, i .3, one-more q),
       wrote-length (q .wrote) ∙ i .4,
-      turn-left p (c .before .before .before .before .before .before .get .ensures) (c .before .before .before .before .before .before .before .loop-test .taken) _ _ _ (c .before .before .put-next .result) (c .before .before .before .before .before .added-space .ensures .is) (i .5) q,
-      turn-dashes p (c .before .before .before .before .before .before .get .ensures) (c .before .before .before .before .before .before .before .loop-test .taken) _ _ (c .before .before .put-next .result) _ (i .6) q,
+      turn-left p (at-get .get .ensures) (at-loop-test .loop-test .taken) _ _ _ (at-put-next .put-next .result) (at-added-space .added-space .ensures .is) (i .5) q,
+      turn-dashes p (at-get .get .ensures) (at-loop-test .loop-test .taken) _ _ (at-put-next .put-next .result) _ (i .6) q,
     )
 
 lesser-requires : tie.Need-lesser-requires Inv-loop μ-loop
@@ -74,18 +91,31 @@ put-end-requires : tie.Need-put-end-requires Inv-loop μ-loop
 put-end-requires c κs = search needs
 
 add-t23 : tie.Need-add-t23 Inv-loop μ-loop
-add-t23 c = omega (arith, c .before .before .before .before .before .before .before .loop .inv .2, c .before .before .before .before .before .before .before .loop .inv .1, c .before .before .before .before .before .before .before .before .before .before .before .before .pre .0 .few, c .before .before .before .before .before .before .before .before .before .before .before .before .pre .1, end-count (c .before .before .before .put-end .ensures))
+add-t23 c =
+    let at-put-end = c .before .before .before in
+    let at-loop = at-put-end .before .before .before .before in
+    let at-pre = at-loop .before .before .before .before .before in
+    omega (arith, at-loop .loop .inv .2, at-loop .loop .inv .1, at-pre .pre .0 .few, at-pre .pre .1, end-count (at-put-end .put-end .ensures))
 
 same-length : tie.Need-same-length Inv-loop μ-loop
-same-length c = wrote-length (wrote-part _ (c .before .before .before .before .before .before .before .loop .t .at) _ _ _ _ (c .before .before .before .before .before .lesser .ensures) (c .before .before .before .put-end .ensures)) ∙ c .before .before .before .before .before .before .before .loop .inv .4
+same-length c =
+    let at-put-end = c .before .before .before in
+    let at-lesser = at-put-end .before .before in
+    let at-loop = at-lesser .before .before in
+    wrote-length (wrote-part _ (at-loop .loop .t .at) _ _ _ _ (at-lesser .lesser .ensures) (at-put-end .put-end .ensures)) ∙ at-loop .loop .inv .4
 
 returns : tie.Need-returns Inv-loop μ-loop
 returns c =
-    let i = c .before .before .before .before .before .before .before .loop .inv in
-    let h = c .before .before .before .before .before .before .loop-test .left in
+    let at-put-end = c .before .before .before in
+    let at-lesser = at-put-end .before .before in
+    let at-loop-test = at-lesser .before in
+    let at-loop = at-loop-test .before in
+    let at-args = at-loop .before .before .before .before .before in
+    let i = at-loop .loop .inv in
+    let h = at-loop-test .loop-test .left in
     record {
-      wrote = left-last (rw (sent-end _ _ _ _ _ _ _ h) at (i .5)) (wrote-part _ _ _ _ _ _ (c .before .before .before .before .before .lesser .ensures) (c .before .before .before .put-end .ensures));
-      dashes = omega (arith, i .6, dashes-end (now (c .before .before .before .before .before .before .before .before .before .before .before .before .args .notes)) (now (c .before .before .before .before .before .before .before .before .before .before .before .before .args .table)) (c .before .before .before .before .before .before .before .before .before .before .before .before .args .n) (c .before .before .before .before .before .before .before .before .before .before .before .before .args .l .indent) (c .before .before .before .before .before .before .before .loop .t .dashed) (c .before .before .before .before .before .before .before .loop .i) h);
+      wrote = left-last (rw (sent-end _ _ _ _ _ _ _ h) at (i .5)) (wrote-part _ _ _ _ _ _ (at-lesser .lesser .ensures) (at-put-end .put-end .ensures));
+      dashes = omega (arith, i .6, dashes-end (now (at-args .args .notes)) (now (at-args .args .table)) (at-args .args .n) (at-args .args .l .indent) (at-loop .loop .t .dashed) (at-loop .loop .i) h);
       few = omega (arith, i .3, i .1);
     }
 

@@ -27,13 +27,20 @@ put-word-requires : tie.Need-put-word-requires
 put-word-requires c κs = let p = c .before .before .before .before .before .pre in (p .0, p .1, p .2, p .3, omega arith, p .0 .end)
 
 add-t18 : tie.Need-add-t18
-add-t18 c = omega (arith, on-most c, c .before .before .before .before .before .before .before .before .before .pre .4)
+add-t18 c =
+    let at-pre = c .before .before .before .before .before .before .before .before .before in
+    omega (arith, on-most c, at-pre .pre .4)
 
 same-length : tie.Need-same-length
 same-length c = search needs
 
 returns : tie.Need-returns
-returns c = turned-on (now (c .before .before .before .before .before .before .before .before .before .args .notes)) (c .before .before .before .before .before .before .before .before .before .args .w) _ (c .before .before .before .before .before .before .before .before .before .args .indent) _ (c .before .before .before .before .before .before .before .before .before .args .t) (c .before .before .before .before .before .if1 .taken) (wrote-part _ _ _ _ _ _ (c .before .before .before .before .before .before .lesser .ensures) (c .before .before .before .put-word .ensures)) (omega (arith, on-most c))
+returns c =
+    let at-put-word = c .before .before .before in
+    let at-if1 = at-put-word .before .before in
+    let at-lesser = at-if1 .before in
+    let at-args = at-lesser .before .before .before in
+    turned-on (now (at-args .args .notes)) (at-args .args .w) _ (at-args .args .indent) _ (at-args .args .t) (at-if1 .if1 .taken) (wrote-part _ _ _ _ _ _ (at-lesser .lesser .ensures) (at-put-word .put-word .ensures)) (omega (arith, on-most c))
 
 opening-of-requires : tie.Need-opening-of-requires
 opening-of-requires c κs = let p = c .before .before .before .before .pre in (p .0 .text, p .0 .end, p .1, p .2)
@@ -48,22 +55,35 @@ part-put-break-end : tie.Need-part-put-break-end
 part-put-break-end c = search needs
 
 put-break-requires : tie.Need-put-break-requires
-put-break-requires c κs = let p = c .before .before .before .before .before .before .pre in (p .0, p .1, p .2, c .before .opening-of .ensures .few)
+put-break-requires c κs =
+    let at-pre = c .before .before .before .before .before .before in
+    let p = at-pre .pre in (p .0, p .1, p .2, c .before .opening-of .ensures .few)
 
 add-t23 : tie.Need-add-t23
-add-t23 c = omega (arith, c .before .before .before .put-break .ensures .1, c .before .before .before .before .before .before .before .before .before .before .pre .4)
+add-t23 c =
+    let at-put-break = c .before .before .before in
+    let at-pre = at-put-break .before .before .before .before .before .before .before in
+    omega (arith, at-put-break .put-break .ensures .1, at-pre .pre .4)
 
 one-if-requires : tie.Need-one-if-requires
 one-if-requires c κs = search needs
 
 add-t25 : tie.Need-add-t25
-add-t25 c = omega (arith, c .before .one-if .ensures .1, c .before .before .before .before .before .before .before .before .before .before .before .before .pre .5)
+add-t25 c =
+    let at-pre = c .before .before .before .before .before .before .before .before .before .before .before .before in
+    omega (arith, c .before .one-if .ensures .1, at-pre .pre .5)
 
 same-length-2 : tie.Need-same-length-2
 same-length-2 c = search needs
 
 returns-2 : tie.Need-returns-2
-returns-2 c = turned-off (now (c .before .before .before .before .before .before .before .before .before .before .before .before .args .notes)) (c .before .before .before .before .before .before .before .before .before .before .before .before .args .w) _ (c .before .before .before .before .before .before .before .before .before .before .before .before .args .indent) _ (c .before .before .before .before .before .before .before .before .before .before .before .before .args .t) (c .before .before .before .before .before .before .before .opening-of .result) (c .before .before .before .before .before .before .before .before .if1 .left) (c .before .before .before .before .before .before .before .opening-of .ensures) (c .before .one-if .ensures .0) (wrote-part _ _ _ _ _ _ (c .before .before .before .before .before .before .before .before .before .lesser .ensures) (c .before .before .before .before .before .put-break .ensures .0)) (omega (arith, c .before .before .before .before .before .put-break .ensures .1))
+returns-2 c =
+    let at-put-break = c .before .before .before .before .before in
+    let at-opening-of = at-put-break .before .before in
+    let at-if1 = at-opening-of .before in
+    let at-lesser = at-if1 .before in
+    let at-args = at-lesser .before .before .before in
+    turned-off (now (at-args .args .notes)) (at-args .args .w) _ (at-args .args .indent) _ (at-args .args .t) (at-opening-of .opening-of .result) (at-if1 .if1 .left) (at-opening-of .opening-of .ensures) (c .before .one-if .ensures .0) (wrote-part _ _ _ _ _ _ (at-lesser .lesser .ensures) (at-put-break .put-break .ensures .0)) (omega (arith, at-put-break .put-break .ensures .1))
 
 pub put-next-spec : {M : Type 1} → statement M
 put-next-spec =

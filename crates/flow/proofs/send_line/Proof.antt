@@ -36,10 +36,17 @@ part-put-opened-end : tie.Need-part-put-opened-end
 part-put-opened-end c = search needs
 
 put-opened-requires : tie.Need-put-opened-requires
-put-opened-requires c κs = let p = c .before .before .before .before .before .before .before .pre in let e = c .before .before .before .before .sent-end .ensures in (e .1, omega (arith, e .2, p .1), record { order = omega arith; end = omega (arith, p .0, p .1); more = omega arith }, p .2, c .before .before .stuffing-of .ensures .1)
+put-opened-requires c κs =
+    let at-stuffing-of = c .before .before in
+    let at-sent-end = at-stuffing-of .before .before in
+    let at-pre = at-sent-end .before .before .before in
+    let p = at-pre .pre in let e = at-sent-end .sent-end .ensures in (e .1, omega (arith, e .2, p .1), record { order = omega arith; end = omega (arith, p .0, p .1); more = omega arith }, p .2, at-stuffing-of .stuffing-of .ensures .1)
 
 add-k : tie.Need-add-k
-add-k c = omega (arith, c .before .before .put-opened .ensures .1, c .before .before .before .before .before .before .before .before .before .before .pre .3)
+add-k c =
+    let at-put-opened = c .before .before in
+    let at-pre = at-put-opened .before .before .before .before .before .before .before .before in
+    omega (arith, at-put-opened .put-opened .ensures .1, at-pre .pre .3)
 
 lesser-requires-2 : tie.Need-lesser-requires-2
 lesser-requires-2 c κs = search needs
@@ -57,16 +64,26 @@ put-end-requires : tie.Need-put-end-requires
 put-end-requires c κs = search needs
 
 add-result : tie.Need-add-result
-add-result c = omega (arith, c .before .before .before .before .before .before .before .put-opened .ensures .1, c .before .before .before .before .before .before .before .before .before .before .before .before .before .before .before .pre .3, end-count (c .before .before .put-end .ensures))
+add-result c =
+    let at-put-end = c .before .before in
+    let at-put-opened = at-put-end .before .before .before .before .before in
+    let at-pre = at-put-opened .before .before .before .before .before .before .before .before in
+    omega (arith, at-put-opened .put-opened .ensures .1, at-pre .pre .3, end-count (at-put-end .put-end .ensures))
 
 same-length : tie.Need-same-length
 same-length c = search needs
 
 returns : tie.Need-returns
 returns c =
-    let s = c .before .before .before .before .before .before .before .before .before .before .before .before .before .before .before in
-    let e = c .before .before .before .before .before .before .before .before .before .before .before .before .sent-end .ensures in
-    let w = line-sent (now (s .args .notes)) (s .args .from) (s .args .to) (c .before .before .before .before .before .before .before .before .before .before .before .before .sent-end .result) (c .before .before .before .before .before .before .before .before .before .before .stuffing-of .result) 0 (e .1) (e .0) (c .before .before .before .before .before .before .before .before .before .before .stuffing-of .ensures .0) (wrote-part _ _ _ _ _ _ (c .before .before .before .before .before .before .before .before .before .lesser .ensures) (c .before .before .before .before .before .before .before .put-opened .ensures .0)) (wrote-part _ _ _ _ _ _ (c .before .before .before .before .lesser2 .ensures) (c .before .before .put-end .ensures)) in
+    let at-put-end = c .before .before in
+    let at-lesser2 = at-put-end .before .before in
+    let at-put-opened = at-lesser2 .before .before .before in
+    let at-lesser = at-put-opened .before .before in
+    let at-stuffing-of = at-lesser .before in
+    let at-sent-end = at-stuffing-of .before .before in
+    let s = at-sent-end .before .before .before in
+    let e = at-sent-end .sent-end .ensures in
+    let w = line-sent (now (s .args .notes)) (s .args .from) (s .args .to) (at-sent-end .sent-end .result) (at-stuffing-of .stuffing-of .result) 0 (e .1) (e .0) (at-stuffing-of .stuffing-of .ensures .0) (wrote-part _ _ _ _ _ _ (at-lesser .lesser .ensures) (at-put-opened .put-opened .ensures .0)) (wrote-part _ _ _ _ _ _ (at-lesser2 .lesser2 .ensures) (at-put-end .put-end .ensures)) in
     (w, line-most (now (s .args .notes)) _ _ _ (e .0) (e .1) (e .2) (s .pre .1) w)
 
 pub send-line-spec : {M : Type 1} → statement M

@@ -26,7 +26,11 @@ same-length : tie.Need-same-length
 same-length c = search needs
 
 returns : tie.Need-returns
-returns c = done-answer _ (room-full true _ (λ e. refl) (λ e. absurd (true≢false e))) _ _ _ _ _ (c .before .before .before .before .before .before .before .send-pieces .ensures) (c .before .before .before .before .before .before .before .before .before .before .before .before .before .pre .admitted .short) (c .before .before .written .given .1) (c .if1 .taken)
+returns c =
+    let at-written = c .before .before in
+    let at-send-pieces = at-written .before .before .before .before .before in
+    let at-pre = at-send-pieces .before .before .before .before .before .before in
+    done-answer _ (room-full true _ (λ e. refl) (λ e. absurd (true≢false e))) _ _ _ _ _ (at-send-pieces .send-pieces .ensures) (at-pre .pre .admitted .short) (at-written .written .given .1) (c .if1 .taken)
 
 clear-requires-2 : tie.Need-clear-requires-2
 clear-requires-2 c κs = search needs
@@ -35,13 +39,24 @@ same-length-2 : tie.Need-same-length-2
 same-length-2 c = search needs
 
 returns-2 : tie.Need-returns-2
-returns-2 c = words-answer _ (room-full true _ (λ e. refl) (λ e. absurd (true≢false e))) _ _ _ _ _ (c .before .before .before .before .before .before .before .before .before .before .send-pieces .ensures) (c .before .before .before .before .before .before .before .before .before .before .before .before .before .before .before .before .pre .admitted .short) (c .before .before .before .before .before .place .given .1) (c .before .before .clear .ensures)
+returns-2 c =
+    let at-clear = c .before .before in
+    let at-place = at-clear .before .before .before in
+    let at-send-pieces = at-place .before .before .before .before .before in
+    let at-pre = at-send-pieces .before .before .before .before .before .before in
+    words-answer _ (room-full true _ (λ e. refl) (λ e. absurd (true≢false e))) _ _ _ _ _ (at-send-pieces .send-pieces .ensures) (at-pre .pre .admitted .short) (at-place .place .given .1) (at-clear .clear .ensures)
 
 same-length-3 : tie.Need-same-length-3
 same-length-3 c = search needs
 
 returns-3 : tie.Need-returns-3
-returns-3 c = room-answer _ (room-full true _ (λ e. refl) (λ e. absurd (true≢false e))) _ _ _ _ _ (c .before .before .before .before .before .before .before .before .before .before .before .send-pieces .ensures) (c .before .before .before .before .before .before .before .before .before .before .before .before .before .before .before .before .before .pre .admitted .short) (c .before .before .before .before .before .before .written .given .1) (c .before .before .before .before .if1 .left) (c .before .before .clear2 .ensures)
+returns-3 c =
+    let at-clear2 = c .before .before in
+    let at-if1 = at-clear2 .before .before in
+    let at-written = at-if1 .before .before in
+    let at-send-pieces = at-written .before .before .before .before .before in
+    let at-pre = at-send-pieces .before .before .before .before .before .before in
+    room-answer _ (room-full true _ (λ e. refl) (λ e. absurd (true≢false e))) _ _ _ _ _ (at-send-pieces .send-pieces .ensures) (at-pre .pre .admitted .short) (at-written .written .given .1) (at-if1 .if1 .left) (at-clear2 .clear2 .ensures)
 
 pub send-notes-spec : {M : Type 1} → statement M
 send-notes-spec =

@@ -22,7 +22,11 @@ loop-holds : tie.Need-loop-holds Inv-loop μ-loop
 loop-holds c = (going-first _ _ _ _, refl)
 
 send-piece-requires : tie.Need-send-piece-requires Inv-loop μ-loop
-send-piece-requires c κs = let i = c .before .before .before .before .loop .inv in (c .before .before .before .before .before .before .before .before .before .pre, i .0 .stands, c .before .before .if1 .taken)
+send-piece-requires c κs =
+    let at-if1 = c .before .before in
+    let at-loop = at-if1 .before .before in
+    let at-pre = at-loop .before .before .before .before .before in
+    let i = at-loop .loop .inv in (at-pre .pre, i .0 .stands, at-if1 .if1 .taken)
 
 enum-known-d : tie.Need-enum-known-d Inv-loop μ-loop
 enum-known-d c = search needs
@@ -31,19 +35,36 @@ enum-told : tie.Need-enum-told Inv-loop μ-loop
 enum-told c = search needs
 
 same-length : tie.Need-same-length Inv-loop μ-loop
-same-length c = c .before .before .before .before .before .out .given ∙ going-length _ _ (c .before .before .before .before .before .before .before .before .before .before .before .loop .inv .0)
+same-length c =
+    let at-out = c .before .before .before .before .before in
+    let at-loop = at-out .before .before .before .before .before .before in
+    at-out .out .given ∙ going-length _ _ (at-loop .loop .inv .0)
 
 same-length-2 : tie.Need-same-length-2 Inv-loop μ-loop
-same-length-2 c = c .before .before .before .work .given ∙ c .before .before .before .before .before .before .before .before .before .before .before .loop .inv .1
+same-length-2 c =
+    let at-work = c .before .before .before in
+    let at-loop = at-work .before .before .before .before .before .before .before .before in
+    at-work .work .given ∙ at-loop .loop .inv .1
 
 returns : tie.Need-returns Inv-loop μ-loop
-returns c = let i = c .before .before .before .before .before .before .before .before .before .before .before .loop .inv in going-over _ _ (i .0) (stepped-over (roomFor true (length (now (c .before .before .before .before .before .before .before .before .before .before .before .before .before .before .before .before .args .work)))) _ _ _ _ _ (rw (i .1) at (c .before .before .before .before .before .before .send-piece .ensures)) (c .enum-told .given .1))
+returns c =
+    let at-send-piece = c .before .before .before .before .before .before in
+    let at-loop = at-send-piece .before .before .before .before .before in
+    let at-args = at-loop .before .before .before .before .before in
+    let i = at-loop .loop .inv in going-over _ _ (i .0) (stepped-over (roomFor true (length (now (at-args .args .work)))) _ _ _ _ _ (rw (i .1) at (at-send-piece .send-piece .ensures)) (c .enum-told .given .1))
 
 loop-less : tie.Need-loop-less Inv-loop μ-loop
-loop-less c = let p = stepped-on _ _ _ _ _ _ (c .before .before .before .before .before .before .before .send-piece .ensures) (c .before .d .given .1) in omega (arith, p .goes .on, p .goes .within)
+loop-less c =
+    let at-send-piece = c .before .before .before .before .before .before .before in
+    let p = stepped-on _ _ _ _ _ _ (at-send-piece .send-piece .ensures) (c .before .d .given .1) in omega (arith, p .goes .on, p .goes .within)
 
 loop-again : tie.Need-loop-again Inv-loop μ-loop
-loop-again c = let i = c .before .before .before .before .before .before .before .before .before .before .before .before .loop .inv in (going-on _ _ (i .0) (stepped-on (roomFor true (length (now (c .before .before .before .before .before .before .before .before .before .before .before .before .before .before .before .before .before .args .work)))) _ _ _ _ _ (rw (i .1) at (c .before .before .before .before .before .before .before .send-piece .ensures)) (c .before .d .given .1)), c .before .before .before .before .work .given ∙ i .1)
+loop-again c =
+    let at-work = c .before .before .before .before in
+    let at-send-piece = at-work .before .before .before in
+    let at-loop = at-send-piece .before .before .before .before .before in
+    let at-args = at-loop .before .before .before .before .before in
+    let i = at-loop .loop .inv in (going-on _ _ (i .0) (stepped-on (roomFor true (length (now (at-args .args .work)))) _ _ _ _ _ (rw (i .1) at (at-send-piece .send-piece .ensures)) (c .before .d .given .1)), at-work .work .given ∙ i .1)
 
 same-length-3 : tie.Need-same-length-3 Inv-loop μ-loop
 same-length-3 c = going-length _ _ (c .before .before .loop .inv .0)

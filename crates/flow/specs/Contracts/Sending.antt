@@ -33,7 +33,7 @@ use Rattle.formatter.specs.Format.{Limits, within, answering}
 use Rattle.formatter.specs.Contracts.Call.{told, replyCoded}
 use Rattle.unflow.specs.Flowed.{stuffing}
 use Rattle.flow.specs.Flow.{isDashed, sent, sentLines, flowed, pieceDashes, dashesIn}
-use Rattle.flow.specs.Answers.{isGiven, unfit, sentIn}
+use Rattle.flow.specs.Answers.{isGiven, unfit, sentIn, flow, dashesOf}
 use Rattle.flow.specs.Contracts.Words.{spaceIf, nextSent, nextDashed, restSent, restDashes, wordsSent, wordsDashes}
 use Rattle.flow.specs.declared.Outcome.{Outcome}
 use Rattle.flow.specs.declared.Cursor.{Cursor}
@@ -190,3 +190,14 @@ ifDone (room needed) n = 0
 
 abbrev pub leftDashes : Limits → Opts → List ℕ → ℕ → ℕ
 leftDashes l o notes space = ifDone (leftOf l o notes space) (dashesIn o (pieces o notes))
+
+-- what the functions of the call leave after: for a block and notes; for options that are taken, where codes 1 to 3 are not due; and where there
+-- is room for every paragraph
+abbrev pub Flows : Limits → List ℕ → List ℕ → List ℕ → Outcome → List ℕ → Type 0
+Flows l block notes out r out′ = Sends (flow l block notes (length out)) (dashesOf l block notes (length out)) out r out′
+
+abbrev pub FlowsLeft : Limits → Opts → List ℕ → List ℕ → Outcome → List ℕ → Type 0
+FlowsLeft l o notes out r out′ = Sends (leftOf l o notes (length out)) (leftDashes l o notes (length out)) out r out′
+
+abbrev pub FlowsAll : Limits → Opts → List ℕ → List ℕ → Outcome → List ℕ → Type 0
+FlowsAll l o notes out r out′ = let a = sentIn (l .words) (length out) (flowed o notes) in Sends a (ifDone a (dashesIn o (pieces o notes))) out r out′

@@ -14,19 +14,33 @@ returns-3 : tie.Need-returns-3
 returns-3 c = folds-many _ _ _ _ (c .before .before .if1 .left) (c .before .if2 .left) (c .if3 .taken)
 
 returns-4 : tie.Need-returns-4
-returns-4 c = folds-long _ _ _ _ (c .before .before .before .if1 .left) (c .before .before .if2 .left) (c .before .if3 .left) (c .if4 .taken)
+returns-4 c =
+    let at-if2 = c .before .before in
+    let at-if1 = at-if2 .before in
+    folds-long _ _ _ _ (at-if1 .if1 .left) (at-if2 .if2 .left) (c .before .if3 .left) (c .if4 .taken)
 
 stop-width-requires : tie.Need-stop-width-requires
 stop-width-requires c κs = search needs
 
 put-lines-requires : tie.Need-put-lines-requires
-put-lines-requires c κs = let s = stop-some _ (c .before .before .before .before .before .if1 .left) in (c .before .before .if4 .left, rw (c .before .stop-width .ensures) (s .0), rw (c .before .stop-width .ensures) (s .1), c .before .before .before .if3 .left)
+put-lines-requires c κs =
+    let at-if4 = c .before .before in
+    let at-if3 = at-if4 .before in
+    let at-if1 = at-if3 .before .before in
+    let s = stop-some _ (at-if1 .if1 .left) in (at-if4 .if4 .left, rw (c .before .stop-width .ensures) (s .0), rw (c .before .stop-width .ensures) (s .1), at-if3 .if3 .left)
 
 same-length : tie.Need-same-length
 same-length c = search needs
 
 returns-5 : tie.Need-returns-5
-returns-5 c = let p = c .before .before .before .put-lines .ensures in folds-done _ _ _ _ (c .before .before .before .before .before .before .before .before .before .if1 .left) (c .before .before .before .before .before .before .before .before .if2 .left) (c .before .before .before .before .before .before .before .if3 .left) (c .before .before .before .before .before .before .if4 .left) (rw (c .before .before .before .before .before .stop-width .ensures) at (p .0)) (p .1) (c .if5 .taken)
+returns-5 c =
+    let at-put-lines = c .before .before .before in
+    let at-stop-width = at-put-lines .before .before in
+    let at-if4 = at-stop-width .before in
+    let at-if3 = at-if4 .before in
+    let at-if2 = at-if3 .before in
+    let at-if1 = at-if2 .before in
+    let p = at-put-lines .put-lines .ensures in folds-done _ _ _ _ (at-if1 .if1 .left) (at-if2 .if2 .left) (at-if3 .if3 .left) (at-if4 .if4 .left) (rw (at-stop-width .stop-width .ensures) at (p .0)) (p .1) (c .if5 .taken)
 
 clear-requires : tie.Need-clear-requires
 clear-requires c κs = search needs
@@ -35,7 +49,16 @@ same-length-2 : tie.Need-same-length-2
 same-length-2 c = search needs
 
 returns-6 : tie.Need-returns-6
-returns-6 c = let p = c .before .before .before .before .before .before .before .put-lines .ensures in folds-room _ _ _ _ (c .before .before .before .before .before .before .before .before .before .before .before .before .before .if1 .left) (c .before .before .before .before .before .before .before .before .before .before .before .before .if2 .left) (c .before .before .before .before .before .before .before .before .before .before .before .if3 .left) (c .before .before .before .before .before .before .before .before .before .before .if4 .left) (rw (c .before .before .before .before .before .before .before .before .before .stop-width .ensures) at (p .0)) (p .1) (c .before .before .before .before .if5 .left) (c .before .before .clear .ensures)
+returns-6 c =
+    let at-clear = c .before .before in
+    let at-if5 = at-clear .before .before in
+    let at-put-lines = at-if5 .before .before .before in
+    let at-stop-width = at-put-lines .before .before in
+    let at-if4 = at-stop-width .before in
+    let at-if3 = at-if4 .before in
+    let at-if2 = at-if3 .before in
+    let at-if1 = at-if2 .before in
+    let p = at-put-lines .put-lines .ensures in folds-room _ _ _ _ (at-if1 .if1 .left) (at-if2 .if2 .left) (at-if3 .if3 .left) (at-if4 .if4 .left) (rw (at-stop-width .stop-width .ensures) at (p .0)) (p .1) (at-if5 .if5 .left) (at-clear .clear .ensures)
 
 pub fold-spec : {M : Type 1} → statement M
 fold-spec =

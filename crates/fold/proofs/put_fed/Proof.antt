@@ -25,13 +25,21 @@ put-text-requires : tie.Need-put-text-requires
 put-text-requires c κs = search needs
 
 add-result : tie.Need-add-result
-add-result c = omega (arith, c .before .before .before .before .before .before .before .put-feed .ensures .count, c .before .before .put-text .ensures .count, length-slice (c .before .before .before .before .before .before .before .before .before .before .before .args .at) (c .before .before .before .before .before .before .before .before .before .before .before .args .end) (c .before .before .before .before .before .before .before .before .before .before .before .args .line .now) (c .before .before .before .before .before .before .before .before .before .before .before .pre .1))
+add-result c =
+    let at-put-text = c .before .before in
+    let at-put-feed = at-put-text .before .before .before .before .before in
+    let at-args = at-put-feed .before .before .before .before in
+    omega (arith, at-put-feed .put-feed .ensures .count, at-put-text .put-text .ensures .count, length-slice (at-args .args .at) (at-args .args .end) (at-args .args .line .now) (at-args .pre .1))
 
 same-length : tie.Need-same-length
 same-length c = search needs
 
 returns : tie.Need-returns
-returns c = wrote-then (c .before .before .before .before .before .before .before .put-feed .ensures) (wrote-part _ _ _ _ _ _ (c .before .before .before .before .lesser .ensures) (c .before .before .put-text .ensures))
+returns c =
+    let at-put-text = c .before .before in
+    let at-lesser = at-put-text .before .before in
+    let at-put-feed = at-lesser .before .before .before in
+    wrote-then (at-put-feed .put-feed .ensures) (wrote-part _ _ _ _ _ _ (at-lesser .lesser .ensures) (at-put-text .put-text .ensures))
 
 pub put-fed-spec : {M : Type 1} → statement M
 put-fed-spec =

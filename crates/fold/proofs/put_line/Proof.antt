@@ -12,7 +12,9 @@ slice-aggregate-put-rows : tie.Need-slice-aggregate-put-rows
 slice-aggregate-put-rows c = sym (length-take-le _ _ (c .before .before .before .pre .0))
 
 put-rows-requires : tie.Need-put-rows-requires
-put-rows-requires c κs = let p = c .before .before .before .before .pre in (omega (arith, length-take-le (c .before .before .before .before .args .size) (c .before .before .before .before .args .raw .now) (p .0), p .1, p .0), p .2, p .3, p .4)
+put-rows-requires c κs =
+    let at-pre = c .before .before .before .before in
+    let p = at-pre .pre in (omega (arith, length-take-le (at-pre .args .size) (at-pre .args .raw .now) (p .0), p .1, p .0), p .2, p .3, p .4)
 
 lesser-requires : tie.Need-lesser-requires
 lesser-requires c κs = search needs
@@ -30,13 +32,23 @@ put-text-requires : tie.Need-put-text-requires
 put-text-requires c κs = search needs
 
 add-result : tie.Need-add-result
-add-result c = omega (arith, line-written _ _ _ _ (c .before .before .before .before .before .before .before .before .before .before .before .before .pre .0) (c .before .before .before .before .before .before .before .put-rows .ensures) (wrote-part _ _ _ _ _ _ (c .before .before .before .before .lesser .ensures) (c .before .before .put-text .ensures)) .1, c .before .before .before .before .before .before .before .before .before .before .before .before .pre .1)
+add-result c =
+    let at-put-text = c .before .before in
+    let at-lesser = at-put-text .before .before in
+    let at-put-rows = at-lesser .before .before .before in
+    let at-pre = at-put-rows .before .before .before .before .before in
+    omega (arith, line-written _ _ _ _ (at-pre .pre .0) (at-put-rows .put-rows .ensures) (wrote-part _ _ _ _ _ _ (at-lesser .lesser .ensures) (at-put-text .put-text .ensures)) .1, at-pre .pre .1)
 
 same-length : tie.Need-same-length
 same-length c = search needs
 
 returns : tie.Need-returns
-returns c = line-written _ _ _ _ (c .before .before .before .before .before .before .before .before .before .before .before .before .pre .0) (c .before .before .before .before .before .before .before .put-rows .ensures) (wrote-part _ _ _ _ _ _ (c .before .before .before .before .lesser .ensures) (c .before .before .put-text .ensures))
+returns c =
+    let at-put-text = c .before .before in
+    let at-lesser = at-put-text .before .before in
+    let at-put-rows = at-lesser .before .before .before in
+    let at-pre = at-put-rows .before .before .before .before .before in
+    line-written _ _ _ _ (at-pre .pre .0) (at-put-rows .put-rows .ensures) (wrote-part _ _ _ _ _ _ (at-lesser .lesser .ensures) (at-put-text .put-text .ensures))
 
 pub put-line-spec : {M : Type 1} → statement M
 put-line-spec =

@@ -59,16 +59,31 @@ part-put-line-end-2 : tie.Need-part-put-line-end-2 Inv-loop μ-loop
 part-put-line-end-2 c = search needs
 
 put-line-requires : tie.Need-put-line-requires Inv-loop μ-loop
-put-line-requires c κs = let h = here (c .before .before .before .before) in let n = lent-length 0 0 _ _ _ h in let p = c .before .before .before .before .before .before .before .before .before .before .pre in (omega (arith, n, h .shorter), omega (arith, n, h .within, p .0), p .1, p .2, p .3)
+put-line-requires c κs =
+    let at-state = c .before .before .before .before in
+    let at-pre = at-state .before .before .before .before .before .before in
+    let h = here (at-state) in let n = lent-length 0 0 _ _ _ h in let p = at-pre .pre in (omega (arith, n, h .shorter), omega (arith, n, h .within, p .0), p .1, p .2, p .3)
 
 add-k : tie.Need-add-k Inv-loop μ-loop
-add-k c = let h = here (c .before .before .before .before .before .before .before) in omega (arith, c .before .before .put-line .ensures .1, lent-length 0 0 _ _ _ h, h .within, c .before .before .before .before .before .before .before .before .before .before .loop .inv .bounded, c .before .before .before .before .before .before .before .before .before .before .before .before .before .pre .0)
+add-k c =
+    let at-put-line = c .before .before in
+    let at-state = at-put-line .before .before .before .before .before in
+    let at-loop = at-state .before .before .before in
+    let at-pre = at-loop .before .before .before in
+    let h = here (at-state) in omega (arith, at-put-line .put-line .ensures .1, lent-length 0 0 _ _ _ h, h .within, at-loop .loop .inv .bounded, at-pre .pre .0)
 
 loop-less : tie.Need-loop-less Inv-loop μ-loop
-loop-less c = let h = here (c .before .before .before .before .before .before .before) in omega (arith, h .on, h .within)
+loop-less c =
+    let at-state = c .before .before .before .before .before .before .before in
+    let h = here (at-state) in omega (arith, h .on, h .within)
 
 loop-again : tie.Need-loop-again Inv-loop μ-loop
-loop-again c = passing-line _ _ _ (c .before .before .before .before .before .before .before .before .before .before .loop .inv) (here (c .before .before .before .before .before .before .before)) (c .before .before .put-line .ensures .1) (wrote-part _ _ _ _ _ _ (c .before .before .before .before .before .lesser .ensures) (c .before .before .put-line .ensures .0))
+loop-again c =
+    let at-put-line = c .before .before in
+    let at-lesser = at-put-line .before .before .before in
+    let at-state = at-lesser .before .before in
+    let at-loop = at-state .before .before .before in
+    passing-line _ _ _ (at-loop .loop .inv) (here (at-state)) (at-put-line .put-line .ensures .1) (wrote-part _ _ _ _ _ _ (at-lesser .lesser .ensures) (at-put-line .put-line .ensures .0))
 
 same-length : tie.Need-same-length Inv-loop μ-loop
 same-length c = passing-length _ _ _ (c .before .loop .inv)

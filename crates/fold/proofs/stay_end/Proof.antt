@@ -42,13 +42,23 @@ behind-requires : tie.Need-behind-requires Inv-loop μ-loop
 behind-requires c κs = let g = plain (c .before) in omega (arith, g .small, g .within)
 
 returns-2 : tie.Need-returns-2 Inv-loop μ-loop
-returns-2 c = going-end _ _ _ (plain (c .before .before .before .before .before)) (c .before .before .before .behind .ensures) (c .if2 .taken)
+returns-2 c =
+    let at-behind = c .before .before .before in
+    let at-state = at-behind .before .before in
+    going-end _ _ _ (plain (at-state)) (at-behind .behind .ensures) (c .if2 .taken)
 
 loop-less : tie.Need-loop-less Inv-loop μ-loop
-loop-less c = omega (arith, (plain (c .before .before .before .before .before)) .on, c .before .before .before .behind .ensures .on, c .before .before .before .behind .ensures .within)
+loop-less c =
+    let at-behind = c .before .before .before in
+    let at-state = at-behind .before .before in
+    omega (arith, (plain (at-state)) .on, at-behind .behind .ensures .on, at-behind .behind .ensures .within)
 
 loop-again : tie.Need-loop-again Inv-loop μ-loop
-loop-again c = going-on _ _ _ (plain (c .before .before .before .before .before)) (c .before .before .before .before .before .before .before .before .before .before .pre .4) (c .before .before .before .behind .ensures) (c .if2 .left)
+loop-again c =
+    let at-behind = c .before .before .before in
+    let at-state = at-behind .before .before in
+    let at-pre = at-state .before .before .before .before .before in
+    going-on _ _ _ (plain (at-state)) (at-pre .pre .4) (at-behind .behind .ensures) (c .if2 .left)
 
 returns-3 : tie.Need-returns-3 Inv-loop μ-loop
 returns-3 c = going-past _ _ _ (c .before .loop .inv) (c .loop-test .left)

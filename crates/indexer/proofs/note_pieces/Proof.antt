@@ -34,25 +34,38 @@ clear-requires c κs = search needs
 
 loop-holds : tie.Need-loop-holds Inv-loop μ-loop
 loop-holds c =
-    let s = c .before .before .before .before .before .before .before .before in
+    let at-clear = c .before .before in
+    let s = at-clear .before .before .before .before .before .before in
     let fits : s .args .marks ≤ length (s .args .work .now) = omega (arith, s .pre .1 .order, s .pre .1 .within) in
-    let clear = front-cleared (s .args .marks) (s .args .work .now) (c .before .before .clear .last .0) fits (c .before .before .clear .ensures) in
-    (going-first _ _ _ _ _ (stands-first _), marking-first _ _ _ _ _ (take-at (c .before .before .clear .last .0) (drop (s .args .marks) (s .args .work .now)) (s .args .marks) (ap length (clear .0) ∙ length-replicate {A = ℕ} (s .args .marks) 0) ∙ clear .0), refl)
+    let clear = front-cleared (s .args .marks) (s .args .work .now) (at-clear .clear .last .0) fits (at-clear .clear .ensures) in
+    (going-first _ _ _ _ _ (stands-first _), marking-first _ _ _ _ _ (take-at (at-clear .clear .last .0) (drop (s .args .marks) (s .args .work .now)) (s .args .marks) (ap length (clear .0) ∙ length-replicate {A = ℕ} (s .args .marks) 0) ∙ clear .0), refl)
 
 mul-put-piece : tie.Need-mul-put-piece Inv-loop μ-loop
 mul-put-piece c = search needs
 
 sub-put-piece : tie.Need-sub-put-piece Inv-loop μ-loop
-sub-put-piece c = c .before .before .before .before .before .before .before .before .before .before .before .before .pre .1 .order
+sub-put-piece c =
+    let at-pre = c .before .before .before .before .before .before .before .before .before .before .before .before in
+    at-pre .pre .1 .order
 
 part-put-piece-start : tie.Need-part-put-piece-start Inv-loop μ-loop
-part-put-piece-start c = let p = c .before .before .before .before .before .before .before .before .before .before .before .before .pre in omega (arith, p .1 .order, p .1 .within, c .before .before .before .loop .inv .2)
+part-put-piece-start c =
+    let at-loop = c .before .before .before in
+    let at-pre = at-loop .before .before .before .before .before .before .before .before .before in
+    let p = at-pre .pre in omega (arith, p .1 .order, p .1 .within, at-loop .loop .inv .2)
 
 part-put-piece-end : tie.Need-part-put-piece-end Inv-loop μ-loop
-part-put-piece-end c = let p = c .before .before .before .before .before .before .before .before .before .before .before .before .pre in omega (arith, p .1 .order, p .1 .within, c .before .before .before .loop .inv .2)
+part-put-piece-end c =
+    let at-loop = c .before .before .before in
+    let at-pre = at-loop .before .before .before .before .before .before .before .before .before in
+    let p = at-pre .pre in omega (arith, p .1 .order, p .1 .within, at-loop .loop .inv .2)
 
 put-piece-requires : tie.Need-put-piece-requires Inv-loop μ-loop
-put-piece-requires c κs = (c .before .before .before .before .before .before .before .before .before .before .before .before .before .pre .0, c .before .before .before .before .loop .inv .0 .stands, c .before .before .if1 .taken)
+put-piece-requires c κs =
+    let at-if1 = c .before .before in
+    let at-loop = at-if1 .before .before in
+    let at-pre = at-loop .before .before .before .before .before .before .before .before .before in
+    (at-pre .pre .0, at-loop .loop .inv .0 .stands, at-if1 .if1 .taken)
 
 enum-known-d : tie.Need-enum-known-d Inv-loop μ-loop
 enum-known-d c = search needs
@@ -61,107 +74,147 @@ enum-told : tie.Need-enum-told Inv-loop μ-loop
 enum-told c = search needs
 
 same-length : tie.Need-same-length Inv-loop μ-loop
-same-length c = c .before .before .before .before .before .out .given ∙ going-length _ _ _ (c .before .before .before .before .before .before .before .before .before .before .before .loop .inv .0)
+same-length c =
+    let at-out = c .before .before .before .before .before in
+    let at-loop = at-out .before .before .before .before .before .before in
+    at-out .out .given ∙ going-length _ _ _ (at-loop .loop .inv .0)
 
 same-length-2 : tie.Need-same-length-2 Inv-loop μ-loop
 same-length-2 c =
-    let s = c .before .before .before .before .before .before .before .before .before .before .before .before .before .before .before .before .before .before .before .before in
+    let at-work2 = c .before .before .before in
+    let at-put-piece = at-work2 .before .before .before in
+    let at-loop = at-put-piece .before .before .before .before .before in
+    let at-clear = at-loop .before .before .before in
+    let s = at-clear .before .before .before .before .before .before in
     let fits : s .args .marks ≤ length (s .args .work .now) = omega (arith, s .pre .1 .order, s .pre .1 .within) in
-    let clear = front-cleared (s .args .marks) (s .args .work .now) (c .before .before .before .before .before .before .before .before .before .before .before .before .before .before .clear .last .0) fits (c .before .before .before .before .before .before .before .before .before .before .before .before .before .before .clear .ensures) in
-    let l = c .before .before .before .before .before .before .before .before .before .before .before .loop in
+    let clear = front-cleared (s .args .marks) (s .args .work .now) (at-clear .clear .last .0) fits (at-clear .clear .ensures) in
+    let l = at-loop .loop in
     let room = l .inv .2 ∙ clear .1 in
     let within : s .args .end ≤ length (l .work) = omega (arith, s .pre .1 .within, room) in
-    let part = c .before .before .before .before .before .before .put-piece .last .1 .1 .1 .1 .1 .0 in
-    let home = same-len-mid (s .args .marks) (s .args .end - s .args .marks) (l .work) part (c .before .before .before .work2 .given .0) in
+    let part = at-put-piece .put-piece .last .1 .1 .1 .1 .1 .0 in
+    let home = same-len-mid (s .args .marks) (s .args .end - s .args .marks) (l .work) part (at-work2 .work2 .given .0) in
     let is = part-room (s .args .o .quick) (s .args .marks) (s .args .end) (l .work) (s .pre .1 .order) within in
     home ∙ room
 
 returns : tie.Need-returns Inv-loop μ-loop
 returns c =
-    let s = c .before .before .before .before .before .before .before .before .before .before .before .before .before .before .before .before .before .before .before .before in
+    let at-work2 = c .before .before .before in
+    let at-put-piece = at-work2 .before .before .before in
+    let at-loop = at-put-piece .before .before .before .before .before in
+    let at-clear = at-loop .before .before .before in
+    let s = at-clear .before .before .before .before .before .before in
     let fits : s .args .marks ≤ length (s .args .work .now) = omega (arith, s .pre .1 .order, s .pre .1 .within) in
-    let clear = front-cleared (s .args .marks) (s .args .work .now) (c .before .before .before .before .before .before .before .before .before .before .before .before .before .before .clear .last .0) fits (c .before .before .before .before .before .before .before .before .before .before .before .before .before .before .clear .ensures) in
-    let l = c .before .before .before .before .before .before .before .before .before .before .before .loop in
+    let clear = front-cleared (s .args .marks) (s .args .work .now) (at-clear .clear .last .0) fits (at-clear .clear .ensures) in
+    let l = at-loop .loop in
     let room = l .inv .2 ∙ clear .1 in
     let within : s .args .end ≤ length (l .work) = omega (arith, s .pre .1 .within, room) in
-    let part = c .before .before .before .before .before .before .put-piece .last .1 .1 .1 .1 .1 .0 in
-    let home = same-len-mid (s .args .marks) (s .args .end - s .args .marks) (l .work) part (c .before .before .before .work2 .given .0) in
+    let part = at-put-piece .put-piece .last .1 .1 .1 .1 .1 .0 in
+    let home = same-len-mid (s .args .marks) (s .args .end - s .args .marks) (l .work) part (at-work2 .work2 .given .0) in
     let is = part-room (s .args .o .quick) (s .args .marks) (s .args .end) (l .work) (s .pre .1 .order) within in
-    noted-stopped _ _ _ _ (l .inv .0) (stepped-over is _ _ _ _ _ (c .before .before .before .before .before .before .put-piece .result) (c .before .before .before .before .before .before .put-piece .ensures) (c .enum-told .given .1))
+    noted-stopped _ _ _ _ (l .inv .0) (stepped-over is _ _ _ _ _ (at-put-piece .put-piece .result) (at-put-piece .put-piece .ensures) (c .enum-told .given .1))
 
 slice-relend-prefix-spell : tie.Need-slice-relend-prefix-spell Inv-loop μ-loop
 slice-relend-prefix-spell c =
-    let s = c .before .before .before .before .before .before .before .before .before .before .before .before .before .before .before .before .before .before .before .before .before in
+    let at-work2 = c .before .before .before .before in
+    let at-put-piece = at-work2 .before .before .before in
+    let at-loop = at-put-piece .before .before .before .before .before in
+    let at-clear = at-loop .before .before .before in
+    let s = at-clear .before .before .before .before .before .before in
     let fits : s .args .marks ≤ length (s .args .work .now) = omega (arith, s .pre .1 .order, s .pre .1 .within) in
-    let clear = front-cleared (s .args .marks) (s .args .work .now) (c .before .before .before .before .before .before .before .before .before .before .before .before .before .before .before .clear .last .0) fits (c .before .before .before .before .before .before .before .before .before .before .before .before .before .before .before .clear .ensures) in
-    let l = c .before .before .before .before .before .before .before .before .before .before .before .before .loop in
+    let clear = front-cleared (s .args .marks) (s .args .work .now) (at-clear .clear .last .0) fits (at-clear .clear .ensures) in
+    let l = at-loop .loop in
     let room = l .inv .2 ∙ clear .1 in
     let within : s .args .end ≤ length (l .work) = omega (arith, s .pre .1 .within, room) in
-    let part = c .before .before .before .before .before .before .before .put-piece .last .1 .1 .1 .1 .1 .0 in
-    let home = same-len-mid (s .args .marks) (s .args .end - s .args .marks) (l .work) part (c .before .before .before .before .work2 .given .0) in
+    let part = at-put-piece .put-piece .last .1 .1 .1 .1 .1 .0 in
+    let home = same-len-mid (s .args .marks) (s .args .end - s .args .marks) (l .work) part (at-work2 .work2 .given .0) in
     let is = part-room (s .args .o .quick) (s .args .marks) (s .args .end) (l .work) (s .pre .1 .order) within in
     omega (arith, home, room, fits)
 
 slice-aggregate-spell : tie.Need-slice-aggregate-spell Inv-loop μ-loop
 slice-aggregate-spell c =
-    let s = c .before .before .before .before .before .before .before .before .before .before .before .before .before .before .before .before .before .before .before .before .before .before in
+    let at-work2 = c .before .before .before .before .before in
+    let at-put-piece = at-work2 .before .before .before in
+    let at-loop = at-put-piece .before .before .before .before .before in
+    let at-clear = at-loop .before .before .before in
+    let s = at-clear .before .before .before .before .before .before in
     let fits : s .args .marks ≤ length (s .args .work .now) = omega (arith, s .pre .1 .order, s .pre .1 .within) in
-    let clear = front-cleared (s .args .marks) (s .args .work .now) (c .before .before .before .before .before .before .before .before .before .before .before .before .before .before .before .before .clear .last .0) fits (c .before .before .before .before .before .before .before .before .before .before .before .before .before .before .before .before .clear .ensures) in
-    let l = c .before .before .before .before .before .before .before .before .before .before .before .before .before .loop in
+    let clear = front-cleared (s .args .marks) (s .args .work .now) (at-clear .clear .last .0) fits (at-clear .clear .ensures) in
+    let l = at-loop .loop in
     let room = l .inv .2 ∙ clear .1 in
     let within : s .args .end ≤ length (l .work) = omega (arith, s .pre .1 .within, room) in
-    let part = c .before .before .before .before .before .before .before .before .put-piece .last .1 .1 .1 .1 .1 .0 in
-    let home = same-len-mid (s .args .marks) (s .args .end - s .args .marks) (l .work) part (c .before .before .before .before .before .work2 .given .0) in
+    let part = at-put-piece .put-piece .last .1 .1 .1 .1 .1 .0 in
+    let home = same-len-mid (s .args .marks) (s .args .end - s .args .marks) (l .work) part (at-work2 .work2 .given .0) in
     let is = part-room (s .args .o .quick) (s .args .marks) (s .args .end) (l .work) (s .pre .1 .order) within in
     sym (length-take-le _ _ (omega (arith, home, room, fits)))
 
 spell-requires : tie.Need-spell-requires Inv-loop μ-loop
 spell-requires c κs =
-    let s = c .before .before .before .before .before .before .before .before .before .before .before .before .before .before .before .before .before .before .before .before .before .before .before in
+    let at-d = c .before .before .before in
+    let at-work2 = at-d .before .before .before in
+    let at-out = at-work2 .before .before in
+    let at-put-piece = at-out .before in
+    let at-loop = at-put-piece .before .before .before .before .before in
+    let at-clear = at-loop .before .before .before in
+    let s = at-clear .before .before .before .before .before .before in
     let fits : s .args .marks ≤ length (s .args .work .now) = omega (arith, s .pre .1 .order, s .pre .1 .within) in
-    let clear = front-cleared (s .args .marks) (s .args .work .now) (c .before .before .before .before .before .before .before .before .before .before .before .before .before .before .before .before .before .clear .last .0) fits (c .before .before .before .before .before .before .before .before .before .before .before .before .before .before .before .before .before .clear .ensures) in
-    let l = c .before .before .before .before .before .before .before .before .before .before .before .before .before .before .loop in
+    let clear = front-cleared (s .args .marks) (s .args .work .now) (at-clear .clear .last .0) fits (at-clear .clear .ensures) in
+    let l = at-loop .loop in
     let room = l .inv .2 ∙ clear .1 in
     let within : s .args .end ≤ length (l .work) = omega (arith, s .pre .1 .within, room) in
-    let part = c .before .before .before .before .before .before .before .before .before .put-piece .last .1 .1 .1 .1 .1 .0 in
-    let home = same-len-mid (s .args .marks) (s .args .end - s .args .marks) (l .work) part (c .before .before .before .before .before .before .work2 .given .0) in
+    let part = at-put-piece .put-piece .last .1 .1 .1 .1 .1 .0 in
+    let home = same-len-mid (s .args .marks) (s .args .end - s .args .marks) (l .work) part (at-work2 .work2 .given .0) in
     let is = part-room (s .args .o .quick) (s .args .marks) (s .args .end) (l .work) (s .pre .1 .order) within in
-    let p = stepped-on is _ _ _ _ _ (c .before .before .before .before .before .before .before .before .before .put-piece .result) (c .before .before .before .before .before .before .before .before .before .put-piece .ensures) (c .before .before .before .d .given .1) in
-    rw (front-kept (s .args .marks) (s .args .end - s .args .marks) (l .work) part (omega (arith, room, fits))) (marking-spells _ _ _ _ (l .inv .1) p (s .pre .1 .enough) (s .pre .1 .few) (c .before .before .before .before .before .before .before .before .out .given ∙ going-length _ _ _ (l .inv .0)))
+    let p = stepped-on is _ _ _ _ _ (at-put-piece .put-piece .result) (at-put-piece .put-piece .ensures) (at-d .d .given .1) in
+    rw (front-kept (s .args .marks) (s .args .end - s .args .marks) (l .work) part (omega (arith, room, fits))) (marking-spells _ _ _ _ (l .inv .1) p (s .pre .1 .enough) (s .pre .1 .few) (at-out .out .given ∙ going-length _ _ _ (l .inv .0)))
 
 add-k : tie.Need-add-k Inv-loop μ-loop
-add-k c = let i = c .before .before .before .before .before .before .before .before .before .before .before .before .before .before .before .before .before .loop .inv in record { fits = omega (arith, i .1 .few, i .0 .stands .within, c .before .before .before .before .before .before .before .before .before .before .before .before .before .before .before .before .before .before .before .before .before .before .before .before .before .before .pre .0 .short) }
+add-k c =
+    let at-loop = c .before .before .before .before .before .before .before .before .before .before .before .before .before .before .before .before .before in
+    let at-pre = at-loop .before .before .before .before .before .before .before .before .before in
+    let i = at-loop .loop .inv in record { fits = omega (arith, i .1 .few, i .0 .stands .within, at-pre .pre .0 .short) }
 
 loop-less : tie.Need-loop-less Inv-loop μ-loop
 loop-less c =
-    let s = c .before .before .before .before .before .before .before .before .before .before .before .before .before .before .before .before .before .before .before .before .before .before .before .before .before .before in
+    let at-d = c .before .before .before .before .before .before in
+    let at-work2 = at-d .before .before .before in
+    let at-put-piece = at-work2 .before .before .before in
+    let at-loop = at-put-piece .before .before .before .before .before in
+    let at-clear = at-loop .before .before .before in
+    let s = at-clear .before .before .before .before .before .before in
     let fits : s .args .marks ≤ length (s .args .work .now) = omega (arith, s .pre .1 .order, s .pre .1 .within) in
-    let clear = front-cleared (s .args .marks) (s .args .work .now) (c .before .before .before .before .before .before .before .before .before .before .before .before .before .before .before .before .before .before .before .before .clear .last .0) fits (c .before .before .before .before .before .before .before .before .before .before .before .before .before .before .before .before .before .before .before .before .clear .ensures) in
-    let l = c .before .before .before .before .before .before .before .before .before .before .before .before .before .before .before .before .before .loop in
+    let clear = front-cleared (s .args .marks) (s .args .work .now) (at-clear .clear .last .0) fits (at-clear .clear .ensures) in
+    let l = at-loop .loop in
     let room = l .inv .2 ∙ clear .1 in
     let within : s .args .end ≤ length (l .work) = omega (arith, s .pre .1 .within, room) in
-    let part = c .before .before .before .before .before .before .before .before .before .before .before .before .put-piece .last .1 .1 .1 .1 .1 .0 in
-    let home = same-len-mid (s .args .marks) (s .args .end - s .args .marks) (l .work) part (c .before .before .before .before .before .before .before .before .before .work2 .given .0) in
+    let part = at-put-piece .put-piece .last .1 .1 .1 .1 .1 .0 in
+    let home = same-len-mid (s .args .marks) (s .args .end - s .args .marks) (l .work) part (at-work2 .work2 .given .0) in
     let is = part-room (s .args .o .quick) (s .args .marks) (s .args .end) (l .work) (s .pre .1 .order) within in
-    let p = stepped-on is _ _ _ _ _ (c .before .before .before .before .before .before .before .before .before .before .before .before .put-piece .result) (c .before .before .before .before .before .before .before .before .before .before .before .before .put-piece .ensures) (c .before .before .before .before .before .before .d .given .1) in
+    let p = stepped-on is _ _ _ _ _ (at-put-piece .put-piece .result) (at-put-piece .put-piece .ensures) (at-d .d .given .1) in
     omega (arith, p .goes .on, p .goes .within)
 
 loop-again : tie.Need-loop-again Inv-loop μ-loop
 loop-again c =
-    let s = c .before .before .before .before .before .before .before .before .before .before .before .before .before .before .before .before .before .before .before .before .before .before .before .before .before .before in
+    let at-spell = c .before .before in
+    let at-d = at-spell .before .before .before .before in
+    let at-work2 = at-d .before .before .before in
+    let at-out = at-work2 .before .before in
+    let at-put-piece = at-out .before in
+    let at-loop = at-put-piece .before .before .before .before .before in
+    let at-clear = at-loop .before .before .before in
+    let s = at-clear .before .before .before .before .before .before in
     let fits : s .args .marks ≤ length (s .args .work .now) = omega (arith, s .pre .1 .order, s .pre .1 .within) in
-    let clear = front-cleared (s .args .marks) (s .args .work .now) (c .before .before .before .before .before .before .before .before .before .before .before .before .before .before .before .before .before .before .before .before .clear .last .0) fits (c .before .before .before .before .before .before .before .before .before .before .before .before .before .before .before .before .before .before .before .before .clear .ensures) in
-    let l = c .before .before .before .before .before .before .before .before .before .before .before .before .before .before .before .before .before .loop in
+    let clear = front-cleared (s .args .marks) (s .args .work .now) (at-clear .clear .last .0) fits (at-clear .clear .ensures) in
+    let l = at-loop .loop in
     let room = l .inv .2 ∙ clear .1 in
     let within : s .args .end ≤ length (l .work) = omega (arith, s .pre .1 .within, room) in
-    let part = c .before .before .before .before .before .before .before .before .before .before .before .before .put-piece .last .1 .1 .1 .1 .1 .0 in
-    let home = same-len-mid (s .args .marks) (s .args .end - s .args .marks) (l .work) part (c .before .before .before .before .before .before .before .before .before .work2 .given .0) in
+    let part = at-put-piece .put-piece .last .1 .1 .1 .1 .1 .0 in
+    let home = same-len-mid (s .args .marks) (s .args .end - s .args .marks) (l .work) part (at-work2 .work2 .given .0) in
     let is = part-room (s .args .o .quick) (s .args .marks) (s .args .end) (l .work) (s .pre .1 .order) within in
-    let p = stepped-on is _ _ _ _ _ (c .before .before .before .before .before .before .before .before .before .before .before .before .put-piece .result) (c .before .before .before .before .before .before .before .before .before .before .before .before .put-piece .ensures) (c .before .before .before .before .before .before .d .given .1) in
+    let p = stepped-on is _ _ _ _ _ (at-put-piece .put-piece .result) (at-put-piece .put-piece .ensures) (at-d .d .given .1) in
     let kept = front-kept (s .args .marks) (s .args .end - s .args .marks) (l .work) part (omega (arith, room, fits)) in
-    let back = front-home (s .args .marks) (putMid (s .args .marks) (s .args .end - s .args .marks) (l .work) part) (c .before .before .spell .last .0) (c .before .work3 .given .0 ∙ length-take-le (s .args .marks) (putMid (s .args .marks) (s .args .end - s .args .marks) (l .work) part) (omega (arith, home, room, fits))) (omega (arith, home, room, fits)) in (
+    let back = front-home (s .args .marks) (putMid (s .args .marks) (s .args .end - s .args .marks) (l .work) part) (at-spell .spell .last .0) (c .before .work3 .given .0 ∙ length-take-le (s .args .marks) (putMid (s .args .marks) (s .args .end - s .args .marks) (l .work) part) (omega (arith, home, room, fits))) (omega (arith, home, room, fits)) in (
       going-on _ _ _ (l .inv .0) p,
-      rw (back .0) (marking-on _ _ _ _ (l .inv .1) p (s .pre .1 .enough) (s .pre .1 .few) (c .before .before .before .before .before .before .before .before .before .before .before .out .given ∙ going-length _ _ _ (l .inv .0)) (rw kept at (c .before .before .spell .ensures))),
+      rw (back .0) (marking-on _ _ _ _ (l .inv .1) p (s .pre .1 .enough) (s .pre .1 .few) (at-out .out .given ∙ going-length _ _ _ (l .inv .0)) (rw kept at (at-spell .spell .ensures))),
       back .1 ∙ home ∙ l .inv .2,
     )
 
@@ -170,16 +223,21 @@ same-length-3 c = going-length _ _ _ (c .before .before .loop .inv .0)
 
 same-length-4 : tie.Need-same-length-4 Inv-loop μ-loop
 same-length-4 c =
-    let s = c .before .before .before .before .before .before .before .before .before .before .before in
+    let at-loop = c .before .before in
+    let at-clear = at-loop .before .before .before in
+    let s = at-clear .before .before .before .before .before .before in
     let fits : s .args .marks ≤ length (s .args .work .now) = omega (arith, s .pre .1 .order, s .pre .1 .within) in
-    let clear = front-cleared (s .args .marks) (s .args .work .now) (c .before .before .before .before .before .clear .last .0) fits (c .before .before .before .before .before .clear .ensures) in
-    let l = c .before .before .loop in
+    let clear = front-cleared (s .args .marks) (s .args .work .now) (at-clear .clear .last .0) fits (at-clear .clear .ensures) in
+    let l = at-loop .loop in
     let room = l .inv .2 ∙ clear .1 in
     let within : s .args .end ≤ length (l .work) = omega (arith, s .pre .1 .within, room) in
     room
 
 returns-2 : tie.Need-returns-2 Inv-loop μ-loop
-returns-2 c = let i = c .before .before .loop .inv in noted-all _ _ _ _ (i .0) _ (c .before .before .before .before .before .before .before .before .before .before .before .pre .1 .few) (i .1) (c .if1 .left)
+returns-2 c =
+    let at-loop = c .before .before in
+    let at-pre = at-loop .before .before .before .before .before .before .before .before .before in
+    let i = at-loop .loop .inv in noted-all _ _ _ _ (i .0) _ (at-pre .pre .1 .few) (i .1) (c .if1 .left)
 
 pub note-pieces-spec : {M : Type 1} → statement M
 note-pieces-spec =

@@ -15,7 +15,8 @@ enum-known-next c = search needs
 
 emit-line-requires : tie.Need-emit-line-requires
 emit-line-requires c κs =
-    let p = c .before .before .before .before .before .before .before .before .before .pre in
+    let at-pre = c .before .before .before .before .before .before .before .before .before in
+    let p = at-pre .pre in
     (omega arith, p .1 .within, omega (arith, p .0 .short), omega (arith, p .0 .short, p .1 .within, p .1 .bounded))
 
 enum-known-end : tie.Need-enum-known-end
@@ -23,8 +24,11 @@ enum-known-end c = search needs
 
 emit-line-requires-2 : tie.Need-emit-line-requires-2
 emit-line-requires-2 c κs =
-    let p = c .before .before .before .before .before .before .before .before .before .pre in
-    let m = found-goes _ _ _ (p .0) _ _ _ _ (p .2) (c .before .before .before .before .next-piece .ensures) (c .before .before .end .given .1) in
+    let at-end = c .before .before in
+    let at-next-piece = at-end .before .before in
+    let at-pre = at-next-piece .before .before .before .before .before in
+    let p = at-pre .pre in
+    let m = found-goes _ _ _ (p .0) _ _ _ _ (p .2) (at-next-piece .next-piece .ensures) (at-end .end .given .1) in
     (omega (arith, m .1), omega (arith, m .1, m .2, m .0 .within), omega (arith, p .0 .short), omega (arith, p .0 .short, p .1 .within, p .1 .bounded))
 
 enum-known-p : tie.Need-enum-known-p
@@ -32,8 +36,11 @@ enum-known-p c = search needs
 
 put-paragraph-requires : tie.Need-put-paragraph-requires
 put-paragraph-requires c κs =
-    let p = c .before .before .before .before .before .before .before .before .before .before .pre in
-    let b = found-begins _ _ _ (c .before .before .before .before .before .before .before .before .before .before .args .c) _ (p .2) (c .before .before .before .before .before .next-piece .ensures) (c .before .before .before .p .given .1) in
+    let at-p = c .before .before .before in
+    let at-next-piece = at-p .before .before in
+    let at-pre = at-next-piece .before .before .before .before .before in
+    let p = at-pre .pre in
+    let b = found-begins _ _ _ (at-pre .args .c) _ (p .2) (at-next-piece .next-piece .ensures) (at-p .p .given .1) in
     (begins-placed _ _ _ _ _ (p .0) b, omega (arith, p .0 .short, p .1 .within, p .1 .bounded))
 
 same-length : tie.Need-same-length
@@ -41,18 +48,26 @@ same-length c = search needs
 
 returns : tie.Need-returns
 returns c =
-    let p = c .before .before .before .before .before .before .before .before .before .before .before .before .pre in
-    let m = found-goes _ _ _ (p .0) _ _ _ _ (p .2) (c .before .before .before .before .before .before .before .next-piece .ensures) (c .before .before .before .before .before .next .given .1) in
-    blank-put _ _ _ _ _ _ _ _ m (c .before .before .emit-line .ensures)
+    let at-emit-line = c .before .before in
+    let at-next = at-emit-line .before .before .before in
+    let at-next-piece = at-next .before .before in
+    let at-pre = at-next-piece .before .before .before .before .before in
+    let p = at-pre .pre in
+    let m = found-goes _ _ _ (p .0) _ _ _ _ (p .2) (at-next-piece .next-piece .ensures) (at-next .next .given .1) in
+    blank-put _ _ _ _ _ _ _ _ m (at-emit-line .emit-line .ensures)
 
 same-length-2 : tie.Need-same-length-2
 same-length-2 c = search needs
 
 returns-2 : tie.Need-returns-2
 returns-2 c =
-    let p = c .before .before .before .before .before .before .before .before .before .before .before .before .pre in
-    let m = found-goes _ _ _ (p .0) _ _ _ _ (p .2) (c .before .before .before .before .before .before .before .next-piece .ensures) (c .before .before .before .before .before .end .given .1) in
-    plain-put _ _ _ _ _ _ _ _ _ m (c .before .before .emit-line2 .ensures) refl (omega arith)
+    let at-emit-line2 = c .before .before in
+    let at-end = at-emit-line2 .before .before .before in
+    let at-next-piece = at-end .before .before in
+    let at-pre = at-next-piece .before .before .before .before .before in
+    let p = at-pre .pre in
+    let m = found-goes _ _ _ (p .0) _ _ _ _ (p .2) (at-next-piece .next-piece .ensures) (at-end .end .given .1) in
+    plain-put _ _ _ _ _ _ _ _ _ m (at-emit-line2 .emit-line2 .ensures) refl (omega arith)
 
 same-length-3 : tie.Need-same-length-3
 same-length-3 c = search needs
@@ -62,9 +77,13 @@ same-length-4 c = search needs
 
 returns-3 : tie.Need-returns-3
 returns-3 c =
-    let p = c .before .before .before .before .before .before .before .before .before .before .before .before .before .before .before .pre in
-    let b = found-begins _ _ _ (c .before .before .before .before .before .before .before .before .before .before .before .before .before .before .before .args .c) _ (p .2) (c .before .before .before .before .before .before .before .before .before .before .next-piece .ensures) (c .before .before .before .before .before .before .before .before .p .given .1) in
-    text-stepped _ _ _ _ _ _ (p .0) (p .1) b _ _ (c .before .before .before .before .put-paragraph .result) (c .before .before .before .before .put-paragraph .ensures _)
+    let at-put-paragraph = c .before .before .before .before in
+    let at-p = at-put-paragraph .before .before .before .before in
+    let at-next-piece = at-p .before .before in
+    let at-pre = at-next-piece .before .before .before .before .before in
+    let p = at-pre .pre in
+    let b = found-begins _ _ _ (at-pre .args .c) _ (p .2) (at-next-piece .next-piece .ensures) (at-p .p .given .1) in
+    text-stepped _ _ _ _ _ _ (p .0) (p .1) b _ _ (at-put-paragraph .put-paragraph .result) (at-put-paragraph .put-paragraph .ensures _)
 
 pub put-piece-spec : {M : Type 1} → statement M
 put-piece-spec =

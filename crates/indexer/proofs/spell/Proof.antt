@@ -21,35 +21,62 @@ count-lines-requires : tie.Need-count-lines-requires
 count-lines-requires c κs = search needs
 
 add-behind : tie.Need-add-behind
-add-behind c = let p = c .before .before .before .before .before .before .before .pre in omega (arith, p .on, p .within, p .few)
+add-behind c =
+    let at-pre = c .before .before .before .before .before .before .before in
+    let p = at-pre .pre in omega (arith, p .on, p .within, p .few)
 
 sub-mark : tie.Need-sub-mark
-sub-mark c = omega (arith, c .before .before .before .before .before .before .before .before .pre .on)
+sub-mark c =
+    let at-pre = c .before .before .before .before .before .before .before .before in
+    omega (arith, at-pre .pre .on)
 
 mark-requires : tie.Need-mark-requires
-mark-requires c κs = c .before .before .before .before .before .before .before .before .pre .first (c .before .before .before .before .if1 .left)
+mark-requires c κs =
+    let at-if1 = c .before .before .before .before in
+    let at-pre = at-if1 .before .before .before .before in
+    at-pre .pre .first (at-if1 .if1 .left)
 
 add-mark : tie.Need-add-mark
-add-mark c = let p = c .before .before .before .before .before .before .before .before .before .before .before .before .pre in omega (arith, p .on, p .within, p .few, p .lines (c .before .before .before .before .before .before .before .before .if1 .left), c .before .before .before .before .before .before .count-lines .ensures .0)
+add-mark c =
+    let at-count-lines = c .before .before .before .before .before .before in
+    let at-if1 = at-count-lines .before .before in
+    let at-pre = at-if1 .before .before .before .before in
+    let p = at-pre .pre in omega (arith, p .on, p .within, p .few, p .lines (at-if1 .if1 .left), at-count-lines .count-lines .ensures .0)
 
 sub-mark-2 : tie.Need-sub-mark-2
-sub-mark-2 c = omega (arith, c .before .before .before .before .before .before .before .before .before .before .before .before .pre .on)
+sub-mark-2 c =
+    let at-pre = c .before .before .before .before .before .before .before .before .before .before .before .before in
+    omega (arith, at-pre .pre .on)
 
 mark-requires-2 : tie.Need-mark-requires-2
-mark-requires-2 c κs = rw (c .before .before .before .mark .ensures, c .before .before .before .before .before .before .count-lines .ensures .0) (c .before .before .before .before .before .before .before .before .before .before .before .before .pre .second (c .before .before .before .before .before .before .before .before .if1 .left))
+mark-requires-2 c κs =
+    let at-mark = c .before .before .before in
+    let at-count-lines = at-mark .before .before .before in
+    let at-if1 = at-count-lines .before .before in
+    let at-pre = at-if1 .before .before .before .before in
+    rw (at-mark .mark .ensures, at-count-lines .count-lines .ensures .0) (at-pre .pre .second (at-if1 .if1 .left))
 
 add-result : tie.Need-add-result
-add-result c = let p = c .before .before .before .before .before .before .before .before .before .before .before .before .before .before .before .pre in omega (arith, p .on, p .within, p .few, p .lines (c .before .before .before .before .before .before .before .before .before .before .before .if1 .left), c .before .before .before .before .before .before .before .before .before .count-lines .ensures .0)
+add-result c =
+    let at-count-lines = c .before .before .before .before .before .before .before .before .before in
+    let at-if1 = at-count-lines .before .before in
+    let at-pre = at-if1 .before .before .before .before in
+    let p = at-pre .pre in omega (arith, p .on, p .within, p .few, p .lines (at-if1 .if1 .left), at-count-lines .count-lines .ensures .0)
 
 same-length : tie.Need-same-length
 same-length c = search needs
 
 returns-2 : tie.Need-returns-2
-returns-2 c = record {
-  stays = λ f. absurd (omega (arith, f, c .before .before .before .before .before .before .before .before .before .before .before .if1 .left));
-  moves = λ _. rw (c .before .before .before .before .before .before .before .before .before .count-lines .ensures .0);
-  marked = λ _. c .before .before .mark2 .ensures ∙ rw (c .before .before .before .before .before .before .mark .ensures, c .before .before .before .before .before .before .before .before .before .count-lines .ensures .0);
-}
+returns-2 c =
+    let at-mark2 = c .before .before in
+    let at-mark = at-mark2 .before .before .before .before in
+    let at-count-lines = at-mark .before .before .before in
+    let at-if1 = at-count-lines .before .before in
+    record {
+      stays = λ f. absurd (omega (arith, f, at-if1 .if1 .left));
+      moves = λ _. rw (at-count-lines .count-lines .ensures .0);
+      marked = λ _. at-mark2 .mark2 .ensures ∙ rw (at-mark .mark .ensures, at-count-lines .count-lines .ensures .0);
+    }
 
 pub spell-spec : {M : Type 1} → statement M
 spell-spec =

@@ -17,13 +17,18 @@ begin-requires : tie.Need-begin-requires
 begin-requires c κs = search needs
 
 match-pieces-requires : tie.Need-match-pieces-requires
-match-pieces-requires c κs = (c .before .before .before .before .before .before .before .pre, begun-in _ _ (c .before .begin .ensures), room-holds _ _ _ (c .before .before .room-for .ensures))
+match-pieces-requires c κs =
+    let at-room-for = c .before .before in
+    let at-pre = at-room-for .before .before .before .before .before in
+    (at-pre .pre, begun-in _ _ (c .before .begin .ensures), room-holds _ _ _ (at-room-for .room-for .ensures))
 
 enum-told : tie.Need-enum-told
 enum-told c = search needs
 
 work-over-requires : tie.Need-work-over-requires
-work-over-requires c κs = c .before .before .before .before .before .before .before .before .before .before .before .before .pre
+work-over-requires c κs =
+    let at-pre = c .before .before .before .before .before .before .before .before .before .before .before .before in
+    at-pre .pre
 
 enum-known-m : tie.Need-enum-known-m
 enum-known-m c = search needs
@@ -36,14 +41,26 @@ same-length c = search needs
 
 returns : tie.Need-returns
 unfolding meant
-returns c = short-answer (length (c .before .before .before .before .before .before .before .before .before .before .before .before .before .args .work .now)) (meant (c .before .before .before .before .before .before .before .before .before .before .before .before .before .args .block .now) (c .before .before .before .before .before .before .before .before .before .before .before .before .before .args .o)) (c .before .before .before .before .before .before .before .before .before .before .before .before .before .args .notes .now) (c .before .before .before .before .before .before .before .before .before .before .before .before .before .args .digest .now) (c .before .before .before .before .before .before .before .begin .result) (c .before .before .before .before .before .before .before .before .room-for .result) (c .before .before .before .before .before .before .before .before .room-for .ensures) (c .before .before .before .before .before .match-pieces .result) (c .before .before .before .before .before .match-pieces .ensures) (c .before .enum-told .given .1) (c .work-over .ensures ∙ ap (λ (k : ℕ). max k (workFor (meant (c .before .before .before .before .before .before .before .before .before .before .before .before .before .args .block .now) (c .before .before .before .before .before .before .before .before .before .before .before .before .before .args .o)) (c .before .before .before .before .before .before .before .before .before .before .before .before .before .args .notes .now))) (c .before .before .before .before .work .given))
+returns c =
+    let at-work = c .before .before .before .before in
+    let at-match-pieces = at-work .before in
+    let at-begin = at-match-pieces .before .before in
+    let at-room-for = at-begin .before in
+    let at-args = at-room-for .before .before .before .before .before in
+    short-answer (length (at-args .args .work .now)) (meant (at-args .args .block .now) (at-args .args .o)) (at-args .args .notes .now) (at-args .args .digest .now) (at-begin .begin .result) (at-room-for .room-for .result) (at-room-for .room-for .ensures) (at-match-pieces .match-pieces .result) (at-match-pieces .match-pieces .ensures) (c .before .enum-told .given .1) (c .work-over .ensures ∙ ap (λ (k : ℕ). max k (workFor (meant (at-args .args .block .now) (at-args .args .o)) (at-args .args .notes .now))) (at-work .work .given))
 
 same-length-2 : tie.Need-same-length-2
 same-length-2 c = search needs
 
 returns-2 : tie.Need-returns-2
 unfolding meant
-returns-2 c = lent-answer (length (c .before .before .before .before .before .before .before .before .before .before .before .before .before .before .args .work .now)) (meant (c .before .before .before .before .before .before .before .before .before .before .before .before .before .before .args .block .now) (c .before .before .before .before .before .before .before .before .before .before .before .before .before .before .args .o)) (c .before .before .before .before .before .before .before .before .before .before .before .before .before .before .args .notes .now) (c .before .before .before .before .before .before .before .before .before .before .before .before .before .before .args .digest .now) (c .before .before .before .before .before .before .before .before .begin .result) (c .before .before .before .before .before .before .before .before .before .room-for .result) (c .before .before .before .before .before .before .before .before .before .room-for .ensures) (c .before .before .before .before .before .before .match-pieces .result) (c .before .before .before .before .before .before .match-pieces .ensures) (c .before .before .m .given .1) (c .before .before .before .before .before .before .before .before .begin .ensures) (c .judge .ensures)
+returns-2 c =
+    let at-m = c .before .before in
+    let at-match-pieces = at-m .before .before .before .before in
+    let at-begin = at-match-pieces .before .before in
+    let at-room-for = at-begin .before in
+    let at-args = at-room-for .before .before .before .before .before in
+    lent-answer (length (at-args .args .work .now)) (meant (at-args .args .block .now) (at-args .args .o)) (at-args .args .notes .now) (at-args .args .digest .now) (at-begin .begin .result) (at-room-for .room-for .result) (at-room-for .room-for .ensures) (at-match-pieces .match-pieces .result) (at-match-pieces .match-pieces .ensures) (at-m .m .given .1) (at-begin .begin .ensures) (c .judge .ensures)
 
 pub check-lent-spec : {M : Type 1} → statement M
 check-lent-spec =

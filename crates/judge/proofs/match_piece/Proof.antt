@@ -28,13 +28,22 @@ enum-known-end : tie.Need-enum-known-end
 enum-known-end c = search needs
 
 sub-line-behind-2 : tie.Need-sub-line-behind-2
-sub-line-behind-2 c = let m = found-goes _ _ _ (c .before .before .before .before .before .before .before .before .pre .0) _ _ _ _ (c .before .before .before .before .before .before .before .before .pre .3) (c .before .before .before .next-piece .ensures) (c .before .end .given .1) in omega (arith, m .1)
+sub-line-behind-2 c =
+    let at-next-piece = c .before .before .before in
+    let at-pre = at-next-piece .before .before .before .before .before in
+    let m = found-goes _ _ _ (at-pre .pre .0) _ _ _ _ (at-pre .pre .3) (at-next-piece .next-piece .ensures) (c .before .end .given .1) in omega (arith, m .1)
 
 part-line-behind-start-2 : tie.Need-part-line-behind-start-2
-part-line-behind-start-2 c = let m = found-goes _ _ _ (c .before .before .before .before .before .before .before .before .pre .0) _ _ _ _ (c .before .before .before .before .before .before .before .before .pre .3) (c .before .before .before .next-piece .ensures) (c .before .end .given .1) in omega (arith, m .1, m .2, m .0 .within)
+part-line-behind-start-2 c =
+    let at-next-piece = c .before .before .before in
+    let at-pre = at-next-piece .before .before .before .before .before in
+    let m = found-goes _ _ _ (at-pre .pre .0) _ _ _ _ (at-pre .pre .3) (at-next-piece .next-piece .ensures) (c .before .end .given .1) in omega (arith, m .1, m .2, m .0 .within)
 
 part-line-behind-end-2 : tie.Need-part-line-behind-end-2
-part-line-behind-end-2 c = let m = found-goes _ _ _ (c .before .before .before .before .before .before .before .before .pre .0) _ _ _ _ (c .before .before .before .before .before .before .before .before .pre .3) (c .before .before .before .next-piece .ensures) (c .before .end .given .1) in omega (arith, m .1, m .2, m .0 .within)
+part-line-behind-end-2 c =
+    let at-next-piece = c .before .before .before in
+    let at-pre = at-next-piece .before .before .before .before .before in
+    let m = found-goes _ _ _ (at-pre .pre .0) _ _ _ _ (at-pre .pre .3) (at-next-piece .next-piece .ensures) (c .before .end .given .1) in omega (arith, m .1, m .2, m .0 .within)
 
 line-behind-requires-2 : tie.Need-line-behind-requires-2
 line-behind-requires-2 c κs = search needs
@@ -43,7 +52,11 @@ enum-known-p : tie.Need-enum-known-p
 enum-known-p c = search needs
 
 split-words-requires : tie.Need-split-words-requires
-split-words-requires c κs = let p = c .before .before .before .before .before .before .before .before .before .pre in let t = text-splits _ _ _ (c .before .before .before .before .before .before .before .before .before .args .c) _ (p .0) (p .3) (c .before .before .before .before .next-piece .ensures) (c .before .before .p .given .1) in (t .0, t .1, t .2, t .3, t .4, p .2, t .5)
+split-words-requires c κs =
+    let at-p = c .before .before in
+    let at-next-piece = at-p .before .before in
+    let at-pre = at-next-piece .before .before .before .before .before in
+    let p = at-pre .pre in let t = text-splits _ _ _ (at-pre .args .c) _ (p .0) (p .3) (at-next-piece .next-piece .ensures) (at-p .p .given .1) in (t .0, t .1, t .2, t .3, t .4, p .2, t .5)
 
 enum-known-n : tie.Need-enum-known-n
 enum-known-n c = search needs
@@ -55,22 +68,47 @@ same-length : tie.Need-same-length
 same-length c = search needs
 
 returns : tie.Need-returns
-returns c = let p = c .before .before .before .before .before .before .before .before .before .before .before .before .before .before .pre in text-over _ _ _ (c .before .before .before .before .before .before .before .before .before .before .before .before .before .before .args .c) _ (p .0) (p .3) (c .before .before .before .before .before .before .before .before .before .next-piece .ensures) (c .before .before .before .before .before .before .before .p .given .1) (c .before .before .before .before .split-words .ensures _) (c .enum-told .given .1)
+returns c =
+    let at-split-words = c .before .before .before .before in
+    let at-p = at-split-words .before .before .before in
+    let at-next-piece = at-p .before .before in
+    let at-pre = at-next-piece .before .before .before .before .before in
+    let p = at-pre .pre in text-over _ _ _ (at-pre .args .c) _ (p .0) (p .3) (at-next-piece .next-piece .ensures) (at-p .p .given .1) (at-split-words .split-words .ensures _) (c .enum-told .given .1)
 
 words-behind-requires : tie.Need-words-behind-requires
-words-behind-requires c κs = let p = c .before .before .before .before .before .before .before .before .before .before .before .before .before .before .before .before .pre in let w = text-matchable _ _ _ (c .before .before .before .before .before .before .before .before .before .before .before .before .before .before .before .before .args .c) _ (p .0) (p .3) (c .before .before .before .before .before .before .before .before .before .before .before .next-piece .ensures) (c .before .before .before .before .before .before .before .before .before .p .given .1) (c .before .before .before .before .before .before .split-words .ensures _) _ (c .before .before .n .given .1) in (w .0, w .1, p .1)
+words-behind-requires c κs =
+    let at-n = c .before .before in
+    let at-split-words = at-n .before .before .before .before in
+    let at-p = at-split-words .before .before .before in
+    let at-next-piece = at-p .before .before in
+    let at-pre = at-next-piece .before .before .before .before .before in
+    let p = at-pre .pre in let w = text-matchable _ _ _ (at-pre .args .c) _ (p .0) (p .3) (at-next-piece .next-piece .ensures) (at-p .p .given .1) (at-split-words .split-words .ensures _) _ (at-n .n .given .1) in (w .0, w .1, p .1)
 
 returns-2 : tie.Need-returns-2
-returns-2 c = let m = found-goes _ _ _ (c .before .before .before .before .before .before .before .before .before .before .pre .0) _ _ _ _ (c .before .before .before .before .before .before .before .before .before .before .pre .3) (c .before .before .before .before .before .next-piece .ensures) (c .before .before .before .next .given .1) in blank-took _ _ _ _ (c .before .before .before .before .before .before .before .before .before .before .args .c) _ m (c .line-behind .ensures)
+returns-2 c =
+    let at-next = c .before .before .before in
+    let at-next-piece = at-next .before .before in
+    let at-pre = at-next-piece .before .before .before .before .before in
+    let m = found-goes _ _ _ (at-pre .pre .0) _ _ _ _ (at-pre .pre .3) (at-next-piece .next-piece .ensures) (at-next .next .given .1) in blank-took _ _ _ _ (at-pre .args .c) _ m (c .line-behind .ensures)
 
 returns-3 : tie.Need-returns-3
-returns-3 c = let m = found-goes _ _ _ (c .before .before .before .before .before .before .before .before .before .before .pre .0) _ _ _ _ (c .before .before .before .before .before .before .before .before .before .before .pre .3) (c .before .before .before .before .before .next-piece .ensures) (c .before .before .before .end .given .1) in plain-took _ _ _ _ (c .before .before .before .before .before .before .before .before .before .before .args .c) _ _ m (c .line-behind2 .ensures)
+returns-3 c =
+    let at-end = c .before .before .before in
+    let at-next-piece = at-end .before .before in
+    let at-pre = at-next-piece .before .before .before .before .before in
+    let m = found-goes _ _ _ (at-pre .pre .0) _ _ _ _ (at-pre .pre .3) (at-next-piece .next-piece .ensures) (at-end .end .given .1) in plain-took _ _ _ _ (at-pre .args .c) _ _ m (c .line-behind2 .ensures)
 
 same-length-2 : tie.Need-same-length-2
 same-length-2 c = search needs
 
 returns-4 : tie.Need-returns-4
-returns-4 c = let p = c .before .before .before .before .before .before .before .before .before .before .before .before .before .before .before .before .before .pre in text-took _ _ _ (c .before .before .before .before .before .before .before .before .before .before .before .before .before .before .before .before .before .args .c) _ (p .0) (p .3) (c .before .before .before .before .before .before .before .before .before .before .before .before .next-piece .ensures) (c .before .before .before .before .before .before .before .before .before .before .p .given .1) (c .before .before .before .before .before .before .before .split-words .ensures _) _ (c .before .before .before .n .given .1) (c .words-behind .ensures)
+returns-4 c =
+    let at-n = c .before .before .before in
+    let at-split-words = at-n .before .before .before .before in
+    let at-p = at-split-words .before .before .before in
+    let at-next-piece = at-p .before .before in
+    let at-pre = at-next-piece .before .before .before .before .before in
+    let p = at-pre .pre in text-took _ _ _ (at-pre .args .c) _ (p .0) (p .3) (at-next-piece .next-piece .ensures) (at-p .p .given .1) (at-split-words .split-words .ensures _) _ (at-n .n .given .1) (c .words-behind .ensures)
 
 pub match-piece-spec : {M : Type 1} → statement M
 match-piece-spec =

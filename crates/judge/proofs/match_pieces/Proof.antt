@@ -19,7 +19,10 @@ loop-holds : tie.Need-loop-holds Inv-loop μ-loop
 loop-holds c = (going-first _ _ _ _ _ (c .before .before .before .before .pre .1), refl)
 
 match-piece-requires : tie.Need-match-piece-requires Inv-loop μ-loop
-match-piece-requires c κs = let p = c .before .before .before .before .before .before .before .before .pre in let i = c .before .before .before .loop .inv in (p .0, i .0 .inside, omega (arith, p .2, i .1), c .before .if1 .taken)
+match-piece-requires c κs =
+    let at-loop = c .before .before .before in
+    let at-pre = at-loop .before .before .before .before .before in
+    let p = at-pre .pre in let i = at-loop .loop .inv in (p .0, i .0 .inside, omega (arith, p .2, i .1), c .before .if1 .taken)
 
 enum-known-d : tie.Need-enum-known-d Inv-loop μ-loop
 enum-known-d c = search needs
@@ -28,16 +31,28 @@ enum-told : tie.Need-enum-told Inv-loop μ-loop
 enum-told c = search needs
 
 same-length : tie.Need-same-length Inv-loop μ-loop
-same-length c = c .before .before .before .table .given ∙ c .before .before .before .before .before .before .before .before .loop .inv .1
+same-length c =
+    let at-table = c .before .before .before in
+    let at-loop = at-table .before .before .before .before .before in
+    at-table .table .given ∙ at-loop .loop .inv .1
 
 returns : tie.Need-returns Inv-loop μ-loop
-returns c = going-stopped _ _ _ _ _ (c .before .before .before .before .before .before .before .before .loop .inv .0) (stepped-over _ _ _ _ _ (c .before .before .before .before .match-piece .ensures) (c .enum-told .given .1))
+returns c =
+    let at-match-piece = c .before .before .before .before in
+    let at-loop = at-match-piece .before .before .before .before in
+    going-stopped _ _ _ _ _ (at-loop .loop .inv .0) (stepped-over _ _ _ _ _ (at-match-piece .match-piece .ensures) (c .enum-told .given .1))
 
 loop-less : tie.Need-loop-less Inv-loop μ-loop
-loop-less c = let t = stepped-on _ _ _ _ _ (c .before .before .before .before .before .match-piece .ensures) (c .before .d .given .1) in omega (arith, t .goes .on, t .goes .within)
+loop-less c =
+    let at-match-piece = c .before .before .before .before .before in
+    let t = stepped-on _ _ _ _ _ (at-match-piece .match-piece .ensures) (c .before .d .given .1) in omega (arith, t .goes .on, t .goes .within)
 
 loop-again : tie.Need-loop-again Inv-loop μ-loop
-loop-again c = let t = stepped-on _ _ _ _ _ (c .before .before .before .before .before .match-piece .ensures) (c .before .d .given .1) in (going-on _ _ _ _ _ (c .before .before .before .before .before .before .before .before .before .loop .inv .0) t, c .before .before .before .before .table .given ∙ c .before .before .before .before .before .before .before .before .before .loop .inv .1)
+loop-again c =
+    let at-table = c .before .before .before .before in
+    let at-match-piece = at-table .before in
+    let at-loop = at-match-piece .before .before .before .before in
+    let t = stepped-on _ _ _ _ _ (at-match-piece .match-piece .ensures) (c .before .d .given .1) in (going-on _ _ _ _ _ (at-loop .loop .inv .0) t, at-table .table .given ∙ at-loop .loop .inv .1)
 
 same-length-2 : tie.Need-same-length-2 Inv-loop μ-loop
 same-length-2 c = c .before .before .loop .inv .1

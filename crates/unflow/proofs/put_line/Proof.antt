@@ -27,7 +27,11 @@ put-text-requires : tie.Need-put-text-requires
 put-text-requires c κs = search needs
 
 add-m : tie.Need-add-m
-add-m c = omega (arith, wrote-start (now (c .before .before .before .before .before .before .before .before .before .before .before .args .line)) (c .before .before .before .before .before .before .before .before .before .before .before .args .l) (c .before .before .before .before .before .before .before .before .before .before .before .args .going) (c .before .before .before .before .before .before .before .before .before .before .before .args .depth) (c .before .before .before .before .before .before .before .before .before .before .before .pre .0) (c .before .before .before .before .before .before .before .put-start .ensures), wrote-content (now (c .before .before .before .before .before .before .before .before .before .before .before .args .line)) (c .before .before .before .before .before .before .before .before .before .before .before .args .l .start) (c .before .before .before .before .before .before .before .before .before .before .before .pre .0 .within) (c .before .before .put-text .ensures), c .before .before .before .before .before .before .before .before .before .before .before .pre .1)
+add-m c =
+    let at-put-text = c .before .before in
+    let at-put-start = at-put-text .before .before .before .before .before in
+    let at-args = at-put-start .before .before .before .before in
+    omega (arith, wrote-start (now (at-args .args .line)) (at-args .args .l) (at-args .args .going) (at-args .args .depth) (at-args .pre .0) (at-put-start .put-start .ensures), wrote-content (now (at-args .args .line)) (at-args .args .l .start) (at-args .pre .0 .within) (at-put-text .put-text .ensures), at-args .pre .1)
 
 lesser-requires-2 : tie.Need-lesser-requires-2
 lesser-requires-2 c κs = search needs
@@ -46,16 +50,26 @@ put-end-requires c κs = search needs
 
 add-result : tie.Need-add-result
 add-result c =
-    omega (arith, wrote-start (now (c .before .before .before .before .before .before .before .before .before .before .before .before .before .before .before .before .before .args .line)) (c .before .before .before .before .before .before .before .before .before .before .before .before .before .before .before .before .before .args .l) (c .before .before .before .before .before .before .before .before .before .before .before .before .before .before .before .before .before .args .going) (c .before .before .before .before .before .before .before .before .before .before .before .before .before .before .before .before .before .args .depth) (c .before .before .before .before .before .before .before .before .before .before .before .before .before .before .before .before .before .pre .0) (c .before .before .before .before .before .before .before .before .before .before .before .before .before .put-start .ensures), wrote-content (now (c .before .before .before .before .before .before .before .before .before .before .before .before .before .before .before .before .before .args .line)) (c .before .before .before .before .before .before .before .before .before .before .before .before .before .before .before .before .before .args .l .start) (c .before .before .before .before .before .before .before .before .before .before .before .before .before .before .before .before .before .pre .0 .within) (c .before .before .before .before .before .before .before .before .put-text .ensures), wrote-end (not (c .before .before .before .before .before .before .before .before .before .before .before .before .before .before .before .before .before .args .l .soft)) (c .before .before .put-end .ensures), c .before .before .before .before .before .before .before .before .before .before .before .before .before .before .before .before .before .pre .1)
+    let at-put-end = c .before .before in
+    let at-put-text = at-put-end .before .before .before .before .before .before in
+    let at-put-start = at-put-text .before .before .before .before .before in
+    let at-args = at-put-start .before .before .before .before in
+    omega (arith, wrote-start (now (at-args .args .line)) (at-args .args .l) (at-args .args .going) (at-args .args .depth) (at-args .pre .0) (at-put-start .put-start .ensures), wrote-content (now (at-args .args .line)) (at-args .args .l .start) (at-args .pre .0 .within) (at-put-text .put-text .ensures), wrote-end (not (at-args .args .l .soft)) (at-put-end .put-end .ensures), at-args .pre .1)
 
 same-length : tie.Need-same-length
 same-length c = search needs
 
 returns : tie.Need-returns
 returns c =
-    line-placed _ _ _ _ (c .before .before .before .before .before .before .before .before .before .before .before .before .before .before .before .before .before .pre .0) (c .before .before .before .before .before .before .before .before .before .before .before .before .before .put-start .ensures)
-    (wrote-part _ _ _ _ _ _ (c .before .before .before .before .before .before .before .before .before .before .lesser .ensures) (c .before .before .before .before .before .before .before .before .put-text .ensures))
-    (wrote-part _ _ _ _ _ _ (c .before .before .before .before .before .lesser2 .ensures) (c .before .before .put-end .ensures))
+    let at-put-end = c .before .before in
+    let at-lesser2 = at-put-end .before .before .before in
+    let at-put-text = at-lesser2 .before .before .before in
+    let at-lesser = at-put-text .before .before in
+    let at-put-start = at-lesser .before .before .before in
+    let at-pre = at-put-start .before .before .before .before in
+    line-placed _ _ _ _ (at-pre .pre .0) (at-put-start .put-start .ensures)
+    (wrote-part _ _ _ _ _ _ (at-lesser .lesser .ensures) (at-put-text .put-text .ensures))
+    (wrote-part _ _ _ _ _ _ (at-lesser2 .lesser2 .ensures) (at-put-end .put-end .ensures))
 
 pub put-line-spec : {M : Type 1} → statement M
 put-line-spec =

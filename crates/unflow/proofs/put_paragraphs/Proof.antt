@@ -73,19 +73,39 @@ part-put-line-end-2 : tie.Need-part-put-line-end-2 Inv-loop μ-loop
 part-put-line-end-2 c = search needs
 
 put-line-requires : tie.Need-put-line-requires Inv-loop μ-loop
-put-line-requires c κs = (c .before .before .before .take-apart .ensures, lent-short _ _ _ (here (c .before .before .before .before .before .before)) (c .before .before .before .before .before .before .before .before .before .before .before .before .pre))
+put-line-requires c κs =
+    let at-take-apart = c .before .before .before in
+    let at-state = at-take-apart .before .before .before in
+    let at-pre = at-state .before .before .before .before .before .before in
+    (at-take-apart .take-apart .ensures, lent-short _ _ _ (here (at-state)) (at-pre .pre))
 
 add-k : tie.Need-add-k Inv-loop μ-loop
-add-k c = omega (arith, c .before .before .put-line .ensures .count, placed-most _ _ (c .before .before .before .before .before .before .take-apart .ensures) (c .before .before .before .before .before .before .before .before .before .before .before .before .loop .going) (c .before .before .before .before .before .before .before .before .before .before .before .before .loop .depth), lent-short _ _ _ (here (c .before .before .before .before .before .before .before .before .before)) (c .before .before .before .before .before .before .before .before .before .before .before .before .before .before .before .pre), c .before .before .before .before .before .before .before .before .before .before .before .before .loop .inv .bounded, c .before .before .before .before .before .before .before .before .before .before .before .before .loop .inv .within, c .before .before .before .before .before .before .before .before .before .before .before .before .before .before .before .pre)
+add-k c =
+    let at-put-line = c .before .before in
+    let at-take-apart = at-put-line .before .before .before .before in
+    let at-state = at-take-apart .before .before .before in
+    let at-loop = at-state .before .before .before in
+    let at-pre = at-loop .before .before .before in
+    omega (arith, at-put-line .put-line .ensures .count, placed-most _ _ (at-take-apart .take-apart .ensures) (at-loop .loop .going) (at-loop .loop .depth), lent-short _ _ _ (here (at-state)) (at-pre .pre), at-loop .loop .inv .bounded, at-loop .loop .inv .within, at-pre .pre)
 
 add-at : tie.Need-add-at Inv-loop μ-loop
-add-at c = let h = here (c .before .before .before .before .before .before .before .before .before .before) in omega (arith, h .within)
+add-at c =
+    let at-state = c .before .before .before .before .before .before .before .before .before .before in
+    let h = here (at-state) in omega (arith, h .within)
 
 loop-less : tie.Need-loop-less Inv-loop μ-loop
-loop-less c = let h = here (c .before .before .before .before .before .before .before .before .before .before) in omega (arith, h .on, h .within)
+loop-less c =
+    let at-state = c .before .before .before .before .before .before .before .before .before .before in
+    let h = here (at-state) in omega (arith, h .on, h .within)
 
 loop-again : tie.Need-loop-again Inv-loop μ-loop
-loop-again c = turning-line (c .before .before .before .before .before .before .before .before .before .before .before .before .before .loop .inv) (here (c .before .before .before .before .before .before .before .before .before .before)) (c .before .before .before .before .before .before .before .take-apart .ensures) (wrote-part _ _ _ _ _ _ (c .before .before .before .before .before .before .lesser .ensures) (c .before .before .before .put-line .ensures))
+loop-again c =
+    let at-put-line = c .before .before .before in
+    let at-lesser = at-put-line .before .before .before in
+    let at-take-apart = at-lesser .before in
+    let at-state = at-take-apart .before .before .before in
+    let at-loop = at-state .before .before .before in
+    turning-line (at-loop .loop .inv) (here (at-state)) (at-take-apart .take-apart .ensures) (wrote-part _ _ _ _ _ _ (at-lesser .lesser .ensures) (at-put-line .put-line .ensures))
 
 lesser-requires-2 : tie.Need-lesser-requires-2 Inv-loop μ-loop
 lesser-requires-2 c κs = search needs
@@ -103,13 +123,26 @@ put-end-requires : tie.Need-put-end-requires Inv-loop μ-loop
 put-end-requires c κs = search needs
 
 add-result : tie.Need-add-result Inv-loop μ-loop
-add-result c = omega (arith, wrote-end _ (c .before .before .put-end .ensures), c .before .before .before .before .before .before .loop .inv .bounded, c .before .before .before .before .before .before .loop .inv .within, c .before .before .before .before .before .before .before .before .before .pre)
+add-result c =
+    let at-put-end = c .before .before in
+    let at-loop = at-put-end .before .before .before .before in
+    let at-pre = at-loop .before .before .before in
+    omega (arith, wrote-end _ (at-put-end .put-end .ensures), at-loop .loop .inv .bounded, at-loop .loop .inv .within, at-pre .pre)
 
 same-length : tie.Need-same-length Inv-loop μ-loop
-same-length c = wrote-length (wrote-part _ _ _ _ _ _ (c .before .before .before .before .lesser2 .ensures) (c .before .before .put-end .ensures)) ∙ turning-length (c .before .before .before .before .before .before .loop .inv)
+same-length c =
+    let at-put-end = c .before .before in
+    let at-lesser2 = at-put-end .before .before in
+    let at-loop = at-lesser2 .before .before in
+    wrote-length (wrote-part _ _ _ _ _ _ (at-lesser2 .lesser2 .ensures) (at-put-end .put-end .ensures)) ∙ turning-length (at-loop .loop .inv)
 
 returns : tie.Need-returns Inv-loop μ-loop
-returns c = turning-last (c .before .before .before .before .before .before .loop .inv) (c .before .before .before .before .before .loop-test .left) (wrote-part _ _ _ _ _ _ (c .before .before .before .before .lesser2 .ensures) (c .before .before .put-end .ensures))
+returns c =
+    let at-put-end = c .before .before in
+    let at-lesser2 = at-put-end .before .before in
+    let at-loop-test = at-lesser2 .before in
+    let at-loop = at-loop-test .before in
+    turning-last (at-loop .loop .inv) (at-loop-test .loop-test .left) (wrote-part _ _ _ _ _ _ (at-lesser2 .lesser2 .ensures) (at-put-end .put-end .ensures))
 
 pub put-paragraphs-spec : {M : Type 1} → statement M
 put-paragraphs-spec =

@@ -29,7 +29,11 @@ put-text-requires : tie.Need-put-text-requires
 put-text-requires c κs = search needs
 
 add-m : tie.Need-add-m
-add-m c = omega (arith, wrote-end _ (c .before .before .before .before .before .before .before .put-end .ensures), wrote-marks (now (c .before .before .before .before .before .before .before .before .before .before .before .before .before .before .args .line)) (c .before .before .before .before .before .before .before .before .before .before .before .before .before .before .args .l .depth) (c .before .before .put-text .ensures), c .before .before .before .before .before .before .before .before .before .before .before .before .before .before .pre .1)
+add-m c =
+    let at-put-text = c .before .before in
+    let at-put-end = at-put-text .before .before .before .before .before in
+    let at-args = at-put-end .before .before .before .before .before .before .before in
+    omega (arith, wrote-end _ (at-put-end .put-end .ensures), wrote-marks (now (at-args .args .line)) (at-args .args .l .depth) (at-put-text .put-text .ensures), at-args .pre .1)
 
 lesser-requires-2 : tie.Need-lesser-requires-2
 lesser-requires-2 c κs = search needs
@@ -59,17 +63,31 @@ put-added-requires : tie.Need-put-added-requires
 put-added-requires c κs = search needs
 
 add-result : tie.Need-add-result
-add-result c = omega (arith, wrote-end _ (c .before .before .before .before .before .before .before .before .before .before .before .before .before .before .put-end .ensures), wrote-marks (now (c .before .before .before .before .before .before .before .before .before .before .before .before .before .before .before .before .before .before .before .before .before .args .line)) (c .before .before .before .before .before .before .before .before .before .before .before .before .before .before .before .before .before .before .before .before .before .args .l .depth) (c .before .before .before .before .before .before .before .before .before .put-text .ensures), wrote-spaces (c .before .before .before .before .stuffing-of .result) (c .before .before .put-added .ensures), c .before .before .before .before .stuffing-of .ensures .1, c .before .before .before .before .before .before .before .before .before .before .before .before .before .before .before .before .before .before .before .before .before .pre .1)
+add-result c =
+    let at-put-added = c .before .before in
+    let at-stuffing-of = at-put-added .before .before in
+    let at-put-text = at-stuffing-of .before .before .before .before .before in
+    let at-put-end = at-put-text .before .before .before .before .before in
+    let at-args = at-put-end .before .before .before .before .before .before .before in
+    omega (arith, wrote-end _ (at-put-end .put-end .ensures), wrote-marks (now (at-args .args .line)) (at-args .args .l .depth) (at-put-text .put-text .ensures), wrote-spaces (at-stuffing-of .stuffing-of .result) (at-put-added .put-added .ensures), at-stuffing-of .stuffing-of .ensures .1, at-args .pre .1)
 
 same-length : tie.Need-same-length
 same-length c = search needs
 
 returns-2 : tie.Need-returns-2
 returns-2 c =
-    start-apart _ _ _ _ (c .before .before .before .before .before .before .before .before .before .before .before .before .before .before .before .before .before .before .before .before .before .pre .0) (c .before .before .before .before .stuffing-of .result) (c .before .before .before .before .before .before .before .before .before .before .before .before .before .before .before .before .if1 .left) (c .before .before .before .before .before .before .before .before .before .before .before .before .before .before .put-end .ensures)
-    (wrote-part _ _ _ _ _ _ (c .before .before .before .before .before .before .before .before .before .before .before .lesser .ensures) (c .before .before .before .before .before .before .before .before .before .put-text .ensures))
-    (c .before .before .before .before .stuffing-of .ensures .0)
-    (wrote-part _ _ _ _ _ _ (c .before .before .before .before .before .before .lesser2 .ensures) (c .before .before .put-added .ensures))
+    let at-put-added = c .before .before in
+    let at-stuffing-of = at-put-added .before .before in
+    let at-lesser2 = at-stuffing-of .before .before in
+    let at-put-text = at-lesser2 .before .before .before in
+    let at-lesser = at-put-text .before .before in
+    let at-put-end = at-lesser .before .before .before in
+    let at-if1 = at-put-end .before .before in
+    let at-pre = at-if1 .before .before .before .before .before in
+    start-apart _ _ _ _ (at-pre .pre .0) (at-stuffing-of .stuffing-of .result) (at-if1 .if1 .left) (at-put-end .put-end .ensures)
+    (wrote-part _ _ _ _ _ _ (at-lesser .lesser .ensures) (at-put-text .put-text .ensures))
+    (at-stuffing-of .stuffing-of .ensures .0)
+    (wrote-part _ _ _ _ _ _ (at-lesser2 .lesser2 .ensures) (at-put-added .put-added .ensures))
 
 pub put-start-spec : {M : Type 1} → statement M
 put-start-spec =
