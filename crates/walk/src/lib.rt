@@ -20,7 +20,7 @@ ghost use Rattle.output.specs.Contracts.Sink.{Wrote};
 ghost use Rattle.paragraphs.specs.Contracts.Steps.{roomFor, wordsFor};
 ghost use Rattle.walk.specs.Digest.{mostWords, digest};
 ghost use Rattle.walk.specs.Work.{workFor};
-ghost use Rattle.walk.specs.Contracts.Course.{CursorIn, TextAhead, Reached, Admitted, outputFrom, longFrom, Coursed, Begun, start, Finished, FinishedFrom};
+ghost use Rattle.walk.specs.Contracts.Course.{CursorIn, TextAhead, Reached, Admitted, outputFrom, longFrom, Coursed, start, Finished, FinishedFrom};
 
 // What follows the lines after a place: a paragraph, where the cursor stands, or the end of the notes.
 enum Ahead {
@@ -28,7 +28,7 @@ enum Ahead {
     End(usize),
 }
 
-// How far the tables reach: to the end of the digest, of so many bytes, or to a paragraph of more words than they have room for.
+// How far the work went: to the end of the digest, of so many bytes, or to a paragraph of more words than it may have here.
 enum Course {
     End(usize),
     Short { c: Cursor, p: Paragraph },
@@ -89,7 +89,8 @@ fn put_lent(
     requires { ⌜ Admitted (now block) (now notes) o × CursorIn (now notes) c × TextAhead (now block) o (now notes) c p × (longFrom (roomFor (o .quick) (length (now work))) (meant (now block) o) (c .mail) (now notes) (c .at) ≡ Nowhere) ⌝ }
     ensures { λ r. ⌜ Wrote (now (out .entry)) (c .written) (outputFrom (meant (now (block .entry)) o) (c .mail) (now (notes .entry)) (c .at)) (now (out .exit)) r ⌝ }
 {
-    match put_texts(o, block, notes, c, p, out, work) {
+    let limit = paragraphs::room_for(o.quick, work.len());
+    match put_texts(o, block, notes, c, p, out, limit, work) {
         Course::End(needed) => needed,
         // There is room for every paragraph, so none is left.
         Course::Short { c: d, p: _ } => d.written,
@@ -199,12 +200,13 @@ fn put_lines(o: Options, block: &[u8], notes: &[u8], from: Cursor, out: &mut [u8
     Ahead::End(c.written)
 }
 
-// The rooms, in numbers. With quick a word takes seven, with Knuth-Plass fifteen: 48, 512 and 1,024 words, and 40, 196 and 1,024.
-const QUICK_FEW: usize = 336;
+// The most words that a paragraph may have.
+const MOST_WORDS: usize = 1024;
 
-const QUICK_MORE: usize = 3584;
+// Knuth-Plass's rooms: for so many words, and in numbers, of which a word takes fifteen.
+const FEW_WORDS: usize = 40;
 
-const QUICK_MOST: usize = 7168;
+const MORE_WORDS: usize = 196;
 
 const BEST_FEW: usize = 600;
 
@@ -212,9 +214,9 @@ const BEST_MORE: usize = 2940;
 
 const BEST_MOST: usize = 15360;
 
-// Writes everything from the first paragraph on. All working room is declared in the functions that follow, each for longer paragraphs
-// than the one before it, and lent from there on: a call has no more of it cleared than its paragraphs ask for, and notes without a
-// paragraph do without.
+// Writes everything from the first paragraph on. Quick does without working room. Knuth-Plass's is declared in the functions that follow,
+// each for longer paragraphs than the one before it, and lent from there on: a call has no more of it cleared than its paragraphs ask for,
+// and notes without a paragraph do without.
 fn put_from(
     o: Options,
     block: &[u8],
@@ -232,7 +234,7 @@ fn put_from(
     put_best(o, block, notes, c, p, out)
 }
 
-// Quick, for the words of a few lines.
+// Quick, for paragraphs of every length that they may have.
 fn put_quick(
     o: Options,
     block: &[u8],
@@ -244,70 +246,14 @@ fn put_quick(
     requires { ⌜ Admitted (now block) (now notes) o × CursorIn (now notes) c × TextAhead (now block) o (now notes) c p × (o .quick ≡ true) ⌝ }
     ensures { λ r. ⌜ FinishedFrom mostWords (meant (now (block .entry)) o) (now (notes .entry)) c (now (out .entry)) (now (out .exit)) r ⌝ }
 {
-    let mut work = [0u32; QUICK_FEW];
-    match put_texts(o, block, notes, c, p, out, &mut work) {
-        Course::End(needed) => Ended::All(needed),
-        Course::Short { c: d, p: q } => put_quick_longer(o, block, notes, d, q, out),
-    }
-}
-
-// The same for longer paragraphs.
-fn put_quick_longer(
-    o: Options,
-    block: &[u8],
-    notes: &[u8],
-    c: Cursor,
-    p: Paragraph,
-    out: &mut [u8],
-) -> Ended
-    requires { ⌜ Admitted (now block) (now notes) o × CursorIn (now notes) c × TextAhead (now block) o (now notes) c p × (o .quick ≡ true) ⌝ }
-    ensures { λ r. ⌜ FinishedFrom mostWords (meant (now (block .entry)) o) (now (notes .entry)) c (now (out .entry)) (now (out .exit)) r ⌝ }
-{
-    match put_quick_more(o, block, notes, c, p, out) {
-        Course::End(needed) => Ended::All(needed),
-        Course::Short { c: d, p: q } => put_quick_long(o, block, notes, d, q, out),
-    }
-}
-
-// For 512 words, which is as many as a paragraph of 1 KiB can have: one of more bytes is not split for tables that it may outgrow.
-fn put_quick_more(
-    o: Options,
-    block: &[u8],
-    notes: &[u8],
-    c: Cursor,
-    p: Paragraph,
-    out: &mut [u8],
-) -> Course
-    requires { ⌜ Admitted (now block) (now notes) o × CursorIn (now notes) c × TextAhead (now block) o (now notes) c p × (o .quick ≡ true) ⌝ }
-    ensures { λ r. ⌜ Begun mostWords (now (block .entry)) o (now (notes .entry)) c (now (out .entry)) (now (out .exit)) r ⌝ }
-{
-    if c.at + 1024 < p.next {
-        return Course::Short { c, p };
-    }
-    let mut work = [0u32; QUICK_MORE];
-    put_texts(o, block, notes, c, p, out, &mut work)
-}
-
-// For the most words that a paragraph may have.
-fn put_quick_long(
-    o: Options,
-    block: &[u8],
-    notes: &[u8],
-    c: Cursor,
-    p: Paragraph,
-    out: &mut [u8],
-) -> Ended
-    requires { ⌜ Admitted (now block) (now notes) o × CursorIn (now notes) c × TextAhead (now block) o (now notes) c p × (o .quick ≡ true) ⌝ }
-    ensures { λ r. ⌜ FinishedFrom mostWords (meant (now (block .entry)) o) (now (notes .entry)) c (now (out .entry)) (now (out .exit)) r ⌝ }
-{
-    let mut work = [0u32; QUICK_MOST];
-    match put_texts(o, block, notes, c, p, out, &mut work) {
+    let mut none = [0u32; 0];
+    match put_texts(o, block, notes, c, p, out, MOST_WORDS, &mut none) {
         Course::End(needed) => Ended::All(needed),
         Course::Short { c: d, p: _ } => Ended::Stopped(d.at),
     }
 }
 
-// The same with Knuth-Plass: for the words of a few lines.
+// Knuth-Plass, for the words of a few lines.
 fn put_best(
     o: Options,
     block: &[u8],
@@ -320,7 +266,7 @@ fn put_best(
     ensures { λ r. ⌜ FinishedFrom mostWords (meant (now (block .entry)) o) (now (notes .entry)) c (now (out .entry)) (now (out .exit)) r ⌝ }
 {
     let mut work = [0u32; BEST_FEW];
-    match put_texts(o, block, notes, c, p, out, &mut work) {
+    match put_texts(o, block, notes, c, p, out, FEW_WORDS, &mut work) {
         Course::End(needed) => Ended::All(needed),
         Course::Short { c: d, p: q } => put_best_more(o, block, notes, d, q, out),
     }
@@ -339,7 +285,7 @@ fn put_best_more(
     ensures { λ r. ⌜ FinishedFrom mostWords (meant (now (block .entry)) o) (now (notes .entry)) c (now (out .entry)) (now (out .exit)) r ⌝ }
 {
     let mut work = [0u32; BEST_MORE];
-    match put_texts(o, block, notes, c, p, out, &mut work) {
+    match put_texts(o, block, notes, c, p, out, MORE_WORDS, &mut work) {
         Course::End(needed) => Ended::All(needed),
         Course::Short { c: d, p: q } => put_best_long(o, block, notes, d, q, out),
     }
@@ -358,13 +304,13 @@ fn put_best_long(
     ensures { λ r. ⌜ FinishedFrom mostWords (meant (now (block .entry)) o) (now (notes .entry)) c (now (out .entry)) (now (out .exit)) r ⌝ }
 {
     let mut work = [0u32; BEST_MOST];
-    match put_texts(o, block, notes, c, p, out, &mut work) {
+    match put_texts(o, block, notes, c, p, out, MOST_WORDS, &mut work) {
         Course::End(needed) => Ended::All(needed),
         Course::Short { c: d, p: _ } => Ended::Stopped(d.at),
     }
 }
 
-// Paragraph by paragraph, each with the lines after it, as far as the tables reach.
+// Paragraph by paragraph, each with the lines after it, up to one of more than so many words.
 // In the original: `uumain`.
 fn put_texts(
     o: Options,
@@ -373,16 +319,25 @@ fn put_texts(
     first: Cursor,
     head: Paragraph,
     out: &mut [u8],
+    limit: usize,
     work: &mut [u32],
 ) -> Course
-    requires { ⌜ Admitted (now block) (now notes) o × CursorIn (now notes) first × TextAhead (now block) o (now notes) first head ⌝ }
-    ensures { λ r. ⌜ ((most : ℕ) → roomFor (o .quick) (length (now (work .entry))) ≤ most → Coursed most (roomFor (o .quick) (length (now (work .entry)))) (now (block .entry)) o (now (notes .entry)) first (now (out .entry)) (now (out .exit)) r) ⌝ }
+    requires { ⌜ Admitted (now block) (now notes) o × CursorIn (now notes) first × TextAhead (now block) o (now notes) first head × (o .quick ≡ false → limit * 15 ≤ length (now work)) ⌝ }
+    ensures { λ r. ⌜ ((most : ℕ) → limit ≤ most → Coursed most limit (now (block .entry)) o (now (notes .entry)) first (now (out .entry)) (now (out .exit)) r) ⌝ }
 {
     let mut c = first;
     let mut p = head;
     loop {
-        let Step::On(behind) = paragraphs::put_paragraph(notes, c.at, o, p, out, c.written, work)
-        else {
+        let Step::On(behind) = paragraphs::put_paragraph(
+            notes,
+            c.at,
+            o,
+            p,
+            out,
+            c.written,
+            limit,
+            work,
+        ) else {
             return Course::Short { c, p };
         };
         match put_lines(o, block, notes, behind, out) {
