@@ -1,13 +1,13 @@
 -- A paragraph written by quick without a table of its words: the promise is the paragraph's own.
-use mathlib.Core.Path.{_≡_, refl, ap, _∙_}
-use mathlib.Core.Bool.{Bool, true, false, _||_}
+use mathlib.Core.Path.{_≡_, refl, sym, ap, _∙_}
+use mathlib.Core.Bool.{Bool, true, _||_}
 use mathlib.Core.List.{List, []}
-use Prim.Native.Nat.{ℕ, _-_, _*_, _≤_, _<_}
+use Prim.Native.Nat.{ℕ, _+_, _-_, _*_, _/_, _≤_, _<_}
 use native.Mathlib.Omega.{arith}
-use lib.Dec.{ltb}
+use lib.Dec.{leb}
 use lib.ListN.{length}
 use lib.Seq.{slice, length-slice}
-use borrow.Author.Tests.{ltb-true, ltb-false}
+use borrow.Author.Tests.{le-leb, leb-true}
 use Rattle.options.specs.Opts.{meant}
 use Rattle.options.specs.declared.Options.{Options}
 use Rattle.lines.specs.Lines.{linesOf}
@@ -15,8 +15,7 @@ use Rattle.pieces.specs.declared.Paragraph.{Paragraph}
 use Rattle.records.specs.Word.{Word}
 use Rattle.spacing.specs.declared.Setting.{Setting}
 use Rattle.spacing.specs.Contracts.Bounds.{Fair}
-use Rattle.words.specs.Contracts.Places.{wordsAt}
-use Rattle.words.proofs.Rows.{lines-end}
+use Rattle.words.proofs.Rows.{words-same}
 use Rattle.words.proofs.Halves.{lines-half}
 use Rattle.output.specs.Emission.{emit}
 use Rattle.output.specs.Contracts.Sink.{Wrote}
@@ -27,50 +26,53 @@ use Rattle.paragraphs.specs.Breaks.{settingOf, breaksBy}
 use Rattle.paragraphs.specs.Contracts.Steps.{Placed, settingFor, wordsFor, TextStepped}
 use Rattle.paragraphs.specs.declared.Step.the-variants.{On}
 use Rattle.regular.specs.Contracts.Places.{PutIs}
-use Rattle.regular.specs.declared.Put.the-variants.{Done}
 
 -- over plain marks
-by-marks : (uniform mail quick : Bool) → uniform ≡ false → mail ≡ false → quick ≡ true → (first indent : List ℕ) (g : Bool → Setting) (ws : Bool → List Word) (out : List ℕ) (written : ℕ) (out′ : List ℕ) (r : ℕ) (h : Setting) → h ≡ g mail
-    → Wrote out written (emit false first indent (quickBreaks h (ws false)) (ws false)) out′ r
-    → Wrote out written (emit (uniform || mail) first indent (breaksBy (quick || mail) (g mail) (ws mail)) (ws mail)) out′ r
-by-marks uniform mail quick u m q first indent g ws out written out′ r h e v =
-    let e′ : h ≡ g false = e ∙ ap g m in
-    rw (u, m, q) (rw e′ at v)
+by-quick : (quick mail uniform : Bool) → quick ≡ true → (first indent : List ℕ) (g h : Setting) (ws : List Word) (out : List ℕ) (written : ℕ) (out′ : List ℕ) (r : ℕ) → h ≡ g → g .uniform ≡ uniform
+    → Wrote out written (emit (h .uniform) first indent (quickBreaks h ws) ws) out′ r → Wrote out written (emit uniform first indent (breaksBy (quick || mail) g ws) ws) out′ r
+by-quick quick mail uniform q first indent g h ws out written out′ r e u v = rw (q, ← u) (rw e at v)
+
+-- a test against so many, where all have as many
+pub short-by : (words bytes most : ℕ) → 2 * words ≤ bytes + 1 → (bytes + 1) / 2 ≤ most → true ≡ leb words most
+short-by words bytes most h k = sym (le-leb words most (omega arith))
 
 module _ (notes : List ℕ) (at : ℕ) (o : Options) (p : Paragraph) (placed : Placed notes at o p) where
-  -- a paragraph has a word, so it has a byte
-  pub some-line : at < p .next
-  some-line = pick (ltb at (p .next)) refl
-    where
-      pick : (t : Bool) → ltb at (p .next) ≡ t → at < p .next
-      pick true h = ltb-true at (p .next) h
-      pick false h =
-          let n = placed .some in
-          absurd (omega (arith, ap length (lines-end (meant (placed .block) o) (p .mail) (p .start) (p .later) notes (p .next) at (ltb-false at (p .next) h))))
+  -- every second byte at most begins a word
+  pub half : (block : List ℕ) → 2 * length (wordsFor block notes at o p) ≤ p .next - at + 1
+  half block =
+      let h = lines-half (meant block o) (p .mail) (p .start) (p .later) (slice at (p .next) notes) in
+      let n = length-slice at (p .next) notes (placed .within) in
+      omega (arith, h, n)
 
-  module _ (fast : o .quick ≡ true) (kept : o .uniform ≡ false) (text : p .mail ≡ false) where
-    pub even : (g : Setting) → g ≡ settingFor [] o p → g .uniform ≡ false
-    unfolding settingOf meant
-    even g e = rw (e, kept, text)
+  -- it has a word, whatever the block
+  some-word : (block : List ℕ) → 0 < length (wordsFor block notes at o p)
+  some-word block =
+      let ls = linesOf (slice at (p .next) notes) in
+      let n = placed .some in
+      let e = ap length (sym (words-same o (placed .block) (p .mail) (p .start) (p .later) ls) ∙ words-same o block (p .mail) (p .start) (p .later) ls) in
+      omega (arith, n, e)
 
-    pub fair : (g : Setting) → g ≡ settingFor [] o p → Fair g
-    unfolding settingOf meant
-    fair g e = rw e (record { some = placed .tabLeast; tab = placed .tabMost; width = omega (arith, placed .width); first = omega (arith, placed .firstSmall); indent = omega (arith, placed .indentSmall) })
+  pub fair : (g : Setting) → g ≡ settingFor [] o p → Fair g
+  unfolding settingOf meant
+  fair g e = rw e (record { some = placed .tabLeast; tab = placed .tabMost; width = omega (arith, placed .width); first = omega (arith, placed .firstSmall); indent = omega (arith, placed .indentSmall) })
 
-    -- what it is broken with depends on no block
-    pub streamed : (g : Setting) → ((block : List ℕ) → g ≡ settingFor block o p) → (most : ℕ) → p .next - at ≤ 2 * most → (out : List ℕ) (written : ℕ) (out′ : List ℕ) (end : ℕ)
-        → PutIs notes at (p .next) (p .start) (p .later) o g (marginOf notes (p .first)) (marginOf notes (p .indent)) out written out′ (Done end)
-        → (block : List ℕ) → TextStepped most notes at o p out written out′ (On (record { at = p .next; written = end; mail = p .mail })) block
-    streamed g e most few out written out′ end put block =
-        let wrote : Wrote out written (emit (o .uniform || p .mail) (marginOf notes (p .first)) (marginOf notes (p .indent)) (breaksBy (o .quick || p .mail) (settingFor block o p) (wordsFor block notes at o p)) (wordsFor block notes at o p)) out′ end =
-        by-marks (o .uniform) (p .mail) (o .quick) kept text fast (marginOf notes (p .first)) (marginOf notes (p .indent)) (λ m. settingOf (meant block o) m (p .first .columns) (p .indent .columns)) (λ m. wordsAt (meant block o) m (p .start) (p .later) (linesOf (slice at (p .next) notes))) out written out′ end g (e block) (put block) in
-        let h = lines-half (meant block o) (p .mail) (p .start) (p .later) (slice at (p .next) notes) in
-        let n = length-slice at (p .next) notes (placed .within) in (
-          omega (arith, h, n, few),
-          record {
-            next = refl;
-            mail = refl;
-            wrote = wrote;
-            bounded = omega (arith, wrote .count, emit-most (o .uniform || p .mail) (marginOf notes (p .indent)) (marginOf notes (p .first)) (breaksBy (o .quick || p .mail) (settingFor block o p) (wordsFor block notes at o p)) (wordsFor block notes at o p));
-          },
-        )
+  pub spaced : (g : Setting) → g ≡ settingFor [] o p → g .uniform ≡ (o .uniform || p .mail)
+  unfolding settingOf meant
+  spaced g e = rw e
+
+  -- what it is broken with depends on no block
+  pub streamed : o .quick ≡ true → (g : Setting) → ((block : List ℕ) → g ≡ settingFor block o p) → (most : ℕ) → ((block : List ℕ) → true ≡ leb (length (wordsFor block notes at o p)) most) → (out : List ℕ) (written : ℕ) (out′ : List ℕ) (end : ℕ)
+      → PutIs notes at (p .next) (p .mail) (p .start) (p .later) o g (marginOf notes (p .first)) (marginOf notes (p .indent)) out written out′ end
+      → (block : List ℕ) → TextStepped most notes at o p out written out′ (On (record { at = p .next; written = end; mail = p .mail })) block
+  unfolding settingOf meant
+  streamed fast g e most few out written out′ end put block =
+      let wrote : Wrote out written (emit (o .uniform || p .mail) (marginOf notes (p .first)) (marginOf notes (p .indent)) (breaksBy (o .quick || p .mail) (settingFor block o p) (wordsFor block notes at o p)) (wordsFor block notes at o p)) out′ end =
+      by-quick (o .quick) (p .mail) (o .uniform || p .mail) fast (marginOf notes (p .first)) (marginOf notes (p .indent)) (settingFor block o p) g (wordsFor block notes at o p) out written out′ end (e block) refl (put block (some-word block)) in (
+        leb-true (length (wordsFor block notes at o p)) most (sym (few block)),
+        record {
+          next = refl;
+          mail = refl;
+          wrote = wrote;
+          bounded = omega (arith, wrote .count, emit-most (o .uniform || p .mail) (marginOf notes (p .indent)) (marginOf notes (p .first)) (breaksBy (o .quick || p .mail) (settingFor block o p) (wordsFor block notes at o p)) (wordsFor block notes at o p));
+        },
+      )

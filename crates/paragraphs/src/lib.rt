@@ -2,17 +2,17 @@
 use options::Options;
 use output::Layout;
 use pieces::Paragraph;
-use regular::Put;
 use spacing::Setting;
 use words::Count;
 ghost use mathlib.Core.Path.{_≡_};
-ghost use mathlib.Core.Bool.{cond, true, false, _||_};
+ghost use mathlib.Core.Bool.{cond, false, _||_};
+ghost use lib.Dec.{leb};
 ghost use mathlib.Core.List.{List};
 ghost use Prim.Native.Nat.{ℕ, _+_, _*_, _^_, _≤_, _<_};
 ghost use lib.ListN.{length};
 ghost use Rattle.lines.specs.Contracts.Places.{mostLarge};
 ghost use Rattle.knuth_plass.specs.Contracts.Round.{Limits, AllNarrow};
-ghost use Rattle.paragraphs.specs.Contracts.Steps.{roomFor, Roomy, settingFor, Broken, Placed, TextStepped};
+ghost use Rattle.paragraphs.specs.Contracts.Steps.{roomFor, Roomy, settingFor, wordsFor, Broken, Placed, TextStepped};
 
 // Where the work stands: the place in the notes, the length of the digest up to there, and next-mail.
 pub struct Cursor {
@@ -21,7 +21,7 @@ pub struct Cursor {
     pub mail: bool,
 }
 
-// What came of a paragraph: the work goes on after it, or it has more words than there is room for.
+// What came of a paragraph: the work goes on after it, or it has more words than it may.
 pub enum Step {
     On(Cursor),
     Over,
@@ -53,7 +53,7 @@ pub fn numbers_for(quick: bool, words: usize) -> usize
     BEST * words
 }
 
-// Writes a paragraph, unless it has more words than there is room for.
+// Writes a paragraph, unless it has more than so many words. For those there is room, but with quick, which needs none.
 // In the original: `break_lines`.
 pub fn put_paragraph(
     notes: &[u8],
@@ -62,22 +62,25 @@ pub fn put_paragraph(
     p: Paragraph,
     out: &mut [u8],
     written: usize,
+    most: usize,
     work: &mut [u32],
 ) -> Step
-    requires { ⌜ Placed (now notes) at o p × (written < 2 ^ 62) ⌝ }
-    ensures { λ r. ⌜ ((block : List ℕ) → TextStepped (roomFor (o .quick) (length (now (work .entry)))) (now (notes .entry)) at o p (now (out .entry)) written (now (out .exit)) r block) ⌝ }
+    requires { ⌜ Placed (now notes) at o p × (written < 2 ^ 62) × (o .quick ≡ false → most * 15 ≤ length (now work)) ⌝ }
+    ensures { λ r. ⌜ ((block : List ℕ) → TextStepped most (now (notes .entry)) at o p (now (out .entry)) written (now (out .exit)) r block) ⌝ }
 {
-    let most = room_for(o.quick, work.len());
-    let next = p.next;
-    if !is_streamed(o, p, next - at, most) {
-        return put_by_table(notes, at, o, p, out, written, work);
+    if !o.quick {
+        return put_by_table(notes, at, o, p, out, written, most, work);
+    }
+    if !is_short(notes, at, o, p, most) {
+        return Step::Over;
     }
     let first = p.first;
     let indent = p.indent;
-    let Put::Done(end) = regular::put_quick(
+    let end = regular::put_quick(
         notes,
         at,
-        next,
+        p.next,
+        p.mail,
         p.start,
         p.later,
         o,
@@ -86,34 +89,23 @@ pub fn put_paragraph(
         indent,
         out,
         written,
-        most,
-        work,
-    ) else {
-        return put_by_table(notes, at, o, p, out, written, work);
-    };
+    );
     Step::On(Cursor {
-        at: next,
+        at: p.next,
         written: end,
         mail: p.mail,
     })
 }
 
-// Whether a paragraph of so many bytes can be written as it is read: broken quick, with its gaps kept, and with words that are few enough
-// whatever its bytes are, of which every second one at most begins a word.
-fn is_streamed(o: Options, p: Paragraph, size: usize, most: usize) -> bool
-    requires { ⌜ size < 2 ^ 32 ⌝ }
-    ensures { λ r. ⌜ (r ≡ true → (o .quick ≡ true) × (o .uniform ≡ false) × (p .mail ≡ false) × (size ≤ 2 * most)) ⌝ }
+// Whether a paragraph has at most so many words. Every second byte at most begins one, so that most need not be counted.
+fn is_short(notes: &[u8], at: usize, o: Options, p: Paragraph, most: usize) -> bool
+    requires { ⌜ Placed (now notes) at o p ⌝ }
+    ensures { λ r. ⌜ ((block : List ℕ) → r ≡ leb (length (wordsFor block (now (notes .entry)) at o p)) most) ⌝ }
 {
-    if !o.quick {
-        return false;
+    if (p.next - at + 1) / 2 <= most {
+        return true;
     }
-    if o.uniform {
-        return false;
-    }
-    if p.mail {
-        return false;
-    }
-    (size + 1) / 2 <= most
+    words::count_words(notes, at, p.next, p.mail, p.start, p.later, o) <= most
 }
 
 // The same by a table of its words.
@@ -125,12 +117,12 @@ fn put_by_table(
     p: Paragraph,
     out: &mut [u8],
     written: usize,
+    most: usize,
     work: &mut [u32],
 ) -> Step
-    requires { ⌜ Placed (now notes) at o p × (written < 2 ^ 62) ⌝ }
-    ensures { λ r. ⌜ ((block : List ℕ) → TextStepped (roomFor (o .quick) (length (now (work .entry)))) (now (notes .entry)) at o p (now (out .entry)) written (now (out .exit)) r block) ⌝ }
+    requires { ⌜ Placed (now notes) at o p × (written < 2 ^ 62) × (most * 15 ≤ length (now work)) ⌝ }
+    ensures { λ r. ⌜ ((block : List ℕ) → TextStepped most (now (notes .entry)) at o p (now (out .entry)) written (now (out .exit)) r block) ⌝ }
 {
-    let most = room_for(o.quick, work.len());
     let Count::Words(n) = words::split_words(
         notes,
         at,

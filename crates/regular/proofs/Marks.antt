@@ -1,7 +1,7 @@
 -- The mark after a line's stretch, and the stretch of a paragraph's next line.
 use mathlib.Core.Path.{_≡_, refl, sym, _∙_}
-use mathlib.Core.Bool.{Bool, true, false}
-use mathlib.Core.List.{List, [], _∷_}
+use mathlib.Core.Bool.{Bool, true, false, false≢true}
+use mathlib.Core.List.{List, [], _∷_, _++_}
 use Prim.Native.Nat.{ℕ, zero, suc, _+_, _-_, _≤_, _<_, _^_}
 use native.Mathlib.Omega.{arith}
 use lib.Dec.{ltb}
@@ -13,8 +13,9 @@ use Rattle.words.specs.Contracts.Scan.{punctCode}
 use Rattle.output.proofs.Sink.{left-first}
 use Rattle.regular.specs.declared.State.{State}
 use Rattle.regular.specs.declared.Reached.{Reached}
-use Rattle.regular.specs.Contracts.Regular.{isRegular, lastly, freshPunct}
-use Rattle.regular.specs.Contracts.Places.{FirstSpace, Inked, Joined, EachRegular, Went}
+use Rattle.regular.specs.Contracts.Regular.{isRegular, stretchWords, lastly, freshPunct, quickOn}
+use Rattle.regular.specs.Contracts.Places.{FirstSpace, Inked, Filled, Joined, EachRegular, Stands, Went}
+use Rattle.regular.proofs.Rest.{on-rest, on-fresh}
 use Rattle.regular.proofs.Fresh.{no-words}
 use Rattle.regular.proofs.Parts.{part-at, part-ink, part-spaced}
 
@@ -64,17 +65,28 @@ module _ (s : List ℕ) (p e : ℕ) (inked : Inked s p e) where
       rw (part-spaced s p e (inked .within) r (f .on) l (f .space l)) (sym lastly-at)
 
 module _ (s : List ℕ) (from e : ℕ) (g : Setting) (indent : List ℕ) (out : List ℕ) (t : Reached) where
-  pub went-none : from ≡ e → t .column ≤ 2 ^ 33 → Went s from e g indent out t out t
+  pub went-none : from ≡ e → Stands t → Went s from e g indent out t out t
   went-none q near = record {
     left = λ o more kept. rw (q, slice-empty e s, no-words o true false) (left-first _ _ _);
     most = omega arith;
-    reach = near;
+    stands = near;
   }
 
-  pub went-some : Inked s from e → length s ≤ 2 ^ 20 → g .indent < 2 ^ 31 → g .width < 2 ^ 31 → (out′ : List ℕ) (r : State) → Joined s from e (t .punct) g indent (t .column) out (t .written) out′ r → (punct : Bool) → punct ≡ punctCode (getD s (e - 1) 0)
-      → Went s from e g indent out t out′ (record { written = r .written; column = r .column; punct = punct })
-  went-some inked size ind wid out′ r j punct q = record {
-    left = λ o more kept. rw (q, ← lastly-at s from e inked) (j .left o more kept);
+  pub went-some : t .begins ≡ false → Inked s from e → length s ≤ 2 ^ 20 → g .indent < 2 ^ 31 → g .width < 2 ^ 31 → (out′ : List ℕ) (r : State) → Joined s from e (t .punct) g indent (t .column) out (t .written) out′ r → (punct : Bool) → punct ≡ punctCode (getD s (e - 1) 0)
+      → Went s from e g indent out t out′ (record { written = r .written; column = r .column; punct = punct; begins = false })
+  unfolding quickOn
+  went-some begun inked size ind wid out′ r j punct q = record {
+    left = λ o more kept. rw (on-rest g indent (t .begins) (t .column) (t .punct) (stretchWords o true false (slice from e s) ++ more) begun, q, ← lastly-at s from e inked) (j .left o more kept);
     most = j .most;
-    reach = let h = j .reach in let w = inked .within in omega arith;
+    stands = (let h = j .reach in let w = inked .within in omega arith, λ b. absurd (false≢true b));
+  }
+
+  -- with the paragraph's first word
+  pub went-head : t .begins ≡ true → t .column < 2 ^ 31 → Inked s from e → length s ≤ 2 ^ 20 → g .indent < 2 ^ 31 → (out′ : List ℕ) (r : State) → Filled s from e false g indent (t .column) out (t .written) out′ r → (punct : Bool) → punct ≡ freshPunct false (slice from e s)
+      → Went s from e g indent out t out′ (record { written = r .written; column = r .column; punct = punct; begins = false })
+  unfolding quickOn
+  went-head begins near inked size ind out′ r f punct q = record {
+    left = λ o more kept. rw (on-fresh g indent (t .begins) (t .column) (t .punct) (stretchWords o true false (slice from e s) ++ more) begins, q) (f .left o true false more kept);
+    most = let h = f .most in omega arith;
+    stands = (let h = f .reach in let w = inked .within in omega arith, λ b. absurd (false≢true b));
   }

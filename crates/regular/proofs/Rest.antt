@@ -1,5 +1,5 @@
 -- Quick's output one word at a time: a word that fits stays after its spacing, and any other begins a fresh line.
-use mathlib.Core.Path.{_≡_, _∙_}
+use mathlib.Core.Path.{_≡_, refl, _∙_}
 use mathlib.Core.Bool.{Bool, true, false, cond, or-true}
 use mathlib.Core.List.{List, [], _∷_, _++_, append-nil}
 use Prim.Native.Nat.{ℕ, _+_, _≤_, _<_}
@@ -13,7 +13,7 @@ use Rattle.spacing.specs.declared.Setting.{Setting}
 use Rattle.output.specs.Emission.{lineFeed, spaceBefore, emitRest}
 use Rattle.quick.specs.Quick.{quickFrom}
 use Rattle.quick.proofs.Width.{reachedBy}
-use Rattle.regular.specs.Contracts.Regular.{plainWord, lastly, added, quickRest, quickFresh}
+use Rattle.regular.specs.Contracts.Regular.{plainWord, lastly, added, quickRest, quickFresh, quickOn}
 
 module _ (g : Setting) (indent : List ℕ) where
   -- of any words
@@ -57,3 +57,22 @@ module _ (g : Setting) (indent : List ℕ) where
     pub next-breaks : g .width < column + added punct + length ink
         → quickRest g indent column punct (plainWord true false [] ink ∷ ws) ≡ lineFeed ++ (indent ++ quickFresh g indent true (g .indent) (plainWord true false [] ink ∷ ws))
     next-breaks h = word-breaks column punct (plainWord true false [] ink) ws (rw reach-next (lt-ltb _ _ h))
+
+-- ---- where a paragraph stands
+
+module _ (g : Setting) (indent : List ℕ) (begins : Bool) (column : ℕ) (punct : Bool) (ws : List Word) where
+  -- after a word
+  pub on-rest : begins ≡ false → quickOn g indent begins column punct ws ≡ quickRest g indent column punct ws
+  unfolding quickOn
+  on-rest e = rw e
+
+  -- before its first
+  pub on-fresh : begins ≡ true → quickOn g indent begins column punct ws ≡ quickFresh g indent false column ws
+  unfolding quickOn
+  on-fresh e = rw e
+
+-- no words are left
+pub on-none : (g : Setting) (indent : List ℕ) (begins : Bool) (column : ℕ) (punct : Bool) → quickOn g indent begins column punct [] ≡ lineFeed
+unfolding quickOn quickFresh quickRest quickFrom emitRest
+on-none g indent true column punct = refl
+on-none g indent false column punct = refl

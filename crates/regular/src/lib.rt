@@ -1,19 +1,21 @@
-// Quick on a regular line: a byte is a column, so that the words that stay are those that end by one place, and the last space up to it
-// is looked for.
+// Quick, written as it is read. On a regular line a byte is a column, so that the words that stay are those that end by one place, and the
+// last space up to it is looked for; any other line goes word by word.
 use options::Options;
 use pieces::Margin;
 use records::Word;
 use spacing::Setting;
-use words::Count;
 ghost use mathlib.Core.Path.{_≡_};
-ghost use mathlib.Core.Bool.{true, false};
-ghost use mathlib.Core.List.{List, _++_};
+ghost use mathlib.Core.Bool.{true, false, not, _||_};
+ghost use mathlib.Core.List.{List, [], _++_};
 ghost use Prim.Native.Nat.{ℕ, _+_, _-_, _*_, _≤_, _<_, _^_};
 ghost use lib.ListN.{length, getD, replicate};
 ghost use lib.Seq.{slice};
 ghost use Rattle.options.specs.Opts.{meant};
 ghost use Rattle.lines.specs.Lines.{linesOf};
 ghost use Rattle.pieces.specs.Contracts.Bounds.{AllBegin};
+ghost use Rattle.lists.specs.Runs.{while};
+ghost use Rattle.text.specs.Characters.{isBlank};
+ghost use Rattle.text.specs.Contracts.Places.{inkGlyphs};
 ghost use Rattle.records.specs.Contracts.Table.{Holds, Small, Within};
 ghost use Rattle.spacing.specs.Contracts.Bounds.{Fair};
 ghost use Rattle.words.specs.Contracts.Scan.{punctCode};
@@ -22,7 +24,7 @@ ghost use Rattle.output.specs.Emission.{lineFeed};
 ghost use Rattle.output.specs.Contracts.Sink.{Wrote};
 ghost use Rattle.output.specs.Contracts.Writers.{marginOf, MarginIn};
 ghost use Rattle.regular.specs.Contracts.Regular.{freshPunct, added};
-ghost use Rattle.regular.specs.Contracts.Places.{LastSpace, FirstSpace, OverSpaces, BeforeSpaces, Inked, CutIs, Filled, Joined, EachRegular, RegularTo, RowIs, Went, Gone, reachedOf, WordPut, Listed, Rested, PutIs};
+ghost use Rattle.regular.specs.Contracts.Places.{LastSpace, FirstSpace, OverSpaces, BeforeSpaces, Inked, CutIs, Filled, Joined, EachRegular, RegularTo, RowIs, Went, Stands, standing, GapIn, WordPut, Listed, Worded, RowPut, Rowed, PutIs};
 
 // A paragraph's work so far: the written end, and the column.
 struct State {
@@ -38,25 +40,31 @@ struct Row {
     regular: bool,
 }
 
-// Where a paragraph is after a word: the written end, the column, and the mark of the word.
+// Where a paragraph stands: the written end, the column, the mark of the last word, and whether its first word is still to come.
 struct Reached {
     written: usize,
     column: usize,
     punct: bool,
+    begins: bool,
 }
 
-// How far lines were taken: the line that was not, and where the paragraph stands.
+// The same after words of which the last wait to be written: they are in the notes as they are to be.
+struct Waiting {
+    from: usize,
+    to: usize,
+    written: usize,
+    column: usize,
+    punct: bool,
+    begins: bool,
+}
+
+// The same after a line: where the next one is.
 struct Progress {
     at: usize,
     written: usize,
     column: usize,
     punct: bool,
-}
-
-// A paragraph was written up to a place, or nothing was written, and it is left to other code.
-pub enum Put {
-    Done(usize),
-    Other,
+    begins: bool,
 }
 
 // Where a line of output ends in the notes, and where the next word begins.
@@ -417,11 +425,14 @@ fn next_row(
     t: Reached,
     out: &mut [u8],
 ) -> Reached
-    requires { ⌜ (from ≤ e) × (e ≤ length (now s)) × (from < e → Inked (now s) from e) × (g .uniform ≡ false) × MarginIn (length (now s)) indent × (length (now s) ≤ 2 ^ 20) × (t .written < 2 ^ 62 + 2 ^ 59) × (t .column ≤ 2 ^ 33) × (g .indent < 2 ^ 31) × (g .width < 2 ^ 31) ⌝ }
+    requires { ⌜ (from ≤ e) × (e ≤ length (now s)) × (from < e → Inked (now s) from e) × (g .uniform ≡ false) × MarginIn (length (now s)) indent × (length (now s) ≤ 2 ^ 20) × (t .written < 2 ^ 62 + 2 ^ 59) × Stands t × (g .indent < 2 ^ 31) × (g .width < 2 ^ 31) ⌝ }
     ensures { λ r. ⌜ Went (now (s .entry)) from e g (marginOf (now (s .entry)) indent) (now (out .entry)) t (now (out .exit)) r ⌝ }
 {
     if from == e {
         return t;
+    }
+    if t.begins {
+        return head_row(s, from, e, g, indent, t, out);
     }
     let st = join(
         s,
@@ -441,10 +452,45 @@ fn next_row(
         written: st.written,
         column: st.column,
         punct: is_punct(s[last]),
+        begins: false,
     }
 }
 
-// The mark that counts after a paragraph's first line.
+// The stretch with a paragraph's first word.
+fn head_row(
+    s: &[u8],
+    from: usize,
+    e: usize,
+    g: Setting,
+    indent: Margin,
+    t: Reached,
+    out: &mut [u8],
+) -> Reached
+    requires { ⌜ Inked (now s) from e × (g .uniform ≡ false) × MarginIn (length (now s)) indent × (length (now s) ≤ 2 ^ 20) × (t .written < 2 ^ 62 + 2 ^ 59) × (t .begins ≡ true) × (t .column < 2 ^ 31) × (g .indent < 2 ^ 31) ⌝ }
+    ensures { λ r. ⌜ Went (now (s .entry)) from e g (marginOf (now (s .entry)) indent) (now (out .entry)) t (now (out .exit)) r ⌝ }
+{
+    let st = fill(
+        s,
+        from,
+        e,
+        false,
+        g,
+        indent,
+        State {
+            written: t.written,
+            column: t.column,
+        },
+        out,
+    );
+    Reached {
+        written: st.written,
+        column: st.column,
+        punct: head_punct(s, from, e),
+        begins: false,
+    }
+}
+
+// The mark that counts after a stretch with a paragraph's first word.
 fn head_punct(s: &[u8], from: usize, e: usize) -> bool
     requires { ⌜ Inked (now s) from e ⌝ }
     ensures { λ r. ⌜ r ≡ freshPunct false (slice from e (now (s .entry))) ⌝ }
@@ -456,65 +502,72 @@ fn head_punct(s: &[u8], from: usize, e: usize) -> bool
     is_punct(s[last])
 }
 
-// A paragraph's lines after its first, as far as they are regular.
-fn rows_from(
-    s: &[u8],
-    at: usize,
-    next: usize,
-    later: usize,
-    o: Options,
-    g: Setting,
-    indent: Margin,
-    t: Reached,
-    out: &mut [u8],
-) -> Progress
-    requires { ⌜ (at ≤ next) × (next ≤ length (now s)) × (length (now s) ≤ 2 ^ 20) × (o .uniform ≡ false) × AllBegin (o .glue) later later (linesOf (slice at next (now s))) × (g .uniform ≡ false) × MarginIn (length (now s)) indent × (t .written < 2 ^ 62 + 2 ^ 58) × (t .column ≤ 2 ^ 33) × (g .indent < 2 ^ 31) × (g .width < 2 ^ 31) ⌝ }
-    ensures { λ r. ⌜ Gone (now (s .entry)) at next later o g (marginOf (now (s .entry)) indent) (now (out .entry)) t (now (out .exit)) (r .at) (reachedOf r) ⌝ }
+// Whether the notes have so many spaces between two places, and nothing else; of two spaces nothing is said.
+fn is_gap(s: &[u8], to: usize, from: usize, count: usize) -> bool
+    requires { ⌜ (to ≤ length (now s)) × (from ≤ length (now s)) × (length (now s) ≤ 2 ^ 20) ⌝ }
+    ensures { λ r. ⌜ (r ≡ true → GapIn (now (s .entry)) to from count) ⌝ }
 {
-    let mut i = at;
-    let mut v = t;
-    while i < next {
-        let row = row_at(s, i, next, later, later, o);
-        if !row.regular {
-            return Progress {
-                at: i,
-                written: v.written,
-                column: v.column,
-                punct: v.punct,
-            };
-        }
-        v = next_row(s, row.from, row.end, g, indent, v, out);
-        i = row.next;
+    if from == to {
+        return count == 0;
     }
-    Progress {
-        at: i,
-        written: v.written,
-        column: v.column,
-        punct: v.punct,
+    if count != 1 {
+        return false;
     }
+    if from != to + 1 {
+        return false;
+    }
+    s[to] == 32
 }
 
-// A word of any kind, after a line of output that has begun.
+// A word of any kind. Words wait for those after them, so that a line of output is copied at once.
 // In the original: `accum_words_simple`.
-fn put_word(s: &[u8], w: Word, g: Setting, indent: Margin, t: Reached, out: &mut [u8]) -> Reached
-    requires { ⌜ Within (length (now s)) w × Small w × (w .width ≤ length (now s)) × Fair g × MarginIn (length (now s)) indent × (length (now s) ≤ 2 ^ 20) × (t .written < 2 ^ 62 + 2 ^ 59) × (t .column ≤ 2 ^ 33) × (g .indent < 2 ^ 31) × (g .width < 2 ^ 31) ⌝ }
+fn put_word(s: &[u8], w: Word, g: Setting, indent: Margin, t: Waiting, out: &mut [u8]) -> Waiting
+    requires { ⌜ Within (length (now s)) w × Small w × (w .width ≤ length (now s)) × Fair g × MarginIn (length (now s)) indent × (length (now s) ≤ 2 ^ 20) × (t .from ≤ t .to) × (t .to ≤ length (now s)) × (t .written < 2 ^ 62 + 2 ^ 59) × Stands (standing t) × (g .indent < 2 ^ 31) × (g .width < 2 ^ 31) ⌝ }
     ensures { λ r. ⌜ WordPut (now (s .entry)) w g (marginOf (now (s .entry)) indent) (now (out .entry)) t (now (out .exit)) r ⌝ }
 {
+    if t.begins {
+        let j = put_at(s, t.from, t.to, out, t.written);
+        return Waiting {
+            from: w.start,
+            to: w.end,
+            written: j,
+            column: t.column + w.width,
+            punct: false,
+            begins: false,
+        };
+    }
     let reached = quick::reach(g, t.column, t.punct, w);
     if g.width < reached {
-        let j = break_at(s, indent, out, t.written);
-        return Reached {
-            written: put_at(s, w.start, w.end, out, j),
+        let j = put_line(s, t.from, t.to, indent, out, t.written);
+        return Waiting {
+            from: w.start,
+            to: w.end,
+            written: j,
             column: g.indent + w.width,
             punct: w.punct,
+            begins: false,
         };
     }
     let added = spacing::added_space(g.uniform, w.first, w.sentence, t.punct);
-    let j = spaces_at(added, out, t.written);
-    Reached {
-        written: put_at(s, w.from, w.end, out, j),
+    if is_gap(s, t.to, w.from, added) {
+        return Waiting {
+            from: t.from,
+            to: w.end,
+            written: t.written,
+            column: reached,
+            punct: w.punct,
+            begins: false,
+        };
+    }
+    let i = put_at(s, t.from, t.to, out, t.written);
+    let j = spaces_at(added, out, i);
+    Waiting {
+        from: w.from,
+        to: w.end,
+        written: j,
         column: reached,
         punct: w.punct,
+        begins: false,
     }
 }
 
@@ -526,10 +579,10 @@ fn put_listed(
     n: usize,
     g: Setting,
     indent: Margin,
-    t: Reached,
+    t: Waiting,
     out: &mut [u8],
-) -> Reached
-    requires { ⌜ Kept n (length (now s)) n (now table) × (n ≤ 2 ^ 20) × Fair g × MarginIn (length (now s)) indent × (length (now s) ≤ 2 ^ 20) × (t .written < 2 ^ 62 + 2 ^ 58) × (t .column ≤ 2 ^ 33) × (g .indent < 2 ^ 31) × (g .width < 2 ^ 31) ⌝ }
+) -> Waiting
+    requires { ⌜ Kept n (length (now s)) n (now table) × (n ≤ 2 ^ 20) × Fair g × MarginIn (length (now s)) indent × (length (now s) ≤ 2 ^ 20) × (t .from ≤ t .to) × (t .to ≤ length (now s)) × (t .written < 2 ^ 62 + 2 ^ 58) × Stands (standing t) × (g .indent < 2 ^ 31) × (g .width < 2 ^ 31) ⌝ }
     ensures { λ r. ⌜ Listed (now (s .entry)) (now (table .entry)) n g (marginOf (now (s .entry)) indent) (now (out .entry)) t (now (out .exit)) n r ⌝ }
 {
     let mut j = 0;
@@ -541,30 +594,179 @@ fn put_listed(
     v
 }
 
-// A paragraph's lines from one on that is not regular: by a table of their words, which are few enough for it.
-fn put_rest(
+// The numbers of a table for sixteen words, which go through it in their order.
+const WINDOW: usize = 112;
+
+const IN_WINDOW: usize = 16;
+
+// The words of a line from start up to end.
+fn put_words(
     s: &[u8],
-    at: usize,
+    start: usize,
+    end: usize,
+    mail: bool,
+    o: Options,
+    g: Setting,
+    indent: Margin,
+    t: Reached,
+    out: &mut [u8],
+) -> Reached
+    requires { ⌜ (start ≤ end) × (end ≤ length (now s)) × (length (now s) ≤ 2 ^ 20) × (1 ≤ o .tab) × (o .tab ≤ 100) × (mail ≡ false → while isBlank (inkGlyphs (o .glue) (slice start end (now s))) ≡ []) × Fair g × MarginIn (length (now s)) indent × (t .written < 2 ^ 62 + 2 ^ 57) × Stands t × (g .indent < 2 ^ 31) × (g .width < 2 ^ 31) ⌝ }
+    ensures { λ r. ⌜ Worded (now (s .entry)) start end mail o g (marginOf (now (s .entry)) indent) (now (out .entry)) t (now (out .exit)) r ⌝ }
+{
+    let mut table = [0u32; WINDOW];
+    put_through(s, start, end, mail, o, g, indent, t, out, &mut table)
+}
+
+// The same through a table of sixteen.
+fn put_through(
+    s: &[u8],
+    start: usize,
+    end: usize,
+    mail: bool,
+    o: Options,
+    g: Setting,
+    indent: Margin,
+    t: Reached,
+    out: &mut [u8],
+    table: &mut [u32],
+) -> Reached
+    requires { ⌜ (start ≤ end) × (end ≤ length (now s)) × (length (now s) ≤ 2 ^ 20) × (1 ≤ o .tab) × (o .tab ≤ 100) × (mail ≡ false → while isBlank (inkGlyphs (o .glue) (slice start end (now s))) ≡ []) × Fair g × MarginIn (length (now s)) indent × (t .written < 2 ^ 62 + 2 ^ 57) × Stands t × (g .indent < 2 ^ 31) × (g .width < 2 ^ 31) × Holds 16 (now table) ⌝ }
+    ensures { λ r. ⌜ Worded (now (s .entry)) start end mail o g (marginOf (now (s .entry)) indent) (now (out .entry)) t (now (out .exit)) r ⌝ }
+{
+    let mut at = start;
+    let mut first = !mail;
+    let mut punct = false;
+    let mut v = Waiting {
+        from: start,
+        to: start,
+        written: t.written,
+        column: t.column,
+        punct: t.punct,
+        begins: t.begins,
+    };
+    loop {
+        let r = words::split_some(s, at, end, mail, first, punct, o, 0, IN_WINDOW, table);
+        v = put_listed(s, table, r.count, g, indent, v, out);
+        if !r.more {
+            return Reached {
+                written: put_at(s, v.from, v.to, out, v.written),
+                column: v.column,
+                punct: v.punct,
+                begins: v.begins,
+            };
+        }
+        at = r.at;
+        first = r.first;
+        punct = r.punct;
+    }
+}
+
+// The line at a place of a paragraph, word by word.
+fn put_other(
+    s: &[u8],
+    i: usize,
     next: usize,
+    mail: bool,
+    skip: usize,
     later: usize,
     o: Options,
     g: Setting,
     indent: Margin,
     t: Reached,
     out: &mut [u8],
-    most: usize,
-    work: &mut [u32],
-) -> Reached
-    requires { ⌜ (at ≤ next) × (next ≤ length (now s)) × (length (now s) ≤ 2 ^ 20) × (1 ≤ o .tab) × (o .tab ≤ 100) × AllBegin (o .glue) later later (linesOf (slice at next (now s))) × Fair g × MarginIn (length (now s)) indent × (t .written < 2 ^ 62 + 2 ^ 58) × (t .column ≤ 2 ^ 33) × (g .indent < 2 ^ 31) × (g .width < 2 ^ 31) × (next - at ≤ 2 * most) × Holds most (now work) ⌝ }
-    ensures { λ r. ⌜ Rested (now (s .entry)) at next later o g (marginOf (now (s .entry)) indent) (now (out .entry)) t (now (out .exit)) r ⌝ }
+) -> Progress
+    requires { ⌜ (i < next) × (next ≤ length (now s)) × (length (now s) ≤ 2 ^ 20) × (1 ≤ o .tab) × (o .tab ≤ 100) × (mail ≡ false → AllBegin (o .glue) skip later (linesOf (slice i next (now s)))) × Fair g × MarginIn (length (now s)) indent × (t .written < 2 ^ 62 + 2 ^ 57) × Stands t × (g .indent < 2 ^ 31) × (g .width < 2 ^ 31) ⌝ }
+    ensures { λ r. ⌜ RowPut (now (s .entry)) i next mail skip later o g (marginOf (now (s .entry)) indent) (now (out .entry)) t (now (out .exit)) r ⌝ }
 {
-    if at == next {
-        return t;
+    let part = &s[..next];
+    let line = lines::first_line(&part[i..]);
+    let v = put_words(
+        s,
+        words::begin(mail, i, skip),
+        i + line.text,
+        mail,
+        o,
+        g,
+        indent,
+        t,
+        out,
+    );
+    Progress {
+        at: i + line.whole,
+        written: v.written,
+        column: v.column,
+        punct: v.punct,
+        begins: v.begins,
     }
-    let Count::Words(n) = words::split_words(s, at, next, false, later, later, o, most, work) else {
-        return t;
-    };
-    put_listed(s, work, n, g, indent, t, out)
+}
+
+// The line at a place of a paragraph: by its stretch if it is regular and gaps are kept, as they are not in mail.
+fn put_row(
+    s: &[u8],
+    i: usize,
+    next: usize,
+    mail: bool,
+    skip: usize,
+    later: usize,
+    o: Options,
+    g: Setting,
+    indent: Margin,
+    t: Reached,
+    out: &mut [u8],
+) -> Progress
+    requires { ⌜ (i < next) × (next ≤ length (now s)) × (length (now s) ≤ 2 ^ 20) × (1 ≤ o .tab) × (o .tab ≤ 100) × (mail ≡ false → AllBegin (o .glue) skip later (linesOf (slice i next (now s)))) × (g .uniform ≡ (o .uniform || mail)) × Fair g × MarginIn (length (now s)) indent × (t .written < 2 ^ 62 + 2 ^ 57) × Stands t × (g .indent < 2 ^ 31) × (g .width < 2 ^ 31) ⌝ }
+    ensures { λ r. ⌜ RowPut (now (s .entry)) i next mail skip later o g (marginOf (now (s .entry)) indent) (now (out .entry)) t (now (out .exit)) r ⌝ }
+{
+    if g.uniform {
+        return put_other(s, i, next, mail, skip, later, o, g, indent, t, out);
+    }
+    let row = row_at(s, i, next, skip, later, o);
+    if !row.regular {
+        return put_other(s, i, next, mail, skip, later, o, g, indent, t, out);
+    }
+    let v = next_row(s, row.from, row.end, g, indent, t, out);
+    Progress {
+        at: row.next,
+        written: v.written,
+        column: v.column,
+        punct: v.punct,
+        begins: v.begins,
+    }
+}
+
+// A paragraph's lines.
+fn put_rows(
+    s: &[u8],
+    at: usize,
+    next: usize,
+    mail: bool,
+    start: usize,
+    later: usize,
+    o: Options,
+    g: Setting,
+    indent: Margin,
+    t: Reached,
+    out: &mut [u8],
+) -> Reached
+    requires { ⌜ (at ≤ next) × (next ≤ length (now s)) × (length (now s) ≤ 2 ^ 20) × (1 ≤ o .tab) × (o .tab ≤ 100) × (mail ≡ false → AllBegin (o .glue) start later (linesOf (slice at next (now s)))) × (g .uniform ≡ (o .uniform || mail)) × Fair g × MarginIn (length (now s)) indent × (t .written < 2 ^ 62 + 2 ^ 56) × Stands t × (g .indent < 2 ^ 31) × (g .width < 2 ^ 31) ⌝ }
+    ensures { λ r. ⌜ Rowed (now (s .entry)) at next mail start later o g (marginOf (now (s .entry)) indent) (now (out .entry)) t (now (out .exit)) r ⌝ }
+{
+    let mut i = at;
+    let mut skip = start;
+    let mut v = t;
+    while i < next {
+        let r = put_row(s, i, next, mail, skip, later, o, g, indent, v, out);
+        v = Reached {
+            written: r.written,
+            column: r.column,
+            punct: r.punct,
+            begins: r.begins,
+        };
+        i = r.at;
+        skip = later;
+    }
+    v
 }
 
 // An indent, after k bytes.
@@ -585,13 +787,13 @@ fn feed_at(out: &mut [u8], k: usize) -> usize
     k + output::put_feed(&mut out[place..])
 }
 
-// A paragraph by quick where its gaps are kept: regular lines without a table of words, and from the first other line on by one, for which
-// there is room. One whose first line is not regular, or has no word, is left as it is.
+// A paragraph by quick, which has a word.
 // In the original: `break_simple`.
 pub fn put_quick(
     s: &[u8],
     at: usize,
     next: usize,
+    mail: bool,
     start: usize,
     later: usize,
     o: Options,
@@ -600,46 +802,17 @@ pub fn put_quick(
     indent: Margin,
     out: &mut [u8],
     written: usize,
-    most: usize,
-    work: &mut [u32],
-) -> Put
-    requires { ⌜ (at < next) × (next ≤ length (now s)) × (length (now s) ≤ 2 ^ 20) × (1 ≤ o .tab) × (o .tab ≤ 100) × (o .uniform ≡ false) × AllBegin (o .glue) start later (linesOf (slice at next (now s))) × (g .uniform ≡ false) × Fair g × MarginIn (length (now s)) first × MarginIn (length (now s)) indent × (written < 2 ^ 62) × (g .first < 2 ^ 31) × (g .indent < 2 ^ 31) × (g .width < 2 ^ 31) × (next - at ≤ 2 * most) × Holds most (now work) ⌝ }
-    ensures { λ r. ⌜ PutIs (now (s .entry)) at next start later o g (marginOf (now (s .entry)) first) (marginOf (now (s .entry)) indent) (now (out .entry)) written (now (out .exit)) r ⌝ }
+) -> usize
+    requires { ⌜ (at ≤ next) × (next ≤ length (now s)) × (length (now s) ≤ 2 ^ 20) × (1 ≤ o .tab) × (o .tab ≤ 100) × (mail ≡ false → AllBegin (o .glue) start later (linesOf (slice at next (now s)))) × (g .uniform ≡ (o .uniform || mail)) × Fair g × MarginIn (length (now s)) first × MarginIn (length (now s)) indent × (written < 2 ^ 62) × (g .first < 2 ^ 31) × (g .indent < 2 ^ 31) × (g .width < 2 ^ 31) ⌝ }
+    ensures { λ r. ⌜ PutIs (now (s .entry)) at next mail start later o g (marginOf (now (s .entry)) first) (marginOf (now (s .entry)) indent) (now (out .entry)) written (now (out .exit)) r ⌝ }
 {
-    let head = row_at(s, at, next, start, later, o);
-    if !head.regular {
-        return Put::Other;
-    }
-    let p = head.from;
-    let e = head.end;
-    if p == e {
-        return Put::Other;
-    }
     let k = margin_at(s, first, out, written);
-    let st = fill(
-        s,
-        p,
-        e,
-        false,
-        g,
-        indent,
-        State {
-            written: k,
-            column: g.first,
-        },
-        out,
-    );
     let t = Reached {
-        written: st.written,
-        column: st.column,
-        punct: head_punct(s, p, e),
+        written: k,
+        column: g.first,
+        punct: false,
+        begins: true,
     };
-    let r = rows_from(s, head.next, next, later, o, g, indent, t, out);
-    let v = Reached {
-        written: r.written,
-        column: r.column,
-        punct: r.punct,
-    };
-    let end = put_rest(s, r.at, next, later, o, g, indent, v, out, most, work);
-    Put::Done(feed_at(out, end.written))
+    let v = put_rows(s, at, next, mail, start, later, o, g, indent, t, out);
+    feed_at(out, v.written)
 }

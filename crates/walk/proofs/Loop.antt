@@ -17,7 +17,7 @@ use Rattle.pieces.specs.Pieces.{Kind, nextPiece, pieces}
 use Rattle.pieces.specs.declared.Paragraph.{Paragraph}
 use Rattle.output.proofs.Sink.{length-written, wrote-length, wrote-nil, left-first, left-then, left-last}
 use Rattle.walk.specs.Digest.{outputOf, pieceOutput, digest, tooMany, longParagraph}
-use Rattle.walk.specs.Contracts.Course.{piecesFrom, outputFrom, longFrom, FirstPiece, Put, TooLong, CursorIn, Going, start, FinishedFrom, ClearedFrom, Finished, Reached, Coursed, Begun}
+use Rattle.walk.specs.Contracts.Course.{piecesFrom, outputFrom, longFrom, FirstPiece, Put, TooLong, CursorIn, Going, start, FinishedFrom, ClearedFrom, Finished, Reached, Coursed}
 use Rattle.paragraphs.specs.declared.Cursor.{Cursor}
 use Rattle.walk.specs.declared.Ahead.{Ahead}
 use Rattle.walk.specs.declared.Ahead.the-variants.{Text, End}
@@ -156,15 +156,3 @@ module _ (most room : ℕ) (block : List ℕ) (o : Options) (notes out₀ out : 
 
   pub course-short : {c : Cursor} {p : Paragraph} → r ≡ Short c p → Coursed most room block o notes c₀ out₀ out (Short c p)
   course-short e = rw e at s
-
-module _ (most room : ℕ) (block : List ℕ) (o : Options) (notes out₀ out : List ℕ) (c₀ : Cursor) where
-  pub course-begun : (r : Course) → Coursed most room block o notes c₀ out₀ out r → Begun most block o notes c₀ out₀ out r
-  course-begun (CourseEnd n) s = s
-  course-begun (Short c p) s = (s .0, s .1)
-
-module _ (most : ℕ) (block : List ℕ) (o : Options) (notes out₀ out : List ℕ) (c₀ : Cursor) (r : Course) (s : Begun most block o notes c₀ out₀ out r) where
-  pub begun-end : {n : ℕ} → r ≡ CourseEnd n → FinishedFrom most (meant block o) notes c₀ out₀ out (All n)
-  begun-end e = rw e at s
-
-  pub begun-short : {c : Cursor} {p : Paragraph} → r ≡ Short c p → Begun most block o notes c₀ out₀ out (Short c p)
-  begun-short e = rw e at s

@@ -1,8 +1,8 @@
 -- What a piece's writers have done, as the definition says it of the piece; and what they could ask.
 use mathlib.Core.Path.{_≡_, refl, sym, ap, _∙_}
-use mathlib.Core.Bool.{Bool, true, false, _||_}
+use mathlib.Core.Bool.{Bool, true, false, _||_, true≢false}
 use mathlib.Core.List.{List, [], _++_}
-use Prim.Native.Nat.{ℕ, _+_, _-_, _≤_, _<_}
+use Prim.Native.Nat.{ℕ, _+_, _-_, _*_, _≤_, _<_}
 use native.Mathlib.Omega.{arith}
 use lib.ListN.{length}
 use lib.Seq.{slice}
@@ -181,6 +181,15 @@ module _ (block notes : List ℕ) (o : Options) (c : Cursor) (p : ParagraphAt) (
       going-over most (meant block o) notes going (text-long block notes o ready (c .mail) (c .at) p (g .paragraph-is) (g .goes) (g .text) (g .bounds) most out c refl refl h)
 
 -- ---- the rooms
+
+-- one of so many numbers is enough for so many words and their breaks
+pub room-enough : (size k words : ℕ) → size ≡ k → words * 15 ≤ k → words * 15 ≤ size
+room-enough size k words e h = omega arith
+
+pub room-breaks : (quick : Bool) (size words : ℕ) → words ≡ roomFor quick size → quick ≡ false → words * 15 ≤ size
+unfolding roomFor
+room-breaks true size words e q = absurd (true≢false q)
+room-breaks false size words e q = omega arith
 
 -- none of them is for more words than a paragraph may have
 pub room-few : (quick : Bool) (size k : ℕ) → size ≡ k → (quick ≡ true → k ≤ 7168) → (quick ≡ false → k ≤ 15360) → roomFor quick size ≤ mostWords

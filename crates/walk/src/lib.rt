@@ -20,7 +20,7 @@ ghost use Rattle.output.specs.Contracts.Sink.{Wrote};
 ghost use Rattle.paragraphs.specs.Contracts.Steps.{roomFor, wordsFor};
 ghost use Rattle.walk.specs.Digest.{mostWords, digest};
 ghost use Rattle.walk.specs.Work.{workFor};
-ghost use Rattle.walk.specs.Contracts.Course.{CursorIn, TextAhead, Reached, Admitted, outputFrom, longFrom, Coursed, Begun, start, Finished, FinishedFrom, ClearedFrom};
+ghost use Rattle.walk.specs.Contracts.Course.{CursorIn, TextAhead, Reached, Admitted, outputFrom, longFrom, Coursed, start, Finished, FinishedFrom, ClearedFrom};
 
 // What follows the lines after a place: a paragraph, where the cursor stands, or the end of the notes.
 enum Ahead {
@@ -28,7 +28,7 @@ enum Ahead {
     End(usize),
 }
 
-// How far the tables reach: to the end of the digest, of so many bytes, or to a paragraph of more words than they have room for.
+// How far the work went: to the end of the digest, of so many bytes, or to a paragraph of more words than it may have here.
 enum Course {
     End(usize),
     Short { c: Cursor, p: Paragraph },
@@ -85,7 +85,26 @@ fn put_or_clear(
     }
 }
 
-// What `put_all` would count.
+// Everything from the first paragraph on, written.
+fn put_from(
+    o: Options,
+    block: &[u8],
+    notes: &[u8],
+    c: Cursor,
+    p: Paragraph,
+    out: &mut [u8],
+) -> Ended
+    requires { ⌜ Admitted (now block) (now notes) o × CursorIn (now notes) c × TextAhead (now block) o (now notes) c p ⌝ }
+    ensures { λ r. ⌜ FinishedFrom mostWords (meant (now (block .entry)) o) (now (notes .entry)) c (now (out .entry)) (now (out .exit)) r ⌝ }
+{
+    if o.quick {
+        return put_quick(o, block, notes, c, p, out);
+    }
+    put_best(o, block, notes, c, p, out)
+}
+
+// What `put_all` would count. With a caller more Knuth-Plass's rooms are no part of the frame that notes without a paragraph, or with quick,
+// are put in.
 pub fn measure_all(o: Options, block: &[u8], notes: &[u8]) -> Ended
     requires { ⌜ Admitted (now block) (now notes) o ⌝ }
     ensures { λ r. ⌜ Finished mostWords (meant (now (block .entry)) o) (now (notes .entry)) [] [] r ⌝ }
@@ -93,8 +112,20 @@ pub fn measure_all(o: Options, block: &[u8], notes: &[u8]) -> Ended
     let mut none = [0u8; 0];
     match put_lines(o, block, notes, front(), &mut none) {
         Ahead::End(needed) => Ended::All(needed),
-        Ahead::Text { c, p } => put_from(o, block, notes, c, p, &mut none),
+        Ahead::Text { c, p } => measure_from(o, block, notes, c, p),
     }
+}
+
+// The same of everything from the first paragraph on.
+fn measure_from(o: Options, block: &[u8], notes: &[u8], c: Cursor, p: Paragraph) -> Ended
+    requires { ⌜ Admitted (now block) (now notes) o × CursorIn (now notes) c × TextAhead (now block) o (now notes) c p ⌝ }
+    ensures { λ r. ⌜ FinishedFrom mostWords (meant (now (block .entry)) o) (now (notes .entry)) c [] [] r ⌝ }
+{
+    let mut none = [0u8; 0];
+    if o.quick {
+        return put_quick(o, block, notes, c, p, &mut none);
+    }
+    put_best(o, block, notes, c, p, &mut none)
 }
 
 // The same in room that is lent, of which there is enough for every paragraph.
@@ -127,7 +158,8 @@ fn put_lent(
     requires { ⌜ Admitted (now block) (now notes) o × CursorIn (now notes) c × TextAhead (now block) o (now notes) c p × (longFrom (roomFor (o .quick) (length (now work))) (meant (now block) o) (c .mail) (now notes) (c .at) ≡ Nowhere) ⌝ }
     ensures { λ r. ⌜ Wrote (now (out .entry)) (c .written) (outputFrom (meant (now (block .entry)) o) (c .mail) (now (notes .entry)) (c .at)) (now (out .exit)) r ⌝ }
 {
-    match put_texts(o, block, notes, c, p, out, work) {
+    let limit = paragraphs::room_for(o.quick, work.len());
+    match put_texts(o, block, notes, c, p, out, limit, work) {
         Course::End(needed) => needed,
         // There is room for every paragraph, so none is left.
         Course::Short { c: d, p: _ } => d.written,
@@ -220,12 +252,13 @@ fn put_lines(o: Options, block: &[u8], notes: &[u8], from: Cursor, out: &mut [u8
     Ahead::End(c.written)
 }
 
-// The rooms, in numbers. With quick a word takes seven, with Knuth-Plass fifteen: 48, 512 and 1,024 words, and 40, 196 and 1,024.
-const QUICK_FEW: usize = 336;
+// The most words that a paragraph may have.
+const MOST_WORDS: usize = 1024;
 
-const QUICK_MORE: usize = 3584;
+// Knuth-Plass's rooms: for so many words, and in numbers, of which a word takes fifteen.
+const FEW_WORDS: usize = 40;
 
-const QUICK_MOST: usize = 7168;
+const MORE_WORDS: usize = 196;
 
 const BEST_FEW: usize = 600;
 
@@ -233,40 +266,12 @@ const BEST_MORE: usize = 2940;
 
 const BEST_MOST: usize = 15360;
 
-// With Knuth-Plass a paragraph of more bytes has more words, as a rule, than the first room and the second are for.
+// A paragraph of more bytes has more words, as a rule, than the first room and the second are for.
 const FEW_BYTES: usize = 240;
 
 const MORE_BYTES: usize = 960;
 
-// Writes everything from the first paragraph on. All working room is declared in the functions that follow, each for longer paragraphs
-// than the one before it, and lent from there on: a call has no more of it cleared than its paragraphs ask for, and notes without a
-// paragraph do without.
-fn put_from(
-    o: Options,
-    block: &[u8],
-    notes: &[u8],
-    c: Cursor,
-    p: Paragraph,
-    out: &mut [u8],
-) -> Ended
-    requires { ⌜ Admitted (now block) (now notes) o × CursorIn (now notes) c × TextAhead (now block) o (now notes) c p ⌝ }
-    ensures { λ r. ⌜ FinishedFrom mostWords (meant (now (block .entry)) o) (now (notes .entry)) c (now (out .entry)) (now (out .exit)) r ⌝ }
-{
-    if o.quick {
-        return put_quick(o, block, notes, c, p, out);
-    }
-    // The first paragraph is not split for a room that it outgrows.
-    let size = p.next - c.at;
-    if size <= FEW_BYTES {
-        return put_best(o, block, notes, c, p, out);
-    }
-    if size <= MORE_BYTES {
-        return put_best_more(o, block, notes, c, p, out);
-    }
-    put_best_long(o, block, notes, c, p, out)
-}
-
-// Quick, for the words of a few lines.
+// Quick, for paragraphs of every length that they may have. It does without working room.
 fn put_quick(
     o: Options,
     block: &[u8],
@@ -278,70 +283,15 @@ fn put_quick(
     requires { ⌜ Admitted (now block) (now notes) o × CursorIn (now notes) c × TextAhead (now block) o (now notes) c p × (o .quick ≡ true) ⌝ }
     ensures { λ r. ⌜ FinishedFrom mostWords (meant (now (block .entry)) o) (now (notes .entry)) c (now (out .entry)) (now (out .exit)) r ⌝ }
 {
-    let mut work = [0u32; QUICK_FEW];
-    match put_texts(o, block, notes, c, p, out, &mut work) {
-        Course::End(needed) => Ended::All(needed),
-        Course::Short { c: d, p: q } => put_quick_longer(o, block, notes, d, q, out),
-    }
-}
-
-// The same for longer paragraphs.
-fn put_quick_longer(
-    o: Options,
-    block: &[u8],
-    notes: &[u8],
-    c: Cursor,
-    p: Paragraph,
-    out: &mut [u8],
-) -> Ended
-    requires { ⌜ Admitted (now block) (now notes) o × CursorIn (now notes) c × TextAhead (now block) o (now notes) c p × (o .quick ≡ true) ⌝ }
-    ensures { λ r. ⌜ FinishedFrom mostWords (meant (now (block .entry)) o) (now (notes .entry)) c (now (out .entry)) (now (out .exit)) r ⌝ }
-{
-    match put_quick_more(o, block, notes, c, p, out) {
-        Course::End(needed) => Ended::All(needed),
-        Course::Short { c: d, p: q } => put_quick_long(o, block, notes, d, q, out),
-    }
-}
-
-// For 512 words, which is as many as a paragraph of 1 KiB can have: one of more bytes is not split for tables that it may outgrow.
-fn put_quick_more(
-    o: Options,
-    block: &[u8],
-    notes: &[u8],
-    c: Cursor,
-    p: Paragraph,
-    out: &mut [u8],
-) -> Course
-    requires { ⌜ Admitted (now block) (now notes) o × CursorIn (now notes) c × TextAhead (now block) o (now notes) c p × (o .quick ≡ true) ⌝ }
-    ensures { λ r. ⌜ Begun mostWords (now (block .entry)) o (now (notes .entry)) c (now (out .entry)) (now (out .exit)) r ⌝ }
-{
-    if c.at + 1024 < p.next {
-        return Course::Short { c, p };
-    }
-    let mut work = [0u32; QUICK_MORE];
-    put_texts(o, block, notes, c, p, out, &mut work)
-}
-
-// For the most words that a paragraph may have.
-fn put_quick_long(
-    o: Options,
-    block: &[u8],
-    notes: &[u8],
-    c: Cursor,
-    p: Paragraph,
-    out: &mut [u8],
-) -> Ended
-    requires { ⌜ Admitted (now block) (now notes) o × CursorIn (now notes) c × TextAhead (now block) o (now notes) c p × (o .quick ≡ true) ⌝ }
-    ensures { λ r. ⌜ FinishedFrom mostWords (meant (now (block .entry)) o) (now (notes .entry)) c (now (out .entry)) (now (out .exit)) r ⌝ }
-{
-    let mut work = [0u32; QUICK_MOST];
-    match put_texts(o, block, notes, c, p, out, &mut work) {
+    let mut none = [0u32; 0];
+    match put_texts(o, block, notes, c, p, out, MOST_WORDS, &mut none) {
         Course::End(needed) => Ended::All(needed),
         Course::Short { c: d, p: _ } => Ended::Stopped(d.at),
     }
 }
 
-// The same with Knuth-Plass: for the words of a few lines.
+// Knuth-Plass. Its working room is declared in the functions that follow, each for longer paragraphs than the one before it, and lent from
+// there on: a call has no more of it cleared than its paragraphs ask for. The first paragraph is not split for a room that it outgrows.
 fn put_best(
     o: Options,
     block: &[u8],
@@ -353,8 +303,30 @@ fn put_best(
     requires { ⌜ Admitted (now block) (now notes) o × CursorIn (now notes) c × TextAhead (now block) o (now notes) c p × (o .quick ≡ false) ⌝ }
     ensures { λ r. ⌜ FinishedFrom mostWords (meant (now (block .entry)) o) (now (notes .entry)) c (now (out .entry)) (now (out .exit)) r ⌝ }
 {
+    let size = p.next - c.at;
+    if size <= FEW_BYTES {
+        return put_best_few(o, block, notes, c, p, out);
+    }
+    if size <= MORE_BYTES {
+        return put_best_more(o, block, notes, c, p, out);
+    }
+    put_best_long(o, block, notes, c, p, out)
+}
+
+// For the words of a few lines.
+fn put_best_few(
+    o: Options,
+    block: &[u8],
+    notes: &[u8],
+    c: Cursor,
+    p: Paragraph,
+    out: &mut [u8],
+) -> Ended
+    requires { ⌜ Admitted (now block) (now notes) o × CursorIn (now notes) c × TextAhead (now block) o (now notes) c p × (o .quick ≡ false) ⌝ }
+    ensures { λ r. ⌜ FinishedFrom mostWords (meant (now (block .entry)) o) (now (notes .entry)) c (now (out .entry)) (now (out .exit)) r ⌝ }
+{
     let mut work = [0u32; BEST_FEW];
-    match put_texts(o, block, notes, c, p, out, &mut work) {
+    match put_texts(o, block, notes, c, p, out, FEW_WORDS, &mut work) {
         Course::End(needed) => Ended::All(needed),
         Course::Short { c: d, p: q } => put_best_more(o, block, notes, d, q, out),
     }
@@ -373,7 +345,7 @@ fn put_best_more(
     ensures { λ r. ⌜ FinishedFrom mostWords (meant (now (block .entry)) o) (now (notes .entry)) c (now (out .entry)) (now (out .exit)) r ⌝ }
 {
     let mut work = [0u32; BEST_MORE];
-    match put_texts(o, block, notes, c, p, out, &mut work) {
+    match put_texts(o, block, notes, c, p, out, MORE_WORDS, &mut work) {
         Course::End(needed) => Ended::All(needed),
         Course::Short { c: d, p: q } => put_best_long(o, block, notes, d, q, out),
     }
@@ -392,13 +364,13 @@ fn put_best_long(
     ensures { λ r. ⌜ FinishedFrom mostWords (meant (now (block .entry)) o) (now (notes .entry)) c (now (out .entry)) (now (out .exit)) r ⌝ }
 {
     let mut work = [0u32; BEST_MOST];
-    match put_texts(o, block, notes, c, p, out, &mut work) {
+    match put_texts(o, block, notes, c, p, out, MOST_WORDS, &mut work) {
         Course::End(needed) => Ended::All(needed),
         Course::Short { c: d, p: _ } => Ended::Stopped(d.at),
     }
 }
 
-// Paragraph by paragraph, each with the lines after it, as far as the tables reach.
+// Paragraph by paragraph, each with the lines after it, up to one of more than so many words.
 // In the original: `uumain`.
 fn put_texts(
     o: Options,
@@ -407,16 +379,25 @@ fn put_texts(
     first: Cursor,
     head: Paragraph,
     out: &mut [u8],
+    limit: usize,
     work: &mut [u32],
 ) -> Course
-    requires { ⌜ Admitted (now block) (now notes) o × CursorIn (now notes) first × TextAhead (now block) o (now notes) first head ⌝ }
-    ensures { λ r. ⌜ ((most : ℕ) → roomFor (o .quick) (length (now (work .entry))) ≤ most → Coursed most (roomFor (o .quick) (length (now (work .entry)))) (now (block .entry)) o (now (notes .entry)) first (now (out .entry)) (now (out .exit)) r) ⌝ }
+    requires { ⌜ Admitted (now block) (now notes) o × CursorIn (now notes) first × TextAhead (now block) o (now notes) first head × (o .quick ≡ false → limit * 15 ≤ length (now work)) ⌝ }
+    ensures { λ r. ⌜ ((most : ℕ) → limit ≤ most → Coursed most limit (now (block .entry)) o (now (notes .entry)) first (now (out .entry)) (now (out .exit)) r) ⌝ }
 {
     let mut c = first;
     let mut p = head;
     loop {
-        let Step::On(behind) = paragraphs::put_paragraph(notes, c.at, o, p, out, c.written, work)
-        else {
+        let Step::On(behind) = paragraphs::put_paragraph(
+            notes,
+            c.at,
+            o,
+            p,
+            out,
+            c.written,
+            limit,
+            work,
+        ) else {
             return Course::Short { c, p };
         };
         match put_lines(o, block, notes, behind, out) {

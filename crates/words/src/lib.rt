@@ -123,7 +123,7 @@ pub fn split_words(
 
 // Where the words of a line begin, of which mail's is taken whole.
 // In the original: `WordSplit::new`.
-fn begin(mail: bool, line: usize, start: usize) -> usize
+pub fn begin(mail: bool, line: usize, start: usize) -> usize
     requires { ⌜ (mail ≡ false → line + start ≤ mostLarge) ⌝ }
     ensures { λ r. ⌜ r ≡ line + cond mail 0 start ⌝ }
 {

@@ -1,4 +1,5 @@
 -- `regular::put_listed` meets its contract. Invariant: what is left of the output is that of the words from j on.
+use mathlib.Core.List.{[]}
 use Prim.Native.Nat.{_-_}
 use native.Mathlib.Omega.{arith}
 use Rattle.output.proofs.Sink.{left-length}
@@ -15,7 +16,7 @@ abbrev μ-loop : tie.MeasureT-loop
 μ-loop s table n g indent out₀ j₀ v₀ out j v = n - j
 
 loop-holds : tie.Need-loop-holds Inv-loop μ-loop
-loop-holds c = listed-first _ _ _ _ _ _ _ (c .before .before .before .pre .6)
+loop-holds c = let p = c .before .before .before .pre in listed-first _ _ _ _ _ _ _ (p .5) (p .6) (p .8)
 
 get-requires : tie.Need-get-requires Inv-loop μ-loop
 get-requires c κs = let k = c .before .before .before .before .before .pre .0 in omega (arith, k .held, k .few, c .loop-test .taken)
@@ -25,7 +26,7 @@ put-word-requires c κs =
     let p = c .before .before .before .before .before .before .before .pre in
     let l = c .before .before .before .loop .inv in
     let w = c .before .get .ensures in
-    (word-lies _ _ _ (p .0) _ (c .before .before .loop-test .taken) _ (w .is), w .small, word-narrow _ _ _ (p .0) _ (c .before .before .loop-test .taken) _ (w .is), p .2, p .3, p .4, omega (arith, l .most, c .before .before .loop-test .taken, p .1, p .5), l .reach, p .7, p .8)
+    (word-lies _ _ _ (p .0) _ (c .before .before .loop-test .taken) _ (w .is), w .small, word-narrow _ _ _ (p .0) _ (c .before .before .loop-test .taken) _ (w .is), p .2, p .3, p .4, l .order, l .within, omega (arith, l .most, c .before .before .loop-test .taken, p .1, p .7), l .stands, p .9, p .10)
 
 add-j : tie.Need-add-j Inv-loop μ-loop
 add-j c = omega (arith, c .before .before .before .before .before .loop-test .taken, c .before .before .before .before .before .before .before .before .before .before .pre .1)
@@ -37,7 +38,7 @@ loop-again : tie.Need-loop-again Inv-loop μ-loop
 loop-again c = listed-turn _ _ _ _ _ _ _ _ _ _ (c .before .before .before .before .before .before .loop .inv) (c .before .before .before .before .before .loop-test .taken) _ (c .before .before .before .before .get .ensures .is) _ _ (c .before .before .put-word .ensures)
 
 same-length : tie.Need-same-length Inv-loop μ-loop
-same-length c = left-length (c .before .loop .inv .left)
+same-length c = left-length (c .before .loop .inv .left [])
 
 returns : tie.Need-returns Inv-loop μ-loop
 returns c = listed-all _ _ _ _ _ _ _ _ _ _ (c .before .loop .inv) (c .loop-test .left)

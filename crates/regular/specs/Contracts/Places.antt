@@ -1,10 +1,10 @@
 -- What the contracts of the code cite: spaces of a regular line, by places.
 use mathlib.Core.Path.{_≡_}
-use mathlib.Core.Bool.{Bool, true, false}
+use mathlib.Core.Bool.{Bool, true, false, not}
 use mathlib.Core.Logic.{_⊎_}
 use mathlib.Core.List.{List, [], _∷_, _++_}
 use Prim.Native.Nat.{ℕ, _+_, _-_, _*_, _≤_, _<_, _^_}
-use lib.ListN.{length, getD, drop}
+use lib.ListN.{length, getD, drop, replicate}
 use lib.Seq.{slice}
 use Rattle.options.specs.Opts.{Opts}
 use Rattle.records.specs.Word.{Word, meaning}
@@ -12,22 +12,22 @@ use Rattle.records.specs.Contracts.Table.{wordsIn}
 use Rattle.records.specs.declared.Word.{Word as Record}
 use Rattle.spacing.specs.declared.Setting.{Setting}
 use Rattle.output.specs.Contracts.Sink.{Left}
-use Rattle.regular.specs.Contracts.Regular.{isRegular, stretchWords, freshPunct, lastly, quickRest, quickFresh}
+use Rattle.regular.specs.Contracts.Regular.{isRegular, stretchWords, freshPunct, lastly, quickRest, quickFresh, quickOn}
 use Rattle.regular.specs.declared.Cut.{Cut}
 use Rattle.regular.specs.declared.State.{State}
 use Rattle.regular.specs.declared.Row.{Row}
 use Rattle.regular.specs.declared.Reached.{Reached}
 use Rattle.regular.specs.declared.Progress.{Progress}
-use Rattle.regular.specs.declared.Put.{Put}
-use Rattle.regular.specs.declared.Put.the-variants.{Done, Other}
+use Rattle.regular.specs.declared.Waiting.{Waiting}
 use Rattle.options.specs.Opts.{meant}
 use Rattle.options.specs.declared.Options.{Options}
-use Rattle.output.specs.Emission.{emit}
+use Rattle.output.specs.Emission.{lineFeed, emit}
 use Rattle.output.specs.Contracts.Sink.{Wrote}
 use Rattle.quick.specs.Quick.{quickBreaks}
 use Rattle.lines.specs.Lines.{linesOf}
 use Rattle.pieces.specs.Contracts.Bounds.{AllBegin}
 use Rattle.words.specs.Contracts.Places.{wordsAt}
+use Rattle.words.specs.Contracts.Taken.{wordsBetween}
 
 -- no space is at a place
 abbrev pub NoSpace : List ℕ → ℕ → Type 0
@@ -134,57 +134,86 @@ pub record RowIs (o : Opts) (skip later : ℕ) (s : List ℕ) (next i : ℕ) (r 
   pub inked : r .from < r .end → Inked s (r .from) (r .end)
   pub words : wordsAt o false skip later (linesOf (slice i next s)) ≡ stretchWords o true false (slice (r .from) (r .end) s) ++ wordsAt o false later later (linesOf (slice (r .next) next s))
 
--- A stretch, that may be empty, is written after a line of output that is at a column.
-pub record Went (s : List ℕ) (from e : ℕ) (g : Setting) (indent : List ℕ) (out : List ℕ) (t : Reached) (out′ : List ℕ) (r : Reached) : Type 0 where
-  pub left : (o : Opts) (more : List Word) → o .uniform ≡ false
-      → Left out (t .written) (quickRest g indent (t .column) (t .punct) (stretchWords o true false (slice from e s) ++ more))
-      out′ (r .written) (quickRest g indent (r .column) (r .punct) more)
-  pub most : r .written ≤ t .written + (e - from + 1) * 2 ^ 34
-  pub reach : r .column ≤ 2 ^ 33
+-- ---- a paragraph, as far as it is written
 
--- The words of the lines from a place on.
-abbrev pub wordsOn : List ℕ → Options → ℕ → ℕ → ℕ → List ℕ → ℕ → List Word
-wordsOn block o start later next s i = wordsAt (meant block o) false start later (linesOf (slice i next s))
+-- what is left of its output, where words follow
+abbrev pub ahead : Setting → List ℕ → Reached → List Word → List ℕ
+ahead g indent t ws = quickOn g indent (t .begins) (t .column) (t .punct) ws
 
--- Lines are written up to a place, after a line of output that is at a column: what is left of quick's output is that of the other lines' words.
-pub record Gone (s : List ℕ) (at next later : ℕ) (o : Options) (g : Setting) (indent : List ℕ) (out : List ℕ) (t : Reached) (out′ : List ℕ) (i : ℕ) (r : Reached) : Type 0 where
-  pub on : at ≤ i
-  pub most : i ≤ next
-  pub rest : AllBegin (o .glue) later later (linesOf (slice i next s))
-  pub left : (block : List ℕ)
-      → Left out (t .written) (quickRest g indent (t .column) (t .punct) (wordsOn block o later later next s at))
-      out′ (r .written) (quickRest g indent (r .column) (r .punct) (wordsOn block o later later next s i))
-  pub few : r .written ≤ t .written + (i - at) * 2 ^ 35
-  pub reach : r .column ≤ 2 ^ 33
+-- its column is small enough for all sums
+abbrev pub Stands : Reached → Type 0
+Stands t = (t .column ≤ 2 ^ 33) × (t .begins ≡ true → t .column < 2 ^ 31)
 
 abbrev pub reachedOf : Progress → Reached
-reachedOf r = record { written = r .written; column = r .column; punct = r .punct }
+reachedOf r = record { written = r .written; column = r .column; punct = r .punct; begins = r .begins }
 
--- A word of any kind is written after a line of output that is at a column.
-pub record WordPut (s : List ℕ) (w : Record) (g : Setting) (indent : List ℕ) (out : List ℕ) (t : Reached) (out′ : List ℕ) (r : Reached) : Type 0 where
+abbrev pub standing : Waiting → Reached
+standing t = record { written = t .written; column = t .column; punct = t .punct; begins = t .begins }
+
+-- A stretch, that may be empty, is written.
+pub record Went (s : List ℕ) (from e : ℕ) (g : Setting) (indent : List ℕ) (out : List ℕ) (t : Reached) (out′ : List ℕ) (r : Reached) : Type 0 where
+  pub left : (o : Opts) (more : List Word) → o .uniform ≡ false
+      → Left out (t .written) (ahead g indent t (stretchWords o true false (slice from e s) ++ more)) out′ (r .written) (ahead g indent r more)
+  pub most : r .written ≤ t .written + (e - from + 1) * 2 ^ 34
+  pub stands : Stands r
+
+-- Between two places the notes have so many spaces.
+pub record GapIn (s : List ℕ) (to from count : ℕ) : Type 0 where
+  pub on : to ≤ from
+  pub spaces : slice to from s ≡ replicate count 32
+
+-- A word of any kind is written, but for bytes of the notes that wait.
+pub record WordPut (s : List ℕ) (w : Record) (g : Setting) (indent : List ℕ) (out : List ℕ) (t : Waiting) (out′ : List ℕ) (r : Waiting) : Type 0 where
   pub left : (more : List Word)
-      → Left out (t .written) (quickRest g indent (t .column) (t .punct) (meaning s w ∷ more))
-      out′ (r .written) (quickRest g indent (r .column) (r .punct) more)
+      → Left out (t .written) (slice (t .from) (t .to) s ++ ahead g indent (standing t) (meaning s w ∷ more)) out′ (r .written) (slice (r .from) (r .to) s ++ ahead g indent (standing r) more)
+  pub order : r .from ≤ r .to
+  pub within : r .to ≤ length s
   pub most : r .written ≤ t .written + 2 ^ 34
-  pub reach : r .column ≤ 2 ^ 33
+  pub stands : Stands (standing r)
 
 -- So are the words of a table up to the j-th.
-pub record Listed (s table : List ℕ) (n : ℕ) (g : Setting) (indent : List ℕ) (out : List ℕ) (t : Reached) (out′ : List ℕ) (j : ℕ) (r : Reached) : Type 0 where
+pub record Listed (s table : List ℕ) (n : ℕ) (g : Setting) (indent : List ℕ) (out : List ℕ) (t : Waiting) (out′ : List ℕ) (j : ℕ) (r : Waiting) : Type 0 where
   pub few : j ≤ n
-  pub left : Left out (t .written) (quickRest g indent (t .column) (t .punct) (wordsIn s n table))
-      out′ (r .written) (quickRest g indent (r .column) (r .punct) (drop j (wordsIn s n table)))
+  pub left : (more : List Word)
+      → Left out (t .written) (slice (t .from) (t .to) s ++ ahead g indent (standing t) (wordsIn s n table ++ more)) out′ (r .written) (slice (r .from) (r .to) s ++ ahead g indent (standing r) (drop j (wordsIn s n table) ++ more))
+  pub order : r .from ≤ r .to
+  pub within : r .to ≤ length s
   pub most : r .written ≤ t .written + j * 2 ^ 34
-  pub reach : r .column ≤ 2 ^ 33
+  pub stands : Stands (standing r)
 
--- The lines from a place on are written: what is left is what quick writes of no words.
-pub record Rested (s : List ℕ) (at next later : ℕ) (o : Options) (g : Setting) (indent : List ℕ) (out : List ℕ) (t : Reached) (out′ : List ℕ) (r : Reached) : Type 0 where
+-- So are the words of a line.
+pub record Worded (s : List ℕ) (start end : ℕ) (mail : Bool) (o : Options) (g : Setting) (indent : List ℕ) (out : List ℕ) (t : Reached) (out′ : List ℕ) (r : Reached) : Type 0 where
+  pub left : (more : List Word)
+      → Left out (t .written) (ahead g indent t (wordsBetween (meant [] o) mail (not mail) false s start end ++ more)) out′ (r .written) (ahead g indent r more)
+  pub most : r .written ≤ t .written + (end - start + 1) * 2 ^ 34
+  pub stands : Stands r
+
+-- The words of the lines from a place on.
+abbrev pub wordsOn : List ℕ → Options → Bool → ℕ → ℕ → ℕ → List ℕ → ℕ → List Word
+wordsOn block o mail start later next s i = wordsAt (meant block o) mail start later (linesOf (slice i next s))
+
+-- Lines are written up to a place: what is left is the output of the other lines' words, which begin so many bytes after.
+pub record Gone (s : List ℕ) (at next : ℕ) (mail : Bool) (start later : ℕ) (o : Options) (g : Setting) (indent : List ℕ) (out : List ℕ) (t : Reached) (out′ : List ℕ) (i skip : ℕ) (r : Reached) : Type 0 where
+  pub on : at ≤ i
+  pub most : i ≤ next
+  pub rest : mail ≡ false → AllBegin (o .glue) skip later (linesOf (slice i next s))
   pub left : (block : List ℕ)
-      → Left out (t .written) (quickRest g indent (t .column) (t .punct) (wordsOn block o later later next s at))
-      out′ (r .written) (quickRest g indent (r .column) (r .punct) [])
+      → Left out (t .written) (ahead g indent t (wordsOn block o mail start later next s at)) out′ (r .written) (ahead g indent r (wordsOn block o mail skip later next s i))
+  pub few : r .written ≤ t .written + (i - at) * 2 ^ 35
+  pub stands : Stands r
+
+-- One line is.
+pub record RowPut (s : List ℕ) (i next : ℕ) (mail : Bool) (skip later : ℕ) (o : Options) (g : Setting) (indent : List ℕ) (out : List ℕ) (t : Reached) (out′ : List ℕ) (r : Progress) : Type 0 where
+  pub more : i < r .at
+  pub gone : Gone s i next mail skip later o g indent out t out′ (r .at) later (reachedOf r)
+
+-- All are: a line feed is left.
+pub record Rowed (s : List ℕ) (at next : ℕ) (mail : Bool) (start later : ℕ) (o : Options) (g : Setting) (indent : List ℕ) (out : List ℕ) (t : Reached) (out′ : List ℕ) (r : Reached) : Type 0 where
+  pub left : (block : List ℕ) → Left out (t .written) (ahead g indent t (wordsOn block o mail start later next s at)) out′ (r .written) lineFeed
   pub most : r .written ≤ t .written + 2 ^ 55
 
--- A paragraph is written, broken by quick; or nothing is.
-abbrev pub PutIs : List ℕ → ℕ → ℕ → ℕ → ℕ → Options → Setting → List ℕ → List ℕ → List ℕ → ℕ → List ℕ → Put → Type 0
-PutIs s at next start later o g first indent out k out′ (Done r) =
-    (block : List ℕ) → Wrote out k (emit false first indent (quickBreaks g (wordsOn block o start later next s at)) (wordsOn block o start later next s at)) out′ r
-PutIs s at next start later o g first indent out k out′ Other = out′ ≡ out
+-- A paragraph is written, broken by quick.
+abbrev pub PutIs : List ℕ → ℕ → ℕ → Bool → ℕ → ℕ → Options → Setting → List ℕ → List ℕ → List ℕ → ℕ → List ℕ → ℕ → Type 0
+PutIs s at next mail start later o g first indent out k out′ r =
+    (block : List ℕ) → 0 < length (wordsOn block o mail start later next s at)
+    → Wrote out k (emit (g .uniform) first indent (quickBreaks g (wordsOn block o mail start later next s at)) (wordsOn block o mail start later next s at)) out′ r

@@ -8,7 +8,6 @@ use denote.Ref.{now}
 use lib.ListN.{length}
 use Rattle.output.proofs.Sink.{wrote-length}
 use Rattle.options.specs.Opts.{meant}
-use Rattle.paragraphs.specs.Contracts.Steps.{roomFor}
 use Rattle.walk.specs.Contracts.Course.{Going, TextAhead}
 use Rattle.walk.specs.declared.Ended.the-variants.{All}
 use Rattle.walk.proofs.Loop.{going-first, going-length, going-on, going-further, going-finished, reached-text, reached-end}
@@ -17,12 +16,12 @@ use Rattle.walk.proofs.put_texts.Statement.{statement}
 use Rattle.walk.proofs.put_texts.Tie as tie
 
 abbrev Inv-loop : tie.InvT-loop
-Inv-loop o block notes out₀ work₀ first head out work c p =
-    ((most : ℕ) → roomFor (o .quick) (length work₀) ≤ most → Going most (meant block o) notes first out₀ c out) × TextAhead block o notes c p
+Inv-loop o block notes out₀ limit work₀ first head out work c p =
+    ((most : ℕ) → limit ≤ most → Going most (meant block o) notes first out₀ c out) × TextAhead block o notes c p
     × (length work ≡ length work₀)
 
 abbrev μ-loop : tie.MeasureT-loop
-μ-loop o block notes out₀ work₀ first head out work c p = length notes - c .at
+μ-loop o block notes out₀ limit work₀ first head out work c p = length notes - c .at
 
 loop-holds : tie.Need-loop-holds Inv-loop μ-loop
 loop-holds c = let p = c .before .before .before .before .pre in (λ most few. going-first most _ _ _ _ (p .1), p .2, refl)
@@ -31,8 +30,8 @@ put-paragraph-requires : tie.Need-put-paragraph-requires Inv-loop μ-loop
 put-paragraph-requires c κs =
     let p = c .before .before .before .before .before .before .before .pre in
     let i = c .before .before .loop .inv in
-    let g = i .0 (roomFor (c .before .before .before .before .before .before .before .args .o .quick) (length (now (c .before .before .before .before .before .before .before .args .work)))) (omega arith) in
-    (begins-placed _ _ _ _ _ (p .0) (i .1), omega (arith, p .0 .short, g .stands .bounded, g .stands .within))
+    let g = i .0 (c .before .before .before .before .before .before .before .args .limit) (omega arith) in
+    (begins-placed _ _ _ _ _ (p .0) (i .1), omega (arith, p .0 .short, g .stands .bounded, g .stands .within), λ q. omega (arith, p .3 q, i .2))
 
 enum-known-behind : tie.Need-enum-known-behind Inv-loop μ-loop
 enum-known-behind c = search needs
@@ -44,7 +43,7 @@ same-length : tie.Need-same-length Inv-loop μ-loop
 same-length c =
     let i = c .before .before .before .before .before .before .before .before .before .loop .inv in
     let b = begins-over _ _ _ _ _ (c .before .before .before .before .before .before .before .before .before .before .before .before .before .before .pre .0) (i .1) _ _ _ (c .before .before .before .before .before .before .put-paragraph .result) (c .before .before .before .before .before .before .put-paragraph .ensures (now (c .before .before .before .before .before .before .before .before .before .before .before .before .before .before .args .block))) (c .enum-told .given .1) in
-    ap length (b .1) ∙ going-length _ _ _ (i .0 (roomFor (c .before .before .before .before .before .before .before .before .before .before .before .before .before .before .args .o .quick) (length (now (c .before .before .before .before .before .before .before .before .before .before .before .before .before .before .args .work)))) (omega arith))
+    ap length (b .1) ∙ going-length _ _ _ (i .0 (c .before .before .before .before .before .before .before .before .before .before .before .before .before .before .args .limit) (omega arith))
 
 same-length-2 : tie.Need-same-length-2 Inv-loop μ-loop
 same-length-2 c = c .before .before .before .work .given ∙ c .before .before .before .before .before .before .before .before .before .loop .inv .2
@@ -53,13 +52,13 @@ returns : tie.Need-returns Inv-loop μ-loop
 returns c most few =
     let i = c .before .before .before .before .before .before .before .before .before .loop .inv in
     let b = begins-over _ _ _ _ _ (c .before .before .before .before .before .before .before .before .before .before .before .before .before .before .pre .0) (i .1) _ _ _ (c .before .before .before .before .before .before .put-paragraph .result) (c .before .before .before .before .before .before .put-paragraph .ensures (now (c .before .before .before .before .before .before .before .before .before .before .before .before .before .before .args .block))) (c .enum-told .given .1) in
-    (rw (b .1) (i .0 most few), i .1, rw (i .2) at (b .0))
+    (rw (b .1) (i .0 most few), i .1, b .0)
 
 put-lines-requires : tie.Need-put-lines-requires Inv-loop μ-loop
 put-lines-requires c κs =
     let i = c .before .before .before .before .before .before .before .before .before .before .before .loop .inv in
-    let s = begins-stepped _ _ _ _ _ (c .before .before .before .before .before .before .before .before .before .before .before .before .before .before .before .before .pre .0) (i .1) (roomFor (c .before .before .before .before .before .before .before .before .before .before .before .before .before .before .before .before .args .o .quick) (length (now (c .before .before .before .before .before .before .before .before .before .before .before .before .before .before .before .before .args .work)))) _ _ _ (c .before .before .before .before .before .before .before .before .put-paragraph .result) _ (rw (i .2) (omega arith)) (c .before .before .before .before .before .before .before .before .put-paragraph .ensures (now (c .before .before .before .before .before .before .before .before .before .before .before .before .before .before .before .before .args .block))) (c .before .before .behind .given .1) in
-    (c .before .before .before .before .before .before .before .before .before .before .before .before .before .before .before .before .pre .0, going-on _ _ _ (i .0 (roomFor (c .before .before .before .before .before .before .before .before .before .before .before .before .before .before .before .before .args .o .quick) (length (now (c .before .before .before .before .before .before .before .before .before .before .before .before .before .before .before .before .args .work)))) (omega arith)) s .stands)
+    let s = begins-stepped _ _ _ _ _ (c .before .before .before .before .before .before .before .before .before .before .before .before .before .before .before .before .pre .0) (i .1) (c .before .before .before .before .before .before .before .before .before .before .before .before .before .before .before .before .args .limit) _ _ _ (c .before .before .before .before .before .before .before .before .put-paragraph .result) _ (omega arith) (c .before .before .before .before .before .before .before .before .put-paragraph .ensures (now (c .before .before .before .before .before .before .before .before .before .before .before .before .before .before .before .before .args .block))) (c .before .before .behind .given .1) in
+    (c .before .before .before .before .before .before .before .before .before .before .before .before .before .before .before .before .pre .0, going-on _ _ _ (i .0 (c .before .before .before .before .before .before .before .before .before .before .before .before .before .before .before .before .args .limit) (omega arith)) s .stands)
 
 enum-known-needed : tie.Need-enum-known-needed Inv-loop μ-loop
 enum-known-needed c = search needs
@@ -67,8 +66,8 @@ enum-known-needed c = search needs
 same-length-3 : tie.Need-same-length-3 Inv-loop μ-loop
 same-length-3 c =
     let i = c .before .before .before .before .before .before .before .before .before .before .before .before .before .before .before .before .before .loop .inv in
-    let s = begins-stepped _ _ _ _ _ (c .before .before .before .before .before .before .before .before .before .before .before .before .before .before .before .before .before .before .before .before .before .before .pre .0) (i .1) (roomFor (c .before .before .before .before .before .before .before .before .before .before .before .before .before .before .before .before .before .before .before .before .before .before .args .o .quick) (length (now (c .before .before .before .before .before .before .before .before .before .before .before .before .before .before .before .before .before .before .before .before .before .before .args .work)))) _ _ _ (c .before .before .before .before .before .before .before .before .before .before .before .before .before .before .put-paragraph .result) _ (rw (i .2) (omega arith)) (c .before .before .before .before .before .before .before .before .before .before .before .before .before .before .put-paragraph .ensures (now (c .before .before .before .before .before .before .before .before .before .before .before .before .before .before .before .before .before .before .before .before .before .before .args .block))) (c .before .before .before .before .before .before .before .before .behind .given .1) in
-    wrote-length (going-finished _ _ _ (going-on _ _ _ (i .0 (roomFor (c .before .before .before .before .before .before .before .before .before .before .before .before .before .before .before .before .before .before .before .before .before .before .args .o .quick) (length (now (c .before .before .before .before .before .before .before .before .before .before .before .before .before .before .before .before .before .before .before .before .before .before .args .work)))) (omega arith)) s) _ (All _) (reached-end _ _ _ _ _ _ _ (c .before .before .before .before .before .put-lines .result) (c .before .before .before .before .before .put-lines .ensures (roomFor (c .before .before .before .before .before .before .before .before .before .before .before .before .before .before .before .before .before .before .before .before .before .before .args .o .quick) (length (now (c .before .before .before .before .before .before .before .before .before .before .before .before .before .before .before .before .before .before .before .before .before .before .args .work))))) (c .before .needed .given .1)) .1)
+    let s = begins-stepped _ _ _ _ _ (c .before .before .before .before .before .before .before .before .before .before .before .before .before .before .before .before .before .before .before .before .before .before .pre .0) (i .1) (c .before .before .before .before .before .before .before .before .before .before .before .before .before .before .before .before .before .before .before .before .before .before .args .limit) _ _ _ (c .before .before .before .before .before .before .before .before .before .before .before .before .before .before .put-paragraph .result) _ (omega arith) (c .before .before .before .before .before .before .before .before .before .before .before .before .before .before .put-paragraph .ensures (now (c .before .before .before .before .before .before .before .before .before .before .before .before .before .before .before .before .before .before .before .before .before .before .args .block))) (c .before .before .before .before .before .before .before .before .behind .given .1) in
+    wrote-length (going-finished _ _ _ (going-on _ _ _ (i .0 (c .before .before .before .before .before .before .before .before .before .before .before .before .before .before .before .before .before .before .before .before .before .before .args .limit) (omega arith)) s) _ (All _) (reached-end _ _ _ _ _ _ _ (c .before .before .before .before .before .put-lines .result) (c .before .before .before .before .before .put-lines .ensures (c .before .before .before .before .before .before .before .before .before .before .before .before .before .before .before .before .before .before .before .before .before .before .args .limit)) (c .before .needed .given .1)) .1)
 
 same-length-4 : tie.Need-same-length-4 Inv-loop μ-loop
 same-length-4 c = c .before .before .before .before .before .before .before .before .before .before .before .work .given ∙ c .before .before .before .before .before .before .before .before .before .before .before .before .before .before .before .before .before .loop .inv .2
@@ -76,7 +75,7 @@ same-length-4 c = c .before .before .before .before .before .before .before .bef
 returns-2 : tie.Need-returns-2 Inv-loop μ-loop
 returns-2 c most few =
     let i = c .before .before .before .before .before .before .before .before .before .before .before .before .before .before .before .before .before .loop .inv in
-    let s = begins-stepped _ _ _ _ _ (c .before .before .before .before .before .before .before .before .before .before .before .before .before .before .before .before .before .before .before .before .before .before .pre .0) (i .1) most _ _ _ (c .before .before .before .before .before .before .before .before .before .before .before .before .before .before .put-paragraph .result) _ (rw (i .2) few) (c .before .before .before .before .before .before .before .before .before .before .before .before .before .before .put-paragraph .ensures (now (c .before .before .before .before .before .before .before .before .before .before .before .before .before .before .before .before .before .before .before .before .before .before .args .block))) (c .before .before .before .before .before .before .before .before .behind .given .1) in
+    let s = begins-stepped _ _ _ _ _ (c .before .before .before .before .before .before .before .before .before .before .before .before .before .before .before .before .before .before .before .before .before .before .pre .0) (i .1) most _ _ _ (c .before .before .before .before .before .before .before .before .before .before .before .before .before .before .put-paragraph .result) _ few (c .before .before .before .before .before .before .before .before .before .before .before .before .before .before .put-paragraph .ensures (now (c .before .before .before .before .before .before .before .before .before .before .before .before .before .before .before .before .before .before .before .before .before .before .args .block))) (c .before .before .before .before .before .before .before .before .behind .given .1) in
     going-finished _ _ _ (going-on _ _ _ (i .0 most few) s) _ (All _) (reached-end _ _ _ _ _ _ _ (c .before .before .before .before .before .put-lines .result) (c .before .before .before .before .before .put-lines .ensures most) (c .before .needed .given .1))
 
 enum-known-d : tie.Need-enum-known-d Inv-loop μ-loop
@@ -85,7 +84,7 @@ enum-known-d c = search needs
 loop-less : tie.Need-loop-less Inv-loop μ-loop
 loop-less c =
     let i = c .before .before .before .before .before .before .before .before .before .before .before .before .before .before .before .before .before .loop .inv in
-    let s = begins-stepped _ _ _ _ _ (c .before .before .before .before .before .before .before .before .before .before .before .before .before .before .before .before .before .before .before .before .before .before .pre .0) (i .1) (roomFor (c .before .before .before .before .before .before .before .before .before .before .before .before .before .before .before .before .before .before .before .before .before .before .args .o .quick) (length (now (c .before .before .before .before .before .before .before .before .before .before .before .before .before .before .before .before .before .before .before .before .before .before .args .work)))) _ _ _ (c .before .before .before .before .before .before .before .before .before .before .before .before .before .before .put-paragraph .result) _ (rw (i .2) (omega arith)) (c .before .before .before .before .before .before .before .before .before .before .before .before .before .before .put-paragraph .ensures (now (c .before .before .before .before .before .before .before .before .before .before .before .before .before .before .before .before .before .before .before .before .before .before .args .block))) (c .before .before .before .before .before .before .before .before .behind .given .1) in
+    let s = begins-stepped _ _ _ _ _ (c .before .before .before .before .before .before .before .before .before .before .before .before .before .before .before .before .before .before .before .before .before .before .pre .0) (i .1) (c .before .before .before .before .before .before .before .before .before .before .before .before .before .before .before .before .before .before .before .before .before .before .args .limit) _ _ _ (c .before .before .before .before .before .before .before .before .before .before .before .before .before .before .put-paragraph .result) _ (omega arith) (c .before .before .before .before .before .before .before .before .before .before .before .before .before .before .put-paragraph .ensures (now (c .before .before .before .before .before .before .before .before .before .before .before .before .before .before .before .before .before .before .before .before .before .before .args .block))) (c .before .before .before .before .before .before .before .before .behind .given .1) in
     let t = reached-text 0 _ _ _ _ _ _ (c .before .before .before .before .before .put-lines .result) (c .before .before .before .before .before .put-lines .ensures 0) (c .before .d .given .1) in
     omega (arith, s .goes .on, t .2, t .0 .stands .within)
 
@@ -94,7 +93,7 @@ loop-again c =
     let i = c .before .before .before .before .before .before .before .before .before .before .before .before .before .before .before .before .before .loop .inv in
     let t = reached-text 0 _ _ _ _ _ _ (c .before .before .before .before .before .put-lines .result) (c .before .before .before .before .before .put-lines .ensures 0) (c .before .d .given .1) in (
       λ most few.
-          let s = begins-stepped _ _ _ _ _ (c .before .before .before .before .before .before .before .before .before .before .before .before .before .before .before .before .before .before .before .before .before .before .pre .0) (i .1) most _ _ _ (c .before .before .before .before .before .before .before .before .before .before .before .before .before .before .put-paragraph .result) _ (rw (i .2) few) (c .before .before .before .before .before .before .before .before .before .before .before .before .before .before .put-paragraph .ensures (now (c .before .before .before .before .before .before .before .before .before .before .before .before .before .before .before .before .before .before .before .before .before .before .args .block))) (c .before .before .before .before .before .before .before .before .behind .given .1) in
+          let s = begins-stepped _ _ _ _ _ (c .before .before .before .before .before .before .before .before .before .before .before .before .before .before .before .before .before .before .before .before .before .before .pre .0) (i .1) most _ _ _ (c .before .before .before .before .before .before .before .before .before .before .before .before .before .before .put-paragraph .result) _ few (c .before .before .before .before .before .before .before .before .before .before .before .before .before .before .put-paragraph .ensures (now (c .before .before .before .before .before .before .before .before .before .before .before .before .before .before .before .before .before .before .before .before .before .before .args .block))) (c .before .before .before .before .before .before .before .before .behind .given .1) in
           let u = reached-text most _ _ _ _ _ _ (c .before .before .before .before .before .put-lines .result) (c .before .before .before .before .before .put-lines .ensures most) (c .before .d .given .1) in
           going-further _ _ _ (going-on _ _ _ (i .0 most few) s) (u .0),
       t .1,

@@ -108,16 +108,11 @@ abbrev pub ClearedFrom : ℕ → Opts → List ℕ → Cursor → List ℕ → L
 ClearedFrom most o notes c out out′ (All n) = FinishedFrom most o notes c out out′ (All n)
 ClearedFrom most o notes c out out′ (Stopped place) = (longFrom most o (c .mail) notes (c .at) ≡ At place) × (out′ ≡ replicate (length out) 0)
 
--- so far as the room reaches, which is for so many words: to the end, or to a paragraph of more words
+-- to the end, or to a paragraph of more than so many words
 abbrev pub Coursed : ℕ → ℕ → List ℕ → Options → List ℕ → Cursor → List ℕ → List ℕ → Course → Type 0
 Coursed most room block o notes c₀ out₀ out (CourseEnd n) = FinishedFrom most (meant block o) notes c₀ out₀ out (All n)
 Coursed most room block o notes c₀ out₀ out (Short c p) =
     Going most (meant block o) notes c₀ out₀ c out × TextAhead block o notes c p × (room < length (wordsFor block notes (c .at) o p))
-
--- the same, whatever the paragraph before which the work stopped
-abbrev pub Begun : ℕ → List ℕ → Options → List ℕ → Cursor → List ℕ → List ℕ → Course → Type 0
-Begun most block o notes c₀ out₀ out (CourseEnd n) = FinishedFrom most (meant block o) notes c₀ out₀ out (All n)
-Begun most block o notes c₀ out₀ out (Short c p) = Going most (meant block o) notes c₀ out₀ c out × TextAhead block o notes c p
 
 -- the lines from a place on were written, up to a paragraph or to the end
 abbrev pub Reached : ℕ → List ℕ → Options → List ℕ → Cursor → List ℕ → List ℕ → Ahead → Type 0
