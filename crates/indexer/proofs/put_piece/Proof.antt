@@ -2,7 +2,7 @@
 use mathlib.Core.Path.{refl}
 use native.Mathlib.Omega.{arith}
 use borrow.Author.Needs.{needs}
-use Rattle.walk.proofs.Steps.{ready-usable, ready-cleared, found-goes, found-begins, blank-put, plain-put, begins-placed}
+use Rattle.walk.proofs.Steps.{ready-usable, ready-cleared, found-goes, found-begins, blank-put, plain-put, begins-placed, room-breaks}
 use Rattle.indexer.proofs.Laws.{text-stepped}
 use Rattle.indexer.proofs.put_piece.Statement.{statement}
 use Rattle.indexer.proofs.put_piece.Tie as tie
@@ -30,11 +30,14 @@ emit-line-requires-2 c κs =
 enum-known-p : tie.Need-enum-known-p
 enum-known-p c = search needs
 
+room-for-requires : tie.Need-room-for-requires
+room-for-requires c κs = search needs
+
 put-paragraph-requires : tie.Need-put-paragraph-requires
 put-paragraph-requires c κs =
-    let p = c .before .before .before .before .before .before .before .before .before .before .pre in
-    let b = found-begins _ _ _ (c .before .before .before .before .before .before .before .before .before .before .args .c) _ (p .2) (c .before .before .before .before .before .next-piece .ensures) (c .before .before .before .p .given .1) in
-    (begins-placed _ _ _ _ _ (p .0) b, omega (arith, p .0 .short, p .1 .within, p .1 .bounded))
+    let p = c .before .before .before .before .before .before .before .before .before .before .before .pre in
+    let b = found-begins _ _ _ (c .before .before .before .before .before .before .before .before .before .before .before .args .c) _ (p .2) (c .before .before .before .before .before .before .next-piece .ensures) (c .before .before .before .before .p .given .1) in
+    (begins-placed _ _ _ _ _ (p .0) b, omega (arith, p .0 .short, p .1 .within, p .1 .bounded), room-breaks _ _ _ (c .before .before .room-for .ensures))
 
 same-length : tie.Need-same-length
 same-length c = search needs
@@ -62,9 +65,9 @@ same-length-4 c = search needs
 
 returns-3 : tie.Need-returns-3
 returns-3 c =
-    let p = c .before .before .before .before .before .before .before .before .before .before .before .before .before .before .before .pre in
-    let b = found-begins _ _ _ (c .before .before .before .before .before .before .before .before .before .before .before .before .before .before .before .args .c) _ (p .2) (c .before .before .before .before .before .before .before .before .before .before .next-piece .ensures) (c .before .before .before .before .before .before .before .before .p .given .1) in
-    text-stepped _ _ _ _ _ _ (p .0) (p .1) b _ _ (c .before .before .before .before .put-paragraph .result) (c .before .before .before .before .put-paragraph .ensures _)
+    let p = c .before .before .before .before .before .before .before .before .before .before .before .before .before .before .before .before .pre in
+    let b = found-begins _ _ _ (c .before .before .before .before .before .before .before .before .before .before .before .before .before .before .before .before .args .c) _ (p .2) (c .before .before .before .before .before .before .before .before .before .before .before .next-piece .ensures) (c .before .before .before .before .before .before .before .before .before .p .given .1) in
+    rw (← c .before .before .before .before .before .before .before .room-for .ensures) (text-stepped _ _ _ _ _ _ (p .0) (p .1) b _ _ (c .before .before .before .before .put-paragraph .result) (c .before .before .before .before .put-paragraph .ensures _))
 
 pub put-piece-spec : {M : Type 1} → statement M
 put-piece-spec =
@@ -76,6 +79,7 @@ put-piece-spec =
     enum-known-end
     emit-line-requires-2
     enum-known-p
+    room-for-requires
     put-paragraph-requires
     same-length
     returns
