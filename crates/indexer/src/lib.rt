@@ -289,7 +289,10 @@ fn put_piece(
             written: output::emit_line(notes, at, end, out, c.written),
             mail: false,
         }),
-        Piece::Text(p) => { paragraphs::put_paragraph(notes, at, o, p, out, c.written, work) }
+        Piece::Text(p) => {
+            let most = paragraphs::room_for(o.quick, work.len());
+            paragraphs::put_paragraph(notes, at, o, p, out, c.written, most, work)
+        }
     }
 }
 

@@ -2,7 +2,7 @@
 use mathlib.Core.Path.{refl}
 use native.Mathlib.Omega.{arith}
 use borrow.Author.Needs.{needs}
-use Rattle.walk.proofs.Steps.{ready-usable, ready-cleared, found-goes, found-begins, blank-put, plain-put, begins-placed}
+use Rattle.walk.proofs.Steps.{ready-usable, ready-cleared, found-goes, found-begins, blank-put, plain-put, begins-placed, room-breaks}
 use Rattle.indexer.proofs.Laws.{text-stepped}
 use Rattle.indexer.proofs.put_piece.Statement.{statement}
 use Rattle.indexer.proofs.put_piece.Tie as tie
@@ -34,14 +34,18 @@ emit-line-requires-2 c κs =
 enum-known-p : tie.Need-enum-known-p
 enum-known-p c = search needs
 
+room-for-requires : tie.Need-room-for-requires
+room-for-requires c κs = search needs
+
 put-paragraph-requires : tie.Need-put-paragraph-requires
 put-paragraph-requires c κs =
-    let at-p = c .before .before .before in
+    let at-room = c .before .before in
+    let at-p = at-room .before .before in
     let at-next-piece = at-p .before .before in
     let at-pre = at-next-piece .before .before .before .before .before in
     let p = at-pre .pre in
     let b = found-begins _ _ _ (at-pre .args .c) _ (p .2) (at-next-piece .next-piece .ensures) (at-p .p .given .1) in
-    (begins-placed _ _ _ _ _ (p .0) b, omega (arith, p .0 .short, p .1 .within, p .1 .bounded))
+    (begins-placed _ _ _ _ _ (p .0) b, omega (arith, p .0 .short, p .1 .within, p .1 .bounded), room-breaks _ _ _ (at-room .room-for .ensures))
 
 same-length : tie.Need-same-length
 same-length c = search needs
@@ -78,12 +82,13 @@ same-length-4 c = search needs
 returns-3 : tie.Need-returns-3
 returns-3 c =
     let at-put-paragraph = c .before .before .before .before in
-    let at-p = at-put-paragraph .before .before .before .before in
+    let at-room = at-put-paragraph .before .before .before in
+    let at-p = at-room .before .before in
     let at-next-piece = at-p .before .before in
     let at-pre = at-next-piece .before .before .before .before .before in
     let p = at-pre .pre in
     let b = found-begins _ _ _ (at-pre .args .c) _ (p .2) (at-next-piece .next-piece .ensures) (at-p .p .given .1) in
-    text-stepped _ _ _ _ _ _ (p .0) (p .1) b _ _ (at-put-paragraph .put-paragraph .result) (at-put-paragraph .put-paragraph .ensures _)
+    rw (← at-room .room-for .ensures) (text-stepped _ _ _ _ _ _ (p .0) (p .1) b _ _ (at-put-paragraph .put-paragraph .result) (at-put-paragraph .put-paragraph .ensures _))
 
 pub put-piece-spec : {M : Type 1} → statement M
 put-piece-spec =
@@ -95,6 +100,7 @@ put-piece-spec =
     enum-known-end
     emit-line-requires-2
     enum-known-p
+    room-for-requires
     put-paragraph-requires
     same-length
     returns
