@@ -251,18 +251,18 @@ const struct subcommand audit_subcommand = {
              "  laid out otherwise   every word is there once and in order, and nothing\n"
              "                       else; but a line is not as the rules have it\n"
              "  text missing         the lines of the notes, and how many of their words\n"
-             "  text added           the lines of the digest, likewise\n"
+             "  text added           the lines of the digest, and how many of their words\n"
              "  no digest, no notes  one of the two files is not there\n"
              "  could not be judged  and why\n"
              "\n"
              "A line is written for each pair that is not carried, and a summary. A line of\n"
-             "the notes with a stray byte is to stand in the digest as it is.\n",
+             "the notes with a stray byte should be in the digest as it is.\n",
     .takes = TAKES,
     .limits = "Give the options that the digests were made with, where prefixes or indents\n"
               "depend on them; width and goal do not matter.\n"
               "\n"
               LIMIT
-              "Of a longer one it is told whether words are missing; where none is, the pair\n"
+              "Of a longer one it still says whether words are missing; if none is, the pair\n"
               "cannot be judged.\n",
     .statuses = "0 every pair is carried or laid out otherwise (with --strict:\n"
                 "carried); 1 text is missing or was added, or a file is missing; 2 something\n"

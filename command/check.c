@@ -101,10 +101,11 @@ const struct subcommand check_subcommand = {
     .arguments = "NOTES DIGEST",
     .about = "Checks the digest of another site against its notes: plain and blank lines are\n"
              "those that `format' writes, and each paragraph's lines carry its words once\n"
-             "each, in order, behind the right indent. Where lines break, and how many\n"
+             "each, in order, after the right indent. Where lines break, and how many\n"
              "blanks part two words, does not matter. One of the two may be -, standard\n"
-             "input. Says nothing if the digest is accepted; otherwise names the first line\n"
-             "that no such digest goes on with. Lines are counted from 1.\n",
+             "input. Says nothing if the digest is accepted; otherwise names the first wrong\n"
+             "line, one that no accepted digest has after the lines above it. Lines are\n"
+             "counted from 1.\n",
     .takes = TAKES,
     .limits = "With --json one object is written whatever the verdict is: notes, digest,\n"
               "verdict (accepted, not accepted, not judged), line or null, why or null.\n"

@@ -36,7 +36,7 @@ static bool add_short(struct buffer *text, const struct options *options, const 
         return buffer_print(text, "chosen: column %" PRIu64 ", goal %" PRIu64 ", cost %" PRIu64 " (%" PRIu64 ", %" PRIu64 ", %" PRIu64 ")", reason[1], goal_of(options),
                             reason[5], reason[2], reason[3], reason[4]);
     case RUDIGNALS_FORCED_BEFORE: return buffer_print(text, "forced before the next word, which fits no line");
-    case RUDIGNALS_FORCED_AFTER: return buffer_print(text, "forced behind its last word, which fits no line");
+    case RUDIGNALS_FORCED_AFTER: return buffer_print(text, "forced after its last word, which fits no line");
     default: return buffer_print(text, "end of paragraph");
     }
 }
@@ -206,7 +206,7 @@ const struct subcommand explain_subcommand = {
               "explained whole or refused whole.\n"
               "\n"
               LIMIT,
-    .statuses = "0 all was told; 1 something was refused, not read or not\n"
-                "written, or there is no such line; 2 a wrong call",
+    .statuses = "0 every line was explained; 1 something was refused, not read or\n"
+                "not written, or there is no such line; 2 a wrong call",
     .run = run_explain,
 };

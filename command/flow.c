@@ -87,7 +87,7 @@ const struct subcommand flow_subcommand = {
              "\n"
              "Lines end in CR LF, and where a paragraph goes on in a space before it: whoever\n"
              "reads the mail may break the lines anew. A line `-- ', which would begin a\n"
-             "signature, is written as `--' and told. -q and -u go without saying.\n",
+             "signature, is written as `--', and that is reported. -q and -u are always on.\n",
     .takes = TAKES,
     .limits = "A file is written whole or refused whole. With --mime the whole mail is\n"
               "written, with From, To, Subject, Date and a number, as quoted-printable if a\n"

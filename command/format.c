@@ -117,7 +117,7 @@ const struct subcommand format_subcommand = {
     .takes = TAKES,
     .limits = "A file is formatted whole or refused whole. Of several files all are written,\n"
               "or none if one is refused or cannot be read; with --skip-refused a line that\n"
-              "says so stands in its place.\n"
+              "says so takes its place.\n"
               "\n"
               LIMIT,
     .statuses = "0 all was formatted; 1 something was refused, not read or not\n"

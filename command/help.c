@@ -63,7 +63,7 @@ static bool takes(const struct subcommand *row, int option) {
 }
 
 static const char REPEATED[] = "\nA repeated option takes its last value, and a long name may be cut short.\n";
-static const char SHOWN[] = "\nOn a terminal control characters are shown, as ^[ say; to a file or a pipe\nevery byte goes as it is.\n";
+static const char SHOWN[] = "\nOn a terminal control characters are shown, as ^[ for example; a file or a\npipe gets every byte as it is.\n";
 static const char FORMATS[] = "\nWIDTH and GOAL are 1 to 1000, and WIDTH is from once to twice GOAL; WIDTH alone\n"
                               "is 6 to 1000, GOAL alone 3 to 940; -WIDTH, as the first argument, is short for\n"
                               "-w WIDTH. TAB is 0 to 100. %s at most 255 bytes. Text is\n"

@@ -184,9 +184,9 @@ const struct subcommand night_subcommand = {
              "  status.json  version, options, sizes, counts and times\n"
              "\n"
              "All of them are put in their place in one step: whoever looks sees the old\n"
-             "night or the new one, whole. Notes that are refused or cannot be read are told\n"
-             "by every one of these files, with the place and the reason, and the notes as\n"
-             "they are; no file is empty unless the notes are.\n",
+             "night or the new one, whole. If notes are refused or cannot be read, each of\n"
+             "these files says so, with the place and the reason, and has the notes as they\n"
+             "are; no file is empty unless the notes are.\n",
     .takes = TAKES,
     .limits = "A run that was broken off leaves the old night, and the next one cleans up.\n"
               "Where -c, -t, -m or -p is given the mail has the digest's own lines; else they\n"

@@ -45,7 +45,7 @@ static const struct option_row ROWS[] = {
     {'q', "quick", NULL, "fill line by line; more ragged", RUDIGNALS_QUICK},
     {'T', "tab-width", "TAB", "columns between tab stops; 8 by default", 0},
     {KEEP, "keep", NULL, "leave a line with a damaged character as it is,\ninstead of refusing its file", RUDIGNALS_KEEP},
-    {NO_KEEP, "no-keep", NULL, "notes with a damaged character cannot be judged;\nelse such a line is to stand there as it is", 0},
+    {NO_KEEP, "no-keep", NULL, "notes with a damaged character cannot be judged;\nelse such a line should be there as it is", 0},
     {SALVAGE, "salvage", NULL, "mend lines that are not UTF-8 in memory first, as\n`rudignals salvage' does, and say how many", 0},
     {GLUE, "glue", NULL, "a no-break space, U+00A0, is part of its word; not\nbeside a blank or at a line's start or end", RUDIGNALS_GLUE},
     {CHARACTERS, "sentence-characters", NULL, "with -u: between sentences count blanks as\ncharacters; else one U+00A0 counts as two, its bytes", RUDIGNALS_SENTENCE_CHARACTERS},

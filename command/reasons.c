@@ -26,7 +26,7 @@ char *reason_in_words(const uint64_t reason[6], const struct options *options) {
     case RUDIGNALS_NOT_FIT: return not_fit(reason, options);
     case RUDIGNALS_CHOSEN: return chosen(reason, options);
     case RUDIGNALS_FORCED_BEFORE: return words("ends here because the next word fits on no line that leads to it: the break is forced before it");
-    case RUDIGNALS_FORCED_AFTER: return words("ends here because its last word fits on no line that leads to it: the break is forced behind it, which is the lesser evil");
+    case RUDIGNALS_FORCED_AFTER: return words("ends here because its last word fits on no line that leads to it: the break is forced after it, which is the lesser evil");
     default: return words("ends here because its paragraph ends");
     }
 }

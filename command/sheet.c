@@ -209,7 +209,7 @@ static const char *plain_reason(const struct page *page, size_t number) {
     case RUDIGNALS_NOT_FIT: return "The next word did not fit.";
     case RUDIGNALS_CHOSEN: return next_did_not_fit(page, number) ? "The next word did not fit." : "Ending here gives a better spread over the lines that follow.";
     case RUDIGNALS_FORCED_BEFORE: return "No line had room for the next word: the break is forced before it.";
-    case RUDIGNALS_FORCED_AFTER: return "No line had room for its last word: the break is forced behind it.";
+    case RUDIGNALS_FORCED_AFTER: return "No line had room for its last word: the break is forced after it.";
     default: return "Its paragraph ends here.";
     }
 }

@@ -20,7 +20,7 @@ LINES = [
     (["--keep"], b"a\n\xb0\n\nc", 2, "line 2: a plain line, which ends as it does in the notes\n"),
     (["--keep"], b"a\n\xb0\n\nc", 3, "line 3: a blank line of the notes\n"),
     # nothing stays: 3 + 1 + 7 is 11, over 10, and 11 - 10 is less than 4 - 3: behind the word
-    (["-w10"], b"aa bbbbbbbb c\n", 1, "line 1: ends here because its last word fits on no line that leads to it: the break is forced behind it, which is the lesser evil\n"),
+    (["-w10"], b"aa bbbbbbbb c\n", 1, "line 1: ends here because its last word fits on no line that leads to it: the break is forced after it, which is the lesser evil\n"),
     # 4 + 1 + 7 is 12; 12 - 10 is more than 4 - 4
     (["-w10"], b"aaaa bbbbbbb c\n", 1, "line 1: ends here because the next word fits on no line that leads to it: the break is forced before it\n"),
 ]

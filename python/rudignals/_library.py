@@ -48,7 +48,10 @@ class RecordStruct(ctypes.Structure):
 
 def _load() -> ctypes.CDLL:
     """The library, with the types of every call: a slice is a pointer and a length."""
-    library = ctypes.CDLL(os.environ.get("RUDIGNALS_LIBRARY", "librudignals.so.1"))
+    try:
+        library = ctypes.CDLL(os.environ.get("RUDIGNALS_LIBRARY", "librudignals.so.1"))
+    except OSError as fault:
+        raise ImportError(f"{fault}; install Debian's librudignals1, or name the library in RUDIGNALS_LIBRARY (make leaves it in target/package)") from None
     part: list[typing.Any] = [ctypes.c_void_p, ctypes.c_size_t]
     number, put = ctypes.c_uint64, ctypes.c_void_p
     calls = {
