@@ -122,14 +122,21 @@ pub stands-first : (notes : List ℕ) → CursorIn notes start
 stands-first notes = record { within = omega arith; bounded = omega arith }
 
 module _ (most : ℕ) (o : Opts) (notes : List ℕ) where
-  pub all-finished : (out out′ : List ℕ) (r : Ended) → ClearedFrom most o notes start out out′ r → Finished most o notes out out′ r
-  all-finished out out′ (All n) f = (sym (all-long most o notes) ∙ f .0, rw (all-output o notes) at (f .1))
-  all-finished out out′ (Stopped place) f = (sym (all-long most o notes) ∙ f .0, f .1)
+  pub all-finished : (c : Cursor) (out out′ : List ℕ) (r : Ended) → c ≡ start → ClearedFrom most o notes c out out′ r → Finished most o notes out out′ r
+  all-finished c out out′ (All n) e f = let g : ClearedFrom most o notes start out out′ (All n) = rw e at f in (sym (all-long most o notes) ∙ g .0, rw (all-output o notes) at (g .1))
+  all-finished c out out′ (Stopped place) e f = let g : ClearedFrom most o notes start out out′ (Stopped place) = rw e at f in (sym (all-long most o notes) ∙ g .0, g .1)
 
-  -- where there is no room nothing is to be cleared
-  pub none-finished : (out′ : List ℕ) (r : Ended) → FinishedFrom most o notes start [] out′ r → Finished most o notes [] [] r
-  none-finished out′ (All n) f = all-finished [] [] (All n) (rw (none-longer out′ (wrote-length (f .1))) at f)
-  none-finished out′ (Stopped place) f = all-finished [] [] (Stopped place) (f .0, refl)
+  -- where there is no room nothing is written, and nothing is to be cleared
+  pub none-measured : (c : Cursor) (out′ : List ℕ) (r : Ended) → FinishedFrom most o notes c [] out′ r → FinishedFrom most o notes c [] [] r
+  none-measured c out′ (All n) f = rw (none-longer out′ (wrote-length (f .1))) at f
+  none-measured c out′ (Stopped place) f = (f .0, refl)
+
+  pub none-finished : (c : Cursor) (out′ : List ℕ) (r : Ended) → c ≡ start → FinishedFrom most o notes c [] out′ r → Finished most o notes [] [] r
+  none-finished c out′ (All n) e f = all-finished c [] [] (All n) e (none-measured c out′ (All n) f)
+  none-finished c out′ (Stopped place) e f = all-finished c [] [] (Stopped place) e (f .0, refl)
+
+  pub none-left-out : {c₀ c : Cursor} {out : List ℕ} → Going most o notes c₀ [] c out → Going most o notes c₀ [] c []
+  none-left-out {out = out} g = rw (none-longer out (going-length most o notes g)) at g
 
 -- by what came of the work from a place on
 module _ (most : ℕ) (o : Opts) (notes : List ℕ) (c : Cursor) (out out′ : List ℕ) (r : Ended) (s : FinishedFrom most o notes c out out′ r) where

@@ -11,8 +11,11 @@ use Rattle.walk.proofs.Lent.{enough}
 use Rattle.walk.proofs.put_all_lent.Statement.{statement}
 use Rattle.walk.proofs.put_all_lent.Tie as tie
 
+front-requires : tie.Need-front-requires
+front-requires c κs = search needs
+
 put-lines-requires : tie.Need-put-lines-requires
-put-lines-requires c κs = (c .before .before .before .before .before .pre .0, stands-first _)
+put-lines-requires c κs = rw (c .before .front .ensures) (c .before .before .before .before .before .before .pre .0, stands-first _)
 
 enum-known-needed : tie.Need-enum-known-needed
 enum-known-needed c = search needs
@@ -23,15 +26,21 @@ enum-known-c c = search needs
 put-lent-requires : tie.Need-put-lent-requires
 unfolding meant
 put-lent-requires c κs =
-    let p = c .before .before .before .before .before .before .before .before .before .before .before .before .before .pre in
-    let t = reached-text (roomFor (c .before .before .before .before .before .before .before .before .before .before .before .before .before .args .o .quick) (length (now (c .before .before .before .before .before .before .before .before .before .before .before .before .before .args .work)))) _ _ _ _ _ _ (c .before .before .before .before .before .before .before .put-lines .result) (c .before .before .before .before .before .before .before .put-lines .ensures (roomFor (c .before .before .before .before .before .before .before .before .before .before .before .before .before .args .o .quick) (length (now (c .before .before .before .before .before .before .before .before .before .before .before .before .before .args .work))))) (c .before .before .before .c .given .1) in
+    let at-lines = c .before .before .before .before .before .before .before in
+    let a = c .before .before .before .before .before .before .before .before .before .before .before .before .before .before .args in
+    let p = c .before .before .before .before .before .before .before .before .before .before .before .before .before .before .pre in
+    let room = roomFor (a .o .quick) (length (now (a .work))) in
+    let t = rw (at-lines .before .before .front .ensures) at (reached-text room _ _ _ _ _ _ (at-lines .put-lines .result) (at-lines .put-lines .ensures room) (c .before .before .before .c .given .1)) in
     (p .0, t .0 .stands, t .1, t .0 .long ∙ enough _ _ _ (p .1))
 
 same-length : tie.Need-same-length
-same-length c = wrote-length (reached-end 0 _ _ _ _ _ _ (c .before .before .before .before .before .put-lines .result) (c .before .before .before .before .before .put-lines .ensures 0) (c .before .needed .given .1) .1)
+same-length c = let at-lines = c .before .before .before .before .before in wrote-length (reached-end 0 _ _ _ _ _ _ (at-lines .put-lines .result) (at-lines .put-lines .ensures 0) (c .before .needed .given .1) .1)
 
 returns : tie.Need-returns
-returns c = rw all-output at (reached-end 0 _ _ _ _ _ _ (c .before .before .before .before .before .put-lines .result) (c .before .before .before .before .before .put-lines .ensures 0) (c .before .needed .given .1) .1)
+returns c =
+    let at-lines = c .before .before .before .before .before in
+    let e = rw (at-lines .before .before .front .ensures) at (reached-end 0 _ _ _ _ _ _ (at-lines .put-lines .result) (at-lines .put-lines .ensures 0) (c .before .needed .given .1)) in
+    rw all-output at (e .1)
 
 same-length-2 : tie.Need-same-length-2
 same-length-2 c = search needs
@@ -41,13 +50,17 @@ same-length-3 c = search needs
 
 returns-2 : tie.Need-returns-2
 returns-2 c =
-    let t = reached-text (roomFor (c .before .before .before .before .before .before .before .before .before .before .before .before .before .before .before .before .before .before .args .o .quick) (length (now (c .before .before .before .before .before .before .before .before .before .before .before .before .before .before .before .before .before .before .args .work)))) _ _ _ _ _ _ (c .before .before .before .before .before .before .before .before .before .before .before .before .put-lines .result) (c .before .before .before .before .before .before .before .before .before .before .before .before .put-lines .ensures (roomFor (c .before .before .before .before .before .before .before .before .before .before .before .before .before .before .before .before .before .before .args .o .quick) (length (now (c .before .before .before .before .before .before .before .before .before .before .before .before .before .before .before .before .before .before .args .work))))) (c .before .before .before .before .before .before .before .before .c .given .1) in
+    let at-lines = c .before .before .before .before .before .before .before .before .before .before .before .before in
+    let a = c .before .before .before .before .before .before .before .before .before .before .before .before .before .before .before .before .before .before .before .args in
+    let room = roomFor (a .o .quick) (length (now (a .work))) in
+    let t = rw (at-lines .before .before .front .ensures) at (reached-text room _ _ _ _ _ _ (at-lines .put-lines .result) (at-lines .put-lines .ensures room) (c .before .before .before .before .before .before .before .before .c .given .1)) in
     left-last (rw all-output at (t .0 .left)) (c .before .before .before .before .put-lent .ensures)
 
 pub put-all-lent-spec : {M : Type 1} → statement M
 put-all-lent-spec =
     tie.close
     (tie.spec
+    front-requires
     put-lines-requires
     enum-known-needed
     enum-known-c
