@@ -4,6 +4,7 @@ mod Plain
 mod Arms
 pub mod Inks
 mod Starts
+mod Bits
 mod Looking
 mod Held
 mod Numbers
