@@ -34,9 +34,41 @@ pub dashes : (c : ℕ) → 0x2010 ≤ c → c < 0x2028 → 1 ≡ widthOf c
 unfolding past table
 dashes c h l = before 0x2010 _ _ _ _ _ refl h (omega arith)
 
+pub devanagari : (c : ℕ) → 0x903 ≤ c → c < 0x93A → 1 ≡ widthOf c
+unfolding past table
+devanagari c h l = before 0x903 _ _ _ _ _ refl h l
+
+pub thai : (c : ℕ) → 0xE00 ≤ c → c < 0xE31 → 1 ≡ widthOf c
+unfolding past table
+thai c h l = before 0xE00 _ _ _ _ _ refl h l
+
+pub thai-vowels : (c : ℕ) → 0xE3B ≤ c → c < 0xE47 → 1 ≡ widthOf c
+unfolding past table
+thai-vowels c h l = before 0xE3B _ _ _ _ _ refl h l
+
 pub arabic : (c : ℕ) → 0x61D ≤ c → c < 0x64B → 1 ≡ widthOf c
 unfolding past table
 arabic c h l = before 0x61D _ _ _ _ _ refl h l
+
+pub devanagari-vowels : (c : ℕ) → 0x93D ≤ c → c < 0x941 → 1 ≡ widthOf c
+unfolding past table
+devanagari-vowels c h l = before 0x93D _ _ _ _ _ refl h l
+
+pub devanagari-signs : (c : ℕ) → 0x941 ≤ c → c ≤ 0x948 → 0 ≡ widthOf c
+unfolding past table
+devanagari-signs c h l = within 0x941 _ _ _ _ _ refl h h l
+
+pub virama : (c : ℕ) → c ≡ 0x94D → 0 ≡ widthOf c
+unfolding past table
+virama c e = within 0x94D _ _ _ _ _ refl (omega arith) (omega arith) (omega arith)
+
+pub thai-signs : (c : ℕ) → 0xE34 ≤ c → c ≤ 0xE3A → 0 ≡ widthOf c
+unfolding past table
+thai-signs c h l = within 0xE34 _ _ _ _ _ refl h h l
+
+pub thai-tones : (c : ℕ) → 0xE47 ≤ c → c ≤ 0xE4E → 0 ≡ widthOf c
+unfolding past table
+thai-tones c h l = within 0xE47 _ _ _ _ _ refl h h l
 
 pub joiner : (c : ℕ) → c ≡ 0x200D → 0 ≡ widthOf c
 unfolding past table

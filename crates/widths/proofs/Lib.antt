@@ -4,7 +4,6 @@ mod Plain
 mod Arms
 pub mod Inks
 mod Starts
-mod Bits
 mod Looking
 mod Held
 mod Numbers

@@ -84,19 +84,33 @@ fn early(c: u32) -> usize
     if c < 0x300 {
         return latin(c);
     }
-    // Devanagari, Thai and others: letters and signs between them are told without a branch.
-    if (0x800 <= c) & (c < 0x1000) {
-        return by_bits(c);
+    // Letters of Devanagari, and of Thai with the vowels before them.
+    if (0x903 <= c) & (c < 0x93A) {
+        return 1;
+    }
+    if (0xE00 <= c) & (c < 0xE31) {
+        return 1;
+    }
+    if (0xE3B <= c) & (c < 0xE47) {
+        return 1;
+    }
+    // Signs of both.
+    if (0x93D <= c) & (c < 0x941) {
+        return 1;
+    }
+    if (0x941 <= c) & (c <= 0x948) {
+        return 0;
+    }
+    if c == 0x94D {
+        return 0;
+    }
+    if (0xE34 <= c) & (c <= 0xE3A) {
+        return 0;
+    }
+    if (0xE47 <= c) & (c <= 0xE4E) {
+        return 0;
     }
     width(c)
-}
-
-// None of these is wider than a column: the width is the character's bit in the number of its block.
-fn by_bits(c: u32) -> usize
-    requires { ⌜ (0x800 ≤ c) × (c < 0x1000) ⌝ }
-    ensures { λ r. ⌜ r ≡ inkWidth c ⌝ }
-{
-    table::column(c / 64 - 32, c % 64)
 }
 
 // Each is a column wide.

@@ -1,12 +1,11 @@
 // Written by tools/widths: the ranges of specs/Table.antt and the lists of specs/Contracts/Starts.antt. A match on 0, 1, .. is compiled to
 // tables of constants; a const array would be built anew on the stack.
 ghost use mathlib.Core.Path.{_≡_};
-ghost use Prim.Native.Nat.{_/_, _%_, _^_, _<_};
 ghost use lib.ListN.{getD};
 ghost use Rattle.widths.specs.Ranges.{span};
 ghost use Rattle.widths.specs.Table.{table};
 ghost use Rattle.widths.specs.Contracts.Forms.{beyond, behind};
-ghost use Rattle.widths.specs.Contracts.Starts.{nearStarts, nextStarts, farStarts, columnBits};
+ghost use Rattle.widths.specs.Contracts.Starts.{nearStarts, nextStarts, farStarts};
 
 // Characters of one width.
 pub struct Span {
@@ -1273,47 +1272,4 @@ pub fn far(n: u32) -> usize
         _ => 474,
     };
     k as usize
-}
-
-// Whether the character k of the block n takes a column, by its bit: 64 to a block, from 0x800 on.
-pub fn column(n: u32, k: u32) -> usize
-    requires { ⌜ k < 64 ⌝ }
-    ensures { λ r. ⌜ r ≡ getD columnBits n 0 / 2 ^ k % 2 ⌝ }
-{
-    let w: u64 = match n {
-        0 => 0xFFFFC110043FFFFF,
-        1 => 0xFFFFFFFFF1FFFFFF,
-        2 => 0xFFFFFFFF00FCFFFF,
-        3 => 0x00000000000003FF,
-        4 => 0xEBFFFFFFFFFFFFF8,
-        5 => 0xFFFFFFF3FF01DE01,
-        6 => 0xEFFFFFFFFFFFFFFD,
-        7 => 0xBFFFFFF3FFFFDFE1,
-        8 => 0xEFFFFFFFFFFFFFF9,
-        9 => 0xFFDCFFFFFFFDC679,
-        10 => 0xEFFFFFFFFFFFFFF9,
-        11 => 0x03FFFFF3FFFFDE41,
-        12 => 0x6FFFFFFFFFFFFFFD,
-        13 => 0xFFFFFFF3FF9FDFE1,
-        14 => 0xFFFFFFFFFFFFFFFB,
-        15 => 0xFFFFFFFFFFFFDFFE,
-        16 => 0x2FFFFFFFFFFFFFEE,
-        17 => 0xFFFFFFF3FF9FC23E,
-        18 => 0x6FFFFFFFFFFFFFFD,
-        19 => 0xFFFFFFF3FFFFCFBF,
-        20 => 0xE7FFFFFFFFFFFFFC,
-        21 => 0xFFFFFFF3FFFFDFE1,
-        22 => 0xFFFFFFFFFFFFFFFD,
-        23 => 0xFFFFFFFFFFA3FBFF,
-        24 => 0xF80DFFFFFFFFFFFF,
-        25 => 0xFFFFFFFFFFFF807F,
-        26 => 0xE00DFFFFFFFFFFFF,
-        27 => 0xFFFFFFFFFFFF80FF,
-        28 => 0xFD5FFFFFFCFFFFFF,
-        29 => 0x8001FFFFFFFFFFFF,
-        30 => 0xE000000001001F20,
-        31 => 0xFFFFFFFFFFFFFFBF,
-        _ => 0,
-    };
-    ((w >> k) % 2) as usize
 }
