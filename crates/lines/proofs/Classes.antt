@@ -2,10 +2,10 @@
 use mathlib.Core.Path.{_≡_, refl, sym, ap, _∙_}
 use mathlib.Core.Bool.{Bool, true, false, or-true, or-false}
 use mathlib.Core.List.{List, _++_}
-use Prim.Native.Nat.{ℕ, _+_}
+use Prim.Native.Nat.{ℕ, _+_, _<_}
 use native.Mathlib.Omega.{arith}
 use lib.Dec.{eqb}
-use lib.ListN.{length, take}
+use lib.ListN.{length, getD, take}
 use lib.Seq.{slice}
 use borrow.Author.Tests.{eq-eqb, ne-eqb}
 use Rattle.lists.specs.Runs.{while, every}
@@ -17,7 +17,7 @@ use Rattle.text.proofs.Glue.{glyphs-settle}
 use Rattle.options.specs.Opts.{Opts, Text, absent, given, textOf}
 use Rattle.options.specs.declared.Part.{Part}
 use Rattle.options.specs.declared.Part.the-variants.{Given}
-use Rattle.lines.specs.Lines.{firstLine}
+use Rattle.lines.specs.Lines.{body, withoutReturn, firstLine}
 use Rattle.lines.specs.Classes.{glyphsBefore, glyphsFrom, columnsOf, search, prefixFound, prefixSize, skipFound, somewhere, shapeAt, classBehind, classify}
 use Rattle.lines.specs.Contracts.Places.{lengthsOf, classedOf, lineStart, behindAll, classAt, BehindBlanks, BehindPlace, inkBefore, glyphsBehind}
 use Rattle.lines.specs.declared.Extent.{Extent}
@@ -26,8 +26,9 @@ use Rattle.lines.specs.declared.Spot.{Spot}
 use Rattle.lines.specs.declared.Shape.{Shape}
 use Rattle.lines.specs.declared.Class.{Class}
 use Rattle.lines.specs.declared.Class.the-variants.{Blank, Plain, Formatted}
-use Rattle.lines.proofs.Lines.{lengths}
+use Rattle.lines.proofs.Lines.{lengths, body-feed, return-none, line-fed}
 use Rattle.lines.proofs.Glued.{before-settle, from-settle}
+use Rattle.lines.proofs.Turns.{all-past}
 use Rattle.lines.proofs.Measures.{behind-none, behind-append, upTo-zero, from-zero}
 
 -- ---- shapes
@@ -128,3 +129,10 @@ pub classed-is : (o : Opts) (s : List ℕ) (e : Extent) (k : Class) → e ≡ le
     → _≡_ {A = ClassedExtent} (record { extent = e; class = k }) (classedOf o (firstLine s))
 unfolding classedOf
 classed-is o s e k h q = rw (q ∙ ap (classify o) (sym (lengths s e h .text)), h)
+
+-- an empty line is blank
+pub classed-empty : (o : Opts) (s : List ℕ) → 0 < length s → getD s 0 0 ≡ 10 → _≡_ {A = ClassedExtent} (record { extent = record { text = 0; whole = 1 }; class = Blank }) (classedOf o (firstLine s))
+classed-empty o s h e =
+    let b : 0 ≡ length (body s) = let f = body-feed s 0 h e in omega (arith, f) in
+    let n : 0 ≡ length (withoutReturn (take 0 s)) = sym (return-none (take 0 s) refl) in
+    classed-is o s (record { text = 0; whole = 1 }) Blank (line-fed s 0 b 0 h n) (class-blank o (take 0 s) (all-past (o .glue) (take 0 s) 0 (omega arith)))

@@ -66,6 +66,13 @@ pub fn first_classed(s: &[u8], o: Options, block: &[u8]) -> ClassedExtent
     requires { ⌜ Usable (now block) o × (length (now s) ≤ mostLarge) ⌝ }
     ensures { λ r. ⌜ r ≡ classedOf (meant (now (block .entry)) o) (firstLine (now (s .entry))) ⌝ }
 {
+    // Nothing need be looked at in an empty line, as stands between most paragraphs.
+    if is_empty(s) {
+        return ClassedExtent {
+            extent: Extent { text: 0, whole: 1 },
+            class: Class::Blank,
+        };
+    }
     let reached = ascii_body(s);
     let end = body_end(s, reached);
     let extent = ended_at(s, end);
@@ -74,6 +81,16 @@ pub fn first_classed(s: &[u8], o: Options, block: &[u8]) -> ClassedExtent
         extent,
         class: classify(&s[..text], reached == end, o, block),
     }
+}
+
+// Whether the first line is empty: its line feed comes first.
+fn is_empty(s: &[u8]) -> bool
+    ensures { λ r. ⌜ (r ≡ true → (0 < length (now (s .entry))) × (getD (now (s .entry)) 0 0 ≡ 10)) ⌝ }
+{
+    if s.len() == 0 {
+        return false;
+    }
+    s[0] == 10
 }
 
 // The first line, from the end of its body.

@@ -1,4 +1,4 @@
--- `lines::first_classed` meets its contract: its body's end is that from the end of the ASCII, and where the two are one its text is ASCII.
+-- `lines::first_classed` meets its contract: an empty line is blank; else its body's end is that from the end of the ASCII, and where the two are one its text is ASCII.
 use mathlib.Core.Path.{sym}
 use native.Mathlib.Omega.{arith}
 use lib.ListN.{length-take}
@@ -6,9 +6,15 @@ use lib.Seq.{length-take-le}
 use borrow.Author.Needs.{needs}
 use Rattle.lines.proofs.Lines.{lengths}
 use Rattle.lines.proofs.Asciis.{ascii-text}
-use Rattle.lines.proofs.Classes.{classed-is}
+use Rattle.lines.proofs.Classes.{classed-is, classed-empty}
 use Rattle.lines.proofs.first_classed.Statement.{statement}
 use Rattle.lines.proofs.first_classed.Tie as tie
+
+is-empty-requires : tie.Need-is-empty-requires
+is-empty-requires c κs = search needs
+
+returns : tie.Need-returns
+returns c = let h = c .before .is-empty .ensures (c .if1 .taken) in classed-empty _ _ (h .0) (h .1)
 
 ascii-body-requires : tie.Need-ascii-body-requires
 ascii-body-requires c κs = search needs
@@ -24,19 +30,21 @@ slice-aggregate-classify c = let l = lengths _ _ (c .before .ended-at .ensures) 
 
 classify-requires : tie.Need-classify-requires
 classify-requires c κs =
-    let p = c .before .before .before .before .before .before .pre in
+    let p = c .before .before .before .before .before .before .before .before .pre in
     (p .0, simp length-take (omega (arith, p .1)), ascii-text _ _ _ _ (c .before .ended-at .ensures) (c .before .before .before .ascii-body .ensures) (c .before .before .body-end .ensures .0))
 
-returns : tie.Need-returns
-returns c = classed-is _ _ _ _ (c .before .before .ended-at .ensures) (c .classify .ensures)
+returns-2 : tie.Need-returns-2
+returns-2 c = classed-is _ _ _ _ (c .before .before .ended-at .ensures) (c .classify .ensures)
 
 pub first-classed-spec : {M : Type 1} → statement M
 first-classed-spec =
     tie.close
     (tie.spec
+    is-empty-requires
+    returns
     ascii-body-requires
     body-end-requires
     ended-at-requires
     slice-aggregate-classify
     classify-requires
-    returns)
+    returns-2)
