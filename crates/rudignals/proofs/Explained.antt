@@ -133,8 +133,3 @@ a-line-ends-where-the-call-says l block notes o i e b h = go (finding l block no
     go : (f : Finding) → afterMeasuring (lookUp i es) f ≡ because e → EndsThere (meant block o) (pieces (meant block o) notes) e (firstLines (suc i) (digest (meant block o) notes))
     go (found d) k = told (ltb i (length es)) refl k
     go (stopped r) k = absurd (let z : _≡_ {A = ℕ} 0 1 = cc in omega arith)
-    go long k = absurd (let z : _≡_ {A = ℕ} 0 1 = cc in omega arith)
-    go (text place) k = absurd (let z : _≡_ {A = ℕ} 0 1 = cc in omega arith)
-    go (words place) k = absurd (let z : _≡_ {A = ℕ} 0 1 = cc in omega arith)
-    go (room needed) k = absurd (let z : _≡_ {A = ℕ} 0 1 = cc in omega arith)
-    go (work needed) k = absurd (let z : _≡_ {A = ℕ} 0 1 = cc in omega arith)

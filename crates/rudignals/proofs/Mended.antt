@@ -83,7 +83,7 @@ module _ (l : Limits) (notes : List ℕ) (undamaged : damage notes ≡ Nowhere) 
 
   block-three : (block : List ℕ) (b : Block) → NotThree (withBlock l block notes b)
   block-three block (Fault place) then never h = omega arith
-  block-three block (Accepted o) = notes-three (meant block o)
+  block-three block (Accepted o) then never h = notes-three (meant block o) then never h
 
 -- nor is a digest, for want of room
 fits : (d : List ℕ) (needed : ℕ) (t : Bool) → answerCoded (cond t (done d) (lacking needed)) .code ≡ 3 → ⊥

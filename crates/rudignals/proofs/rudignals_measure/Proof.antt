@@ -2,7 +2,7 @@
 use mathlib.Core.Path.{ap, _∙_}
 use borrow.Author.Needs.{needs}
 use Rattle.lists.specs.Coded.{numbered}
-use Rattle.formatter.specs.Format.{ownRoom}
+use Rattle.formatter.specs.Format.{ownRoom, measuring}
 use Rattle.formatter.specs.Contracts.Call.{replyCoded}
 use Rattle.formatter.specs.declared.Reply.{Reply}
 use Rattle.formatter.proofs.Values.{ownRoom-sound, told-coded, measured-fits}
@@ -16,7 +16,7 @@ number-of-requires : tie.Need-number-of-requires
 number-of-requires c κs = rw (c .measure .ensures) (measured-fits ownRoom ownRoom-sound _ _)
 
 returns : tie.Need-returns
-returns c = c .number-of .ensures ∙ ap (λ (q : Reply). numbered (replyCoded q)) (c .before .measure .ensures) ∙ ap numbered (told-coded _)
+returns c = c .number-of .ensures ∙ ap (λ (q : Reply). numbered (replyCoded q)) (c .before .measure .ensures) ∙ ap numbered (told-coded (measuring ownRoom _ _))
 
 pub rudignals-measure-spec : {M : Type 1} → statement M
 rudignals-measure-spec =

@@ -1,6 +1,8 @@
 -- `rudignals::rudignals_measure_large` meets its contract.
 use mathlib.Core.Path.{ap, _∙_}
 use borrow.Author.Needs.{needs}
+use Rattle.formatter.specs.Work.{lending}
+use Rattle.formatter.specs.Format.{measuring}
 use Rattle.lists.specs.Coded.{numbered}
 use Rattle.formatter.specs.Contracts.Call.{replyCoded}
 use Rattle.formatter.specs.declared.Reply.{Reply}
@@ -19,7 +21,7 @@ same-length : tie.Need-same-length
 same-length c = search needs
 
 returns : tie.Need-returns
-returns c = c .number-of .ensures ∙ ap (λ (q : Reply). numbered (replyCoded q)) (c .before .before .before .measure-lent .ensures) ∙ ap numbered (told-coded _)
+returns c = c .number-of .ensures ∙ ap (λ (q : Reply). numbered (replyCoded q)) (c .before .before .before .measure-lent .ensures) ∙ ap numbered (told-coded (measuring (lending _) _ _))
 
 pub rudignals-measure-large-spec : {M : Type 1} → statement M
 rudignals-measure-large-spec =

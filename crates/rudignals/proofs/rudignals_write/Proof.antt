@@ -2,7 +2,7 @@
 use mathlib.Core.Path.{ap, _∙_}
 use borrow.Author.Needs.{needs}
 use Rattle.lists.specs.Coded.{numbered}
-use Rattle.formatter.specs.Format.{ownRoom}
+use Rattle.formatter.specs.Format.{ownRoom, writing}
 use Rattle.formatter.specs.Contracts.Call.{replyCoded}
 use Rattle.formatter.specs.declared.Reply.{Reply}
 use Rattle.formatter.proofs.Values.{ownRoom-sound, told-coded, written-fits}
@@ -21,7 +21,7 @@ same-length c = search needs
 returns : tie.Need-returns
 returns c =
     let a = c .before .before .before .write .ensures in
-    (c .number-of .ensures ∙ ap (λ (q : Reply). numbered (replyCoded q)) (a .is) ∙ ap numbered (told-coded _), a .output)
+    (c .number-of .ensures ∙ ap (λ (q : Reply). numbered (replyCoded q)) (a .is) ∙ ap numbered (told-coded (writing ownRoom _ _ _)), a .output)
 
 pub rudignals-write-spec : {M : Type 1} → statement M
 rudignals-write-spec =

@@ -1,6 +1,8 @@
 -- `rudignals::rudignals_write_large` meets its contract.
 use mathlib.Core.Path.{ap, _∙_}
 use borrow.Author.Needs.{needs}
+use Rattle.formatter.specs.Work.{lending}
+use Rattle.formatter.specs.Format.{writing}
 use Rattle.lists.specs.Coded.{numbered}
 use Rattle.formatter.specs.Contracts.Call.{replyCoded}
 use Rattle.formatter.specs.declared.Reply.{Reply}
@@ -24,7 +26,7 @@ same-length-2 c = search needs
 returns : tie.Need-returns
 returns c =
     let a = c .before .before .before .before .before .write-lent .ensures in
-    (c .number-of .ensures ∙ ap (λ (q : Reply). numbered (replyCoded q)) (a .is) ∙ ap numbered (told-coded _), a .output)
+    (c .number-of .ensures ∙ ap (λ (q : Reply). numbered (replyCoded q)) (a .is) ∙ ap numbered (told-coded (writing (lending _) _ _ _)), a .output)
 
 pub rudignals-write-large-spec : {M : Type 1} → statement M
 rudignals-write-large-spec =

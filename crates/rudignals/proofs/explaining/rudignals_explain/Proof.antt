@@ -1,6 +1,7 @@
 -- `rudignals::explaining::rudignals_explain` meets its contract.
 use borrow.Author.Needs.{needs}
 use mathlib.Core.Path.{ap, _∙_}
+use Rattle.explain.specs.Explain.{explaining}
 use Rattle.lists.specs.Coded.{numbered}
 use Rattle.formatter.specs.Format.{ownRoom}
 use Rattle.formatter.proofs.Values.{ownRoom-sound}
@@ -19,7 +20,7 @@ tell-requires c κs = rw (c .before .explain .ensures) (told-fits ownRoom ownRoo
 returns : tie.Need-returns
 returns c =
     let x = c .before .before .explain .ensures in
-    (c .tell .ensures .0 ∙ ap (λ (y : Explained). numbered (explainedCoded y)) x ∙ ap numbered (told-coded _), c .tell .ensures .1 ∙ ap (λ (y : Explained). toldReason y (c .before .before .before .before .before .args .reason .now)) x ∙ told-reason _ _)
+    (c .tell .ensures .0 ∙ ap (λ (y : Explained). numbered (explainedCoded y)) x ∙ ap numbered (told-coded (explaining ownRoom _ _ _)), c .tell .ensures .1 ∙ ap (λ (y : Explained). toldReason y (c .before .before .before .before .before .args .reason .now)) x ∙ told-reason _ _)
 
 pub rudignals-explain-spec : {M : Type 1} → statement M
 rudignals-explain-spec = tie.close (tie.spec explain-requires tell-requires returns)

@@ -1,6 +1,8 @@
 -- `rudignals::explaining::rudignals_explain_large` meets its contract.
 use borrow.Author.Needs.{needs}
 use mathlib.Core.Path.{ap, _∙_}
+use Rattle.formatter.specs.Work.{lending}
+use Rattle.explain.specs.Explain.{explaining}
 use Rattle.lists.specs.Coded.{numbered}
 use Rattle.formatter.proofs.Work.{lending-sound}
 use Rattle.explain.specs.declared.Explained.{Explained}
@@ -21,7 +23,7 @@ same-length c = search needs
 returns : tie.Need-returns
 returns c =
     let x = c .before .before .before .before .explain-large .ensures in
-    (c .tell .ensures .0 ∙ ap (λ (y : Explained). numbered (explainedCoded y)) x ∙ ap numbered (told-coded _), c .tell .ensures .1 ∙ ap (λ (y : Explained). toldReason y (c .before .before .before .before .before .before .before .before .before .args .reason .now)) x ∙ told-reason _ _)
+    (c .tell .ensures .0 ∙ ap (λ (y : Explained). numbered (explainedCoded y)) x ∙ ap numbered (told-coded (explaining (lending _) _ _ _)), c .tell .ensures .1 ∙ ap (λ (y : Explained). toldReason y (c .before .before .before .before .before .before .before .before .before .args .reason .now)) x ∙ told-reason _ _)
 
 pub rudignals-explain-large-spec : {M : Type 1} → statement M
 rudignals-explain-large-spec = tie.close (tie.spec explain-large-requires tell-requires same-length returns)

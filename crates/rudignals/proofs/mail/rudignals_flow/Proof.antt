@@ -1,6 +1,8 @@
 -- `rudignals::mail::rudignals_flow` meets its contract.
 use borrow.Author.Needs.{needs}
 use mathlib.Core.Path.{ap, _∙_}
+use Rattle.flow.specs.Answers.{flow}
+use Rattle.formatter.specs.Format.{ownRoom}
 use Rattle.lists.specs.Coded.{numbered}
 use Rattle.formatter.specs.Contracts.Call.{replyCoded}
 use Rattle.formatter.specs.declared.Reply.{Reply}
@@ -20,7 +22,7 @@ same-length c = search needs
 returns : tie.Need-returns
 returns c =
     let a = c .before .before .before .flow .ensures in
-    (c .number-of .ensures ∙ ap (λ (q : Reply). numbered (replyCoded q)) (a .is) ∙ ap numbered (told-coded _), a .output, a .counts)
+    (c .number-of .ensures ∙ ap (λ (q : Reply). numbered (replyCoded q)) (a .is) ∙ ap numbered (told-coded (flow ownRoom _ _ _)), a .output, a .counts)
 
 pub rudignals-flow-spec : {M : Type 1} → statement M
 rudignals-flow-spec = tie.close (tie.spec flow-requires number-of-requires same-length returns)

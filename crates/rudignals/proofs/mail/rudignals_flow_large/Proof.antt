@@ -1,6 +1,8 @@
 -- `rudignals::mail::rudignals_flow_large` meets its contract.
 use borrow.Author.Needs.{needs}
 use mathlib.Core.Path.{ap, _∙_}
+use Rattle.flow.specs.Answers.{flow}
+use Rattle.formatter.specs.Work.{lending}
 use Rattle.lists.specs.Coded.{numbered}
 use Rattle.formatter.specs.Contracts.Call.{replyCoded}
 use Rattle.formatter.specs.declared.Reply.{Reply}
@@ -23,7 +25,7 @@ same-length-2 c = search needs
 returns : tie.Need-returns
 returns c =
     let a = c .before .before .before .before .before .flow-lent .ensures in
-    (c .number-of .ensures ∙ ap (λ (q : Reply). numbered (replyCoded q)) (a .is) ∙ ap numbered (told-coded _), a .output, a .counts)
+    (c .number-of .ensures ∙ ap (λ (q : Reply). numbered (replyCoded q)) (a .is) ∙ ap numbered (told-coded (flow (lending _) _ _ _)), a .output, a .counts)
 
 pub rudignals-flow-large-spec : {M : Type 1} → statement M
 rudignals-flow-large-spec = tie.close (tie.spec flow-lent-requires number-of-requires same-length same-length-2 returns)

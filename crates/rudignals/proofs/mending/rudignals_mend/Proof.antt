@@ -1,6 +1,7 @@
 -- `rudignals::mending::rudignals_mend` meets its contract.
 use borrow.Author.Needs.{needs}
 use mathlib.Core.Path.{ap, _∙_}
+use Rattle.salvage.specs.Mending.{mend}
 use Rattle.salvage.specs.Contracts.Steps.{numberOf}
 use Rattle.salvage.proofs.Answers.{number-told}
 use Rattle.rudignals.proofs.mending.rudignals_mend.Statement.{statement}
@@ -24,7 +25,7 @@ same-length-3 c = search needs
 returns : tie.Need-returns
 returns c =
     let m = c .before .before .before .before .before .before .before .mend .ensures in
-    (c .mended-number .ensures ∙ ap numberOf (m .is) ∙ number-told _, m .copied, m .placed, m .kept)
+    (c .mended-number .ensures ∙ ap numberOf (m .is) ∙ number-told (mend _ _ _), m .copied, m .placed, m .kept)
 
 pub rudignals-mend-spec : {M : Type 1} → statement M
 rudignals-mend-spec =
