@@ -156,7 +156,7 @@ const char *const PAGE_STYLE[] = {
     NULL,
 };
 
-const char PAGE_SCRIPT_HASH[] = "18JjbUn3UiqpVITsR3Jl7y0StXvl/Vcygl+zVB1tqlY=";
+const char PAGE_SCRIPT_HASH[] = "Qx6boS9KTNHGMZJNJGHcPDsVEVun1xb/MKqsBuLE3BA=";
 
 const char *const PAGE_SCRIPT[] = {
     "'use strict';\n",
@@ -254,7 +254,7 @@ const char *const PAGE_SCRIPT[] = {
     "follow();\n",
     "const fit = chunk => {\n",
     "for (const [i, room, ink] of [...chunk.querySelectorAll('i')].map(i => [i, i.clientWidth, i.scrollWidth]))\n",
-    "if (room && ink > room + 1) i.style.transform = `scaleX(${room / ink})`, i.style.transformOrigin = 'left';\n",
+    "if (room && ink > room + 1) i.style.transform = `scaleX(${room / ink})`, i.style.transformOrigin = i.classList.contains('r') ? 'right' : 'left';\n",
     "};\n",
     "const near = new Set(), wide = [], width = digest && digest.querySelector('.width');\n",
     "const columns = at => wide[at] ?\?= +reason(at).querySelector('small').textContent.replace(/\\D/g, '');\n",

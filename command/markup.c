@@ -194,6 +194,53 @@ static unsigned put_letters(FILE *out, struct reader *reader, bool raw) {
     return reader->sign.columns == 2 ? put_wide(out, reader, raw) : put_letter(out, reader);
 }
 
+/* ---- words that are written from the right */
+
+/* The panel knows which words a person reads together (runs.c): so a line that has any is put on one. Words in columns that the panel does not
+ * have stand by themselves, and so do those with a number among them. */
+static bool has_from_right(struct reader reader, uint64_t columns) {
+    uint64_t column = 0;
+    enum script script = ALONE;
+    for (; !reader.ended && column < columns && script != FROM_RIGHT; step(&reader)) {
+        script = script_of(reader.sign.character);
+        column += reader.sign.columns;
+    }
+    return script == FROM_RIGHT;
+}
+
+static bool put_on_panel(struct panel *panel, const struct reader *reader, uint64_t tab) {
+    if (!has_from_right(*reader, COLUMNS))
+        return false;
+    *panel = (struct panel){.cut = true};
+    return put_cells(panel->cells, reader->bytes, reader->length, tab);
+}
+
+static bool has_number(struct reader reader, unsigned columns) {
+    unsigned passed = 0;
+    for (; !reader.ended && (passed < columns || reader.sign.columns == 0); step(&reader)) {
+        if (is_number(&reader.sign, false) || reader.sign.columns == 2)
+            return true;
+        passed += reader.sign.columns;
+    }
+    return false;
+}
+
+/* How many columns from here on are words from the right; 0: none, or one letter alone. */
+static unsigned right_columns(const struct panel *panel, const struct reader *reader, uint64_t column) {
+    enum script script = ALONE;
+    int length = column < COLUMNS ? run_length(panel, ROWS - 1, (int)column, &script) : 1;
+    return length > 1 && script == FROM_RIGHT && !has_number(*reader, (unsigned)length) ? (unsigned)length : 0;
+}
+
+static unsigned put_right(FILE *out, struct reader *reader, unsigned columns) {
+    unsigned put = 0;
+    fprintf(out, "<i class='w%u r'>", columns);
+    while (!reader->ended && (put < columns || sits(reader, false)))
+        put += put_letter(out, reader);
+    fputs("</i>", out);
+    return columns;
+}
+
 /* ---- lines */
 
 /* A number stands twice: in brackets as text, for whoever reads or copies it, and as the style shows it. */
@@ -259,9 +306,15 @@ static uint64_t stop_behind(uint64_t column, uint64_t tab) { return tab == 0 ? c
 
 void put_line(FILE *out, const uint8_t *bytes, size_t length, uint64_t tab) {
     struct reader reader = reader_of(bytes, length);
+    struct panel panel;
+    bool from_right = put_on_panel(&panel, &reader, tab);
     uint64_t column = 0, stop;
+    unsigned right;
     while (!reader.ended) {
-        if (reader.sign.character == '\t') {
+        right = from_right ? right_columns(&panel, &reader, column) : 0;
+        if (right > 0) {
+            column += put_right(out, &reader, right);
+        } else if (reader.sign.character == '\t') {
             stop = stop_behind(column, tab);
             fprintf(out, "<u class=t>%*s</u>", (int)(stop - column), "");
             column = stop;

@@ -75,6 +75,7 @@ void put_below_escaped(FILE *out, const struct panel *panel, enum line_below lin
 
 /* How a character is beside its neighbours: by itself, or in one text with those of its kind. */
 enum script { ALONE, JOINED, FROM_RIGHT };
+enum script script_of(uint32_t character);
 /* How many columns from this one on are one text: 1 if the cell stands by itself. */
 int run_length(const struct panel *panel, int row, int column, enum script *script);
 

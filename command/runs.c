@@ -5,7 +5,7 @@ static bool within(uint32_t character, uint32_t from, uint32_t to) { return char
 
 /* Hebrew, Arabic, Syriac, Thaana, N'Ko and others; then those of India and its neighbours, whose vowels stand beside, above or before their
  * letter. */
-static enum script script_of(uint32_t c) {
+enum script script_of(uint32_t c) {
     if (within(c, 0x590, 0x8FF) || within(c, 0xFB1D, 0xFDFF) || within(c, 0xFE70, 0xFEFC) || within(c, 0x10800, 0x10FFF) || within(c, 0x1E800, 0x1EFFF))
         return FROM_RIGHT;
     if (within(c, 0x900, 0xDFF) || within(c, 0xF00, 0x109F) || within(c, 0x1780, 0x17FF) || within(c, 0x1A20, 0x1AAF) || within(c, 0x1B00, 0x1C4F) ||

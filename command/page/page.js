@@ -104,7 +104,7 @@ addEventListener('DOMContentLoaded', () => {
   // Letters of a face that is wider than their columns are drawn narrower, where they are seen.
   const fit = chunk => {
     for (const [i, room, ink] of [...chunk.querySelectorAll('i')].map(i => [i, i.clientWidth, i.scrollWidth]))
-      if (room && ink > room + 1) i.style.transform = `scaleX(${room / ink})`, i.style.transformOrigin = 'left';
+      if (room && ink > room + 1) i.style.transform = `scaleX(${room / ink})`, i.style.transformOrigin = i.classList.contains('r') ? 'right' : 'left';
   };
   // A line that goes on beyond the right edge is marked there: of those near the window, by its columns, which stand beside its reason.
   const near = new Set(), wide = [], width = digest && digest.querySelector('.width');

@@ -82,8 +82,8 @@ static void write_files(const struct text *text) {
         abort();
     write_file("n/2024-02-29.txt", text[0]);
     write_file("d/2024-02-29.txt", text[1]);
-    write_file("n/b", text[0]);
-    write_file("d/b.out", text[2]);
+    write_file("n/2024-03-31", text[0]);
+    write_file("d/2024-03-31.out", text[2]);
 }
 
 /* ---- the case */

@@ -270,13 +270,15 @@ def phone(sight):
 
 # Notes without a blank, and notes that are written from the right.
 FRAMED = "二号泵因压力过低跳闸。放出阀门内的空气后手动重新启动。请继续观察；过滤器反正也该更换了。压力在过滤器前为四点一巴，在过滤器后为三点八巴，并且还在下降，必须在早班之前检查。\n\nপাম্পটিকমচাপেরকারণেবন্ধহয়েগেছেওআবারচালুকরাহয়েছে\n\nמשאבה 2 נעצרה בגלל לחץ\n".encode()
-# Of the notes in the pane: does a letter stand beyond their frame, and are they read from its right side, word after word?
+# Of the notes in the pane: does a letter stand beyond their frame, and are they read from its right side, word after word? And the line of the digest?
 IN_FRAME = """
 const li = document.querySelector('#notes section.on ol li'), box = li.parentElement.getBoundingClientRect(), range = document.createRange();
 range.selectNodeContents(li);
 const out = [...range.getClientRects()].some(r => r.right > box.right || r.left < box.left), letters = document.createTreeWalker(li, NodeFilter.SHOW_TEXT), at = [];
 for (let text; (text = letters.nextNode());) for (let i = 0; i < text.data.length; i++) range.setStart(text, i), range.setEnd(text, i + 1), at.push(range.getBoundingClientRect().left);
-return [out, box.right - at[0] < 40 && at[0] > at[8]];
+const words = document.querySelector('#digest a.on').childNodes, first = words[0].firstChild || words[0];
+const place = i => (range.setStart(first, i), range.setEnd(first, i + 1), range.getBoundingClientRect().left);
+return [out, box.right - at[0] < 40 && at[0] > at[8], first.length > 8 && place(0) > place(8)];
 """
 
 
@@ -288,7 +290,7 @@ def in_frame(sight, file):
         for line, from_right in (1, False), (3, False), (5, True):
             b.point(f'[id="{line}"]', click=True, kind="touch" if small else "mouse")
             time.sleep(0.1)
-            faults.extend([] if b.run(IN_FRAME) == [False, from_right] else [(line, width)])
+            faults.extend([] if b.run(IN_FRAME) == [False, from_right, from_right] else [(line, width)])
     return faults
 
 
@@ -468,7 +470,7 @@ def faults(sight):
                      (b"columns(a.id - lines[0].id) > seen + .1", b"columns(a.id - lines[0].id) > seen - 1.5"), (b"digest.classList.toggle('l', digest.scrollLeft > 0);", b""), (b"footer, .mouse { display: none; }", b""), (b".touch { display: inline; }", b""),
                      (b"position: sticky; right: 0;", b""), (b"digest.addEventListener('scroll', edges);", b""), (b"max-height: 45vh; max-height: 45dvh;", b"")):
         seen.append(bool(on_phone(sight, sight.page("spoiled", [], TALL, tampered(old, new)))))
-    for old, new in (b"ol i, ol b[class] { display: inline;", b"ol i, ol b[class] {"), (b"unicode-bidi: plaintext;", b""), (b"white-space: inherit; unicode-bidi: normal;", b"white-space: inherit;"):
+    for old, new in (b"ol i, ol b[class] { display: inline;", b"ol i, ol b[class] {"), (b"unicode-bidi: plaintext;", b""), (b"white-space: inherit; unicode-bidi: normal;", b"white-space: inherit;"), (b".r { direction: rtl; }", b".r { unicode-bidi: bidi-override; }"):
         seen.append(bool(in_frame(sight, sight.page("spoiled", [], FRAMED, tampered(old, new)))))
     print(f"page: faults put in the style and the script: {sum(seen)} of {len(seen)} seen", flush=True)
     sight.tell("faults in the style and the script", seen, [True] * len(seen))

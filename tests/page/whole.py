@@ -46,7 +46,7 @@ WORDS = {"a": 1, "bc": 2, "pump": 4, "tripped.": 8, "restarted": 9, "a-very-long
          "\u200d": 0, "\ufffd": 1, "\ufffe": 1, "\u0301": 0, "To:": 3, "From": 4, ">": 1, "\u1160": 0, "\U000e0041": 0}
 FORCED = "No line had room for {} word: the break is forced {} it."
 PLAIN = ["Its paragraph ends here.", "A plain line: it ends as it does in the notes.", "A blank line of the notes.", "The next word did not fit.", "Ending here gives a better spread over the lines that follow.",
-         FORCED.format("the next", "before"), FORCED.format("its last", "behind")]
+         FORCED.format("the next", "before"), FORCED.format("its last", "after")]
 TOGETHER = 100  # so many blank lines of the same bytes are told together, at most
 
 
