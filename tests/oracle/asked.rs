@@ -371,8 +371,26 @@ fn letters(r: &mut Rng, count: usize) -> String {
     word
 }
 
+/// A line that goes word by word, of about as many words as a window has, or twice as many: one to three letters each, with single and
+/// double spaces and a tab here and there.
+fn windowed(r: &mut Rng) -> String {
+    let count = [1, 15, 16, 17, 31, 32, 33, 48][r.below(8)];
+    let odd = r.below(count);
+    let mut line = String::new();
+    for n in 0..count {
+        let size = 1 + r.below(3);
+        line += &letters(r, size);
+        line += if n == odd { ["é", "中", "\u{a0}", ".\t", ""][r.below(5)] } else { ["", "", "", "."][r.below(4)] };
+        if n + 1 < count {
+            line += [" ", " ", " ", "  ", "\t"][r.below(5)];
+        }
+    }
+    line
+}
+
 /// Lines of ASCII at the edges of quick's walk: words that end at the width, or one before or behind it, with one to three spaces at the
-/// cut; a last word alone; a tab or a letter of two bytes about the eighth byte of a line; spaces at a line's end.
+/// cut; a last word alone; a tab or a letter of two bytes about the eighth byte of a line; spaces at a line's end; between them lines that
+/// go word by word.
 fn edges(r: &mut Rng, width: usize) -> String {
     let mut text = String::new();
     for _ in 0..1 + r.below(6) {
@@ -395,6 +413,7 @@ fn edges(r: &mut Rng, width: usize) -> String {
                 line = letters(r, count);
             }
             3 => line += &" ".repeat(1 + r.below(3)),
+            4 => line = windowed(r),
             _ => {}
         }
         text += &line;
@@ -429,10 +448,12 @@ fn at_the_edges(r: &mut Rng) -> Asked {
     let most = r.below(3);
     let mut opts = random_options(r, [6, 12, 40][most]);
     flagged(r, &mut opts, QUICK, 90);
-    flagged(r, &mut opts, UNIFORM, 10);
+    flagged(r, &mut opts, UNIFORM, 25);
+    flagged(r, &mut opts, MAIL, 15);
     let width = opts.width.unwrap_or(75) as usize;
+    let head = if opts.has(MAIL) && r.chance(70) { "To: " } else { "" };
     let notes = if r.chance(10) { many(r) } else { edges(r, width) };
-    (opts.block(), notes.into_bytes())
+    (opts.block(), (head.to_string() + &notes).into_bytes())
 }
 
 fn long(r: &mut Rng) -> Asked {
