@@ -2,8 +2,6 @@
 use mathlib.Core.Path.{ap}
 use Prim.Native.Nat.{ℕ}
 use native.Mathlib.Omega.{arith}
-use borrow.Author.Needs.{needs}
-use denote.Ref.{now}
 use lib.Dec.{leb}
 use Rattle.paragraphs.proofs.Streaming.{half, short-by}
 use Rattle.paragraphs.proofs.is_short.Statement.{statement}
