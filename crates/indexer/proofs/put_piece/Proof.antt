@@ -2,7 +2,7 @@
 use mathlib.Core.Path.{refl}
 use native.Mathlib.Omega.{arith}
 use borrow.Author.Needs.{needs}
-use Rattle.walk.proofs.Steps.{ready-usable, ready-cleared, found-goes, found-begins, blank-put, plain-put, begins-placed, room-breaks}
+use Rattle.walk.proofs.Steps.{ready-usable, ready-cleared, found-goes, found-begins, blank-put, plain-put, begins-placed}
 use Rattle.indexer.proofs.Laws.{text-stepped}
 use Rattle.indexer.proofs.put_piece.Statement.{statement}
 use Rattle.indexer.proofs.put_piece.Tie as tie
@@ -37,7 +37,7 @@ put-paragraph-requires : tie.Need-put-paragraph-requires
 put-paragraph-requires c κs =
     let p = c .before .before .before .before .before .before .before .before .before .before .before .pre in
     let b = found-begins _ _ _ (c .before .before .before .before .before .before .before .before .before .before .before .args .c) _ (p .2) (c .before .before .before .before .before .before .next-piece .ensures) (c .before .before .before .before .p .given .1) in
-    (begins-placed _ _ _ _ _ (p .0) b, omega (arith, p .0 .short, p .1 .within, p .1 .bounded), room-breaks _ _ _ (c .before .before .room-for .ensures))
+    (begins-placed _ _ _ _ _ (p .0) b, omega (arith, p .0 .short, p .1 .within, p .1 .bounded))
 
 same-length : tie.Need-same-length
 same-length c = search needs
@@ -67,7 +67,7 @@ returns-3 : tie.Need-returns-3
 returns-3 c =
     let p = c .before .before .before .before .before .before .before .before .before .before .before .before .before .before .before .before .pre in
     let b = found-begins _ _ _ (c .before .before .before .before .before .before .before .before .before .before .before .before .before .before .before .before .args .c) _ (p .2) (c .before .before .before .before .before .before .before .before .before .before .before .next-piece .ensures) (c .before .before .before .before .before .before .before .before .before .p .given .1) in
-    rw (← c .before .before .before .before .before .before .before .room-for .ensures) (text-stepped _ _ _ _ _ _ (p .0) (p .1) b _ _ (c .before .before .before .before .put-paragraph .result) (c .before .before .before .before .put-paragraph .ensures _))
+    text-stepped _ _ _ _ _ _ (p .0) (p .1) b _ _ (c .before .before .before .before .put-paragraph .result) (rw (c .before .before .before .before .before .before .before .room-for .ensures) at (c .before .before .before .before .put-paragraph .ensures _))
 
 pub put-piece-spec : {M : Type 1} → statement M
 put-piece-spec =

@@ -103,7 +103,7 @@ abbrev pub FinishedFrom : ℕ → Opts → List ℕ → Cursor → List ℕ → 
 FinishedFrom most o notes c out out′ (All n) = (longFrom most o (c .mail) notes (c .at) ≡ Nowhere) × Wrote out (c .written) (outputFrom o (c .mail) notes (c .at)) out′ n
 FinishedFrom most o notes c out out′ (Stopped place) = (longFrom most o (c .mail) notes (c .at) ≡ At place) × (length out′ ≡ length out)
 
--- to the end, or to a paragraph of more than so many words
+-- so far as the room reaches, which is for so many words: to the end, or to a paragraph of more words
 abbrev pub Coursed : ℕ → ℕ → List ℕ → Options → List ℕ → Cursor → List ℕ → List ℕ → Course → Type 0
 Coursed most room block o notes c₀ out₀ out (CourseEnd n) = FinishedFrom most (meant block o) notes c₀ out₀ out (All n)
 Coursed most room block o notes c₀ out₀ out (Short c p) =
