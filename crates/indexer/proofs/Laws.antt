@@ -1,7 +1,7 @@
 -- Piece by piece: written; and no more of them than bytes.
 use mathlib.Core.Path.{_≡_, refl, ap, _∙_}
 use mathlib.Core.List.{List, [], _∷_}
-use Prim.Native.Nat.{ℕ, _+_, _≤_, _<_}
+use Prim.Native.Nat.{ℕ, _+_, _-_, _≤_, _<_}
 use native.Mathlib.Omega.{arith}
 use lib.ListN.{length, length-append}
 use Rattle.lists.specs.Runs.{joined}
@@ -12,7 +12,7 @@ use Rattle.options.specs.Opts.{Opts, meant}
 use Rattle.options.specs.declared.Options.{Options}
 use Rattle.pieces.specs.Pieces.{Piece, pieces}
 use Rattle.pieces.specs.declared.Paragraph.{Paragraph}
-use Rattle.paragraphs.specs.Contracts.Steps.{TextStepped}
+use Rattle.paragraphs.specs.Contracts.Steps.{wordsFor, takes, TextStepped}
 use Rattle.paragraphs.specs.declared.Cursor.{Cursor}
 use Rattle.paragraphs.specs.declared.Step.{Step}
 use Rattle.paragraphs.specs.declared.Step.the-variants.{On, Over}
@@ -28,10 +28,10 @@ use Rattle.indexer.specs.Contracts.Noting.{PieceStepped}
 
 module _ (o : Options) (room : ℕ) where
   pub text-stepped : (block notes : List ℕ) (c : Cursor) (p : Paragraph) → Admitted block notes o → CursorIn notes c → TextAhead block o notes c p → (out out′ : List ℕ) (r : Step)
-      → TextStepped room notes (c .at) o p out (c .written) out′ r block → PieceStepped room (meant block o) notes out c out′ r
-  text-stepped block notes c p ready s b out out′ (On d) w = begins-stepped block notes o c p ready b room room out out′ (On d) d (omega arith) w refl
+      → TextStepped (takes (o .quick) (p .next - c .at) room room (length (wordsFor block notes (c .at) o p))) notes (c .at) o p out (c .written) out′ r block → PieceStepped room (meant block o) notes out c out′ r
+  text-stepped block notes c p ready s b out out′ (On d) w = begins-stepped block notes o c p ready b room room room out out′ (On d) d (omega arith) (omega arith) w refl
   text-stepped block notes c p ready s b out out′ Over w =
-      let v = begins-over block notes o c p ready b room out out′ Over w refl in
+      let v = begins-over block notes o c p ready b room room out out′ Over w refl in
       (begins-long block notes o c p ready b room c out out (going-first room (meant block o) notes c out s) (v .0) .0, v .1)
 
 -- in room for so many words

@@ -1,13 +1,13 @@
 -- A paragraph written by quick without a table of its words: the promise is the paragraph's own.
 use mathlib.Core.Path.{_≡_, refl, sym, ap, _∙_}
-use mathlib.Core.Bool.{Bool, true, _||_}
+use mathlib.Core.Bool.{Bool, true, false, _&&_, _||_, true≢false}
 use mathlib.Core.List.{List, []}
 use Prim.Native.Nat.{ℕ, _+_, _-_, _*_, _/_, _≤_, _<_}
 use native.Mathlib.Omega.{arith}
 use lib.Dec.{leb}
 use lib.ListN.{length}
 use lib.Seq.{slice, length-slice}
-use borrow.Author.Tests.{le-leb, leb-true}
+use borrow.Author.Tests.{leb-true, leb-false}
 use Rattle.options.specs.Opts.{meant}
 use Rattle.options.specs.declared.Options.{Options}
 use Rattle.lines.specs.Lines.{linesOf}
@@ -23,8 +23,8 @@ use Rattle.output.specs.Contracts.Writers.{marginOf}
 use Rattle.output.proofs.Bound.{emit-most}
 use Rattle.quick.specs.Quick.{quickBreaks}
 use Rattle.paragraphs.specs.Breaks.{settingOf, breaksBy}
-use Rattle.paragraphs.specs.Contracts.Steps.{Placed, settingFor, wordsFor, TextStepped}
-use Rattle.paragraphs.specs.declared.Step.the-variants.{On}
+use Rattle.paragraphs.specs.Contracts.Steps.{Placed, settingFor, wordsFor, TextPut, takes, TextStepped}
+use Rattle.paragraphs.specs.declared.Step.{Step}
 use Rattle.regular.specs.Contracts.Places.{PutIs}
 
 -- over plain marks
@@ -32,9 +32,40 @@ by-quick : (quick mail uniform : Bool) → quick ≡ true → (first indent : Li
     → Wrote out written (emit (h .uniform) first indent (quickBreaks h ws) ws) out′ r → Wrote out written (emit uniform first indent (breaksBy (quick || mail) g ws) ws) out′ r
 by-quick quick mail uniform q first indent g h ws out written out′ r e u v = rw (q, ← u) (rw e at v)
 
--- a test against so many, where all have as many
-pub short-by : (words bytes most : ℕ) → 2 * words ≤ bytes + 1 → (bytes + 1) / 2 ≤ most → true ≡ leb words most
-short-by words bytes most h k = sym (le-leb words most (omega arith))
+-- what is taken has no more than so many words, and what is not has more than there is room for
+pub takes-few : (quick : Bool) (bytes most room words : ℕ) → 2 * words ≤ bytes + 1 → room ≤ most → takes quick bytes most room words ≡ true → words ≤ most
+takes-few false bytes most room words h k e = omega (arith, leb-true words room e, k)
+takes-few true bytes most room words h k e = pick (leb ((bytes + 1) / 2) most) refl e
+  where
+    pick : (t : Bool) → leb ((bytes + 1) / 2) most ≡ t → (t || leb words room) ≡ true → words ≤ most
+    pick true q e = omega (arith, leb-true ((bytes + 1) / 2) most q, h)
+    pick false q e = omega (arith, leb-true words room e, k)
+
+pub takes-many : (quick : Bool) (bytes most room words : ℕ) → takes quick bytes most room words ≡ false → room < words
+takes-many quick bytes most room words e = pick (quick && leb ((bytes + 1) / 2) most) e
+  where
+    pick : (t : Bool) → (t || leb words room) ≡ false → room < words
+    pick true e = absurd (true≢false e)
+    pick false e = leb-false words room e
+
+-- with quick alone
+pub only-quick : (quick b : Bool) → quick ≡ false → false ≡ (quick && b)
+only-quick quick b e = rw e
+
+pub if-quick : (quick b : Bool) → quick ≡ true → b ≡ (quick && b)
+if-quick quick b e = rw e
+
+pub is-quick : (quick b : Bool) → true ≡ (quick && b) → quick ≡ true
+is-quick true b e = refl
+is-quick false b e = absurd (true≢false e)
+
+-- by the bytes, or by the table
+pub by-bytes : (a b : Bool) → true ≡ a → (a || b) ≡ true
+by-bytes a b e = rw (← e)
+
+pub by-table : (a b : Bool) → false ≡ a → (notes : List ℕ) (at : ℕ) (o : Options) (p : Paragraph) (out : List ℕ) (written : ℕ) (out′ : List ℕ) (r : Step) (block : List ℕ) → TextStepped b notes at o p out written out′ r block
+    → TextStepped (a || b) notes at o p out written out′ r block
+by-table a b e notes at o p out written out′ r block s = rw (← e) s
 
 module _ (notes : List ℕ) (at : ℕ) (o : Options) (p : Paragraph) (placed : Placed notes at o p) where
   -- every second byte at most begins a word
@@ -61,18 +92,16 @@ module _ (notes : List ℕ) (at : ℕ) (o : Options) (p : Paragraph) (placed : P
   spaced g e = rw e
 
   -- what it is broken with depends on no block
-  pub streamed : o .quick ≡ true → (g : Setting) → ((block : List ℕ) → g ≡ settingFor block o p) → (most : ℕ) → ((block : List ℕ) → true ≡ leb (length (wordsFor block notes at o p)) most) → (out : List ℕ) (written : ℕ) (out′ : List ℕ) (end : ℕ)
+  pub streamed : o .quick ≡ true → (g : Setting) → ((block : List ℕ) → g ≡ settingFor block o p) → (out : List ℕ) (written : ℕ) (out′ : List ℕ) (end : ℕ)
       → PutIs notes at (p .next) (p .mail) (p .start) (p .later) o g (marginOf notes (p .first)) (marginOf notes (p .indent)) out written out′ end
-      → (block : List ℕ) → TextStepped most notes at o p out written out′ (On (record { at = p .next; written = end; mail = p .mail })) block
+      → (block : List ℕ) → TextPut notes at o p out written out′ (record { at = p .next; written = end; mail = p .mail }) block
   unfolding settingOf meant
-  streamed fast g e most few out written out′ end put block =
+  streamed fast g e out written out′ end put block =
       let wrote : Wrote out written (emit (o .uniform || p .mail) (marginOf notes (p .first)) (marginOf notes (p .indent)) (breaksBy (o .quick || p .mail) (settingFor block o p) (wordsFor block notes at o p)) (wordsFor block notes at o p)) out′ end =
-      by-quick (o .quick) (p .mail) (o .uniform || p .mail) fast (marginOf notes (p .first)) (marginOf notes (p .indent)) (settingFor block o p) g (wordsFor block notes at o p) out written out′ end (e block) refl (put block (some-word block)) in (
-        leb-true (length (wordsFor block notes at o p)) most (sym (few block)),
-        record {
-          next = refl;
-          mail = refl;
-          wrote = wrote;
-          bounded = omega (arith, wrote .count, emit-most (o .uniform || p .mail) (marginOf notes (p .indent)) (marginOf notes (p .first)) (breaksBy (o .quick || p .mail) (settingFor block o p) (wordsFor block notes at o p)) (wordsFor block notes at o p));
-        },
-      )
+      by-quick (o .quick) (p .mail) (o .uniform || p .mail) fast (marginOf notes (p .first)) (marginOf notes (p .indent)) (settingFor block o p) g (wordsFor block notes at o p) out written out′ end (e block) refl (put block (some-word block)) in
+      record {
+        next = refl;
+        mail = refl;
+        wrote = wrote;
+        bounded = omega (arith, wrote .count, emit-most (o .uniform || p .mail) (marginOf notes (p .indent)) (marginOf notes (p .first)) (breaksBy (o .quick || p .mail) (settingFor block o p) (wordsFor block notes at o p)) (wordsFor block notes at o p));
+      }

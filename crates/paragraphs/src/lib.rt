@@ -5,14 +5,14 @@ use pieces::Paragraph;
 use spacing::Setting;
 use words::Count;
 ghost use mathlib.Core.Path.{_≡_};
-ghost use mathlib.Core.Bool.{cond, false, _||_};
+ghost use mathlib.Core.Bool.{cond, _&&_, _||_};
 ghost use lib.Dec.{leb};
 ghost use mathlib.Core.List.{List};
-ghost use Prim.Native.Nat.{ℕ, _+_, _*_, _^_, _≤_, _<_};
+ghost use Prim.Native.Nat.{ℕ, _+_, _-_, _*_, _/_, _^_, _≤_, _<_};
 ghost use lib.ListN.{length};
 ghost use Rattle.lines.specs.Contracts.Places.{mostLarge};
 ghost use Rattle.knuth_plass.specs.Contracts.Round.{Limits, AllNarrow};
-ghost use Rattle.paragraphs.specs.Contracts.Steps.{roomFor, Roomy, settingFor, wordsFor, Broken, Placed, TextStepped};
+ghost use Rattle.paragraphs.specs.Contracts.Steps.{roomFor, Roomy, settingFor, wordsFor, Broken, Placed, takes, TextStepped};
 
 // Where the work stands: the place in the notes, the length of the digest up to there, and next-mail.
 pub struct Cursor {
@@ -21,7 +21,7 @@ pub struct Cursor {
     pub mail: bool,
 }
 
-// What came of a paragraph: the work goes on after it, or it has more words than it may.
+// What came of a paragraph: the work goes on after it, or there is no room for its words.
 pub enum Step {
     On(Cursor),
     Over,
@@ -53,7 +53,8 @@ pub fn numbers_for(quick: bool, words: usize) -> usize
     BEST * words
 }
 
-// Writes a paragraph, unless it has more than so many words. For those there is room, but with quick, which needs none.
+// Writes a paragraph as it is read, if it is broken quick and its bytes show that it has no more than so many words; else by a table of its
+// words, if there is room for them.
 // In the original: `break_lines`.
 pub fn put_paragraph(
     notes: &[u8],
@@ -65,14 +66,11 @@ pub fn put_paragraph(
     most: usize,
     work: &mut [u32],
 ) -> Step
-    requires { ⌜ Placed (now notes) at o p × (written < 2 ^ 62) × (o .quick ≡ false → most * 15 ≤ length (now work)) ⌝ }
-    ensures { λ r. ⌜ ((block : List ℕ) → TextStepped most (now (notes .entry)) at o p (now (out .entry)) written (now (out .exit)) r block) ⌝ }
+    requires { ⌜ Placed (now notes) at o p × (written < 2 ^ 62) ⌝ }
+    ensures { λ r. ⌜ ((block : List ℕ) → TextStepped (takes (o .quick) (p .next - at) most (roomFor (o .quick) (length (now (work .entry)))) (length (wordsFor block (now (notes .entry)) at o p))) (now (notes .entry)) at o p (now (out .entry)) written (now (out .exit)) r block) ⌝ }
 {
-    if !o.quick {
-        return put_by_table(notes, at, o, p, out, written, most, work);
-    }
-    if !is_short(notes, at, o, p, most) {
-        return Step::Over;
+    if !is_streamed(o.quick, p.next - at, most) {
+        return put_by_table(notes, at, o, p, out, written, work);
     }
     let first = p.first;
     let indent = p.indent;
@@ -97,15 +95,15 @@ pub fn put_paragraph(
     })
 }
 
-// Whether a paragraph has at most so many words. Every second byte at most begins one, so that most need not be counted.
-fn is_short(notes: &[u8], at: usize, o: Options, p: Paragraph, most: usize) -> bool
-    requires { ⌜ Placed (now notes) at o p ⌝ }
-    ensures { λ r. ⌜ ((block : List ℕ) → r ≡ leb (length (wordsFor block (now (notes .entry)) at o p)) most) ⌝ }
+// Whether a paragraph of so many bytes is written as it is read: every second byte at most begins a word.
+fn is_streamed(quick: bool, size: usize, most: usize) -> bool
+    requires { ⌜ size < 2 ^ 32 ⌝ }
+    ensures { λ r. ⌜ r ≡ (quick && leb ((size + 1) / 2) most) ⌝ }
 {
-    if (p.next - at + 1) / 2 <= most {
-        return true;
+    if !quick {
+        return false;
     }
-    words::count_words(notes, at, p.next, p.mail, p.start, p.later, o) <= most
+    (size + 1) / 2 <= most
 }
 
 // The same by a table of its words.
@@ -117,12 +115,12 @@ fn put_by_table(
     p: Paragraph,
     out: &mut [u8],
     written: usize,
-    most: usize,
     work: &mut [u32],
 ) -> Step
-    requires { ⌜ Placed (now notes) at o p × (written < 2 ^ 62) × (most * 15 ≤ length (now work)) ⌝ }
-    ensures { λ r. ⌜ ((block : List ℕ) → TextStepped most (now (notes .entry)) at o p (now (out .entry)) written (now (out .exit)) r block) ⌝ }
+    requires { ⌜ Placed (now notes) at o p × (written < 2 ^ 62) ⌝ }
+    ensures { λ r. ⌜ ((block : List ℕ) → TextStepped (leb (length (wordsFor block (now (notes .entry)) at o p)) (roomFor (o .quick) (length (now (work .entry))))) (now (notes .entry)) at o p (now (out .entry)) written (now (out .exit)) r block) ⌝ }
 {
+    let most = room_for(o.quick, work.len());
     let Count::Words(n) = words::split_words(
         notes,
         at,

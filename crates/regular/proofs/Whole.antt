@@ -11,7 +11,7 @@ use Rattle.output.specs.Emission.{lineFeed, emit}
 use Rattle.output.specs.Contracts.Sink.{Wrote, Left}
 use Rattle.output.proofs.Sink.{left-first, left-then, left-last}
 use Rattle.quick.specs.Quick.{quickBreaks}
-use Rattle.regular.specs.Contracts.Regular.{quickRest, quickFresh, quickOn}
+use Rattle.regular.specs.Contracts.Regular.{quickRest, quickFresh}
 use Rattle.regular.proofs.Joining.{left-on}
 
 -- the emission of a paragraph is its first indent and its words on a fresh line

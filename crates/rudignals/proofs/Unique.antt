@@ -12,7 +12,8 @@
 --   records       starts_line                                                               an equation
 --   records       store, mark                                                               an equation for the table
 --   words         split_words                                                               `words-unique`, by words/proofs/Unique (below)
---   words         count_words                                                               an equation
+--   words         count_words, begin                                                        an equation
+--   words         next_word, split_some                                                     the words and their places; where the blanks after the last begin is open
 --   spacing       gap_width, added_space                                                    spacing/proofs/Unique: `gap-unique`, `added-unique`
 --   quick         quick_breaks                                                              `quick-unique`, by records/proofs/Unique: `marked-unique`
 --   quick         quick_ending                                                              an equation

@@ -1,8 +1,8 @@
 -- What a piece's writers have done, as the definition says it of the piece; and what they could ask.
 use mathlib.Core.Path.{_≡_, refl, sym, ap, _∙_}
-use mathlib.Core.Bool.{Bool, true, false, _||_, true≢false}
+use mathlib.Core.Bool.{Bool, true, false, _||_}
 use mathlib.Core.List.{List, [], _++_}
-use Prim.Native.Nat.{ℕ, _+_, _-_, _*_, _≤_, _<_}
+use Prim.Native.Nat.{ℕ, _+_, _-_, _≤_, _<_}
 use native.Mathlib.Omega.{arith}
 use lib.ListN.{length}
 use lib.Seq.{slice}
@@ -29,12 +29,13 @@ use Rattle.output.specs.Contracts.Sink.{Wrote}
 use Rattle.output.specs.Contracts.Writers.{marginOf, MarginIn}
 use Rattle.paragraphs.specs.Breaks.{breaksBy}
 use Rattle.walk.specs.Digest.{formatted, mostWords, outputOf}
-use Rattle.paragraphs.specs.Contracts.Steps.{roomFor, settingFor, wordsFor, Placed, TextPut, TextStepped}
+use Rattle.paragraphs.specs.Contracts.Steps.{roomFor, settingFor, wordsFor, Placed, TextPut, takes, TextStepped}
 use Rattle.walk.specs.Contracts.Course.{FirstPiece, Put, TooLong, Admitted, TextAhead, Going, FinishedFrom}
 use Rattle.paragraphs.specs.declared.Cursor.{Cursor}
 use Rattle.walk.specs.declared.Ended.the-variants.{Stopped}
 use Rattle.paragraphs.specs.declared.Step.{Step}
 use Rattle.paragraphs.specs.declared.Step.the-variants.{On, Over}
+use Rattle.paragraphs.proofs.Streaming.{takes-few, takes-many, half}
 use Rattle.walk.proofs.Rows.{text-words}
 use Rattle.walk.proofs.Meaning.{TextGoes, PieceGoes, piece-goes}
 use Rattle.walk.proofs.Bound.{words-few, any-text-most}
@@ -164,14 +165,19 @@ module _ (block notes : List ℕ) (o : Options) (c : Cursor) (p : ParagraphAt) (
   pub begins-placed : Placed notes (c .at) o p
   begins-placed = let g = begins-goes in text-found block notes o (ready-kept block notes o ready) (ready .short) (c .mail) (c .at) p (g .paragraph-is) (g .text) (g .bounds)
 
-  pub begins-stepped : (most longest : ℕ) (out out′ : List ℕ) (r : Step) (d : Cursor) → longest ≤ most → TextStepped longest notes (c .at) o p out (c .written) out′ r block → r ≡ On d → Put most (meant block o) notes out c d out′
-  begins-stepped most longest out out′ r d few w e =
+  pub begins-stepped : (most limit room : ℕ) (out out′ : List ℕ) (r : Step) (d : Cursor) → limit ≤ most → room ≤ limit → TextStepped (takes (o .quick) (p .next - c .at) limit room (length (wordsFor block notes (c .at) o p))) notes (c .at) o p out (c .written) out′ r block → r ≡ On d
+      → Put most (meant block o) notes out c d out′
+  begins-stepped most limit room out out′ r d few small w e =
       let g = begins-goes in
-      let v : TextStepped longest notes (c .at) o p out (c .written) out′ (On d) block = rw e at w in
-      text-put block notes o ready (c .mail) (c .at) p (g .paragraph-is) (g .goes) (g .text) (g .bounds) most out c d out′ refl refl (omega (arith, v .0, few)) (v .1)
+      let v : TextStepped (takes (o .quick) (p .next - c .at) limit room (length (wordsFor block notes (c .at) o p))) notes (c .at) o p out (c .written) out′ (On d) block = rw e at w in
+      let n = takes-few (o .quick) (p .next - c .at) limit room (length (wordsFor block notes (c .at) o p)) (half notes (c .at) o p begins-placed block) small (v .0) in
+      text-put block notes o ready (c .mail) (c .at) p (g .paragraph-is) (g .goes) (g .text) (g .bounds) most out c d out′ refl refl (omega (arith, n, few)) (v .1)
 
-  pub begins-over : (longest : ℕ) (out out′ : List ℕ) (r : Step) → TextStepped longest notes (c .at) o p out (c .written) out′ r block → r ≡ Over → (longest < length (wordsFor block notes (c .at) o p)) × (out′ ≡ out)
-  begins-over longest out out′ r w e = rw e at w
+  pub begins-over : (limit room : ℕ) (out out′ : List ℕ) (r : Step) → TextStepped (takes (o .quick) (p .next - c .at) limit room (length (wordsFor block notes (c .at) o p))) notes (c .at) o p out (c .written) out′ r block → r ≡ Over
+      → (room < length (wordsFor block notes (c .at) o p)) × (out′ ≡ out)
+  begins-over limit room out out′ r w e =
+      let v : TextStepped (takes (o .quick) (p .next - c .at) limit room (length (wordsFor block notes (c .at) o p))) notes (c .at) o p out (c .written) out′ Over block = rw e at w in
+      (takes-many (o .quick) (p .next - c .at) limit room (length (wordsFor block notes (c .at) o p)) (v .0), v .1)
 
   -- it has more words than any may have
   pub begins-long : (most : ℕ) (c₀ : Cursor) (out₀ out : List ℕ) → Going most (meant block o) notes c₀ out₀ c out → most < length (wordsFor block notes (c .at) o p)
@@ -181,15 +187,6 @@ module _ (block notes : List ℕ) (o : Options) (c : Cursor) (p : ParagraphAt) (
       going-over most (meant block o) notes going (text-long block notes o ready (c .mail) (c .at) p (g .paragraph-is) (g .goes) (g .text) (g .bounds) most out c refl refl h)
 
 -- ---- the rooms
-
--- one of so many numbers is enough for so many words and their breaks
-pub room-enough : (size k words : ℕ) → size ≡ k → words * 15 ≤ k → words * 15 ≤ size
-room-enough size k words e h = omega arith
-
-pub room-breaks : (quick : Bool) (size words : ℕ) → words ≡ roomFor quick size → quick ≡ false → words * 15 ≤ size
-unfolding roomFor
-room-breaks true size words e q = absurd (true≢false q)
-room-breaks false size words e q = omega arith
 
 -- none of them is for more words than a paragraph may have
 pub room-few : (quick : Bool) (size k : ℕ) → size ≡ k → (quick ≡ true → k ≤ 7168) → (quick ≡ false → k ≤ 15360) → roomFor quick size ≤ mostWords

@@ -28,7 +28,7 @@ enum Ahead {
     End(usize),
 }
 
-// How far the work went: to the end of the digest, of so many bytes, or to a paragraph of more words than it may have here.
+// How far the tables reach: to the end of the digest, of so many bytes, or to a paragraph of more words than they have room for.
 enum Course {
     End(usize),
     Short { c: Cursor, p: Paragraph },
@@ -255,14 +255,12 @@ fn put_lines(o: Options, block: &[u8], notes: &[u8], from: Cursor, out: &mut [u8
 // The most words that a paragraph may have.
 const MOST_WORDS: usize = 1024;
 
-// Knuth-Plass's rooms: for so many words, and in numbers, of which a word takes fifteen.
-const FEW_WORDS: usize = 40;
-
-const MORE_WORDS: usize = 196;
+// The rooms, in numbers: with quick for the most words, with seven for each; with Knuth-Plass for 40, 260 and the most, with fifteen.
+const QUICK_MOST: usize = 7168;
 
 const BEST_FEW: usize = 600;
 
-const BEST_MORE: usize = 2940;
+const BEST_MORE: usize = 3900;
 
 const BEST_MOST: usize = 15360;
 
@@ -271,7 +269,7 @@ const FEW_BYTES: usize = 240;
 
 const MORE_BYTES: usize = 960;
 
-// Quick, for paragraphs of every length that they may have. It does without working room.
+// Quick, for paragraphs whose bytes show that they have no more words than they may: these need no room.
 fn put_quick(
     o: Options,
     block: &[u8],
@@ -285,6 +283,25 @@ fn put_quick(
 {
     let mut none = [0u32; 0];
     match put_texts(o, block, notes, c, p, out, MOST_WORDS, &mut none) {
+        Course::End(needed) => Ended::All(needed),
+        Course::Short { c: d, p: q } => put_quick_long(o, block, notes, d, q, out),
+    }
+}
+
+// And for longer ones, whose words have to be counted.
+fn put_quick_long(
+    o: Options,
+    block: &[u8],
+    notes: &[u8],
+    c: Cursor,
+    p: Paragraph,
+    out: &mut [u8],
+) -> Ended
+    requires { ⌜ Admitted (now block) (now notes) o × CursorIn (now notes) c × TextAhead (now block) o (now notes) c p × (o .quick ≡ true) ⌝ }
+    ensures { λ r. ⌜ FinishedFrom mostWords (meant (now (block .entry)) o) (now (notes .entry)) c (now (out .entry)) (now (out .exit)) r ⌝ }
+{
+    let mut work = [0u32; QUICK_MOST];
+    match put_texts(o, block, notes, c, p, out, MOST_WORDS, &mut work) {
         Course::End(needed) => Ended::All(needed),
         Course::Short { c: d, p: _ } => Ended::Stopped(d.at),
     }
@@ -326,7 +343,7 @@ fn put_best_few(
     ensures { λ r. ⌜ FinishedFrom mostWords (meant (now (block .entry)) o) (now (notes .entry)) c (now (out .entry)) (now (out .exit)) r ⌝ }
 {
     let mut work = [0u32; BEST_FEW];
-    match put_texts(o, block, notes, c, p, out, FEW_WORDS, &mut work) {
+    match put_texts(o, block, notes, c, p, out, MOST_WORDS, &mut work) {
         Course::End(needed) => Ended::All(needed),
         Course::Short { c: d, p: q } => put_best_more(o, block, notes, d, q, out),
     }
@@ -345,7 +362,7 @@ fn put_best_more(
     ensures { λ r. ⌜ FinishedFrom mostWords (meant (now (block .entry)) o) (now (notes .entry)) c (now (out .entry)) (now (out .exit)) r ⌝ }
 {
     let mut work = [0u32; BEST_MORE];
-    match put_texts(o, block, notes, c, p, out, MORE_WORDS, &mut work) {
+    match put_texts(o, block, notes, c, p, out, MOST_WORDS, &mut work) {
         Course::End(needed) => Ended::All(needed),
         Course::Short { c: d, p: q } => put_best_long(o, block, notes, d, q, out),
     }
@@ -370,7 +387,8 @@ fn put_best_long(
     }
 }
 
-// Paragraph by paragraph, each with the lines after it, up to one of more than so many words.
+// Paragraph by paragraph, each with the lines after it, as far as the room reaches; quick needs none where a paragraph's bytes show that it
+// has no more than so many words.
 // In the original: `uumain`.
 fn put_texts(
     o: Options,
@@ -382,8 +400,8 @@ fn put_texts(
     limit: usize,
     work: &mut [u32],
 ) -> Course
-    requires { ⌜ Admitted (now block) (now notes) o × CursorIn (now notes) first × TextAhead (now block) o (now notes) first head × (o .quick ≡ false → limit * 15 ≤ length (now work)) ⌝ }
-    ensures { λ r. ⌜ ((most : ℕ) → limit ≤ most → Coursed most limit (now (block .entry)) o (now (notes .entry)) first (now (out .entry)) (now (out .exit)) r) ⌝ }
+    requires { ⌜ Admitted (now block) (now notes) o × CursorIn (now notes) first × TextAhead (now block) o (now notes) first head × (roomFor (o .quick) (length (now work)) ≤ limit) ⌝ }
+    ensures { λ r. ⌜ ((most : ℕ) → limit ≤ most → Coursed most (roomFor (o .quick) (length (now (work .entry)))) (now (block .entry)) o (now (notes .entry)) first (now (out .entry)) (now (out .exit)) r) ⌝ }
 {
     let mut c = first;
     let mut p = head;

@@ -52,10 +52,6 @@ module _ {most : ℕ} {notes : List ℕ} {whole left : List Word} {ps qs : List 
     pub filling-done : left ≡ [] → qs ≡ [] → WordsFilled most notes whole ps t (Words n)
     filling-done e q = (sym (append-nil (wordsIn notes n t)) ∙ rw e at (f .words), sym (append-nil (placesIn n t)) ∙ rw q at (f .places), f .kept)
 
-    pub filling-full : {w : Word} {rest : List Word} → left ≡ w ∷ rest → most ≤ n → WordsFilled most notes whole ps t TooMany
-    filling-full e h =
-        omega (arith, ap length (rw e at (f .words)), simp length-append at (ap length (rw e at (f .words))), words-length notes n t)
-
     pub filling-more : (end : ℕ) (w : Record) {rest : List Word} {gs : List ℕ} → left ≡ meaning (take end notes) w ∷ rest → qs ≡ w .start ∷ gs → n < most → Within (length (take end notes)) w → w .width ≤ length (take end notes)
         → Filling most notes whole rest ps gs (n + 1) (withWord t n w)
     filling-more end w {rest} {gs} e q more inside narrow =

@@ -410,9 +410,7 @@ fn count_line(
     let mut first = !mail;
     let mut punct = false;
     loop {
-        let r = split_some(
-            notes, at, end, mail, first, punct, o, 0, IN_WINDOW, table,
-        );
+        let r = split_some(notes, at, end, mail, first, punct, o, 0, IN_WINDOW, table);
         count += r.count;
         if !r.more {
             return count;

@@ -2,13 +2,18 @@
 use mathlib.Core.Path.{refl, _∙_}
 use native.Mathlib.Omega.{arith}
 use borrow.Author.Needs.{needs}
+use borrow.Author.Tests.{le-leb, lt-leb}
 use Rattle.records.proofs.Marks.{words-same}
+use Rattle.paragraphs.proofs.Tables.{room-holds, roomy}
 use Rattle.paragraphs.proofs.Breaking.{limits-of, split-many, split-few, split-narrow, emitted-is, wrote-as, most-as}
 use Rattle.paragraphs.proofs.put_by_table.Statement.{statement}
 use Rattle.paragraphs.proofs.put_by_table.Tie as tie
 
+room-for-requires : tie.Need-room-for-requires
+room-for-requires c κs = search needs
+
 split-words-requires : tie.Need-split-words-requires
-split-words-requires c κs = let p = c .before .before .before .before .pre in (p .0 .order, p .0 .within, p .0 .short, p .0 .tabLeast, p .0 .tabMost, let h = p .2 in omega (arith, h), p .0 .begins)
+split-words-requires c κs = let p = c .before .before .before .before .before .pre in (p .0 .order, p .0 .within, p .0 .short, p .0 .tabLeast, p .0 .tabMost, room-holds _ _ _ (c .before .room-for .ensures), p .0 .begins)
 
 enum-known-n : tie.Need-enum-known-n
 enum-known-n c = search needs
@@ -20,7 +25,7 @@ same-length : tie.Need-same-length
 same-length c = search needs
 
 returns : tie.Need-returns
-returns c = λ block. (split-many (c .before .before .before .before .split-words .ensures block) (c .enum-told .given .1), refl)
+returns c = λ block. (rw (← c .before .before .before .before .before .before .room-for .ensures) (lt-leb _ _ (split-many (c .before .before .before .before .split-words .ensures block) (c .enum-told .given .1))), refl)
 
 either-requires : tie.Need-either-requires
 either-requires c κs = search needs
@@ -30,7 +35,7 @@ setting-of-requires c κs = search needs
 
 mark-breaks-requires : tie.Need-mark-breaks-requires
 mark-breaks-requires c κs =
-    let p = c .before .before .before .before .before .before .before .before .before .before .before .before .before .pre in
+    let p = c .before .before .before .before .before .before .before .before .before .before .before .before .before .before .pre in
     let s = c .before .before .before .before .before .before .before .before .split-words .ensures (p .0 .block) in
     let w = c .before .before .before .before .n .given .1 in
     let n = split-few s _ w in
@@ -38,7 +43,7 @@ mark-breaks-requires c κs =
       rw (c .before .setting-of .ensures (p .0 .block)) (limits-of _ _ _ _ (p .0) (p .0 .block)),
       omega (arith, n .0, p .0 .some),
       omega (arith, n .0, p .0 .few, p .0 .short),
-      record { held = let h = k .held in let f = k .few in omega (arith, h, f); breaks = λ q. omega (arith, k .few, p .2, c .before .before .before .before .before .before .before .work .given) },
+      roomy (c .before .before .before .before .before .before .before .before .before .before .before .before .before .before .args .o .quick) (c .before .before .before .before .before .before .before .before .before .before .before .before .before .before .args .p .mail) (c .before .before .before .before .before .before .before .work .given) (c .before .before .before .before .before .before .before .before .before .before .room-for .ensures) (k .few) (c .before .before .either .ensures),
       split-narrow s _ w (p .0 .short),
     )
 
@@ -47,7 +52,7 @@ layout-of-requires c κs = search needs
 
 emit-requires : tie.Need-emit-requires
 emit-requires c κs =
-    let p = c .before .before .before .before .before .before .before .before .before .before .before .before .before .before .before .before .before .before .before .pre in
+    let p = c .before .before .before .before .before .before .before .before .before .before .before .before .before .before .before .before .before .before .before .before .pre in
     let s = c .before .before .before .before .before .before .before .before .before .before .before .before .before .before .split-words .ensures (p .0 .block) in
     let w = c .before .before .before .before .before .before .before .before .before .before .n .given .1 in
     let n = split-few s _ w in
@@ -80,7 +85,7 @@ returns-2 c =
     let b = c .before .before .before .before .before .before .before .before .mark-breaks .ensures in
     let l = c .before .before .before .before .layout-of .ensures in
     let e = words-same _ _ _ _ (b .words) ∙ s .words _ w in (
-      split-few s _ w .1,
+      rw (← c .before .before .before .before .before .before .before .before .before .before .before .before .before .before .before .before .before .before .before .room-for .ensures) (le-leb _ _ (split-few s _ w .1)),
       record {
         next = refl;
         mail = refl;
@@ -93,6 +98,7 @@ pub put-by-table-spec : {M : Type 1} → statement M
 put-by-table-spec =
     tie.close
     (tie.spec
+    room-for-requires
     split-words-requires
     enum-known-n
     enum-told

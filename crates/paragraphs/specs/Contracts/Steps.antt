@@ -1,8 +1,9 @@
 -- What the functions of a paragraph's work answer for: the storage lent to them, and a paragraph that was written or has too many words.
 use mathlib.Core.Path.{_≡_}
-use mathlib.Core.Bool.{Bool, false, cond, _||_}
+use mathlib.Core.Bool.{Bool, true, false, cond, _&&_, _||_}
 use mathlib.Core.List.{List}
 use Prim.Native.Nat.{ℕ, _+_, _*_, _/_, _^_, _≤_, _<_}
+use lib.Dec.{leb}
 use lib.ListN.{length}
 use lib.Seq.{slice}
 use Rattle.options.specs.Opts.{meant}
@@ -79,7 +80,12 @@ pub record TextPut (notes : List ℕ) (at : ℕ) (o : Options) (p : Paragraph) (
       out′ (d .written)
   pub bounded : d .written ≤ written + longest (marginOf notes (p .first)) (marginOf notes (p .indent)) (wordsFor block notes at o p)
 
--- or it has more words than the tables hold
-abbrev pub TextStepped : ℕ → List ℕ → ℕ → Options → Paragraph → List ℕ → ℕ → List ℕ → Step → List ℕ → Type 0
-TextStepped longest notes at o p out written out′ (On d) block = (length (wordsFor block notes at o p) ≤ longest) × TextPut notes at o p out written out′ d block
-TextStepped longest notes at o p out written out′ Over block = (longest < length (wordsFor block notes at o p)) × (out′ ≡ out)
+-- Whether a paragraph is taken: with quick, where its bytes show that it has no more than so many words, of which every second one at most
+-- begins one; else if there is room for its words.
+abbrev pub takes : Bool → ℕ → ℕ → ℕ → ℕ → Bool
+takes quick bytes most room words = quick && leb ((bytes + 1) / 2) most || leb words room
+
+-- it is written if it is taken, and else nothing is
+abbrev pub TextStepped : Bool → List ℕ → ℕ → Options → Paragraph → List ℕ → ℕ → List ℕ → Step → List ℕ → Type 0
+TextStepped taken notes at o p out written out′ (On d) block = (taken ≡ true) × TextPut notes at o p out written out′ d block
+TextStepped taken notes at o p out written out′ Over block = (taken ≡ false) × (out′ ≡ out)

@@ -1,6 +1,5 @@
 -- `regular::is_gap` meets its contract.
 use mathlib.Core.Bool.{false≢true}
-use native.Mathlib.Omega.{arith}
 use borrow.Author.Needs.{needs}
 use Rattle.regular.proofs.Words.{gap-none, gap-one}
 use Rattle.regular.proofs.is_gap.Statement.{statement}

@@ -1,5 +1,4 @@
 -- `regular::put_quick` meets its contract.
-use mathlib.Core.Path.{_∙_}
 use native.Mathlib.Omega.{arith}
 use borrow.Author.Needs.{needs}
 use Rattle.regular.specs.Contracts.Regular.{quickOn}

@@ -7,7 +7,6 @@ use borrow.Author.Tests.{not-true, not-false}
 use lib.ListN.{length}
 use Rattle.output.proofs.Sink.{left-length, wrote-length}
 use Rattle.output.specs.Contracts.Writers.{marginOf}
-use Rattle.options.specs.Opts.{meant}
 use Rattle.records.specs.Contracts.Table.{Holds}
 use Rattle.words.proofs.Filling.{kept-none}
 use Rattle.regular.specs.Contracts.Places.{standing}

@@ -3,7 +3,6 @@ use native.Mathlib.Omega.{arith}
 use borrow.Author.Needs.{needs}
 use denote.Ref.{now}
 use lib.Seq.{length-slice}
-use Rattle.output.proofs.Sink.{wrote-length}
 use Rattle.regular.proofs.Words.{put-head, put-fresh, put-on, put-stays}
 use Rattle.regular.proofs.put_word.Statement.{statement}
 use Rattle.regular.proofs.put_word.Tie as tie

@@ -1,11 +1,12 @@
 -- `walk::put_best_long` meets its contract: what the tables reach, or the paragraph of too many words.
-use mathlib.Core.Path.{refl}
+use mathlib.Core.Path.{refl, sym, _∙_}
+use mathlib.Core.Bool.{true≢false}
 use native.Mathlib.Omega.{arith}
 use borrow.Author.Needs.{needs}
 use Rattle.output.proofs.Sink.{wrote-length}
 use Rattle.walk.specs.Digest.{mostWords}
 use Rattle.walk.proofs.Loop.{going-length, course-end, course-short}
-use Rattle.walk.proofs.Steps.{begins-long, room-enough}
+use Rattle.walk.proofs.Steps.{begins-long, room-few, room-last}
 use Rattle.walk.proofs.put_best_long.Statement.{statement}
 use Rattle.walk.proofs.put_best_long.Tie as tie
 
@@ -13,7 +14,7 @@ slice-aggregate-put-texts : tie.Need-slice-aggregate-put-texts
 slice-aggregate-put-texts c = search needs
 
 put-texts-requires : tie.Need-put-texts-requires
-put-texts-requires c κs = let p = c .before .before .before .before .before .pre in (p .0, p .1, p .2, λ e. room-enough _ 15360 1024 refl (omega arith))
+put-texts-requires c κs = let p = c .before .before .before .before .before .pre in (p .0, p .1, p .2, room-few _ _ 15360 refl (λ e. absurd (true≢false (sym e ∙ p .3))) (λ e. omega arith))
 
 enum-known-needed : tie.Need-enum-known-needed
 enum-known-needed c = search needs
@@ -31,7 +32,7 @@ same-length-2 : tie.Need-same-length-2
 same-length-2 c = let t = course-short _ _ _ _ _ _ _ _ (c .before .before .before .before .before .before .put-texts .result) (c .before .before .before .before .before .before .put-texts .ensures mostWords (omega arith)) (c .before .d .given .1) in going-length _ _ _ (t .0)
 
 returns-2 : tie.Need-returns-2
-returns-2 c = let t = course-short _ _ _ _ _ _ _ _ (c .before .before .before .before .before .before .put-texts .result) (c .before .before .before .before .before .before .put-texts .ensures mostWords (omega arith)) (c .before .d .given .1) in begins-long _ _ _ _ _ (c .before .before .before .before .before .before .before .before .before .before .before .before .pre .0) (t .1) _ _ _ _ (t .0) (t .2)
+returns-2 c = let t = course-short _ _ _ _ _ _ _ _ (c .before .before .before .before .before .before .put-texts .result) (c .before .before .before .before .before .before .put-texts .ensures mostWords (omega arith)) (c .before .d .given .1) in begins-long _ _ _ _ _ (c .before .before .before .before .before .before .before .before .before .before .before .before .pre .0) (t .1) _ _ _ _ (t .0) (room-last _ _ _ 15360 refl (t .2) (λ e. absurd (true≢false (sym e ∙ c .before .before .before .before .before .before .before .before .before .before .before .before .pre .3))) (λ e. omega arith))
 
 pub put-best-long-spec : {M : Type 1} → statement M
 put-best-long-spec =

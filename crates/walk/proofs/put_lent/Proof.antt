@@ -1,9 +1,12 @@
 -- `walk::put_lent` meets its contract: the room reaches to the end.
 use native.Mathlib.Omega.{arith}
 use borrow.Author.Needs.{needs}
+use denote.Ref.{now}
+use lib.ListN.{length}
 use Rattle.output.proofs.Sink.{wrote-length}
+use Rattle.paragraphs.specs.Contracts.Steps.{roomFor}
 use Rattle.walk.proofs.Loop.{course-end, course-short, going-length}
-use Rattle.walk.proofs.Steps.{begins-long, room-breaks}
+use Rattle.walk.proofs.Steps.{begins-long}
 use Rattle.walk.proofs.Unique.{nowhere-else}
 use Rattle.walk.proofs.put_lent.Statement.{statement}
 use Rattle.walk.proofs.put_lent.Tie as tie
@@ -12,7 +15,7 @@ room-for-requires : tie.Need-room-for-requires
 room-for-requires c κs = search needs
 
 put-texts-requires : tie.Need-put-texts-requires
-put-texts-requires c κs = let p = c .before .before .before .before .before .before .before .pre in (p .0, p .1, p .2, room-breaks _ _ _ (c .before .before .room-for .ensures))
+put-texts-requires c κs = let p = c .before .before .before .before .before .before .before .pre in (p .0, p .1, p .2, omega (arith, c .before .before .room-for .ensures))
 
 enum-known-needed : tie.Need-enum-known-needed
 enum-known-needed c = search needs
@@ -21,25 +24,25 @@ enum-known-d : tie.Need-enum-known-d
 enum-known-d c = search needs
 
 same-length : tie.Need-same-length
-same-length c = wrote-length (course-end _ _ _ _ _ _ _ _ (c .before .before .before .before .before .before .before .put-texts .result) (c .before .before .before .before .before .before .before .put-texts .ensures (c .before .before .before .before .before .before .before .before .before .before .room-for .result) (omega arith)) (c .before .needed .given .1) .1)
+same-length c = wrote-length (course-end _ _ _ _ _ _ _ _ (c .before .before .before .before .before .before .before .put-texts .result) (c .before .before .before .before .before .before .before .put-texts .ensures (roomFor (c .before .before .before .before .before .before .before .before .before .before .before .before .before .before .before .args .o .quick) (length (now (c .before .before .before .before .before .before .before .before .before .before .before .before .before .before .before .args .work)))) (omega (arith, c .before .before .before .before .before .before .before .before .before .before .room-for .ensures))) (c .before .needed .given .1) .1)
 
 same-length-2 : tie.Need-same-length-2
 same-length-2 c = search needs
 
 returns : tie.Need-returns
-returns c = course-end _ _ _ _ _ _ _ _ (c .before .before .before .before .before .before .before .put-texts .result) (c .before .before .before .before .before .before .before .put-texts .ensures (c .before .before .before .before .before .before .before .before .before .before .room-for .result) (omega arith)) (c .before .needed .given .1) .1
+returns c = course-end _ _ _ _ _ _ _ _ (c .before .before .before .before .before .before .before .put-texts .result) (c .before .before .before .before .before .before .before .put-texts .ensures (roomFor (c .before .before .before .before .before .before .before .before .before .before .before .before .before .before .before .args .o .quick) (length (now (c .before .before .before .before .before .before .before .before .before .before .before .before .before .before .before .args .work)))) (omega (arith, c .before .before .before .before .before .before .before .before .before .before .room-for .ensures))) (c .before .needed .given .1) .1
 
 same-length-3 : tie.Need-same-length-3
-same-length-3 c = let t = course-short _ _ _ _ _ _ _ _ (c .before .before .before .before .before .before .before .put-texts .result) (c .before .before .before .before .before .before .before .put-texts .ensures (c .before .before .before .before .before .before .before .before .before .before .room-for .result) (omega arith)) (c .before .d .given .1) in going-length _ _ _ (t .0)
+same-length-3 c = let t = course-short _ _ _ _ _ _ _ _ (c .before .before .before .before .before .before .before .put-texts .result) (c .before .before .before .before .before .before .before .put-texts .ensures (roomFor (c .before .before .before .before .before .before .before .before .before .before .before .before .before .before .before .args .o .quick) (length (now (c .before .before .before .before .before .before .before .before .before .before .before .before .before .before .before .args .work)))) (omega (arith, c .before .before .before .before .before .before .before .before .before .before .room-for .ensures))) (c .before .d .given .1) in going-length _ _ _ (t .0)
 
 same-length-4 : tie.Need-same-length-4
 same-length-4 c = search needs
 
 returns-2 : tie.Need-returns-2
 returns-2 c =
-    let t = course-short _ _ _ _ _ _ _ _ (c .before .before .before .before .before .before .before .put-texts .result) (c .before .before .before .before .before .before .before .put-texts .ensures (c .before .before .before .before .before .before .before .before .before .before .room-for .result) (omega arith)) (c .before .d .given .1) in
+    let t = course-short _ _ _ _ _ _ _ _ (c .before .before .before .before .before .before .before .put-texts .result) (c .before .before .before .before .before .before .before .put-texts .ensures (roomFor (c .before .before .before .before .before .before .before .before .before .before .before .before .before .before .before .args .o .quick) (length (now (c .before .before .before .before .before .before .before .before .before .before .before .before .before .before .before .args .work)))) (omega (arith, c .before .before .before .before .before .before .before .before .before .before .room-for .ensures))) (c .before .d .given .1) in
     let p = c .before .before .before .before .before .before .before .before .before .before .before .before .before .before .before .pre in
-    nowhere-else (rw (← c .before .before .before .before .before .before .before .before .before .before .room-for .ensures) at (p .3)) (begins-long _ _ _ _ _ (p .0) (t .1) (c .before .before .before .before .before .before .before .before .before .before .room-for .result) _ _ _ (t .0) (t .2) .0)
+    nowhere-else (p .3) (begins-long _ _ _ _ _ (p .0) (t .1) (roomFor (c .before .before .before .before .before .before .before .before .before .before .before .before .before .before .before .args .o .quick) (length (now (c .before .before .before .before .before .before .before .before .before .before .before .before .before .before .before .args .work)))) _ _ _ (t .0) (t .2) .0)
 
 pub put-lent-spec : {M : Type 1} → statement M
 put-lent-spec =

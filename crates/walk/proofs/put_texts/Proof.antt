@@ -31,7 +31,7 @@ put-paragraph-requires c κs =
     let p = c .before .before .before .before .before .before .before .pre in
     let i = c .before .before .loop .inv in
     let g = i .0 (c .before .before .before .before .before .before .before .args .limit) (omega arith) in
-    (begins-placed _ _ _ _ _ (p .0) (i .1), omega (arith, p .0 .short, g .stands .bounded, g .stands .within), λ q. omega (arith, p .3 q, i .2))
+    (begins-placed _ _ _ _ _ (p .0) (i .1), omega (arith, p .0 .short, g .stands .bounded, g .stands .within))
 
 enum-known-behind : tie.Need-enum-known-behind Inv-loop μ-loop
 enum-known-behind c = search needs
@@ -42,7 +42,7 @@ enum-told c = search needs
 same-length : tie.Need-same-length Inv-loop μ-loop
 same-length c =
     let i = c .before .before .before .before .before .before .before .before .before .loop .inv in
-    let b = begins-over _ _ _ _ _ (c .before .before .before .before .before .before .before .before .before .before .before .before .before .before .pre .0) (i .1) _ _ _ (c .before .before .before .before .before .before .put-paragraph .result) (c .before .before .before .before .before .before .put-paragraph .ensures (now (c .before .before .before .before .before .before .before .before .before .before .before .before .before .before .args .block))) (c .enum-told .given .1) in
+    let b = begins-over _ _ _ _ _ (c .before .before .before .before .before .before .before .before .before .before .before .before .before .before .pre .0) (i .1) _ _ _ _ (c .before .before .before .before .before .before .put-paragraph .result) (c .before .before .before .before .before .before .put-paragraph .ensures (now (c .before .before .before .before .before .before .before .before .before .before .before .before .before .before .args .block))) (c .enum-told .given .1) in
     ap length (b .1) ∙ going-length _ _ _ (i .0 (c .before .before .before .before .before .before .before .before .before .before .before .before .before .before .args .limit) (omega arith))
 
 same-length-2 : tie.Need-same-length-2 Inv-loop μ-loop
@@ -51,13 +51,13 @@ same-length-2 c = c .before .before .before .work .given ∙ c .before .before .
 returns : tie.Need-returns Inv-loop μ-loop
 returns c most few =
     let i = c .before .before .before .before .before .before .before .before .before .loop .inv in
-    let b = begins-over _ _ _ _ _ (c .before .before .before .before .before .before .before .before .before .before .before .before .before .before .pre .0) (i .1) _ _ _ (c .before .before .before .before .before .before .put-paragraph .result) (c .before .before .before .before .before .before .put-paragraph .ensures (now (c .before .before .before .before .before .before .before .before .before .before .before .before .before .before .args .block))) (c .enum-told .given .1) in
-    (rw (b .1) (i .0 most few), i .1, b .0)
+    let b = begins-over _ _ _ _ _ (c .before .before .before .before .before .before .before .before .before .before .before .before .before .before .pre .0) (i .1) _ _ _ _ (c .before .before .before .before .before .before .put-paragraph .result) (c .before .before .before .before .before .before .put-paragraph .ensures (now (c .before .before .before .before .before .before .before .before .before .before .before .before .before .before .args .block))) (c .enum-told .given .1) in
+    (rw (b .1) (i .0 most few), i .1, rw (i .2) at (b .0))
 
 put-lines-requires : tie.Need-put-lines-requires Inv-loop μ-loop
 put-lines-requires c κs =
     let i = c .before .before .before .before .before .before .before .before .before .before .before .loop .inv in
-    let s = begins-stepped _ _ _ _ _ (c .before .before .before .before .before .before .before .before .before .before .before .before .before .before .before .before .pre .0) (i .1) (c .before .before .before .before .before .before .before .before .before .before .before .before .before .before .before .before .args .limit) _ _ _ (c .before .before .before .before .before .before .before .before .put-paragraph .result) _ (omega arith) (c .before .before .before .before .before .before .before .before .put-paragraph .ensures (now (c .before .before .before .before .before .before .before .before .before .before .before .before .before .before .before .before .args .block))) (c .before .before .behind .given .1) in
+    let s = begins-stepped _ _ _ _ _ (c .before .before .before .before .before .before .before .before .before .before .before .before .before .before .before .before .pre .0) (i .1) (c .before .before .before .before .before .before .before .before .before .before .before .before .before .before .before .before .args .limit) _ _ _ _ (c .before .before .before .before .before .before .before .before .put-paragraph .result) _ (omega arith) (rw (i .2) (c .before .before .before .before .before .before .before .before .before .before .before .before .before .before .before .before .pre .3)) (c .before .before .before .before .before .before .before .before .put-paragraph .ensures (now (c .before .before .before .before .before .before .before .before .before .before .before .before .before .before .before .before .args .block))) (c .before .before .behind .given .1) in
     (c .before .before .before .before .before .before .before .before .before .before .before .before .before .before .before .before .pre .0, going-on _ _ _ (i .0 (c .before .before .before .before .before .before .before .before .before .before .before .before .before .before .before .before .args .limit) (omega arith)) s .stands)
 
 enum-known-needed : tie.Need-enum-known-needed Inv-loop μ-loop
@@ -66,7 +66,7 @@ enum-known-needed c = search needs
 same-length-3 : tie.Need-same-length-3 Inv-loop μ-loop
 same-length-3 c =
     let i = c .before .before .before .before .before .before .before .before .before .before .before .before .before .before .before .before .before .loop .inv in
-    let s = begins-stepped _ _ _ _ _ (c .before .before .before .before .before .before .before .before .before .before .before .before .before .before .before .before .before .before .before .before .before .before .pre .0) (i .1) (c .before .before .before .before .before .before .before .before .before .before .before .before .before .before .before .before .before .before .before .before .before .before .args .limit) _ _ _ (c .before .before .before .before .before .before .before .before .before .before .before .before .before .before .put-paragraph .result) _ (omega arith) (c .before .before .before .before .before .before .before .before .before .before .before .before .before .before .put-paragraph .ensures (now (c .before .before .before .before .before .before .before .before .before .before .before .before .before .before .before .before .before .before .before .before .before .before .args .block))) (c .before .before .before .before .before .before .before .before .behind .given .1) in
+    let s = begins-stepped _ _ _ _ _ (c .before .before .before .before .before .before .before .before .before .before .before .before .before .before .before .before .before .before .before .before .before .before .pre .0) (i .1) (c .before .before .before .before .before .before .before .before .before .before .before .before .before .before .before .before .before .before .before .before .before .before .args .limit) _ _ _ _ (c .before .before .before .before .before .before .before .before .before .before .before .before .before .before .put-paragraph .result) _ (omega arith) (rw (i .2) (c .before .before .before .before .before .before .before .before .before .before .before .before .before .before .before .before .before .before .before .before .before .before .pre .3)) (c .before .before .before .before .before .before .before .before .before .before .before .before .before .before .put-paragraph .ensures (now (c .before .before .before .before .before .before .before .before .before .before .before .before .before .before .before .before .before .before .before .before .before .before .args .block))) (c .before .before .before .before .before .before .before .before .behind .given .1) in
     wrote-length (going-finished _ _ _ (going-on _ _ _ (i .0 (c .before .before .before .before .before .before .before .before .before .before .before .before .before .before .before .before .before .before .before .before .before .before .args .limit) (omega arith)) s) _ (All _) (reached-end _ _ _ _ _ _ _ (c .before .before .before .before .before .put-lines .result) (c .before .before .before .before .before .put-lines .ensures (c .before .before .before .before .before .before .before .before .before .before .before .before .before .before .before .before .before .before .before .before .before .before .args .limit)) (c .before .needed .given .1)) .1)
 
 same-length-4 : tie.Need-same-length-4 Inv-loop μ-loop
@@ -75,7 +75,7 @@ same-length-4 c = c .before .before .before .before .before .before .before .bef
 returns-2 : tie.Need-returns-2 Inv-loop μ-loop
 returns-2 c most few =
     let i = c .before .before .before .before .before .before .before .before .before .before .before .before .before .before .before .before .before .loop .inv in
-    let s = begins-stepped _ _ _ _ _ (c .before .before .before .before .before .before .before .before .before .before .before .before .before .before .before .before .before .before .before .before .before .before .pre .0) (i .1) most _ _ _ (c .before .before .before .before .before .before .before .before .before .before .before .before .before .before .put-paragraph .result) _ few (c .before .before .before .before .before .before .before .before .before .before .before .before .before .before .put-paragraph .ensures (now (c .before .before .before .before .before .before .before .before .before .before .before .before .before .before .before .before .before .before .before .before .before .before .args .block))) (c .before .before .before .before .before .before .before .before .behind .given .1) in
+    let s = begins-stepped _ _ _ _ _ (c .before .before .before .before .before .before .before .before .before .before .before .before .before .before .before .before .before .before .before .before .before .before .pre .0) (i .1) most _ _ _ _ (c .before .before .before .before .before .before .before .before .before .before .before .before .before .before .put-paragraph .result) _ few (rw (i .2) (c .before .before .before .before .before .before .before .before .before .before .before .before .before .before .before .before .before .before .before .before .before .before .pre .3)) (c .before .before .before .before .before .before .before .before .before .before .before .before .before .before .put-paragraph .ensures (now (c .before .before .before .before .before .before .before .before .before .before .before .before .before .before .before .before .before .before .before .before .before .before .args .block))) (c .before .before .before .before .before .before .before .before .behind .given .1) in
     going-finished _ _ _ (going-on _ _ _ (i .0 most few) s) _ (All _) (reached-end _ _ _ _ _ _ _ (c .before .before .before .before .before .put-lines .result) (c .before .before .before .before .before .put-lines .ensures most) (c .before .needed .given .1))
 
 enum-known-d : tie.Need-enum-known-d Inv-loop μ-loop
@@ -84,7 +84,7 @@ enum-known-d c = search needs
 loop-less : tie.Need-loop-less Inv-loop μ-loop
 loop-less c =
     let i = c .before .before .before .before .before .before .before .before .before .before .before .before .before .before .before .before .before .loop .inv in
-    let s = begins-stepped _ _ _ _ _ (c .before .before .before .before .before .before .before .before .before .before .before .before .before .before .before .before .before .before .before .before .before .before .pre .0) (i .1) (c .before .before .before .before .before .before .before .before .before .before .before .before .before .before .before .before .before .before .before .before .before .before .args .limit) _ _ _ (c .before .before .before .before .before .before .before .before .before .before .before .before .before .before .put-paragraph .result) _ (omega arith) (c .before .before .before .before .before .before .before .before .before .before .before .before .before .before .put-paragraph .ensures (now (c .before .before .before .before .before .before .before .before .before .before .before .before .before .before .before .before .before .before .before .before .before .before .args .block))) (c .before .before .before .before .before .before .before .before .behind .given .1) in
+    let s = begins-stepped _ _ _ _ _ (c .before .before .before .before .before .before .before .before .before .before .before .before .before .before .before .before .before .before .before .before .before .before .pre .0) (i .1) (c .before .before .before .before .before .before .before .before .before .before .before .before .before .before .before .before .before .before .before .before .before .before .args .limit) _ _ _ _ (c .before .before .before .before .before .before .before .before .before .before .before .before .before .before .put-paragraph .result) _ (omega arith) (rw (i .2) (c .before .before .before .before .before .before .before .before .before .before .before .before .before .before .before .before .before .before .before .before .before .before .pre .3)) (c .before .before .before .before .before .before .before .before .before .before .before .before .before .before .put-paragraph .ensures (now (c .before .before .before .before .before .before .before .before .before .before .before .before .before .before .before .before .before .before .before .before .before .before .args .block))) (c .before .before .before .before .before .before .before .before .behind .given .1) in
     let t = reached-text 0 _ _ _ _ _ _ (c .before .before .before .before .before .put-lines .result) (c .before .before .before .before .before .put-lines .ensures 0) (c .before .d .given .1) in
     omega (arith, s .goes .on, t .2, t .0 .stands .within)
 
@@ -93,7 +93,7 @@ loop-again c =
     let i = c .before .before .before .before .before .before .before .before .before .before .before .before .before .before .before .before .before .loop .inv in
     let t = reached-text 0 _ _ _ _ _ _ (c .before .before .before .before .before .put-lines .result) (c .before .before .before .before .before .put-lines .ensures 0) (c .before .d .given .1) in (
       λ most few.
-          let s = begins-stepped _ _ _ _ _ (c .before .before .before .before .before .before .before .before .before .before .before .before .before .before .before .before .before .before .before .before .before .before .pre .0) (i .1) most _ _ _ (c .before .before .before .before .before .before .before .before .before .before .before .before .before .before .put-paragraph .result) _ few (c .before .before .before .before .before .before .before .before .before .before .before .before .before .before .put-paragraph .ensures (now (c .before .before .before .before .before .before .before .before .before .before .before .before .before .before .before .before .before .before .before .before .before .before .args .block))) (c .before .before .before .before .before .before .before .before .behind .given .1) in
+          let s = begins-stepped _ _ _ _ _ (c .before .before .before .before .before .before .before .before .before .before .before .before .before .before .before .before .before .before .before .before .before .before .pre .0) (i .1) most _ _ _ _ (c .before .before .before .before .before .before .before .before .before .before .before .before .before .before .put-paragraph .result) _ few (rw (i .2) (c .before .before .before .before .before .before .before .before .before .before .before .before .before .before .before .before .before .before .before .before .before .before .pre .3)) (c .before .before .before .before .before .before .before .before .before .before .before .before .before .before .put-paragraph .ensures (now (c .before .before .before .before .before .before .before .before .before .before .before .before .before .before .before .before .before .before .before .before .before .before .args .block))) (c .before .before .before .before .before .before .before .before .behind .given .1) in
           let u = reached-text most _ _ _ _ _ _ (c .before .before .before .before .before .put-lines .result) (c .before .before .before .before .before .put-lines .ensures most) (c .before .d .given .1) in
           going-further _ _ _ (going-on _ _ _ (i .0 most few) s) (u .0),
       t .1,

@@ -108,7 +108,7 @@ abbrev pub ClearedFrom : ℕ → Opts → List ℕ → Cursor → List ℕ → L
 ClearedFrom most o notes c out out′ (All n) = FinishedFrom most o notes c out out′ (All n)
 ClearedFrom most o notes c out out′ (Stopped place) = (longFrom most o (c .mail) notes (c .at) ≡ At place) × (out′ ≡ replicate (length out) 0)
 
--- to the end, or to a paragraph of more than so many words
+-- so far as the room reaches, which is for so many words: to the end, or to a paragraph of more words
 abbrev pub Coursed : ℕ → ℕ → List ℕ → Options → List ℕ → Cursor → List ℕ → List ℕ → Course → Type 0
 Coursed most room block o notes c₀ out₀ out (CourseEnd n) = FinishedFrom most (meant block o) notes c₀ out₀ out (All n)
 Coursed most room block o notes c₀ out₀ out (Short c p) =
