@@ -24,7 +24,7 @@ pub record Value (block : List ℕ) (tag start end : ℕ) : Type 0 where
 -- the value of a well-formed field
 module _ (block : List ℕ) (at previous : ℕ) (more : at < length block) (tag end : ℕ) (tags : tag ≡ getD block at 0) (ends : end ≡ at + 3 + number (drop (at + 1) block))
     (well : wellFormed (fieldAt block at previous) ≡ true) where
-  ascends : previous < tag
+  pub ascends : previous < tag
   ascends = pick (ltb previous tag) refl
     where
       pick : (t : Bool) → ltb previous tag ≡ t → previous < tag

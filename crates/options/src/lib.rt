@@ -1,12 +1,13 @@
 // The option block: from any bytes to the accepted options, or the place of the first fault.
 ghost use mathlib.Core.Path.{_≡_};
-ghost use mathlib.Core.Bool.{not, _&&_};
-ghost use Prim.Native.Nat.{_+_, _-_, _/_, _%_, _≤_, _<_, min, max};
+ghost use mathlib.Core.Bool.{cond, not, _&&_};
+ghost use Prim.Native.Nat.{_+_, _-_, _/_, _%_, _^_, _≤_, _<_, min, max};
 ghost use lib.Dec.{eqb};
 ghost use lib.ListN.{length, getD, drop};
 ghost use Rattle.text.specs.declared.Found.the-variants.{Nowhere};
-ghost use Rattle.options.specs.OptionBlock.{number, fields, allowed, wellFormed, firstFault, partOf, numberAt, widthFrom, goalFrom, leastWidth, fits, bit, optionsOf, judged, readBlock};
-ghost use Rattle.options.specs.Contracts.Places.{fieldAt, numberText, prefixText};
+ghost use Rattle.options.specs.OptionBlock.{number, fields, allowed, wellFormed, numberAt, widthFrom, goalFrom, leastWidth, fits, bit, optionsOf, judged, readBlock};
+ghost use Rattle.options.specs.Contracts.Places.{fieldAt, PartsAre, numberText, prefixText};
+ghost use Rattle.options.specs.declared.Part.the-variants.{Given};
 use text::Found;
 
 // The tags of the fields.
@@ -78,32 +79,47 @@ pub enum Block {
     Fault(usize),
 }
 
-// The accepted options, or the place of the first faulty field, or the block's length where the width and goal rule fails.
+// The accepted options, or the place of the first faulty field, or the block's length where the width and goal rule fails. Each field is
+// looked at once, and what it has is kept under its tag.
 // In the original: `uumain`.
 pub fn read_block(block: &[u8]) -> Block
     ensures { λ r. ⌜ r ≡ readBlock (now (block .entry)) ⌝ }
 {
-    let fault = first_fault(block);
-    match fault {
-        Found::At(place) => Block::Fault(place),
-        Found::Nowhere => settle(block),
-    }
-}
-
-// Where the first field starts that is not well formed.
-fn first_fault(block: &[u8]) -> Found
-    ensures { λ r. ⌜ r ≡ firstFault (fields (now (block .entry))) ⌝ }
-{
     let mut at = 0;
     let mut previous = 0;
+    let mut flags = Part::Absent;
+    let mut width = Part::Absent;
+    let mut goal = Part::Absent;
+    let mut tab = Part::Absent;
+    let mut prefix = Part::Absent;
+    let mut skip = Part::Absent;
     while at < block.len() {
         if !well_formed(block, at, previous) {
-            return Found::At(at);
+            return Block::Fault(at);
         }
-        previous = byte_at(block, at);
-        at = field_end(block, at);
+        let tag = byte_at(block, at);
+        let end = field_end(block, at);
+        flags = part_with(flags, FLAGS, tag, at, end);
+        width = part_with(width, WIDTH, tag, at, end);
+        goal = part_with(goal, GOAL, tag, at, end);
+        tab = part_with(tab, TAB, tag, at, end);
+        prefix = part_with(prefix, PREFIX, tag, at, end);
+        skip = part_with(skip, SKIP, tag, at, end);
+        previous = tag;
+        at = end;
     }
-    Found::Nowhere
+    settle(block, flags, width, goal, tab, prefix, skip)
+}
+
+// The part of a tag after a field from at up to end: its value, if it is the tag's own.
+fn part_with(part: Part, own: usize, tag: usize, at: usize, end: usize) -> Part
+    requires { ⌜ at < 2 ^ 63 ⌝ }
+    ensures { λ r. ⌜ r ≡ cond (eqb tag own) (Given (at + 3) end) part ⌝ }
+{
+    if tag == own {
+        return Part::Given { start: at + 3, end };
+    }
+    part
 }
 
 // Tags ascend, the block does not end inside a field, and the value is allowed.
@@ -161,31 +177,45 @@ fn is_prefix(value: &[u8]) -> bool
 }
 
 // The options of a block whose fields are all well formed, if they keep the width and goal rule.
-fn settle(block: &[u8]) -> Block
+fn settle(
+    block: &[u8],
+    flags: Part,
+    width: Part,
+    goal: Part,
+    tab: Part,
+    prefix: Part,
+    skip: Part,
+) -> Block
+    requires { ⌜ PartsAre (now block) flags width goal tab prefix skip ⌝ }
     ensures { λ r. ⌜ r ≡ judged (now (block .entry)) (fields (now (block .entry))) Nowhere ⌝ }
 {
-    let least = least_width(part_of(block, WIDTH), part_of(block, GOAL));
-    let o = options_of(block);
-    let width = o.width;
-    let goal = o.goal;
-    if fits(least, width, goal) {
+    let least = least_width(width, goal);
+    let o = options_of(block, flags, width, goal, tab, prefix, skip);
+    let columns = o.width;
+    let aim = o.goal;
+    if fits(least, columns, aim) {
         Block::Accepted(o)
     } else {
         Block::Fault(block.len())
     }
 }
 
-// The options by the block's fields; a field that is missing is not given.
+// The options by the parts of the block; one that is missing is not given.
 // In the original: `uumain`.
-fn options_of(block: &[u8]) -> Options
+fn options_of(
+    block: &[u8],
+    flag_part: Part,
+    width: Part,
+    goal: Part,
+    tab_part: Part,
+    prefix: Part,
+    skip: Part,
+) -> Options
+    requires { ⌜ PartsAre (now block) «flag_part» width goal «tab_part» prefix skip ⌝ }
     ensures { λ r. ⌜ r ≡ optionsOf (now (block .entry)) (fields (now (block .entry))) ⌝ }
 {
-    let flags = number_or(block, part_of(block, FLAGS), 0);
-    let width = part_of(block, WIDTH);
-    let goal = part_of(block, GOAL);
-    let tab = number_or(block, part_of(block, TAB), 8);
-    let prefix = part_of(block, PREFIX);
-    let skip = part_of(block, SKIP);
+    let flags = number_or(block, flag_part, 0);
+    let tab = number_or(block, tab_part, 8);
     Options {
         crown: is_crown(flags),
         tagged: is_tagged(flags),
@@ -280,21 +310,6 @@ fn fits(least: usize, width: usize, goal: usize) -> bool
         return false;
     }
     width - goal <= goal && width <= 1000
-}
-
-// The part of the block that is the value of a tag's field.
-fn part_of(block: &[u8], tag: usize) -> Part
-    ensures { λ r. ⌜ r ≡ partOf tag (fields (now (block .entry))) ⌝ }
-{
-    let mut at = 0;
-    while at < block.len() {
-        let end = field_end(block, at);
-        if byte_at(block, at) == tag {
-            return Part::Given { start: at + 3, end };
-        }
-        at = end;
-    }
-    Part::Absent
 }
 
 // Where the field at a place ends by the length that it gives, which may be past the block's end.

@@ -4,29 +4,11 @@ use Rattle.options.specs.OptionBlock.{optionsOf}
 use Rattle.options.proofs.options_of.Statement.{statement}
 use Rattle.options.proofs.options_of.Tie as tie
 
-part-of-requires : tie.Need-part-of-requires
-part-of-requires c κs = search needs
-
 number-or-requires : tie.Need-number-or-requires
 number-or-requires c κs = search needs
 
-part-of-requires-2 : tie.Need-part-of-requires-2
-part-of-requires-2 c κs = search needs
-
-part-of-requires-3 : tie.Need-part-of-requires-3
-part-of-requires-3 c κs = search needs
-
-part-of-requires-4 : tie.Need-part-of-requires-4
-part-of-requires-4 c κs = search needs
-
 number-or-requires-2 : tie.Need-number-or-requires-2
 number-or-requires-2 c κs = search needs
-
-part-of-requires-5 : tie.Need-part-of-requires-5
-part-of-requires-5 c κs = search needs
-
-part-of-requires-6 : tie.Need-part-of-requires-6
-part-of-requires-6 c κs = search needs
 
 is-crown-requires : tie.Need-is-crown-requires
 is-crown-requires c κs = search needs
@@ -77,6 +59,7 @@ returns c =
     let w = g .before in
     let s = w .before in
     let f = s .before .before .before .before .before .before .before .before .before .before .before in
+    let p = f .before .before .before .pre in
     rw (
       c .larger .ensures,
       g .goal-of .ensures,
@@ -92,28 +75,22 @@ returns c =
       s .before .before .before .before .before .before .before .before .is-set .ensures,
       s .before .before .before .before .before .before .before .before .before .is-tagged .ensures,
       s .before .before .before .before .before .before .before .before .before .before .is-crown .ensures,
-      f .part-of6 .ensures,
-      f .before .part-of5 .ensures,
-      f .before .before .number-or2 .ensures,
-      f .before .before .before .part-of4 .ensures,
-      f .before .before .before .before .part-of3 .ensures,
-      f .before .before .before .before .before .part-of2 .ensures,
-      f .before .before .before .before .before .before .number-or .ensures,
-      f .before .before .before .before .before .before .before .part-of .ensures,
+      f .number-or2 .ensures,
+      f .before .number-or .ensures,
+      p .isFlags,
+      p .isWidth,
+      p .isGoal,
+      p .isTab,
+      p .isPrefix,
+      p .isSkip,
     )
 
 pub options-of-spec : {M : Type 1} → statement M
 options-of-spec =
     tie.close
     (tie.spec
-    part-of-requires
     number-or-requires
-    part-of-requires-2
-    part-of-requires-3
-    part-of-requires-4
     number-or-requires-2
-    part-of-requires-5
-    part-of-requires-6
     is-crown-requires
     is-tagged-requires
     is-set-requires
