@@ -2,6 +2,7 @@
 use mathlib.Core.Path.{refl}
 use native.Mathlib.Omega.{arith}
 use borrow.Author.Needs.{needs}
+use denote.Ref.{now}
 use Rattle.walk.proofs.Steps.{ready-usable, ready-cleared, found-goes, found-begins, blank-put, plain-put, begins-placed}
 use Rattle.indexer.proofs.Laws.{text-stepped}
 use Rattle.indexer.proofs.put_piece.Statement.{statement}
@@ -67,7 +68,7 @@ returns-3 : tie.Need-returns-3
 returns-3 c =
     let p = c .before .before .before .before .before .before .before .before .before .before .before .before .before .before .before .before .pre in
     let b = found-begins _ _ _ (c .before .before .before .before .before .before .before .before .before .before .before .before .before .before .before .before .args .c) _ (p .2) (c .before .before .before .before .before .before .before .before .before .before .before .next-piece .ensures) (c .before .before .before .before .before .before .before .before .before .p .given .1) in
-    text-stepped _ _ _ _ _ _ (p .0) (p .1) b _ _ (c .before .before .before .before .put-paragraph .result) (rw (c .before .before .before .before .before .before .before .room-for .ensures) at (c .before .before .before .before .put-paragraph .ensures _))
+    text-stepped _ _ _ _ _ _ (p .0) (p .1) b _ _ (c .before .before .before .before .put-paragraph .result) (rw (c .before .before .before .before .before .before .before .room-for .ensures) at (c .before .before .before .before .put-paragraph .ensures (now (c .before .before .before .before .before .before .before .before .before .before .before .before .before .before .before .before .args .block))))
 
 pub put-piece-spec : {M : Type 1} → statement M
 put-piece-spec =
