@@ -2,6 +2,7 @@
 use mathlib.Core.Path.{refl}
 use native.Mathlib.Omega.{arith}
 use borrow.Author.Needs.{needs}
+use denote.Ref.{now}
 use Rattle.walk.proofs.Steps.{ready-usable, ready-cleared, found-goes, found-begins, blank-put, plain-put, begins-placed}
 use Rattle.indexer.proofs.Laws.{text-stepped}
 use Rattle.indexer.proofs.put_piece.Statement.{statement}
@@ -88,7 +89,7 @@ returns-3 c =
     let at-pre = at-next-piece .before .before .before .before .before in
     let p = at-pre .pre in
     let b = found-begins _ _ _ (at-pre .args .c) _ (p .2) (at-next-piece .next-piece .ensures) (at-p .p .given .1) in
-    text-stepped _ _ _ _ _ _ (p .0) (p .1) b _ _ (at-put-paragraph .put-paragraph .result) (rw (at-room .room-for .ensures) at (at-put-paragraph .put-paragraph .ensures _))
+    text-stepped _ _ _ _ _ _ (p .0) (p .1) b _ _ (at-put-paragraph .put-paragraph .result) (rw (at-room .room-for .ensures) at (at-put-paragraph .put-paragraph .ensures (now (at-pre .args .block))))
 
 pub put-piece-spec : {M : Type 1} → statement M
 put-piece-spec =
