@@ -33,18 +33,15 @@ taken-last t block at previous (Given start end) h k = k .whole
 
 module _ {t : ℕ} {block : List ℕ} {at previous : ℕ} {part : Part} (tag end : ℕ) (more : at < length block) (tags : tag ≡ getD block at 0) (ends : end ≡ at + 3 + number (drop (at + 1) block))
     (well : wellFormed (fieldAt block at previous) ≡ true) (k : Taken t block at previous part) where
-  up : previous < tag
-  up = ascends block at previous more tag end tags ends well
-
   own : tag ≡ t → Given (at + 3) end ≡ partOf t (fields block)
   own e =
-      let a : part ≡ Absent = k .ahead (let u = up in omega arith) in
+      let a : part ≡ Absent = k .ahead (let u = ascends block at previous more tag end tags ends well in omega arith) in
       sym (part-here block at previous more tag end tags ends t e) ∙ ap (λ (p : Part). found p (partOf t (rest block at previous))) (sym a) ∙ k .whole
 
   other : (tag ≡ t → ⊥) → Taken t block end tag part
   other n = record {
     whole = ap (found part) (sym (part-later block at previous more tag end tags ends t n)) ∙ k .whole;
-    ahead = λ h. k .ahead (let u = up in omega arith);
+    ahead = λ h. k .ahead (let u = ascends block at previous more tag end tags ends well in omega arith);
   }
 
   pub taken-then : (r : Part) → r ≡ cond (eqb tag t) (Given (at + 3) end) part → Taken t block end tag r
