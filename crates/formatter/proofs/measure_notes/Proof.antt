@@ -14,10 +14,10 @@ enum-known-needed : tie.Need-enum-known-needed
 enum-known-needed c = search needs
 
 returns : tie.Need-returns
-returns c = words-measured _ _ _ _ _ (c .before .before .before .before .measure-all .ensures) (c .before .place .given .1)
+returns c = words-measured _ _ _ _ _ (c .before .before .before .measure-all .ensures) (c .before .place .given .1)
 
 returns-2 : tie.Need-returns-2
-returns-2 c = done-measured _ _ _ _ _ (c .before .before .before .before .measure-all .ensures) (c .before .needed .given .1)
+returns-2 c = done-measured _ _ _ _ _ (c .before .before .before .measure-all .ensures) (c .before .needed .given .1)
 
 pub measure-notes-spec : {M : Type 1} → statement M
 measure-notes-spec =
