@@ -1,5 +1,4 @@
 -- `walk::measure_all` meets its contract.
-use mathlib.Core.List.{[]}
 use borrow.Author.Needs.{needs}
 use Rattle.walk.specs.Digest.{mostWords}
 use Rattle.walk.specs.declared.Ended.the-variants.{All}

@@ -1,5 +1,4 @@
 -- `walk::put_best` meets its contract: each of the three does.
-use native.Mathlib.Omega.{arith}
 use borrow.Author.Needs.{needs}
 use Rattle.walk.proofs.put_best.Statement.{statement}
 use Rattle.walk.proofs.put_best.Tie as tie

@@ -1,6 +1,6 @@
 -- `words::over_spaces` meets its contract. Invariant: what stands before i are spaces.
 use mathlib.Core.Path.{_≡_}
-use Prim.Native.Nat.{_+_, _-_}
+use Prim.Native.Nat.{_-_}
 use native.Mathlib.Omega.{arith}
 use lib.ListN.{length}
 use denote.Ref.{now}
