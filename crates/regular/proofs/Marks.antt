@@ -13,6 +13,7 @@ use Rattle.words.specs.Contracts.Scan.{punctCode}
 use Rattle.output.proofs.Sink.{left-first}
 use Rattle.regular.specs.declared.State.{State}
 use Rattle.regular.specs.declared.Reached.{Reached}
+use Rattle.regular.proofs.Searches.{over}
 use Rattle.regular.specs.Contracts.Regular.{isRegular, stretchWords, lastly, freshPunct, quickOn}
 use Rattle.regular.specs.Contracts.Places.{FirstSpace, Inked, Filled, Joined, EachRegular, Stands, Went}
 use Rattle.regular.proofs.Rest.{on-rest, on-fresh}
@@ -29,11 +30,7 @@ pub regular-above : (b : ℕ) → 127 < b → isRegular b ≡ false
 regular-above b h = let l : 128 ≤ b = omega arith in let k : 32 ≤ b = omega arith in rw (le-leb 32 b k, le-ltb b 128 l)
 
 pub each-more : (s : List ℕ) (from i to : ℕ) → EachRegular s from i → EachRegular s i to → EachRegular s from to
-each-more s from i to a b j h k = pick (ltb j i) refl
-  where
-    pick : (t : Bool) → ltb j i ≡ t → isRegular (getD s j 0) ≡ true
-    pick true l = a j h (ltb-true j i l)
-    pick false l = b j (ltb-false j i l) k
+each-more s from i to a b = over (λ j. isRegular (getD s j 0) ≡ true) from i to a b
 
 -- ---- marks
 

@@ -24,7 +24,7 @@ ghost use Rattle.output.specs.Emission.{lineFeed};
 ghost use Rattle.output.specs.Contracts.Sink.{Wrote};
 ghost use Rattle.output.specs.Contracts.Writers.{marginOf, MarginIn};
 ghost use Rattle.regular.specs.Contracts.Regular.{freshPunct, added};
-ghost use Rattle.regular.specs.Contracts.Places.{LastSpace, FirstSpace, OverSpaces, BeforeSpaces, Inked, CutIs, Filled, Joined, EachRegular, RegularTo, RowIs, Went, Stands, standing, GapIn, WordPut, Listed, Worded, RowPut, Rowed, PutIs};
+ghost use Rattle.regular.specs.Contracts.Places.{Spaceless, LastSpace, FirstSpace, OverSpaces, BeforeSpaces, Inked, CutIs, Filled, Joined, EachRegular, RegularTo, RowIs, Went, Stands, standing, GapIn, WordPut, Listed, Worded, RowPut, Rowed, PutIs};
 
 // A paragraph's work so far: the written end, and the column.
 struct State {
@@ -93,7 +93,7 @@ fn first_space(s: &[u8], from: usize, end: usize) -> usize
     requires { ⌜ (from ≤ end) × (end ≤ length (now s)) ⌝ }
     ensures { λ r. ⌜ FirstSpace (now (s .entry)) from end r ⌝ }
 {
-    let mut i = from;
+    let mut i = spaceless_eights(s, from, end);
     while i < end {
         if s[i] == 32 {
             return i;
@@ -101,6 +101,44 @@ fn first_space(s: &[u8], from: usize, end: usize) -> usize
         i += 1;
     }
     i
+}
+
+// On over bytes that are no space, as long as the next eight are none.
+fn spaceless_eights(s: &[u8], from: usize, end: usize) -> usize
+    requires { ⌜ (from ≤ end) × (end ≤ length (now s)) ⌝ }
+    ensures { λ r. ⌜ (from ≤ r) × (r ≤ end) × Spaceless (now (s .entry)) from r ⌝ }
+{
+    let mut i = from;
+    while 8 <= end - i {
+        if are_spaceless(s, i) {
+            i += 8;
+        } else {
+            return i;
+        }
+    }
+    i
+}
+
+// Whether no space is among the eight bytes at a place.
+fn are_spaceless(s: &[u8], i: usize) -> bool
+    requires { ⌜ (i ≤ length (now s)) × (8 ≤ length (now s) - i) ⌝ }
+    ensures { λ r. ⌜ (r ≡ true → Spaceless (now (s .entry)) i (i + 8)) ⌝ }
+{
+    let b = i + 1;
+    let c = i + 2;
+    let d = i + 3;
+    let e = i + 4;
+    let f = i + 5;
+    let g = i + 6;
+    let h = i + 7;
+    (s[i] != 32)
+        & (s[b] != 32)
+        & (s[c] != 32)
+        & (s[d] != 32)
+        & (s[e] != 32)
+        & (s[f] != 32)
+        & (s[g] != 32)
+        & (s[h] != 32)
 }
 
 // On over the spaces at a place, before an end.

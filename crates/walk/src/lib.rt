@@ -269,8 +269,29 @@ const FEW_BYTES: usize = 240;
 
 const MORE_BYTES: usize = 960;
 
-// Quick, for paragraphs whose bytes show that they have no more words than they may: these need no room.
+// A paragraph of so many bytes has no more words than it may: every second byte at most begins one.
+const SURE_BYTES: usize = 2048;
+
+// Quick. The first paragraph is not read for nothing where its words have to be counted.
 fn put_quick(
+    o: Options,
+    block: &[u8],
+    notes: &[u8],
+    c: Cursor,
+    p: Paragraph,
+    out: &mut [u8],
+) -> Ended
+    requires { ⌜ Admitted (now block) (now notes) o × CursorIn (now notes) c × TextAhead (now block) o (now notes) c p × (o .quick ≡ true) ⌝ }
+    ensures { λ r. ⌜ FinishedFrom mostWords (meant (now (block .entry)) o) (now (notes .entry)) c (now (out .entry)) (now (out .exit)) r ⌝ }
+{
+    if p.next - c.at <= SURE_BYTES {
+        return put_quick_sure(o, block, notes, c, p, out);
+    }
+    put_quick_long(o, block, notes, c, p, out)
+}
+
+// For paragraphs whose bytes show that they have no more words than they may: these need no room.
+fn put_quick_sure(
     o: Options,
     block: &[u8],
     notes: &[u8],
@@ -288,7 +309,7 @@ fn put_quick(
     }
 }
 
-// And for longer ones, whose words have to be counted.
+// For longer ones, whose words have to be counted.
 fn put_quick_long(
     o: Options,
     block: &[u8],

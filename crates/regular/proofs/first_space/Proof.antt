@@ -2,6 +2,7 @@
 use Prim.Native.Nat.{ℕ, _-_, _≤_, _<_}
 use native.Mathlib.Omega.{arith}
 use denote.Ref.{now}
+use borrow.Author.Needs.{needs}
 use Rattle.regular.specs.Contracts.Places.{NoSpace}
 use Rattle.regular.proofs.Searches.{up}
 use Rattle.regular.proofs.first_space.Statement.{statement}
@@ -13,8 +14,11 @@ Inv-loop s from end i₀ i = (from ≤ i) × (i ≤ end) × ((j : ℕ) → from 
 abbrev μ-loop : tie.MeasureT-loop
 μ-loop s from end i₀ i = end - i
 
+spaceless-eights-requires : tie.Need-spaceless-eights-requires Inv-loop μ-loop
+spaceless-eights-requires c κs = search needs
+
 loop-holds : tie.Need-loop-holds Inv-loop μ-loop
-loop-holds c = (omega arith, omega arith, λ j h k. absurd (omega arith))
+loop-holds c = let e = c .spaceless-eights .ensures in (e .0, e .1, e .2)
 
 shared-slice-read-if1 : tie.Need-shared-slice-read-if1 Inv-loop μ-loop
 shared-slice-read-if1 c = omega arith
@@ -29,7 +33,7 @@ loop-less : tie.Need-loop-less Inv-loop μ-loop
 loop-less c = omega arith
 
 loop-again : tie.Need-loop-again Inv-loop μ-loop
-loop-again c = let l = c .before .before .before .loop in (omega arith, omega arith, up (NoSpace (now (c .before .before .before .before .args .s))) _ _ (l .inv .2) (c .if1 .left))
+loop-again c = let l = c .before .before .before .loop in (omega arith, omega arith, up (NoSpace (now (c .before .before .before .before .before .before .args .s))) _ _ (l .inv .2) (c .if1 .left))
 
 returns-2 : tie.Need-returns-2 Inv-loop μ-loop
 returns-2 c = let l = c .before .loop in record { on = omega arith; most = omega arith; space = λ h. absurd (omega arith); none = l .inv .2 }
@@ -40,6 +44,7 @@ first-space-spec =
     (tie.spec
     Inv-loop
     μ-loop
+    spaceless-eights-requires
     loop-holds
     shared-slice-read-if1
     returns

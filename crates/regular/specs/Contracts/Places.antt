@@ -33,6 +33,9 @@ use Rattle.words.specs.Contracts.Taken.{wordsBetween}
 abbrev pub NoSpace : List ℕ → ℕ → Type 0
 NoSpace s i = getD s i 0 ≡ 32 → ⊥
 
+abbrev pub Spaceless : List ℕ → ℕ → ℕ → Type 0
+Spaceless s from to = (i : ℕ) → from ≤ i → i < to → NoSpace s i
+
 -- r is the last space after a place, up to another; or the first place, if there is none
 pub record LastSpace (s : List ℕ) (from to r : ℕ) : Type 0 where
   pub on : from ≤ r

@@ -1,0 +1,54 @@
+-- `regular::spaceless_eights` meets its contract. Invariant: no space stands before i.
+use Prim.Native.Nat.{_-_, _≤_}
+use native.Mathlib.Omega.{arith}
+use denote.Ref.{now}
+use borrow.Author.Needs.{needs}
+use Rattle.regular.specs.Contracts.Places.{NoSpace, Spaceless}
+use Rattle.regular.proofs.Searches.{over}
+use Rattle.regular.proofs.spaceless_eights.Statement.{statement}
+use Rattle.regular.proofs.spaceless_eights.Tie as tie
+
+abbrev Inv-loop : tie.InvT-loop
+Inv-loop s from end i₀ i = (from ≤ i) × (i ≤ end) × Spaceless s from i
+
+abbrev μ-loop : tie.MeasureT-loop
+μ-loop s from end i₀ i = end - i
+
+loop-holds : tie.Need-loop-holds Inv-loop μ-loop
+loop-holds c = (omega arith, omega arith, λ j h k. absurd (omega arith))
+
+sub-loop : tie.Need-sub-loop Inv-loop μ-loop
+sub-loop c = search needs
+
+are-spaceless-requires : tie.Need-are-spaceless-requires Inv-loop μ-loop
+are-spaceless-requires c κs = (omega arith, omega arith)
+
+add-i : tie.Need-add-i Inv-loop μ-loop
+add-i c = omega arith
+
+loop-less : tie.Need-loop-less Inv-loop μ-loop
+loop-less c = omega arith
+
+loop-again : tie.Need-loop-again Inv-loop μ-loop
+loop-again c = (omega arith, omega arith, over (NoSpace (now (c .before .before .before .before .before .args .s))) _ _ _ (c .before .before .before .loop .inv .2) (c .before .are-spaceless .ensures (c .if1 .taken)))
+
+returns : tie.Need-returns Inv-loop μ-loop
+returns c = let l = c .before .before .before .loop .inv in (l .0, l .1, l .2)
+
+returns-2 : tie.Need-returns-2 Inv-loop μ-loop
+returns-2 c = let l = c .before .loop .inv in (l .0, l .1, l .2)
+
+pub spaceless-eights-spec : {M : Type 1} → statement M
+spaceless-eights-spec =
+    tie.close
+    (tie.spec
+    Inv-loop
+    μ-loop
+    loop-holds
+    sub-loop
+    are-spaceless-requires
+    add-i
+    loop-less
+    loop-again
+    returns
+    returns-2)
