@@ -4,10 +4,9 @@ use mathlib.Core.Bool.{Bool, true, false, false≢true}
 use mathlib.Core.List.{List, [], _∷_, _++_}
 use Prim.Native.Nat.{ℕ, zero, suc, _+_, _-_, _≤_, _<_, _^_}
 use native.Mathlib.Omega.{arith}
-use lib.Dec.{ltb}
 use lib.ListN.{length, getD}
 use lib.Seq.{slice, length-slice, slice-empty}
-use borrow.Author.Tests.{le-leb, lt-ltb, lt-leb, le-ltb, ltb-true, ltb-false}
+use borrow.Author.Tests.{le-leb, lt-ltb, lt-leb, le-ltb}
 use Rattle.spacing.specs.declared.Setting.{Setting}
 use Rattle.words.specs.Contracts.Scan.{punctCode}
 use Rattle.output.proofs.Sink.{left-first}
