@@ -49,7 +49,7 @@ int main(int argc, char **argv) {
         fprintf(stderr, "refused: %s %lu\n", in_words(rudignals_code_of(answer)), (unsigned long)rudignals_number_of(answer));
         return 1;
     }
-    /* a full disk may be told on closing only */
+    /* a full disk may be reported only on closing */
     whole = room == 0 || fwrite(output, 1, room, stdout) == room;
     whole = fclose(stdout) == 0 && whole;
     return whole ? 0 : (perror("the digest was not written"), 1);

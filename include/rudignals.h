@@ -142,7 +142,7 @@ enum rudignals_flag {
     RUDIGNALS_KEEP = 256,         /* a line with a damaged character is kept as it is. Without it the notes are refused */
     RUDIGNALS_GLUE = 512,         /* a no-break space (U+00A0) is part of a word, except beside a blank and at the start or end of a line */
     RUDIGNALS_SENTENCE_CHARACTERS = 1024 /* blanks between sentences are counted in characters. Without it they are counted in bytes, as the
-                                          * original does. This shows with uniform alone */
+                                          * original does. It has an effect only with uniform */
 };
 
 /* Room for a block in which each of the six fields is put once, whatever is put. */
@@ -228,16 +228,16 @@ uint64_t rudignals_format(const uint8_t *options, size_t options_len, const uint
 
 /* ---- Large notes ------------------------------------------------------------------------------------------------------------------------ */
 
-/* Notes of up to RUDIGNALS_MOST_LARGE bytes, with paragraphs of any number of words, in working room that the program lends. Each of these
- * calls answers as the call without _large in its name does, except for this:
+/* These calls take notes of up to RUDIGNALS_MOST_LARGE bytes, with paragraphs of any number of words, and use working room that the program
+ * lends. Each answers as the call without _large in its name does, except for this:
  *
  *    2 long, 9 long digest
  *               Above RUDIGNALS_MOST_LARGE bytes.
  *    4 words    Never given. Code 12 has its place in the order.
- *   12 work     The working room is smaller than the call needs. N is how many numbers it needs: with so many the same call does not answer
+ *   12 work     The working room is smaller than the call needs. N is how many numbers it needs: with that many the same call does not answer
  *               12. The output, the index and the reason are unchanged; *filled and *dashes are 0.
- *    5 room     Also for a digest of more than 4294967295 bytes, which no number N can tell: N is then 4294967295. rudignals_measure_large answers
- *               it too.
+ *    5 room     Also for a digest of more than 4294967295 bytes, a length that N has no room for: N is then 4294967295. rudignals_measure_large
+ *               answers it too.
  *
  * work is an array of work_len numbers of 32 bits, with any content. What it holds afterwards is not promised. N of 12 depends on the call, the
  * options and the notes alone. So a program calls with no room, lends N numbers and calls again; or it lends RUDIGNALS_WORK(notes_len) numbers at
@@ -343,8 +343,8 @@ enum rudignals_reason {
 
 /* rudignals_explain - find out why a line of the digest ends where it does
  *
- * Puts the kind and its numbers into reason, for the line of the digest that is counted from 0. It takes the time of measuring, and that of
- * the line's paragraph once more. enum rudignals_reason lists the kinds. The answer, the first that applies:
+ * Puts the kind and its numbers into reason, for the line of the digest that is counted from 0. It takes as long as measuring, and as long
+ * as the line's paragraph takes once more. enum rudignals_reason lists the kinds. The answer, the first that applies:
  *
  *    1 options, 2 long, 3 text, 4 words
  *               As rudignals_measure answers them.
@@ -396,9 +396,9 @@ uint64_t rudignals_panel(const uint8_t *digest, size_t digest_len, uint64_t tab,
 
 /* rudignals_fold - fold a text into rows of at most so many columns
  *
- * Copies a text and puts a line feed before each character that would end after the given columns, unless its row has no character yet.
+ * Copies a text and puts a line feed before each character that would end past the given columns, unless its row has no character yet.
  * A tab goes to the next tab stop, in a new row to the first. A wide character takes 2 columns and a character of width 0 none. Every other
- * character takes 1, a control character and a byte that begins no well-formed character too. A character of width 0 stays in its row; it
+ * character takes 1, and so does a control character or a byte that begins no well-formed character. A character of width 0 stays in its row; it
  * begins a row only at the start of a line. Lines end at line feeds, and a carriage return just before a line feed takes no column. Line ends
  * stay as they are; a missing last line feed stays missing. The time grows with the length. A tab width of 0 acts as 1. The answer, the first
  * that applies:
@@ -408,7 +408,7 @@ uint64_t rudignals_panel(const uint8_t *digest, size_t digest_len, uint64_t tab,
  *    5 room     The folded text is longer than output_len. N is its length. The output is zero.
  *    0 done     N is the length of the folded text, which is in the first N bytes of the output. The bytes after it are unchanged.
  *
- * With two bytes of room for each byte of the text code 5 is never given; this is proved.
+ * With two bytes of room for each byte of the text, code 5 is never given; this is proved.
  */
 uint64_t rudignals_fold(const uint8_t *text, size_t text_len, uint64_t tab, uint64_t columns, uint8_t *output, size_t output_len);
 
@@ -441,7 +441,7 @@ uint64_t rudignals_mend(const uint8_t *notes, size_t notes_len, uint8_t *copy, s
  *               greater than that of the entry before it, or the copy does not have the byte's two bytes at its offset (plus one for each entry
  *               before it).
  *    5 room     The notes are longer than notes_len. N is their length.
- *    0 done     N is the length of the notes: copy_len less the number of entries. The bytes after them are unchanged.
+ *    0 done     N is the length of the notes: copy_len minus the number of entries. The bytes after them are unchanged.
  *
  * On a refusal nothing is written.
  */
