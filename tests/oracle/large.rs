@@ -195,15 +195,17 @@ pub fn linear(tells: bool) -> i32 {
         let block = Opts { flags: Some(flags), ..Opts::default() }.block();
         let mut row = Vec::new();
         for size in [65_536, 262_144, MOST] {
+            // The same 64 KiB again and again, so that the sizes differ in nothing else.
             let mut r = Rng(7);
-            let mut text = prose(&mut r, &Opts::default(), size).replace("\n\n", "\n").replace("\r", "");
+            let mut text = prose(&mut r, &Opts::default(), 65_536).replace("\n\n", "\n").replace("\r", "");
             text = text.split('\n').map(|line| line.trim_start_matches([' ', '\t', '>', '-'])).collect::<Vec<_>>().join("\n");
-            while text.len() < size {
+            while text.len() < 65_536 {
                 text += " word";
             }
-            while text.len() > size || !text.is_char_boundary(text.len()) {
+            while text.len() > 65_535 || !text.is_char_boundary(text.len()) {
                 text.pop();
             }
+            text = (text + "\n").repeat(size / 65_536);
             let notes = text.into_bytes();
             let mut work = vec![0u32; always(notes.len())];
             let mut output = vec![0u8; 4 * notes.len()];
