@@ -16,7 +16,8 @@ use Rattle.output.proofs.Sink.{left-first, left-then}
 use Rattle.regular.specs.declared.Cut.{Cut}
 use Rattle.regular.specs.declared.State.{State}
 use Rattle.regular.specs.Contracts.Regular.{notSpace, lastly, freshPunct}
-use Rattle.regular.specs.Contracts.Places.{NoSpace, Inked, CutAt, Along, Filled}
+use Rattle.regular.specs.Contracts.Places.{NoSpace, Inked, columnsIn, Reaches, CutAt, Along, Filled}
+use Rattle.regular.proofs.Columns.{columns-size}
 use Rattle.regular.proofs.Fronts.{lastly-append, lastly-some}
 use Rattle.regular.proofs.Parts.{part-spaced}
 use Rattle.regular.proofs.Lines.{fresh-marks, fresh-cut, fresh-all}
@@ -39,15 +40,15 @@ module _ (s : List ℕ) (from e : ℕ) (counts : Bool) (g : Setting) (indent : L
   }
 
   module _ (p : ℕ) (counts′ : Bool) (column′ : ℕ) (out′ : List ℕ) (k′ : ℕ) (along : Along s from e counts g indent column out k p counts′ column′ out′ k′) where
-    pub along-turn : (room : ℕ) (r : Cut) → room ≡ g .width - column′ → p + room < e → CutAt s p e room r
+    pub along-turn : (room at : ℕ) (r : Cut) → room ≡ g .width - column′ → Reaches s p e room at → CutAt s p e at r
         → (out″ : List ℕ) (k″ : ℕ) → Wrote out′ k′ (slice p (r .end) s ++ (lineFeed ++ indent)) out″ k″
         → Along s from e counts g indent column out k (r .next) true (g .indent) out″ k″
-    along-turn room r is short cut out″ k″ wrote = record {
+    along-turn room at r is reaches cut out″ k″ wrote = record {
       inked = cut .rest;
       punct = punct;
       left = λ o newLine previous more kept.
           left-then
-          (rw (fresh-cut s o g indent kept even more p e (along .inked) counts′ false false column′ room r is short cut, ← append-inner (slice p (r .end) s) lineFeed indent _) at (along .left o newLine previous more kept))
+          (rw (fresh-cut s o g indent kept even more p e (along .inked) counts′ false false column′ room at r is reaches cut, ← append-inner (slice p (r .end) s) lineFeed indent _) at (along .left o newLine previous more kept))
           wrote;
     }
       where
@@ -65,16 +66,17 @@ module _ (s : List ℕ) (from e : ℕ) (counts : Bool) (g : Setting) (indent : L
             ∙ sym (fresh-spaced counts′ (slice p e s) (part-spaced s p e w (r .end) (omega arith) (omega arith) (cut .spaces (r .end) (omega arith) b)))
             ∙ along .punct
 
-    pub along-done : (column′ + (e - p) ≤ g .width) ⊎ ((i : ℕ) → p ≤ i → i < e → NoSpace s i) → from ≤ p → k′ ≤ k + (p - from) * 2 ^ 34 → column′ ≤ column + g .indent → length s ≤ 2 ^ 20
-        → (out″ : List ℕ) (r : State) → Wrote out′ k′ (slice p e s) out″ (r .written) → r .column ≡ column′ + (e - p) → Filled s from e counts g indent column out k out″ r
-    along-done fits on few near size out″ r wrote at =
+    pub along-done : (column′ + columnsIn s p e ≤ g .width) ⊎ ((i : ℕ) → p ≤ i → i < e → NoSpace s i) → from ≤ p → k′ ≤ k + (p - from) * 2 ^ 34 → column′ ≤ column + g .indent → length s ≤ 2 ^ 20
+        → (out″ : List ℕ) (r : State) → Wrote out′ k′ (slice p e s) out″ (r .written) → r .column ≡ column′ + columnsIn s p e → Filled s from e counts g indent column out k out″ r
+    along-done fits on few near size out″ r wrote is =
         let w = along .inked .within in
         let b = along .inked .on in
         let n = length-slice p e s w in
         let c = wrote .count in
+        let m = columns-size s p e w in
         record {
           left = λ o newLine previous more kept.
-              rw at (left-then (rw (fresh-all s o g indent kept even more p e (along .inked) counts′ false false column′ fits, along .punct) at (along .left o newLine previous more kept)) wrote);
+              rw is (left-then (rw (fresh-all s o g indent kept even more p e (along .inked) counts′ false false column′ fits, along .punct) at (along .left o newLine previous more kept)) wrote);
           most = omega arith;
           reach = omega arith;
         }

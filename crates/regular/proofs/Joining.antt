@@ -18,7 +18,8 @@ use Rattle.output.proofs.Sink.{left-first, left-then}
 use Rattle.regular.specs.declared.Cut.{Cut}
 use Rattle.regular.specs.declared.State.{State}
 use Rattle.regular.specs.Contracts.Regular.{stretchWords, lastly, freshPunct, added, quickRest, quickFresh}
-use Rattle.regular.specs.Contracts.Places.{NoSpace, LastSpace, BeforeSpaces, OverSpaces, Inked, CutAt, CutIs, Filled, Joined}
+use Rattle.regular.specs.Contracts.Places.{NoSpace, LastSpace, BeforeSpaces, OverSpaces, Inked, columnsIn, Reaches, CutAt, CutIs, Filled, Joined}
+use Rattle.regular.proofs.Columns.{columns-size}
 use Rattle.regular.proofs.Cuts.{cut-found}
 use Rattle.regular.proofs.Fronts.{lastly-append, lastly-some}
 use Rattle.regular.proofs.Lines.{next-off, next-cut, next-all}
@@ -33,8 +34,8 @@ added-few false = omega arith
 
 module _ (s : List ℕ) (p e : ℕ) (punct : Bool) (g : Setting) (indent : List ℕ) (column : ℕ) (out : List ℕ) (k : ℕ) (even : g .uniform ≡ false) (inked : Inked s p e) where
   -- all of it stays
-  pub join-all : column + added punct + (e - p) ≤ g .width → length s ≤ 2 ^ 20
-      → (out′ out″ : List ℕ) (k′ : ℕ) (r : State) → Wrote out k (replicate (added punct) 32) out′ k′ → Wrote out′ k′ (slice p e s) out″ (r .written) → r .column ≡ column + added punct + (e - p)
+  pub join-all : column + added punct + columnsIn s p e ≤ g .width → length s ≤ 2 ^ 20
+      → (out′ out″ : List ℕ) (k′ : ℕ) (r : State) → Wrote out k (replicate (added punct) 32) out′ k′ → Wrote out′ k′ (slice p e s) out″ (r .written) → r .column ≡ column + added punct + columnsIn s p e
       → Joined s p e punct g indent column out k out″ r
   join-all fits size out′ out″ k′ r spaces wrote at =
       let w = inked .within in
@@ -44,6 +45,7 @@ module _ (s : List ℕ) (p e : ℕ) (punct : Bool) (g : Setting) (indent : List 
       let few = added-few punct in
       let c = wrote .count in
       let d = spaces .count in
+      let z = columns-size s p e w in
       record {
         left = λ o more kept. rw at (left-then (left-then (rw (next-all s o g indent kept even more p e inked column punct fits) (left-first _ _ _)) spaces) wrote);
         most = omega arith;
@@ -68,30 +70,26 @@ module _ (s : List ℕ) (p e : ℕ) (punct : Bool) (g : Setting) (indent : List 
         }
 
   -- some of its words stay, or none
-  pub join-cut : (room : ℕ) (r : Cut) → room ≡ g .width - (column + added punct) → p + room < e → CutAt s p e room r → r .end ≤ p + room
+  pub join-cut : (room at : ℕ) (r : Cut) → room ≡ g .width - (column + added punct) → Reaches s p e room at → CutAt s p e at r → r .end ≤ at
       → (out′ out″ : List ℕ) (k′ k″ : ℕ) → Wrote out k (replicate (added punct) 32) out′ k′ → Wrote out′ k′ (slice p (r .end) s ++ (lineFeed ++ indent)) out″ k″
       → (o : Opts) (more : List Word) → o .uniform ≡ false
       → Left out k (quickRest g indent column punct (stretchWords o true false (slice p e s) ++ more)) out″ k″ (quickFresh g indent true (g .indent) (stretchWords o false false (slice (r .next) e s) ++ more))
-  join-cut room r is short cut by out′ out″ k′ k″ spaces wrote o more kept =
-      left-then (left-then (rw (next-cut s o g indent kept even more p e inked column punct room r is short cut by, ← append-inner (slice p (r .end) s) lineFeed indent _) (left-first _ _ _)) spaces) wrote
+  join-cut room at r is reaches cut by out′ out″ k′ k″ spaces wrote o more kept =
+      left-then (left-then (rw (next-cut s o g indent kept even more p e inked column punct room at r is reaches cut by, ← append-inner (slice p (r .end) s) lineFeed indent _) (left-first _ _ _)) spaces) wrote
 
-  pub join-off : (room : ℕ) → room ≡ g .width - (column + added punct) → p + room < e → ((i : ℕ) → p < i → i ≤ p + room → NoSpace s i)
+  pub join-off : (room at : ℕ) → room ≡ g .width - (column + added punct) → Reaches s p e room at → ((i : ℕ) → p < i → i ≤ at → NoSpace s i)
       → (out′ : List ℕ) (k′ : ℕ) → Wrote out k (lineFeed ++ indent) out′ k′
       → (o : Opts) (more : List Word) → o .uniform ≡ false
       → Left out k (quickRest g indent column punct (stretchWords o true false (slice p e s) ++ more)) out′ k′ (quickFresh g indent true (g .indent) (stretchWords o false false (slice p e s) ++ more))
-  join-off room is short none out′ k′ wrote o more kept = left-then (rw (next-off s o g indent kept even more p e inked column punct room is short none) (left-first _ _ _)) wrote
+  join-off room at is reaches none out′ k′ wrote o more kept = left-then (rw (next-off s o g indent kept even more p e inked column punct room at is reaches none) (left-first _ _ _)) wrote
 
--- the searches found where it is cut, or that it is not
-module _ (s : List ℕ) (p e begin width room q : ℕ) (inked : Inked s p e) (is : room ≡ width - begin) (long : width < begin + (e - p)) (last : LastSpace s p (p + room) q) where
-  pub join-short : p + room < e
-  join-short = let b = inked .on in omega arith
+-- the searches found where it is cut
+pub join-found : (s : List ℕ) (p e at q : ℕ) → Inked s p e → p ≤ at → at < e → LastSpace s p at q → (end next : ℕ) → p < q → BeforeSpaces s p q end → OverSpaces s (q + 1) e next → CutAt s p e at (record { end = end; next = next })
+join-found s p e at q inked from short last end next l before over = pick (ltb next e) refl
+  where
+    is-cut : CutIs s p e at (record { end = end; next = next })
+    is-cut = cut-found s p e at inked from short q end next last l before over
 
-  pub join-found : (end next : ℕ) → p < q → BeforeSpaces s p q end → OverSpaces s (q + 1) e next → CutAt s p e room (record { end = end; next = next })
-  join-found end next l before over = pick (ltb next e) refl
-    where
-      is-cut : CutIs s p e room (record { end = end; next = next })
-      is-cut = cut-found s p e room inked join-short q end next last l before over
-
-      pick : (t : Bool) → ltb next e ≡ t → CutAt s p e room (record { end = end; next = next })
-      pick true h = is-cut .cut (ltb-true next e h)
-      pick false h = let m = last .most in let k = join-short in absurd (is-cut .lone (ltb-false next e h) q (omega arith) (omega arith) (last .space l))
+    pick : (t : Bool) → ltb next e ≡ t → CutAt s p e at (record { end = end; next = next })
+    pick true h = is-cut .cut (ltb-true next e h)
+    pick false h = let m = last .most in absurd (is-cut .lone (ltb-false next e h) q (omega arith) (omega arith) (last .space l))

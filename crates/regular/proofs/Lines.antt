@@ -17,8 +17,10 @@ use Rattle.records.specs.Word.{Word}
 use Rattle.spacing.specs.declared.Setting.{Setting}
 use Rattle.output.specs.Emission.{lineFeed}
 use Rattle.regular.specs.declared.Cut.{Cut}
-use Rattle.regular.specs.Contracts.Regular.{isSpace, notSpace, stretchWords, lastly, opens, freshPunct, added, quickRest, quickFresh}
-use Rattle.regular.specs.Contracts.Places.{NoSpace, Inked, CutAt}
+use Rattle.regular.specs.Contracts.Regular.{isSpace, notSpace, columns, stretchWords, lastly, opens, freshPunct, added, quickRest, quickFresh}
+use Rattle.regular.specs.Contracts.Places.{NoSpace, Inked, columnsIn, Reaches, CutAt}
+use Rattle.regular.proofs.Columns.{columns-some}
+use Rattle.regular.proofs.Room.{room-fits, room-short, room-passed}
 use Rattle.regular.proofs.Fresh.{no-words, fresh-same, fresh-stays, breaks, next-stays-on, next-breaks-off}
 use Rattle.regular.proofs.Parts.{behind-opens, part-spaces, part-ink, part-opens, part-closed, part-first-space, part-least}
 
@@ -41,7 +43,7 @@ module _ (s : List ℕ) (o : Opts) (g : Setting) (indent : List ℕ) (kept : o .
         rw (while-behind notSpace xs) at (fresh-same o g indent kept more counts newLine previous column [] (while notSpace xs) (behind notSpace xs) (every-nil isSpace) (every-while notSpace xs) ink-some (behind-opens xs))
 
     -- after a gap it breaks, where it does not fit
-    break-at : (column : ℕ) (punct previous : Bool) (gap : List ℕ) → every isSpace gap ≡ true → g .width < column + length gap + length (while notSpace xs)
+    break-at : (column : ℕ) (punct previous : Bool) (gap : List ℕ) → every isSpace gap ≡ true → g .width < column + length gap + columns (while notSpace xs)
         → quickRest g indent column punct (stretchWords o false previous (gap ++ xs) ++ more) ≡ lineFeed ++ (indent ++ quickFresh g indent true (g .indent) (from false false next e))
     break-at column punct previous gap spaced wide =
         rw (while-behind notSpace xs) at (breaks o g indent kept more even column punct previous gap (while notSpace xs) (behind notSpace xs) spaced (every-while notSpace xs) ink-some (behind-opens xs) wide)
@@ -50,39 +52,39 @@ module _ (s : List ℕ) (o : Opts) (g : Setting) (indent : List ℕ) (kept : o .
 
   module _ (p e : ℕ) (inked : Inked s p e) (counts newLine previous : Bool) (column : ℕ) where
     -- the words up to a place, which is their end, begin it
-    fresh-front : (end : ℕ) → p < end → end ≤ e → NoSpace s (end - 1) → opens (slice end e s) ≡ true → (column + (end - p) ≤ g .width) ⊎ ((i : ℕ) → p ≤ i → i < end → NoSpace s i)
+    fresh-front : (end : ℕ) → p < end → end ≤ e → NoSpace s (end - 1) → opens (slice end e s) ≡ true → (column + columnsIn s p end ≤ g .width) ⊎ ((i : ℕ) → p ≤ i → i < end → NoSpace s i)
         → quickFresh g indent counts column (from newLine previous p e)
-        ≡ slice p end s ++ quickRest g indent (column + (end - p)) (freshPunct counts (slice p end s)) (from false (lastly false (slice p end s)) end e)
+        ≡ slice p end s ++ quickRest g indent (column + columnsIn s p end) (freshPunct counts (slice p end s)) (from false (lastly false (slice p end s)) end e)
     fresh-front end some on last next fits =
         let w = inked .within in
-        let n = length-slice p end s (omega arith) in
-        let f : (column + length (slice p end s) ≤ g .width) ⊎ (every notSpace (slice p end s) ≡ true) =
-        ⊎-elim (λ (h : column + (end - p) ≤ g .width). inl (omega arith)) (λ (h : (i : ℕ) → p ≤ i → i < end → NoSpace s i). inr (part-ink s p end (omega arith) h)) fits in
-        rw (slice-join p end e s (omega arith) on w, n) at
+        let f : (column + columns (slice p end s) ≤ g .width) ⊎ (every notSpace (slice p end s) ≡ true) =
+        ⊎-elim (λ (h : column + columnsIn s p end ≤ g .width). inl h) (λ (h : (i : ℕ) → p ≤ i → i < end → NoSpace s i). inr (part-ink s p end (omega arith) h)) fits in
+        rw (slice-join p end e s (omega arith) on w) at
         (fresh-stays o g indent kept more even counts newLine previous column (slice p end s) (slice end e s) (part-opens s p end (omega arith) some (inked .first)) (part-closed s p end (omega arith) some last) next f)
 
     -- as many words as end by the width, or one; the next one breaks
-    pub fresh-cut : (room : ℕ) (r : Cut) → room ≡ g .width - column → p + room < e → CutAt s p e room r
+    pub fresh-cut : (room at : ℕ) (r : Cut) → room ≡ g .width - column → Reaches s p e room at → CutAt s p e at r
         → quickFresh g indent counts column (from newLine previous p e)
         ≡ slice p (r .end) s ++ (lineFeed ++ (indent ++ quickFresh g indent true (g .indent) (from false false (r .next) e)))
-    fresh-cut room r is short cut =
+    fresh-cut room at r is reaches cut =
         let w = inked .within in
         let some = cut .on in
         let gap = cut .gap in
         let on = cut .rest .on in
         let n = length-slice (r .end) (r .next) s (omega arith) in
-        let long = part-least s (r .next) e w (p + room + 1 - r .next) (omega arith) (λ i a b. cut .wide i a (omega arith)) in
-        let least = ink-some (r .next) e (cut .rest) in
-        let fits : (column + (r .end - p) ≤ g .width) ⊎ ((i : ℕ) → p ≤ i → i < r .end → NoSpace s i) = ⊎-elim (λ (h : r .end ≤ p + room). inl (omega arith)) (λ (h : (i : ℕ) → p ≤ i → i < r .end → NoSpace s i). inr h) (cut .fits) in
+        let long = room-passed s p e room at w reaches r cut in
+        let least = columns-some s p (r .end) e some (omega arith) w (inked .letters) in
+        let fits : (column + columnsIn s p (r .end) ≤ g .width) ⊎ ((i : ℕ) → p ≤ i → i < r .end → NoSpace s i) =
+        ⊎-elim (λ (h : r .end ≤ at). inl (let m = room-fits s p e room at w reaches (r .end) (omega arith) h in omega arith)) (λ (h : (i : ℕ) → p ≤ i → i < r .end → NoSpace s i). inr h) (cut .fits) in
         fresh-front (r .end) some (omega arith) (cut .ends) (part-first-space s (r .end) e w (omega arith) (cut .spaces (r .end) (omega arith) gap)) fits
         ∙ ap (λ (l : List ℕ). slice p (r .end) s ++ l)
         (rw (slice-join (r .end) (r .next) e s (omega arith) (omega arith) w) at
-        (break-at (r .next) e (cut .rest) (column + (r .end - p)) (freshPunct counts (slice p (r .end) s)) (lastly false (slice p (r .end) s)) (slice (r .end) (r .next) s)
+        (break-at (r .next) e (cut .rest) (column + columnsIn s p (r .end)) (freshPunct counts (slice p (r .end) s)) (lastly false (slice p (r .end) s)) (slice (r .end) (r .next) s)
         (part-spaces s (r .end) (r .next) (omega arith) (cut .spaces)) (omega arith)))
 
     -- all that is left of the stretch
-    pub fresh-all : (column + (e - p) ≤ g .width) ⊎ ((i : ℕ) → p ≤ i → i < e → NoSpace s i)
-        → quickFresh g indent counts column (from newLine previous p e) ≡ slice p e s ++ quickRest g indent (column + (e - p)) (freshPunct counts (slice p e s)) more
+    pub fresh-all : (column + columnsIn s p e ≤ g .width) ⊎ ((i : ℕ) → p ≤ i → i < e → NoSpace s i)
+        → quickFresh g indent counts column (from newLine previous p e) ≡ slice p e s ++ quickRest g indent (column + columnsIn s p e) (freshPunct counts (slice p e s)) more
     unfolding opens
     fresh-all fits =
         rw (slice-empty e s, no-words) at (fresh-front e (inked .on) (omega arith) (inked .last) (rw (slice-empty e s)) fits)
@@ -91,45 +93,45 @@ module _ (s : List ℕ) (o : Opts) (g : Setting) (indent : List ℕ) (kept : o .
 
   module _ (p e : ℕ) (inked : Inked s p e) (column : ℕ) (punct : Bool) where
     -- where it does not even have a first word's room
-    pub next-off : (room : ℕ) → room ≡ g .width - (column + added punct) → p + room < e → ((i : ℕ) → p < i → i ≤ p + room → NoSpace s i)
+    pub next-off : (room at : ℕ) → room ≡ g .width - (column + added punct) → Reaches s p e room at → ((i : ℕ) → p < i → i ≤ at → NoSpace s i)
         → quickRest g indent column punct (from true false p e) ≡ lineFeed ++ (indent ++ quickFresh g indent true (g .indent) (from false false p e))
-    next-off room is short none =
-        let long = part-least s p e (inked .within) (room + 1) (omega arith) (λ i a b. pick i a b (ltb p i) refl) in
+    next-off room at is reaches none =
+        let long = room-short s p e room at (inked .within) reaches (λ i a b. pick i a b (ltb p i) refl) in
         rw (while-behind notSpace (slice p e s)) at
         (next-breaks-off o g indent kept more column punct (while notSpace (slice p e s)) (behind notSpace (slice p e s)) (every-while notSpace (slice p e s)) (ink-some p e inked) (behind-opens (slice p e s)) (omega arith))
       where
-        pick : (i : ℕ) → p ≤ i → i < p + (room + 1) → (t : Bool) → ltb p i ≡ t → NoSpace s i
-        pick i a b true q = none i (ltb-true p i q) (omega arith)
+        pick : (i : ℕ) → p ≤ i → i ≤ at → (t : Bool) → ltb p i ≡ t → NoSpace s i
+        pick i a b true q = none i (ltb-true p i q) b
         pick i a b false q = let z : i ≡ p = omega (arith, ltb-false p i q) in rw z (inked .first)
 
-    next-front : (end : ℕ) → p < end → end ≤ e → NoSpace s (end - 1) → opens (slice end e s) ≡ true → column + added punct + (end - p) ≤ g .width
+    next-front : (end : ℕ) → p < end → end ≤ e → NoSpace s (end - 1) → opens (slice end e s) ≡ true → column + added punct + columnsIn s p end ≤ g .width
         → quickRest g indent column punct (from true false p e)
-        ≡ replicate (added punct) 32 ++ (slice p end s ++ quickRest g indent (column + added punct + (end - p)) (lastly false (slice p end s)) (from false (lastly false (slice p end s)) end e))
+        ≡ replicate (added punct) 32 ++ (slice p end s ++ quickRest g indent (column + added punct + columnsIn s p end) (lastly false (slice p end s)) (from false (lastly false (slice p end s)) end e))
     next-front end some on last next fits =
         let w = inked .within in
-        let n = length-slice p end s (omega arith) in
-        rw (slice-join p end e s (omega arith) on w, n) at
-        (next-stays-on o g indent kept more even column punct (slice p end s) (slice end e s) (part-opens s p end (omega arith) some (inked .first)) (part-closed s p end (omega arith) some last) next (omega arith))
+        rw (slice-join p end e s (omega arith) on w) at
+        (next-stays-on o g indent kept more even column punct (slice p end s) (slice end e s) (part-opens s p end (omega arith) some (inked .first)) (part-closed s p end (omega arith) some last) next fits)
 
     -- as many words as end by the width; the next one breaks
-    pub next-cut : (room : ℕ) (r : Cut) → room ≡ g .width - (column + added punct) → p + room < e → CutAt s p e room r → r .end ≤ p + room
+    pub next-cut : (room at : ℕ) (r : Cut) → room ≡ g .width - (column + added punct) → Reaches s p e room at → CutAt s p e at r → r .end ≤ at
         → quickRest g indent column punct (from true false p e)
         ≡ replicate (added punct) 32 ++ (slice p (r .end) s ++ (lineFeed ++ (indent ++ quickFresh g indent true (g .indent) (from false false (r .next) e))))
-    next-cut room r is short cut by =
+    next-cut room at r is reaches cut by =
         let w = inked .within in
         let some = cut .on in
         let gap = cut .gap in
         let on = cut .rest .on in
         let n = length-slice (r .end) (r .next) s (omega arith) in
-        let long = part-least s (r .next) e w (p + room + 1 - r .next) (omega arith) (λ i a b. cut .wide i a (omega arith)) in
-        let least = ink-some (r .next) e (cut .rest) in
+        let long = room-passed s p e room at w reaches r cut in
+        let least = columns-some s p (r .end) e some (omega arith) w (inked .letters) in
+        let fits = room-fits s p e room at w reaches (r .end) (omega arith) by in
         next-front (r .end) some (omega arith) (cut .ends) (part-first-space s (r .end) e w (omega arith) (cut .spaces (r .end) (omega arith) gap)) (omega arith)
         ∙ ap (λ (l : List ℕ). replicate (added punct) 32 ++ (slice p (r .end) s ++ l))
         (rw (slice-join (r .end) (r .next) e s (omega arith) (omega arith) w) at
-        (break-at (r .next) e (cut .rest) (column + added punct + (r .end - p)) (lastly false (slice p (r .end) s)) (lastly false (slice p (r .end) s)) (slice (r .end) (r .next) s)
+        (break-at (r .next) e (cut .rest) (column + added punct + columnsIn s p (r .end)) (lastly false (slice p (r .end) s)) (lastly false (slice p (r .end) s)) (slice (r .end) (r .next) s)
         (part-spaces s (r .end) (r .next) (omega arith) (cut .spaces)) (omega arith)))
 
-    pub next-all : column + added punct + (e - p) ≤ g .width
-        → quickRest g indent column punct (from true false p e) ≡ replicate (added punct) 32 ++ (slice p e s ++ quickRest g indent (column + added punct + (e - p)) (lastly false (slice p e s)) more)
+    pub next-all : column + added punct + columnsIn s p e ≤ g .width
+        → quickRest g indent column punct (from true false p e) ≡ replicate (added punct) 32 ++ (slice p e s ++ quickRest g indent (column + added punct + columnsIn s p e) (lastly false (slice p e s)) more)
     unfolding opens
     next-all fits = rw (slice-empty e s, no-words) at (next-front e (inked .on) (omega arith) (inked .last) (rw (slice-empty e s)) fits)

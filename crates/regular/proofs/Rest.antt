@@ -13,7 +13,7 @@ use Rattle.spacing.specs.declared.Setting.{Setting}
 use Rattle.output.specs.Emission.{lineFeed, spaceBefore, emitRest}
 use Rattle.quick.specs.Quick.{quickFrom}
 use Rattle.quick.proofs.Width.{reachedBy}
-use Rattle.regular.specs.Contracts.Regular.{plainWord, lastly, added, quickRest, quickFresh, quickOn}
+use Rattle.regular.specs.Contracts.Regular.{columns, plainWord, lastly, added, quickRest, quickFresh, quickOn}
 
 module _ (g : Setting) (indent : List ℕ) where
   -- of any words
@@ -29,32 +29,32 @@ module _ (g : Setting) (indent : List ℕ) where
 
   -- of a word of regular bytes, not the first of its line
   module _ (even : g .uniform ≡ false) (column : ℕ) (punct previous : Bool) (sp ink : List ℕ) (ws : List Word) where
-    reach : reachedBy g column punct (plainWord false previous sp ink) ≡ column + length sp + length ink
+    reach : reachedBy g column punct (plainWord false previous sp ink) ≡ column + length sp + columns ink
     unfolding gapWidth addedSpace
-    reach = rw even (let e : column + length sp + 0 + length ink ≡ column + length sp + length ink = omega arith in e)
+    reach = rw even (let e : column + length sp + 0 + columns ink ≡ column + length sp + columns ink = omega arith in e)
 
-    pub plain-stays : column + length sp + length ink ≤ g .width
-        → quickRest g indent column punct (plainWord false previous sp ink ∷ ws) ≡ sp ++ (ink ++ quickRest g indent (column + length sp + length ink) (lastly false ink) ws)
+    pub plain-stays : column + length sp + columns ink ≤ g .width
+        → quickRest g indent column punct (plainWord false previous sp ink ∷ ws) ≡ sp ++ (ink ++ quickRest g indent (column + length sp + columns ink) (lastly false ink) ws)
     unfolding spaceBefore addedSpace
     plain-stays h = word-stays column punct (plainWord false previous sp ink) ws (rw reach (le-ltb _ _ h)) ∙ rw (reach, even)
 
-    pub plain-breaks : g .width < column + length sp + length ink
+    pub plain-breaks : g .width < column + length sp + columns ink
         → quickRest g indent column punct (plainWord false previous sp ink ∷ ws) ≡ lineFeed ++ (indent ++ quickFresh g indent true (g .indent) (plainWord false previous sp ink ∷ ws))
     plain-breaks h = word-breaks column punct (plainWord false previous sp ink) ws (rw reach (lt-ltb _ _ h))
 
   -- of the first word of a line after another one, whose last word's punctuation is known
   module _ (column : ℕ) (punct : Bool) (ink : List ℕ) (ws : List Word) where
-    reach-next : reachedBy g column punct (plainWord true false [] ink) ≡ column + added punct + length ink
+    reach-next : reachedBy g column punct (plainWord true false [] ink) ≡ column + added punct + columns ink
     unfolding gapWidth addedSpace
-    reach-next = rw (or-true (g .uniform)) (let e : column + 0 + cond punct 2 1 + length ink ≡ column + cond punct 2 1 + length ink = omega arith in e)
+    reach-next = rw (or-true (g .uniform)) (let e : column + 0 + cond punct 2 1 + columns ink ≡ column + cond punct 2 1 + columns ink = omega arith in e)
 
-    pub next-stays : column + added punct + length ink ≤ g .width
-        → quickRest g indent column punct (plainWord true false [] ink ∷ ws) ≡ replicate (added punct) 32 ++ (ink ++ quickRest g indent (column + added punct + length ink) (lastly false ink) ws)
+    pub next-stays : column + added punct + columns ink ≤ g .width
+        → quickRest g indent column punct (plainWord true false [] ink ∷ ws) ≡ replicate (added punct) 32 ++ (ink ++ quickRest g indent (column + added punct + columns ink) (lastly false ink) ws)
     unfolding spaceBefore addedSpace
     next-stays h =
         word-stays column punct (plainWord true false [] ink) ws (rw reach-next (le-ltb _ _ h)) ∙ rw (reach-next, or-true (g .uniform), append-nil (replicate {A = ℕ} (cond punct 2 1) 32))
 
-    pub next-breaks : g .width < column + added punct + length ink
+    pub next-breaks : g .width < column + added punct + columns ink
         → quickRest g indent column punct (plainWord true false [] ink ∷ ws) ≡ lineFeed ++ (indent ++ quickFresh g indent true (g .indent) (plainWord true false [] ink ∷ ws))
     next-breaks h = word-breaks column punct (plainWord true false [] ink) ws (rw reach-next (lt-ltb _ _ h))
 

@@ -1,4 +1,4 @@
--- A paragraph's line, if it is regular: its words are those of its stretch, without the spaces at its end.
+-- A paragraph's line, if it is of regular bytes and letters of two: its words are those of its stretch, without the spaces at its end.
 use mathlib.Core.Path.{_≡_, refl, sym, ap, _∙_}
 use mathlib.Core.Bool.{Bool, true, false, not}
 use mathlib.Core.Logic.{inl}
@@ -8,7 +8,7 @@ use native.Mathlib.Omega.{arith}
 use lib.Dec.{ltb, eqb}
 use lib.ListN.{length, getD, take, length-append}
 use lib.Seq.{slice, length-slice, length-take-le, getD-take}
-use borrow.Author.Tests.{ltb-true, ltb-false, eq-eqb, leb-true, le-leb, lt-leb}
+use borrow.Author.Tests.{ltb-true, ltb-false, eq-eqb, le-leb, lt-leb}
 use Rattle.lists.specs.Runs.{while, behind, every}
 use Rattle.lists.proofs.Runs.{while-more}
 use Rattle.lists.proofs.Parts.{behind-nil, every-cons}
@@ -25,19 +25,20 @@ use Rattle.words.specs.Contracts.Places.{wordsAt}
 use Rattle.words.proofs.WordRuns.{words-none}
 use Rattle.words.proofs.LineEnds.{behindEnd, LineEnds, line-ends, same-ends}
 use Rattle.words.proofs.Rows.{LineAt, line-at}
-use Rattle.regular.specs.Contracts.Regular.{isSpace, isRegular, regularGlyph, stretchWords, lastly, closed, opens}
-use Rattle.regular.specs.Contracts.Places.{NoSpace, BeforeSpaces, RegularTo, RowIs}
-use Rattle.regular.proofs.Stretch.{gl, and-true, behind-all, word-first, blanks-are}
-use Rattle.regular.proofs.Glyphs.{regular-glyphs, regular-words}
+use Rattle.regular.specs.Contracts.Regular.{isSpace, spelled, byteGlyph, spelling, stretchWords, lastly, closed, opens}
+use Rattle.regular.specs.Contracts.Places.{NoSpace, BeforeSpaces, columnsIn, RowIs}
+use Rattle.regular.proofs.Stretch.{and-true, behind-all, space-first, word-first, blanks-are}
+use Rattle.regular.proofs.Spelling.{spelled-front, spelled-least}
+use Rattle.regular.proofs.Glyphs.{spelled-glyphs, spelled-words}
 use Rattle.regular.proofs.Fronts.{front, closed-some, opens-append}
 use Rattle.regular.proofs.Fresh.{no-words}
-use Rattle.regular.proofs.Parts.{part-spaces, part-closed, part-at, part-all}
+use Rattle.regular.proofs.Parts.{part-spaces, part-closed, part-at}
 
 -- ---- spaces at a line's end
 
 spaces-none : (o : Opts) (newLine previous : Bool) (sp : List ℕ) → every isSpace sp ≡ true → stretchWords o newLine previous sp ≡ []
 unfolding stretchWords wordsFrom
-spaces-none o newLine previous sp h = words-none o false newLine previous (gl sp) (ap (behind isBlank) (sym (append-nil (gl sp))) ∙ behind-all isBlank (gl sp) [] (blanks-are sp h) ∙ behind-nil isBlank)
+spaces-none o newLine previous sp h = words-none o false newLine previous (spelling sp) (ap (behind isBlank) (sym (append-nil (spelling sp))) ∙ behind-all isBlank (spelling sp) [] (blanks-are sp h) ∙ behind-nil isBlank)
 
 spaces-open : (sp : List ℕ) → every isSpace sp ≡ true → opens sp ≡ true
 unfolding opens
@@ -87,14 +88,15 @@ trailing o kept newLine previous s from e end within before = pick (ltb from e) 
 
 -- ---- a line of a paragraph
 
--- a regular byte is none below the space
-regular-not : (c b : ℕ) → isRegular b ≡ true → c < 32 → b ≡ c → ⊥
-regular-not c b h l q = let t = leb-true 32 b (and-true _ _ h .0) in omega arith
-
 -- a line that begins with ink begins with no space
-ink-first : (xs : List ℕ) → while isBlank (gl xs) ≡ [] → 0 < length xs → NoSpace xs 0
+ink-first : (xs : List ℕ) → while isBlank (spelling xs) ≡ [] → 0 < length xs → NoSpace xs 0
 ink-first [] h l = absurd (omega arith)
-ink-first (x ∷ xs) h l = λ q. let k = while-more isBlank (regularGlyph x) (gl xs) (eq-eqb x 32 q) in let z : _≡_ {A = List Glyph} (regularGlyph x ∷ while isBlank (gl xs)) [] = sym k ∙ h in let n : _≡_ {A = ℕ} 0 1 = cc in omega arith
+ink-first (x ∷ xs) h l = λ q.
+    let e = eq-eqb x 32 q in
+    let k = ap (while isBlank) (space-first x xs e) ∙ while-more isBlank (byteGlyph x) (spelling xs) e in
+    let z : _≡_ {A = List Glyph} (byteGlyph x ∷ while isBlank (spelling xs)) [] = sym k ∙ h in
+    let n : _≡_ {A = ℕ} 0 1 = cc in
+    omega arith
 
 module _ (o : Opts) (kept : o .uniform ≡ false) (skip later : ℕ) (s : List ℕ) (next i : ℕ) (x : Extent) (more : i < next) (fits : next ≤ length s) (found : x ≡ lengthsOf (firstLine (slice i next s)))
     (begins : AllBegin (o .glue) skip later (linesOf (slice i next s))) where
@@ -105,9 +107,9 @@ module _ (o : Opts) (kept : o .uniform ≡ false) (skip later : ℕ) (s : List �
   row-begins = (omega (arith, line .starts refl), omega (arith, line .shorter), line .within)
 
   -- the stretch without the spaces at its end
-  stretch-is : every isRegular (slice (i + skip) (i + x .text) s) ≡ true → (e : ℕ) → BeforeSpaces s (i + skip) (i + x .text) e
-      → RowIs o skip later s next i (record { from = i + skip; end = e; next = i + x .whole; regular = true })
-  stretch-is is e before =
+  stretch-is : spelled false (slice (i + skip) (i + x .text) s) ≡ true → (e : ℕ) → BeforeSpaces s (i + skip) (i + x .text) e → (n : ℕ) → n ≡ columnsIn s (i + skip) e
+      → RowIs o skip later s next i (record { from = i + skip; end = e; columns = n; next = i + x .whole; regular = true })
+  stretch-is spelt e before n count =
       let a = line .on in
       let b = line .within in
       let c = line .shorter in
@@ -119,11 +121,20 @@ module _ (o : Opts) (kept : o .uniform ≡ false) (skip later : ℕ) (s : List �
         some = before .on;
         within = omega arith;
         rest = line .rest refl;
-        inked = λ l. record { on = l; within = omega arith; first = first l; last = before .ink l };
+        inked = λ l. record { on = l; within = omega arith; letters = letters; first = first l; last = before .ink l };
+        counts = count;
         words = line .words ∙ ap (λ (ws : List Word). ws ++ wordsAt o false later later (linesOf (slice (i + x .whole) next s)))
-            (regular-words o true false true (slice (i + skip) (i + x .text) s) is ∙ trailing o kept true false s (i + skip) e (i + x .text) (omega arith) before);
+            (spelled-words o true false true (slice (i + skip) (i + x .text) s) spelt ∙ trailing o kept true false s (i + skip) e (i + x .text) (omega arith) before);
       }
     where
+      letters : spelled false (slice (i + skip) e s) ≡ true
+      letters =
+          let b = line .within in
+          let c = line .shorter in
+          let m = before .most in
+          let fit : i + x .text ≤ length s = omega arith in
+          spelled-front false (slice (i + skip) e s) (slice e (i + x .text) s) (part-spaces s e (i + x .text) fit (before .spaces)) (rw (slice-join (i + skip) e (i + x .text) s (before .on) m fit) spelt)
+
       first : i + skip < e → NoSpace s (i + skip)
       first l =
           let b = line .within in
@@ -132,10 +143,10 @@ module _ (o : Opts) (kept : o .uniform ≡ false) (skip later : ℕ) (s : List �
           let n = length-slice (i + skip) (i + x .text) s (omega arith) in
           let z : i + skip + 0 ≡ i + skip = omega arith in
           rw (part-at s (i + skip) (i + x .text) (omega arith) 0 (omega arith), z) at
-          (ink-first (slice (i + skip) (i + x .text) s) (rw (regular-glyphs (o .glue) true (slice (i + skip) (i + x .text) s) is) at (line .ink refl)) (omega arith))
+          (ink-first (slice (i + skip) (i + x .text) s) (rw (spelled-glyphs (o .glue) true (slice (i + skip) (i + x .text) s) spelt) at (line .ink refl)) (omega arith))
 
-  -- the line ends where its regular bytes do, at a line feed or at the paragraph's end
-  module _ (end : ℕ) (to : RegularTo s (i + skip) next end) (fed : end < next → getD s end 0 ≡ 10) (behind : ℕ) (behinds : (end < next → behind ≡ end + 1) × (next ≤ end → behind ≡ end)) where
+  -- the line ends where such bytes do, at a line feed or at the paragraph's end
+  module _ (end : ℕ) (on : i + skip ≤ end) (most : end ≤ next) (spelt : spelled false (slice (i + skip) end s) ≡ true) (fed : end < next → getD s end 0 ≡ 10) (behind : ℕ) (behinds : (end < next → behind ≡ end + 1) × (next ≤ end → behind ≡ end)) where
     abbrev text : List ℕ
     text = take next s
 
@@ -154,27 +165,34 @@ module _ (o : Opts) (kept : o .uniform ≡ false) (skip later : ℕ) (s : List �
     over = pick (ltb end next) refl
       where
         pick : (t : Bool) → ltb end next ≡ t → i + skip + (behind - (i + skip)) ≡ behind
-        pick true l = omega (arith, to .on, behinds .0 (ltb-true end next l))
-        pick false l = omega (arith, to .on, behinds .1 (ltb-false end next l))
+        pick true l = omega (arith, on, behinds .0 (ltb-true end next l))
+        pick false l = omega (arith, on, behinds .1 (ltb-false end next l))
+
+    least : (j : ℕ) → i + skip ≤ j → j < end → 32 ≤ getD s j 0
+    least j a b =
+        let fit : end ≤ length s = omega arith in
+        let size = length-slice (i + skip) end s fit in
+        let z : i + skip + (j - (i + skip)) ≡ j = omega arith in
+        rw (part-at s (i + skip) end fit (j - (i + skip)) (omega arith), z) at (spelled-least false (slice (i + skip) end s) spelt (j - (i + skip)) (omega arith))
 
     ends : LineEnds text (i + skip) (record { text = end - (i + skip); whole = behind - (i + skip) })
     ends =
-        let z : i + skip + (end - (i + skip)) ≡ end = omega (arith, to .on) in
+        let z : i + skip + (end - (i + skip)) ≡ end = omega (arith, on) in
         record {
           ends = rw z (record {
-            on = to .on;
-            within = omega (arith, to .most, size);
-            feedless = λ j a b q. regular-not 10 (getD s j 0) (to .all j a b) (omega arith) (sym (getD-take next s j 0 (omega (arith, to .most, b))) ∙ q);
-            returnless = λ j a b q r. regular-not 13 (getD s j 0) (to .all j a b) (omega arith) (sym (getD-take next s j 0 (omega (arith, to .most, b))) ∙ q);
+            on = on;
+            within = omega (arith, most, size);
+            feedless = λ j a b q. let l = least j a b in let g = getD-take next s j 0 (omega (arith, most, b)) in omega arith;
+            returnless = λ j a b q r. let l = least j a b in let g = getD-take next s j 0 (omega (arith, most, b)) in omega arith;
             ends = λ l. let h : end < next = omega (arith, size, l) in inl (getD-take next s end 0 h ∙ fed h);
           });
           whole = rw z (over ∙ behind-is);
         }
 
-    pub row-is : (e : ℕ) → BeforeSpaces s (i + skip) end e → RowIs o skip later s next i (record { from = i + skip; end = e; next = behind; regular = true })
-    row-is e before =
-        let n = size in
-        let m = same-ends (line-ends text i (omega (arith, n, more)) x found) ends (omega arith) (row-begins .0) in
-        let a : i + x .text ≡ end = omega (arith, m .0, to .on) in
+    pub row-is : (e : ℕ) → BeforeSpaces s (i + skip) end e → (n : ℕ) → n ≡ columnsIn s (i + skip) e → RowIs o skip later s next i (record { from = i + skip; end = e; columns = n; next = behind; regular = true })
+    row-is e before n count =
+        let k = size in
+        let m = same-ends (line-ends text i (omega (arith, k, more)) x found) ends (omega arith) (row-begins .0) in
+        let a : i + x .text ≡ end = omega (arith, m .0, on) in
         let b : i + x .whole ≡ behind = sym (m .1) ∙ over in
-        rw b at (stretch-is (rw a (part-all s (i + skip) end (omega (arith, to .most, fits)) isRegular (to .all))) e (rw a before))
+        rw b at (stretch-is (rw a spelt) e (rw a before) n count)

@@ -1,5 +1,5 @@
-// Quick, written as it is read. On a regular line a byte is a column, so that the words that stay are those that end by one place, and the
-// last space up to it is looked for; any other line goes word by word.
+// Quick, written as it is read. On a line of ASCII and letters of two bytes the columns are the bytes that begin a character, so that the
+// words that stay are those that end by one place, and the last space up to it is looked for; any other line goes word by word.
 use options::Options;
 use pieces::Margin;
 use records::Word;
@@ -23,8 +23,8 @@ ghost use Rattle.words.specs.Contracts.Split.{Kept};
 ghost use Rattle.output.specs.Emission.{lineFeed};
 ghost use Rattle.output.specs.Contracts.Sink.{Wrote};
 ghost use Rattle.output.specs.Contracts.Writers.{marginOf, MarginIn};
-ghost use Rattle.regular.specs.Contracts.Regular.{freshPunct, added};
-ghost use Rattle.regular.specs.Contracts.Places.{Spaceless, LastSpace, FirstSpace, OverSpaces, BeforeSpaces, Inked, CutIs, Filled, Joined, EachRegular, RegularTo, RowIs, Went, Stands, standing, GapIn, WordPut, Listed, Worded, RowPut, Rowed, PutIs};
+ghost use Rattle.regular.specs.Contracts.Regular.{columnOf, freshPunct, added};
+ghost use Rattle.regular.specs.Contracts.Places.{Spaceless, LastSpace, FirstSpace, OverSpaces, BeforeSpaces, Inked, columnsIn, Reaches, OverIs, CutIs, Filled, Joined, EachRegular, RegularTo, SpelledTo, RowIs, Went, Stands, standing, GapIn, WordPut, Listed, Worded, RowPut, Rowed, PutIs};
 
 // A paragraph's work so far: the written end, and the column.
 struct State {
@@ -32,12 +32,25 @@ struct State {
     column: usize,
 }
 
-// The stretch of a line's words and the line after it, if its bytes are regular.
+// The stretch of a line's words with its columns, and the line after it, if its bytes are regular or letters of two.
 struct Row {
     from: usize,
     end: usize,
+    columns: usize,
     next: usize,
     regular: bool,
+}
+
+// A place, and how many columns are left to take from it on.
+struct Over {
+    at: usize,
+    left: usize,
+}
+
+// Where regular bytes and letters of two end, and how many letters there are.
+struct Letters {
+    end: usize,
+    count: usize,
 }
 
 // Where a paragraph stands: the written end, the column, the mark of the last word, and whether its first word is still to come.
@@ -172,12 +185,122 @@ fn before_spaces(s: &[u8], from: usize, to: usize) -> usize
     i
 }
 
-// The words of a stretch that go on a fresh line with room for so many columns, where not all of them do.
-fn cut_line(s: &[u8], p: usize, e: usize, room: usize) -> Cut
-    requires { ⌜ Inked (now s) p e × (p + room < e) ⌝ }
-    ensures { λ r. ⌜ CutIs (now (s .entry)) p e room r ⌝ }
+// How many columns a byte begins.
+fn column_of(b: u8) -> usize
+    ensures { λ r. ⌜ (r ≡ columnOf b) × (r ≤ 1) ⌝ }
 {
-    let at = p + room;
+    if b / 64 == 2 {
+        return 0;
+    }
+    1
+}
+
+// The columns of eight bytes at a place.
+fn columns_of_eight(s: &[u8], i: usize) -> usize
+    requires { ⌜ (i ≤ length (now s)) × (8 ≤ length (now s) - i) ⌝ }
+    ensures { λ r. ⌜ (r ≡ columnsIn (now (s .entry)) i (i + 8)) × (r ≤ 8) ⌝ }
+{
+    let b = i + 1;
+    let c = i + 2;
+    let d = i + 3;
+    let e = i + 4;
+    let f = i + 5;
+    let g = i + 6;
+    let h = i + 7;
+    column_of(s[i])
+        + column_of(s[b])
+        + column_of(s[c])
+        + column_of(s[d])
+        + column_of(s[e])
+        + column_of(s[f])
+        + column_of(s[g])
+        + column_of(s[h])
+}
+
+// The columns between two places.
+fn columns_between(s: &[u8], from: usize, to: usize) -> usize
+    requires { ⌜ (from ≤ to) × (to ≤ length (now s)) × (length (now s) ≤ 2 ^ 20) ⌝ }
+    ensures { λ r. ⌜ r ≡ columnsIn (now (s .entry)) from to ⌝ }
+{
+    let mut i = from;
+    let mut n = 0;
+    while i < to {
+        n += column_of(s[i]);
+        i += 1;
+    }
+    n
+}
+
+// On over columns of a stretch, eight bytes at a time: fewer than eight are left to take.
+fn over_eights(s: &[u8], p: usize, e: usize, room: usize) -> Over
+    requires { ⌜ (p ≤ e) × (e ≤ length (now s)) × (room < columnsIn (now s) p e) ⌝ }
+    ensures { λ r. ⌜ OverIs (now (s .entry)) p e room r ⌝ }
+{
+    let mut i = p;
+    let mut left = room;
+    while 8 <= left {
+        left -= columns_of_eight(s, i);
+        i += 8;
+    }
+    Over { at: i, left }
+}
+
+// Where a stretch has taken so many columns, and a character begins.
+fn place_after(s: &[u8], p: usize, e: usize, room: usize) -> usize
+    requires { ⌜ (p ≤ e) × (e ≤ length (now s)) × (room < columnsIn (now s) p e) ⌝ }
+    ensures { λ r. ⌜ Reaches (now (s .entry)) p e room r ⌝ }
+{
+    let over = over_eights(s, p, e, room);
+    let mut i = over.at;
+    let mut left = over.left;
+    loop {
+        let n = column_of(s[i]);
+        if left < n {
+            return i;
+        }
+        left -= n;
+        i += 1;
+    }
+}
+
+// The same; where each byte of the stretch is a column, it need not be looked for.
+fn place_of(s: &[u8], p: usize, e: usize, columns: usize, room: usize) -> usize
+    requires { ⌜ (p ≤ e) × (e ≤ length (now s)) × (columns ≡ columnsIn (now s) p e) × (room < columns) ⌝ }
+    ensures { λ r. ⌜ Reaches (now (s .entry)) p e room r ⌝ }
+{
+    if columns == e - p {
+        return p + room;
+    }
+    place_after(s, p, e, room)
+}
+
+// The columns before a stretch's next word, where it has taken so many at a place near it.
+fn columns_before(
+    s: &[u8],
+    p: usize,
+    e: usize,
+    columns: usize,
+    at: usize,
+    room: usize,
+    next: usize,
+) -> usize
+    requires { ⌜ (p ≤ next) × (next ≤ e) × (e ≤ length (now s)) × (length (now s) ≤ 2 ^ 20) × (columns ≡ columnsIn (now s) p e) × Reaches (now s) p e room at ⌝ }
+    ensures { λ r. ⌜ r ≡ columnsIn (now (s .entry)) p next ⌝ }
+{
+    if columns == e - p {
+        return next - p;
+    }
+    if next <= at {
+        return room - columns_between(s, next, at);
+    }
+    room + columns_between(s, at, next)
+}
+
+// The words of a stretch that go on a fresh line and end by a place, where not all of them do.
+fn cut_line(s: &[u8], p: usize, e: usize, at: usize) -> Cut
+    requires { ⌜ Inked (now s) p e × (p ≤ at) × (at < e) ⌝ }
+    ensures { λ r. ⌜ CutIs (now (s .entry)) p e at r ⌝ }
+{
     let q = last_space(s, p, at);
     if p < q {
         let end = before_spaces(s, p, q);
@@ -233,40 +356,45 @@ fn put_line(s: &[u8], from: usize, to: usize, indent: Margin, out: &mut [u8], k:
     break_at(s, indent, out, j)
 }
 
-// A regular stretch on fresh lines.
+// A stretch of so many columns on fresh lines.
 fn fill(
     s: &[u8],
     from: usize,
     e: usize,
+    columns: usize,
     counts: bool,
     g: Setting,
     indent: Margin,
     st: State,
     out: &mut [u8],
 ) -> State
-    requires { ⌜ Inked (now s) from e × (g .uniform ≡ false) × MarginIn (length (now s)) indent × (length (now s) ≤ 2 ^ 20) × (st .written < 2 ^ 62 + 2 ^ 60) × (st .column < 2 ^ 61) × (g .indent < 2 ^ 61) ⌝ }
+    requires { ⌜ Inked (now s) from e × (columns ≡ columnsIn (now s) from e) × (g .uniform ≡ false) × MarginIn (length (now s)) indent × (length (now s) ≤ 2 ^ 20) × (st .written < 2 ^ 62 + 2 ^ 60) × (st .column < 2 ^ 61) × (g .indent < 2 ^ 61) ⌝ }
     ensures { λ r. ⌜ Filled (now (s .entry)) from e counts g (marginOf (now (s .entry)) indent) (st .column) (now (out .entry)) (st .written) (now (out .exit)) r ⌝ }
 {
     let mut p = from;
     let mut k = st.written;
     let mut column = st.column;
     let mut counting = counts;
-    while g.width < column + (e - p) {
-        let cut = cut_line(s, p, e, room_of(g.width, column));
+    let mut left = columns;
+    while g.width < column + left {
+        let room = room_of(g.width, column);
+        let at = place_of(s, p, e, left, room);
+        let cut = cut_line(s, p, e, at);
         if cut.next == e {
             return State {
                 written: put_at(s, p, e, out, k),
-                column: column + (e - p),
+                column: column + left,
             };
         }
         k = put_line(s, p, cut.end, indent, out, k);
+        left -= columns_before(s, p, e, left, at, room, cut.next);
         p = cut.next;
         column = g.indent;
         counting = true;
     }
     State {
         written: put_at(s, p, e, out, k),
-        column: column + (e - p),
+        column: column + left,
     }
 }
 
@@ -289,41 +417,45 @@ fn spaces_at(count: usize, out: &mut [u8], k: usize) -> usize
     k + output::put_added(count, &mut out[place..])
 }
 
-// The next line's regular stretch, after a line of output that has begun: punct is the mark of the word before.
+// The next line's stretch of so many columns, after a line of output that has begun: punct is the mark of the word before.
 fn join(
     s: &[u8],
     p: usize,
     e: usize,
+    columns: usize,
     punct: bool,
     g: Setting,
     indent: Margin,
     st: State,
     out: &mut [u8],
 ) -> State
-    requires { ⌜ Inked (now s) p e × (g .uniform ≡ false) × MarginIn (length (now s)) indent × (length (now s) ≤ 2 ^ 20) × (st .written < 2 ^ 62 + 2 ^ 59) × (st .column < 2 ^ 60) × (g .indent < 2 ^ 60) × (g .width < 2 ^ 60) ⌝ }
+    requires { ⌜ Inked (now s) p e × (columns ≡ columnsIn (now s) p e) × (g .uniform ≡ false) × MarginIn (length (now s)) indent × (length (now s) ≤ 2 ^ 20) × (st .written < 2 ^ 62 + 2 ^ 59) × (st .column < 2 ^ 60) × (g .indent < 2 ^ 60) × (g .width < 2 ^ 60) ⌝ }
     ensures { λ r. ⌜ Joined (now (s .entry)) p e punct g (marginOf (now (s .entry)) indent) (st .column) (now (out .entry)) (st .written) (now (out .exit)) r ⌝ }
 {
     let extra = added_of(punct);
     let begin = st.column + extra;
     let k = st.written;
-    if begin + (e - p) <= g.width {
+    if begin + columns <= g.width {
         let j = spaces_at(extra, out, k);
         return State {
             written: put_at(s, p, e, out, j),
-            column: begin + (e - p),
+            column: begin + columns,
         };
     }
     let room = room_of(g.width, begin);
-    let q = last_space(s, p, p + room);
+    let at = place_of(s, p, e, columns, room);
+    let q = last_space(s, p, at);
     if p < q {
         let end = before_spaces(s, p, q);
         let next = over_spaces(s, q + 1, e);
+        let left = columns - columns_before(s, p, e, columns, at, room, next);
         let i = spaces_at(extra, out, k);
         let j = put_line(s, p, end, indent, out, i);
         return fill(
             s,
             next,
             e,
+            left,
             true,
             g,
             indent,
@@ -339,6 +471,7 @@ fn join(
         s,
         p,
         e,
+        columns,
         true,
         g,
         indent,
@@ -429,18 +562,43 @@ fn behind_line(end: usize, next: usize) -> usize
     end
 }
 
-// The line at a place of a paragraph, if it is regular.
+// The end of the regular bytes and letters of two bytes at a place, at the latest another place.
+fn letters_end(s: &[u8], from: usize, end: usize) -> Letters
+    requires { ⌜ (from ≤ end) × (end ≤ length (now s)) ⌝ }
+    ensures { λ r. ⌜ SpelledTo (now (s .entry)) from end r ⌝ }
+{
+    let part = &s[..end];
+    let mut i = from;
+    let mut count = 0;
+    while i < end {
+        let b = s[i];
+        if (32 <= b) & (b < 128) {
+            i += 1;
+        } else if text::is_letter(part, i) {
+            i += 2;
+            count += 1;
+        } else {
+            return Letters { end: i, count };
+        }
+    }
+    Letters { end: i, count }
+}
+
+// The line at a place of a paragraph, if it is of regular bytes and letters of two.
 fn row_at(s: &[u8], i: usize, next: usize, skip: usize, later: usize, o: Options) -> Row
     requires { ⌜ (i < next) × (next ≤ length (now s)) × (length (now s) ≤ 2 ^ 20) × (o .uniform ≡ false) × AllBegin (o .glue) skip later (linesOf (slice i next (now s))) ⌝ }
     ensures { λ r. ⌜ (r .regular ≡ true → (block : List ℕ) → RowIs (meant block o) skip later (now (s .entry)) next i r) ⌝ }
 {
     let from = i + skip;
-    let end = regular_end(s, from, next);
+    let at = regular_end(s, from, next);
+    let letters = letters_end(s, at, next);
+    let end = before_spaces(s, from, letters.end);
     Row {
         from,
-        end: before_spaces(s, from, end),
-        next: behind_line(end, next),
-        regular: ends_line(s, end, next),
+        end,
+        columns: end - from - letters.count,
+        next: behind_line(letters.end, next),
+        regular: ends_line(s, letters.end, next),
     }
 }
 
@@ -458,24 +616,26 @@ fn next_row(
     s: &[u8],
     from: usize,
     e: usize,
+    columns: usize,
     g: Setting,
     indent: Margin,
     t: Reached,
     out: &mut [u8],
 ) -> Reached
-    requires { ⌜ (from ≤ e) × (e ≤ length (now s)) × (from < e → Inked (now s) from e) × (g .uniform ≡ false) × MarginIn (length (now s)) indent × (length (now s) ≤ 2 ^ 20) × (t .written < 2 ^ 62 + 2 ^ 59) × Stands t × (g .indent < 2 ^ 31) × (g .width < 2 ^ 31) ⌝ }
+    requires { ⌜ (from ≤ e) × (e ≤ length (now s)) × (from < e → Inked (now s) from e) × (columns ≡ columnsIn (now s) from e) × (g .uniform ≡ false) × MarginIn (length (now s)) indent × (length (now s) ≤ 2 ^ 20) × (t .written < 2 ^ 62 + 2 ^ 59) × Stands t × (g .indent < 2 ^ 31) × (g .width < 2 ^ 31) ⌝ }
     ensures { λ r. ⌜ Went (now (s .entry)) from e g (marginOf (now (s .entry)) indent) (now (out .entry)) t (now (out .exit)) r ⌝ }
 {
     if from == e {
         return t;
     }
     if t.begins {
-        return head_row(s, from, e, g, indent, t, out);
+        return head_row(s, from, e, columns, g, indent, t, out);
     }
     let st = join(
         s,
         from,
         e,
+        columns,
         t.punct,
         g,
         indent,
@@ -499,18 +659,20 @@ fn head_row(
     s: &[u8],
     from: usize,
     e: usize,
+    columns: usize,
     g: Setting,
     indent: Margin,
     t: Reached,
     out: &mut [u8],
 ) -> Reached
-    requires { ⌜ Inked (now s) from e × (g .uniform ≡ false) × MarginIn (length (now s)) indent × (length (now s) ≤ 2 ^ 20) × (t .written < 2 ^ 62 + 2 ^ 59) × (t .begins ≡ true) × (t .column < 2 ^ 31) × (g .indent < 2 ^ 31) ⌝ }
+    requires { ⌜ Inked (now s) from e × (columns ≡ columnsIn (now s) from e) × (g .uniform ≡ false) × MarginIn (length (now s)) indent × (length (now s) ≤ 2 ^ 20) × (t .written < 2 ^ 62 + 2 ^ 59) × (t .begins ≡ true) × (t .column < 2 ^ 31) × (g .indent < 2 ^ 31) ⌝ }
     ensures { λ r. ⌜ Went (now (s .entry)) from e g (marginOf (now (s .entry)) indent) (now (out .entry)) t (now (out .exit)) r ⌝ }
 {
     let st = fill(
         s,
         from,
         e,
+        columns,
         false,
         g,
         indent,
@@ -763,7 +925,7 @@ fn put_row(
     if !row.regular {
         return put_other(s, i, next, mail, skip, later, o, g, indent, t, out);
     }
-    let v = next_row(s, row.from, row.end, g, indent, t, out);
+    let v = next_row(s, row.from, row.end, row.columns, g, indent, t, out);
     Progress {
         at: row.next,
         written: v.written,

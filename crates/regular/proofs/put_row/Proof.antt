@@ -32,7 +32,7 @@ next-row-requires : tie.Need-next-row-requires
 next-row-requires c κs =
     let p = c .before .before .before .before .before .before .before .pre in
     let r = c .before .before .before .row-at .ensures (not-false _ (c .before .if2 .left)) [] in
-    (r .some, omega (arith, r .within, r .most, p .1), r .inked, c .before .before .before .before .if1 .left, p .8, p .2, omega (arith, p .9), p .10, p .11, p .12)
+    (r .some, omega (arith, r .within, r .most, p .1), r .inked, r .counts, c .before .before .before .before .if1 .left, p .8, p .2, omega (arith, p .9), p .10, p .11, p .12)
 
 same-length-3 : tie.Need-same-length-3
 same-length-3 c = search needs

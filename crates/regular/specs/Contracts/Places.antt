@@ -12,10 +12,13 @@ use Rattle.records.specs.Contracts.Table.{wordsIn}
 use Rattle.records.specs.declared.Word.{Word as Record}
 use Rattle.spacing.specs.declared.Setting.{Setting}
 use Rattle.output.specs.Contracts.Sink.{Left}
-use Rattle.regular.specs.Contracts.Regular.{isRegular, stretchWords, freshPunct, lastly, quickRest, quickFresh, quickOn}
+use Rattle.text.specs.Contracts.Joins.{goesOn}
+use Rattle.regular.specs.Contracts.Regular.{isRegular, spelled, columns, stretchWords, freshPunct, lastly, quickRest, quickFresh, quickOn}
 use Rattle.regular.specs.declared.Cut.{Cut}
 use Rattle.regular.specs.declared.State.{State}
 use Rattle.regular.specs.declared.Row.{Row}
+use Rattle.regular.specs.declared.Letters.{Letters}
+use Rattle.regular.specs.declared.Over.{Over}
 use Rattle.regular.specs.declared.Reached.{Reached}
 use Rattle.regular.specs.declared.Progress.{Progress}
 use Rattle.regular.specs.declared.Waiting.{Waiting}
@@ -64,27 +67,45 @@ pub record BeforeSpaces (s : List ℕ) (from to r : ℕ) : Type 0 where
   pub spaces : (i : ℕ) → r ≤ i → i < to → getD s i 0 ≡ 32
   pub ink : from < r → NoSpace s (r - 1)
 
--- a stretch that begins and ends with a word
+-- a stretch of regular bytes and letters of two bytes that begins and ends with a word
 pub record Inked (s : List ℕ) (p e : ℕ) : Type 0 where
   pub on : p < e
   pub within : e ≤ length s
+  pub letters : spelled false (slice p e s) ≡ true
   pub first : NoSpace s p
   pub last : NoSpace s (e - 1)
 
--- A stretch is cut: its words up to r's end are those that end by p + room, or one word; the next one begins at r's next, and ends after p + room.
-pub record CutAt (s : List ℕ) (p e room : ℕ) (r : Cut) : Type 0 where
+-- the columns between two places
+abbrev pub columnsIn : List ℕ → ℕ → ℕ → ℕ
+columnsIn s from to = columns (slice from to s)
+
+-- at is where a stretch has taken so many columns, before its end: a character begins there
+pub record Reaches (s : List ℕ) (p e room at : ℕ) : Type 0 where
+  pub on : p ≤ at
+  pub most : at < e
+  pub full : columnsIn s p at ≡ room
+  pub begins : goesOn (getD s at 0) ≡ false
+
+-- fewer than eight columns are left to take
+pub record OverIs (s : List ℕ) (p e room : ℕ) (r : Over) : Type 0 where
+  pub on : p ≤ r .at
+  pub most : r .at ≤ e
+  pub taken : columnsIn s p (r .at) + r .left ≡ room
+
+-- A stretch is cut: its words up to r's end are those that end by a place, or one word; the next one begins at r's next, and ends after that place.
+pub record CutAt (s : List ℕ) (p e at : ℕ) (r : Cut) : Type 0 where
   pub on : p < r .end
   pub gap : r .end < r .next
   pub ends : NoSpace s (r .end - 1)
   pub spaces : (i : ℕ) → r .end ≤ i → i < r .next → getD s i 0 ≡ 32
   pub rest : Inked s (r .next) e
-  pub fits : (r .end ≤ p + room) ⊎ ((i : ℕ) → p ≤ i → i < r .end → NoSpace s i)
-  pub wide : (i : ℕ) → r .next ≤ i → i ≤ p + room → NoSpace s i
+  pub fits : (r .end ≤ at) ⊎ ((i : ℕ) → p ≤ i → i < r .end → NoSpace s i)
+  pub wide : (i : ℕ) → r .next ≤ i → i ≤ at → NoSpace s i
 
 -- or it is one word, which reaches to its end
-pub record CutIs (s : List ℕ) (p e room : ℕ) (r : Cut) : Type 0 where
+pub record CutIs (s : List ℕ) (p e at : ℕ) (r : Cut) : Type 0 where
   pub most : r .next ≤ e
-  pub cut : r .next < e → CutAt s p e room r
+  pub cut : r .next < e → CutAt s p e at r
   pub lone : e ≤ r .next → (i : ℕ) → p ≤ i → i < e → NoSpace s i
 
 -- ---- what is left of quick's output, whatever words follow; the gaps are kept
@@ -126,6 +147,13 @@ pub record RegularTo (s : List ℕ) (from end r : ℕ) : Type 0 where
   pub all : EachRegular s from r
   pub stop : r < end → isRegular (getD s r 0) ≡ false
 
+-- r is the end of the regular bytes and letters of two bytes at a place, or another place that they reach to, and counts the letters
+pub record SpelledTo (s : List ℕ) (from end : ℕ) (r : Letters) : Type 0 where
+  pub on : from ≤ r .end
+  pub most : r .end ≤ end
+  pub all : spelled false (slice from (r .end) s) ≡ true
+  pub count : columnsIn s from (r .end) + r .count ≡ r .end - from
+
 -- r is the stretch of the line at a place, whose words begin so many bytes after: its words are the line's
 pub record RowIs (o : Opts) (skip later : ℕ) (s : List ℕ) (next i : ℕ) (r : Row) : Type 0 where
   pub on : i < r .next
@@ -135,6 +163,7 @@ pub record RowIs (o : Opts) (skip later : ℕ) (s : List ℕ) (next i : ℕ) (r 
   pub within : r .end ≤ r .next
   pub rest : AllBegin (o .glue) later later (linesOf (slice (r .next) next s))
   pub inked : r .from < r .end → Inked s (r .from) (r .end)
+  pub counts : r .columns ≡ columnsIn s (r .from) (r .end)
   pub words : wordsAt o false skip later (linesOf (slice i next s)) ≡ stretchWords o true false (slice (r .from) (r .end) s) ++ wordsAt o false later later (linesOf (slice (r .next) next s))
 
 -- ---- a paragraph, as far as it is written
