@@ -16,7 +16,8 @@ use Rattle.output.proofs.Sink.{left-first, left-then}
 use Rattle.regular.specs.declared.Cut.{Cut}
 use Rattle.regular.specs.declared.State.{State}
 use Rattle.regular.specs.Contracts.Regular.{notSpace, lastly, freshPunct}
-use Rattle.regular.specs.Contracts.Places.{NoSpace, Inked, columnsIn, Reaches, CutAt, Along, Filled}
+use Rattle.regular.specs.Contracts.Places.{NoSpace, Inked, Even, columnsIn, Reaches, CutAt, Along, Filled}
+use Rattle.regular.proofs.EvenParts.{rest-even}
 use Rattle.regular.proofs.Columns.{columns-size}
 use Rattle.regular.proofs.Fronts.{lastly-append, lastly-some}
 use Rattle.regular.proofs.Parts.{part-spaced}
@@ -31,12 +32,13 @@ pub fresh-counts : (a : List ℕ) → freshPunct true a ≡ lastly false a
 unfolding freshPunct
 fresh-counts a = refl
 
-module _ (s : List ℕ) (from e : ℕ) (counts : Bool) (g : Setting) (indent : List ℕ) (column : ℕ) (out : List ℕ) (k : ℕ) (even : g .uniform ≡ false) where
-  pub along-first : Inked s from e → Along s from e counts g indent column out k from counts column out k
-  along-first h = record {
+module _ (s : List ℕ) (from e : ℕ) (counts : Bool) (g : Setting) (indent : List ℕ) (column : ℕ) (out : List ℕ) (k : ℕ) where
+  pub along-first : Inked s from e → Even (g .uniform) s from e → Along s from e counts g indent column out k from counts column out k
+  along-first h even = record {
     inked = h;
+    even = even;
     punct = refl;
-    left = λ o newLine previous more kept. rw (fresh-marks s o g indent kept even more from e h counts newLine previous column) (left-first _ _ _);
+    left = λ o newLine previous more same. rw (fresh-marks s o g indent same more from e h counts newLine previous column) (left-first _ _ _);
   }
 
   module _ (p : ℕ) (counts′ : Bool) (column′ : ℕ) (out′ : List ℕ) (k′ : ℕ) (along : Along s from e counts g indent column out k p counts′ column′ out′ k′) where
@@ -45,10 +47,11 @@ module _ (s : List ℕ) (from e : ℕ) (counts : Bool) (g : Setting) (indent : L
         → Along s from e counts g indent column out k (r .next) true (g .indent) out″ k″
     along-turn room at r is reaches cut out″ k″ wrote = record {
       inked = cut .rest;
+      even = λ u. let b = cut .on in let c = cut .gap in rest-even s p (r .next) e (omega arith) (cut .rest .on) (along .inked .within) (cut .rest .first) (along .even u);
       punct = punct;
-      left = λ o newLine previous more kept.
+      left = λ o newLine previous more same.
           left-then
-          (rw (fresh-cut s o g indent kept even more p e (along .inked) counts′ false false column′ room at r is reaches cut, ← append-inner (slice p (r .end) s) lineFeed indent _) at (along .left o newLine previous more kept))
+          (rw (fresh-cut s o g indent same more p e (along .inked) (along .even) counts′ false false column′ room at r is reaches cut, ← append-inner (slice p (r .end) s) lineFeed indent _) at (along .left o newLine previous more same))
           wrote;
     }
       where
@@ -75,8 +78,8 @@ module _ (s : List ℕ) (from e : ℕ) (counts : Bool) (g : Setting) (indent : L
         let c = wrote .count in
         let m = columns-size s p e w in
         record {
-          left = λ o newLine previous more kept.
-              rw is (left-then (rw (fresh-all s o g indent kept even more p e (along .inked) counts′ false false column′ fits, along .punct) at (along .left o newLine previous more kept)) wrote);
+          left = λ o newLine previous more same.
+              rw is (left-then (rw (fresh-all s o g indent same more p e (along .inked) (along .even) counts′ false false column′ fits, along .punct) at (along .left o newLine previous more same)) wrote);
           most = omega arith;
           reach = omega arith;
         }

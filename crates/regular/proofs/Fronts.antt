@@ -70,10 +70,24 @@ front (b ∷ a) h = pick (eqb b 32) refl (front a)
         let f = ink-front a (rw e at h) in
         record { spaces = []; ink = b ∷ f .ink; rest = f .rest; is = ap (λ (l : List ℕ). b ∷ l) (f .is); spaced = every-nil isSpace; inked = rw (every-cons, e) (f .inked); some = omega arith; next = f .next; end = f .end }
 
+-- what begins with a space has one before its word
+pub front-spaces : (a : List ℕ) (f : Front a) → opens a ≡ true → 0 < length (f .spaces)
+unfolding opens
+front-spaces a f h = pick (f .spaces) (f .ink) (f .is) (f .inked) (f .some)
+  where
+    pick : (sp ink : List ℕ) → a ≡ sp ++ (ink ++ f .rest) → every notSpace ink ≡ true → 0 < length ink → 0 < length sp
+    pick [] [] e i l = absurd (omega arith)
+    pick [] (x ∷ ink) e i l = absurd (false≢true (sym (every-end notSpace x ink (ap not (rw e at h))) ∙ i))
+    pick (y ∷ sp) ink e i l = omega arith
+
 -- a stretch that is there ends alike, whatever is before it
 pub closed-some : (s t : Bool) (x : ℕ) (xs : List ℕ) → closed s (x ∷ xs) ≡ closed t (x ∷ xs)
 unfolding closed
 closed-some s t x xs = refl
+
+pub closed-false : (xs : List ℕ) → closed true xs ≡ true → 0 < length xs → closed false xs ≡ true
+closed-false [] h l = absurd (omega arith)
+closed-false (x ∷ xs) h l = closed-some false true x xs ∙ h
 
 pub opens-append : (xs ys : List ℕ) → opens xs ≡ true → opens ys ≡ true → opens (xs ++ ys) ≡ true
 unfolding opens

@@ -1,6 +1,6 @@
 -- A paragraph's lines, one after another: what is left is quick's output of the lines that are left.
-use mathlib.Core.Path.{_≡_, refl, sym, _∙_}
-use mathlib.Core.Bool.{Bool, true, false, cond, _||_, true≢false}
+use mathlib.Core.Path.{_≡_, sym, _∙_}
+use mathlib.Core.Bool.{Bool, true, false, cond, _||_}
 use mathlib.Core.List.{List, []}
 use Prim.Native.Nat.{ℕ, _+_, _≤_, _^_}
 use native.Mathlib.Omega.{arith}
@@ -20,18 +20,18 @@ use Rattle.regular.specs.Contracts.Places.{RowIs, Stands, reachedOf, Wen
 use Rattle.regular.proofs.Rest.{on-none}
 use Rattle.regular.proofs.Joining.{left-on}
 
--- where gaps are kept no paragraph is mail
-pub kept-gaps : (a b c : Bool) → c ≡ (a || b) → c ≡ false → (a ≡ false) × (b ≡ false)
-kept-gaps true b c e f = absurd (let z : _≡_ {A = Bool} true false = sym e ∙ f in true≢false z)
-kept-gaps false b c e f = (refl, sym e ∙ f)
+-- of a paragraph that is no mail, gaps are as the options have them
+pub gaps-same : (a b c : Bool) → c ≡ (a || b) → b ≡ false → a ≡ c
+gaps-same true b c e f = sym e
+gaps-same false b c e f = sym (e ∙ f)
 
 module _ (s : List ℕ) (i next : ℕ) (mail : Bool) (skip later : ℕ) (o : Options) (g : Setting) (indent : List ℕ) (out : List ℕ) (t : Reached) where
   -- a line by its stretch
-  pub row-went : mail ≡ false → (row : Row) → ((block : List ℕ) → RowIs (meant block o) skip later s next i row) → o .uniform ≡ false
+  pub row-went : mail ≡ false → (row : Row) → ((block : List ℕ) → RowIs (meant block o) skip later s next i row) → o .uniform ≡ g .uniform
       → (out′ : List ℕ) (v : Reached) → Went s (row .from) (row .end) g indent out t out′ v
       → RowPut s i next mail skip later o g indent out t out′ (record { at = row .next; written = v .written; column = v .column; punct = v .punct; begins = v .begins })
   unfolding meant
-  row-went m row is kept out′ v went =
+  row-went m row is same out′ v went =
       let r = is [] in
       let a = r .on in
       let b = r .order in
@@ -43,7 +43,7 @@ module _ (s : List ℕ) (i next : ℕ) (mail : Bool) (skip later : ℕ) (o : Opt
           on = omega arith;
           most = r .most;
           rest = λ e. r .rest;
-          left = λ block. rw (m, is block .words) (went .left (meant block o) (wordsOn block o false later later next s (row .next)) kept);
+          left = λ block. rw (m, is block .words) (went .left (meant block o) (wordsOn block o false later later next s (row .next)) same);
           few = let y = went .most in omega arith;
           stands = went .stands;
         };

@@ -18,7 +18,7 @@ use Rattle.output.proofs.Sink.{left-first, left-then}
 use Rattle.regular.specs.declared.Cut.{Cut}
 use Rattle.regular.specs.declared.State.{State}
 use Rattle.regular.specs.Contracts.Regular.{stretchWords, lastly, freshPunct, added, quickRest, quickFresh}
-use Rattle.regular.specs.Contracts.Places.{NoSpace, LastSpace, BeforeSpaces, OverSpaces, Inked, columnsIn, Reaches, CutAt, CutIs, Filled, Joined}
+use Rattle.regular.specs.Contracts.Places.{NoSpace, LastSpace, BeforeSpaces, OverSpaces, Inked, Even, columnsIn, Reaches, CutAt, CutIs, Filled, Joined}
 use Rattle.regular.proofs.Columns.{columns-size}
 use Rattle.regular.proofs.Cuts.{cut-found}
 use Rattle.regular.proofs.Fronts.{lastly-append, lastly-some}
@@ -32,7 +32,7 @@ added-few : (punct : Bool) → added punct ≤ 2
 added-few true = omega arith
 added-few false = omega arith
 
-module _ (s : List ℕ) (p e : ℕ) (punct : Bool) (g : Setting) (indent : List ℕ) (column : ℕ) (out : List ℕ) (k : ℕ) (even : g .uniform ≡ false) (inked : Inked s p e) where
+module _ (s : List ℕ) (p e : ℕ) (punct : Bool) (g : Setting) (indent : List ℕ) (column : ℕ) (out : List ℕ) (k : ℕ) (inked : Inked s p e) (even : Even (g .uniform) s p e) where
   -- all of it stays
   pub join-all : column + added punct + columnsIn s p e ≤ g .width → length s ≤ 2 ^ 20
       → (out′ out″ : List ℕ) (k′ : ℕ) (r : State) → Wrote out k (replicate (added punct) 32) out′ k′ → Wrote out′ k′ (slice p e s) out″ (r .written) → r .column ≡ column + added punct + columnsIn s p e
@@ -47,24 +47,24 @@ module _ (s : List ℕ) (p e : ℕ) (punct : Bool) (g : Setting) (indent : List 
       let d = spaces .count in
       let z = columns-size s p e w in
       record {
-        left = λ o more kept. rw at (left-then (left-then (rw (next-all s o g indent kept even more p e inked column punct fits) (left-first _ _ _)) spaces) wrote);
+        left = λ o more same. rw at (left-then (left-then (rw (next-all s o g indent same more p e inked even column punct fits) (left-first _ _ _)) spaces) wrote);
         most = omega arith;
         reach = omega arith;
       }
 
   -- its part from next on begins a line of output
   module _ (next : ℕ) (on : p ≤ next) (some : next < e) (out′ : List ℕ) (k′ : ℕ) (near : k′ ≤ k + (next - p + 1) * 2 ^ 34)
-      (left : (o : Opts) (more : List Word) → o .uniform ≡ false → Left out k (quickRest g indent column punct (stretchWords o true false (slice p e s) ++ more)) out′ k′ (quickFresh g indent true (g .indent) (stretchWords o false false (slice next e s) ++ more))) where
+      (left : (o : Opts) (more : List Word) → o .uniform ≡ g .uniform → Left out k (quickRest g indent column punct (stretchWords o true false (slice p e s) ++ more)) out′ k′ (quickFresh g indent true (g .indent) (stretchWords o false false (slice next e s) ++ more))) where
     pub join-rest : (out″ : List ℕ) (r : State) → Filled s next e true g indent (g .indent) out′ k′ out″ r → Joined s p e punct g indent column out k out″ r
     join-rest out″ r filled =
         let w = inked .within in
         let n = length-slice next e s w in
-        let same : freshPunct true (slice next e s) ≡ lastly false (slice p e s) =
+        let mark : freshPunct true (slice next e s) ≡ lastly false (slice p e s) =
         fresh-counts (slice next e s) ∙ lastly-some false (lastly false (slice p next s)) (slice next e s) (omega arith) ∙ sym (lastly-append false (slice p next s) (slice next e s))
         ∙ ap (lastly false) (slice-join p next e s on (omega arith) w) in
         let m = filled .most in
         record {
-          left = λ o more kept. left-on (left o more kept) (rw same at (filled .left o false false more kept));
+          left = λ o more same. left-on (left o more same) (rw mark at (filled .left o false false more same));
           most = omega arith;
           reach = let c = filled .reach in omega arith;
         }
@@ -72,16 +72,16 @@ module _ (s : List ℕ) (p e : ℕ) (punct : Bool) (g : Setting) (indent : List 
   -- some of its words stay, or none
   pub join-cut : (room at : ℕ) (r : Cut) → room ≡ g .width - (column + added punct) → Reaches s p e room at → CutAt s p e at r → r .end ≤ at
       → (out′ out″ : List ℕ) (k′ k″ : ℕ) → Wrote out k (replicate (added punct) 32) out′ k′ → Wrote out′ k′ (slice p (r .end) s ++ (lineFeed ++ indent)) out″ k″
-      → (o : Opts) (more : List Word) → o .uniform ≡ false
+      → (o : Opts) (more : List Word) → o .uniform ≡ g .uniform
       → Left out k (quickRest g indent column punct (stretchWords o true false (slice p e s) ++ more)) out″ k″ (quickFresh g indent true (g .indent) (stretchWords o false false (slice (r .next) e s) ++ more))
-  join-cut room at r is reaches cut by out′ out″ k′ k″ spaces wrote o more kept =
-      left-then (left-then (rw (next-cut s o g indent kept even more p e inked column punct room at r is reaches cut by, ← append-inner (slice p (r .end) s) lineFeed indent _) (left-first _ _ _)) spaces) wrote
+  join-cut room at r is reaches cut by out′ out″ k′ k″ spaces wrote o more same =
+      left-then (left-then (rw (next-cut s o g indent same more p e inked even column punct room at r is reaches cut by, ← append-inner (slice p (r .end) s) lineFeed indent _) (left-first _ _ _)) spaces) wrote
 
   pub join-off : (room at : ℕ) → room ≡ g .width - (column + added punct) → Reaches s p e room at → ((i : ℕ) → p < i → i ≤ at → NoSpace s i)
       → (out′ : List ℕ) (k′ : ℕ) → Wrote out k (lineFeed ++ indent) out′ k′
-      → (o : Opts) (more : List Word) → o .uniform ≡ false
+      → (o : Opts) (more : List Word) → o .uniform ≡ g .uniform
       → Left out k (quickRest g indent column punct (stretchWords o true false (slice p e s) ++ more)) out′ k′ (quickFresh g indent true (g .indent) (stretchWords o false false (slice p e s) ++ more))
-  join-off room at is reaches none out′ k′ wrote o more kept = left-then (rw (next-off s o g indent kept even more p e inked column punct room at is reaches none) (left-first _ _ _)) wrote
+  join-off room at is reaches none out′ k′ wrote o more same = left-then (rw (next-off s o g indent same more p e inked even column punct room at is reaches none) (left-first _ _ _)) wrote
 
 -- the searches found where it is cut
 pub join-found : (s : List ℕ) (p e at q : ℕ) → Inked s p e → p ≤ at → at < e → LastSpace s p at q → (end next : ℕ) → p < q → BeforeSpaces s p q end → OverSpaces s (q + 1) e next → CutAt s p e at (record { end = end; next = next })

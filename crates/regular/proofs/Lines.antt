@@ -18,13 +18,15 @@ use Rattle.spacing.specs.declared.Setting.{Setting}
 use Rattle.output.specs.Emission.{lineFeed}
 use Rattle.regular.specs.declared.Cut.{Cut}
 use Rattle.regular.specs.Contracts.Regular.{isSpace, notSpace, columns, stretchWords, lastly, opens, freshPunct, added, quickRest, quickFresh}
-use Rattle.regular.specs.Contracts.Places.{NoSpace, Inked, columnsIn, Reaches, CutAt}
+use Rattle.regular.specs.Contracts.Places.{NoSpace, Inked, Even, columnsIn, Reaches, CutAt}
+use Rattle.regular.proofs.Even.{EvenGap}
+use Rattle.regular.proofs.EvenParts.{front-even, gap-even}
 use Rattle.regular.proofs.Columns.{columns-some}
 use Rattle.regular.proofs.Room.{room-fits, room-short, room-passed}
 use Rattle.regular.proofs.Fresh.{no-words, fresh-same, fresh-stays, breaks, next-stays-on, next-breaks-off}
 use Rattle.regular.proofs.Parts.{behind-opens, part-spaces, part-ink, part-opens, part-closed, part-first-space, part-least}
 
-module _ (s : List ℕ) (o : Opts) (g : Setting) (indent : List ℕ) (kept : o .uniform ≡ false) (even : g .uniform ≡ false) (more : List Word) where
+module _ (s : List ℕ) (o : Opts) (g : Setting) (indent : List ℕ) (same : o .uniform ≡ g .uniform) (more : List Word) where
   -- the words of the notes between two places, the words of later lines after them
   abbrev from : Bool → Bool → ℕ → ℕ → List Word
   from newLine previous p e = stretchWords o newLine previous (slice p e s) ++ more
@@ -40,17 +42,17 @@ module _ (s : List ℕ) (o : Opts) (g : Setting) (indent : List ℕ) (kept : o .
     -- on a fresh line its marks do not matter
     pub fresh-marks : (counts newLine previous : Bool) (column : ℕ) → quickFresh g indent counts column (from newLine previous next e) ≡ quickFresh g indent counts column (from false false next e)
     fresh-marks counts newLine previous column =
-        rw (while-behind notSpace xs) at (fresh-same o g indent kept more counts newLine previous column [] (while notSpace xs) (behind notSpace xs) (every-nil isSpace) (every-while notSpace xs) ink-some (behind-opens xs))
+        rw (while-behind notSpace xs) at (fresh-same o g indent same more counts newLine previous column [] (while notSpace xs) (behind notSpace xs) (every-nil isSpace) (every-while notSpace xs) ink-some (behind-opens xs))
 
     -- after a gap it breaks, where it does not fit
-    break-at : (column : ℕ) (punct previous : Bool) (gap : List ℕ) → every isSpace gap ≡ true → g .width < column + length gap + columns (while notSpace xs)
+    break-at : (column : ℕ) (punct previous : Bool) (gap : List ℕ) → every isSpace gap ≡ true → (g .uniform ≡ true → EvenGap previous gap) → g .width < column + length gap + columns (while notSpace xs)
         → quickRest g indent column punct (stretchWords o false previous (gap ++ xs) ++ more) ≡ lineFeed ++ (indent ++ quickFresh g indent true (g .indent) (from false false next e))
-    break-at column punct previous gap spaced wide =
-        rw (while-behind notSpace xs) at (breaks o g indent kept more even column punct previous gap (while notSpace xs) (behind notSpace xs) spaced (every-while notSpace xs) ink-some (behind-opens xs) wide)
+    break-at column punct previous gap spaced even wide =
+        rw (while-behind notSpace xs) at (breaks o g indent same more column punct previous gap (while notSpace xs) (behind notSpace xs) spaced (every-while notSpace xs) ink-some (behind-opens xs) even wide)
 
   -- ---- a line of output
 
-  module _ (p e : ℕ) (inked : Inked s p e) (counts newLine previous : Bool) (column : ℕ) where
+  module _ (p e : ℕ) (inked : Inked s p e) (even : Even (g .uniform) s p e) (counts newLine previous : Bool) (column : ℕ) where
     -- the words up to a place, which is their end, begin it
     fresh-front : (end : ℕ) → p < end → end ≤ e → NoSpace s (end - 1) → opens (slice end e s) ≡ true → (column + columnsIn s p end ≤ g .width) ⊎ ((i : ℕ) → p ≤ i → i < end → NoSpace s i)
         → quickFresh g indent counts column (from newLine previous p e)
@@ -60,7 +62,7 @@ module _ (s : List ℕ) (o : Opts) (g : Setting) (indent : List ℕ) (kept : o .
         let f : (column + columns (slice p end s) ≤ g .width) ⊎ (every notSpace (slice p end s) ≡ true) =
         ⊎-elim (λ (h : column + columnsIn s p end ≤ g .width). inl h) (λ (h : (i : ℕ) → p ≤ i → i < end → NoSpace s i). inr (part-ink s p end (omega arith) h)) fits in
         rw (slice-join p end e s (omega arith) on w) at
-        (fresh-stays o g indent kept more even counts newLine previous column (slice p end s) (slice end e s) (part-opens s p end (omega arith) some (inked .first)) (part-closed s p end (omega arith) some last) next f)
+        (fresh-stays o g indent same more counts newLine previous column (slice p end s) (slice end e s) (part-opens s p end (omega arith) some (inked .first)) (part-closed s p end (omega arith) some last) next f (λ u. front-even s p end e (omega arith) on w (even u)))
 
     -- as many words as end by the width, or one; the next one breaks
     pub fresh-cut : (room at : ℕ) (r : Cut) → room ≡ g .width - column → Reaches s p e room at → CutAt s p e at r
@@ -80,7 +82,7 @@ module _ (s : List ℕ) (o : Opts) (g : Setting) (indent : List ℕ) (kept : o .
         ∙ ap (λ (l : List ℕ). slice p (r .end) s ++ l)
         (rw (slice-join (r .end) (r .next) e s (omega arith) (omega arith) w) at
         (break-at (r .next) e (cut .rest) (column + columnsIn s p (r .end)) (freshPunct counts (slice p (r .end) s)) (lastly false (slice p (r .end) s)) (slice (r .end) (r .next) s)
-        (part-spaces s (r .end) (r .next) (omega arith) (cut .spaces)) (omega arith)))
+        (part-spaces s (r .end) (r .next) (omega arith) (cut .spaces)) (λ u. gap-even s p e at r w (even u) cut) (omega arith)))
 
     -- all that is left of the stretch
     pub fresh-all : (column + columnsIn s p e ≤ g .width) ⊎ ((i : ℕ) → p ≤ i → i < e → NoSpace s i)
@@ -91,14 +93,14 @@ module _ (s : List ℕ) (o : Opts) (g : Setting) (indent : List ℕ) (kept : o .
 
   -- ---- the next line's stretch, after a line of output that has begun
 
-  module _ (p e : ℕ) (inked : Inked s p e) (column : ℕ) (punct : Bool) where
+  module _ (p e : ℕ) (inked : Inked s p e) (even : Even (g .uniform) s p e) (column : ℕ) (punct : Bool) where
     -- where it does not even have a first word's room
     pub next-off : (room at : ℕ) → room ≡ g .width - (column + added punct) → Reaches s p e room at → ((i : ℕ) → p < i → i ≤ at → NoSpace s i)
         → quickRest g indent column punct (from true false p e) ≡ lineFeed ++ (indent ++ quickFresh g indent true (g .indent) (from false false p e))
     next-off room at is reaches none =
         let long = room-short s p e room at (inked .within) reaches (λ i a b. pick i a b (ltb p i) refl) in
         rw (while-behind notSpace (slice p e s)) at
-        (next-breaks-off o g indent kept more column punct (while notSpace (slice p e s)) (behind notSpace (slice p e s)) (every-while notSpace (slice p e s)) (ink-some p e inked) (behind-opens (slice p e s)) (omega arith))
+        (next-breaks-off o g indent same more column punct (while notSpace (slice p e s)) (behind notSpace (slice p e s)) (every-while notSpace (slice p e s)) (ink-some p e inked) (behind-opens (slice p e s)) (omega arith))
       where
         pick : (i : ℕ) → p ≤ i → i ≤ at → (t : Bool) → ltb p i ≡ t → NoSpace s i
         pick i a b true q = none i (ltb-true p i q) b
@@ -110,7 +112,7 @@ module _ (s : List ℕ) (o : Opts) (g : Setting) (indent : List ℕ) (kept : o .
     next-front end some on last next fits =
         let w = inked .within in
         rw (slice-join p end e s (omega arith) on w) at
-        (next-stays-on o g indent kept more even column punct (slice p end s) (slice end e s) (part-opens s p end (omega arith) some (inked .first)) (part-closed s p end (omega arith) some last) next fits)
+        (next-stays-on o g indent same more column punct (slice p end s) (slice end e s) (part-opens s p end (omega arith) some (inked .first)) (part-closed s p end (omega arith) some last) next fits (λ u. front-even s p end e (omega arith) on w (even u)))
 
     -- as many words as end by the width; the next one breaks
     pub next-cut : (room at : ℕ) (r : Cut) → room ≡ g .width - (column + added punct) → Reaches s p e room at → CutAt s p e at r → r .end ≤ at
@@ -129,7 +131,7 @@ module _ (s : List ℕ) (o : Opts) (g : Setting) (indent : List ℕ) (kept : o .
         ∙ ap (λ (l : List ℕ). replicate (added punct) 32 ++ (slice p (r .end) s ++ l))
         (rw (slice-join (r .end) (r .next) e s (omega arith) (omega arith) w) at
         (break-at (r .next) e (cut .rest) (column + added punct + columnsIn s p (r .end)) (lastly false (slice p (r .end) s)) (lastly false (slice p (r .end) s)) (slice (r .end) (r .next) s)
-        (part-spaces s (r .end) (r .next) (omega arith) (cut .spaces)) (omega arith)))
+        (part-spaces s (r .end) (r .next) (omega arith) (cut .spaces)) (λ u. gap-even s p e at r w (even u) cut) (omega arith)))
 
     pub next-all : column + added punct + columnsIn s p e ≤ g .width
         → quickRest g indent column punct (from true false p e) ≡ replicate (added punct) 32 ++ (slice p e s ++ quickRest g indent (column + added punct + columnsIn s p e) (lastly false (slice p e s)) more)

@@ -63,7 +63,7 @@ module _ (s : List ℕ) (p e : ℕ) (inked : Inked s p e) where
 module _ (s : List ℕ) (from e : ℕ) (g : Setting) (indent : List ℕ) (out : List ℕ) (t : Reached) where
   pub went-none : from ≡ e → Stands t → Went s from e g indent out t out t
   went-none q near = record {
-    left = λ o more kept. rw (q, slice-empty e s, no-words o true false) (left-first _ _ _);
+    left = λ o more same. rw (q, slice-empty e s, no-words o true false) (left-first _ _ _);
     most = omega arith;
     stands = near;
   }
@@ -72,7 +72,7 @@ module _ (s : List ℕ) (from e : ℕ) (g : Setting) (indent : List ℕ) (out : 
       → Went s from e g indent out t out′ (record { written = r .written; column = r .column; punct = punct; begins = false })
   unfolding quickOn
   went-some begun inked size ind wid out′ r j punct q = record {
-    left = λ o more kept. rw (on-rest g indent (t .begins) (t .column) (t .punct) (stretchWords o true false (slice from e s) ++ more) begun, q, ← lastly-at s from e inked) (j .left o more kept);
+    left = λ o more same. rw (on-rest g indent (t .begins) (t .column) (t .punct) (stretchWords o true false (slice from e s) ++ more) begun, q, ← lastly-at s from e inked) (j .left o more same);
     most = j .most;
     stands = (let h = j .reach in let w = inked .within in omega arith, λ b. absurd (false≢true b));
   }
@@ -82,7 +82,7 @@ module _ (s : List ℕ) (from e : ℕ) (g : Setting) (indent : List ℕ) (out : 
       → Went s from e g indent out t out′ (record { written = r .written; column = r .column; punct = punct; begins = false })
   unfolding quickOn
   went-head begins near inked size ind out′ r f punct q = record {
-    left = λ o more kept. rw (on-fresh g indent (t .begins) (t .column) (t .punct) (stretchWords o true false (slice from e s) ++ more) begins, q) (f .left o true false more kept);
+    left = λ o more same. rw (on-fresh g indent (t .begins) (t .column) (t .punct) (stretchWords o true false (slice from e s) ++ more) begins, q) (f .left o true false more same);
     most = let h = f .most in omega arith;
     stands = (let h = f .reach in let w = inked .within in omega arith, λ b. absurd (false≢true b));
   }

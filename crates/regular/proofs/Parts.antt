@@ -1,6 +1,6 @@
 -- Parts of the notes as lists: what holds of their bytes by places.
 use mathlib.Core.Path.{_≡_, refl, ap, _∙_}
-use mathlib.Core.Bool.{Bool, true, false, not, _&&_}
+use mathlib.Core.Bool.{Bool, true, false, not}
 use mathlib.Core.List.{List, [], _∷_}
 use Prim.Native.Nat.{ℕ, zero, suc, _+_, _-_, _≤_, _<_}
 use native.Mathlib.Omega.{arith}
@@ -13,6 +13,7 @@ use Rattle.lists.proofs.Runs.{while-more, behind-more, behind-end, every-end}
 use Rattle.lists.proofs.Parts.{every-nil, every-cons}
 use Rattle.regular.specs.Contracts.Regular.{isSpace, notSpace, closed, opens}
 use Rattle.regular.specs.Contracts.Places.{NoSpace}
+use Rattle.regular.proofs.Even.{and-false}
 
 -- ---- by the places of the list itself
 
@@ -40,10 +41,6 @@ spaced-at : (xs : List ℕ) (i : ℕ) → i < length xs → getD xs i 0 ≡ 32 �
 spaced-at [] i h k = absurd (omega arith)
 spaced-at (x ∷ xs) zero h k = every-end notSpace x xs (ap not (eq-eqb x 32 k))
 spaced-at (x ∷ xs) (suc i) h k = rw (every-cons, spaced-at xs i (omega arith) k) (and-false (notSpace x))
-  where
-    and-false : (b : Bool) → (b && false) ≡ false
-    and-false true = refl
-    and-false false = refl
 
 -- so many bytes that are no spaces stand at the front
 pub while-least : (n : ℕ) (xs : List ℕ) → n ≤ length xs → ((i : ℕ) → i < n → NoSpace xs i) → n ≤ length (while notSpace xs)

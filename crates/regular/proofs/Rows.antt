@@ -26,7 +26,7 @@ use Rattle.words.proofs.WordRuns.{words-none}
 use Rattle.words.proofs.LineEnds.{behindEnd, LineEnds, line-ends, same-ends}
 use Rattle.words.proofs.Rows.{LineAt, line-at}
 use Rattle.regular.specs.Contracts.Regular.{isSpace, spelled, byteGlyph, spelling, stretchWords, lastly, closed, opens}
-use Rattle.regular.specs.Contracts.Places.{NoSpace, BeforeSpaces, columnsIn, RowIs}
+use Rattle.regular.specs.Contracts.Places.{NoSpace, BeforeSpaces, Even, columnsIn, RowIs}
 use Rattle.regular.proofs.Stretch.{and-true, behind-all, space-first, word-first, blanks-are}
 use Rattle.regular.proofs.Spelling.{spelled-front, spelled-least}
 use Rattle.regular.proofs.Glyphs.{spelled-glyphs, spelled-words}
@@ -45,12 +45,12 @@ unfolding opens
 spaces-open [] h = refl
 spaces-open (x ∷ sp) h = and-true _ _ (sym (every-cons isSpace x sp) ∙ h) .0
 
-module _ (o : Opts) (kept : o .uniform ≡ false) (sp : List ℕ) (spaced : every isSpace sp ≡ true) where
+module _ (o : Opts) (sp : List ℕ) (spaced : every isSpace sp ≡ true) where
   trail-step : (a sps ink rest : List ℕ) (newLine previous : Bool) → a ≡ sps ++ (ink ++ rest) → every isSpace sps ≡ true → every (λ b. not (eqb b 32)) ink ≡ true → 0 < length ink → opens rest ≡ true
       → stretchWords o false (lastly false ink) (rest ++ sp) ≡ stretchWords o false (lastly false ink) rest
       → stretchWords o newLine previous (a ++ sp) ≡ stretchWords o newLine previous a
   trail-step a sps ink rest newLine previous is s i some n ih =
-      rw (is, append-inner sps ink rest sp, word-first sps ink (rest ++ sp) s i some (opens-append rest sp n (spaces-open sp spaced)) o newLine previous kept, word-first sps ink rest s i some n o newLine previous kept, ih)
+      rw (is, append-inner sps ink rest sp, word-first sps ink (rest ++ sp) s i some (opens-append rest sp n (spaces-open sp spaced)) o (o .uniform) newLine previous refl, word-first sps ink rest s i some n o (o .uniform) newLine previous refl, ih)
 
   trail-upto : (k : ℕ) (a : List ℕ) → length a ≤ k → closed true a ≡ true → (newLine previous : Bool) → stretchWords o newLine previous (a ++ sp) ≡ stretchWords o newLine previous a
   trail-upto zero [] l h newLine previous = spaces-none o newLine previous sp spaced ∙ sym (no-words o newLine previous)
@@ -68,9 +68,9 @@ empty-closed [] q = refl
 empty-closed (x ∷ xs) q = absurd (omega arith)
 
 -- by places: the spaces that end at a place
-trailing : (o : Opts) (kept : o .uniform ≡ false) (newLine previous : Bool) (s : List ℕ) (from e end : ℕ) → end ≤ length s → BeforeSpaces s from end e
+trailing : (o : Opts) (newLine previous : Bool) (s : List ℕ) (from e end : ℕ) → end ≤ length s → BeforeSpaces s from end e
     → stretchWords o newLine previous (slice from end s) ≡ stretchWords o newLine previous (slice from e s)
-trailing o kept newLine previous s from e end within before = pick (ltb from e) refl
+trailing o newLine previous s from e end within before = pick (ltb from e) refl
   where
     spaced : every isSpace (slice e end s) ≡ true
     spaced = part-spaces s e end within (before .spaces)
@@ -79,12 +79,12 @@ trailing o kept newLine previous s from e end within before = pick (ltb from e) 
     pick true h =
         let m = before .most in
         rw (slice-join from e end s (before .on) m within) at
-        (trail-upto o kept (slice e end s) spaced (length (slice from e s)) (slice from e s) (omega arith) (part-closed s from e (omega arith) (ltb-true from e h) (before .ink (ltb-true from e h))) newLine previous)
+        (trail-upto o (slice e end s) spaced (length (slice from e s)) (slice from e s) (omega arith) (part-closed s from e (omega arith) (ltb-true from e h) (before .ink (ltb-true from e h))) newLine previous)
     pick false h =
         let m = before .most in
         let z : e ≡ from = omega (arith, ltb-false from e h, before .on) in
         rw (slice-join from e end s (before .on) m within) at
-        (trail-upto o kept (slice e end s) spaced (length (slice from e s)) (slice from e s) (omega arith) (empty-closed (slice from e s) (length-slice from e s (omega arith) ∙ (let w : e - from ≡ 0 = omega arith in w))) newLine previous)
+        (trail-upto o (slice e end s) spaced (length (slice from e s)) (slice from e s) (omega arith) (empty-closed (slice from e s) (length-slice from e s (omega arith) ∙ (let w : e - from ≡ 0 = omega arith in w))) newLine previous)
 
 -- ---- a line of a paragraph
 
@@ -98,7 +98,7 @@ ink-first (x ∷ xs) h l = λ q.
     let n : _≡_ {A = ℕ} 0 1 = cc in
     omega arith
 
-module _ (o : Opts) (kept : o .uniform ≡ false) (skip later : ℕ) (s : List ℕ) (next i : ℕ) (x : Extent) (more : i < next) (fits : next ≤ length s) (found : x ≡ lengthsOf (firstLine (slice i next s)))
+module _ (o : Opts) (skip later : ℕ) (s : List ℕ) (next i : ℕ) (x : Extent) (more : i < next) (fits : next ≤ length s) (found : x ≡ lengthsOf (firstLine (slice i next s)))
     (begins : AllBegin (o .glue) skip later (linesOf (slice i next s))) where
   line : LineAt o false skip later s next i x
   line = line-at o false skip later s next i x more fits found (λ m. begins)
@@ -107,9 +107,9 @@ module _ (o : Opts) (kept : o .uniform ≡ false) (skip later : ℕ) (s : List �
   row-begins = (omega (arith, line .starts refl), omega (arith, line .shorter), line .within)
 
   -- the stretch without the spaces at its end
-  stretch-is : spelled false (slice (i + skip) (i + x .text) s) ≡ true → (e : ℕ) → BeforeSpaces s (i + skip) (i + x .text) e → (n : ℕ) → n ≡ columnsIn s (i + skip) e
+  stretch-is : spelled false (slice (i + skip) (i + x .text) s) ≡ true → (e : ℕ) → BeforeSpaces s (i + skip) (i + x .text) e → (n : ℕ) → n ≡ columnsIn s (i + skip) e → Even (o .uniform) s (i + skip) e
       → RowIs o skip later s next i (record { from = i + skip; end = e; columns = n; next = i + x .whole; regular = true })
-  stretch-is spelt e before n count =
+  stretch-is spelt e before n count even =
       let a = line .on in
       let b = line .within in
       let c = line .shorter in
@@ -122,9 +122,10 @@ module _ (o : Opts) (kept : o .uniform ≡ false) (skip later : ℕ) (s : List �
         within = omega arith;
         rest = line .rest refl;
         inked = λ l. record { on = l; within = omega arith; letters = letters; first = first l; last = before .ink l };
+        even = even;
         counts = count;
         words = line .words ∙ ap (λ (ws : List Word). ws ++ wordsAt o false later later (linesOf (slice (i + x .whole) next s)))
-            (spelled-words o true false true (slice (i + skip) (i + x .text) s) spelt ∙ trailing o kept true false s (i + skip) e (i + x .text) (omega arith) before);
+            (spelled-words o true false true (slice (i + skip) (i + x .text) s) spelt ∙ trailing o true false s (i + skip) e (i + x .text) (omega arith) before);
       }
     where
       letters : spelled false (slice (i + skip) e s) ≡ true
@@ -189,10 +190,10 @@ module _ (o : Opts) (kept : o .uniform ≡ false) (skip later : ℕ) (s : List �
           whole = rw z (over ∙ behind-is);
         }
 
-    pub row-is : (e : ℕ) → BeforeSpaces s (i + skip) end e → (n : ℕ) → n ≡ columnsIn s (i + skip) e → RowIs o skip later s next i (record { from = i + skip; end = e; columns = n; next = behind; regular = true })
-    row-is e before n count =
+    pub row-is : (e : ℕ) → BeforeSpaces s (i + skip) end e → (n : ℕ) → n ≡ columnsIn s (i + skip) e → Even (o .uniform) s (i + skip) e → RowIs o skip later s next i (record { from = i + skip; end = e; columns = n; next = behind; regular = true })
+    row-is e before n count even =
         let k = size in
         let m = same-ends (line-ends text i (omega (arith, k, more)) x found) ends (omega arith) (row-begins .0) in
         let a : i + x .text ≡ end = omega (arith, m .0, on) in
         let b : i + x .whole ≡ behind = sym (m .1) ∙ over in
-        rw b at (stretch-is (rw a spelt) e (rw a before) n count)
+        rw b at (stretch-is (rw a spelt) e (rw a before) n count even)

@@ -4,7 +4,7 @@ use mathlib.Core.Bool.{Bool, true, false, cond, not, _&&_, false≢true}
 use mathlib.Core.List.{List, [], _∷_, _++_, append-assoc}
 use Prim.Native.Nat.{ℕ, suc, _+_, _-_, _/_, _≤_, _<_}
 use native.Mathlib.Omega.{arith}
-use lib.Dec.{eqb}
+use lib.Dec.{eqb, ltb}
 use lib.ListN.{length, drop, length-append}
 use lib.Seq.{drop-at}
 use borrow.Author.Tests.{eqb-true, ne-eqb, not-true}
@@ -16,7 +16,7 @@ use Rattle.text.specs.Characters.{Glyph, isBlank}
 use Rattle.options.specs.Opts.{Opts}
 use Rattle.records.specs.Word.{Word}
 use Rattle.records.specs.declared.Before.the-variants.{Absent}
-use Rattle.words.specs.Words.{Run, isInk, isPunct, runOf, runs, bytesOf, widthSum, gapFrom, gapOf, punctAtEnd, counting, wideGap, wordOf, lineWords}
+use Rattle.words.specs.Words.{Run, isInk, isPunct, runOf, runs, bytesOf, widthSum, gapFrom, gapOf, noGap, punctAtEnd, counting, wideGap, wordOf, lineWords}
 use Rattle.words.specs.Contracts.Scan.{punctCode}
 use Rattle.text.specs.Contracts.Joins.{goesOn}
 use Rattle.regular.specs.Contracts.Regular.{isSpace, notSpace, columnOf, columns, carriesOn, byteGlyph, withByte, withFirst, spelling, stretchWords, lastly, opens, plainWord}
@@ -266,10 +266,10 @@ module _ (sp ink rest : List ℕ) (spaces : every isSpace sp ≡ true) (inked : 
       go [] l = absurd (omega arith)
       go (x ∷ t) l = spelling-punct false x t
 
-  is-word : (o : Opts) (newLine previous : Bool) → o .uniform ≡ false → wordOf (counting (o .byCharacters)) o newLine previous first ≡ plainWord newLine previous sp ink
+  is-word : (o : Opts) (newLine previous : Bool) → wordOf (counting (o .byCharacters)) o newLine previous first ≡ plainWord (o .uniform) newLine previous sp ink
   unfolding wordOf wideGap gapOf counting
-  is-word o newLine previous u =
-      rw (u, spaces-gap (o .tab) 0 sp spaces, spelling-bytes sp, spelling-bytes ink, spelling-width ink, spaces-length sp spaces, punct-is, same (o .byCharacters) (length sp), none)
+  is-word o newLine previous =
+      rw (spaces-gap (o .tab) 0 sp spaces, spelling-bytes sp, spelling-bytes ink, spelling-width ink, spaces-length sp spaces, punct-is, same (o .byCharacters) (length sp), none) (each (o .uniform))
     where
       same : (c : Bool) (n : ℕ) → cond c n n ≡ n
       same true n = refl
@@ -277,6 +277,21 @@ module _ (sp ink rest : List ℕ) (spaces : every isSpace sp ≡ true) (inked : 
 
       none : 0 + length sp ≡ length sp
       none = omega arith
+
+      each : (u : Bool)
+          → record {
+            blanks = cond u [] sp;
+            text = ink;
+            width = columns ink;
+            before = cond u noGap (record { before = Absent; after = length sp }) .before;
+            after = cond u noGap (record { before = Absent; after = length sp }) .after;
+            newLine = newLine;
+            endsPunct = lastly false ink;
+            sentenceStart = previous && ltb 1 (length sp);
+          }
+          ≡ plainWord u newLine previous sp ink
+      each true = refl
+      each false = refl
 
   line-words : (o : Opts) (newLine previous : Bool)
       → lineWords (counting (o .byCharacters)) o newLine previous (first ∷ runs (spelling rest)) ≡ wordOf (counting (o .byCharacters)) o newLine previous first ∷ lineWords (counting (o .byCharacters)) o false (punctAtEnd (spelling ink)) (runs (spelling rest))
@@ -288,7 +303,9 @@ module _ (sp ink rest : List ℕ) (spaces : every isSpace sp ≡ true) (inked : 
       pick (x ∷ t) l ws = refl
 
   -- the first word, and the words after it
-  pub word-first : (o : Opts) (newLine previous : Bool) → o .uniform ≡ false
-      → stretchWords o newLine previous (sp ++ (ink ++ rest)) ≡ plainWord newLine previous sp ink ∷ stretchWords o false (lastly false ink) rest
+  pub word-first : (o : Opts) (u newLine previous : Bool) → o .uniform ≡ u
+      → stretchWords o newLine previous (sp ++ (ink ++ rest)) ≡ plainWord u newLine previous sp ink ∷ stretchWords o false (lastly false ink) rest
   unfolding stretchWords
-  word-first o newLine previous u = ap (lineWords (counting (o .byCharacters)) o newLine previous) runs-are ∙ line-words o newLine previous ∙ rw (is-word o newLine previous u, punct-is)
+  word-first o u newLine previous e =
+      ap (lineWords (counting (o .byCharacters)) o newLine previous) runs-are ∙ line-words o newLine previous ∙ rw (is-word o newLine previous, punct-is)
+      (ap (λ (v : Bool). plainWord v newLine previous sp ink ∷ lineWords (counting (o .byCharacters)) o false (lastly false ink) (runs (spelling rest))) e)

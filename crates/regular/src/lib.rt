@@ -23,8 +23,8 @@ ghost use Rattle.words.specs.Contracts.Split.{Kept};
 ghost use Rattle.output.specs.Emission.{lineFeed};
 ghost use Rattle.output.specs.Contracts.Sink.{Wrote};
 ghost use Rattle.output.specs.Contracts.Writers.{marginOf, MarginIn};
-ghost use Rattle.regular.specs.Contracts.Regular.{columnOf, freshPunct, added};
-ghost use Rattle.regular.specs.Contracts.Places.{Spaceless, LastSpace, FirstSpace, OverSpaces, BeforeSpaces, Inked, columnsIn, Reaches, OverIs, CutIs, Filled, Joined, EachRegular, RegularTo, SpelledTo, RowIs, Went, Stands, standing, GapIn, WordPut, Listed, Worded, RowPut, Rowed, PutIs};
+ghost use Rattle.regular.specs.Contracts.Regular.{columnOf, isEven, evenly, freshPunct, added};
+ghost use Rattle.regular.specs.Contracts.Places.{Spaceless, LastSpace, FirstSpace, OverSpaces, BeforeSpaces, Inked, Even, columnsIn, Reaches, OverIs, CutIs, Filled, Joined, EachRegular, RegularTo, SpelledTo, RowIs, Went, Stands, standing, GapIn, WordPut, Listed, Worded, RowPut, Rowed, PutIs};
 
 // A paragraph's work so far: the written end, and the column.
 struct State {
@@ -368,7 +368,7 @@ fn fill(
     st: State,
     out: &mut [u8],
 ) -> State
-    requires { ⌜ Inked (now s) from e × (columns ≡ columnsIn (now s) from e) × (g .uniform ≡ false) × MarginIn (length (now s)) indent × (length (now s) ≤ 2 ^ 20) × (st .written < 2 ^ 62 + 2 ^ 60) × (st .column < 2 ^ 61) × (g .indent < 2 ^ 61) ⌝ }
+    requires { ⌜ Inked (now s) from e × (columns ≡ columnsIn (now s) from e) × Even (g .uniform) (now s) from e × MarginIn (length (now s)) indent × (length (now s) ≤ 2 ^ 20) × (st .written < 2 ^ 62 + 2 ^ 60) × (st .column < 2 ^ 61) × (g .indent < 2 ^ 61) ⌝ }
     ensures { λ r. ⌜ Filled (now (s .entry)) from e counts g (marginOf (now (s .entry)) indent) (st .column) (now (out .entry)) (st .written) (now (out .exit)) r ⌝ }
 {
     let mut p = from;
@@ -429,7 +429,7 @@ fn join(
     st: State,
     out: &mut [u8],
 ) -> State
-    requires { ⌜ Inked (now s) p e × (columns ≡ columnsIn (now s) p e) × (g .uniform ≡ false) × MarginIn (length (now s)) indent × (length (now s) ≤ 2 ^ 20) × (st .written < 2 ^ 62 + 2 ^ 59) × (st .column < 2 ^ 60) × (g .indent < 2 ^ 60) × (g .width < 2 ^ 60) ⌝ }
+    requires { ⌜ Inked (now s) p e × (columns ≡ columnsIn (now s) p e) × Even (g .uniform) (now s) p e × MarginIn (length (now s)) indent × (length (now s) ≤ 2 ^ 20) × (st .written < 2 ^ 62 + 2 ^ 59) × (st .column < 2 ^ 60) × (g .indent < 2 ^ 60) × (g .width < 2 ^ 60) ⌝ }
     ensures { λ r. ⌜ Joined (now (s .entry)) p e punct g (marginOf (now (s .entry)) indent) (st .column) (now (out .entry)) (st .written) (now (out .exit)) r ⌝ }
 {
     let extra = added_of(punct);
@@ -584,9 +584,9 @@ fn letters_end(s: &[u8], from: usize, end: usize) -> Letters
     Letters { end: i, count }
 }
 
-// The line at a place of a paragraph, if it is of regular bytes and letters of two.
+// The line at a place of a paragraph, if it is of regular bytes and letters of two, and its gaps are written as they are.
 fn row_at(s: &[u8], i: usize, next: usize, skip: usize, later: usize, o: Options) -> Row
-    requires { ⌜ (i < next) × (next ≤ length (now s)) × (length (now s) ≤ 2 ^ 20) × (o .uniform ≡ false) × AllBegin (o .glue) skip later (linesOf (slice i next (now s))) ⌝ }
+    requires { ⌜ (i < next) × (next ≤ length (now s)) × (length (now s) ≤ 2 ^ 20) × AllBegin (o .glue) skip later (linesOf (slice i next (now s))) ⌝ }
     ensures { λ r. ⌜ (r .regular ≡ true → (block : List ℕ) → RowIs (meant block o) skip later (now (s .entry)) next i r) ⌝ }
 {
     let from = i + skip;
@@ -598,8 +598,49 @@ fn row_at(s: &[u8], i: usize, next: usize, skip: usize, later: usize, o: Options
         end,
         columns: end - from - letters.count,
         next: behind_line(letters.end, next),
-        regular: ends_line(s, letters.end, next),
+        regular: ends_line(s, letters.end, next) & are_as_written(s, from, end, o.uniform),
     }
+}
+
+// Whether the gaps between two places are written as they are.
+fn are_as_written(s: &[u8], from: usize, end: usize, uniform: bool) -> bool
+    requires { ⌜ (from ≤ end) × (end ≤ length (now s)) ⌝ }
+    ensures { λ r. ⌜ (r ≡ true → Even uniform (now (s .entry)) from end) ⌝ }
+{
+    if uniform {
+        return are_even(s, from, end);
+    }
+    true
+}
+
+// Whether they are as uniform has them: one space, or two after the end of a sentence.
+fn are_even(s: &[u8], from: usize, end: usize) -> bool
+    requires { ⌜ (from ≤ end) × (end ≤ length (now s)) ⌝ }
+    ensures { λ r. ⌜ (r ≡ true → evenly 0 0 (slice from end (now (s .entry))) ≡ true) ⌝ }
+{
+    let mut i = from;
+    let mut p = 0u8;
+    let mut q = 0u8;
+    while i < end {
+        let b = s[i];
+        if !is_even(p, q, b) {
+            return false;
+        }
+        p = q;
+        q = b;
+        i += 1;
+    }
+    true
+}
+
+// Whether a byte after p and q is no second space, unless p ends a sentence.
+fn is_even(p: u8, q: u8, b: u8) -> bool
+    ensures { λ r. ⌜ r ≡ isEven p q b ⌝ }
+{
+    if (q == 32) & (b == 32) {
+        return is_punct(p);
+    }
+    true
 }
 
 fn is_punct(b: u8) -> bool
@@ -622,7 +663,7 @@ fn next_row(
     t: Reached,
     out: &mut [u8],
 ) -> Reached
-    requires { ⌜ (from ≤ e) × (e ≤ length (now s)) × (from < e → Inked (now s) from e) × (columns ≡ columnsIn (now s) from e) × (g .uniform ≡ false) × MarginIn (length (now s)) indent × (length (now s) ≤ 2 ^ 20) × (t .written < 2 ^ 62 + 2 ^ 59) × Stands t × (g .indent < 2 ^ 31) × (g .width < 2 ^ 31) ⌝ }
+    requires { ⌜ (from ≤ e) × (e ≤ length (now s)) × (from < e → Inked (now s) from e) × (columns ≡ columnsIn (now s) from e) × Even (g .uniform) (now s) from e × MarginIn (length (now s)) indent × (length (now s) ≤ 2 ^ 20) × (t .written < 2 ^ 62 + 2 ^ 59) × Stands t × (g .indent < 2 ^ 31) × (g .width < 2 ^ 31) ⌝ }
     ensures { λ r. ⌜ Went (now (s .entry)) from e g (marginOf (now (s .entry)) indent) (now (out .entry)) t (now (out .exit)) r ⌝ }
 {
     if from == e {
@@ -665,7 +706,7 @@ fn head_row(
     t: Reached,
     out: &mut [u8],
 ) -> Reached
-    requires { ⌜ Inked (now s) from e × (columns ≡ columnsIn (now s) from e) × (g .uniform ≡ false) × MarginIn (length (now s)) indent × (length (now s) ≤ 2 ^ 20) × (t .written < 2 ^ 62 + 2 ^ 59) × (t .begins ≡ true) × (t .column < 2 ^ 31) × (g .indent < 2 ^ 31) ⌝ }
+    requires { ⌜ Inked (now s) from e × (columns ≡ columnsIn (now s) from e) × Even (g .uniform) (now s) from e × MarginIn (length (now s)) indent × (length (now s) ≤ 2 ^ 20) × (t .written < 2 ^ 62 + 2 ^ 59) × (t .begins ≡ true) × (t .column < 2 ^ 31) × (g .indent < 2 ^ 31) ⌝ }
     ensures { λ r. ⌜ Went (now (s .entry)) from e g (marginOf (now (s .entry)) indent) (now (out .entry)) t (now (out .exit)) r ⌝ }
 {
     let st = fill(
@@ -901,7 +942,7 @@ fn put_other(
     }
 }
 
-// The line at a place of a paragraph: by its stretch if it is regular and gaps are kept, as they are not in mail.
+// The line at a place of a paragraph: by its stretch if it is regular, as no line of mail is.
 fn put_row(
     s: &[u8],
     i: usize,
@@ -918,7 +959,7 @@ fn put_row(
     requires { ⌜ (i < next) × (next ≤ length (now s)) × (length (now s) ≤ 2 ^ 20) × (1 ≤ o .tab) × (o .tab ≤ 100) × (mail ≡ false → AllBegin (o .glue) skip later (linesOf (slice i next (now s)))) × (g .uniform ≡ (o .uniform || mail)) × Fair g × MarginIn (length (now s)) indent × (t .written < 2 ^ 62 + 2 ^ 57) × Stands t × (g .indent < 2 ^ 31) × (g .width < 2 ^ 31) ⌝ }
     ensures { λ r. ⌜ RowPut (now (s .entry)) i next mail skip later o g (marginOf (now (s .entry)) indent) (now (out .entry)) t (now (out .exit)) r ⌝ }
 {
-    if g.uniform {
+    if mail {
         return put_other(s, i, next, mail, skip, later, o, g, indent, t, out);
     }
     let row = row_at(s, i, next, skip, later, o);

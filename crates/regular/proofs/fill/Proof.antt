@@ -22,7 +22,7 @@ abbrev μ-loop : tie.MeasureT-loop
 μ-loop s from e columns counts g indent out₀ p₀ k₀ column₀ counting₀ left₀ out p k column counting left = e - p
 
 loop-holds : tie.Need-loop-holds Inv-loop μ-loop
-loop-holds c = let pre = c .before .before .pre in (omega arith, omega arith, omega arith, refl, along-first _ _ _ _ _ _ _ _ _ (pre .2) (pre .0), pre .1)
+loop-holds c = let pre = c .before .before .pre in (omega arith, omega arith, omega arith, refl, along-first _ _ _ _ _ _ _ _ _ (pre .0) (pre .2), pre .1)
 
 -- there are no more columns than bytes
 few : (c : tie.At-loop Inv-loop μ-loop) → c .loop .left ≤ c .before .before .before .args .e - c .loop .p
@@ -66,7 +66,7 @@ returns c =
     let l = c .before .before .before .before .before .before .before .before .before .before .before .loop in
     let pre = c .before .before .before .before .before .before .before .before .before .before .before .before .before .before .pre in
     let sum : l .column + l .left ≡ l .column + columnsIn (now (c .before .before .before .before .before .before .before .before .before .before .before .before .before .before .args .s)) (l .p) (c .before .before .before .before .before .before .before .before .before .before .before .before .before .before .args .e) = rw (l .inv .5) in
-    along-done _ _ _ _ _ _ _ _ _ (pre .2) _ _ _ _ _ (l .inv .4) (inr (c .before .before .before .before .before .before .cut-line .ensures .lone (omega (arith, c .before .before .before .before .if2 .taken)))) (l .inv .0) (l .inv .1) (l .inv .2) (pre .4) _ _ (c .before .before .put-at .ensures) sum
+    along-done _ _ _ _ _ _ _ _ _ _ _ _ _ _ (l .inv .4) (inr (c .before .before .before .before .before .before .cut-line .ensures .lone (omega (arith, c .before .before .before .before .if2 .taken)))) (l .inv .0) (l .inv .1) (l .inv .2) (pre .4) _ _ (c .before .before .put-at .ensures) sum
 
 -- the next word begins before the stretch's end
 cut : (c : tie.Else2 Inv-loop μ-loop) → CutAt (now (c .before .before .before .before .before .before .before .before .before .before .args .s)) (c .before .before .before .before .before .before .before .loop .p) (c .before .before .before .before .before .before .before .before .before .before .args .e) (c .before .before .before .place-of .result) (c .before .before .cut-line .result)
@@ -111,7 +111,7 @@ loop-again c =
       omega (arith, l .inv .0, l .inv .1, put .1, found .on, found .gap),
       omega arith,
       wrote-length (put .0) ∙ l .inv .3,
-      along-turn _ _ _ _ _ _ _ _ _ (pre .2) _ _ _ _ _ (l .inv .4) _ _ _ (c .before .before .before .before .before .before .before .before .before .room-of .ensures) (c .before .before .before .before .before .before .before .before .place-of .ensures) found _ _ (put .0),
+      along-turn _ _ _ _ _ _ _ _ _ _ _ _ _ _ (l .inv .4) _ _ _ (c .before .before .before .before .before .before .before .before .before .room-of .ensures) (c .before .before .before .before .before .before .before .before .place-of .ensures) found _ _ (put .0),
       omega (arith, rest c),
     )
 
@@ -133,7 +133,7 @@ returns-2 c =
     let l = c .before .before .before .before .before .before .loop in
     let pre = c .before .before .before .before .before .before .before .before .before .pre in
     let sum : l .column + l .left ≡ l .column + columnsIn (now (c .before .before .before .before .before .before .before .before .before .args .s)) (l .p) (c .before .before .before .before .before .before .before .before .before .args .e) = rw (l .inv .5) in
-    along-done _ _ _ _ _ _ _ _ _ (pre .2) _ _ _ _ _ (l .inv .4) (inl (omega (arith, c .before .before .before .before .if1 .left, l .inv .5))) (l .inv .0) (l .inv .1) (l .inv .2) (pre .4) _ _ (c .before .before .put-at2 .ensures) sum
+    along-done _ _ _ _ _ _ _ _ _ _ _ _ _ _ (l .inv .4) (inl (omega (arith, c .before .before .before .before .if1 .left, l .inv .5))) (l .inv .0) (l .inv .1) (l .inv .2) (pre .4) _ _ (c .before .before .put-at2 .ensures) sum
 
 pub fill-spec : {M : Type 1} → statement M
 fill-spec =

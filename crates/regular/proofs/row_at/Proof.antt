@@ -1,5 +1,6 @@
 -- `regular::row_at` meets its contract.
 use mathlib.Core.Path.{_≡_, refl}
+use mathlib.Core.Bool.{and-eq-true-iff}
 use mathlib.Core.List.{[]}
 use Prim.Native.Nat.{_+_, _-_, _≤_}
 use native.Mathlib.Omega.{arith}
@@ -21,7 +22,7 @@ unfolding meant
 begins c =
     let start = c .before in
     let p = start .pre in
-    let b = row-begins (meant [] (start .args .o)) (p .3) (start .args .skip) (start .args .later) (now (start .args .s)) (start .args .next) (start .args .i) (lengthsOf (firstLine (slice (start .args .i) (start .args .next) (now (start .args .s))))) (p .0) (p .1) refl (p .4) in
+    let b = row-begins (meant [] (start .args .o)) (start .args .skip) (start .args .later) (now (start .args .s)) (start .args .next) (start .args .i) (lengthsOf (firstLine (slice (start .args .i) (start .args .next) (now (start .args .s))))) (p .0) (p .1) refl (p .3) in
     omega (arith, b .0, b .1, b .2)
 
 add-from : tie.Need-add-from
@@ -53,17 +54,21 @@ behind-line-requires c κs = search needs
 ends-line-requires : tie.Need-ends-line-requires
 ends-line-requires c κs = (c .before .before .before .letters-end .ensures .most, c .before .before .before .before .before .before .pre .1)
 
+are-as-written-requires : tie.Need-are-as-written-requires
+are-as-written-requires c κs = let before = c .before .before .before .before-spaces .ensures in (before .on, omega (arith, before .most, c .before .before .before .before .letters-end .ensures .most, c .before .before .before .before .before .before .before .pre .1))
+
 returns : tie.Need-returns
 unfolding meant
 returns c =
     λ h block.
-    let start = c .before .before .before .before .before .before .before in
+    let start = c .before .before .before .before .before .before .before .before in
     let p = start .pre in
-    let regular = c .before .before .before .before .before .regular-end .ensures in
-    let letters = c .before .before .before .before .letters-end .ensures in
+    let regular = c .before .before .before .before .before .before .regular-end .ensures in
+    let letters = c .before .before .before .before .before .letters-end .ensures in
+    let both = and-eq-true-iff _ _ .0 h in
     rw h
-    (row-is (meant block (start .args .o)) (p .3) (start .args .skip) (start .args .later) (now (start .args .s)) (start .args .next) (start .args .i) _ (p .0) (p .1) refl (p .4)
-    _ (row-on _ _ _ _ (p .1) regular _ letters) (letters .most) (row-spelled _ _ _ _ (p .1) regular _ letters) (c .ends-line .ensures h) _ (c .before .behind-line .ensures) _ (c .before .before .before .before-spaces .ensures) _ (omega (arith, counted (c .before .before .before))))
+    (row-is (meant block (start .args .o)) (start .args .skip) (start .args .later) (now (start .args .s)) (start .args .next) (start .args .i) _ (p .0) (p .1) refl (p .3)
+    _ (row-on _ _ _ _ (p .1) regular _ letters) (letters .most) (row-spelled _ _ _ _ (p .1) regular _ letters) (c .before .ends-line .ensures (both .0)) _ (c .before .before .behind-line .ensures) _ (c .before .before .before .before .before-spaces .ensures) _ (omega (arith, counted (c .before .before .before .before))) (c .are-as-written .ensures (both .1)))
 
 pub row-at-spec : {M : Type 1} → statement M
 row-at-spec =
@@ -77,4 +82,5 @@ row-at-spec =
     sub-t12
     behind-line-requires
     ends-line-requires
+    are-as-written-requires
     returns)

@@ -13,7 +13,7 @@ use Rattle.records.specs.declared.Word.{Word as Record}
 use Rattle.spacing.specs.declared.Setting.{Setting}
 use Rattle.output.specs.Contracts.Sink.{Left}
 use Rattle.text.specs.Contracts.Joins.{goesOn}
-use Rattle.regular.specs.Contracts.Regular.{isRegular, spelled, columns, stretchWords, freshPunct, lastly, quickRest, quickFresh, quickOn}
+use Rattle.regular.specs.Contracts.Regular.{isRegular, spelled, columns, evenly, stretchWords, freshPunct, lastly, quickRest, quickFresh, quickOn}
 use Rattle.regular.specs.declared.Cut.{Cut}
 use Rattle.regular.specs.declared.State.{State}
 use Rattle.regular.specs.declared.Row.{Row}
@@ -75,6 +75,10 @@ pub record Inked (s : List ℕ) (p e : ℕ) : Type 0 where
   pub first : NoSpace s p
   pub last : NoSpace s (e - 1)
 
+-- if gaps are to be uniform, those between two places are
+abbrev pub Even : Bool → List ℕ → ℕ → ℕ → Type 0
+Even uniform s from to = uniform ≡ true → evenly 0 0 (slice from to s) ≡ true
+
 -- the columns between two places
 abbrev pub columnsIn : List ℕ → ℕ → ℕ → ℕ
 columnsIn s from to = columns (slice from to s)
@@ -108,19 +112,20 @@ pub record CutIs (s : List ℕ) (p e at : ℕ) (r : Cut) : Type 0 where
   pub cut : r .next < e → CutAt s p e at r
   pub lone : e ≤ r .next → (i : ℕ) → p ≤ i → i < e → NoSpace s i
 
--- ---- what is left of quick's output, whatever words follow; the gaps are kept
+-- ---- what is left of quick's output, whatever words follow
 
 -- A stretch from `from` to e was to begin a line of output at a column: now that out and k are reached, its part from p on is, at another.
 pub record Along (s : List ℕ) (from e : ℕ) (counts : Bool) (g : Setting) (indent : List ℕ) (column : ℕ) (out : List ℕ) (k p : ℕ) (counts′ : Bool) (column′ : ℕ) (out′ : List ℕ) (k′ : ℕ) : Type 0 where
   pub inked : Inked s p e
+  pub even : Even (g .uniform) s p e
   pub punct : freshPunct counts′ (slice p e s) ≡ freshPunct counts (slice from e s)
-  pub left : (o : Opts) (newLine previous : Bool) (more : List Word) → o .uniform ≡ false
+  pub left : (o : Opts) (newLine previous : Bool) (more : List Word) → o .uniform ≡ g .uniform
       → Left out k (quickFresh g indent counts column (stretchWords o newLine previous (slice from e s) ++ more))
       out′ k′ (quickFresh g indent counts′ column′ (stretchWords o false false (slice p e s) ++ more))
 
 -- It is written: what is left is the output of the words that follow.
 pub record Filled (s : List ℕ) (p e : ℕ) (counts : Bool) (g : Setting) (indent : List ℕ) (column : ℕ) (out : List ℕ) (k : ℕ) (out′ : List ℕ) (r : State) : Type 0 where
-  pub left : (o : Opts) (newLine previous : Bool) (more : List Word) → o .uniform ≡ false
+  pub left : (o : Opts) (newLine previous : Bool) (more : List Word) → o .uniform ≡ g .uniform
       → Left out k (quickFresh g indent counts column (stretchWords o newLine previous (slice p e s) ++ more))
       out′ (r .written) (quickRest g indent (r .column) (freshPunct counts (slice p e s)) more)
   pub most : r .written ≤ k + (e - p) * 2 ^ 34
@@ -128,7 +133,7 @@ pub record Filled (s : List ℕ) (p e : ℕ) (counts : Bool) (g : Setting) (inde
 
 -- The same of the next line's stretch, after a line of output that is at a column.
 pub record Joined (s : List ℕ) (p e : ℕ) (punct : Bool) (g : Setting) (indent : List ℕ) (column : ℕ) (out : List ℕ) (k : ℕ) (out′ : List ℕ) (r : State) : Type 0 where
-  pub left : (o : Opts) (more : List Word) → o .uniform ≡ false
+  pub left : (o : Opts) (more : List Word) → o .uniform ≡ g .uniform
       → Left out k (quickRest g indent column punct (stretchWords o true false (slice p e s) ++ more))
       out′ (r .written) (quickRest g indent (r .column) (lastly false (slice p e s)) more)
   pub most : r .written ≤ k + (e - p + 1) * 2 ^ 34
@@ -163,6 +168,7 @@ pub record RowIs (o : Opts) (skip later : ℕ) (s : List ℕ) (next i : ℕ) (r 
   pub within : r .end ≤ r .next
   pub rest : AllBegin (o .glue) later later (linesOf (slice (r .next) next s))
   pub inked : r .from < r .end → Inked s (r .from) (r .end)
+  pub even : Even (o .uniform) s (r .from) (r .end)
   pub counts : r .columns ≡ columnsIn s (r .from) (r .end)
   pub words : wordsAt o false skip later (linesOf (slice i next s)) ≡ stretchWords o true false (slice (r .from) (r .end) s) ++ wordsAt o false later later (linesOf (slice (r .next) next s))
 
@@ -184,7 +190,7 @@ standing t = record { written = t .written; column = t .column; punct = t .punct
 
 -- A stretch, that may be empty, is written.
 pub record Went (s : List ℕ) (from e : ℕ) (g : Setting) (indent : List ℕ) (out : List ℕ) (t : Reached) (out′ : List ℕ) (r : Reached) : Type 0 where
-  pub left : (o : Opts) (more : List Word) → o .uniform ≡ false
+  pub left : (o : Opts) (more : List Word) → o .uniform ≡ g .uniform
       → Left out (t .written) (ahead g indent t (stretchWords o true false (slice from e s) ++ more)) out′ (r .written) (ahead g indent r more)
   pub most : r .written ≤ t .written + (e - from + 1) * 2 ^ 34
   pub stands : Stands r
