@@ -70,10 +70,13 @@ static bool mend_file(const char *name, struct buffer *copy, struct buffer *list
     return whole;
 }
 
-/* A list that is there already belongs to another copy, and stays. */
+/* A list that is there already belongs to another copy, and stays; or it is the notes, and LIST was left out. */
 static bool write_both(const char *name, const struct buffer *list, const struct buffer *copy) {
     if (!write_new(name, list->bytes, list->length)) {
-        say_failure(name, errno);
+        if (errno == EEXIST)
+            say("%s: File exists; LIST must be a new file, and comes before FILE", name);
+        else
+            say_failure(name, errno);
         return false;
     }
     if (write_out(copy->bytes, copy->length) && end_output())

@@ -2,7 +2,7 @@
  *
  *     make                     # the library for this machine, x86-64 or Arm
  *     cc -std=c11 -I include -o host examples/host.c target/package/librudignals.a
- *     ./host 60 < notes.txt
+ *     ./host 60 <examples/notes.txt
  */
 #include "rudignals.h"
 

@@ -67,7 +67,7 @@ def refused(folder):
     stray = f"rudignals: {path}: line %d does not belong to this copy\n"
     # a list that is there stays as it is, and nothing is written
     path.write_text("kept\n")
-    expect("a list that is there", run(["salvage", str(path)], b"\xe9", RUDIGNALS), (1, b"", f"rudignals: {path}: File exists\n"))
+    expect("a list that is there", run(["salvage", str(path)], b"\xe9", RUDIGNALS), (1, b"", f"rudignals: {path}: File exists; LIST must be a new file, and comes before FILE\n"))
     expect("and stays", path.read_text(), "kept\n")
     status, copy, words, lines = salvage(folder, b"a\n" + b"\xe9" * 65536 + b"\n")
     expect("a line too long", (status, copy, words, lines), (1, b"", "rudignals: standard input: the line at byte 2 has more than 65536 bytes\n", None))

@@ -10,8 +10,8 @@ A text is str or bytes, and the result is of the same type: str goes in and out 
 the names of the command's long options, with `_` for `-`; None means that an option was not given. The library alone says whether they are right. What it refuses is
 raised as Refused, with code, place, line, column and the words that the command says.
 
-Notes may have any length, but at most 1,048,576 bytes without an empty line. Offsets are in bytes, and lines of a digest are counted from 0. Threads may call at the same time: the library keeps no state, and the interpreter's lock is
-released during a call.
+Notes may have any length, but at most 1,048,576 bytes without an empty line. Offsets are in bytes, and lines of a digest are counted from 0. Threads may call at
+the same time: the library keeps no state, and the interpreter's lock is released during a call.
 """
 from __future__ import annotations
 

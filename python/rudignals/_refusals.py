@@ -12,7 +12,7 @@ class Refused(ValueError):
 
     `code` is the library's code and `number` the N of its answer. Where the refusal has a place in the notes, `place` is its offset in bytes
     from 0, and `line` and `column` are its line and its column in characters, from 1; elsewhere they are None. The message is the one that
-    the command gives.
+    the command gives; the option that it calls `--keep` is `keep=True` here.
 
     >>> try:
     ...     rudignals.format(b"Valve at 40\\xb0, bled.\\n")

@@ -150,7 +150,7 @@ static void numbers(void) {
     static const uint64_t large[] = {65535, 65536, 65546, 65536 + 60, 0x100000000u + 60, (uint64_t)-60, (uint64_t)-1};
     uint64_t n;
     size_t i;
-    for (n = 0; n < 2000; n++) {
+    for (n = 0; n < 2100; n++) {
         CHECK(number_refused(RUDIGNALS_TAG_FLAGS, n) == (n >= 2048));
         CHECK(number_refused(RUDIGNALS_TAG_WIDTH, n) == (n < 6 || n > 1000));
         CHECK(number_refused(RUDIGNALS_TAG_GOAL, n) == (n < 3 || n > 940));
