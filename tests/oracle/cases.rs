@@ -263,9 +263,10 @@ pub fn random(seed: u64) -> impl Iterator<Item = Case> {
         let short = r.chance(75);
         let opts = random_options(&mut r, if short { 12 } else { 40 });
         let size = 1 + r.below(if short { 60 } else { 400 });
-        let notes = match r.below(3) {
+        let notes = match r.below(4) {
             0 => hostile(&mut r, size),
             1 => plain_words(&mut r),
+            2 => edges(&mut r, &opts),
             _ => random_text(&mut r, &opts, size),
         };
         Some(Case { opts, notes })

@@ -240,6 +240,49 @@ const WORDS: &[&str] = &[
     "4.2\u{a0}K", "12\u{a0}bar", "e.g.", "approx.",
 ];
 
+/// So many letters: ASCII, or with some of two bytes among them, and seldom one that is neither.
+fn letters(r: &mut Rng, count: usize, two_bytes: bool) -> String {
+    let odd = r.chance(2);
+    (0..count)
+        .map(|_| match two_bytes {
+            true if odd => r.pick(&["a", "é", "\u{301}", "中", "\u{480}", "\u{a1}"]),
+            true => r.pick(&["a", "b", "é", "ÿ", "\u{2ff}", "ω", "\u{380}", "ж", "\u{47f}"]),
+            false => r.pick(&["a", "b", "c", "d"]),
+        })
+        .collect()
+}
+
+/// Texts on the edges of the quick ways: lines whose words end at the width, one before it or one after it, in letters of one byte and of two;
+/// two and three spaces at the cut, after a sentence and elsewhere; a last word alone, a tab as any byte; paragraphs of 1,023 to 1,025 words of a
+/// letter and of 2,047 to 2,049 bytes.
+pub fn edges(r: &mut Rng, opts: &Opts) -> String {
+    if r.chance(1) {
+        return "a ".repeat(1022 + r.below(3)) + "a\n";
+    }
+    if r.chance(1) {
+        let words = letters(r, 5, false) + " ";
+        return words.repeat(400)[..2046 + r.below(3)].to_string() + "\n";
+    }
+    let width = usize::from(opts.width.unwrap_or(79)).min(200);
+    let two_bytes = r.chance(60);
+    let mut text = String::new();
+    for _ in 0..1 + r.below(4) {
+        let to = width + r.below(3) - 1;
+        let mut column = 0;
+        while column < to {
+            let left = to - column;
+            let size = if left <= 12 && r.chance(70) { left } else { 1 + r.below(9) };
+            let word = letters(r, size, two_bytes);
+            let mark = if r.chance(20) { r.pick(&[".", "!", "?", ","]) } else { "" };
+            let gap = r.pick(&[" ", " ", " ", " ", " ", "  ", "  ", "   ", "\t"]);
+            column += size + mark.len() + gap.len();
+            text += &(word + mark + gap);
+        }
+        text += r.pick(&["\n", "\n", "a\n", "é\n", " \n", "a. b\n", "\n\n"]);
+    }
+    text
+}
+
 /// Sentences in lines of about `columns`, each line begun by `first` or `next`.
 fn paragraph(r: &mut Rng, columns: usize, first: &str, next: &str) -> String {
     let mut text = String::new();
