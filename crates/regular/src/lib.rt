@@ -231,7 +231,7 @@ fn columns_between(s: &[u8], from: usize, to: usize) -> usize
     n
 }
 
-// On over columns of a stretch, eight bytes at a time: fewer than eight are left to take.
+// On over columns of a stretch, eight bytes at a time, as long as eight are left to take.
 fn over_eights(s: &[u8], p: usize, e: usize, room: usize) -> Over
     requires { ⌜ (p ≤ e) × (e ≤ length (now s)) × (room < columnsIn (now s) p e) ⌝ }
     ensures { λ r. ⌜ OverIs (now (s .entry)) p e room r ⌝ }

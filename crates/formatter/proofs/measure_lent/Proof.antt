@@ -16,16 +16,26 @@ enum-known-o : tie.Need-enum-known-o
 enum-known-o c = search needs
 
 measure-large-requires : tie.Need-measure-large-requires
-measure-large-requires c κs = let p = lent-passed (length (now (c .before .before .before .before .before .before .before .before .args .work))) (now (c .before .before .before .before .before .before .before .before .args .block)) (now (c .before .before .before .before .before .before .before .before .args .notes)) (c .before .before .before .before .admit-lent .result) (c .before .before .before .before .admit-lent .ensures) (c .before .before .o .given .1) in (p .0, p .2)
+measure-large-requires c κs =
+    let at-admit-lent = c .before .before .before .before in
+    let start = at-admit-lent .before .before .before .before in
+    let p = lent-passed (length (now (start .args .work))) (now (start .args .block)) (now (start .args .notes)) (at-admit-lent .admit-lent .result) (at-admit-lent .admit-lent .ensures) (c .before .before .o .given .1) in (p .0, p .2)
 
 returns : tie.Need-returns
-returns c = lent-refused-measured (length (now (c .before .before .before .before .before .before .before .args .work))) (now (c .before .before .before .before .before .before .before .args .block)) (now (c .before .before .before .before .before .before .before .args .notes)) (c .before .before .before .admit-lent .result) (c .before .before .before .admit-lent .ensures) (c .before .r .given .1)
+returns c =
+    let at-admit-lent = c .before .before .before in
+    let start = at-admit-lent .before .before .before .before in
+    lent-refused-measured (length (now (start .args .work))) (now (start .args .block)) (now (start .args .notes)) (at-admit-lent .admit-lent .result) (at-admit-lent .admit-lent .ensures) (c .before .r .given .1)
 
 same-length : tie.Need-same-length
 same-length c = search needs
 
 returns-2 : tie.Need-returns-2
-returns-2 c = lent-passed-measured (length (now (c .before .before .before .before .before .before .before .before .before .before .before .args .work))) (now (c .before .before .before .before .before .before .before .before .before .before .before .args .block)) (now (c .before .before .before .before .before .before .before .before .before .before .before .args .notes)) (c .before .before .before .before .before .before .before .admit-lent .result) (c .before .before .before .before .before .before .before .admit-lent .ensures) (c .before .before .before .before .before .o .given .1) (c .before .before .measure-large .ensures)
+returns-2 c =
+    let at-o = c .before .before .before .before .before in
+    let at-admit-lent = at-o .before .before in
+    let start = at-admit-lent .before .before .before .before in
+    lent-passed-measured (length (now (start .args .work))) (now (start .args .block)) (now (start .args .notes)) (at-admit-lent .admit-lent .result) (at-admit-lent .admit-lent .ensures) (at-o .o .given .1) (c .before .before .measure-large .ensures)
 
 pub measure-lent-spec : {M : Type 1} → statement M
 measure-lent-spec =

@@ -16,16 +16,26 @@ enum-known-o : tie.Need-enum-known-o
 enum-known-o c = search needs
 
 write-notes-requires : tie.Need-write-notes-requires
-write-notes-requires c κs = passed-of ownRoom (now (c .before .before .before .before .before .before .before .before .args .block)) (now (c .before .before .before .before .before .before .before .before .args .notes)) (c .before .before .before .before .admit .result) (c .before .before .before .before .admit .ensures) (c .before .before .o .given .1) .0
+write-notes-requires c κs =
+    let at-admit = c .before .before .before .before in
+    let start = at-admit .before .before .before .before in
+    passed-of ownRoom (now (start .args .block)) (now (start .args .notes)) (at-admit .admit .result) (at-admit .admit .ensures) (c .before .before .o .given .1) .0
 
 returns : tie.Need-returns
-returns c = refused-written ownRoom (now (c .before .before .before .before .before .before .before .args .block)) (now (c .before .before .before .before .before .before .before .args .notes)) (c .before .before .before .admit .result) (c .before .before .before .admit .ensures) (now (c .before .before .before .before .before .before .before .args .out)) (c .before .r .given .1)
+returns c =
+    let at-admit = c .before .before .before in
+    let start = at-admit .before .before .before .before in
+    refused-written ownRoom (now (start .args .block)) (now (start .args .notes)) (at-admit .admit .result) (at-admit .admit .ensures) (now (start .args .out)) (c .before .r .given .1)
 
 same-length : tie.Need-same-length
 same-length c = search needs
 
 returns-2 : tie.Need-returns-2
-returns-2 c = passed-written ownRoom (now (c .before .before .before .before .before .before .before .before .before .before .before .args .block)) (now (c .before .before .before .before .before .before .before .before .before .before .before .args .notes)) (c .before .before .before .before .before .before .before .admit .result) (c .before .before .before .before .before .before .before .admit .ensures) (now (c .before .before .before .before .before .before .before .before .before .before .before .args .out)) (c .before .before .before .before .before .o .given .1) (c .before .before .write-notes .ensures)
+returns-2 c =
+    let at-o = c .before .before .before .before .before in
+    let at-admit = at-o .before .before in
+    let start = at-admit .before .before .before .before in
+    passed-written ownRoom (now (start .args .block)) (now (start .args .notes)) (at-admit .admit .result) (at-admit .admit .ensures) (now (start .args .out)) (at-o .o .given .1) (c .before .before .write-notes .ensures)
 
 pub write-spec : {M : Type 1} → statement M
 write-spec =

@@ -16,10 +16,17 @@ enum-known-o : tie.Need-enum-known-o
 enum-known-o c = search needs
 
 write-large-requires : tie.Need-write-large-requires
-write-large-requires c κs = let p = lent-passed (length (now (c .before .before .before .before .before .before .before .before .before .before .args .work))) (now (c .before .before .before .before .before .before .before .before .before .before .args .block)) (now (c .before .before .before .before .before .before .before .before .before .before .args .notes)) (c .before .before .before .before .before .admit-lent .result) (c .before .before .before .before .before .admit-lent .ensures) (c .before .before .before .o .given .1) in (p .0, p .2)
+write-large-requires c κs =
+    let at-o = c .before .before .before in
+    let at-admit-lent = at-o .before .before in
+    let start = at-admit-lent .before .before .before .before .before in
+    let p = lent-passed (length (now (start .args .work))) (now (start .args .block)) (now (start .args .notes)) (at-admit-lent .admit-lent .result) (at-admit-lent .admit-lent .ensures) (at-o .o .given .1) in (p .0, p .2)
 
 returns : tie.Need-returns
-returns c = lent-refused-written (length (now (c .before .before .before .before .before .before .before .before .args .work))) (now (c .before .before .before .before .before .before .before .before .args .block)) (now (c .before .before .before .before .before .before .before .before .args .notes)) (c .before .before .before .admit-lent .result) (c .before .before .before .admit-lent .ensures) (now (c .before .before .before .before .before .before .before .before .args .out)) (c .before .r .given .1)
+returns c =
+    let at-admit-lent = c .before .before .before in
+    let start = at-admit-lent .before .before .before .before .before in
+    lent-refused-written (length (now (start .args .work))) (now (start .args .block)) (now (start .args .notes)) (at-admit-lent .admit-lent .result) (at-admit-lent .admit-lent .ensures) (now (start .args .out)) (c .before .r .given .1)
 
 same-length : tie.Need-same-length
 same-length c = search needs
@@ -28,7 +35,12 @@ same-length-2 : tie.Need-same-length-2
 same-length-2 c = search needs
 
 returns-2 : tie.Need-returns-2
-returns-2 c = lent-passed-written (length (now (c .before .before .before .before .before .before .before .before .before .before .before .before .before .before .before .args .work))) (now (c .before .before .before .before .before .before .before .before .before .before .before .before .before .before .before .args .block)) (now (c .before .before .before .before .before .before .before .before .before .before .before .before .before .before .before .args .notes)) (c .before .before .before .before .before .before .before .before .before .before .admit-lent .result) (c .before .before .before .before .before .before .before .before .before .before .admit-lent .ensures) (now (c .before .before .before .before .before .before .before .before .before .before .before .before .before .before .before .args .out)) (c .before .before .before .before .before .before .before .before .o .given .1) (c .before .before .before .before .write-large .ensures)
+returns-2 c =
+    let at-write-large = c .before .before .before .before in
+    let at-o = at-write-large .before .before .before .before in
+    let at-admit-lent = at-o .before .before in
+    let start = at-admit-lent .before .before .before .before .before in
+    lent-passed-written (length (now (start .args .work))) (now (start .args .block)) (now (start .args .notes)) (at-admit-lent .admit-lent .result) (at-admit-lent .admit-lent .ensures) (now (start .args .out)) (at-o .o .given .1) (at-write-large .write-large .ensures)
 
 pub write-lent-spec : {M : Type 1} → statement M
 write-lent-spec =

@@ -32,7 +32,11 @@ copy-two-requires : tie.Need-copy-two-requires Inv-loop μ-loop
 copy-two-requires c κs = (omega arith, omega (arith, c .before .before .before .before .before .pre .1, wrote-length (c .before .before .loop .inv .1)))
 
 copy-two-requires-2 : tie.Need-copy-two-requires-2 Inv-loop μ-loop
-copy-two-requires-2 c κs = (omega arith, omega (arith, c .before .before .before .before .before .before .before .before .before .pre .1, wrote-length (c .before .before .before .before .before .before .loop .inv .1), wrote-length (c .before .before .before .copy-two .ensures)))
+copy-two-requires-2 c κs =
+    let at-copy-two = c .before .before .before in
+    let at-loop = at-copy-two .before .before .before in
+    let start = at-loop .before .before .before in
+    (omega arith, omega (arith, start .pre .1, wrote-length (at-loop .loop .inv .1), wrote-length (at-copy-two .copy-two .ensures)))
 
 add-k : tie.Need-add-k Inv-loop μ-loop
 add-k c = omega arith
@@ -42,16 +46,22 @@ loop-less c = omega arith
 
 loop-again : tie.Need-loop-again Inv-loop μ-loop
 loop-again c =
-    let t = now (c .before .before .before .before .before .before .before .before .before .before .before .before .args .text) in
-    let l = c .before .before .before .before .before .before .before .before .before .loop in
-    let first = covered t (l .k) (l .k) 32 (omega arith) (omega arith) (omega arith) (l .inv .1) (c .before .before .before .before .before .before .copy-two .ensures) in
+    let at-copy-two = c .before .before .before .before .before .before in
+    let at-loop = at-copy-two .before .before .before in
+    let start = at-loop .before .before .before in
+    let t = now (start .args .text) in
+    let l = at-loop .loop in
+    let first = covered t (l .k) (l .k) 32 (omega arith) (omega arith) (omega arith) (l .inv .1) (at-copy-two .copy-two .ensures) in
     (omega arith, covered t (l .k + 32) (l .k + 32) 32 (omega arith) (omega arith) (omega arith) first (c .before .before .copy-two2 .ensures))
 
 lesser-requires : tie.Need-lesser-requires Inv-loop μ-loop
 lesser-requires c κs = search needs
 
 copy-sixteen-requires : tie.Need-copy-sixteen-requires Inv-loop μ-loop
-copy-sixteen-requires c κs = let h = c .before .before .before .before .before .before .pre in (omega (arith, h .0), omega (arith, h .0, h .1, wrote-length (c .before .before .before .loop .inv .1)))
+copy-sixteen-requires c κs =
+    let at-loop = c .before .before .before in
+    let start = at-loop .before .before .before in
+    let h = start .pre in (omega (arith, h .0), omega (arith, h .0, h .1, wrote-length (at-loop .loop .inv .1)))
 
 add-lesser : tie.Need-add-lesser Inv-loop μ-loop
 add-lesser c = omega (arith, c .before .before .before .before .before .before .loop .inv .0)
@@ -61,8 +71,11 @@ lesser-requires-2 c κs = search needs
 
 copy-sixteen-requires-2 : tie.Need-copy-sixteen-requires-2 Inv-loop μ-loop
 copy-sixteen-requires-2 c κs =
-    let h = c .before .before .before .before .before .before .before .before .before .before .before .pre in
-    (omega (arith, h .0), omega (arith, h .0, h .1, wrote-length (c .before .before .before .before .before .before .before .before .loop .inv .1), wrote-length (c .before .before .before .before .copy-sixteen .ensures)))
+    let at-copy-sixteen = c .before .before .before .before in
+    let at-loop = at-copy-sixteen .before .before .before .before in
+    let start = at-loop .before .before .before in
+    let h = start .pre in
+    (omega (arith, h .0), omega (arith, h .0, h .1, wrote-length (at-loop .loop .inv .1), wrote-length (at-copy-sixteen .copy-sixteen .ensures)))
 
 add-lesser-2 : tie.Need-add-lesser-2 Inv-loop μ-loop
 add-lesser-2 c = omega (arith, c .before .before .before .before .before .before .before .before .before .before .before .loop .inv .0)
@@ -72,32 +85,54 @@ lesser-requires-3 c κs = search needs
 
 copy-sixteen-requires-3 : tie.Need-copy-sixteen-requires-3 Inv-loop μ-loop
 copy-sixteen-requires-3 c κs =
-    let h = c .before .before .before .before .before .before .before .before .before .before .before .before .before .before .before .before .pre in
-    (omega (arith, h .0), omega (arith, h .0, h .1, wrote-length (c .before .before .before .before .before .before .before .before .before .before .before .before .before .loop .inv .1), wrote-length (c .before .before .before .before .before .before .before .before .before .copy-sixteen .ensures), wrote-length (c .before .before .before .before .copy-sixteen2 .ensures)))
+    let at-copy-sixteen = c .before .before .before .before in
+    let at-copy-sixteen-2 = at-copy-sixteen .before .before .before .before .before in
+    let at-loop = at-copy-sixteen-2 .before .before .before .before in
+    let start = at-loop .before .before .before in
+    let h = start .pre in
+    (omega (arith, h .0), omega (arith, h .0, h .1, wrote-length (at-loop .loop .inv .1), wrote-length (at-copy-sixteen-2 .copy-sixteen .ensures), wrote-length (at-copy-sixteen .copy-sixteen2 .ensures)))
 
 copy-sixteen-requires-4 : tie.Need-copy-sixteen-requires-4 Inv-loop μ-loop
 copy-sixteen-requires-4 c κs =
-    let h = c .before .before .before .before .before .before .before .before .before .before .before .before .before .before .before .before .before .before .before .before .pre in
-    (omega (arith, h .0), omega (arith, h .0, h .1, wrote-length (c .before .before .before .before .before .before .before .before .before .before .before .before .before .before .before .before .before .loop .inv .1), wrote-length (c .before .before .before .before .before .before .before .before .before .before .before .before .before .copy-sixteen .ensures), wrote-length (c .before .before .before .before .before .before .before .before .copy-sixteen2 .ensures), wrote-length (c .before .before .before .copy-sixteen3 .ensures)))
+    let at-copy-sixteen = c .before .before .before in
+    let at-copy-sixteen2 = at-copy-sixteen .before .before .before .before .before in
+    let at-copy-sixteen-2 = at-copy-sixteen2 .before .before .before .before .before in
+    let at-loop = at-copy-sixteen-2 .before .before .before .before in
+    let start = at-loop .before .before .before in
+    let h = start .pre in
+    (omega (arith, h .0), omega (arith, h .0, h .1, wrote-length (at-loop .loop .inv .1), wrote-length (at-copy-sixteen-2 .copy-sixteen .ensures), wrote-length (at-copy-sixteen2 .copy-sixteen2 .ensures), wrote-length (at-copy-sixteen .copy-sixteen3 .ensures)))
 
 same-length : tie.Need-same-length Inv-loop μ-loop
 same-length c =
-    omega (arith, wrote-length (c .before .before .before .before .before .before .before .before .before .before .before .before .before .before .before .before .before .before .before .before .loop .inv .1), wrote-length (c .before .before .before .before .before .before .before .before .before .before .before .before .before .before .before .before .copy-sixteen .ensures), wrote-length (c .before .before .before .before .before .before .before .before .before .before .before .copy-sixteen2 .ensures), wrote-length (c .before .before .before .before .before .before .copy-sixteen3 .ensures), wrote-length (c .before .before .copy-sixteen4 .ensures))
+    let at-copy-sixteen = c .before .before .before .before .before .before in
+    let at-copy-sixteen2 = at-copy-sixteen .before .before .before .before .before in
+    let at-copy-sixteen-2 = at-copy-sixteen2 .before .before .before .before .before in
+    let at-loop = at-copy-sixteen-2 .before .before .before .before in
+    omega (arith, wrote-length (at-loop .loop .inv .1), wrote-length (at-copy-sixteen-2 .copy-sixteen .ensures), wrote-length (at-copy-sixteen2 .copy-sixteen2 .ensures), wrote-length (at-copy-sixteen .copy-sixteen3 .ensures), wrote-length (c .before .before .copy-sixteen4 .ensures))
 
 -- four blocks, each from where the text is written already, or before
 returns : tie.Need-returns Inv-loop μ-loop
 returns c =
-    let s = c .before .before .before .before .before .before .before .before .before .before .before .before .before .before .before .before .before .before .before .before .before .before .before in
+    let at-copy-sixteen = c .before .before .before .before .before .before in
+    let at-lesser = at-copy-sixteen .before .before in
+    let at-copy-sixteen2 = at-lesser .before .before .before in
+    let at-lesser2 = at-copy-sixteen2 .before .before in
+    let at-copy-sixteen-2 = at-lesser2 .before .before .before in
+    let at-lesser-2 = at-copy-sixteen-2 .before .before in
+    let at-loop-test = at-lesser-2 .before in
+    let at-loop = at-loop-test .before in
+    let at-before- = at-loop .before .before .before in
+    let s = at-before- in
     let t = now (s .args .text) in
-    let l = c .before .before .before .before .before .before .before .before .before .before .before .before .before .before .before .before .before .before .before .before .loop in
-    let left = c .before .before .before .before .before .before .before .before .before .before .before .before .before .before .before .before .before .before .before .loop-test .left in
+    let l = at-loop .loop in
+    let left = at-loop-test .loop-test .left in
     let h = s .pre .0 in
-    let a = c .before .before .before .before .before .before .before .before .before .before .before .before .before .before .before .before .before .before .lesser in
-    let b = c .before .before .before .before .before .before .before .before .before .before .before .before .before .lesser2 in
-    let d = c .before .before .before .before .before .before .before .before .lesser3 in
-    let one = covered t (a .result) (l .k) 16 (omega (arith, a .ensures)) (omega (arith, a .ensures)) (omega (arith, a .ensures)) (l .inv .1) (c .before .before .before .before .before .before .before .before .before .before .before .before .before .before .before .before .copy-sixteen .ensures) in
-    let two = covered t (b .result) (a .result + 16) 16 (omega (arith, a .ensures, b .ensures)) (omega (arith, a .ensures, b .ensures)) (omega (arith, b .ensures)) one (c .before .before .before .before .before .before .before .before .before .before .before .copy-sixteen2 .ensures) in
-    let three = covered t (d .result) (b .result + 16) 16 (omega (arith, b .ensures, d .ensures)) (omega (arith, b .ensures, d .ensures)) (omega (arith, d .ensures)) two (c .before .before .before .before .before .before .copy-sixteen3 .ensures) in
+    let a = at-lesser-2 .lesser in
+    let b = at-lesser2 .lesser2 in
+    let d = at-lesser .lesser3 in
+    let one = covered t (a .result) (l .k) 16 (omega (arith, a .ensures)) (omega (arith, a .ensures)) (omega (arith, a .ensures)) (l .inv .1) (at-copy-sixteen-2 .copy-sixteen .ensures) in
+    let two = covered t (b .result) (a .result + 16) 16 (omega (arith, a .ensures, b .ensures)) (omega (arith, a .ensures, b .ensures)) (omega (arith, b .ensures)) one (at-copy-sixteen2 .copy-sixteen2 .ensures) in
+    let three = covered t (d .result) (b .result + 16) 16 (omega (arith, b .ensures, d .ensures)) (omega (arith, b .ensures, d .ensures)) (omega (arith, d .ensures)) two (at-copy-sixteen .copy-sixteen3 .ensures) in
     copied-all t (length t - 16 + 16) (omega arith) (omega arith)
     (covered t (length t - 16) (d .result + 16) 16 (omega (arith, d .ensures, left)) (omega (arith, d .ensures)) (omega arith) three (c .before .before .copy-sixteen4 .ensures))
 

@@ -40,30 +40,45 @@ part-put-first-end c = search needs
 
 put-first-requires : tie.Need-put-first-requires
 put-first-requires c κs =
-    let p = c .before .before .before .before .before .before .before .before .before .pre .0 in
+    let at-get = c .before .before .before .before in
+    let start = at-get .before .before .before .before .before in
+    let p = start .pre .0 in
     let r = c .before .before .run-from .ensures in
-    (omega (arith, turn-within p (c .before .before .before .before .get .ensures) (p .some) .text, r .order), r .within, p .first, p .small)
+    (omega (arith, turn-within p (at-get .get .ensures) (p .some) .text, r .order), r .within, p .first, p .small)
 
 add-k : tie.Need-add-k
-add-k c = omega (arith, first-most _ _ _ _ (c .before .before .before .before .before .before .before .get .result .start) _ (c .before .before .before .before .before .before .before .before .before .before .before .before .pre .0) (c .before .before .before .before .before .run-from .ensures .within) (c .before .before .put-first .ensures))
+add-k c =
+    let at-run-from = c .before .before .before .before .before in
+    let at-get = at-run-from .before .before in
+    let start-2 = at-get .before .before .before .before .before in
+    omega (arith, first-most _ _ _ _ (at-get .get .result .start) _ (start-2 .pre .0) (at-run-from .run-from .ensures .within) (c .before .before .put-first .ensures))
 
 emit-rest-requires : tie.Need-emit-rest-requires
 emit-rest-requires c κs =
-    let p = c .before .before .before .before .before .before .before .before .before .before .before .before .before .pre in
-    let r = c .before .before .before .before .before .before .run-from .ensures in
-    (p .0, r .few, omega (arith, p .1, first-most _ _ _ _ (c .before .before .before .before .before .before .before .before .get .result .start) _ (p .0) (r .within) (c .before .before .before .put-first .ensures)))
+    let at-put-first = c .before .before .before in
+    let at-run-from = at-put-first .before .before .before in
+    let at-get = at-run-from .before .before in
+    let start-2 = at-get .before .before .before .before .before in
+    let p = start-2 .pre in
+    let r = at-run-from .run-from .ensures in
+    (p .0, r .few, omega (arith, p .1, first-most _ _ _ _ (at-get .get .result .start) _ (p .0) (r .within) (at-put-first .put-first .ensures)))
 
 same-length : tie.Need-same-length
 same-length c = search needs
 
 returns-2 : tie.Need-returns-2
 returns-2 c =
-    with-most _ _ _ (c .before .before .before .before .before .before .before .before .before .before .before .before .before .before .before .before .args .l)
+    let at-put-first = c .before .before .before .before .before .before in
+    let at-lesser = at-put-first .before .before in
+    let at-run-from = at-lesser .before in
+    let at-get = at-run-from .before .before in
+    let start = at-get .before .before .before .before .before in
+    with-most _ _ _ (start .args .l)
     (first-wrote
-    (c .before .before .before .before .before .before .before .before .before .before .before .before .before .before .before .before .pre .0)
-    (c .before .before .before .before .before .before .before .before .before .before .before .get .ensures)
-    (c .before .before .before .before .before .before .before .before .before .run-from .ensures)
-    (wrote-part _ _ _ _ _ _ (c .before .before .before .before .before .before .before .before .lesser .ensures) (c .before .before .before .before .before .before .put-first .ensures))
+    (start .pre .0)
+    (at-get .get .ensures)
+    (at-run-from .run-from .ensures)
+    (wrote-part _ _ _ _ _ _ (at-lesser .lesser .ensures) (at-put-first .put-first .ensures))
     (c .before .before .emit-rest .ensures))
 
 pub emit-spec : {M : Type 1} → statement M

@@ -23,7 +23,12 @@ abbrev μ-loop : tie.MeasureT-loop
 -- what a turn adds
 most : (c : tie.After-slice-known2 Inv-loop μ-loop) → c .before .before .put-word .result ≤ 2 ^ 34
 most c =
-    turn-most (c .before .before .before .before .before .before .before .before .before .before .before .before .before .before .before .before .pre .0) (c .before .before .before .before .before .before .before .before .get .ensures) (c .before .before .before .before .before .before .before .before .before .if1 .taken) _ _ _ (c .before .before .before .before .before .before .before .added-space .ensures .most) (c .before .before .before .before .before .run-from .ensures .within) (c .before .before .put-word .ensures)
+    let at-run-from = c .before .before .before .before .before in
+    let at-added-space = at-run-from .before .before in
+    let at-get = at-added-space .before in
+    let at-if = at-get .before in
+    let start = at-if .before .before .before .before .before .before .before in
+    turn-most (start .pre .0) (at-get .get .ensures) (at-if .if1 .taken) _ _ _ (at-added-space .added-space .ensures .most) (at-run-from .run-from .ensures .within) (c .before .before .put-word .ensures)
 
 loop-holds : tie.Need-loop-holds Inv-loop μ-loop
 loop-holds c = (omega arith, omega arith, refl, left-first _ _ _)
@@ -42,8 +47,10 @@ add-run-from c = omega arith
 
 run-from-requires : tie.Need-run-from-requires Inv-loop μ-loop
 run-from-requires c κs =
-    let p = c .before .before .before .before .before .before .before .before .before .before .pre .0 in
-    (p, turn-within p (c .before .before .get .ensures) (c .before .before .before .if1 .taken) .end, omega arith)
+    let at-if = c .before .before .before in
+    let start = at-if .before .before .before .before .before .before .before in
+    let p = start .pre .0 in
+    (p, turn-within p (c .before .before .get .ensures) (at-if .if1 .taken) .end, omega arith)
 
 lesser-requires : tie.Need-lesser-requires Inv-loop μ-loop
 lesser-requires c κs = search needs
@@ -59,26 +66,42 @@ part-put-word-end c = omega arith
 
 put-word-requires : tie.Need-put-word-requires Inv-loop μ-loop
 put-word-requires c κs =
-    let p = c .before .before .before .before .before .before .before .before .before .before .before .before .before .pre .0 in
+    let at-added-space = c .before .before .before .before in
+    let at-get = at-added-space .before in
+    let at-if = at-get .before in
+    let start = at-if .before .before .before .before .before .before .before in
+    let p = start .pre .0 in
     let r = c .before .before .run-from .ensures in
-    (turn-within p (c .before .before .before .before .before .get .ensures) (c .before .before .before .before .before .before .if1 .taken), p .indent, p .small, c .before .before .before .before .added-space .ensures .most, r .order, r .within)
+    (turn-within p (at-get .get .ensures) (at-if .if1 .taken), p .indent, p .small, at-added-space .added-space .ensures .most, r .order, r .within)
 
 add-k : tie.Need-add-k Inv-loop μ-loop
-add-k c = omega (arith, most c, c .before .before .before .before .before .before .before .before .before .before .before .loop .inv .1, c .before .before .before .before .before .before .before .before .before .if1 .taken, c .before .before .before .before .before .before .before .before .before .before .before .before .before .before .before .before .pre .0 .few)
+add-k c =
+    let at-if = c .before .before .before .before .before .before .before .before .before in
+    let at-loop = at-if .before .before in
+    let start = at-loop .before .before .before .before .before in
+    omega (arith, most c, at-loop .loop .inv .1, at-if .if1 .taken, start .pre .0 .few)
 
 loop-less : tie.Need-loop-less Inv-loop μ-loop
 loop-less c = let r = c .before .before .before .before .before .run-from .ensures in omega (arith, r .on, r .few)
 
 loop-again : tie.Need-loop-again Inv-loop μ-loop
 loop-again c =
-    let l = c .before .before .before .before .before .before .before .before .before .before .before .loop in
-    let r = c .before .before .before .before .before .run-from .ensures in
+    let at-lesser = c .before .before .before .before in
+    let at-run-from = at-lesser .before in
+    let at-starts-line = at-run-from .before in
+    let at-added-space = at-starts-line .before in
+    let at-get = at-added-space .before in
+    let at-if = at-get .before in
+    let at-loop = at-if .before .before in
+    let start = at-loop .before .before .before .before .before in
+    let l = at-loop .loop in
+    let r = at-run-from .run-from .ensures in
     let b = most c in (
       r .few,
       omega (arith, r .on),
-      wrote-length (wrote-part _ (l .k) _ _ _ _ (c .before .before .before .before .lesser .ensures) (c .before .before .put-word .ensures)) ∙ l .inv .2,
-      turn-left (c .before .before .before .before .before .before .before .before .before .before .before .before .before .before .before .before .pre .0) (c .before .before .before .before .before .before .before .before .get .ensures) (c .before .before .before .before .before .before .before .before .before .if1 .taken) _ _ (c .before .before .before .before .before .before .before .added-space .ensures .is) (c .before .before .before .before .before .before .starts-line .ensures) r (l .inv .3)
-          (wrote-part _ _ _ _ _ _ (c .before .before .before .before .lesser .ensures) (c .before .before .put-word .ensures)),
+      wrote-length (wrote-part _ (l .k) _ _ _ _ (at-lesser .lesser .ensures) (c .before .before .put-word .ensures)) ∙ l .inv .2,
+      turn-left (start .pre .0) (at-get .get .ensures) (at-if .if1 .taken) _ _ (at-added-space .added-space .ensures .is) (at-starts-line .starts-line .ensures) r (l .inv .3)
+          (wrote-part _ _ _ _ _ _ (at-lesser .lesser .ensures) (c .before .before .put-word .ensures)),
     )
 
 lesser-requires-2 : tie.Need-lesser-requires-2 Inv-loop μ-loop
@@ -101,15 +124,20 @@ add-result c = omega (arith, c .before .before .put-feed .ensures .count)
 
 same-length : tie.Need-same-length Inv-loop μ-loop
 same-length c =
-    let l = c .before .before .before .before .before .before .before .loop in
-    wrote-length (wrote-part _ (l .k) _ _ _ _ (c .before .before .before .before .lesser2 .ensures) (c .before .before .put-feed .ensures)) ∙ l .inv .2
+    let at-lesser = c .before .before .before .before in
+    let at-loop = at-lesser .before .before .before in
+    let l = at-loop .loop in
+    wrote-length (wrote-part _ (l .k) _ _ _ _ (at-lesser .lesser2 .ensures) (c .before .before .put-feed .ensures)) ∙ l .inv .2
 
 returns : tie.Need-returns Inv-loop μ-loop
 returns c =
-    let l = c .before .before .before .before .before .before .before .loop in
+    let at-lesser = c .before .before .before .before in
+    let at-if = at-lesser .before in
+    let at-loop = at-if .before .before in
+    let l = at-loop .loop in
     left-last
-    (rw (rest-end _ _ _ _ _ _ (c .before .before .before .before .before .if1 .left)) at (l .inv .3))
-    (wrote-part _ _ _ _ _ _ (c .before .before .before .before .lesser2 .ensures) (c .before .before .put-feed .ensures))
+    (rw (rest-end _ _ _ _ _ _ (at-if .if1 .left)) at (l .inv .3))
+    (wrote-part _ _ _ _ _ _ (at-lesser .lesser2 .ensures) (c .before .before .put-feed .ensures))
 
 pub emit-rest-spec : {M : Type 1} → statement M
 emit-rest-spec =

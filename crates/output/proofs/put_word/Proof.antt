@@ -31,21 +31,27 @@ put-text-requires c κs = search needs
 
 add-result : tie.Need-add-result
 add-result c =
-    let s = c .before .before .before .before .before .before .before .before .before .before .before .before in
+    let at-put-break = c .before .before .before .before .before .before .before in
+    let at-before- = at-put-break .before .before .before .before .before in
+    let s = at-before- in
     let m = margin-most (now (s .args .notes)) (s .args .indent) (s .pre .1) in
     let t = length-slice (s .args .w .start) (s .args .end) (now (s .args .notes)) (s .pre .5) in
-    omega (arith, c .before .before .before .before .before .before .before .put-break .ensures .count, c .before .before .put-text .ensures .count)
+    omega (arith, at-put-break .put-break .ensures .count, c .before .before .put-text .ensures .count)
 
 same-length : tie.Need-same-length
 same-length c = search needs
 
 returns : tie.Need-returns
 returns c =
-    let s = c .before .before .before .before .before .before .before .before .before .before .before .before in
-    rw (c .before .before .before .before .before .before .before .before .before .if1 .taken)
+    let at-lesser = c .before .before .before .before in
+    let at-put-break = at-lesser .before .before .before in
+    let at-if = at-put-break .before .before in
+    let at-before- = at-if .before .before .before in
+    let s = at-before- in
+    rw (at-if .if1 .taken)
     (word-fresh (now (s .args .notes)) (s .args .w) _ _ (s .pre .0) _ (s .pre .4) (s .pre .5)
-    (c .before .before .before .before .before .before .before .put-break .ensures)
-    (wrote-part _ _ _ _ _ _ (c .before .before .before .before .lesser .ensures) (c .before .before .put-text .ensures)))
+    (at-put-break .put-break .ensures)
+    (wrote-part _ _ _ _ _ _ (at-lesser .lesser .ensures) (c .before .before .put-text .ensures)))
 
 put-added-requires : tie.Need-put-added-requires
 put-added-requires c κs = search needs
@@ -67,21 +73,27 @@ put-text-requires-2 c κs = search needs
 
 add-result-2 : tie.Need-add-result-2
 add-result-2 c =
-    let s = c .before .before .before .before .before .before .before .before .before .before .before .before in
+    let at-put-added = c .before .before .before .before .before .before .before in
+    let at-before- = at-put-added .before .before .before .before .before in
+    let s = at-before- in
     let n = length-replicate {A = ℕ} (s .args .added) 32 in
     let t = length-slice (s .args .w .from) (s .args .end) (now (s .args .notes)) (s .pre .5) in
-    omega (arith, c .before .before .before .before .before .before .before .put-added .ensures .count, c .before .before .put-text2 .ensures .count)
+    omega (arith, at-put-added .put-added .ensures .count, c .before .before .put-text2 .ensures .count)
 
 same-length-2 : tie.Need-same-length-2
 same-length-2 c = search needs
 
 returns-2 : tie.Need-returns-2
 returns-2 c =
-    let s = c .before .before .before .before .before .before .before .before .before .before .before .before in
-    rw (c .before .before .before .before .before .before .before .before .before .if1 .left)
+    let at-lesser = c .before .before .before .before in
+    let at-put-added = at-lesser .before .before .before in
+    let at-if = at-put-added .before .before in
+    let at-before- = at-if .before .before .before in
+    let s = at-before- in
+    rw (at-if .if1 .left)
     (word-joined (now (s .args .notes)) (s .args .w) _ _ (s .pre .0) _ (s .pre .4) (s .pre .5)
-    (c .before .before .before .before .before .before .before .put-added .ensures)
-    (wrote-part _ _ _ _ _ _ (c .before .before .before .before .lesser2 .ensures) (c .before .before .put-text2 .ensures)))
+    (at-put-added .put-added .ensures)
+    (wrote-part _ _ _ _ _ _ (at-lesser .lesser2 .ensures) (c .before .before .put-text2 .ensures)))
 
 pub put-word-spec : {M : Type 1} → statement M
 put-word-spec =

@@ -71,13 +71,17 @@ part-draw-row-start-2 c = search needs
 
 part-draw-row-end-2 : tie.Need-part-draw-row-end-2 Inv-loop μ-loop
 part-draw-row-end-2 c =
-    let f = row-fits _ _ _ _ _ _ (c .before .before .before .before .before .loop .inv) (here (c .before .before)) in
-    omega (arith, c .before .before .before .before .before .loop .inv .size)
+    let at-loop = c .before .before .before .before .before in
+    let f = row-fits _ _ _ _ _ _ (at-loop .loop .inv) (here (c .before .before)) in
+    omega (arith, at-loop .loop .inv .size)
 
 draw-row-requires : tie.Need-draw-row-requires Inv-loop μ-loop
 draw-row-requires c κs =
-    let p = c .before .before .before .before .before .before .before .before .before .before .before .pre in
-    (p .0, p .1, row-blank _ _ _ _ _ _ (c .before .before .before .before .before .before .loop .inv) (here (c .before .before .before)))
+    let at-before- = c .before .before .before in
+    let at-loop = at-before- .before .before .before in
+    let start = at-loop .before .before .before .before .before in
+    let p = start .pre in
+    (p .0, p .1, row-blank _ _ _ _ _ _ (at-loop .loop .inv) (here at-before-))
 
 add-at : tie.Need-add-at Inv-loop μ-loop
 add-at c = let h = here (c .before .before .before .before .before .before .before) in omega (arith, h .within)
@@ -87,8 +91,11 @@ loop-less c = let h = here (c .before .before .before .before .before .before .b
 
 loop-again : tie.Need-loop-again Inv-loop μ-loop
 loop-again c =
-    showing-next _ _ _ _ _ _ (c .before .before .before .before .before .before .before .before .before .before .loop .inv)
-    (here (c .before .before .before .before .before .before .before)) _ (c .before .before .before .draw-row .ensures)
+    let at-draw-row = c .before .before .before in
+    let at-before- = at-draw-row .before .before .before .before in
+    let at-loop = at-before- .before .before .before in
+    showing-next _ _ _ _ _ _ (at-loop .loop .inv)
+    (here at-before-) _ (at-draw-row .draw-row .ensures)
 
 same-length : tie.Need-same-length Inv-loop μ-loop
 same-length c = c .before .loop .inv .size ∙ sym (ap length (c .before .before .before .before .before .before .pre .2) ∙ length-replicate 1920 blank)

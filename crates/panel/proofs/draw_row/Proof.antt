@@ -26,8 +26,10 @@ sign-at-requires c κs = c .loop-test .taken
 
 draw-sign-requires : tie.Need-draw-sign-requires Inv-loop μ-loop
 draw-sign-requires c κs =
-    let p = c .before .before .before .before .before .before .pre in
-    let v = c .before .before .before .loop .inv in
+    let at-loop = c .before .before .before in
+    let start = at-loop .before .before .before in
+    let p = start .pre in
+    let v = at-loop .loop .inv in
     (p .0, p .1, v .few, v .size)
 
 enum-known-behind : tie.Need-enum-known-behind Inv-loop μ-loop
@@ -38,37 +40,54 @@ enum-told c = search needs
 
 mark-over-requires : tie.Need-mark-over-requires Inv-loop μ-loop
 mark-over-requires c κs =
-    after-size _ _ _ _ _ (c .before .before .before .before .before .before .before .before .before .before .before .before .pre .0)
-    (c .before .before .before .before .before .before .before .before .before .loop .inv) _ (here (c .before .before .before .before .before .before .before)) _
-    (c .before .before .before .before .before .draw-sign .ensures .1)
+    let at-draw-sign = c .before .before .before .before .before in
+    let at-before- = at-draw-sign .before .before in
+    let at-loop = at-before- .before .before in
+    let start = at-loop .before .before .before in
+    after-size _ _ _ _ _ (start .pre .0)
+    (at-loop .loop .inv) _ (here at-before-) _
+    (at-draw-sign .draw-sign .ensures .1)
 
 same-length : tie.Need-same-length Inv-loop μ-loop
 same-length c =
+    let at-draw-sign = c .before .before .before .before .before .before .before .before in
+    let at-before- = at-draw-sign .before .before in
+    let at-loop = at-before- .before .before in
+    let start = at-loop .before .before .before in
     ap length (c .before .before .mark-over .ensures) ∙ marked-length _
-    ∙ after-size _ _ _ _ _ (c .before .before .before .before .before .before .before .before .before .before .before .before .before .before .before .pre .0)
-    (c .before .before .before .before .before .before .before .before .before .before .before .before .loop .inv) _
-    (here (c .before .before .before .before .before .before .before .before .before .before)) _
-    (c .before .before .before .before .before .before .before .before .draw-sign .ensures .1)
-    ∙ eighty _ (c .before .before .before .before .before .before .before .before .before .before .before .before .before .before .before .pre .2)
+    ∙ after-size _ _ _ _ _ (start .pre .0)
+    (at-loop .loop .inv) _
+    (here at-before-) _
+    (at-draw-sign .draw-sign .ensures .1)
+    ∙ eighty _ (start .pre .2)
 
 returns : tie.Need-returns Inv-loop μ-loop
 returns c =
+    let at-enum-told = c .before .before .before .before in
+    let at-draw-sign = at-enum-told .before .before .before .before in
+    let at-before- = at-draw-sign .before .before in
+    let at-loop = at-before- .before .before in
+    let start = at-loop .before .before .before in
     c .before .before .mark-over .ensures
-    ∙ drawing-over _ _ _ _ _ (c .before .before .before .before .before .before .before .before .before .before .before .before .before .before .before .pre .0)
-    (c .before .before .before .before .before .before .before .before .before .before .before .before .loop .inv) _
-    (here (c .before .before .before .before .before .before .before .before .before .before)) _
-    (c .before .before .before .before .before .before .before .before .draw-sign .ensures .1)
-    (sym (c .before .before .before .before .enum-told .given .1) ∙ c .before .before .before .before .before .before .before .before .draw-sign .ensures .0)
+    ∙ drawing-over _ _ _ _ _ (start .pre .0)
+    (at-loop .loop .inv) _
+    (here at-before-) _
+    (at-draw-sign .draw-sign .ensures .1)
+    (sym (at-enum-told .enum-told .given .1) ∙ at-draw-sign .draw-sign .ensures .0)
 
 loop-less : tie.Need-loop-less Inv-loop μ-loop
 loop-less c = let h = here (c .before .before .before .before .before .before .before) in let o = h .on in let w = h .within in omega arith
 
 loop-again : tie.Need-loop-again Inv-loop μ-loop
 loop-again c =
-    drawing-next _ _ _ _ _ (c .before .before .before .before .before .before .before .before .before .before .before .before .pre .0)
-    (c .before .before .before .before .before .before .before .before .before .loop .inv) _ (here (c .before .before .before .before .before .before .before)) _
-    (c .before .before .before .before .before .draw-sign .ensures .1) _
-    (sym (c .before .behind .given .1) ∙ c .before .before .before .before .before .draw-sign .ensures .0)
+    let at-draw-sign = c .before .before .before .before .before in
+    let at-before- = at-draw-sign .before .before in
+    let at-loop = at-before- .before .before in
+    let start = at-loop .before .before .before in
+    drawing-next _ _ _ _ _ (start .pre .0)
+    (at-loop .loop .inv) _ (here at-before-) _
+    (at-draw-sign .draw-sign .ensures .1) _
+    (sym (c .before .behind .given .1) ∙ at-draw-sign .draw-sign .ensures .0)
 
 same-length-2 : tie.Need-same-length-2 Inv-loop μ-loop
 same-length-2 c = c .before .loop .inv .size ∙ eighty _ (c .before .before .before .before .pre .2)

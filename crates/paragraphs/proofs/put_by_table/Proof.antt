@@ -25,7 +25,10 @@ same-length : tie.Need-same-length
 same-length c = search needs
 
 returns : tie.Need-returns
-returns c = λ block. (rw (← c .before .before .before .before .before .before .room-for .ensures) (lt-leb _ _ (split-many (c .before .before .before .before .split-words .ensures block) (c .enum-told .given .1))), refl)
+returns c =
+    let at-split-words = c .before .before .before .before in
+    let at-room-for = at-split-words .before .before in
+    λ block. (rw (← at-room-for .room-for .ensures) (lt-leb _ _ (split-many (at-split-words .split-words .ensures block) (c .enum-told .given .1))), refl)
 
 either-requires : tie.Need-either-requires
 either-requires c κs = search needs
@@ -35,15 +38,20 @@ setting-of-requires c κs = search needs
 
 mark-breaks-requires : tie.Need-mark-breaks-requires
 mark-breaks-requires c κs =
-    let p = c .before .before .before .before .before .before .before .before .before .before .before .before .before .before .pre in
-    let s = c .before .before .before .before .before .before .before .before .split-words .ensures (p .0 .block) in
-    let w = c .before .before .before .before .n .given .1 in
+    let at-n = c .before .before .before .before in
+    let at-work = at-n .before .before .before in
+    let at-split-words = at-work .before in
+    let at-room-for = at-split-words .before .before in
+    let start = at-room-for .before .before .before .before in
+    let p = start .pre in
+    let s = at-split-words .split-words .ensures (p .0 .block) in
+    let w = at-n .n .given .1 in
     let n = split-few s _ w in
     let k = s .kept _ w in (
       rw (c .before .setting-of .ensures (p .0 .block)) (limits-of _ _ _ _ (p .0) (p .0 .block)),
       omega (arith, n .0, p .0 .some),
       omega (arith, n .0, p .0 .few, p .0 .short),
-      roomy (c .before .before .before .before .before .before .before .before .before .before .before .before .before .before .args .o .quick) (c .before .before .before .before .before .before .before .before .before .before .before .before .before .before .args .p .mail) (c .before .before .before .before .before .before .before .work .given) (c .before .before .before .before .before .before .before .before .before .before .room-for .ensures) (k .few) (c .before .before .either .ensures),
+      roomy (start .args .o .quick) (start .args .p .mail) (at-work .work .given) (at-room-for .room-for .ensures) (k .few) (c .before .before .either .ensures),
       split-narrow s _ w (p .0 .short),
     )
 
@@ -52,12 +60,16 @@ layout-of-requires c κs = search needs
 
 emit-requires : tie.Need-emit-requires
 emit-requires c κs =
-    let p = c .before .before .before .before .before .before .before .before .before .before .before .before .before .before .before .before .before .before .before .before .pre in
-    let s = c .before .before .before .before .before .before .before .before .before .before .before .before .before .before .split-words .ensures (p .0 .block) in
-    let w = c .before .before .before .before .before .before .before .before .before .before .n .given .1 in
+    let at-mark-breaks = c .before .before .before .before .before in
+    let at-n = at-mark-breaks .before .before .before .before .before in
+    let at-split-words = at-n .before .before .before .before in
+    let start = at-split-words .before .before .before .before .before .before in
+    let p = start .pre in
+    let s = at-split-words .split-words .ensures (p .0 .block) in
+    let w = at-n .n .given .1 in
     let n = split-few s _ w in
     let k = s .kept _ w in
-    let b = c .before .before .before .before .before .mark-breaks .ensures in
+    let b = at-mark-breaks .mark-breaks .ensures in
     let l = c .before .layout-of .ensures in (
       record {
         some = omega (arith, n .0, p .0 .some);
@@ -75,22 +87,32 @@ same-length-2 : tie.Need-same-length-2
 same-length-2 c = search needs
 
 same-length-3 : tie.Need-same-length-3
-same-length-3 c = c .before .before .before .before .before .before .before .before .mark-breaks .ensures .sized ∙ c .before .before .before .before .before .before .before .before .before .before .before .before .before .before .before .before .work .given
+same-length-3 c =
+    let at-mark-breaks = c .before .before .before .before .before .before .before .before in
+    let at-work = at-mark-breaks .before .before .before .before .before .before .before .before in
+    at-mark-breaks .mark-breaks .ensures .sized ∙ at-work .work .given
 
 returns-2 : tie.Need-returns-2
 returns-2 c =
+    let at-layout-of = c .before .before .before .before in
+    let at-mark-breaks = at-layout-of .before .before .before .before in
+    let at-setting-of = at-mark-breaks .before .before in
+    let at-either = at-setting-of .before in
+    let at-n = at-either .before .before in
+    let at-split-words = at-n .before .before .before .before in
+    let at-room-for = at-split-words .before .before in
     λ block.
-    let s = c .before .before .before .before .before .before .before .before .before .before .before .before .before .before .before .before .before .split-words .ensures block in
-    let w = c .before .before .before .before .before .before .before .before .before .before .before .before .before .n .given .1 in
-    let b = c .before .before .before .before .before .before .before .before .mark-breaks .ensures in
-    let l = c .before .before .before .before .layout-of .ensures in
+    let s = at-split-words .split-words .ensures block in
+    let w = at-n .n .given .1 in
+    let b = at-mark-breaks .mark-breaks .ensures in
+    let l = at-layout-of .layout-of .ensures in
     let e = words-same _ _ _ _ (b .words) ∙ s .words _ w in (
-      rw (← c .before .before .before .before .before .before .before .before .before .before .before .before .before .before .before .before .before .before .before .room-for .ensures) (le-leb _ _ (split-few s _ w .1)),
+      rw (← at-room-for .room-for .ensures) (le-leb _ _ (split-few s _ w .1)),
       record {
         next = refl;
         mail = refl;
-        wrote = wrote-as (emitted-is _ _ _ _ _ (l .0) (l .1) (l .2) (s .words _ w) b (c .before .before .before .before .before .before .before .before .before .before .before .either .ensures) (c .before .before .before .before .before .before .before .before .before .before .setting-of .ensures block)) (c .before .before .emit .ensures .0);
-        bounded = most-as _ _ _ (c .before .before .before .before .layout-of .result) _ (l .1) (l .2) e (c .before .before .emit .ensures .1);
+        wrote = wrote-as (emitted-is _ _ _ _ _ (l .0) (l .1) (l .2) (s .words _ w) b (at-either .either .ensures) (at-setting-of .setting-of .ensures block)) (c .before .before .emit .ensures .0);
+        bounded = most-as _ _ _ (at-layout-of .layout-of .result) _ (l .1) (l .2) e (c .before .before .emit .ensures .1);
       },
     )
 

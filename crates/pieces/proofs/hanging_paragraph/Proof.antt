@@ -32,19 +32,34 @@ margin-at-requires-2 : tie.Need-margin-at-requires-2
 margin-at-requires-2 c κs = search needs
 
 returns : tie.Need-returns
-returns c = rw (c .before .margin-at .ensures, c .margin-at2 .ensures) (alone-from _ _ _ _ _ _ (c .before .before .before .before .before .before .before .before .pre .2) (c .before .before .before .before .before .before .before .before .pre .3) _ (c .before .before .further-spaces .ensures .0) (sym (c .before .before .before .enum-told .given .1) ∙ c .before .before .before .before .before .second-line .ensures .0))
+returns c =
+    let at-enum-told = c .before .before .before in
+    let at-second-line = at-enum-told .before .before in
+    let start = at-second-line .before .before .before in
+    rw (c .before .margin-at .ensures, c .margin-at2 .ensures) (alone-from _ _ _ _ _ _ (start .pre .2) (start .pre .3) _ (c .before .before .further-spaces .ensures .0) (sym (at-enum-told .enum-told .given .1) ∙ at-second-line .second-line .ensures .0))
 
 follow-requires : tie.Need-follow-requires
-follow-requires c κs = let j = joined-of (c .before .before .before .before .before .before .args .notes .now) (c .before .before .before .before .before .before .args .next) _ (c .before .before .before .second-line .ensures .1) (c .before .behind .given .1) in record { short = c .before .before .before .before .before .before .pre .0 .short; usable = c .before .before .before .before .before .before .pre .0 .usable; place = j .within }
+follow-requires c κs =
+    let at-second-line = c .before .before .before in
+    let start = at-second-line .before .before .before in
+    let j = joined-of (start .args .notes .now) (start .args .next) _ (at-second-line .second-line .ensures .1) (c .before .behind .given .1) in record { short = start .pre .0 .short; usable = start .pre .0 .usable; place = j .within }
 
 margin-at-requires-3 : tie.Need-margin-at-requires-3
 margin-at-requires-3 c κs = search needs
 
 margin-at-requires-4 : tie.Need-margin-at-requires-4
-margin-at-requires-4 c κs = let j = joined-of (c .before .before .before .before .before .before .before .before .args .notes .now) (c .before .before .before .before .before .before .before .before .args .next) _ (c .before .before .before .before .before .second-line .ensures .1) (c .before .before .before .behind .given .1) in omega (arith, j .shaped .indent, j .shaped .columns, c .before .before .before .before .before .before .before .before .pre .0 .short)
+margin-at-requires-4 c κs =
+    let at-behind = c .before .before .before in
+    let at-second-line = at-behind .before .before in
+    let start = at-second-line .before .before .before in
+    let j = joined-of (start .args .notes .now) (start .args .next) _ (at-second-line .second-line .ensures .1) (at-behind .behind .given .1) in omega (arith, j .shaped .indent, j .shaped .columns, start .pre .0 .short)
 
 returns-2 : tie.Need-returns-2
-returns-2 c = let j = joined-of (c .before .before .before .before .before .before .before .before .before .args .notes .now) (c .before .before .before .before .before .before .before .before .before .args .next) _ (c .before .before .before .before .before .before .second-line .ensures .1) (c .before .before .before .before .behind .given .1) in rw (c .before .margin-at3 .ensures, c .margin-at4 .ensures) (joins-from _ _ _ _ _ _ (c .before .before .before .before .before .before .before .before .before .pre .2) (c .before .before .before .before .before .before .before .before .before .pre .3) _ _ _ (sym (c .before .before .before .before .behind .given .1) ∙ c .before .before .before .before .before .before .second-line .ensures .0) j (c .before .before .follow .ensures .0))
+returns-2 c =
+    let at-behind = c .before .before .before .before in
+    let at-second-line = at-behind .before .before in
+    let start = at-second-line .before .before .before in
+    let j = joined-of (start .args .notes .now) (start .args .next) _ (at-second-line .second-line .ensures .1) (at-behind .behind .given .1) in rw (c .before .margin-at3 .ensures, c .margin-at4 .ensures) (joins-from _ _ _ _ _ _ (start .pre .2) (start .pre .3) _ _ _ (sym (at-behind .behind .given .1) ∙ at-second-line .second-line .ensures .0) j (c .before .before .follow .ensures .0))
 
 pub hanging-paragraph-spec : {M : Type 1} → statement M
 hanging-paragraph-spec =

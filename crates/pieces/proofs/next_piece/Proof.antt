@@ -45,19 +45,37 @@ mail-paragraph-requires : tie.Need-mail-paragraph-requires
 mail-paragraph-requires c κs = search needs
 
 returns : tie.Need-returns
-returns c = piece-bounded _ _ _ _ _ _ (c .before .before .before .before .before .before .before .before .before .before .pre) (piece-text _ _ _ _ _ _ (c .before .before .before .before .before .before .before .line-at .ensures) _ (c .before .before .before .before .before .class .given .1) true (sym (c .before .if1 .taken) ∙ c .before .before .starts-mail .ensures) _ (c .mail-paragraph .ensures))
+returns c =
+    let at-class = c .before .before .before .before .before in
+    let at-line-at = at-class .before .before in
+    let start = at-line-at .before .before .before in
+    piece-bounded _ _ _ _ _ _ (start .pre) (piece-text _ _ _ _ _ _ (at-line-at .line-at .ensures) _ (at-class .class .given .1) true (sym (c .before .if1 .taken) ∙ c .before .before .starts-mail .ensures) _ (c .mail-paragraph .ensures))
 
 is-hanging-requires : tie.Need-is-hanging-requires
 is-hanging-requires c κs = search needs
 
 hanging-paragraph-requires : tie.Need-hanging-paragraph-requires
-hanging-paragraph-requires c κs = let h = sym (c .before .is-hanging .ensures) ∙ c .if2 .taken in (record { short = c .before .before .before .before .before .before .before .before .before .before .before .pre .1; usable = c .before .before .before .before .before .before .before .before .before .before .before .pre .2; place = c .before .before .before .before .before .before .before .before .line-at .ensures .within }, joined-line _ _ _ _ _ (c .before .before .before .before .before .before .before .before .line-at .ensures) (c .before .before .before .before .before .before .class .given .1) (c .before .before .before .before .before .before .before .before .before .before .before .pre .2) (c .before .before .before .before .before .before .before .before .before .before .before .pre .1) .shaped, h, not-split _ _ (c .before .before .before .before .before .before .before .before .before .before .before .pre .3) h)
+hanging-paragraph-requires c κs =
+    let at-class = c .before .before .before .before .before .before in
+    let at-line-at = at-class .before .before in
+    let start = at-line-at .before .before .before in
+    let h = sym (c .before .is-hanging .ensures) ∙ c .if2 .taken in (record { short = start .pre .1; usable = start .pre .2; place = at-line-at .line-at .ensures .within }, joined-line _ _ _ _ _ (at-line-at .line-at .ensures) (at-class .class .given .1) (start .pre .2) (start .pre .1) .shaped, h, not-split _ _ (start .pre .3) h)
 
 returns-2 : tie.Need-returns-2
-returns-2 c = piece-bounded _ _ _ _ _ _ (c .before .before .before .before .before .before .before .before .before .before .before .before .pre) (piece-text _ _ _ _ _ _ (c .before .before .before .before .before .before .before .before .before .line-at .ensures) _ (c .before .before .before .before .before .before .before .class .given .1) false (sym (c .before .before .before .if1 .left) ∙ c .before .before .before .before .starts-mail .ensures) _ (c .hanging-paragraph .ensures))
+returns-2 c =
+    let at-if = c .before .before .before in
+    let at-starts-mail = at-if .before in
+    let at-class = at-starts-mail .before .before .before in
+    let at-line-at = at-class .before .before in
+    let start = at-line-at .before .before .before in
+    piece-bounded _ _ _ _ _ _ (start .pre) (piece-text _ _ _ _ _ _ (at-line-at .line-at .ensures) _ (at-class .class .given .1) false (sym (at-if .if1 .left) ∙ at-starts-mail .starts-mail .ensures) _ (c .hanging-paragraph .ensures))
 
 plain-paragraph-requires : tie.Need-plain-paragraph-requires
-plain-paragraph-requires c κs = (record { short = c .before .before .before .before .before .before .before .before .before .before .before .pre .1; usable = c .before .before .before .before .before .before .before .before .before .before .before .pre .2; place = c .before .before .before .before .before .before .before .before .line-at .ensures .within }, joined-line _ _ _ _ _ (c .before .before .before .before .before .before .before .before .line-at .ensures) (c .before .before .before .before .before .before .class .given .1) (c .before .before .before .before .before .before .before .before .before .before .before .pre .2) (c .before .before .before .before .before .before .before .before .before .before .before .pre .1) .shaped, sym (c .before .is-hanging .ensures) ∙ c .if2 .left)
+plain-paragraph-requires c κs =
+    let at-class = c .before .before .before .before .before .before in
+    let at-line-at = at-class .before .before in
+    let start = at-line-at .before .before .before in
+    (record { short = start .pre .1; usable = start .pre .2; place = at-line-at .line-at .ensures .within }, joined-line _ _ _ _ _ (at-line-at .line-at .ensures) (at-class .class .given .1) (start .pre .2) (start .pre .1) .shaped, sym (c .before .is-hanging .ensures) ∙ c .if2 .left)
 
 returns-3 : tie.Need-returns-3
 returns-3 c = piece-bounded _ _ _ _ _ _ (c .before .before .before .before .before .pre) (piece-blank _ _ _ _ _ (c .before .before .line-at .ensures) (c .enum-told .given .1))
@@ -66,7 +84,13 @@ returns-4 : tie.Need-returns-4
 returns-4 c = piece-bounded _ _ _ _ _ _ (c .before .before .before .before .before .pre) (piece-plain _ _ _ _ _ (c .before .before .line-at .ensures) (c .enum-told2 .given .1))
 
 returns-5 : tie.Need-returns-5
-returns-5 c = piece-bounded _ _ _ _ _ _ (c .before .before .before .before .before .before .before .before .before .before .before .before .pre) (piece-text _ _ _ _ _ _ (c .before .before .before .before .before .before .before .before .before .line-at .ensures) _ (c .before .before .before .before .before .before .before .class .given .1) false (sym (c .before .before .before .if1 .left) ∙ c .before .before .before .before .starts-mail .ensures) _ (c .plain-paragraph .ensures))
+returns-5 c =
+    let at-if = c .before .before .before in
+    let at-starts-mail = at-if .before in
+    let at-class = at-starts-mail .before .before .before in
+    let at-line-at = at-class .before .before in
+    let start = at-line-at .before .before .before in
+    piece-bounded _ _ _ _ _ _ (start .pre) (piece-text _ _ _ _ _ _ (at-line-at .line-at .ensures) _ (at-class .class .given .1) false (sym (at-if .if1 .left) ∙ at-starts-mail .starts-mail .ensures) _ (c .plain-paragraph .ensures))
 
 pub next-piece-spec : {M : Type 1} → statement M
 next-piece-spec =

@@ -37,35 +37,51 @@ get-requires-2 : tie.Need-get-requires-2 Inv-loop μ-loop
 get-requires-2 c κs = omega (arith, c .before .before .loop .inv .2)
 
 reach-requires : tie.Need-reach-requires Inv-loop μ-loop
-reach-requires c κs = (c .before .before .before .before .before .before .before .before .before .pre .2, c .get2 .ensures .small, c .before .before .before .loop .inv .1)
+reach-requires c κs =
+    let at-loop = c .before .before .before in
+    let start = at-loop .before .before .before .before .before .before in
+    (start .pre .2, c .get2 .ensures .small, at-loop .loop .inv .1)
 
 mark-requires : tie.Need-mark-requires Inv-loop μ-loop
 mark-requires c κs = omega (arith, c .before .before .before .before .before .before .loop .inv .2)
 
 add-pick : tie.Need-add-pick Inv-loop μ-loop
-add-pick c = omega (arith, c .before .before .before .before .before .before .before .before .before .before .before .before .before .before .before .before .before .pre .2 .indent, c .before .before .before .before .before .before .before .before .get2 .ensures .small .width)
+add-pick c =
+    let at-get = c .before .before .before .before .before .before .before .before in
+    let start = at-get .before .before .before .before .before .before .before .before .before in
+    omega (arith, start .pre .2 .indent, at-get .get2 .ensures .small .width)
 
 pick-requires : tie.Need-pick-requires Inv-loop μ-loop
 pick-requires c κs = search needs
 
 add-i : tie.Need-add-i Inv-loop μ-loop
-add-i c = omega (arith, c .before .before .before .before .before .before .before .before .before .before .before .before .before .before .before .before .before .before .fits .n .fits, c .before .before .before .before .before .before .before .before .before .before .before .loop-test .taken)
+add-i c =
+    let at-loop-test = c .before .before .before .before .before .before .before .before .before .before .before in
+    let start = at-loop-test .before .before .before .before .before .before .before in
+    omega (arith, start .fits .n .fits, at-loop-test .loop-test .taken)
 
 loop-less : tie.Need-loop-less Inv-loop μ-loop
 loop-less c = omega arith
 
 loop-again : tie.Need-loop-again Inv-loop μ-loop
 loop-again c =
-    let r = c .before .before .before .before .before .before .before .before .reach in
-    let w = c .before .before .before .before .before .before .before .before .before .get2 in
-    let l = c .before .before .before .before .before .before .before .before .before .before .before .before .loop in
-    let s = c .before .before .before .before .before .before .before .before .before .before .before .before .before .before .before .before .before .before in
-    let t = c .before .before .before .before .before .before .before .before .before .before .before .loop-test .taken in
-    let m = c .before .before .before .before .before .mark .ensures in
+    let at-table = c .before .before .before .before in
+    let at-mark = at-table .before in
+    let at-reach = at-mark .before .before .before in
+    let at-get = at-reach .before in
+    let at-loop-test = at-get .before .before in
+    let at-loop = at-loop-test .before in
+    let at-before- = at-loop .before .before .before .before .before .before in
+    let r = at-reach .reach in
+    let w = at-get .get2 in
+    let l = at-loop .loop in
+    let s = at-before- in
+    let t = at-loop-test .loop-test .taken in
+    let m = at-mark .mark .ensures in
     let g = s .args .g in (
       omega arith,
       rw (c .pick .ensures) (column-most _ (g .width) _ (r .result) refl (s .pre .2 .width) (omega arith)),
-      c .before .before .before .before .table .given ∙ l .inv .2,
+      at-table .table .given ∙ l .inv .2,
       λ j. rw m (mark-word (l .table) (l .i) _ (omega (arith, l .inv .2)) j ∙ l .inv .3 j),
       λ notes. rw m (turn g notes (now (s .args .table)) (s .args .n) _ _ _ _ (r .result) _ _ _ (w .ensures .is ∙ l .inv .3 _) t (r .ensures .0) (c .pick .ensures) (l .inv .4 notes)),
     )

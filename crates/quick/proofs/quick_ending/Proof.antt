@@ -43,15 +43,24 @@ reach-requires : tie.Need-reach-requires Inv-loop μ-loop
 reach-requires c κs = (c .before .before .before .before .before .before .before .pre .2, c .get2 .ensures .small, c .before .before .loop .inv .1)
 
 full-requires : tie.Need-full-requires Inv-loop μ-loop
-full-requires c κs = (c .before .before .before .before .before .before .before .before .before .before .pre .2, c .before .before .before .get2 .ensures .small, c .before .before .before .before .before .loop .inv .1)
+full-requires c κs =
+    let at-get = c .before .before .before in
+    let at-loop = at-get .before .before in
+    let start = at-loop .before .before .before .before .before in
+    (start .pre .2, at-get .get2 .ensures .small, at-loop .loop .inv .1)
 
 returns : tie.Need-returns Inv-loop μ-loop
 returns c =
-    let r = c .before .before .before .reach in
-    let w = c .before .before .before .before .get2 in
-    let l = c .before .before .before .before .before .before .loop in
-    let s = c .before .before .before .before .before .before .before .before .before .before .before in
-    λ notes. c .full .ensures ∙ ending-here (s .args .g) notes (now (s .args .table)) (s .args .n) (l .column) (l .punct) (l .i) (l .left) (w .result) (r .result) (w .ensures .is) (c .before .before .before .before .before .loop-test .taken) (r .ensures .0) (c .before .if1 .taken) ∙ l .inv .2 notes
+    let at-reach = c .before .before .before in
+    let at-get = at-reach .before in
+    let at-loop-test = at-get .before in
+    let at-loop = at-loop-test .before in
+    let at-before- = at-loop .before .before .before .before .before in
+    let r = at-reach .reach in
+    let w = at-get .get2 in
+    let l = at-loop .loop in
+    let s = at-before- in
+    λ notes. c .full .ensures ∙ ending-here (s .args .g) notes (now (s .args .table)) (s .args .n) (l .column) (l .punct) (l .i) (l .left) (w .result) (r .result) (w .ensures .is) (at-loop-test .loop-test .taken) (r .ensures .0) (c .before .if1 .taken) ∙ l .inv .2 notes
 
 less-requires : tie.Need-less-requires Inv-loop μ-loop
 less-requires c κs = search needs
@@ -60,29 +69,43 @@ pick-requires : tie.Need-pick-requires Inv-loop μ-loop
 pick-requires c κs = search needs
 
 add-pick : tie.Need-add-pick Inv-loop μ-loop
-add-pick c = omega (arith, c .before .before .before .before .before .before .before .before .before .before .before .before .before .before .pre .2 .indent, c .before .before .before .before .before .before .before .get2 .ensures .small .width)
+add-pick c =
+    let at-get = c .before .before .before .before .before .before .before in
+    let start = at-get .before .before .before .before .before .before .before in
+    omega (arith, start .pre .2 .indent, at-get .get2 .ensures .small .width)
 
 pick-requires-2 : tie.Need-pick-requires-2 Inv-loop μ-loop
 pick-requires-2 c κs = search needs
 
 add-i : tie.Need-add-i Inv-loop μ-loop
-add-i c = omega (arith, c .before .before .before .before .before .before .before .before .before .before .before .before .before .before .before .fits .n .fits, c .before .before .before .before .before .before .before .before .before .loop-test .taken)
+add-i c =
+    let at-loop-test = c .before .before .before .before .before .before .before .before .before in
+    let start = at-loop-test .before .before .before .before .before .before in
+    omega (arith, start .fits .n .fits, at-loop-test .loop-test .taken)
 
 loop-less : tie.Need-loop-less Inv-loop μ-loop
 loop-less c = omega arith
 
 loop-again : tie.Need-loop-again Inv-loop μ-loop
 loop-again c =
-    let r = c .before .before .before .before .before .before .before .reach in
-    let w = c .before .before .before .before .before .before .before .before .get2 in
-    let l = c .before .before .before .before .before .before .before .before .before .before .loop in
-    let s = c .before .before .before .before .before .before .before .before .before .before .before .before .before .before .before in
+    let at-pick = c .before .before .before in
+    let at-less = at-pick .before in
+    let at-if = at-less .before in
+    let at-reach = at-if .before .before in
+    let at-get = at-reach .before in
+    let at-loop-test = at-get .before in
+    let at-loop = at-loop-test .before in
+    let at-before- = at-loop .before .before .before .before .before in
+    let r = at-reach .reach in
+    let w = at-get .get2 in
+    let l = at-loop .loop in
+    let s = at-before- in
     let g = s .args .g in
-    let t = c .before .before .before .before .before .before .before .before .before .loop-test .taken in
-    let fewer = c .before .before .before .pick .ensures ∙ ap (λ (m : ℕ). cond (ltb (g .width) (r .result)) m (l .left)) (c .before .before .before .before .less .ensures) in (
+    let t = at-loop-test .loop-test .taken in
+    let fewer = at-pick .pick .ensures ∙ ap (λ (m : ℕ). cond (ltb (g .width) (r .result)) m (l .left)) (at-less .less .ensures) in (
       omega arith,
       rw (c .pick2 .ensures) (column-most _ (g .width) _ (r .result) refl (s .pre .2 .width) (omega arith)),
-      λ notes. ending-on g notes (now (s .args .table)) (s .args .n) (l .column) (l .punct) (l .i) (l .left) (w .result) (r .result) _ _ (w .ensures .is) t (r .ensures .0) (c .before .before .before .before .before .if1 .left) (c .pick2 .ensures) fewer ∙ l .inv .2 notes,
+      λ notes. ending-on g notes (now (s .args .table)) (s .args .n) (l .column) (l .punct) (l .i) (l .left) (w .result) (r .result) _ _ (w .ensures .is) t (r .ensures .0) (at-if .if1 .left) (c .pick2 .ensures) fewer ∙ l .inv .2 notes,
     )
 
 returns-2 : tie.Need-returns-2 Inv-loop μ-loop

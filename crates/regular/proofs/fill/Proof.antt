@@ -36,8 +36,10 @@ room-of-requires c κs = search needs
 
 place-of-requires : tie.Need-place-of-requires Inv-loop μ-loop
 place-of-requires c κs =
-    let l = c .before .before .before .loop in
-    let start = c .before .before .before .before .before .before in
+    let at-loop = c .before .before .before in
+    let at-before- = at-loop .before .before .before in
+    let l = at-loop .loop in
+    let start = at-before- in
     let inked = l .inv .4 .inked in (
       omega (arith, inked .on),
       inked .within,
@@ -50,23 +52,32 @@ cut-line-requires c κs = (c .before .before .before .before .loop .inv .4 .inke
 
 put-at-requires : tie.Need-put-at-requires Inv-loop μ-loop
 put-at-requires c κs =
-    let l = c .before .before .before .before .before .before .before .before .loop in
-    let pre = c .before .before .before .before .before .before .before .before .before .before .before .pre in
+    let at-loop = c .before .before .before .before .before .before .before .before in
+    let start = at-loop .before .before .before in
+    let l = at-loop .loop in
+    let pre = start .pre in
     let inked = l .inv .4 .inked in
     (omega (arith, inked .on), inked .within, pre .4, omega (arith, inked .on, inked .within, pre .4, pre .5, l .inv .1))
 
 add-t23 : tie.Need-add-t23 Inv-loop μ-loop
-add-t23 c = let l = c .before .before .before .before .before .before .before .before .before .before .before .loop in let pre = c .before .before .before .before .before .before .before .before .before .before .before .before .before .before .pre in omega (arith, few (c .before .before .before .before .before .before .before .before .before .before .before), l .inv .4 .inked .within, pre .4, pre .6, pre .7, l .inv .2)
+add-t23 c =
+    let at-loop = c .before .before .before .before .before .before .before .before .before .before .before in
+    let start = at-loop .before .before .before in
+    let l = at-loop .loop in let pre = start .pre in omega (arith, few at-loop, l .inv .4 .inked .within, pre .4, pre .6, pre .7, l .inv .2)
 
 same-length : tie.Need-same-length Inv-loop μ-loop
 same-length c = wrote-length (c .before .before .put-at .ensures) ∙ c .before .before .before .before .before .before .before .before .before .before .before .loop .inv .3
 
 returns : tie.Need-returns Inv-loop μ-loop
 returns c =
-    let l = c .before .before .before .before .before .before .before .before .before .before .before .loop in
-    let pre = c .before .before .before .before .before .before .before .before .before .before .before .before .before .before .pre in
-    let sum : l .column + l .left ≡ l .column + columnsIn (now (c .before .before .before .before .before .before .before .before .before .before .before .before .before .before .args .s)) (l .p) (c .before .before .before .before .before .before .before .before .before .before .before .before .before .before .args .e) = rw (l .inv .5) in
-    along-done _ _ _ _ _ _ _ _ _ _ _ _ _ _ (l .inv .4) (inr (c .before .before .before .before .before .before .cut-line .ensures .lone (omega (arith, c .before .before .before .before .if2 .taken)))) (l .inv .0) (l .inv .1) (l .inv .2) (pre .4) _ _ (c .before .before .put-at .ensures) sum
+    let at-if = c .before .before .before .before in
+    let at-cut-line = at-if .before .before in
+    let at-loop = at-cut-line .before .before .before .before .before in
+    let start = at-loop .before .before .before in
+    let l = at-loop .loop in
+    let pre = start .pre in
+    let sum : l .column + l .left ≡ l .column + columnsIn (now (start .args .s)) (l .p) (start .args .e) = rw (l .inv .5) in
+    along-done _ _ _ _ _ _ _ _ _ _ _ _ _ _ (l .inv .4) (inr (at-cut-line .cut-line .ensures .lone (omega (arith, at-if .if2 .taken)))) (l .inv .0) (l .inv .1) (l .inv .2) (pre .4) _ _ (c .before .before .put-at .ensures) sum
 
 -- the next word begins before the stretch's end
 cut : (c : tie.Else2 Inv-loop μ-loop) → CutAt (now (c .before .before .before .before .before .before .before .before .before .before .args .s)) (c .before .before .before .before .before .before .before .loop .p) (c .before .before .before .before .before .before .before .before .before .before .args .e) (c .before .before .before .place-of .result) (c .before .before .cut-line .result)
@@ -74,26 +85,36 @@ cut c = let found = c .before .before .cut-line .ensures in found .cut (omega (a
 
 put-line-requires : tie.Need-put-line-requires Inv-loop μ-loop
 put-line-requires c κs =
-    let l = c .before .before .before .before .before .before .before .before .loop in
-    let pre = c .before .before .before .before .before .before .before .before .before .before .before .pre in
+    let at-loop = c .before .before .before .before .before .before .before .before in
+    let start = at-loop .before .before .before in
+    let l = at-loop .loop in
+    let pre = start .pre in
     let inked = l .inv .4 .inked in
     let found = cut (c .before) in
     (omega (arith, found .on), omega (arith, found .gap, found .rest .on, found .rest .within), pre .3, pre .4, omega (arith, inked .on, inked .within, pre .4, pre .5, l .inv .1))
 
 columns-before-requires : tie.Need-columns-before-requires Inv-loop μ-loop
 columns-before-requires c κs =
-    let l = c .before .before .before .before .before .before .before .before .before .before .before .loop in
-    let found = cut (c .before .before .before .before) in
-    (omega (arith, found .on, found .gap), omega (arith, found .rest .on), l .inv .4 .inked .within, c .before .before .before .before .before .before .before .before .before .before .before .before .before .before .pre .4, l .inv .5, c .before .before .before .before .before .before .before .place-of .ensures)
+    let at-before- = c .before .before .before .before in
+    let at-place-of = at-before- .before .before .before in
+    let at-loop = at-place-of .before .before .before .before in
+    let start = at-loop .before .before .before in
+    let l = at-loop .loop in
+    let found = cut at-before- in
+    (omega (arith, found .on, found .gap), omega (arith, found .rest .on), l .inv .4 .inked .within, start .pre .4, l .inv .5, at-place-of .place-of .ensures)
 
 -- the columns of the rest
 rest : (c : tie.After-columns-before Inv-loop μ-loop)
     → c .before .before .before .before .before .before .before .before .before .before .before .before .loop .left ≡ c .columns-before .result + columnsIn (now (c .before .before .before .before .before .before .before .before .before .before .before .before .before .before .before .args .s)) (c .before .before .before .before .before .before .before .cut-line .result .next) (c .before .before .before .before .before .before .before .before .before .before .before .before .before .before .before .args .e)
 rest c =
-    let l = c .before .before .before .before .before .before .before .before .before .before .before .before .loop in
-    let start = c .before .before .before .before .before .before .before .before .before .before .before .before .before .before .before in
-    let found = cut (c .before .before .before .before .before) in
-    omega (arith, l .inv .5, c .columns-before .ensures, columns-join (now (start .args .s)) (l .p) (c .before .before .before .before .before .before .before .cut-line .result .next) (start .args .e) (omega (arith, found .on, found .gap)) (omega (arith, found .rest .on)) (found .rest .within))
+    let at-before- = c .before .before .before .before .before in
+    let at-cut-line = at-before- .before .before in
+    let at-loop = at-cut-line .before .before .before .before .before in
+    let at-before-15 = at-loop .before .before .before in
+    let l = at-loop .loop in
+    let start = at-before-15 in
+    let found = cut at-before- in
+    omega (arith, l .inv .5, c .columns-before .ensures, columns-join (now (start .args .s)) (l .p) (at-cut-line .cut-line .result .next) (start .args .e) (omega (arith, found .on, found .gap)) (omega (arith, found .rest .on)) (found .rest .within))
 
 sub-left : tie.Need-sub-left Inv-loop μ-loop
 sub-left c = omega (arith, rest c)
@@ -103,37 +124,51 @@ loop-less c = let found = cut (c .before .before .before .before .before) in ome
 
 loop-again : tie.Need-loop-again Inv-loop μ-loop
 loop-again c =
-    let l = c .before .before .before .before .before .before .before .before .before .before .before .before .loop in
-    let pre = c .before .before .before .before .before .before .before .before .before .before .before .before .before .before .before .pre in
-    let found = cut (c .before .before .before .before .before) in
-    let put = c .before .before .before .put-line .ensures in (
+    let at-put-line = c .before .before .before in
+    let at-before- = at-put-line .before .before in
+    let at-place-of = at-before- .before .before .before in
+    let at-room-of = at-place-of .before in
+    let at-loop = at-room-of .before .before .before in
+    let start = at-loop .before .before .before in
+    let l = at-loop .loop in
+    let pre = start .pre in
+    let found = cut at-before- in
+    let put = at-put-line .put-line .ensures in (
       omega (arith, l .inv .0, found .on, found .gap),
       omega (arith, l .inv .0, l .inv .1, put .1, found .on, found .gap),
       omega arith,
       wrote-length (put .0) ∙ l .inv .3,
-      along-turn _ _ _ _ _ _ _ _ _ _ _ _ _ _ (l .inv .4) _ _ _ (c .before .before .before .before .before .before .before .before .before .room-of .ensures) (c .before .before .before .before .before .before .before .before .place-of .ensures) found _ _ (put .0),
+      along-turn _ _ _ _ _ _ _ _ _ _ _ _ _ _ (l .inv .4) _ _ _ (at-room-of .room-of .ensures) (at-place-of .place-of .ensures) found _ _ (put .0),
       omega (arith, rest c),
     )
 
 put-at-requires-2 : tie.Need-put-at-requires-2 Inv-loop μ-loop
 put-at-requires-2 c κs =
-    let l = c .before .before .before .loop in
-    let pre = c .before .before .before .before .before .before .pre in
+    let at-loop = c .before .before .before in
+    let start = at-loop .before .before .before in
+    let l = at-loop .loop in
+    let pre = start .pre in
     let inked = l .inv .4 .inked in
     (omega (arith, inked .on), inked .within, pre .4, omega (arith, inked .on, inked .within, pre .4, pre .5, l .inv .1))
 
 add-t29 : tie.Need-add-t29 Inv-loop μ-loop
-add-t29 c = let l = c .before .before .before .before .before .before .loop in let pre = c .before .before .before .before .before .before .before .before .before .pre in omega (arith, few (c .before .before .before .before .before .before), l .inv .4 .inked .within, pre .4, pre .6, pre .7, l .inv .2)
+add-t29 c =
+    let at-loop = c .before .before .before .before .before .before in
+    let start = at-loop .before .before .before in
+    let l = at-loop .loop in let pre = start .pre in omega (arith, few at-loop, l .inv .4 .inked .within, pre .4, pre .6, pre .7, l .inv .2)
 
 same-length-2 : tie.Need-same-length-2 Inv-loop μ-loop
 same-length-2 c = wrote-length (c .before .before .put-at2 .ensures) ∙ c .before .before .before .before .before .before .loop .inv .3
 
 returns-2 : tie.Need-returns-2 Inv-loop μ-loop
 returns-2 c =
-    let l = c .before .before .before .before .before .before .loop in
-    let pre = c .before .before .before .before .before .before .before .before .before .pre in
-    let sum : l .column + l .left ≡ l .column + columnsIn (now (c .before .before .before .before .before .before .before .before .before .args .s)) (l .p) (c .before .before .before .before .before .before .before .before .before .args .e) = rw (l .inv .5) in
-    along-done _ _ _ _ _ _ _ _ _ _ _ _ _ _ (l .inv .4) (inl (omega (arith, c .before .before .before .before .if1 .left, l .inv .5))) (l .inv .0) (l .inv .1) (l .inv .2) (pre .4) _ _ (c .before .before .put-at2 .ensures) sum
+    let at-if = c .before .before .before .before in
+    let at-loop = at-if .before .before in
+    let start = at-loop .before .before .before in
+    let l = at-loop .loop in
+    let pre = start .pre in
+    let sum : l .column + l .left ≡ l .column + columnsIn (now (start .args .s)) (l .p) (start .args .e) = rw (l .inv .5) in
+    along-done _ _ _ _ _ _ _ _ _ _ _ _ _ _ (l .inv .4) (inl (omega (arith, at-if .if1 .left, l .inv .5))) (l .inv .0) (l .inv .1) (l .inv .2) (pre .4) _ _ (c .before .before .put-at2 .ensures) sum
 
 pub fill-spec : {M : Type 1} → statement M
 fill-spec =

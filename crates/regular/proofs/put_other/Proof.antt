@@ -20,13 +20,19 @@ slice-aggregate-part : tie.Need-slice-aggregate-part
 slice-aggregate-part c = sym (length-take-le _ _ (c .before .before .before .pre .1))
 
 sub-first-line : tie.Need-sub-first-line
-sub-first-line c = let l = length-take-le (c .before .before .before .args .next) (now (c .before .before .before .args .s)) (c .before .before .before .pre .1) in omega (arith, l, c .before .before .before .pre .0)
+sub-first-line c =
+    let start = c .before .before .before in
+    let l = length-take-le (start .args .next) (now (start .args .s)) (start .pre .1) in omega (arith, l, start .pre .0)
 
 part-first-line-start : tie.Need-part-first-line-start
-part-first-line-start c = let l = length-take-le (c .before .before .before .args .next) (now (c .before .before .before .args .s)) (c .before .before .before .pre .1) in omega (arith, l, c .before .before .before .pre .0)
+part-first-line-start c =
+    let start = c .before .before .before in
+    let l = length-take-le (start .args .next) (now (start .args .s)) (start .pre .1) in omega (arith, l, start .pre .0)
 
 part-first-line-end : tie.Need-part-first-line-end
-part-first-line-end c = let l = length-take-le (c .before .before .before .args .next) (now (c .before .before .before .args .s)) (c .before .before .before .pre .1) in omega (arith, l, c .before .before .before .pre .0)
+part-first-line-end c =
+    let start = c .before .before .before in
+    let l = length-take-le (start .args .next) (now (start .args .s)) (start .pre .1) in omega (arith, l, start .pre .0)
 
 first-line-requires : tie.Need-first-line-requires
 first-line-requires c κs = search needs
@@ -34,9 +40,10 @@ first-line-requires c κs = search needs
 line : (c : tie.After-first-line) → LineAt (meant [] (c .before .before .before .before .before .args .o)) (c .before .before .before .before .before .args .mail) (c .before .before .before .before .before .args .skip) (c .before .before .before .before .before .args .later) (now (c .before .before .before .before .before .args .s)) (c .before .before .before .before .before .args .next) (c .before .before .before .before .before .args .i) (c .first-line .result)
 unfolding meant
 line c =
-    line-at _ _ _ _ _ _ _ _ (c .before .before .before .before .before .pre .0) (c .before .before .before .before .before .pre .1)
-    (c .first-line .ensures ∙ ap (λ (l : List ℕ). lengthsOf (firstLine l)) (part-to-end (c .before .before .before .before .before .args .i) (take (c .before .before .before .before .before .args .next) (now (c .before .before .before .before .before .args .s)))))
-    (c .before .before .before .before .before .pre .5)
+    let start = c .before .before .before .before .before in
+    line-at _ _ _ _ _ _ _ _ (start .pre .0) (start .pre .1)
+    (c .first-line .ensures ∙ ap (λ (l : List ℕ). lengthsOf (firstLine l)) (part-to-end (start .args .i) (take (start .args .next) (now (start .args .s)))))
+    (start .pre .5)
 
 begin-requires : tie.Need-begin-requires
 begin-requires c κs = let h = c .before .before .before .before .before .pre in let l = line c in λ m. omega (arith, l .starts m, l .shorter, l .within, h .1, h .2)
@@ -47,19 +54,28 @@ add-put-words c = let h = c .before .before .before .before .before .before .bef
 put-words-requires : tie.Need-put-words-requires
 unfolding meant
 put-words-requires c κs =
-    let h = c .before .before .before .before .before .before .before .before .pre in
-    let l = line (c .before .before .before) in
+    let at-before- = c .before .before .before in
+    let start = at-before- .before .before .before .before .before in
+    let h = start .pre in
+    let l = line at-before- in
     let e = c .before .before .begin .ensures in
     (omega (arith, l .begins, e), omega (arith, l .shorter, l .within, h .1), h .2, h .3, h .4, λ m. rw e (l .ink m), h .6, h .7, h .8, h .9, h .10, h .11)
 
 add-t17 : tie.Need-add-t17
-add-t17 c = let h = c .before .before .before .before .before .before .before .before .before .before .before .before .pre in let l = line (c .before .before .before .before .before .before .before) in omega (arith, l .within, h .1, h .2)
+add-t17 c =
+    let at-before- = c .before .before .before .before .before .before .before in
+    let start = at-before- .before .before .before .before .before in
+    let h = start .pre in let l = line at-before- in omega (arith, l .within, h .1, h .2)
 
 same-length : tie.Need-same-length
 same-length c = search needs
 
 returns : tie.Need-returns
-returns c = row-worded _ _ _ _ _ _ _ _ _ _ _ _ (line (c .before .before .before .before .before .before .before)) _ (c .before .before .before .before .before .before .begin .ensures) _ _ (c .before .before .before .put-words .ensures)
+returns c =
+    let at-put-words = c .before .before .before in
+    let at-begin = at-put-words .before .before .before in
+    let at-before- = at-begin .before in
+    row-worded _ _ _ _ _ _ _ _ _ _ _ _ (line at-before-) _ (at-begin .begin .ensures) _ _ (at-put-words .put-words .ensures)
 
 pub put-other-spec : {M : Type 1} → statement M
 put-other-spec =

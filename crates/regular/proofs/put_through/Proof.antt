@@ -29,38 +29,60 @@ split-some-requires c κs = let p = c .before .before .before .before .before .p
 
 put-listed-requires : tie.Need-put-listed-requires Inv-loop μ-loop
 put-listed-requires c κs =
-    let p = c .before .before .before .before .before .before .before .before .before .before .pre in
-    let i = c .before .before .before .before .before .before .loop .inv .0 in
-    let t = c .before .before .before .before .split-some .ensures in
+    let at-split-some = c .before .before .before .before in
+    let at-loop = at-split-some .before .before in
+    let start = at-loop .before .before .before .before in
+    let p = start .pre in
+    let i = at-loop .loop .inv .0 in
+    let t = at-split-some .split-some .ensures in
     (kept-all (t .kept), omega (arith, t .kept .few), p .6, p .7, p .2, i .order, i .within, omega (arith, i .most, i .on, i .to, p .1, p .2, p .8), i .stands, p .10, p .11)
 
 put-at-requires : tie.Need-put-at-requires Inv-loop μ-loop
 put-at-requires c κs =
-    let p = c .before .before .before .before .before .before .before .before .before .before .before .before .before .before .before .before .pre in
-    let i = c .before .before .before .before .before .before .before .before .before .before .before .before .loop .inv .0 in
-    let t = c .before .before .before .before .before .before .before .before .before .before .split-some .ensures in
-    let l = c .before .before .before .before .before .put-listed .ensures in
+    let at-put-listed = c .before .before .before .before .before in
+    let at-split-some = at-put-listed .before .before .before .before .before in
+    let at-loop = at-split-some .before .before in
+    let start = at-loop .before .before .before .before in
+    let p = start .pre in
+    let i = at-loop .loop .inv .0 in
+    let t = at-split-some .split-some .ensures in
+    let l = at-put-listed .put-listed .ensures in
     (l .order, l .within, p .2, omega (arith, l .most, t .kept .few, i .most, i .on, i .to, p .1, p .2, p .8))
 
 same-length : tie.Need-same-length Inv-loop μ-loop
-same-length c = wrote-length (c .before .before .put-at .ensures) ∙ left-length (c .before .before .before .before .before .before .before .before .put-listed .ensures .left []) ∙ left-length (c .before .before .before .before .before .before .before .before .before .before .before .before .before .before .before .loop .inv .0 .left [])
+same-length c =
+    let at-put-listed = c .before .before .before .before .before .before .before .before in
+    let at-loop = at-put-listed .before .before .before .before .before .before .before in
+    wrote-length (c .before .before .put-at .ensures) ∙ left-length (at-put-listed .put-listed .ensures .left []) ∙ left-length (at-loop .loop .inv .0 .left [])
 
 same-length-2 : tie.Need-same-length-2 Inv-loop μ-loop
-same-length-2 c = c .before .before .before .before .before .before .before .before .before .before .before .before .table .given ∙ c .before .before .before .before .before .before .before .before .before .before .before .before .before .before .before .loop .inv .2
+same-length-2 c =
+    let at-table = c .before .before .before .before .before .before .before .before .before .before .before .before in
+    let at-loop = at-table .before .before .before in
+    at-table .table .given ∙ at-loop .loop .inv .2
 
 returns : tie.Need-returns Inv-loop μ-loop
 returns c =
-    let p = c .before .before .before .before .before .before .before .before .before .before .before .before .before .before .before .before .before .before .before .pre in
-    wording-done _ _ _ _ _ _ _ _ _ _ _ _ _ _ (c .before .before .before .before .before .before .before .before .before .before .before .before .before .before .before .loop .inv .0) _ _ _ (c .before .before .before .before .before .before .before .before .before .before .before .before .before .split-some .ensures) _ _ (c .before .before .before .before .before .before .before .before .put-listed .ensures) (not-true _ (c .before .before .before .before .if1 .taken)) (p .1) (p .2) _ _ (c .before .before .put-at .ensures)
+    let at-if = c .before .before .before .before in
+    let at-put-listed = at-if .before .before .before .before in
+    let at-split-some = at-put-listed .before .before .before .before .before in
+    let at-loop = at-split-some .before .before in
+    let start = at-loop .before .before .before .before in
+    let p = start .pre in
+    wording-done _ _ _ _ _ _ _ _ _ _ _ _ _ _ (at-loop .loop .inv .0) _ _ _ (at-split-some .split-some .ensures) _ _ (at-put-listed .put-listed .ensures) (not-true _ (at-if .if1 .taken)) (p .1) (p .2) _ _ (c .before .before .put-at .ensures)
 
 loop-less : tie.Need-loop-less Inv-loop μ-loop
 loop-less c = let t = c .before .before .before .before .before .before .before .before .before .split-some .ensures in let l = t .left (not-false _ (c .if1 .left)) in omega (arith, l .0, t .gained, t .to)
 
 loop-again : tie.Need-loop-again Inv-loop μ-loop
 loop-again c =
-    let i = c .before .before .before .before .before .before .before .before .before .before .before .loop .inv in
-    let t = c .before .before .before .before .before .before .before .before .before .split-some .ensures in
-    (wording-turn _ _ _ _ _ _ _ _ _ _ _ _ _ _ (i .0) _ _ _ t _ _ (c .before .before .before .before .put-listed .ensures), t .kept .held, c .before .before .before .before .before .before .before .before .table .given ∙ i .2)
+    let at-put-listed = c .before .before .before .before in
+    let at-table = at-put-listed .before .before .before .before in
+    let at-split-some = at-table .before in
+    let at-loop = at-split-some .before .before in
+    let i = at-loop .loop .inv in
+    let t = at-split-some .split-some .ensures in
+    (wording-turn _ _ _ _ _ _ _ _ _ _ _ _ _ _ (i .0) _ _ _ t _ _ (at-put-listed .put-listed .ensures), t .kept .held, at-table .table .given ∙ i .2)
 
 pub put-through-spec : {M : Type 1} → statement M
 put-through-spec =

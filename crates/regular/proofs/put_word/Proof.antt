@@ -17,7 +17,11 @@ same-length : tie.Need-same-length
 same-length c = search needs
 
 returns : tie.Need-returns
-returns c = let p = c .before .before .before .before .before .before .before .before .before .pre in put-head _ _ _ _ _ _ (p .0) (p .5) (p .6) (p .7) (c .before .before .before .before .before .before .if1 .taken) (p .9 .1 (c .before .before .before .before .before .before .if1 .taken)) (p .2) _ _ (c .before .before .before .before .put-at .ensures)
+returns c =
+    let at-put-at = c .before .before .before .before in
+    let at-if = at-put-at .before .before in
+    let start = at-if .before .before .before in
+    let p = start .pre in put-head _ _ _ _ _ _ (p .0) (p .5) (p .6) (p .7) (at-if .if1 .taken) (p .9 .1 (at-if .if1 .taken)) (p .2) _ _ (at-put-at .put-at .ensures)
 
 reach-requires : tie.Need-reach-requires
 reach-requires c κs = let p = c .before .before .before .pre in (p .3, p .1, omega (arith, p .9 .0))
@@ -33,8 +37,13 @@ same-length-2 c = search needs
 
 returns-2 : tie.Need-returns-2
 returns-2 c =
-    let p = c .before .before .before .before .before .before .before .before .before .before .before .before .pre in
-    put-fresh _ _ _ _ _ _ (p .0) (p .5) (p .6) (p .7) (c .before .before .before .before .before .before .before .before .before .if1 .left) _ (c .before .before .before .before .before .before .before .before .reach .ensures .0) (c .before .before .before .before .before .before .if2 .taken) (p .2) (p .10) _ _ (c .before .before .before .before .put-line .ensures .0) (c .before .before .before .before .put-line .ensures .1)
+    let at-put-line = c .before .before .before .before in
+    let at-if = at-put-line .before .before in
+    let at-reach = at-if .before .before in
+    let at-if1 = at-reach .before in
+    let start = at-if1 .before .before .before in
+    let p = start .pre in
+    put-fresh _ _ _ _ _ _ (p .0) (p .5) (p .6) (p .7) (at-if1 .if1 .left) _ (at-reach .reach .ensures .0) (at-if .if2 .taken) (p .2) (p .10) _ _ (at-put-line .put-line .ensures .0) (at-put-line .put-line .ensures .1)
 
 added-space-requires : tie.Need-added-space-requires
 added-space-requires c κs = search needs
@@ -44,25 +53,38 @@ is-gap-requires c κs = let p = c .before .before .before .before .before .befor
 
 returns-3 : tie.Need-returns-3
 returns-3 c =
-    let p = c .before .before .before .before .before .before .before .before .before .pre in
-    put-on _ _ _ _ _ _ (p .0) (p .5) (p .6) (p .7) (c .before .before .before .before .before .before .if1 .left) _ (c .before .before .before .before .before .reach .ensures .0) (c .before .before .before .if2 .left) (p .11) _ (c .before .before .added-space .ensures .is) (c .before .is-gap .ensures (c .if3 .taken))
+    let at-if = c .before .before .before in
+    let at-reach = at-if .before .before in
+    let at-if1 = at-reach .before in
+    let start = at-if1 .before .before .before in
+    let p = start .pre in
+    put-on _ _ _ _ _ _ (p .0) (p .5) (p .6) (p .7) (at-if1 .if1 .left) _ (at-reach .reach .ensures .0) (at-if .if2 .left) (p .11) _ (c .before .before .added-space .ensures .is) (c .before .is-gap .ensures (c .if3 .taken))
 
 put-at-requires-2 : tie.Need-put-at-requires-2
 put-at-requires-2 c κs = let p = c .before .before .before .before .before .before .before .before .before .before .pre in (p .6, p .7, p .5, omega (arith, p .8))
 
 spaces-at-requires : tie.Need-spaces-at-requires
 spaces-at-requires c κs =
-    let p = c .before .before .before .before .before .before .before .before .before .before .before .before .before .before .pre in
-    let n = length-slice (c .before .before .before .before .before .before .before .before .before .before .before .before .before .before .args .t .from) (c .before .before .before .before .before .before .before .before .before .before .before .before .before .before .args .t .to) (now (c .before .before .before .before .before .before .before .before .before .before .before .before .before .before .args .s)) (p .7) in
-    (c .before .before .before .before .before .before .before .added-space .ensures .most, omega (arith, n, c .before .before .before .put-at2 .ensures .count, p .5, p .7, p .8))
+    let at-put-at = c .before .before .before in
+    let at-added-space = at-put-at .before .before .before .before in
+    let start = at-added-space .before .before .before .before .before .before .before in
+    let p = start .pre in
+    let n = length-slice (start .args .t .from) (start .args .t .to) (now (start .args .s)) (p .7) in
+    (at-added-space .added-space .ensures .most, omega (arith, n, at-put-at .put-at2 .ensures .count, p .5, p .7, p .8))
 
 same-length-3 : tie.Need-same-length-3
 same-length-3 c = search needs
 
 returns-4 : tie.Need-returns-4
 returns-4 c =
-    let p = c .before .before .before .before .before .before .before .before .before .before .before .before .before .before .before .before .before .pre in
-    put-stays _ _ _ _ _ _ (p .0) (p .5) (p .6) (p .7) (c .before .before .before .before .before .before .before .before .before .before .before .before .before .before .if1 .left) _ (c .before .before .before .before .before .before .before .before .before .before .before .before .before .reach .ensures .0) (c .before .before .before .before .before .before .before .before .before .before .before .if2 .left) (p .11) _ (c .before .before .before .before .before .before .before .before .before .before .added-space .ensures .is) _ _ _ _ (c .before .before .before .before .before .before .put-at2 .ensures) (c .before .before .spaces-at .ensures .0) (c .before .before .spaces-at .ensures .1)
+    let at-put-at = c .before .before .before .before .before .before in
+    let at-added-space = at-put-at .before .before .before .before in
+    let at-if = at-added-space .before in
+    let at-reach = at-if .before .before in
+    let at-if1 = at-reach .before in
+    let start = at-if1 .before .before .before in
+    let p = start .pre in
+    put-stays _ _ _ _ _ _ (p .0) (p .5) (p .6) (p .7) (at-if1 .if1 .left) _ (at-reach .reach .ensures .0) (at-if .if2 .left) (p .11) _ (at-added-space .added-space .ensures .is) _ _ _ _ (at-put-at .put-at2 .ensures) (c .before .before .spaces-at .ensures .0) (c .before .before .spaces-at .ensures .1)
 
 pub put-word-spec : {M : Type 1} → statement M
 put-word-spec =

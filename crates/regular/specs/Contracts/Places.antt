@@ -90,7 +90,7 @@ pub record Reaches (s : List ℕ) (p e room at : ℕ) : Type 0 where
   pub full : columnsIn s p at ≡ room
   pub begins : goesOn (getD s at 0) ≡ false
 
--- fewer than eight columns are left to take
+-- of so many columns those up to r's place are taken, and the rest is left
 pub record OverIs (s : List ℕ) (p e room : ℕ) (r : Over) : Type 0 where
   pub on : p ≤ r .at
   pub most : r .at ≤ e

@@ -21,10 +21,19 @@ add-needed : tie.Need-add-needed
 add-needed c = omega (arith, c .before .before .count-changes .ensures .few, c .before .before .before .if1 .left)
 
 returns-3 : tie.Need-returns-3
-returns-3 c = mends-room _ _ _ _ _ (c .before .before .before .before .if1 .left) (c .before .before .before .count-changes .ensures) (omega (arith, c .before .before .lesser .ensures, c .before .if2 .left)) (c .if3 .taken)
+returns-3 c =
+    let at-count-changes = c .before .before .before in
+    let at-if = at-count-changes .before in
+    mends-room _ _ _ _ _ (at-if .if1 .left) (at-count-changes .count-changes .ensures) (omega (arith, c .before .before .lesser .ensures, c .before .if2 .left)) (c .if3 .taken)
 
 put-all-requires : tie.Need-put-all-requires
-put-all-requires c κs = (c .before .before .before .before .before .before .before .if1 .left, all-fits _ _ _ _ _ (c .before .before .before .before .before .before .before .if1 .left) (c .before .before .before .before .before .before .count-changes .ensures) (omega (arith, c .before .before .before .before .before .lesser .ensures, c .before .before .before .before .if2 .left)) (c .before .before .before .if3 .left))
+put-all-requires c κs =
+    let at-if = c .before .before .before in
+    let at-if2 = at-if .before in
+    let at-lesser = at-if2 .before in
+    let at-count-changes = at-lesser .before in
+    let at-if1 = at-count-changes .before in
+    (at-if1 .if1 .left, all-fits _ _ _ _ _ (at-if1 .if1 .left) (at-count-changes .count-changes .ensures) (omega (arith, at-lesser .lesser .ensures, at-if2 .if2 .left)) (at-if .if3 .left))
 
 same-length : tie.Need-same-length
 same-length c = search needs
@@ -37,8 +46,14 @@ same-length-3 c = search needs
 
 returns-4 : tie.Need-returns-4
 returns-4 c =
-    let p = c .before .before .before .before .before .before .put-all .ensures in
-    mends-done _ _ _ _ _ (c .before .before .before .before .before .before .before .before .before .before .before .before .before .before .if1 .left) (c .before .before .before .before .before .before .before .before .before .before .before .before .before .count-changes .ensures) (omega (arith, c .before .before .before .before .before .before .before .before .before .before .before .before .lesser .ensures, c .before .before .before .before .before .before .before .before .before .before .before .if2 .left)) (c .before .before .before .before .before .before .before .before .before .before .if3 .left) (p .0) (p .1) (p .2)
+    let at-put-all = c .before .before .before .before .before .before in
+    let at-if = at-put-all .before .before .before .before in
+    let at-if2 = at-if .before in
+    let at-lesser = at-if2 .before in
+    let at-count-changes = at-lesser .before in
+    let at-if1 = at-count-changes .before in
+    let p = at-put-all .put-all .ensures in
+    mends-done _ _ _ _ _ (at-if1 .if1 .left) (at-count-changes .count-changes .ensures) (omega (arith, at-lesser .lesser .ensures, at-if2 .if2 .left)) (at-if .if3 .left) (p .0) (p .1) (p .2)
 
 pub mend-spec : {M : Type 1} → statement M
 mend-spec =

@@ -18,9 +18,13 @@ abbrev μ-loop : tie.MeasureT-loop
 -- where the entry of a turn stands
 stands : (c : tie.After-wide Inv-loop μ-loop) → (c .before .before .before .loop .at ≤ c .wide .result) × (c .wide .result + c .before .before .before .loop .k + 2 ≤ length (now (c .before .before .before .before .before .before .before .before .before .args .copy)))
 stands c =
-    let s = c .before .before .before .before .before .before .before .before .before .args in
-    let l = c .before .before .before .loop in
-    entry-stands (now (s .places)) (now (s .bytes)) (l .k) _ (c .before .before .before .before .lesser .ensures) (c .before .before .loop-test .taken) (c .wide .ensures .0) (l .inv) (omega (arith, c .before .before .before .before .before .before .shared-slice-known3 .given (l .k)))
+    let at-loop = c .before .before .before in
+    let at-lesser = at-loop .before in
+    let at-shared-slice-known = at-lesser .before .before in
+    let start = at-shared-slice-known .before .before .before in
+    let s = start .args in
+    let l = at-loop .loop in
+    entry-stands (now (s .places)) (now (s .bytes)) (l .k) _ (at-lesser .lesser .ensures) (c .before .before .loop-test .taken) (c .wide .ensures .0) (l .inv) (omega (arith, at-shared-slice-known .shared-slice-known3 .given (l .k)))
 
 lesser-requires : tie.Need-lesser-requires Inv-loop μ-loop
 lesser-requires c κs = search needs
@@ -54,18 +58,33 @@ part-put-text-end c = let p = stands c in omega (arith, p .0, p .1)
 
 put-text-requires : tie.Need-put-text-requires Inv-loop μ-loop
 put-text-requires c κs =
-    let s = c .before .before .before .before .before .before .before .before .before .before .before .args in
-    let l = c .before .before .before .before .before .loop in
-    gap-room (now (s .places)) (now (s .bytes)) (l .k) _ (c .before .before .before .before .before .before .lesser .ensures) (c .before .before .before .before .loop-test .taken) (c .before .before .wide .ensures .0) (l .inv) (omega (arith, c .before .before .before .before .before .before .before .before .shared-slice-known3 .given (l .k)))
+    let at-loop-test = c .before .before .before .before in
+    let at-loop = at-loop-test .before in
+    let at-lesser = at-loop .before in
+    let at-shared-slice-known = at-lesser .before .before in
+    let start = at-shared-slice-known .before .before .before in
+    let s = start .args in
+    let l = at-loop .loop in
+    gap-room (now (s .places)) (now (s .bytes)) (l .k) _ (at-lesser .lesser .ensures) (at-loop-test .loop-test .taken) (c .before .before .wide .ensures .0) (l .inv) (omega (arith, at-shared-slice-known .shared-slice-known3 .given (l .k)))
 
 shared-slice-read-notes : tie.Need-shared-slice-read-notes Inv-loop μ-loop
-shared-slice-read-notes c = omega (arith, c .before .before .before .before .before .before .before .before .loop-test .taken, c .before .before .before .before .before .before .before .before .before .before .lesser .ensures)
+shared-slice-read-notes c =
+    let at-loop-test = c .before .before .before .before .before .before .before .before in
+    let at-lesser = at-loop-test .before .before in
+    omega (arith, at-loop-test .loop-test .taken, at-lesser .lesser .ensures)
 
 slice-write-notes : tie.Need-slice-write-notes Inv-loop μ-loop
 slice-write-notes c =
-    let s = c .before .before .before .before .before .before .before .before .before .before .before .before .before .before .before .args in
-    let l = c .before .before .before .before .before .before .before .before .before .loop in
-    byte-room (now (s .places)) (now (s .bytes)) (l .k) _ (c .before .before .before .before .before .before .before .before .before .before .lesser .ensures) (c .before .before .before .before .before .before .before .before .loop-test .taken) (c .before .before .before .before .before .before .wide .ensures .0) (l .inv) (omega (arith, c .before .before .before .before .before .before .before .before .before .before .before .before .shared-slice-known3 .given (l .k))) (c .before .before .before .put-text .ensures)
+    let at-put-text = c .before .before .before in
+    let at-wide = at-put-text .before .before .before in
+    let at-loop-test = at-wide .before .before in
+    let at-loop = at-loop-test .before in
+    let at-lesser = at-loop .before in
+    let at-shared-slice-known = at-lesser .before .before in
+    let start = at-shared-slice-known .before .before .before in
+    let s = start .args in
+    let l = at-loop .loop in
+    byte-room (now (s .places)) (now (s .bytes)) (l .k) _ (at-lesser .lesser .ensures) (at-loop-test .loop-test .taken) (at-wide .wide .ensures .0) (l .inv) (omega (arith, at-shared-slice-known .shared-slice-known3 .given (l .k))) (at-put-text .put-text .ensures)
 
 add-at : tie.Need-add-at Inv-loop μ-loop
 add-at c = omega (arith, c .before .before .before .before .before .before .wide .ensures .1)
@@ -74,13 +93,23 @@ add-k : tie.Need-add-k Inv-loop μ-loop
 add-k c = search needs
 
 loop-less : tie.Need-loop-less Inv-loop μ-loop
-loop-less c = omega (arith, c .before .before .before .before .before .before .before .before .loop-test .taken, c .before .before .before .before .before .before .before .before .before .before .lesser .ensures)
+loop-less c =
+    let at-loop-test = c .before .before .before .before .before .before .before .before in
+    let at-lesser = at-loop-test .before .before in
+    omega (arith, at-loop-test .loop-test .taken, at-lesser .lesser .ensures)
 
 loop-again : tie.Need-loop-again Inv-loop μ-loop
 loop-again c =
-    let s = c .before .before .before .before .before .before .before .before .before .before .before .before .before .before .before .args in
-    let l = c .before .before .before .before .before .before .before .before .before .loop in
-    byte-back (now (s .places)) (now (s .bytes)) (l .k) _ (c .before .before .before .before .before .before .before .before .before .before .lesser .ensures) (c .before .before .before .before .before .before .before .before .loop-test .taken) (c .before .before .before .before .before .before .wide .ensures .0) (l .inv) (omega (arith, c .before .before .before .before .before .before .before .before .before .before .before .before .shared-slice-known3 .given (l .k))) (c .before .before .before .put-text .ensures)
+    let at-put-text = c .before .before .before in
+    let at-wide = at-put-text .before .before .before in
+    let at-loop-test = at-wide .before .before in
+    let at-loop = at-loop-test .before in
+    let at-lesser = at-loop .before in
+    let at-shared-slice-known = at-lesser .before .before in
+    let start = at-shared-slice-known .before .before .before in
+    let s = start .args in
+    let l = at-loop .loop in
+    byte-back (now (s .places)) (now (s .bytes)) (l .k) _ (at-lesser .lesser .ensures) (at-loop-test .loop-test .taken) (at-wide .wide .ensures .0) (l .inv) (omega (arith, at-shared-slice-known .shared-slice-known3 .given (l .k))) (at-put-text .put-text .ensures)
 
 add-rest : tie.Need-add-rest Inv-loop μ-loop
 add-rest c = omega (arith, c .before .loop .inv .within)
@@ -95,13 +124,22 @@ part-put-text-end-2 : tie.Need-part-put-text-end-2 Inv-loop μ-loop
 part-put-text-end-2 c = omega (arith, c .before .loop .inv .within)
 
 put-text-requires-2 : tie.Need-put-text-requires-2 Inv-loop μ-loop
-put-text-requires-2 c κs = rest-room (c .before .before .before .loop .inv) (omega (arith, listed-length (now (c .before .before .before .before .before .before .before .before .before .args .places)) (now (c .before .before .before .before .before .before .before .before .before .args .bytes)), c .before .before .loop-test .left, c .before .before .before .before .lesser .ensures))
+put-text-requires-2 c κs =
+    let at-loop = c .before .before .before in
+    let at-lesser = at-loop .before in
+    let start = at-lesser .before .before .before .before .before in
+    rest-room (at-loop .loop .inv) (omega (arith, listed-length (now (start .args .places)) (now (start .args .bytes)), c .before .before .loop-test .left, at-lesser .lesser .ensures))
 
 same-length : tie.Need-same-length Inv-loop μ-loop
 same-length c = search (needs, returning-length (c .before .before .before .before .before .before .loop .inv), c .before .before .put-text2 .ensures)
 
 returns : tie.Need-returns Inv-loop μ-loop
-returns c = returning-last (c .before .before .before .before .before .before .loop .inv) (omega (arith, listed-length (now (c .before .before .before .before .before .before .before .before .before .before .before .before .args .places)) (now (c .before .before .before .before .before .before .before .before .before .before .before .before .args .bytes)), c .before .before .before .before .before .loop-test .left, c .before .before .before .before .before .before .before .lesser .ensures)) (c .before .before .put-text2 .ensures)
+returns c =
+    let at-loop-test = c .before .before .before .before .before in
+    let at-loop = at-loop-test .before in
+    let at-lesser = at-loop .before in
+    let start = at-lesser .before .before .before .before .before in
+    returning-last (at-loop .loop .inv) (omega (arith, listed-length (now (start .args .places)) (now (start .args .bytes)), at-loop-test .loop-test .left, at-lesser .lesser .ensures)) (c .before .before .put-text2 .ensures)
 
 pub put-back-spec : {M : Type 1} → statement M
 put-back-spec =

@@ -26,11 +26,14 @@ enum-known-c c = search needs
 put-lent-requires : tie.Need-put-lent-requires
 unfolding meant
 put-lent-requires c κs =
-    let at-lines = c .before .before .before .before .before .before .before in
-    let a = c .before .before .before .before .before .before .before .before .before .before .before .before .before .before .args in
-    let p = c .before .before .before .before .before .before .before .before .before .before .before .before .before .before .pre in
+    let at-c = c .before .before .before in
+    let at-before- = at-c .before .before .before .before in
+    let start = at-before- .before .before .before .before .before .before .before in
+    let at-lines = at-before- in
+    let a = start .args in
+    let p = start .pre in
     let room = roomFor (a .o .quick) (length (now (a .work))) in
-    let t = rw (at-lines .before .before .front .ensures) at (reached-text room _ _ _ _ _ _ (at-lines .put-lines .result) (at-lines .put-lines .ensures room) (c .before .before .before .c .given .1)) in
+    let t = rw (at-lines .before .before .front .ensures) at (reached-text room _ _ _ _ _ _ (at-lines .put-lines .result) (at-lines .put-lines .ensures room) (at-c .c .given .1)) in
     (p .0, t .0 .stands, t .1, t .0 .long ∙ enough _ _ _ (p .1))
 
 same-length : tie.Need-same-length
@@ -50,11 +53,15 @@ same-length-3 c = search needs
 
 returns-2 : tie.Need-returns-2
 returns-2 c =
-    let at-lines = c .before .before .before .before .before .before .before .before .before .before .before .before in
-    let a = c .before .before .before .before .before .before .before .before .before .before .before .before .before .before .before .before .before .before .before .args in
+    let at-put-lent = c .before .before .before .before in
+    let at-c = at-put-lent .before .before .before .before in
+    let at-before- = at-c .before .before .before .before in
+    let start = at-before- .before .before .before .before .before .before .before in
+    let at-lines = at-before- in
+    let a = start .args in
     let room = roomFor (a .o .quick) (length (now (a .work))) in
-    let t = rw (at-lines .before .before .front .ensures) at (reached-text room _ _ _ _ _ _ (at-lines .put-lines .result) (at-lines .put-lines .ensures room) (c .before .before .before .before .before .before .before .before .c .given .1)) in
-    left-last (rw all-output at (t .0 .left)) (c .before .before .before .before .put-lent .ensures)
+    let t = rw (at-lines .before .before .front .ensures) at (reached-text room _ _ _ _ _ _ (at-lines .put-lines .result) (at-lines .put-lines .ensures room) (at-c .c .given .1)) in
+    left-last (rw all-output at (t .0 .left)) (at-put-lent .put-lent .ensures)
 
 pub put-all-lent-spec : {M : Type 1} → statement M
 put-all-lent-spec =

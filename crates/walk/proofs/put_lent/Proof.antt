@@ -24,25 +24,40 @@ enum-known-d : tie.Need-enum-known-d
 enum-known-d c = search needs
 
 same-length : tie.Need-same-length
-same-length c = wrote-length (course-end _ _ _ _ _ _ _ _ (c .before .before .before .before .before .before .before .put-texts .result) (c .before .before .before .before .before .before .before .put-texts .ensures (roomFor (c .before .before .before .before .before .before .before .before .before .before .before .before .before .before .before .args .o .quick) (length (now (c .before .before .before .before .before .before .before .before .before .before .before .before .before .before .before .args .work)))) (omega (arith, c .before .before .before .before .before .before .before .before .before .before .room-for .ensures))) (c .before .needed .given .1) .1)
+same-length c =
+    let at-put-texts = c .before .before .before .before .before .before .before in
+    let at-room-for = at-put-texts .before .before .before in
+    let start = at-room-for .before .before .before .before .before in
+    wrote-length (course-end _ _ _ _ _ _ _ _ (at-put-texts .put-texts .result) (at-put-texts .put-texts .ensures (roomFor (start .args .o .quick) (length (now (start .args .work)))) (omega (arith, at-room-for .room-for .ensures))) (c .before .needed .given .1) .1)
 
 same-length-2 : tie.Need-same-length-2
 same-length-2 c = search needs
 
 returns : tie.Need-returns
-returns c = course-end _ _ _ _ _ _ _ _ (c .before .before .before .before .before .before .before .put-texts .result) (c .before .before .before .before .before .before .before .put-texts .ensures (roomFor (c .before .before .before .before .before .before .before .before .before .before .before .before .before .before .before .args .o .quick) (length (now (c .before .before .before .before .before .before .before .before .before .before .before .before .before .before .before .args .work)))) (omega (arith, c .before .before .before .before .before .before .before .before .before .before .room-for .ensures))) (c .before .needed .given .1) .1
+returns c =
+    let at-put-texts = c .before .before .before .before .before .before .before in
+    let at-room-for = at-put-texts .before .before .before in
+    let start = at-room-for .before .before .before .before .before in
+    course-end _ _ _ _ _ _ _ _ (at-put-texts .put-texts .result) (at-put-texts .put-texts .ensures (roomFor (start .args .o .quick) (length (now (start .args .work)))) (omega (arith, at-room-for .room-for .ensures))) (c .before .needed .given .1) .1
 
 same-length-3 : tie.Need-same-length-3
-same-length-3 c = let t = course-short _ _ _ _ _ _ _ _ (c .before .before .before .before .before .before .before .put-texts .result) (c .before .before .before .before .before .before .before .put-texts .ensures (roomFor (c .before .before .before .before .before .before .before .before .before .before .before .before .before .before .before .args .o .quick) (length (now (c .before .before .before .before .before .before .before .before .before .before .before .before .before .before .before .args .work)))) (omega (arith, c .before .before .before .before .before .before .before .before .before .before .room-for .ensures))) (c .before .d .given .1) in going-length _ _ _ (t .0)
+same-length-3 c =
+    let at-put-texts = c .before .before .before .before .before .before .before in
+    let at-room-for = at-put-texts .before .before .before in
+    let start = at-room-for .before .before .before .before .before in
+    let t = course-short _ _ _ _ _ _ _ _ (at-put-texts .put-texts .result) (at-put-texts .put-texts .ensures (roomFor (start .args .o .quick) (length (now (start .args .work)))) (omega (arith, at-room-for .room-for .ensures))) (c .before .d .given .1) in going-length _ _ _ (t .0)
 
 same-length-4 : tie.Need-same-length-4
 same-length-4 c = search needs
 
 returns-2 : tie.Need-returns-2
 returns-2 c =
-    let t = course-short _ _ _ _ _ _ _ _ (c .before .before .before .before .before .before .before .put-texts .result) (c .before .before .before .before .before .before .before .put-texts .ensures (roomFor (c .before .before .before .before .before .before .before .before .before .before .before .before .before .before .before .args .o .quick) (length (now (c .before .before .before .before .before .before .before .before .before .before .before .before .before .before .before .args .work)))) (omega (arith, c .before .before .before .before .before .before .before .before .before .before .room-for .ensures))) (c .before .d .given .1) in
-    let p = c .before .before .before .before .before .before .before .before .before .before .before .before .before .before .before .pre in
-    nowhere-else (p .3) (begins-long _ _ _ _ _ (p .0) (t .1) (roomFor (c .before .before .before .before .before .before .before .before .before .before .before .before .before .before .before .args .o .quick) (length (now (c .before .before .before .before .before .before .before .before .before .before .before .before .before .before .before .args .work)))) _ _ _ (t .0) (t .2) .0)
+    let at-put-texts = c .before .before .before .before .before .before .before in
+    let at-room-for = at-put-texts .before .before .before in
+    let start = at-room-for .before .before .before .before .before in
+    let t = course-short _ _ _ _ _ _ _ _ (at-put-texts .put-texts .result) (at-put-texts .put-texts .ensures (roomFor (start .args .o .quick) (length (now (start .args .work)))) (omega (arith, at-room-for .room-for .ensures))) (c .before .d .given .1) in
+    let p = start .pre in
+    nowhere-else (p .3) (begins-long _ _ _ _ _ (p .0) (t .1) (roomFor (start .args .o .quick) (length (now (start .args .work)))) _ _ _ (t .0) (t .2) .0)
 
 pub put-lent-spec : {M : Type 1} → statement M
 put-lent-spec =

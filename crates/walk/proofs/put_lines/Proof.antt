@@ -30,39 +30,63 @@ enum-known-next c = search needs
 
 emit-line-requires : tie.Need-emit-line-requires Inv-loop μ-loop
 emit-line-requires c κs =
-    let s = c .before .before .before .before .before .before .before .loop .inv .0 0 .stands in
-    let short = c .before .before .before .before .before .before .before .before .before .before .before .pre .0 .short in
+    let at-loop = c .before .before .before .before .before .before .before in
+    let start = at-loop .before .before .before .before in
+    let s = at-loop .loop .inv .0 0 .stands in
+    let short = start .pre .0 .short in
     (omega arith, s .within, omega (arith, short), omega (arith, short, s .within, s .bounded))
 
 loop-less : tie.Need-loop-less Inv-loop μ-loop
 loop-less c =
-    let m = found-goes _ _ _ (c .before .before .before .before .before .before .before .before .before .before .before .before .before .before .pre .0) _ _ _ _ (c .before .before .before .before .before .before .before .before .if1 .taken) (c .before .before .before .before .before .before .before .next-piece .ensures) (c .before .before .before .before .before .next .given .1) in
+    let at-next = c .before .before .before .before .before in
+    let at-next-piece = at-next .before .before in
+    let at-if = at-next-piece .before in
+    let start = at-if .before .before .before .before .before .before in
+    let m = found-goes _ _ _ (start .pre .0) _ _ _ _ (at-if .if1 .taken) (at-next-piece .next-piece .ensures) (at-next .next .given .1) in
     omega (arith, m .on, m .within)
 
 loop-again : tie.Need-loop-again Inv-loop μ-loop
 loop-again c =
-    let m = found-goes _ _ _ (c .before .before .before .before .before .before .before .before .before .before .before .before .before .before .pre .0) _ _ _ _ (c .before .before .before .before .before .before .before .before .if1 .taken) (c .before .before .before .before .before .before .before .next-piece .ensures) (c .before .before .before .before .before .next .given .1) in
-    (λ most. going-on most _ _ (c .before .before .before .before .before .before .before .before .before .before .loop .inv .0 most) (blank-put most _ _ _ _ _ _ _ m (c .before .before .emit-line .ensures)), omega (arith, m .on, c .before .before .before .before .before .before .before .before .before .before .loop .inv .1))
+    let at-next = c .before .before .before .before .before in
+    let at-next-piece = at-next .before .before in
+    let at-if = at-next-piece .before in
+    let at-loop = at-if .before .before in
+    let start = at-loop .before .before .before .before in
+    let m = found-goes _ _ _ (start .pre .0) _ _ _ _ (at-if .if1 .taken) (at-next-piece .next-piece .ensures) (at-next .next .given .1) in
+    (λ most. going-on most _ _ (at-loop .loop .inv .0 most) (blank-put most _ _ _ _ _ _ _ m (c .before .before .emit-line .ensures)), omega (arith, m .on, at-loop .loop .inv .1))
 
 enum-known-end : tie.Need-enum-known-end Inv-loop μ-loop
 enum-known-end c = search needs
 
 emit-line-requires-2 : tie.Need-emit-line-requires-2 Inv-loop μ-loop
 emit-line-requires-2 c κs =
-    let s = c .before .before .before .before .before .before .before .loop .inv .0 0 .stands in
-    let short = c .before .before .before .before .before .before .before .before .before .before .before .pre .0 .short in
-    let m = found-goes _ _ _ (c .before .before .before .before .before .before .before .before .before .before .before .pre .0) _ _ _ _ (c .before .before .before .before .before .if1 .taken) (c .before .before .before .before .next-piece .ensures) (c .before .before .end .given .1) in
+    let at-next-piece = c .before .before .before .before in
+    let at-if = at-next-piece .before in
+    let at-loop = at-if .before .before in
+    let start = at-loop .before .before .before .before in
+    let s = at-loop .loop .inv .0 0 .stands in
+    let short = start .pre .0 .short in
+    let m = found-goes _ _ _ (start .pre .0) _ _ _ _ (at-if .if1 .taken) (at-next-piece .next-piece .ensures) (c .before .before .end .given .1) in
     (omega (arith, m .1), omega (arith, m .1, m .2, m .0 .within), omega (arith, short), omega (arith, short, s .within, s .bounded))
 
 loop-less-2 : tie.Need-loop-less-2 Inv-loop μ-loop
 loop-less-2 c =
-    let m = found-goes _ _ _ (c .before .before .before .before .before .before .before .before .before .before .before .before .before .before .pre .0) _ _ _ _ (c .before .before .before .before .before .before .before .before .if1 .taken) (c .before .before .before .before .before .before .before .next-piece .ensures) (c .before .before .before .before .before .end .given .1) in
+    let at-end = c .before .before .before .before .before in
+    let at-next-piece = at-end .before .before in
+    let at-if = at-next-piece .before in
+    let start = at-if .before .before .before .before .before .before in
+    let m = found-goes _ _ _ (start .pre .0) _ _ _ _ (at-if .if1 .taken) (at-next-piece .next-piece .ensures) (at-end .end .given .1) in
     omega (arith, m .0 .on, m .0 .within)
 
 loop-again-2 : tie.Need-loop-again-2 Inv-loop μ-loop
 loop-again-2 c =
-    let m = found-goes _ _ _ (c .before .before .before .before .before .before .before .before .before .before .before .before .before .before .pre .0) _ _ _ _ (c .before .before .before .before .before .before .before .before .if1 .taken) (c .before .before .before .before .before .before .before .next-piece .ensures) (c .before .before .before .before .before .end .given .1) in
-    (λ most. going-on most _ _ (c .before .before .before .before .before .before .before .before .before .before .loop .inv .0 most) (plain-put most _ _ _ _ _ _ _ _ m (c .before .before .emit-line2 .ensures) refl (omega arith)), omega (arith, m .0 .on, c .before .before .before .before .before .before .before .before .before .before .loop .inv .1))
+    let at-end = c .before .before .before .before .before in
+    let at-next-piece = at-end .before .before in
+    let at-if = at-next-piece .before in
+    let at-loop = at-if .before .before in
+    let start = at-loop .before .before .before .before in
+    let m = found-goes _ _ _ (start .pre .0) _ _ _ _ (at-if .if1 .taken) (at-next-piece .next-piece .ensures) (at-end .end .given .1) in
+    (λ most. going-on most _ _ (at-loop .loop .inv .0 most) (plain-put most _ _ _ _ _ _ _ _ m (c .before .before .emit-line2 .ensures) refl (omega arith)), omega (arith, m .0 .on, at-loop .loop .inv .1))
 
 enum-known-p : tie.Need-enum-known-p Inv-loop μ-loop
 enum-known-p c = search needs

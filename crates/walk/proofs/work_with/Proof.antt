@@ -42,38 +42,67 @@ enum-known-next : tie.Need-enum-known-next Inv-loop μ-loop
 enum-known-next c = search needs
 
 loop-less : tie.Need-loop-less Inv-loop μ-loop
-loop-less c = let m = usable-goes _ _ _ (c .before .before .before .before .before .before .before .before .before .before .pre .1) (c .before .before .before .before .before .before .before .before .before .before .pre .2) (c .before .before .before .before .before .before .before .before .before .before .pre .0) _ _ _ _ (c .before .before .before .before .loop-test .taken) (c .before .before .before .next-piece .ensures) (c .before .next .given .1) in omega (arith, m .on, m .within)
+loop-less c =
+    let at-next-piece = c .before .before .before in
+    let at-loop-test = at-next-piece .before in
+    let start = at-loop-test .before .before .before .before .before .before in
+    let m = usable-goes _ _ _ (start .pre .1) (start .pre .2) (start .pre .0) _ _ _ _ (at-loop-test .loop-test .taken) (at-next-piece .next-piece .ensures) (c .before .next .given .1) in omega (arith, m .on, m .within)
 
 loop-again : tie.Need-loop-again Inv-loop μ-loop
-loop-again c = let m = usable-goes _ _ _ (c .before .before .before .before .before .before .before .before .before .before .pre .1) (c .before .before .before .before .before .before .before .before .before .before .pre .2) (c .before .before .before .before .before .before .before .before .before .before .pre .0) _ _ _ _ (c .before .before .before .before .loop-test .taken) (c .before .before .before .next-piece .ensures) (c .before .next .given .1) in (m .within, work-line _ _ _ _ _ (omega arith) m ∙ c .before .before .before .before .before .loop .inv .1)
+loop-again c =
+    let at-next-piece = c .before .before .before in
+    let at-loop-test = at-next-piece .before in
+    let at-loop = at-loop-test .before in
+    let start = at-loop .before .before .before .before .before in
+    let m = usable-goes _ _ _ (start .pre .1) (start .pre .2) (start .pre .0) _ _ _ _ (at-loop-test .loop-test .taken) (at-next-piece .next-piece .ensures) (c .before .next .given .1) in (m .within, work-line _ _ _ _ _ (omega arith) m ∙ at-loop .loop .inv .1)
 
 enum-known-next-2 : tie.Need-enum-known-next-2 Inv-loop μ-loop
 enum-known-next-2 c = search needs
 
 loop-less-2 : tie.Need-loop-less-2 Inv-loop μ-loop
-loop-less-2 c = let m = usable-goes _ _ _ (c .before .before .before .before .before .before .before .before .before .before .pre .1) (c .before .before .before .before .before .before .before .before .before .before .pre .2) (c .before .before .before .before .before .before .before .before .before .before .pre .0) _ _ _ _ (c .before .before .before .before .loop-test .taken) (c .before .before .before .next-piece .ensures) (c .before .next2 .given .1) in omega (arith, m .0 .on, m .0 .within)
+loop-less-2 c =
+    let at-next-piece = c .before .before .before in
+    let at-loop-test = at-next-piece .before in
+    let start = at-loop-test .before .before .before .before .before .before in
+    let m = usable-goes _ _ _ (start .pre .1) (start .pre .2) (start .pre .0) _ _ _ _ (at-loop-test .loop-test .taken) (at-next-piece .next-piece .ensures) (c .before .next2 .given .1) in omega (arith, m .0 .on, m .0 .within)
 
 loop-again-2 : tie.Need-loop-again-2 Inv-loop μ-loop
-loop-again-2 c = let m = usable-goes _ _ _ (c .before .before .before .before .before .before .before .before .before .before .pre .1) (c .before .before .before .before .before .before .before .before .before .before .pre .2) (c .before .before .before .before .before .before .before .before .before .before .pre .0) _ _ _ _ (c .before .before .before .before .loop-test .taken) (c .before .before .before .next-piece .ensures) (c .before .next2 .given .1) in (m .0 .within, work-line _ _ _ _ _ (omega arith) (m .0) ∙ c .before .before .before .before .before .loop .inv .1)
+loop-again-2 c =
+    let at-next-piece = c .before .before .before in
+    let at-loop-test = at-next-piece .before in
+    let at-loop = at-loop-test .before in
+    let start = at-loop .before .before .before .before .before in
+    let m = usable-goes _ _ _ (start .pre .1) (start .pre .2) (start .pre .0) _ _ _ _ (at-loop-test .loop-test .taken) (at-next-piece .next-piece .ensures) (c .before .next2 .given .1) in (m .0 .within, work-line _ _ _ _ _ (omega arith) (m .0) ∙ at-loop .loop .inv .1)
 
 enum-known-p : tie.Need-enum-known-p Inv-loop μ-loop
 enum-known-p c = search needs
 
 with-paragraph-requires : tie.Need-with-paragraph-requires Inv-loop μ-loop
 with-paragraph-requires c κs =
-    let r = c .before .before .before .before .before .before .before .before .before .before .pre in
-    let m = usable-goes _ _ _ (c .before .before .before .before .before .before .before .before .before .before .pre .1) (c .before .before .before .before .before .before .before .before .before .before .pre .2) (c .before .before .before .before .before .before .before .before .before .before .pre .0) _ _ _ _ (c .before .before .before .before .loop-test .taken) (c .before .before .before .next-piece .ensures) (c .before .p .given .1) in
+    let at-next-piece = c .before .before .before in
+    let at-loop-test = at-next-piece .before in
+    let start = at-loop-test .before .before .before .before .before .before in
+    let r = start .pre in
+    let m = usable-goes _ _ _ (start .pre .1) (start .pre .2) (start .pre .0) _ _ _ _ (at-loop-test .loop-test .taken) (at-next-piece .next-piece .ensures) (c .before .p .given .1) in
     (omega (arith, m .bounds .on), m .bounds .within, r .0, r .1 .least, r .1 .most, text-begins _ _ _ _ _ _ m, text-half _ _ _ _ _ _ m)
 
 loop-less-3 : tie.Need-loop-less-3 Inv-loop μ-loop
-loop-less-3 c = let m = usable-goes _ _ _ (c .before .before .before .before .before .before .before .before .before .before .before .pre .1) (c .before .before .before .before .before .before .before .before .before .before .before .pre .2) (c .before .before .before .before .before .before .before .before .before .before .before .pre .0) _ _ _ _ (c .before .before .before .before .before .loop-test .taken) (c .before .before .before .before .next-piece .ensures) (c .before .before .p .given .1) in omega (arith, m .goes .on, m .goes .within)
+loop-less-3 c =
+    let at-next-piece = c .before .before .before .before in
+    let at-loop-test = at-next-piece .before in
+    let start = at-loop-test .before .before .before .before .before .before in
+    let m = usable-goes _ _ _ (start .pre .1) (start .pre .2) (start .pre .0) _ _ _ _ (at-loop-test .loop-test .taken) (at-next-piece .next-piece .ensures) (c .before .before .p .given .1) in omega (arith, m .goes .on, m .goes .within)
 
 loop-again-3 : tie.Need-loop-again-3 Inv-loop μ-loop
 loop-again-3 c =
-    let m = usable-goes _ _ _ (c .before .before .before .before .before .before .before .before .before .before .before .pre .1) (c .before .before .before .before .before .before .before .before .before .before .before .pre .2) (c .before .before .before .before .before .before .before .before .before .before .before .pre .0) _ _ _ _ (c .before .before .before .before .before .loop-test .taken) (c .before .before .before .before .next-piece .ensures) (c .before .before .p .given .1) in
-    let a = c .before .before .before .before .before .before .before .before .before .before .before .args in
+    let at-next-piece = c .before .before .before .before in
+    let at-loop-test = at-next-piece .before in
+    let at-loop = at-loop-test .before in
+    let start = at-loop .before .before .before .before .before in
+    let m = usable-goes _ _ _ (start .pre .1) (start .pre .2) (start .pre .0) _ _ _ _ (at-loop-test .loop-test .taken) (at-next-piece .next-piece .ensures) (c .before .before .p .given .1) in
+    let a = start .args in
     let e = c .with-paragraph .ensures (now (a .block)) in
-    (m .goes .within, work-on _ _ _ _ _ (e ∙ ap (max (c .before .before .before .before .before .before .loop .most)) (sym (text-work _ _ _ _ _ _ m))) (m .goes) ∙ c .before .before .before .before .before .before .loop .inv .1)
+    (m .goes .within, work-on _ _ _ _ _ (e ∙ ap (max (at-loop .loop .most)) (sym (text-work _ _ _ _ _ _ m))) (m .goes) ∙ at-loop .loop .inv .1)
 
 returns-2 : tie.Need-returns-2 Inv-loop μ-loop
 returns-2 c = let i = c .before .loop .inv in sym (work-last _ _ _ _ _ (omega (arith, c .loop-test .left))) ∙ i .1

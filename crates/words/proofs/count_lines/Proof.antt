@@ -34,16 +34,24 @@ slice-aggregate-part c = sym (length-take-le _ _ (c .before .before .before .pre
 
 loop-holds : tie.Need-loop-holds Inv-loop μ-loop
 unfolding meant
-loop-holds c = (c .before .before .before .pre .0, omega arith, c .before .before .before .pre .5, omega arith, refl)
+loop-holds c =
+    let start = c .before .before .before in
+    (start .pre .0, omega arith, start .pre .5, omega arith, refl)
 
 sub-first-line : tie.Need-sub-first-line Inv-loop μ-loop
-sub-first-line c = let l = length-take-le (c .before .before .before .before .before .args .next) (now (c .before .before .before .before .before .args .notes)) (c .before .before .before .before .before .pre .1) in omega (arith, l, c .before .loop .inv .0)
+sub-first-line c =
+    let start = c .before .before .before .before .before in
+    let l = length-take-le (start .args .next) (now (start .args .notes)) (start .pre .1) in omega (arith, l, c .before .loop .inv .0)
 
 part-first-line-start : tie.Need-part-first-line-start Inv-loop μ-loop
-part-first-line-start c = let l = length-take-le (c .before .before .before .before .before .args .next) (now (c .before .before .before .before .before .args .notes)) (c .before .before .before .before .before .pre .1) in omega (arith, l, c .before .loop .inv .0)
+part-first-line-start c =
+    let start = c .before .before .before .before .before in
+    let l = length-take-le (start .args .next) (now (start .args .notes)) (start .pre .1) in omega (arith, l, c .before .loop .inv .0)
 
 part-first-line-end : tie.Need-part-first-line-end Inv-loop μ-loop
-part-first-line-end c = let l = length-take-le (c .before .before .before .before .before .args .next) (now (c .before .before .before .before .before .args .notes)) (c .before .before .before .before .before .pre .1) in omega (arith, l, c .before .loop .inv .0)
+part-first-line-end c =
+    let start = c .before .before .before .before .before in
+    let l = length-take-le (start .args .next) (now (start .args .notes)) (start .pre .1) in omega (arith, l, c .before .loop .inv .0)
 
 first-line-requires : tie.Need-first-line-requires Inv-loop μ-loop
 first-line-requires c κs = search needs
@@ -51,9 +59,11 @@ first-line-requires c κs = search needs
 -- the line that the loop's turn reads
 line : (c : tie.After-first-line Inv-loop μ-loop) → LineAt (meant [] (c .before .before .before .before .before .before .before .args .o)) (c .before .before .before .before .before .before .before .args .mail) (c .before .before .before .loop .skip) (c .before .before .before .before .before .before .before .args .later) (now (c .before .before .before .before .before .before .before .args .notes)) (c .before .before .before .before .before .before .before .args .next) (c .before .before .before .loop .i) (c .first-line .result)
 line c =
-    line-at _ _ _ _ _ _ _ _ (c .before .before .loop-test .taken) (c .before .before .before .before .before .before .before .pre .1)
-    (c .first-line .ensures ∙ ap (λ (l : List ℕ). lengthsOf (firstLine l)) (part-to-end (c .before .before .before .loop .i) (take (c .before .before .before .before .before .before .before .args .next) (now (c .before .before .before .before .before .before .before .args .notes)))))
-    (c .before .before .before .loop .inv .2)
+    let at-loop = c .before .before .before in
+    let start = at-loop .before .before .before .before in
+    line-at _ _ _ _ _ _ _ _ (c .before .before .loop-test .taken) (start .pre .1)
+    (c .first-line .ensures ∙ ap (λ (l : List ℕ). lengthsOf (firstLine l)) (part-to-end (at-loop .loop .i) (take (start .args .next) (now (start .args .notes)))))
+    (at-loop .loop .inv .2)
 
 begin-requires : tie.Need-begin-requires Inv-loop μ-loop
 begin-requires c κs = let h = c .before .before .before .before .before .before .before .pre in let l = line c in λ m. omega (arith, l .starts m, l .shorter, l .within, h .1, h .2)
@@ -64,14 +74,20 @@ add-count-line c = let h = c .before .before .before .before .before .before .be
 count-line-requires : tie.Need-count-line-requires Inv-loop μ-loop
 unfolding meant
 count-line-requires c κs =
-    let h = c .before .before .before .before .before .before .before .before .before .before .pre in
-    let l = line (c .before .before .before) in
+    let at-before- = c .before .before .before in
+    let at-loop = at-before- .before .before .before in
+    let start = at-loop .before .before .before .before in
+    let h = start .pre in
+    let l = line at-before- in
     let e = c .before .before .begin .ensures in
-    let i = c .before .before .before .before .before .before .loop .inv in
+    let i = at-loop .loop .inv in
     (omega (arith, l .begins, e), omega (arith, l .shorter, l .within, h .1), h .2, search needs, search needs, omega (arith, e, i .1), λ m. rw e (l .ink m), omega (arith, h .6, i .4))
 
 add-i : tie.Need-add-i Inv-loop μ-loop
-add-i c = let h = c .before .before .before .before .before .before .before .before .before .before .before .before .before .before .pre in let l = line (c .before .before .before .before .before .before .before) in omega (arith, l .within, h .1, h .2)
+add-i c =
+    let at-before- = c .before .before .before .before .before .before .before in
+    let start = at-before- .before .before .before .before .before .before .before in
+    let h = start .pre in let l = line at-before- in omega (arith, l .within, h .1, h .2)
 
 loop-less : tie.Need-loop-less Inv-loop μ-loop
 loop-less c = let l = line (c .before .before .before .before .before .before .before) in omega (arith, l .within, l .on)
@@ -79,11 +95,15 @@ loop-less c = let l = line (c .before .before .before .before .before .before .b
 loop-again : tie.Need-loop-again Inv-loop μ-loop
 unfolding meant
 loop-again c =
-    let l = line (c .before .before .before .before .before .before .before) in
-    let i = c .before .before .before .before .before .before .before .before .before .before .loop .inv in
-    let n = c .before .before .before .count-line .ensures in
+    let at-count-line = c .before .before .before in
+    let at-begin = at-count-line .before .before .before in
+    let at-before- = at-begin .before in
+    let at-loop = at-before- .before .before .before in
+    let l = line at-before- in
+    let i = at-loop .loop .inv in
+    let n = at-count-line .count-line .ensures in
     let w = rw length-append at (ap length (l .words)) in
-    (l .within, omega (arith, n .1, l .shorter), l .rest, omega (arith, rw (c .before .before .before .before .before .before .begin .ensures) at (n .0), w, i .3), c .before .before .table .given ∙ i .4)
+    (l .within, omega (arith, n .1, l .shorter), l .rest, omega (arith, rw (at-begin .begin .ensures) at (n .0), w, i .3), c .before .before .table .given ∙ i .4)
 
 same-length : tie.Need-same-length Inv-loop μ-loop
 same-length c = c .before .loop .inv .4

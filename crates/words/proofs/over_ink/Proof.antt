@@ -47,10 +47,16 @@ long : (c : tie.After-code Inv-loop μ-loop) → Here (whiteSpace (c .code .give
 long c = char-here _ _ _ _ (sym (c .before .before .long-at .ensures) ∙ c .code .given .1)
 
 least : (c : tie.After-code Inv-loop μ-loop) → 0x800 ≤ c .code .given .0 .0
-least c = long-code _ _ (c .before .before .before .before .before .if1 .left) (c .before .before .before .if2 .taken) _ _ (sym (c .before .before .long-at .ensures) ∙ c .code .given .1)
+least c =
+    let at-if = c .before .before .before in
+    let at-if1 = at-if .before .before in
+    long-code _ _ (at-if1 .if1 .left) (at-if .if2 .taken) _ _ (sym (c .before .before .long-at .ensures) ∙ c .code .given .1)
 
 returns-2 : tie.Need-returns-2 Inv-loop μ-loop
-returns-2 c = ink-long-stop _ (c .before .before .before .before .before .before .before .before .before .loop .inv) (long (c .before .before .before)) (least (c .before .before .before)) (c .before .ink-width .ensures) (c .if3 .taken)
+returns-2 c =
+    let at-before- = c .before .before .before in
+    let at-loop = at-before- .before .before .before .before .before .before in
+    ink-long-stop _ (at-loop .loop .inv) (long at-before-) (least at-before-) (c .before .ink-width .ensures) (c .if3 .taken)
 
 add-t19 : tie.Need-add-t19 Inv-loop μ-loop
 add-t19 c = let h = narrow _ _ (ink-not-blank _ _ (c .before .before .ink-width .ensures) (c .before .if3 .left) .1) in let l = c .before .before .before .before .before .before .before .before .before .before .loop .inv in omega (arith, l .narrow, l .within)
@@ -59,7 +65,10 @@ loop-less : tie.Need-loop-less Inv-loop μ-loop
 loop-less c = let h = long (c .before .before .before .before) in omega (arith, h .on, h .within)
 
 loop-again : tie.Need-loop-again Inv-loop μ-loop
-loop-again c = ink-long _ _ (c .before .before .before .before .before .before .before .before .before .before .loop .inv) (long (c .before .before .before .before)) (least (c .before .before .before .before)) (c .before .before .ink-width .ensures) (c .before .if3 .left) refl refl
+loop-again c =
+    let at-before- = c .before .before .before .before in
+    let at-loop = at-before- .before .before .before .before .before .before in
+    ink-long _ _ (at-loop .loop .inv) (long at-before-) (least at-before-) (c .before .before .ink-width .ensures) (c .before .if3 .left) refl refl
 
 enum-told : tie.Need-enum-told Inv-loop μ-loop
 enum-told c = search needs
@@ -74,7 +83,11 @@ loop-less-2 : tie.Need-loop-less-2 Inv-loop μ-loop
 loop-less-2 c = omega (arith, c .before .before .before .before .before .before .if1 .left)
 
 loop-again-2 : tie.Need-loop-again-2 Inv-loop μ-loop
-loop-again-2 c = ink-damaged _ (c .before .before .before .before .before .before .before .loop .inv) (c .before .before .before .before .before .before .if1 .left) (char-damaged-here _ _ (c .before .before .before .before .before .before .if1 .left) (sym (c .before .before .before .long-at .ensures) ∙ c .before .enum-told .given .1))
+loop-again-2 c =
+    let at-long-at = c .before .before .before in
+    let at-if = at-long-at .before .before .before in
+    let at-loop = at-if .before in
+    ink-damaged _ (at-loop .loop .inv) (at-if .if1 .left) (char-damaged-here _ _ (at-if .if1 .left) (sym (at-long-at .long-at .ensures) ∙ c .before .enum-told .given .1))
 
 is-plain-requires : tie.Need-is-plain-requires Inv-loop μ-loop
 is-plain-requires c κs = search needs
@@ -92,7 +105,10 @@ ends-word-requires : tie.Need-ends-word-requires Inv-loop μ-loop
 ends-word-requires c κs = search needs
 
 returns-3 : tie.Need-returns-3 Inv-loop μ-loop
-returns-3 c = let e = sym (c .before .ends-word .ensures) ∙ c .if5 .taken in ink-stop _ (c .before .before .before .before .before .before .before .loop .inv) (ends-here _ _ (c .before .before .before .before .before .before .if1 .left) e) (ends-word-here _ _ (c .before .before .before .before .before .before .if1 .left) _ e)
+returns-3 c =
+    let at-if = c .before .before .before .before .before .before in
+    let at-loop = at-if .before in
+    let e = sym (c .before .ends-word .ensures) ∙ c .if5 .taken in ink-stop _ (at-loop .loop .inv) (ends-here _ _ (at-if .if1 .left) e) (ends-word-here _ _ (at-if .if1 .left) _ e)
 
 is-letter-requires : tie.Need-is-letter-requires Inv-loop μ-loop
 is-letter-requires c κs = search needs
@@ -123,7 +139,10 @@ glued-end-requires : tie.Need-glued-end-requires Inv-loop μ-loop
 glued-end-requires c κs = c .before .before .before .before .before .before .before .before .before .before .before .before .loop .inv .within
 
 returns-4 : tie.Need-returns-4 Inv-loop μ-loop
-returns-4 c = let h = blank-here _ _ _ _ (sym (c .before .before .before .before .glyph-at .ensures) ∙ c .before .before .enum-told2 .given .1) in ink-stop _ (c .before .before .before .before .before .before .before .before .before .before .before .before .before .before .loop .inv) h (ends-there _ _ _ h (omega (arith, c .if7 .taken, c .before .glued-end .ensures .0)))
+returns-4 c =
+    let at-glyph-at = c .before .before .before .before in
+    let at-loop = at-glyph-at .before .before .before .before .before .before .before .before .before .before in
+    let h = blank-here _ _ _ _ (sym (at-glyph-at .glyph-at .ensures) ∙ c .before .before .enum-told2 .given .1) in ink-stop _ (at-loop .loop .inv) h (ends-there _ _ _ h (omega (arith, c .if7 .taken, c .before .glued-end .ensures .0)))
 
 sub-t29 : tie.Need-sub-t29 Inv-loop μ-loop
 sub-t29 c = omega (arith, c .before .glued-end .ensures .0)
@@ -157,7 +176,10 @@ loop-less-6 : tie.Need-loop-less-6 Inv-loop μ-loop
 loop-less-6 c = let h = read (c .before .before .before .before) in omega (arith, h .on, h .within)
 
 loop-again-6 : tie.Need-loop-again-6 Inv-loop μ-loop
-loop-again-6 c = ink-more _ _ (c .before .before .before .before .before .before .before .before .before .before .before .before .before .before .before .before .loop .inv) (read (c .before .before .before .before)) (c .before .before .width .ensures) refl (c .is-punct .ensures)
+loop-again-6 c =
+    let at-before- = c .before .before .before .before in
+    let at-loop = at-before- .before .before .before .before .before .before .before .before .before .before .before .before in
+    ink-more _ _ (at-loop .loop .inv) (read at-before-) (c .before .before .width .ensures) refl (c .is-punct .ensures)
 
 enum-told-3 : tie.Need-enum-told-3 Inv-loop μ-loop
 enum-told-3 c = search needs
@@ -172,7 +194,11 @@ loop-less-7 : tie.Need-loop-less-7 Inv-loop μ-loop
 loop-less-7 c = omega (arith, c .before .before .before .before .before .before .before .before .before .before .before .before .if1 .left)
 
 loop-again-7 : tie.Need-loop-again-7 Inv-loop μ-loop
-loop-again-7 c = ink-damaged _ (c .before .before .before .before .before .before .before .before .before .before .before .before .before .loop .inv) (c .before .before .before .before .before .before .before .before .before .before .before .before .if1 .left) (damaged-here _ _ (c .before .before .before .before .before .before .before .before .before .before .before .before .if1 .left) (sym (c .before .before .before .glyph-at .ensures) ∙ c .before .enum-told3 .given .1))
+loop-again-7 c =
+    let at-glyph-at = c .before .before .before in
+    let at-if = at-glyph-at .before .before .before .before .before .before .before .before .before in
+    let at-loop = at-if .before in
+    ink-damaged _ (at-loop .loop .inv) (at-if .if1 .left) (damaged-here _ _ (at-if .if1 .left) (sym (at-glyph-at .glyph-at .ensures) ∙ c .before .enum-told3 .given .1))
 
 pub over-ink-spec : {M : Type 1} → statement M
 over-ink-spec =

@@ -32,10 +32,14 @@ slice-aggregate-s : tie.Need-slice-aggregate-s Inv-loop μ-loop
 slice-aggregate-s c = sym (length-take-le _ _ (c .before .before .before .pre .1))
 
 returns : tie.Need-returns Inv-loop μ-loop
-returns c = (c .before .before .before .before .pre .4, omega arith, c .before .before .before .before .pre .0, λ end line. spaced-none _ (line .on))
+returns c =
+    let start = c .before .before .before .before in
+    (start .pre .4, omega arith, start .pre .0, λ end line. spaced-none _ (line .on))
 
 loop-holds : tie.Need-loop-holds Inv-loop μ-loop
-loop-holds c = (c .before .before .before .before .pre .4, omega arith, c .before .before .before .before .pre .0, (λ end line. spaced-none _ (line .on)), refl)
+loop-holds c =
+    let start = c .before .before .before .before in
+    (start .pre .4, omega arith, start .pre .0, (λ end line. spaced-none _ (line .on)), refl)
 
 spaces-before-requires : tie.Need-spaces-before-requires Inv-loop μ-loop
 spaces-before-requires c κs = rw (length-take-le _ _ (c .before .before .before .before .before .pre .1)) (c .loop .inv .2)
@@ -57,7 +61,10 @@ returns-3 c = let i = c .before .before .before .before .before .loop .inv in (i
 
 -- the word that the loop's turn finds
 plain : (c : tie.Else3 Inv-loop μ-loop) → PlainBehind (take (c .before .before .before .before .before .before .before .before .before .before .args .next) (now (c .before .before .before .before .before .before .before .before .before .before .args .notes))) (c .before .before .before .before .before .loop .r .at) (c .before .before .before .before .before .loop .r .first) (c .before .before .before .before .spaces-before .result) (c .before .before .before .plain-word-end .result)
-plain c = record { gap = c .before .before .before .before .spaces-before .ensures; word = c .before .before .before .plain-word-end .ensures (omega (arith, c .before .before .if2 .left)) }
+plain c =
+    let at-plain-word-end = c .before .before .before in
+    let at-spaces-before = at-plain-word-end .before in
+    record { gap = at-spaces-before .spaces-before .ensures; word = at-plain-word-end .plain-word-end .ensures (omega (arith, c .before .before .if2 .left)) }
 
 plain-ink-requires : tie.Need-plain-ink-requires Inv-loop μ-loop
 plain-ink-requires c κs = plain c .word
@@ -73,13 +80,24 @@ record-is c = rw (c .before .plain-ink .ensures) at (c .word-of .ensures)
 
 step : (c : tie.After-word-of Inv-loop μ-loop) → Small (c .word-of .result) × Kept (c .before .before .before .before .before .before .before .before .before .before .before .before .args .most) (length (now (c .before .before .before .before .before .before .before .before .before .before .before .before .args .notes))) (c .before .before .before .before .before .before .before .loop .r .count + 1) (withWord (c .before .before .before .before .before .before .before .loop .table) (c .before .before .before .before .before .before .before .loop .r .count) (c .word-of .result)) × (c .before .before .before .before .before .before .before .loop .r .at < c .word-of .result .end) × (c .word-of .result .end ≤ c .before .before .before .before .before .before .before .before .before .before .before .before .args .next)
 unfolding meant
-step c = let h = c .before .before .before .before .before .before .before .before .before .before .before .before .pre in let i = c .before .before .before .before .before .before .before .loop .inv in spaced-step (meant [] (c .before .before .before .before .before .before .before .before .before .before .before .before .args .o)) (now (c .before .before .before .before .before .before .before .before .before .before .before .before .args .notes)) (c .before .before .before .before .before .before .before .before .before .before .before .before .args .next) (c .before .before .before .before .before .before .before .loop .r .at) (c .before .before .before .before .before .before .before .loop .r .first) (c .before .before .before .before .before .before .before .loop .r .punct) (c .before .before .before .before .before .before .spaces-before .result) (c .before .before .before .before .before .plain-word-end .result) (c .word-of .result) (h .1) (h .3) (plain (c .before .before)) (record-is c) (omega (arith, c .before .before .if3 .left)) (i .0) (i .2) (h .2)
+step c =
+    let at-plain-word-end = c .before .before .before .before .before in
+    let at-spaces-before = at-plain-word-end .before in
+    let at-loop = at-spaces-before .before in
+    let start = at-loop .before .before .before .before .before in
+    let h = start .pre in let i = at-loop .loop .inv in spaced-step (meant [] (start .args .o)) (now (start .args .notes)) (start .args .next) (at-loop .loop .r .at) (at-loop .loop .r .first) (at-loop .loop .r .punct) (at-spaces-before .spaces-before .result) (at-plain-word-end .plain-word-end .result) (c .word-of .result) (h .1) (h .3) (plain (c .before .before)) (record-is c) (omega (arith, c .before .before .if3 .left)) (i .0) (i .2) (h .2)
 
 store-requires : tie.Need-store-requires Inv-loop μ-loop
-store-requires c κs = let k = c .before .before .before .before .before .before .before .before .loop .inv .0 in (omega (arith, c .before .before .before .if3 .left, k .held), step (c .before) .0)
+store-requires c κs =
+    let at-if = c .before .before .before in
+    let at-loop = at-if .before .before .before .before .before in
+    let k = at-loop .loop .inv .0 in (omega (arith, at-if .if3 .left, k .held), step (c .before) .0)
 
 add-t22 : tie.Need-add-t22 Inv-loop μ-loop
-add-t22 c = omega (arith, c .before .before .before .before .before .before .before .if3 .left, c .before .before .before .before .before .before .before .before .before .before .before .before .before .before .before .before .before .fits .most)
+add-t22 c =
+    let at-if = c .before .before .before .before .before .before .before in
+    let start = at-if .before .before .before .before .before .before .before .before .before .before in
+    omega (arith, at-if .if3 .left, start .fits .most)
 
 loop-less : tie.Need-loop-less Inv-loop μ-loop
 loop-less c = let t = step (c .before .before .before .before .before) in omega (arith, t .2, t .3)
@@ -87,15 +105,23 @@ loop-less c = let t = step (c .before .before .before .before .before) in omega 
 loop-again : tie.Need-loop-again Inv-loop μ-loop
 unfolding meant
 loop-again c =
-    let t = step (c .before .before .before .before .before) in
-    let i = c .before .before .before .before .before .before .before .before .before .before .before .before .loop .inv in
-    let h = c .before .before .before .before .before .before .before .before .before .before .before .before .before .before .before .before .before .pre in
-    rw (c .before .before .before .store .ensures) (
+    let at-store = c .before .before .before in
+    let at-word-of = at-store .before .before in
+    let at-if = at-word-of .before .before in
+    let at-plain-word-end = at-if .before .before .before in
+    let at-spaces-before = at-plain-word-end .before in
+    let at-loop = at-spaces-before .before in
+    let at-if1 = at-loop .before in
+    let start = at-if1 .before .before .before .before in
+    let t = step at-word-of in
+    let i = at-loop .loop .inv in
+    let h = start .pre in
+    rw (at-store .store .ensures) (
       t .1,
       omega (arith, t .2, i .1),
       t .3,
       (λ end line.
-          spaced-more (meant [] (c .before .before .before .before .before .before .before .before .before .before .before .before .before .before .before .before .before .args .o)) (now (c .before .before .before .before .before .before .before .before .before .before .before .before .before .before .before .before .before .args .notes)) (c .before .before .before .before .before .before .before .before .before .before .before .before .before .before .before .before .before .args .next) (c .before .before .before .before .before .before .before .before .before .before .before .before .loop .r .at) (c .before .before .before .before .before .before .before .before .before .before .before .before .loop .r .first) (c .before .before .before .before .before .before .before .before .before .before .before .before .loop .r .punct) (c .before .before .before .before .before .before .before .before .before .before .before .spaces-before .result) (c .before .before .before .before .before .before .before .before .before .before .plain-word-end .result) (c .before .before .before .before .before .word-of .result) (h .1) (h .3) (plain (c .before .before .before .before .before .before .before)) (record-is (c .before .before .before .before .before)) (omega (arith, c .before .before .before .before .before .before .before .if3 .left)) (i .0) (c .before .before .before .before .before .before .before .before .before .before .before .before .before .if1 .left) line (i .1) (i .3 end line)),
+          spaced-more (meant [] (start .args .o)) (now (start .args .notes)) (start .args .next) (at-loop .loop .r .at) (at-loop .loop .r .first) (at-loop .loop .r .punct) (at-spaces-before .spaces-before .result) (at-plain-word-end .plain-word-end .result) (at-word-of .word-of .result) (h .1) (h .3) (plain at-if) (record-is at-word-of) (omega (arith, at-if .if3 .left)) (i .0) (at-if1 .if1 .left) line (i .1) (i .3 end line)),
       length-with _ _ _ ∙ i .4,
     )
 

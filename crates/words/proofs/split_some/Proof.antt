@@ -42,10 +42,14 @@ slice-aggregate-s : tie.Need-slice-aggregate-s Inv-loop μ-loop
 slice-aggregate-s c = sym (length-take-le _ _ (c .before .before .before .pre .1))
 
 loop-holds : tie.Need-loop-holds Inv-loop μ-loop
-loop-holds c = (rw (length-take-le _ _ (c .before .before .before .pre .1)) (search needs), filling-first (c .before .before .before .pre .5), refl, c .before .before .before .pre .6, omega arith, omega arith)
+loop-holds c =
+    let start = c .before .before .before in
+    (rw (length-take-le _ _ (start .pre .1)) (search needs), filling-first (start .pre .5), refl, start .pre .6, omega arith, omega arith)
 
 next-word-requires : tie.Need-next-word-requires Inv-loop μ-loop
-next-word-requires c κs = let l = length-take (c .before .before .before .before .args .end) (now (c .before .before .before .before .args .notes)) in (c .loop .inv .0, omega arith, search needs, search needs, c .loop .inv .3)
+next-word-requires c κs =
+    let start = c .before .before .before .before in
+    let l = length-take (start .args .end) (now (start .args .notes)) in (c .loop .inv .0, omega arith, search needs, search needs, c .loop .inv .3)
 
 enum-known-w : tie.Need-enum-known-w Inv-loop μ-loop
 enum-known-w c = search needs
@@ -59,10 +63,12 @@ same-length c = c .before .before .before .loop .inv .2
 returns : tie.Need-returns Inv-loop μ-loop
 unfolding meant
 returns c =
+    let at-loop = c .before .before .before in
+    let start = at-loop .before .before .before .before in
     let e = rw (c .enum-told .given .1) at (c .before .before .next-word .ensures) in
-    let i = c .before .before .before .loop .inv in
+    let i = at-loop .loop .inv in
     let f = i .1 in
-    let l = length-take-le (c .before .before .before .before .before .before .before .args .end) (now (c .before .before .before .before .before .before .before .args .notes)) (c .before .before .before .before .before .before .before .pre .1) in
+    let l = length-take-le (start .args .end) (now (start .args .notes)) (start .pre .1) in
     record { on = i .4; to = omega (arith, l, i .0); gained = i .5; kept = f .kept; words = f .words; places = f .places; ink = i .3; done = λ m. (e .0, e .1); left = λ m. absurd (false≢true m) }
 
 -- the word that the loop's turn finds
@@ -76,22 +82,35 @@ same-length-2 c = c .before .before .before .before .before .loop .inv .2
 returns-2 : tie.Need-returns-2 Inv-loop μ-loop
 unfolding meant
 returns-2 c =
-    let i = c .before .before .before .before .before .loop .inv in
+    let at-loop = c .before .before .before .before .before in
+    let start = at-loop .before .before .before .before in
+    let i = at-loop .loop .inv in
     let f = i .1 in
-    let l = length-take-le (c .before .before .before .before .before .before .before .before .before .args .end) (now (c .before .before .before .before .before .before .before .before .before .args .notes)) (c .before .before .before .before .before .before .before .before .before .pre .1) in
+    let l = length-take-le (start .args .end) (now (start .args .notes)) (start .pre .1) in
     record { on = i .4; to = omega (arith, l, i .0); gained = i .5; kept = f .kept; words = f .words; places = f .places; ink = i .3; done = λ m. absurd (true≢false m); left = λ m. (c .if1 .taken, rw (word (c .before .before) .first) (omega arith)) }
 
 store-requires : tie.Need-store-requires Inv-loop μ-loop
-store-requires c κs = (omega (arith, c .before .if1 .left, c .before .before .before .before .before .before .loop .inv .1 .kept .held), next-small (word (c .before .before .before)) (rw (length-take-le _ _ (c .before .before .before .before .before .before .before .before .before .before .pre .1)) (omega arith)))
+store-requires c κs =
+    let at-before- = c .before .before .before in
+    let at-loop = at-before- .before .before .before in
+    let start = at-loop .before .before .before .before in
+    (omega (arith, c .before .if1 .left, at-loop .loop .inv .1 .kept .held), next-small (word at-before-) (rw (length-take-le _ _ (start .pre .1)) (omega arith)))
 
 add-count : tie.Need-add-count Inv-loop μ-loop
-add-count c = omega (arith, c .before .before .before .before .if1 .left, c .before .before .before .before .before .before .before .before .before .before .before .before .before .pre .5 .few)
+add-count c =
+    let at-if = c .before .before .before .before in
+    let start = at-if .before .before .before .before .before .before .before .before .before in
+    omega (arith, at-if .if1 .left, start .pre .5 .few)
 
 loop-less : tie.Need-loop-less Inv-loop μ-loop
 loop-less c = let w = word (c .before .before .before .before .before .before) in omega (arith, w .on, w .within .end)
 
 loop-again : tie.Need-loop-again Inv-loop μ-loop
-loop-again c = let w = word (c .before .before .before .before .before .before) in (w .within .end, rw (c .before .before .store .ensures) (filling-more (c .before .before .before .before .before .before .before .before .before .loop .inv .1) (c .before .before .before .before .before .before .before .before .before .before .before .before .before .args .end) _ (w .first) (w .place) (search needs) (w .within) (w .narrow)), ap length (c .before .before .store .ensures) ∙ length-with _ _ _ ∙ c .before .before .before .before .before .before .before .before .before .loop .inv .2, λ e. absurd (false≢true e), omega (arith, w .on, c .before .before .before .before .before .before .before .before .before .loop .inv .4), omega (arith, w .on, c .before .before .before .before .before .before .before .before .before .loop .inv .5))
+loop-again c =
+    let at-before- = c .before .before .before .before .before .before in
+    let at-loop = at-before- .before .before .before in
+    let start = at-loop .before .before .before .before in
+    let w = word at-before- in (w .within .end, rw (c .before .before .store .ensures) (filling-more (at-loop .loop .inv .1) (start .args .end) _ (w .first) (w .place) (search needs) (w .within) (w .narrow)), ap length (c .before .before .store .ensures) ∙ length-with _ _ _ ∙ at-loop .loop .inv .2, λ e. absurd (false≢true e), omega (arith, w .on, at-loop .loop .inv .4), omega (arith, w .on, at-loop .loop .inv .5))
 
 pub split-some-spec : {M : Type 1} → statement M
 split-some-spec =

@@ -44,7 +44,9 @@ slice-aggregate-part c = sym (length-take-le _ _ (c .before .before .before .pre
 
 loop-holds : tie.Need-loop-holds Inv-loop μ-loop
 unfolding meant
-loop-holds c = (c .before .before .before .pre .0, c .before .before .before .pre .6, filling-none (c .before .before .before .pre .5), refl)
+loop-holds c =
+    let start = c .before .before .before in
+    (start .pre .0, start .pre .6, filling-none (start .pre .5), refl)
 
 -- the line that the loop's turn reads
 line : (c : tie.In-loop Inv-loop μ-loop) → LineAt (meant [] (c .before .before .before .before .before .args .o)) (c .before .before .before .before .before .args .mail) (c .before .loop .skip) (c .before .before .before .before .before .args .later) (now (c .before .before .before .before .before .args .notes)) (c .before .before .before .before .before .args .next) (c .before .loop .i) (lengthsOf (firstLine (slice (c .before .loop .i) (c .before .before .before .before .before .args .next) (now (c .before .before .before .before .before .args .notes)))))
@@ -52,27 +54,38 @@ line c = line-at _ _ _ _ _ _ _ _ (c .loop-test .taken) (c .before .before .befor
 
 -- and where its text ends
 ends : (c : tie.In-loop Inv-loop μ-loop) → LineEnds (take (c .before .before .before .before .before .args .next) (now (c .before .before .before .before .before .args .notes))) (c .before .loop .i) (lengthsOf (firstLine (slice (c .before .loop .i) (c .before .before .before .before .before .args .next) (now (c .before .before .before .before .before .args .notes)))))
-ends c = line-ends (take (c .before .before .before .before .before .args .next) (now (c .before .before .before .before .before .args .notes))) (c .before .loop .i) (rw (length-take-le _ _ (c .before .before .before .before .before .pre .1)) (omega (arith, c .loop-test .taken))) _ refl
+ends c =
+    let start = c .before .before .before .before .before in
+    line-ends (take (start .args .next) (now (start .args .notes))) (c .before .loop .i) (rw (length-take-le _ _ (start .pre .1)) (omega (arith, c .loop-test .taken))) _ refl
 
 begin-requires : tie.Need-begin-requires Inv-loop μ-loop
 begin-requires c κs = let h = c .before .before .before .before .before .pre in λ m. omega (arith, line c .starts m, line c .shorter, line c .within, h .1, h .2)
 
 spaced-words-requires : tie.Need-spaced-words-requires Inv-loop μ-loop
-spaced-words-requires c κs = let h = c .before .before .before .before .before .before .before .pre in let l = line (c .before .before) in (omega (arith, l .begins, l .shorter, l .within, c .before .begin .ensures), h .1, h .2, search needs, c .before .before .before .loop .inv .2 .kept)
+spaced-words-requires c κs =
+    let at-loop = c .before .before .before in
+    let start = at-loop .before .before .before .before in
+    let h = start .pre in let l = line (c .before .before) in (omega (arith, l .begins, l .shorter, l .within, c .before .begin .ensures), h .1, h .2, search needs, at-loop .loop .inv .2 .kept)
 
 -- the words spaces apart that the turn finds in it
 spaced : (c : tie.After-spaced-words Inv-loop μ-loop)
     → SpacedTo (meant [] (c .before .before .before .before .before .before .before .before .args .o)) (c .before .before .before .before .before .before .before .before .args .mail) (now (c .before .before .before .before .before .before .before .before .args .notes)) (c .before .before .begin .result) (c .before .before .before .before .loop .i + (lengthsOf (firstLine (slice (c .before .before .before .before .loop .i) (c .before .before .before .before .before .before .before .before .args .next) (now (c .before .before .before .before .before .before .before .before .args .notes))))) .text) (c .before .before .before .before .loop .n) (c .before .before .before .before .loop .table) (c .spaced-words .result) (c .spaced-words .last .1 .1 .1 .1 .1 .1 .1 .0)
-spaced c = c .spaced-words .ensures .3 _ (ends-later (ends (c .before .before .before) .ends) (omega (arith, c .before .before .begin .ensures)) (omega (arith, c .before .before .begin .ensures, line (c .before .before .before) .begins)))
+spaced c =
+    let at-before- = c .before .before .before in
+    c .spaced-words .ensures .3 _ (ends-later (ends at-before- .ends) (omega (arith, c .before .before .begin .ensures)) (omega (arith, c .before .before .begin .ensures, line at-before- .begins)))
 
 sub-first-line : tie.Need-sub-first-line Inv-loop μ-loop
 sub-first-line c = rw (length-take-le _ _ (c .before .before .before .before .before .before .before .before .before .before .pre .1)) (omega (arith, c .before .before .spaced-words .ensures .2))
 
 part-first-line-start : tie.Need-part-first-line-start Inv-loop μ-loop
-part-first-line-start c = let l = length-take-le (c .before .before .before .before .before .before .before .before .before .before .args .next) (now (c .before .before .before .before .before .before .before .before .before .before .args .notes)) (c .before .before .before .before .before .before .before .before .before .before .pre .1) in omega (arith, c .before .before .spaced-words .ensures .2)
+part-first-line-start c =
+    let start = c .before .before .before .before .before .before .before .before .before .before in
+    let l = length-take-le (start .args .next) (now (start .args .notes)) (start .pre .1) in omega (arith, c .before .before .spaced-words .ensures .2)
 
 part-first-line-end : tie.Need-part-first-line-end Inv-loop μ-loop
-part-first-line-end c = let l = length-take-le (c .before .before .before .before .before .before .before .before .before .before .args .next) (now (c .before .before .before .before .before .before .before .before .before .before .args .notes)) (c .before .before .before .before .before .before .before .before .before .before .pre .1) in omega (arith, c .before .before .spaced-words .ensures .2)
+part-first-line-end c =
+    let start = c .before .before .before .before .before .before .before .before .before .before in
+    let l = length-take-le (start .args .next) (now (start .args .notes)) (start .pre .1) in omega (arith, c .before .before .spaced-words .ensures .2)
 
 first-line-requires : tie.Need-first-line-requires Inv-loop μ-loop
 first-line-requires c κs = search needs
@@ -82,27 +95,38 @@ found : (c : tie.After-first-line Inv-loop μ-loop)
     → (c .before .before .before .before .spaced-words .result .at + c .first-line .result .text ≡ c .before .before .before .before .before .before .before .before .loop .i + (lengthsOf (firstLine (slice (c .before .before .before .before .before .before .before .before .loop .i) (c .before .before .before .before .before .before .before .before .before .before .before .before .args .next) (now (c .before .before .before .before .before .before .before .before .before .before .before .before .args .notes))))) .text)
     × (c .before .before .before .before .spaced-words .result .at + c .first-line .result .whole ≡ c .before .before .before .before .before .before .before .before .loop .i + (lengthsOf (firstLine (slice (c .before .before .before .before .before .before .before .before .loop .i) (c .before .before .before .before .before .before .before .before .before .before .before .before .args .next) (now (c .before .before .before .before .before .before .before .before .before .before .before .before .args .notes))))) .whole)
 found c =
-    let h = c .before .before .before .before .spaced-words .ensures in
-    same-ends (ends (c .before .before .before .before .before .before .before))
-    (line-ends (take (c .before .before .before .before .before .before .before .before .before .before .before .before .args .next) (now (c .before .before .before .before .before .before .before .before .before .before .before .before .args .notes))) (c .before .before .before .before .spaced-words .result .at) (rw (length-take-le _ _ (c .before .before .before .before .before .before .before .before .before .before .before .before .pre .1)) (h .2)) (c .first-line .result) (c .first-line .ensures ∙ ap (λ (l : List ℕ). lengthsOf (firstLine l)) (part-to-end (c .before .before .before .before .spaced-words .result .at) (take (c .before .before .before .before .before .before .before .before .before .before .before .before .args .next) (now (c .before .before .before .before .before .before .before .before .before .before .before .before .args .notes))))))
-    (omega (arith, h .1, c .before .before .before .before .before .before .begin .ensures)) (spaced (c .before .before .before .before) .to)
+    let at-spaced-words = c .before .before .before .before in
+    let at-begin = at-spaced-words .before .before in
+    let at-before- = at-begin .before in
+    let start = at-before- .before .before .before .before .before in
+    let h = at-spaced-words .spaced-words .ensures in
+    same-ends (ends at-before-)
+    (line-ends (take (start .args .next) (now (start .args .notes))) (at-spaced-words .spaced-words .result .at) (rw (length-take-le _ _ (start .pre .1)) (h .2)) (c .first-line .result) (c .first-line .ensures ∙ ap (λ (l : List ℕ). lengthsOf (firstLine l)) (part-to-end (at-spaced-words .spaced-words .result .at) (take (start .args .next) (now (start .args .notes))))))
+    (omega (arith, h .1, at-begin .begin .ensures)) (spaced at-spaced-words .to)
 
 add-split-line : tie.Need-add-split-line Inv-loop μ-loop
-add-split-line c = let l = line (c .before .before .before .before .before .before .before .before) in omega (arith, found (c .before) .0, l .shorter, l .within, c .before .before .before .before .before .before .before .before .before .before .before .before .before .pre .1, c .before .before .before .before .before .before .before .before .before .before .before .before .before .pre .2)
+add-split-line c =
+    let at-before- = c .before .before .before .before .before .before .before .before in
+    let start = at-before- .before .before .before .before .before in
+    let l = line at-before- in omega (arith, found (c .before) .0, l .shorter, l .within, start .pre .1, start .pre .2)
 
 split-line-requires : tie.Need-split-line-requires Inv-loop μ-loop
 unfolding meant
 split-line-requires c κs =
-    let l = line (c .before .before .before .before .before .before .before .before .before) in
+    let at-spaced-words = c .before .before .before .before .before .before in
+    let at-begin = at-spaced-words .before .before in
+    let at-before- = at-begin .before in
+    let start = at-before- .before .before .before .before .before in
+    let l = line at-before- in
     let f = found (c .before .before) in
-    let h = c .before .before .before .before .before .before .before .before .before .before .before .before .before .before .pre in (
+    let h = start .pre in (
       omega arith,
       omega (arith, f .0, l .shorter, l .within, h .1),
       h .2,
       search needs,
       search needs,
-      c .before .before .before .before .before .before .spaced-words .ensures .0,
-      λ m. rw (f .0) (spaced (c .before .before .before .before .before .before) .ink (λ e. rw (c .before .before .before .before .before .before .before .before .begin .ensures) (l .ink e)) m),
+      at-spaced-words .spaced-words .ensures .0,
+      λ m. rw (f .0) (spaced at-spaced-words .ink (λ e. rw (at-begin .begin .ensures) (l .ink e)) m),
     )
 
 enum-known-m : tie.Need-enum-known-m Inv-loop μ-loop
@@ -114,43 +138,73 @@ enum-told c = search needs
 -- the words of the turn's line, behind those of the table
 added : (c : tie.After-split-line Inv-loop μ-loop) → List Word
 added c =
-    let a = c .before .before .before .before .before .before .before .before .before .before .before .before .before .before .before .args in
-    let l = c .before .before .before .before .before .before .before .before .before .before .before .loop in
+    let at-loop = c .before .before .before .before .before .before .before .before .before .before .before in
+    let start = at-loop .before .before .before .before in
+    let a = start .args in
+    let l = at-loop .loop in
     wordsIn (now (a .notes)) (l .n) (l .table)
     ++ wordsFrom (meant [] (a .o)) (a .mail) (not (a .mail)) false (glyphsBehind (meant [] (a .o) .glue) (not (a .mail)) (slice (l .i + cond (a .mail) 0 (l .skip)) (l .i + lengthsOf (firstLine (slice (l .i) (a .next) (now (a .notes)))) .text) (now (a .notes))))
 
 addedPlaces : (c : tie.After-split-line Inv-loop μ-loop) → List ℕ
 addedPlaces c =
-    let a = c .before .before .before .before .before .before .before .before .before .before .before .before .before .before .before .args in
-    let l = c .before .before .before .before .before .before .before .before .before .before .before .loop in
+    let at-loop = c .before .before .before .before .before .before .before .before .before .before .before in
+    let start = at-loop .before .before .before .before in
+    let a = start .args in
+    let l = at-loop .loop in
     placesIn (l .n) (l .table) ++ placesFrom (l .i + cond (a .mail) 0 (l .skip)) (runs (glyphsBehind (meant [] (a .o) .glue) (not (a .mail)) (slice (l .i + cond (a .mail) 0 (l .skip)) (l .i + lengthsOf (firstLine (slice (l .i) (a .next) (now (a .notes)))) .text) (now (a .notes)))))
 
 filled : (c : tie.After-split-line Inv-loop μ-loop) → WordsFilled (c .before .before .before .before .before .before .before .before .before .before .before .before .before .before .before .args .most) (now (c .before .before .before .before .before .before .before .before .before .before .before .before .before .before .before .args .notes)) (added c) (addedPlaces c) (c .split-line .last .1 .1 .1 .1 .1 .1 .1 .1 .1 .0) (c .split-line .result)
 unfolding meant added addedPlaces
-filled c = rw (c .before .before .before .before .before .before .before .before .before .begin .ensures) at (spaced-filled (c .before .before .before .before .before .before .before .before .before .before .before .before .before .before .before .args .most) (spaced (c .before .before .before .before .before .before .before)) (c .before .before .before .before .before .before .before .spaced-words .result .at + c .before .before .before .first-line .result .text) (found (c .before .before .before) .0) (c .split-line .last .1 .1 .1 .1 .1 .1 .1 .1 .1 .0) (c .split-line .result) (c .split-line .ensures))
+filled c =
+    let at-first-line = c .before .before .before in
+    let at-spaced-words = at-first-line .before .before .before .before in
+    let at-begin = at-spaced-words .before .before in
+    let start = at-begin .before .before .before .before .before .before in
+    rw (at-begin .begin .ensures) at (spaced-filled (start .args .most) (spaced at-spaced-words) (at-spaced-words .spaced-words .result .at + at-first-line .first-line .result .text) (found at-first-line .0) (c .split-line .last .1 .1 .1 .1 .1 .1 .1 .1 .1 .0) (c .split-line .result) (c .split-line .ensures))
 
 same-length : tie.Need-same-length Inv-loop μ-loop
-same-length c = c .before .before .before .table2 .given ∙ c .before .before .before .before .before .before .before .before .before .before .table .given ∙ c .before .before .before .before .before .before .before .before .before .before .before .before .before .before .before .loop .inv .3
+same-length c =
+    let at-table = c .before .before .before in
+    let at-table-2 = at-table .before .before .before .before .before .before .before in
+    let at-loop = at-table-2 .before .before .before .before .before in
+    at-table .table2 .given ∙ at-table-2 .table .given ∙ at-loop .loop .inv .3
 
 returns : tie.Need-returns Inv-loop μ-loop
 unfolding added addedPlaces
-returns c = filled-words _ _ _ _ _ _ _ _ _ _ (filling-over (c .before .before .before .before .before .before .before .before .before .before .before .before .before .before .before .loop .inv .2) _ _ (line (c .before .before .before .before .before .before .before .before .before .before .before .before .before .before) .words) (rw (c .enum-told .given .1) at (filled (c .before .before .before .before))))
+returns c =
+    let at-before- = c .before .before .before .before in
+    let at-before-14 = at-before- .before .before .before .before .before .before .before .before .before .before in
+    let at-loop = at-before-14 .before in
+    filled-words _ _ _ _ _ _ _ _ _ _ (filling-over (at-loop .loop .inv .2) _ _ (line at-before-14 .words) (rw (c .enum-told .given .1) at (filled at-before-)))
 
 add-i : tie.Need-add-i Inv-loop μ-loop
-add-i c = let l = line (c .before .before .before .before .before .before .before .before .before .before .before .before .before .before .before .before) in omega (arith, found (c .before .before .before .before .before .before .before .before .before) .1, l .within, c .before .before .before .before .before .before .before .before .before .before .before .before .before .before .before .before .before .before .before .before .before .pre .1, c .before .before .before .before .before .before .before .before .before .before .before .before .before .before .before .before .before .before .before .before .before .pre .2)
+add-i c =
+    let at-before- = c .before .before .before .before .before .before .before .before .before in
+    let at-before-16 = at-before- .before .before .before .before .before .before .before in
+    let start = at-before-16 .before .before .before .before .before in
+    let l = line at-before-16 in omega (arith, found at-before- .1, l .within, start .pre .1, start .pre .2)
 
 loop-less : tie.Need-loop-less Inv-loop μ-loop
-loop-less c = let l = line (c .before .before .before .before .before .before .before .before .before .before .before .before .before .before .before .before) in omega (arith, found (c .before .before .before .before .before .before .before .before .before) .1, l .within, l .on)
+loop-less c =
+    let at-before- = c .before .before .before .before .before .before .before .before .before in
+    let at-before-16 = at-before- .before .before .before .before .before .before .before in
+    let l = line at-before-16 in omega (arith, found at-before- .1, l .within, l .on)
 
 loop-again : tie.Need-loop-again Inv-loop μ-loop
 unfolding added addedPlaces
 loop-again c =
-    let l = line (c .before .before .before .before .before .before .before .before .before .before .before .before .before .before .before .before) in
-    rw (found (c .before .before .before .before .before .before .before .before .before) .1) (
+    let at-table = c .before .before .before .before .before in
+    let at-before- = at-table .before in
+    let at-before-9 = at-before- .before .before .before in
+    let at-table-2 = at-before-9 .before .before .before in
+    let at-before-16 = at-table-2 .before .before .before .before in
+    let at-loop = at-before-16 .before in
+    let l = line at-before-16 in
+    rw (found at-before-9 .1) (
       l .within,
       l .rest,
-      filling-line (c .before .before .before .before .before .before .before .before .before .before .before .before .before .before .before .before .before .loop .inv .2) _ _ (l .words) _ _ (l .places) _ _ (rw (c .before .before .m .given .1) at (filled (c .before .before .before .before .before .before))),
-      c .before .before .before .before .before .table2 .given ∙ c .before .before .before .before .before .before .before .before .before .before .before .before .table .given ∙ c .before .before .before .before .before .before .before .before .before .before .before .before .before .before .before .before .before .loop .inv .3,
+      filling-line (at-loop .loop .inv .2) _ _ (l .words) _ _ (l .places) _ _ (rw (c .before .before .m .given .1) at (filled at-before-)),
+      at-table .table2 .given ∙ at-table-2 .table .given ∙ at-loop .loop .inv .3,
     )
 
 same-length-2 : tie.Need-same-length-2 Inv-loop μ-loop

@@ -36,8 +36,9 @@ add-end c = let p = c .before .before .before .before .pre in let x = p .short i
 
 loop-holds : tie.Need-loop-holds Inv-loop μ-loop
 loop-holds c =
-    let a = c .before .before .before .before .args in
-    let p = c .before .before .before .before .pre in
+    let start = c .before .before .before .before in
+    let a = start .args in
+    let p = start .pre in
     (omega arith, p .order, λ h. absurd (omega arith), λ notes gap. offers-begin (a .x + gap) (a .turn .number) (tableIn (a .breaks .now)) _ (omega arith) _)
 
 get-break-requires : tie.Need-get-break-requires Inv-loop μ-loop
@@ -45,19 +46,24 @@ get-break-requires c κs = let r = c .before .before .before .before .before .be
 
 sub-t : tie.Need-sub-t Inv-loop μ-loop
 sub-t c =
-    let l = c .before .before .before .loop in
+    let at-loop = c .before .before .before in
+    let start = at-loop .before .before .before .before .before in
+    let l = at-loop .loop in
     let from = l .inv .0 in
     let t = c .before .before .loop-test .taken in
-    let f = c .before .before .before .before .before .before .before .before .pre .fits (l .k) from t .0 in
+    let f = start .pre .fits (l .k) from t .0 in
     rw (c .before .get-break .ensures) f
 
 returns : tie.Need-returns Inv-loop μ-loop
 returns c =
-    let a = c .before .before .before .before .before .before .before .before .before .args in
+    let at-loop-test = c .before .before .before in
+    let at-loop = at-loop-test .before in
+    let start = at-loop .before .before .before .before .before in
+    let a = start .args in
     let table = tableIn (a .breaks .now) in
-    let l = c .before .before .before .before .loop in
+    let l = at-loop .loop in
     let v = l .inv in
-    let t = c .before .before .before .loop-test .taken in
+    let t = at-loop-test .loop-test .taken in
     let e = columns-meant table (l .k) _ (c .before .before .get-break .ensures) in
     let h = c .if1 .taken in
     record {
@@ -67,10 +73,13 @@ returns c =
 
 offered-requires : tie.Need-offered-requires Inv-loop μ-loop
 offered-requires c κs =
-    let p = c .before .before .before .before .before .before .before .before .before .pre in
-    let l = c .before .before .before .before .loop in
+    let at-loop-test = c .before .before .before in
+    let at-loop = at-loop-test .before in
+    let start = at-loop .before .before .before .before .before in
+    let p = start .pre in
+    let l = at-loop .loop in
     let from = l .inv .0 in
-    let t = c .before .before .before .loop-test .taken in
+    let t = at-loop-test .loop-test .taken in
     let f = rw (← c .before .before .get-break .ensures) at (p .fits (l .k) from t) in
     let wide = f .1 in
     (record { limits = p .limits; turns = p .turns; fits = omega arith; sound = rw (c .before .before .get-break .ensures) (p .filled .sound (l .k) t) }, c .if1 .left)
@@ -83,20 +92,24 @@ loop-less c = let t = c .before .before .before .before .loop-test .taken in ome
 
 loop-again : tie.Need-loop-again Inv-loop μ-loop
 loop-again c =
-    let a = c .before .before .before .before .before .before .before .before .before .before .args in
-    let p = c .before .before .before .before .before .before .before .before .before .before .pre in
+    let at-get-break = c .before .before .before in
+    let at-loop-test = at-get-break .before in
+    let at-loop = at-loop-test .before in
+    let start = at-loop .before .before .before .before .before in
+    let a = start .args in
+    let p = start .pre in
     let table = tableIn (a .breaks .now) in
-    let l = c .before .before .before .before .before .loop in
+    let l = at-loop .loop in
     let v = l .inv in
     let from = v .0 in
-    let t = c .before .before .before .before .loop-test .taken in
-    let e = columns-meant table (l .k) _ (c .before .before .before .get-break .ensures) in
+    let t = at-loop-test .loop-test .taken in
+    let e = columns-meant table (l .k) _ (at-get-break .get-break .ensures) in
     let h = c .before .if1 .left in
     let o = c .offered .ensures in (
       omega arith,
       omega arith,
       o .fits (a .size) t (v .2),
-      λ notes gap. offers-next (a .g) (a .turn) table (a .x) (l .k) (a .size) t (p .inner) notes gap (l .best) (c .offered .result) _ _ (c .before .before .before .get-break .ensures) (omega arith) (omega arith) o ∙ v .3 notes gap,
+      λ notes gap. offers-next (a .g) (a .turn) table (a .x) (l .k) (a .size) t (p .inner) notes gap (l .best) (c .offered .result) _ _ (at-get-break .get-break .ensures) (omega arith) (omega arith) o ∙ v .3 notes gap,
     )
 
 returns-2 : tie.Need-returns-2 Inv-loop μ-loop

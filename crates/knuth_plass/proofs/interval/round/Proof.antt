@@ -19,12 +19,17 @@ add-line-2 : tie.Need-add-line-2
 add-line-2 c = let h = c .before .before .before .before .pre .4 in let m = c .before .before .added-space .ensures .most in omega arith
 
 add-line-3 : tie.Need-add-line-3
-add-line-3 c = let h = c .before .before .before .before .before .pre .4 in let m = c .before .before .before .added-space .ensures .most in omega arith
+add-line-3 c =
+    let at-added-space = c .before .before .before in
+    let start = at-added-space .before .before in
+    let h = start .pre .4 in let m = at-added-space .added-space .ensures .most in omega arith
 
 pass-requires : tie.Need-pass-requires
 pass-requires c κs =
-    let p = c .before .before .before .before .before .before .pre in
-    let m = c .before .before .before .before .added-space .ensures .most in
+    let at-added-space = c .before .before .before .before in
+    let start = at-added-space .before .before in
+    let p = start .pre in
+    let m = at-added-space .added-space .ensures .most in
     let h = p .4 in
     let some = p .3 .some in
     let few = p .3 .few in
@@ -35,45 +40,63 @@ pass-requires c κs =
 
 turn-of-requires : tie.Need-turn-of-requires
 turn-of-requires c κs =
-    let a = c .before .before .before .before .before .before .before .before .args in
-    let p = c .before .before .before .before .before .before .before .before .pre in
-    let added = c .before .before .before .before .before .before .added-space .ensures in
+    let at-added-space = c .before .before .before .before .before .before in
+    let start = at-added-space .before .before in
+    let a = start .args in
+    let p = start .pre in
+    let added = at-added-space .added-space .ensures in
     let passed = c .before .pass .ensures in
     (p .0, turnable (a .g) (a .last) (a .sentence) (a .i) (a .gap) (a .word) (a .s) (tableIn (a .breaks .now)) (p .1) (p .2) (p .3) (p .4) _ (added .most) (added .is) _ refl _ passed)
 
 again-requires : tie.Need-again-requires
 again-requires c κs =
-    let a = c .before .before .before .before .before .before .before .before .before .before .args in
-    let p = c .before .before .before .before .before .before .before .before .before .before .pre in
-    let added = c .before .before .before .before .before .before .before .before .added-space .ensures in
-    let passed = c .before .before .before .pass .ensures in
+    let at-pass = c .before .before .before in
+    let at-added-space = at-pass .before .before .before .before .before in
+    let start = at-added-space .before .before in
+    let a = start .args in
+    let p = start .pre in
+    let added = at-added-space .added-space .ensures in
+    let passed = at-pass .pass .ensures in
     let turn = c .before .turn-of .ensures in
     (p .0, turn .1, rw (turn .0) (leaves (a .g) (a .last) (a .sentence) (a .i) (a .gap) (a .word) (a .s) (tableIn (a .breaks .now)) (p .1) (p .2) (p .3) (p .4) _ (added .most) (added .is) _ refl _ passed (c .before .before .if1 .taken) _))
 
 store-break-requires : tie.Need-store-break-requires
 store-break-requires c κs =
-    let a = c .before .before .before .before .before .before .before .before .before .before .before .before .args in
-    let p = c .before .before .before .before .before .before .before .before .before .before .before .before .pre in
-    let added = c .before .before .before .before .before .before .before .before .before .before .added-space .ensures in
-    let passed = c .before .before .before .before .before .pass .ensures in
-    let begins = rw (c .before .before .before .turn-of .ensures .0) at (c .before .again .ensures) in
-    (has-room (a .breaks .now) (a .s .size) (room (a .g) (a .last) (a .sentence) (a .i) (a .gap) (a .word) (a .s) (tableIn (a .breaks .now)) (p .1) (p .2) (p .3) (p .4) _ (added .most) (added .is) _ refl _ passed), again-fits (a .g) (a .last) (a .sentence) (a .i) (a .gap) (a .word) (a .s) (tableIn (a .breaks .now)) (p .1) (p .2) (p .3) (p .4) _ (added .most) (added .is) _ refl _ passed (c .before .before .before .before .if1 .taken) _ _ begins)
+    let at-turn-of = c .before .before .before in
+    let at-if = at-turn-of .before in
+    let at-pass = at-if .before in
+    let at-added-space = at-pass .before .before .before .before .before in
+    let start = at-added-space .before .before in
+    let a = start .args in
+    let p = start .pre in
+    let added = at-added-space .added-space .ensures in
+    let passed = at-pass .pass .ensures in
+    let begins = rw (at-turn-of .turn-of .ensures .0) at (c .before .again .ensures) in
+    (has-room (a .breaks .now) (a .s .size) (room (a .g) (a .last) (a .sentence) (a .i) (a .gap) (a .word) (a .s) (tableIn (a .breaks .now)) (p .1) (p .2) (p .3) (p .4) _ (added .most) (added .is) _ refl _ passed), again-fits (a .g) (a .last) (a .sentence) (a .i) (a .gap) (a .word) (a .s) (tableIn (a .breaks .now)) (p .1) (p .2) (p .3) (p .4) _ (added .most) (added .is) _ refl _ passed (at-if .if1 .taken) _ _ begins)
 
 add-t28 : tie.Need-add-t28
-add-t28 c = let f = c .before .before .before .before .before .before .before .before .before .before .before .before .before .before .before .pre .3 .few in let s = c .before .before .before .before .before .before .before .before .before .before .before .before .before .before .before .pre .3 .filled .sized .few in let h = c .before .before .before .before .before .before .before .before .before .before .before .before .before .before .before .pre .2 in omega arith
+add-t28 c =
+    let start = c .before .before .before .before .before .before .before .before .before .before .before .before .before .before .before in
+    let f = start .pre .3 .few in let s = start .pre .3 .filled .sized .few in let h = start .pre .2 in omega arith
 
 same-length : tie.Need-same-length
 same-length c = search needs
 
 returns : tie.Need-returns
 returns c =
-    let a = c .before .before .before .before .before .before .before .before .before .before .before .before .before .before .before .args in
-    let p = c .before .before .before .before .before .before .before .before .before .before .before .before .before .before .before .pre in
-    let added = c .before .before .before .before .before .before .before .before .before .before .before .before .before .added-space .ensures in
-    let passed = c .before .before .before .before .before .before .before .before .pass .ensures in
-    let begins = rw (c .before .before .before .before .before .before .turn-of .ensures .0) at (c .before .before .before .before .again .ensures) in
+    let at-again = c .before .before .before .before in
+    let at-turn-of = at-again .before .before in
+    let at-if = at-turn-of .before in
+    let at-pass = at-if .before in
+    let at-added-space = at-pass .before .before .before .before .before in
+    let start = at-added-space .before .before in
+    let a = start .args in
+    let p = start .pre in
+    let added = at-added-space .added-space .ensures in
+    let passed = at-pass .pass .ensures in
+    let begins = rw (at-turn-of .turn-of .ensures .0) at (at-again .again .ensures) in
     let stored = ap tableIn (c .before .before .store-break .ensures) ∙ table-record (a .breaks .now) (a .s .size) _ (room (a .g) (a .last) (a .sentence) (a .i) (a .gap) (a .word) (a .s) (tableIn (a .breaks .now)) (p .1) (p .2) (p .3) (p .4) _ (added .most) (added .is) _ refl _ passed) in
-    round-again (a .g) (a .last) (a .sentence) (a .i) (a .gap) (a .word) (a .s) (tableIn (a .breaks .now)) (p .1) (p .2) (p .3) (p .4) _ (added .most) (added .is) _ refl _ passed (c .before .before .before .before .before .before .before .if1 .taken) _ _ begins _ stored
+    round-again (a .g) (a .last) (a .sentence) (a .i) (a .gap) (a .word) (a .s) (tableIn (a .breaks .now)) (p .1) (p .2) (p .3) (p .4) _ (added .most) (added .is) _ refl _ passed (at-if .if1 .taken) _ _ begins _ stored
 
 -- the last word
 
@@ -82,16 +105,21 @@ same-length-2 c = search needs
 
 returns-2 : tie.Need-returns-2
 returns-2 c =
-    let a = c .before .before .before .before .before .before .before .before .before .args in
-    let p = c .before .before .before .before .before .before .before .before .before .pre in
-    let added = c .before .before .before .before .before .before .before .added-space .ensures in
+    let at-added-space = c .before .before .before .before .before .before .before in
+    let start = at-added-space .before .before in
+    let a = start .args in
+    let p = start .pre in
+    let added = at-added-space .added-space .ensures in
     let passed = c .before .before .pass .ensures in
     round-last (a .g) (a .last) (a .sentence) (a .i) (a .gap) (a .word) (a .s) (tableIn (a .breaks .now)) (p .1) (p .2) (p .3) (p .4) _ (added .most) (added .is) _ refl _ passed (c .before .if1 .left) (c .if2 .taken)
 
 -- no line is long enough
 
 add-if3 : tie.Need-add-if3
-add-if3 c = let p = c .before .before .before .before .before .before .before .before .before .before .pre in let h = p .4 in let m = c .before .before .before .before .before .before .before .before .added-space .ensures .most in let i = p .0 .indent in omega arith
+add-if3 c =
+    let at-added-space = c .before .before .before .before .before .before .before .before in
+    let start = at-added-space .before .before in
+    let p = start .pre in let h = p .4 in let m = at-added-space .added-space .ensures .most in let i = p .0 .indent in omega arith
 
 sub-if3 : tie.Need-sub-if3
 sub-if3 c = let o = c .before .before .before .before .before .before .before .before .before .before .before .pre .0 .over in omega arith
@@ -101,106 +129,155 @@ sub-if3-2 c = let l = c .before .before .before .before .before .before .before 
 
 number-requires : tie.Need-number-requires
 number-requires c κs =
-    let a = c .before .before .before .before .before .before .before .before .before .before .before .before .before .args in
-    let p = c .before .before .before .before .before .before .before .before .before .before .before .before .before .pre in
-    let added = c .before .before .before .before .before .before .before .before .before .before .before .added-space .ensures in
-    let passed = c .before .before .before .before .before .before .pass .ensures in
+    let at-if = c .before .before .before .before .before in
+    let at-pass = at-if .before in
+    let at-added-space = at-pass .before .before .before .before .before in
+    let start = at-added-space .before .before in
+    let a = start .args in
+    let p = start .pre in
+    let added = at-added-space .added-space .ensures in
+    let passed = at-pass .pass .ensures in
     let room = room (a .g) (a .last) (a .sentence) (a .i) (a .gap) (a .word) (a .s) (tableIn (a .breaks .now)) (p .1) (p .2) (p .3) (p .4) _ (added .most) (added .is) _ refl _ passed in
-    let stay = inside (a .g) (a .last) (a .sentence) (a .i) (a .gap) (a .word) (a .s) (tableIn (a .breaks .now)) (p .1) (p .2) (p .3) (p .4) _ (added .most) (added .is) _ refl _ passed (c .before .before .before .before .before .if1 .left) in
-    (has-room (a .breaks .now) (c .before .before .before .before .before .before .pass .result) (omega arith), omega arith)
+    let stay = inside (a .g) (a .last) (a .sentence) (a .i) (a .gap) (a .word) (a .s) (tableIn (a .breaks .now)) (p .1) (p .2) (p .3) (p .4) _ (added .most) (added .is) _ refl _ passed (at-if .if1 .left) in
+    (has-room (a .breaks .now) (at-pass .pass .result) (omega arith), omega arith)
 
 add-if3-2 : tie.Need-add-if3-2
-add-if3-2 c = let m = c .number .ensures .1 in let w = c .before .before .before .before .before .before .before .before .before .before .before .before .before .before .pre .0 .wide in let o = c .before .before .before .before .before .before .before .before .before .before .before .before .before .before .pre .0 .over in omega arith
+add-if3-2 c =
+    let start = c .before .before .before .before .before .before .before .before .before .before .before .before .before .before in
+    let m = c .number .ensures .1 in let w = start .pre .0 .wide in let o = start .pre .0 .over in omega arith
 
 same-length-3 : tie.Need-same-length-3
 same-length-3 c = search needs
 
 returns-3 : tie.Need-returns-3
 returns-3 c =
-    let a = c .before .before .before .before .before .before .before .before .before .before .before .before .before .before .before .args in
-    let p = c .before .before .before .before .before .before .before .before .before .before .before .before .before .before .before .pre in
-    let added = c .before .before .before .before .before .before .before .before .before .before .before .before .before .added-space .ensures in
-    let passed = c .before .before .before .before .before .before .before .before .pass .ensures in
+    let at-if = c .before .before .before .before .before .before in
+    let at-if1 = at-if .before in
+    let at-pass = at-if1 .before in
+    let at-added-space = at-pass .before .before .before .before .before in
+    let start = at-added-space .before .before in
+    let a = start .args in
+    let p = start .pre in
+    let added = at-added-space .added-space .ensures in
+    let passed = at-pass .pass .ensures in
     let room = room (a .g) (a .last) (a .sentence) (a .i) (a .gap) (a .word) (a .s) (tableIn (a .breaks .now)) (p .1) (p .2) (p .3) (p .4) _ (added .most) (added .is) _ refl _ passed in
-    let stay = inside (a .g) (a .last) (a .sentence) (a .i) (a .gap) (a .word) (a .s) (tableIn (a .breaks .now)) (p .1) (p .2) (p .3) (p .4) _ (added .most) (added .is) _ refl _ passed (c .before .before .before .before .before .before .before .if1 .left) in
-    let e = columns-at (a .breaks .now) (c .before .before .before .before .before .before .before .before .pass .result) (omega arith) in
+    let stay = inside (a .g) (a .last) (a .sentence) (a .i) (a .gap) (a .word) (a .s) (tableIn (a .breaks .now)) (p .1) (p .2) (p .3) (p .4) _ (added .most) (added .is) _ refl _ passed (at-if1 .if1 .left) in
+    let e = columns-at (a .breaks .now) (at-pass .pass .result) (omega arith) in
     let n = c .before .number .ensures .0 in
     let h = c .if3 .taken in
-    round-short (a .g) (a .last) (a .sentence) (a .i) (a .gap) (a .word) (a .s) (tableIn (a .breaks .now)) (p .1) (p .2) (p .3) (p .4) _ (added .most) (added .is) _ refl _ passed (c .before .before .before .before .before .before .before .if1 .left) (c .before .before .before .before .before .before .if2 .left) (omega arith)
+    round-short (a .g) (a .last) (a .sentence) (a .i) (a .gap) (a .word) (a .s) (tableIn (a .breaks .now)) (p .1) (p .2) (p .3) (p .4) _ (added .most) (added .is) _ refl _ passed (at-if1 .if1 .left) (at-if .if2 .left) (omega arith)
 
 -- one break more
 
 turn-of-requires-2 : tie.Need-turn-of-requires-2
 turn-of-requires-2 c κs =
-    let a = c .before .before .before .before .before .before .before .before .before .before .before .before .before .before .before .args in
-    let p = c .before .before .before .before .before .before .before .before .before .before .before .before .before .before .before .pre in
-    let added = c .before .before .before .before .before .before .before .before .before .before .before .before .before .added-space .ensures in
-    let passed = c .before .before .before .before .before .before .before .before .pass .ensures in
+    let at-pass = c .before .before .before .before .before .before .before .before in
+    let at-added-space = at-pass .before .before .before .before .before in
+    let start = at-added-space .before .before in
+    let a = start .args in
+    let p = start .pre in
+    let added = at-added-space .added-space .ensures in
+    let passed = at-pass .pass .ensures in
     (p .0, turnable (a .g) (a .last) (a .sentence) (a .i) (a .gap) (a .word) (a .s) (tableIn (a .breaks .now)) (p .1) (p .2) (p .3) (p .4) _ (added .most) (added .is) _ refl _ passed)
 
 best-offer-requires : tie.Need-best-offer-requires
 best-offer-requires c κs =
-    let a = c .before .before .before .before .before .before .before .before .before .before .before .before .before .before .before .before .before .args in
-    let p = c .before .before .before .before .before .before .before .before .before .before .before .before .before .before .before .before .before .pre in
-    let added = c .before .before .before .before .before .before .before .before .before .before .before .before .before .before .before .added-space .ensures in
-    let passed = c .before .before .before .before .before .before .before .before .before .before .pass .ensures in
+    let at-if = c .before .before .before .before .before .before .before .before in
+    let at-if1 = at-if .before in
+    let at-pass = at-if1 .before in
+    let at-added-space = at-pass .before .before .before .before .before in
+    let start = at-added-space .before .before in
+    let a = start .args in
+    let p = start .pre in
+    let added = at-added-space .added-space .ensures in
+    let passed = at-pass .pass .ensures in
     let turn = c .before .turn-of2 .ensures in
-    rw (turn .0) (stays (a .g) (a .last) (a .sentence) (a .i) (a .gap) (a .word) (a .s) (tableIn (a .breaks .now)) (p .1) (p .2) (p .3) (p .4) _ (added .most) (added .is) _ refl _ passed (c .before .before .before .before .before .before .before .before .before .if1 .left) (p .0) (c .before .before .before .before .before .before .before .before .if2 .left) _ (rw (turn .0) at (turn .1)))
+    rw (turn .0) (stays (a .g) (a .last) (a .sentence) (a .i) (a .gap) (a .word) (a .s) (tableIn (a .breaks .now)) (p .1) (p .2) (p .3) (p .4) _ (added .most) (added .is) _ refl _ passed (at-if1 .if1 .left) (p .0) (at-if .if2 .left) _ (rw (turn .0) at (turn .1)))
 
 add-made : tie.Need-add-made
-add-made c = let h = c .before .before .before .before .before .before .before .before .before .before .before .before .before .before .before .before .before .before .pre .4 in let m = c .before .before .before .before .before .before .before .before .before .before .before .before .before .before .before .before .added-space .ensures .most in omega arith
+add-made c =
+    let at-added-space = c .before .before .before .before .before .before .before .before .before .before .before .before .before .before .before .before in
+    let start = at-added-space .before .before in
+    let h = start .pre .4 in let m = at-added-space .added-space .ensures .most in omega arith
 
 made-requires : tie.Need-made-requires
 made-requires c κs =
-    let a = c .before .before .before .before .before .before .before .before .before .before .before .before .before .before .before .before .before .before .args in
-    let p = c .before .before .before .before .before .before .before .before .before .before .before .before .before .before .before .before .before .before .pre in
-    let added = c .before .before .before .before .before .before .before .before .before .before .before .before .before .before .before .before .added-space .ensures in
-    let passed = c .before .before .before .before .before .before .before .before .before .before .before .pass .ensures in
+    let at-if = c .before .before .before in
+    let at-number = at-if .before in
+    let at-if2 = at-number .before .before .before .before .before in
+    let at-if1 = at-if2 .before in
+    let at-pass = at-if1 .before in
+    let at-added-space = at-pass .before .before .before .before .before in
+    let start = at-added-space .before .before in
+    let a = start .args in
+    let p = start .pre in
+    let added = at-added-space .added-space .ensures in
+    let passed = at-pass .pass .ensures in
     let turn = c .before .before .turn-of2 .ensures in
     let offered = rw (turn .0) at (c .best-offer .ensures) in
     let room = room (a .g) (a .last) (a .sentence) (a .i) (a .gap) (a .word) (a .s) (tableIn (a .breaks .now)) (p .1) (p .2) (p .3) (p .4) _ (added .most) (added .is) _ refl _ passed in
-    let stay = inside (a .g) (a .last) (a .sentence) (a .i) (a .gap) (a .word) (a .s) (tableIn (a .breaks .now)) (p .1) (p .2) (p .3) (p .4) _ (added .most) (added .is) _ refl _ passed (c .before .before .before .before .before .before .before .before .before .before .if1 .left) in
-    let e = columns-at (a .breaks .now) (c .before .before .before .before .before .before .before .before .before .before .before .pass .result) (omega arith) in
-    let n = c .before .before .before .before .number .ensures .0 in
-    let h = c .before .before .before .if3 .left in
-    offered .fits (has-offer (a .g) (a .last) (a .sentence) (a .i) (a .gap) (a .word) (a .s) (tableIn (a .breaks .now)) (p .1) (p .2) (p .3) (p .4) _ (added .most) (added .is) _ refl _ passed (c .before .before .before .before .before .before .before .before .before .before .if1 .left) (p .0) (c .before .before .before .before .before .before .before .before .before .if2 .left) _ (rw (turn .0) at (turn .1)) (omega arith) _ offered) .ratio
+    let stay = inside (a .g) (a .last) (a .sentence) (a .i) (a .gap) (a .word) (a .s) (tableIn (a .breaks .now)) (p .1) (p .2) (p .3) (p .4) _ (added .most) (added .is) _ refl _ passed (at-if1 .if1 .left) in
+    let e = columns-at (a .breaks .now) (at-pass .pass .result) (omega arith) in
+    let n = at-number .number .ensures .0 in
+    let h = at-if .if3 .left in
+    offered .fits (has-offer (a .g) (a .last) (a .sentence) (a .i) (a .gap) (a .word) (a .s) (tableIn (a .breaks .now)) (p .1) (p .2) (p .3) (p .4) _ (added .most) (added .is) _ refl _ passed (at-if1 .if1 .left) (p .0) (at-if2 .if2 .left) _ (rw (turn .0) at (turn .1)) (omega arith) _ offered) .ratio
 
 store-break-requires-2 : tie.Need-store-break-requires-2
 store-break-requires-2 c κs =
-    let a = c .before .before .before .before .before .before .before .before .before .before .before .before .before .before .before .before .before .before .before .before .args in
-    let p = c .before .before .before .before .before .before .before .before .before .before .before .before .before .before .before .before .before .before .before .before .pre in
-    let added = c .before .before .before .before .before .before .before .before .before .before .before .before .before .before .before .before .before .before .added-space .ensures in
-    let passed = c .before .before .before .before .before .before .before .before .before .before .before .before .before .pass .ensures in
-    let turn = c .before .before .before .before .turn-of2 .ensures in
+    let at-turn-of = c .before .before .before .before in
+    let at-if = at-turn-of .before in
+    let at-number = at-if .before in
+    let at-if2 = at-number .before .before .before .before .before in
+    let at-if1 = at-if2 .before in
+    let at-pass = at-if1 .before in
+    let at-added-space = at-pass .before .before .before .before .before in
+    let start = at-added-space .before .before in
+    let a = start .args in
+    let p = start .pre in
+    let added = at-added-space .added-space .ensures in
+    let passed = at-pass .pass .ensures in
+    let turn = at-turn-of .turn-of2 .ensures in
     let offered = rw (turn .0) at (c .before .before .best-offer .ensures) in
     let room = room (a .g) (a .last) (a .sentence) (a .i) (a .gap) (a .word) (a .s) (tableIn (a .breaks .now)) (p .1) (p .2) (p .3) (p .4) _ (added .most) (added .is) _ refl _ passed in
-    let stay = inside (a .g) (a .last) (a .sentence) (a .i) (a .gap) (a .word) (a .s) (tableIn (a .breaks .now)) (p .1) (p .2) (p .3) (p .4) _ (added .most) (added .is) _ refl _ passed (c .before .before .before .before .before .before .before .before .before .before .before .before .if1 .left) in
-    let e = columns-at (a .breaks .now) (c .before .before .before .before .before .before .before .before .before .before .before .before .before .pass .result) (omega arith) in
-    let n = c .before .before .before .before .before .before .number .ensures .0 in
-    let h = c .before .before .before .before .before .if3 .left in
-    (has-room (a .breaks .now) (a .s .size) room, made-fits (a .g) (a .last) (a .sentence) (a .i) (a .gap) (a .word) (a .s) (tableIn (a .breaks .now)) (p .1) (p .2) (p .3) (p .4) _ (added .most) (added .is) _ refl _ passed (c .before .before .before .before .before .before .before .before .before .before .before .before .if1 .left) (p .0) (c .before .before .before .before .before .before .before .before .before .before .before .if2 .left) _ (rw (turn .0) at (turn .1)) (omega arith) _ offered _ (c .before .made .ensures))
+    let stay = inside (a .g) (a .last) (a .sentence) (a .i) (a .gap) (a .word) (a .s) (tableIn (a .breaks .now)) (p .1) (p .2) (p .3) (p .4) _ (added .most) (added .is) _ refl _ passed (at-if1 .if1 .left) in
+    let e = columns-at (a .breaks .now) (at-pass .pass .result) (omega arith) in
+    let n = at-number .number .ensures .0 in
+    let h = at-if .if3 .left in
+    (has-room (a .breaks .now) (a .s .size) room, made-fits (a .g) (a .last) (a .sentence) (a .i) (a .gap) (a .word) (a .s) (tableIn (a .breaks .now)) (p .1) (p .2) (p .3) (p .4) _ (added .most) (added .is) _ refl _ passed (at-if1 .if1 .left) (p .0) (at-if2 .if2 .left) _ (rw (turn .0) at (turn .1)) (omega arith) _ offered _ (c .before .made .ensures))
 
 add-t19 : tie.Need-add-t19
-add-t19 c = let f = c .before .before .before .before .before .before .before .before .before .before .before .before .before .before .before .before .before .before .before .before .before .before .before .pre .3 .few in let s = c .before .before .before .before .before .before .before .before .before .before .before .before .before .before .before .before .before .before .before .before .before .before .before .pre .3 .filled .sized .few in let h = c .before .before .before .before .before .before .before .before .before .before .before .before .before .before .before .before .before .before .before .before .before .before .before .pre .2 in omega arith
+add-t19 c =
+    let start = c .before .before .before .before .before .before .before .before .before .before .before .before .before .before .before .before .before .before .before .before .before .before .before in
+    let f = start .pre .3 .few in let s = start .pre .3 .filled .sized .few in let h = start .pre .2 in omega arith
 
 same-length-4 : tie.Need-same-length-4
 same-length-4 c = search needs
 
 returns-4 : tie.Need-returns-4
 returns-4 c =
-    let a = c .before .before .before .before .before .before .before .before .before .before .before .before .before .before .before .before .before .before .before .before .before .before .before .args in
-    let p = c .before .before .before .before .before .before .before .before .before .before .before .before .before .before .before .before .before .before .before .before .before .before .before .pre in
-    let added = c .before .before .before .before .before .before .before .before .before .before .before .before .before .before .before .before .before .before .before .before .before .added-space .ensures in
-    let passed = c .before .before .before .before .before .before .before .before .before .before .before .before .before .before .before .before .pass .ensures in
-    let turn = c .before .before .before .before .before .before .before .turn-of2 .ensures in
-    let offered = rw (turn .0) at (c .before .before .before .before .before .best-offer .ensures) in
+    let at-made = c .before .before .before .before in
+    let at-best-offer = at-made .before in
+    let at-turn-of = at-best-offer .before .before in
+    let at-if = at-turn-of .before in
+    let at-number = at-if .before in
+    let at-if2 = at-number .before .before .before .before .before in
+    let at-if1 = at-if2 .before in
+    let at-pass = at-if1 .before in
+    let at-added-space = at-pass .before .before .before .before .before in
+    let start = at-added-space .before .before in
+    let a = start .args in
+    let p = start .pre in
+    let added = at-added-space .added-space .ensures in
+    let passed = at-pass .pass .ensures in
+    let turn = at-turn-of .turn-of2 .ensures in
+    let offered = rw (turn .0) at (at-best-offer .best-offer .ensures) in
     let room = room (a .g) (a .last) (a .sentence) (a .i) (a .gap) (a .word) (a .s) (tableIn (a .breaks .now)) (p .1) (p .2) (p .3) (p .4) _ (added .most) (added .is) _ refl _ passed in
-    let stay = inside (a .g) (a .last) (a .sentence) (a .i) (a .gap) (a .word) (a .s) (tableIn (a .breaks .now)) (p .1) (p .2) (p .3) (p .4) _ (added .most) (added .is) _ refl _ passed (c .before .before .before .before .before .before .before .before .before .before .before .before .before .before .before .if1 .left) in
-    let e = columns-at (a .breaks .now) (c .before .before .before .before .before .before .before .before .before .before .before .before .before .before .before .before .pass .result) (omega arith) in
-    let n = c .before .before .before .before .before .before .before .before .before .number .ensures .0 in
-    let h = c .before .before .before .before .before .before .before .before .if3 .left in
+    let stay = inside (a .g) (a .last) (a .sentence) (a .i) (a .gap) (a .word) (a .s) (tableIn (a .breaks .now)) (p .1) (p .2) (p .3) (p .4) _ (added .most) (added .is) _ refl _ passed (at-if1 .if1 .left) in
+    let e = columns-at (a .breaks .now) (at-pass .pass .result) (omega arith) in
+    let n = at-number .number .ensures .0 in
+    let h = at-if .if3 .left in
     let stored = ap tableIn (c .before .before .store-break2 .ensures) ∙ table-record (a .breaks .now) (a .s .size) _ room in
-    round-made (a .g) (a .last) (a .sentence) (a .i) (a .gap) (a .word) (a .s) (tableIn (a .breaks .now)) (p .1) (p .2) (p .3) (p .4) _ (added .most) (added .is) _ refl _ passed (c .before .before .before .before .before .before .before .before .before .before .before .before .before .before .before .if1 .left) (p .0) (c .before .before .before .before .before .before .before .before .before .before .before .before .before .before .if2 .left) _ (rw (turn .0) at (turn .1)) (omega arith) _ offered _ (c .before .before .before .before .made .ensures) _ stored
+    round-made (a .g) (a .last) (a .sentence) (a .i) (a .gap) (a .word) (a .s) (tableIn (a .breaks .now)) (p .1) (p .2) (p .3) (p .4) _ (added .most) (added .is) _ refl _ passed (at-if1 .if1 .left) (p .0) (at-if2 .if2 .left) _ (rw (turn .0) at (turn .1)) (omega arith) _ offered _ (at-made .made .ensures) _ stored
 
 pub round-spec : {M : Type 1} → statement M
 round-spec =

@@ -45,32 +45,40 @@ part-store-break-end c = let r = c .before .before .before .pre .2 .room in omeg
 
 store-break-requires : tie.Need-store-break-requires Inv-loop μ-loop
 store-break-requires c κs =
-    let a = c .before .before .before .before .args in
-    let p = c .before .before .before .before .pre in
+    let start = c .before .before .before .before in
+    let a = start .args in
+    let p = start .pre in
     let i = p .0 .indent in
     let some = p .1 in
     let e = part-length (a .n) (a .work .now) (p .2) in
     (rw e (omega arith), record { previous = omega arith; word = omega arith; columns = omega arith })
 
 add-t16 : tie.Need-add-t16 Inv-loop μ-loop
-add-t16 c = let f = c .before .before .before .before .before .before .before .before .before .pre .0 .first in let w = c .before .before .before .before .before .before .get .ensures .small .width in omega arith
+add-t16 c =
+    let at-get = c .before .before .before .before .before .before in
+    let start = at-get .before .before .before in
+    let f = start .pre .0 .first in let w = at-get .get .ensures .small .width in omega arith
 
 loop-holds : tie.Need-loop-holds Inv-loop μ-loop
 unfolding ofBits
 loop-holds c =
-    let a = c .before .before .before .before .before .before .before .before .before .args in
-    let p = c .before .before .before .before .before .before .before .before .before .pre in
-    let worked = worked-home (a .n) (a .work .now) (p .2) (c .before .before .before .before .store-break .last .0) _ (c .before .before .before .work .given .0) refl in
-    let home = part-home (a .n) (a .work .now) (p .2) (c .before .before .before .before .store-break .last .0) _ (c .before .before .before .work .given .0) refl in
+    let at-work = c .before .before .before in
+    let at-store-break = at-work .before in
+    let at-get = at-store-break .before .before in
+    let start = at-get .before .before .before in
+    let a = start .args in
+    let p = start .pre in
+    let worked = worked-home (a .n) (a .work .now) (p .2) (at-store-break .store-break .last .0) _ (at-work .work .given .0) refl in
+    let home = part-home (a .n) (a .work .now) (p .2) (at-store-break .store-break .last .0) _ (at-work .work .given .0) refl in
     let some = p .1 in
     let room = part-room (a .n) (a .work .now) (p .2) in
-    let stored = ap tableIn (home ∙ c .before .before .before .before .store-break .ensures) ∙ table-record (recordsPart (a .n) (a .work .now)) 0 _ (rw room (omega arith)) in (
+    let stored = ap tableIn (home ∙ at-store-break .store-break .ensures) ∙ table-record (recordsPart (a .n) (a .work .now)) 0 _ (rw room (omega arith)) in (
       omega arith,
       p .1,
       worked-lent (a .n) (a .work .now) _ worked (p .2),
       worked-none (a .n) _,
       along-start (a .g) (a .n) _ (p .0) (regular-then (a .n) (a .work .now) _ worked (a .g) (p .4)) (p .1) 0 refl (tableIn (recordsPart (a .n) (a .work .now))) (part-sized (a .n) (a .work .now) (p .2)) (rw room (omega arith)) _ _
-          (c .before .before .before .before .before .before .get .ensures .is ∙ sym (worked-word (a .n) (a .work .now) _ worked 0 (p .1))) stored,
+          (at-get .get .ensures .is ∙ sym (worked-word (a .n) (a .work .now) _ worked 0 (p .1))) stored,
     )
 
 get-requires-2 : tie.Need-get-requires-2 Inv-loop μ-loop
@@ -78,12 +86,17 @@ get-requires-2 c κs = let r = c .before .before .loop .inv .2 .room in let t = 
 
 gap-behind-requires : tie.Need-gap-behind-requires Inv-loop μ-loop
 gap-behind-requires c κs =
-    let lent = c .before .before .before .before .loop .inv .2 in
+    let at-loop-test = c .before .before .before in
+    let at-loop = at-loop-test .before in
+    let lent = at-loop .loop .inv .2 in
     let r = lent .room in
-    (c .before .before .before .loop-test .taken, omega arith, lent .few)
+    (at-loop-test .loop-test .taken, omega arith, lent .few)
 
 add-round : tie.Need-add-round Inv-loop μ-loop
-add-round c = let f = c .before .before .before .before .before .loop .inv .2 .few in let t = c .before .before .before .before .loop-test .taken in omega arith
+add-round c =
+    let at-loop-test = c .before .before .before .before in
+    let at-loop = at-loop-test .before in
+    let f = at-loop .loop .inv .2 .few in let t = at-loop-test .loop-test .taken in omega arith
 
 mul-round : tie.Need-mul-round Inv-loop μ-loop
 mul-round c = let f = c .before .before .before .before .before .loop .inv .2 .few in omega arith
@@ -99,14 +112,20 @@ part-round-end c = let r = c .before .before .before .before .before .loop .inv 
 
 round-requires : tie.Need-round-requires Inv-loop μ-loop
 round-requires c κs =
-    let a = c .before .before .before .before .before .before .before .before .before .before .before .before .before .before .before .before .args in
-    let p = c .before .before .before .before .before .before .before .before .before .before .before .before .before .before .before .before .pre in
-    let l = c .before .before .before .before .before .before .loop in
+    let at-get = c .before .before .before in
+    let at-loop-test = at-get .before .before in
+    let at-loop = at-loop-test .before in
+    let at-work = at-loop .before .before .before .before in
+    let at-store-break = at-work .before in
+    let start = at-store-break .before .before .before .before .before in
+    let a = start .args in
+    let p = start .pre in
+    let l = at-loop .loop in
     let v = l .inv in
-    let t = c .before .before .before .before .before .loop-test .taken in
-    let first = worked-home (a .n) (a .work .now) (p .2) (c .before .before .before .before .before .before .before .before .before .before .before .store-break .last .0) _ (c .before .before .before .before .before .before .before .before .before .before .work .given .0) refl in
+    let t = at-loop-test .loop-test .taken in
+    let first = worked-home (a .n) (a .work .now) (p .2) (at-store-break .store-break .last .0) _ (at-work .work .given .0) refl in
     let regular = regular-then (a .n) (a .work .now) _ first (a .g) (p .4) in
-    let got = c .before .before .before .get2 .ensures in
+    let got = at-get .get2 .ensures in
     let word = got .is ∙ worked-word (a .n) _ (l .work) (v .3) (l .i) t in
     let gap = c .before .gap-behind .ensures ∙ gap-same (a .n) _ (l .work) (v .3) (l .i) in (
       p .0,
@@ -122,52 +141,72 @@ round-requires c κs =
 
 sentence-behind-requires : tie.Need-sentence-behind-requires Inv-loop μ-loop
 sentence-behind-requires c κs =
-    let a = c .before .before .before .before .before .before .before .before .before .before .before .before .before .before .before .before .before .before .before .before .args in
-    let l = c .before .before .before .before .before .before .before .before .before .before .loop in
+    let at-round = c .before .before .before in
+    let at-loop-test = at-round .before .before .before .before .before .before in
+    let at-loop = at-loop-test .before in
+    let start = at-loop .before .before .before .before .before .before .before .before .before .before in
+    let a = start .args in
+    let l = at-loop .loop in
     let v = l .inv in
-    let e = (worked-home (a .n) (l .work) (v .2) (c .before .before .before .round .last .1 .1 .1 .1 .1 .1 .1 .0) _ (c .before .before .work2 .given .0) refl) .sized in
+    let e = (worked-home (a .n) (l .work) (v .2) (at-round .round .last .1 .1 .1 .1 .1 .1 .1 .0) _ (c .before .before .work2 .given .0) refl) .sized in
     let r = v .2 .room in
-    (c .before .before .before .before .before .before .before .before .before .loop-test .taken, omega arith)
+    (at-loop-test .loop-test .taken, omega arith)
 
 add-i : tie.Need-add-i Inv-loop μ-loop
-add-i c = let f = c .before .before .before .before .before .before .before .before .before .before .before .before .before .before .before .before .before .before .before .before .before .pre .2 .few in let t = c .before .before .before .before .before .before .before .before .before .before .loop-test .taken in omega arith
+add-i c =
+    let at-loop-test = c .before .before .before .before .before .before .before .before .before .before in
+    let start = at-loop-test .before .before .before .before .before .before .before .before .before .before .before in
+    let f = start .pre .2 .few in let t = at-loop-test .loop-test .taken in omega arith
 
 loop-less : tie.Need-loop-less Inv-loop μ-loop
 loop-less c = let t = c .before .before .before .before .before .before .before .before .before .before .loop-test .taken in omega arith
 
 loop-again : tie.Need-loop-again Inv-loop μ-loop
 loop-again c =
-    let a = c .before .before .before .before .before .before .before .before .before .before .before .before .before .before .before .before .before .before .before .before .before .args in
-    let l = c .before .before .before .before .before .before .before .before .before .before .before .loop in
+    let at-work = c .before .before .before in
+    let at-round = at-work .before in
+    let at-gap-behind = at-round .before .before in
+    let at-get = at-gap-behind .before .before in
+    let at-loop-test = at-get .before .before in
+    let at-loop = at-loop-test .before in
+    let start = at-loop .before .before .before .before .before .before .before .before .before .before in
+    let a = start .args in
+    let l = at-loop .loop in
     let v = l .inv in
-    let t = c .before .before .before .before .before .before .before .before .before .before .loop-test .taken in
-    let next = worked-home (a .n) (l .work) (v .2) (c .before .before .before .before .round .last .1 .1 .1 .1 .1 .1 .1 .0) _ (c .before .before .before .work2 .given .0) refl in
-    let home = part-home (a .n) (l .work) (v .2) (c .before .before .before .before .round .last .1 .1 .1 .1 .1 .1 .1 .0) _ (c .before .before .before .work2 .given .0) refl in
-    let got = c .before .before .before .before .before .before .before .before .get2 .ensures in
+    let t = at-loop-test .loop-test .taken in
+    let next = worked-home (a .n) (l .work) (v .2) (at-round .round .last .1 .1 .1 .1 .1 .1 .1 .0) _ (at-work .work2 .given .0) refl in
+    let home = part-home (a .n) (l .work) (v .2) (at-round .round .last .1 .1 .1 .1 .1 .1 .1 .0) _ (at-work .work2 .given .0) refl in
+    let got = at-get .get2 .ensures in
     let word = got .is ∙ worked-word (a .n) _ (l .work) (v .3) (l .i) t in
-    let gap = c .before .before .before .before .before .before .gap-behind .ensures ∙ gap-same (a .n) _ (l .work) (v .3) (l .i) in (
+    let gap = at-gap-behind .gap-behind .ensures ∙ gap-same (a .n) _ (l .work) (v .3) (l .i) in (
       omega arith,
       omega arith,
       worked-lent (a .n) (l .work) _ next (v .2),
       worked-then (a .n) _ (l .work) (v .3) _ next,
       along-next (a .g) (a .n) _ (l .i) (l .sentence) (l .s) (tableIn (recordsPart (a .n) (l .work))) (v .4) t _ _ _
-          (rw (home, ← word, ← gap) (c .before .before .before .before .round .ensures))
+          (rw (home, ← word, ← gap) (at-round .round .ensures))
           (λ notes. behind-home (a .n) _ (l .work) _ _ (v .3) next home (l .i) t _ (got .is) notes _ (c .sentence-behind .ensures notes)),
     )
 
 same-length : tie.Need-same-length Inv-loop μ-loop
 same-length c =
-    let a = c .before .before .before .before .before .before .before .before .before .before .before .args in
-    let p = c .before .before .before .before .before .before .before .before .before .before .before .pre in
-    c .before .loop .inv .3 .sized ∙ (worked-home (a .n) (a .work .now) (p .2) (c .before .before .before .before .before .before .store-break .last .0) _ (c .before .before .before .before .before .work .given .0) refl) .sized
+    let at-work = c .before .before .before .before .before in
+    let at-store-break = at-work .before in
+    let start = at-store-break .before .before .before .before .before in
+    let a = start .args in
+    let p = start .pre in
+    c .before .loop .inv .3 .sized ∙ (worked-home (a .n) (a .work .now) (p .2) (at-store-break .store-break .last .0) _ (at-work .work .given .0) refl) .sized
 
 returns : tie.Need-returns Inv-loop μ-loop
 returns c =
-    let a = c .before .before .before .before .before .before .before .before .before .before .before .args in
-    let p = c .before .before .before .before .before .before .before .before .before .before .before .pre in
+    let at-work = c .before .before .before .before .before in
+    let at-store-break = at-work .before in
+    let start = at-store-break .before .before .before .before .before in
+    let a = start .args in
+    let p = start .pre in
     let l = c .before .loop in
     let v = l .inv in
-    let first = worked-home (a .n) (a .work .now) (p .2) (c .before .before .before .before .before .before .store-break .last .0) _ (c .before .before .before .before .before .work .given .0) refl in
+    let first = worked-home (a .n) (a .work .now) (p .2) (at-store-break .store-break .last .0) _ (at-work .work .given .0) refl in
     let room = part-room (a .n) (l .work) (v .2) in
     let are = intervals-are (a .g) (a .n) _ (p .0) (regular-then (a .n) (a .work .now) _ first (a .g) (p .4)) (p .1) (l .i) (l .sentence) (l .s) (tableIn (recordsPart (a .n) (l .work))) (v .1) (c .loop-test .left) (omega arith) (v .4) in
     (intervals-then (a .n) (a .work .now) _ first (a .g) _ _ are, worked-then (a .n) (a .work .now) _ first (l .work) (v .3))

@@ -25,16 +25,21 @@ active-requires c κs = let p = c .before .pre in let e = active-sized (c .befor
 
 loop-holds : tie.Need-loop-holds Inv-loop μ-loop
 loop-holds c =
-    let h = c .before .before .pre .some in
-    (omega arith, rw (c .active .ensures) (active-below (c .before .before .args .st) (tableIn (c .before .before .args .breaks .now)) (activeIn (c .before .before .args .breaks .now)) (c .before .before .pre) 0 h), rw (c .active .ensures) (least-begins (c .before .before .args .st) (tableIn (c .before .before .args .breaks .now)) (activeIn (c .before .before .args .breaks .now)) (c .before .before .pre)))
+    let start = c .before .before in
+    let h = start .pre .some in
+    (omega arith, rw (c .active .ensures) (active-below (start .args .st) (tableIn (start .args .breaks .now)) (activeIn (start .args .breaks .now)) (start .pre) 0 h), rw (c .active .ensures) (least-begins (start .args .st) (tableIn (start .args .breaks .now)) (activeIn (start .args .breaks .now)) (start .pre)))
 
 active-requires-2 : tie.Need-active-requires-2 Inv-loop μ-loop
-active-requires-2 c κs = let p = c .before .before .before .before .before .pre in let e = active-sized (c .before .before .before .before .before .args .breaks .now) in omega (arith, c .if1 .taken, p .size, p .room)
+active-requires-2 c κs =
+    let start = c .before .before .before .before .before in
+    let p = start .pre in let e = active-sized (start .args .breaks .now) in omega (arith, c .if1 .taken, p .size, p .room)
 
 lesser-requires : tie.Need-lesser-requires Inv-loop μ-loop
 lesser-requires c κs =
-    let p = c .before .before .before .before .before .before .pre in
-    (omega (arith, c .before .before .before .loop .inv .1, p .size), rw (c .active2 .ensures) (omega (arith, active-below (c .before .before .before .before .before .before .args .st) (tableIn (c .before .before .before .before .before .before .args .breaks .now)) (activeIn (c .before .before .before .before .before .before .args .breaks .now)) (c .before .before .before .before .before .before .pre) (c .before .before .before .loop .k) (c .before .if1 .taken), p .size)))
+    let at-loop = c .before .before .before in
+    let start = at-loop .before .before .before in
+    let p = start .pre in
+    (omega (arith, at-loop .loop .inv .1, p .size), rw (c .active2 .ensures) (omega (arith, active-below (start .args .st) (tableIn (start .args .breaks .now)) (activeIn (start .args .breaks .now)) (start .pre) (at-loop .loop .k) (c .before .if1 .taken), p .size)))
 
 add-k : tie.Need-add-k Inv-loop μ-loop
 add-k c = let p = c .before .before .before .before .before .before .before .pre in omega (arith, c .before .before .if1 .taken, p .size, p .room, p .sized .few)
@@ -44,12 +49,16 @@ loop-less c = omega arith
 
 loop-again : tie.Need-loop-again Inv-loop μ-loop
 loop-again c =
-    let v = c .before .before .before .before .loop .inv in
-    let g = least-goes (c .before .before .before .before .before .before .before .args .st) (tableIn (c .before .before .before .before .before .before .before .args .breaks .now)) (activeIn (c .before .before .before .before .before .before .before .args .breaks .now)) (c .before .before .before .before .before .before .before .pre) (c .before .before .before .before .loop .k) (c .before .before .before .before .loop .found) (c .lesser .result) (c .before .before .if1 .taken) (rw (c .before .active2 .ensures) at (c .lesser .ensures)) (v .1) in
+    let at-loop = c .before .before .before .before in
+    let start = at-loop .before .before .before in
+    let v = at-loop .loop .inv in
+    let g = least-goes (start .args .st) (tableIn (start .args .breaks .now)) (activeIn (start .args .breaks .now)) (start .pre) (at-loop .loop .k) (at-loop .loop .found) (c .lesser .result) (c .before .before .if1 .taken) (rw (c .before .active2 .ensures) at (c .lesser .ensures)) (v .1) in
     (omega arith, g .0, g .1 ∙ v .2)
 
 returns : tie.Need-returns Inv-loop μ-loop
-returns c = let v = c .before .before .loop .inv in least-found (c .before .before .before .before .before .args .st) (tableIn (c .before .before .before .before .before .args .breaks .now)) (activeIn (c .before .before .before .before .before .args .breaks .now)) (c .before .before .before .before .before .pre) (c .before .before .loop .k) (c .before .before .loop .found) (c .if1 .left) (v .1) (v .2)
+returns c =
+    let start = c .before .before .before .before .before in
+    let v = c .before .before .loop .inv in least-found (start .args .st) (tableIn (start .args .breaks .now)) (activeIn (start .args .breaks .now)) (start .pre) (c .before .before .loop .k) (c .before .before .loop .found) (c .if1 .left) (v .1) (v .2)
 
 pub least-spec : {M : Type 1} → statement M
 least-spec =

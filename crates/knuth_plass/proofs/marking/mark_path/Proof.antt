@@ -43,29 +43,49 @@ part-get-break-end : tie.Need-part-get-break-end Inv-loop μ-loop
 part-get-break-end c = let r = c .before .before .before .before .pre .0 .room in let s = c .before .before .loop .inv .1 .sized in omega arith
 
 get-break-requires : tie.Need-get-break-requires Inv-loop μ-loop
-get-break-requires c κs = let v = c .before .before .before .loop .inv .0 in let h = c .before .before .before .before .before .pre .1 in rw (part-marked (c .before .before .before .before .before .args .n) (c .before .before .before .before .before .args .work .now) (c .before .before .before .loop .work) (c .before .before .before .loop .inv .1), part-room (c .before .before .before .before .before .args .n) (c .before .before .before .before .before .args .work .now) (c .before .before .before .before .before .pre .0)) (omega arith)
+get-break-requires c κs =
+    let at-loop = c .before .before .before in
+    let start = at-loop .before .before in
+    let v = at-loop .loop .inv .0 in let h = start .pre .1 in rw (part-marked (start .args .n) (start .args .work .now) (at-loop .loop .work) (at-loop .loop .inv .1), part-room (start .args .n) (start .args .work .now) (start .pre .0)) (omega arith)
 
 starts-requires : tie.Need-starts-requires Inv-loop μ-loop
-starts-requires c κs = rw (c .before .get-break .ensures, part-marked (c .before .before .before .before .before .before .before .args .n) (c .before .before .before .before .before .before .before .args .work .now) (c .before .before .before .before .before .loop .work) (c .before .before .before .before .before .loop .inv .1)) (c .before .before .before .before .before .before .before .pre .2 _ (c .before .before .before .before .loop-test .taken) (c .before .before .before .before .before .loop .inv .0) .1)
+starts-requires c κs =
+    let at-loop-test = c .before .before .before .before in
+    let at-loop = at-loop-test .before in
+    let start = at-loop .before .before in
+    rw (c .before .get-break .ensures, part-marked (start .args .n) (start .args .work .now) (at-loop .loop .work) (at-loop .loop .inv .1)) (start .pre .2 _ (at-loop-test .loop-test .taken) (at-loop .loop .inv .0) .1)
 
 mark-requires : tie.Need-mark-requires Inv-loop μ-loop
-mark-requires c κs = let r = c .before .before .before .before .before .before .before .before .pre .0 .room in let s = c .before .before .before .before .before .before .loop .inv .1 .sized in omega arith
+mark-requires c κs =
+    let at-loop = c .before .before .before .before .before .before in
+    let start = at-loop .before .before in
+    let r = start .pre .0 .room in let s = at-loop .loop .inv .1 .sized in omega arith
 
 loop-less : tie.Need-loop-less Inv-loop μ-loop
-loop-less c = rw (c .before .before .before .before .before .get-break .ensures, part-marked (c .before .before .before .before .before .before .before .before .before .before .before .args .n) (c .before .before .before .before .before .before .before .before .before .before .before .args .work .now) (c .before .before .before .before .before .before .before .before .before .loop .work) (c .before .before .before .before .before .before .before .before .before .loop .inv .1)) (c .before .before .before .before .before .before .before .before .before .before .before .pre .2 _ (c .before .before .before .before .before .before .before .before .loop-test .taken) (c .before .before .before .before .before .before .before .before .before .loop .inv .0) .0)
+loop-less c =
+    let at-get-break = c .before .before .before .before .before in
+    let at-loop-test = at-get-break .before .before .before in
+    let at-loop = at-loop-test .before in
+    let start = at-loop .before .before in
+    rw (at-get-break .get-break .ensures, part-marked (start .args .n) (start .args .work .now) (at-loop .loop .work) (at-loop .loop .inv .1)) (start .pre .2 _ (at-loop-test .loop-test .taken) (at-loop .loop .inv .0) .0)
 
 loop-again : tie.Need-loop-again Inv-loop μ-loop
 loop-again c =
-    let l = c .before .before .before .before .before .before .before .before .before .loop in
+    let at-starts = c .before .before .before in
+    let at-get-break = at-starts .before .before in
+    let at-loop-test = at-get-break .before .before .before in
+    let at-loop = at-loop-test .before in
+    let start = at-loop .before .before in
+    let l = at-loop .loop in
     let v = l .inv in
-    let t = c .before .before .before .before .before .before .before .before .loop-test .taken in
-    let table = tableIn (recordsPart (c .before .before .before .before .before .before .before .before .before .before .before .args .n) (c .before .before .before .before .before .before .before .before .before .before .before .args .work .now)) in
-    let got = c .before .before .before .before .before .get-break .ensures ∙ ap (λ (xs : List ℕ). breakIn (tableIn xs) (l .at)) (part-marked (c .before .before .before .before .before .before .before .before .before .before .before .args .n) (c .before .before .before .before .before .before .before .before .before .before .before .args .work .now) (c .before .before .before .before .before .before .before .before .before .loop .work) (c .before .before .before .before .before .before .before .before .before .loop .inv .1)) in
-    let d : c .before .before .before .before .before .get-break .result .previous < l .at = rw got (c .before .before .before .before .before .before .before .before .before .before .before .pre .2 _ t (v .0) .0) in
+    let t = at-loop-test .loop-test .taken in
+    let table = tableIn (recordsPart (start .args .n) (start .args .work .now)) in
+    let got = at-get-break .get-break .ensures ∙ ap (λ (xs : List ℕ). breakIn (tableIn xs) (l .at)) (part-marked (start .args .n) (start .args .work .now) (at-loop .loop .work) (at-loop .loop .inv .1)) in
+    let d : at-get-break .get-break .result .previous < l .at = rw got (start .pre .2 _ t (v .0) .0) in
     let m = c .before .before .mark .ensures in (
       omega arith,
-      marking-next (c .before .before .before .before .before .before .before .before .before .before .before .args .n) (c .before .before .before .before .before .before .before .before .before .before .before .args .work .now) (l .work) _ (v .1) _ m,
-      λ j h. step-back table (c .before .before .before .before .before .before .before .before .before .before .before .args .last) (l .at) j (markIn (l .work) j) _ _ _ (c .before .before .before .before .before .before .before .before .before .before .before .pre .2) t (v .0) got (c .before .before .before .starts .ensures) (m .marks j h) ∙ v .2 j h,
+      marking-next (start .args .n) (start .args .work .now) (l .work) _ (v .1) _ m,
+      λ j h. step-back table (start .args .last) (l .at) j (markIn (l .work) j) _ _ _ (start .pre .2) t (v .0) got (at-starts .starts .ensures) (m .marks j h) ∙ v .2 j h,
     )
 
 same-length : tie.Need-same-length Inv-loop μ-loop
@@ -73,11 +93,12 @@ same-length c = c .before .loop .inv .1 .sized
 
 returns : tie.Need-returns Inv-loop μ-loop
 returns c =
+    let start = c .before .before .before in
     let l = c .before .loop in
     let v = l .inv in
     record {
       sized = v .1 .sized;
-      marks = λ j h. sym (at-start (tableIn (recordsPart (c .before .before .before .args .n) (c .before .before .before .args .work .now))) (c .before .before .before .args .last) (l .at) j (markIn (l .work) j) (c .loop-test .left)) ∙ v .2 j h;
+      marks = λ j h. sym (at-start (tableIn (recordsPart (start .args .n) (start .args .work .now))) (start .args .last) (l .at) j (markIn (l .work) j) (c .loop-test .left)) ∙ v .2 j h;
       words = v .1 .words;
       beyond = v .1 .beyond;
     }

@@ -48,25 +48,31 @@ add-append c =
 
 mul-append : tie.Need-mul-append Inv-loop μ-loop
 mul-append c =
-    let f = c .before .before .before .before .before .pre .2 .few in let r = c .before .before .before .before .before .pre .2 .room in omega arith
+    let start = c .before .before .before .before .before in
+    let f = start .pre .2 .few in let r = start .pre .2 .room in omega arith
 
 sub-append : tie.Need-sub-append Inv-loop μ-loop
 sub-append c =
-    let f = c .before .before .before .before .before .pre .2 .few in let r = c .before .before .before .before .before .pre .2 .room in omega arith
+    let start = c .before .before .before .before .before in
+    let f = start .pre .2 .few in let r = start .pre .2 .room in omega arith
 
 part-append-start : tie.Need-part-append-start Inv-loop μ-loop
 part-append-start c =
-    let f = c .before .before .before .before .before .pre .2 .few in let r = c .before .before .before .before .before .pre .2 .room in omega arith
+    let start = c .before .before .before .before .before in
+    let f = start .pre .2 .few in let r = start .pre .2 .room in omega arith
 
 part-append-end : tie.Need-part-append-end Inv-loop μ-loop
 part-append-end c =
-    let f = c .before .before .before .before .before .pre .2 .few in let r = c .before .before .before .before .before .pre .2 .room in omega arith
+    let start = c .before .before .before .before .before in
+    let f = start .pre .2 .few in let r = start .pre .2 .room in omega arith
 
 append-requires : tie.Need-append-requires Inv-loop μ-loop
 append-requires c κs =
-    let p = c .before .before .before .before .before .before .pre in
-    let a = c .before .before .before .before .before .before .args in
-    let w : c .before .before .before .get .result .width < 2 ^ 31 = rw (c .before .before .before .get .ensures .is) (p .3 0 (p .1)) in
+    let at-get = c .before .before .before in
+    let start = at-get .before .before .before in
+    let p = start .pre in
+    let a = start .args in
+    let w : at-get .get .result .width < 2 ^ 31 = rw (at-get .get .ensures .is) (p .3 0 (p .1)) in
     let f = p .0 .first in
     let some = p .1 in
     let e = part-room (a .n) (a .work .now) (p .2) in
@@ -75,16 +81,19 @@ append-requires c κs =
 loop-holds : tie.Need-loop-holds Inv-loop μ-loop
 unfolding ofBits
 loop-holds c =
-    let p = c .before .before .before .before .before .before .before .before .before .pre in
-    let a = c .before .before .before .before .before .before .before .before .before .args in
-    let narrow : c .before .before .before .before .before .before .get .result .width < 2 ^ 31 = rw (c .before .before .before .before .before .before .get .ensures .is) (p .3 0 (p .1)) in (
+    let at-append = c .before .before in
+    let at-get = at-append .before .before .before .before in
+    let start = at-get .before .before .before in
+    let p = start .pre in
+    let a = start .args in
+    let narrow : at-get .get .result .width < 2 ^ 31 = rw (at-get .get .ensures .is) (p .3 0 (p .1)) in (
       omega arith,
       p .1,
-      worked-lent (a .n) (a .work .now) _ (worked-home (a .n) (a .work .now) (p .2) (c .before .before .append .last .0) _ (c .before .work .given .0) refl) (p .2),
+      worked-lent (a .n) (a .work .now) _ (worked-home (a .n) (a .work .now) (p .2) (at-append .append .last .0) _ (c .before .work .given .0) refl) (p .2),
       worked-none (a .n) _,
-      start-ready (a .g) (a .n) (a .work .now) (p .2) (p .1) (p .0) (c .before .before .before .before .before .before .get .result) (c .before .before .before .before .before .before .get .ensures .is) narrow (c .before .before .append .last .0) _ (c .before .work .given .0) refl 0 refl (c .before .before .append .ensures .0) (c .before .before .append .ensures .1),
-      start-rounds (a .g) (a .n) (a .work .now) (p .2) (p .1) (p .0) (c .before .before .before .before .before .before .get .result) (c .before .before .before .before .before .before .get .ensures .is) narrow (c .before .before .append .last .0) _ (c .before .work .given .0) refl 0 refl (c .before .before .append .ensures .0) (c .before .before .append .ensures .1),
-      λ notes. so-first (a .g) _ (a .n) notes (a .e) _ (p .1) (p .4) (start-begins (a .g) (a .n) (a .work .now) (p .2) (p .1) (p .0) (c .before .before .before .before .before .before .get .result) (c .before .before .before .before .before .before .get .ensures .is) narrow (c .before .before .append .last .0) _ (c .before .work .given .0) refl 0 refl (c .before .before .append .ensures .0) (c .before .before .append .ensures .1) notes),
+      start-ready (a .g) (a .n) (a .work .now) (p .2) (p .1) (p .0) (at-get .get .result) (at-get .get .ensures .is) narrow (at-append .append .last .0) _ (c .before .work .given .0) refl 0 refl (at-append .append .ensures .0) (at-append .append .ensures .1),
+      start-rounds (a .g) (a .n) (a .work .now) (p .2) (p .1) (p .0) (at-get .get .result) (at-get .get .ensures .is) narrow (at-append .append .last .0) _ (c .before .work .given .0) refl 0 refl (at-append .append .ensures .0) (at-append .append .ensures .1),
+      λ notes. so-first (a .g) _ (a .n) notes (a .e) _ (p .1) (p .4) (start-begins (a .g) (a .n) (a .work .now) (p .2) (p .1) (p .0) (at-get .get .result) (at-get .get .ensures .is) narrow (at-append .append .last .0) _ (c .before .work .given .0) refl 0 refl (at-append .append .ensures .0) (at-append .append .ensures .1) notes),
     )
 
 get-requires-2 : tie.Need-get-requires-2 Inv-loop μ-loop
@@ -113,18 +122,25 @@ part-told-round-end c =
 
 told-round-requires : tie.Need-told-round-requires Inv-loop μ-loop
 told-round-requires c κs =
-    let p = c .before .before .before .before .before .before .before .before .before .before .before .before .before .before .pre in
-    let a = c .before .before .before .before .before .before .before .before .before .before .before .before .before .before .args in
-    let t = c .before .before .before .loop-test .taken in
-    let l = c .before .before .before .before .loop in
+    let at-loop-test = c .before .before .before in
+    let at-loop = at-loop-test .before in
+    let at-work = at-loop .before .before in
+    let at-append = at-work .before in
+    let start = at-append .before .before .before .before .before .before .before in
+    let p = start .pre in
+    let a = start .args in
+    let t = at-loop-test .loop-test .taken in
+    let l = at-loop .loop in
     let v = l .inv in
     let w = c .before .get2 .ensures in
-    let worked = worked-then (a .n) (a .work .now) _ (worked-home (a .n) (a .work .now) (p .2) (c .before .before .before .before .before .before .before .append .last .0) _ (c .before .before .before .before .before .before .work .given .0) refl) (l .work) (v .3) in
+    let worked = worked-then (a .n) (a .work .now) _ (worked-home (a .n) (a .work .now) (p .2) (at-append .append .last .0) _ (at-work .work .given .0) refl) (l .work) (v .3) in
     (p .0, rw (part-room (a .n) (l .work) (v .2)) t, w .small, rw (w .is, worked-word (a .n) (a .work .now) (l .work) worked (l .i) t) (p .3 _ t), v .4)
 
 add-take-ending : tie.Need-add-take-ending Inv-loop μ-loop
 add-take-ending c =
-    let f = c .before .before .before .before .before .before .before .before .before .before .before .before .before .before .before .before .before .before .pre .2 .few in let t = c .before .before .before .before .before .before .before .loop-test .taken in omega arith
+    let at-loop-test = c .before .before .before .before .before .before .before in
+    let start = at-loop-test .before .before .before .before .before .before .before .before .before .before .before in
+    let f = start .pre .2 .few in let t = at-loop-test .loop-test .taken in omega arith
 
 take-ending-requires : tie.Need-take-ending-requires Inv-loop μ-loop
 take-ending-requires c κs = search needs
@@ -134,17 +150,24 @@ take-ending-requires-2 c κs = search needs
 
 sentence-behind-requires : tie.Need-sentence-behind-requires Inv-loop μ-loop
 sentence-behind-requires c κs =
-    let a = c .before .before .before .before .before .before .before .before .before .before .before .before .before .before .before .before .before .before .before .before .before .args in
-    let l = c .before .before .before .before .before .before .before .before .before .before .before .loop in
+    let at-work = c .before .before .before .before .before in
+    let at-told-round = at-work .before in
+    let at-loop-test = at-told-round .before .before .before .before in
+    let at-loop = at-loop-test .before in
+    let start = at-loop .before .before .before .before .before .before .before .before .before .before in
+    let a = start .args in
+    let l = at-loop .loop in
     let v = l .inv in
-    let s = worked-home (a .n) (l .work) (v .2) (c .before .before .before .before .before .before .told-round .last .1 .1 .1 .1 .1 .1 .0) _ (c .before .before .before .before .before .work2 .given .0) refl in
+    let s = worked-home (a .n) (l .work) (v .2) (at-told-round .told-round .last .1 .1 .1 .1 .1 .1 .0) _ (at-work .work2 .given .0) refl in
     let e = s .sized in
     let r = v .2 .room in
-    (c .before .before .before .before .before .before .before .before .before .before .loop-test .taken, omega arith)
+    (at-loop-test .loop-test .taken, omega arith)
 
 add-i : tie.Need-add-i Inv-loop μ-loop
 add-i c =
-    let f = c .before .before .before .before .before .before .before .before .before .before .before .before .before .before .before .before .before .before .before .before .before .before .pre .2 .few in let t = c .before .before .before .before .before .before .before .before .before .before .before .loop-test .taken in omega arith
+    let at-loop-test = c .before .before .before .before .before .before .before .before .before .before .before in
+    let start = at-loop-test .before .before .before .before .before .before .before .before .before .before .before in
+    let f = start .pre .2 .few in let t = at-loop-test .loop-test .taken in omega arith
 
 loop-less : tie.Need-loop-less Inv-loop μ-loop
 loop-less c =
@@ -152,26 +175,39 @@ loop-less c =
 
 loop-again : tie.Need-loop-again Inv-loop μ-loop
 loop-again c =
-    let a = c .before .before .before .before .before .before .before .before .before .before .before .before .before .before .before .before .before .before .before .before .before .before .args in
-    let l = c .before .before .before .before .before .before .before .before .before .before .before .before .loop in
+    let at-take-ending = c .before .before .before in
+    let at-work = at-take-ending .before .before .before in
+    let at-told-round = at-work .before in
+    let at-get = at-told-round .before .before in
+    let at-loop-test = at-get .before .before in
+    let at-loop = at-loop-test .before in
+    let start = at-loop .before .before .before .before .before .before .before .before .before .before in
+    let a = start .args in
+    let l = at-loop .loop in
     let v = l .inv in
-    let t = c .before .before .before .before .before .before .before .before .before .before .before .loop-test .taken in
-    let next = worked-home (a .n) (l .work) (v .2) (c .before .before .before .before .before .before .before .told-round .last .1 .1 .1 .1 .1 .1 .0) _ (c .before .before .before .before .before .before .work2 .given .0) refl in
-    let home = part-home (a .n) (l .work) (v .2) (c .before .before .before .before .before .before .before .told-round .last .1 .1 .1 .1 .1 .1 .0) _ (c .before .before .before .before .before .before .work2 .given .0) refl in
-    let r = told-home (a .n) _ (l .work) _ _ (v .3) next home (l .i) t _ (c .before .before .before .before .before .before .before .before .before .get2 .ensures .is) _ _ _ _ _ _ _ (c .before .before .before .before .before .before .before .told-round .ensures) in
-    (omega arith, omega arith, worked-lent (a .n) (l .work) _ next (v .2), worked-then (a .n) _ (l .work) (v .3) _ next, r .round .ready, λ notes. rounds-next _ _ _ notes _ _ _ _ _ t (r .round .is notes) (behind-home (a .n) _ (l .work) _ _ (v .3) next home (l .i) t _ (c .before .before .before .before .before .before .before .before .before .get2 .ensures .is) notes _ (c .sentence-behind .ensures notes)) ∙ v .5 notes, λ notes. so-turn (a .g) _ (a .n) notes (l .sentence) (l .i) _ _ _ _ (a .e) _ _ _ _ t (r .round .is notes) (r .ending notes) (behind-home (a .n) _ (l .work) _ _ (v .3) next home (l .i) t _ (c .before .before .before .before .before .before .before .before .before .get2 .ensures .is) notes _ (c .sentence-behind .ensures notes)) (v .6 notes) (c .before .before .before .take-ending .ensures) (c .before .before .take-ending2 .ensures))
+    let t = at-loop-test .loop-test .taken in
+    let next = worked-home (a .n) (l .work) (v .2) (at-told-round .told-round .last .1 .1 .1 .1 .1 .1 .0) _ (at-work .work2 .given .0) refl in
+    let home = part-home (a .n) (l .work) (v .2) (at-told-round .told-round .last .1 .1 .1 .1 .1 .1 .0) _ (at-work .work2 .given .0) refl in
+    let r = told-home (a .n) _ (l .work) _ _ (v .3) next home (l .i) t _ (at-get .get2 .ensures .is) _ _ _ _ _ _ _ (at-told-round .told-round .ensures) in
+    (omega arith, omega arith, worked-lent (a .n) (l .work) _ next (v .2), worked-then (a .n) _ (l .work) (v .3) _ next, r .round .ready, λ notes. rounds-next _ _ _ notes _ _ _ _ _ t (r .round .is notes) (behind-home (a .n) _ (l .work) _ _ (v .3) next home (l .i) t _ (at-get .get2 .ensures .is) notes _ (c .sentence-behind .ensures notes)) ∙ v .5 notes, λ notes. so-turn (a .g) _ (a .n) notes (l .sentence) (l .i) _ _ _ _ (a .e) _ _ _ _ t (r .round .is notes) (r .ending notes) (behind-home (a .n) _ (l .work) _ _ (v .3) next home (l .i) t _ (at-get .get2 .ensures .is) notes _ (c .sentence-behind .ensures notes)) (v .6 notes) (at-take-ending .take-ending .ensures) (c .before .before .take-ending2 .ensures))
 
 same-length : tie.Need-same-length Inv-loop μ-loop
 same-length c =
-    let p = c .before .before .before .before .before .before .before .before .before .before .before .pre in let a = c .before .before .before .before .before .before .before .before .before .before .before .args in c .before .loop .inv .3 .sized ∙ (worked-home (a .n) (a .work .now) (p .2) (c .before .before .before .before .append .last .0) _ (c .before .before .before .work .given .0) refl) .sized
+    let at-work = c .before .before .before in
+    let at-append = at-work .before in
+    let start = at-append .before .before .before .before .before .before .before in
+    let p = start .pre in let a = start .args in c .before .loop .inv .3 .sized ∙ (worked-home (a .n) (a .work .now) (p .2) (at-append .append .last .0) _ (at-work .work .given .0) refl) .sized
 
 returns : tie.Need-returns Inv-loop μ-loop
 returns c =
-    let p = c .before .before .before .before .before .before .before .before .before .before .before .pre in
-    let a = c .before .before .before .before .before .before .before .before .before .before .before .args in
+    let at-work = c .before .before .before in
+    let at-append = at-work .before in
+    let start = at-append .before .before .before .before .before .before .before in
+    let p = start .pre in
+    let a = start .args in
     let l = c .before .loop in
     let v = l .inv in
-    let worked = worked-home (a .n) (a .work .now) (p .2) (c .before .before .before .before .append .last .0) _ (c .before .before .before .work .given .0) refl in
+    let worked = worked-home (a .n) (a .work .now) (p .2) (at-append .append .last .0) _ (at-work .work .given .0) refl in
     let end : l .i ≡ a .n = omega (arith, v .1, c .loop-test .left) in
     let few = part-room (a .n) (l .work) (v .2) in (
       told-then (a .g) (a .n) (a .work .now) _ worked (p .1) _ _ (a .e) _ (record {

@@ -28,15 +28,23 @@ add-k : tie.Need-add-k Inv-loop μ-loop
 add-k c = let t = c .before .before .loop-test .taken in let l = c .before .before .before .before .before .pre .1 .listed in omega arith
 
 try-break-requires : tie.Need-try-break-requires Inv-loop μ-loop
-try-break-requires c κs = (c .before .before .before .before .before .pre .0, rw (c .get-break .ensures, c .before .active .ensures) (c .before .before .before .before .before .pre .1 .stays _ (c .before .before .loop-test .taken)))
+try-break-requires c κs =
+    let start = c .before .before .before .before .before in
+    (start .pre .0, rw (c .get-break .ensures, c .before .active .ensures) (start .pre .1 .stays _ (c .before .before .loop-test .taken)))
 
 enum-known-e : tie.Need-enum-known-e Inv-loop μ-loop
 enum-known-e c = search needs
 
 returns : tie.Need-returns Inv-loop μ-loop
 returns c =
-    let l = c .before .before .before .before .before .before .before .loop in
-    let here = chosen-step (c .before .before .before .before .before .before .before .before .before .args .g) (c .before .before .before .before .before .before .before .before .before .args .weight) (c .before .before .before .before .before .before .before .before .before .args .total) (c .before .before .before .before .before .before .before .before .before .args .kept) (tableIn (c .before .before .before .before .before .before .before .before .before .args .breaks .now)) (activeIn (c .before .before .before .before .before .before .before .before .before .args .breaks .now)) (l .k) _ _ _ (c .before .before .before .before .before .before .loop-test .taken) (c .before .before .before .before .before .before .before .before .before .pre .1 .listed) (c .before .before .before .before .before .active .ensures) (c .before .before .before .before .get-break .ensures) (c .before .before .before .try-break .ensures) in
+    let at-try-break = c .before .before .before in
+    let at-get-break = at-try-break .before in
+    let at-active = at-get-break .before in
+    let at-loop-test = at-active .before in
+    let at-loop = at-loop-test .before in
+    let start = at-loop .before .before in
+    let l = at-loop .loop in
+    let here = chosen-step (start .args .g) (start .args .weight) (start .args .total) (start .args .kept) (tableIn (start .args .breaks .now)) (activeIn (start .args .breaks .now)) (l .k) _ _ _ (at-loop-test .loop-test .taken) (start .pre .1 .listed) (at-active .active .ensures) (at-get-break .get-break .ensures) (at-try-break .try-break .ensures) in
     sym (rw (c .before .e .given .1) at here) ∙ l .inv .1
 
 enum-told : tie.Need-enum-told Inv-loop μ-loop
@@ -47,13 +55,19 @@ loop-less c = omega arith
 
 loop-again : tie.Need-loop-again Inv-loop μ-loop
 loop-again c =
-    let l = c .before .before .before .before .before .before .loop in
-    let here = chosen-step (c .before .before .before .before .before .before .before .before .args .g) (c .before .before .before .before .before .before .before .before .args .weight) (c .before .before .before .before .before .before .before .before .args .total) (c .before .before .before .before .before .before .before .before .args .kept) (tableIn (c .before .before .before .before .before .before .before .before .args .breaks .now)) (activeIn (c .before .before .before .before .before .before .before .before .args .breaks .now)) (l .k) _ _ _ (c .before .before .before .before .before .loop-test .taken) (c .before .before .before .before .before .before .before .before .pre .1 .listed) (c .before .before .before .before .active .ensures) (c .before .before .before .get-break .ensures) (c .before .before .try-break .ensures) in
+    let at-get-break = c .before .before .before in
+    let at-active = at-get-break .before in
+    let at-loop-test = at-active .before in
+    let at-loop = at-loop-test .before in
+    let start = at-loop .before .before in
+    let l = at-loop .loop in
+    let here = chosen-step (start .args .g) (start .args .weight) (start .args .total) (start .args .kept) (tableIn (start .args .breaks .now)) (activeIn (start .args .breaks .now)) (l .k) _ _ _ (at-loop-test .loop-test .taken) (start .pre .1 .listed) (at-active .active .ensures) (at-get-break .get-break .ensures) (c .before .before .try-break .ensures) in
     (omega arith, sym (rw (c .enum-told .given .1) at here) ∙ l .inv .1)
 
 returns-2 : tie.Need-returns-2 Inv-loop μ-loop
 returns-2 c =
-    chosen-end (c .before .before .before .args .g) (c .before .before .before .args .weight) (c .before .before .before .args .total) (c .before .before .before .args .kept) (tableIn (c .before .before .before .args .breaks .now)) (activeIn (c .before .before .before .args .breaks .now)) _ (c .loop-test .left) ∙ c .before .loop .inv .1
+    let start = c .before .before .before in
+    chosen-end (start .args .g) (start .args .weight) (start .args .total) (start .args .kept) (tableIn (start .args .breaks .now)) (activeIn (start .args .breaks .now)) _ (c .loop-test .left) ∙ c .before .loop .inv .1
 
 pub chosen-spec : {M : Type 1} → statement M
 chosen-spec =

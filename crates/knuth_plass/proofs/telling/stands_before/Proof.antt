@@ -25,20 +25,32 @@ starts-requires c κs = rw (c .get-break .ensures) (c .before .before .before .b
 
 returns : tie.Need-returns Inv-loop μ-loop
 returns c =
-    let v = c .before .before .before .before .loop .inv in
-    before-here (tableIn (c .before .before .before .before .before .before .args .breaks .now)) (c .before .before .before .before .before .before .args .last) (c .before .before .before .before .loop .at) (c .before .before .before .before .before .before .args .e) _ _ (c .before .before .before .before .before .before .pre .2) (c .before .before .before .loop-test .taken) (v .0) (c .before .before .get-break .ensures) (c .before .starts .ensures) (c .if1 .taken) ∙ v .1
+    let at-loop-test = c .before .before .before in
+    let at-loop = at-loop-test .before in
+    let start = at-loop .before .before in
+    let v = at-loop .loop .inv in
+    before-here (tableIn (start .args .breaks .now)) (start .args .last) (at-loop .loop .at) (start .args .e) _ _ (start .pre .2) (at-loop-test .loop-test .taken) (v .0) (c .before .before .get-break .ensures) (c .before .starts .ensures) (c .if1 .taken) ∙ v .1
 
 loop-less : tie.Need-loop-less Inv-loop μ-loop
-loop-less c = rw (c .before .before .get-break .ensures) (c .before .before .before .before .before .before .pre .2 _ (c .before .before .before .loop-test .taken) (c .before .before .before .before .loop .inv .0) .0)
+loop-less c =
+    let at-loop-test = c .before .before .before in
+    let at-loop = at-loop-test .before in
+    let start = at-loop .before .before in
+    rw (c .before .before .get-break .ensures) (start .pre .2 _ (at-loop-test .loop-test .taken) (at-loop .loop .inv .0) .0)
 
 loop-again : tie.Need-loop-again Inv-loop μ-loop
 loop-again c =
-    let v = c .before .before .before .before .loop .inv in
-    let d : c .before .before .get-break .result .previous < c .before .before .before .before .loop .at = rw (c .before .before .get-break .ensures) (c .before .before .before .before .before .before .pre .2 _ (c .before .before .before .loop-test .taken) (v .0) .0) in
-    (omega arith, before-on (tableIn (c .before .before .before .before .before .before .args .breaks .now)) (c .before .before .before .before .before .before .args .last) (c .before .before .before .before .loop .at) (c .before .before .before .before .before .before .args .e) _ _ (c .before .before .before .before .before .before .pre .2) (c .before .before .before .loop-test .taken) (v .0) (c .before .before .get-break .ensures) (c .before .starts .ensures) (c .if1 .left) ∙ v .1)
+    let at-loop-test = c .before .before .before in
+    let at-loop = at-loop-test .before in
+    let start = at-loop .before .before in
+    let v = at-loop .loop .inv in
+    let d : c .before .before .get-break .result .previous < at-loop .loop .at = rw (c .before .before .get-break .ensures) (start .pre .2 _ (at-loop-test .loop-test .taken) (v .0) .0) in
+    (omega arith, before-on (tableIn (start .args .breaks .now)) (start .args .last) (at-loop .loop .at) (start .args .e) _ _ (start .pre .2) (at-loop-test .loop-test .taken) (v .0) (c .before .before .get-break .ensures) (c .before .starts .ensures) (c .if1 .left) ∙ v .1)
 
 returns-2 : tie.Need-returns-2 Inv-loop μ-loop
-returns-2 c = before-none (tableIn (c .before .before .before .args .breaks .now)) _ (c .before .before .before .args .e) (c .loop-test .left) ∙ c .before .loop .inv .1
+returns-2 c =
+    let start = c .before .before .before in
+    before-none (tableIn (start .args .breaks .now)) _ (start .args .e) (c .loop-test .left) ∙ c .before .loop .inv .1
 
 pub stands-before-spec : {M : Type 1} → statement M
 stands-before-spec =

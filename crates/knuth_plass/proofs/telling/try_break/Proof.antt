@@ -15,15 +15,20 @@ returns : tie.Need-returns
 returns c = let a = c .before .before .before .before .args in tried-short (a .g) (a .weight) (a .total) _ _ _ (c .if1 .taken)
 
 returns-2 : tie.Need-returns-2
-returns-2 c = let a = c .before .before .before .before .before .before .before .args in tried-long (a .g) (a .weight) (a .total) _ _ _ (c .before .before .before .if1 .left) (c .if2 .taken)
+returns-2 c =
+    let at-if = c .before .before .before in
+    let start = at-if .before .before .before .before in
+    let a = start .args in tried-long (a .g) (a .weight) (a .total) _ _ _ (at-if .if1 .left) (c .if2 .taken)
 
 ratio-requires : tie.Need-ratio-requires
 ratio-requires c κs =
-    let p = c .before .before .before .before .before .before .before .pre .0 in
+    let at-if = c .before .before .before in
+    let start = at-if .before .before .before .before in
+    let p = start .pre .0 in
     let o = p .over in
     let w = p .wide in
     let t = p .twice in
-    let s = c .before .before .before .if1 .left in
+    let s = at-if .if1 .left in
     let l = c .if2 .left in
     (omega arith, omega arith, omega arith)
 
@@ -40,19 +45,34 @@ line-term-requires : tie.Need-line-term-requires
 line-term-requires c κs = c .before .before .before .before .ratio .ensures .1
 
 ratio-term-requires : tie.Need-ratio-term-requires
-ratio-term-requires c κs = (c .before .before .before .before .before .ratio .ensures .1, rw (c .before .before .before .before .ratio-of .ensures) (c .before .before .before .before .before .before .before .before .before .before .before .before .before .pre .1 .ratio))
+ratio-term-requires c κs =
+    let at-ratio-of = c .before .before .before .before in
+    let at-ratio = at-ratio-of .before in
+    let start = at-ratio .before .before .before .before .before .before .before .before in
+    (at-ratio .ratio .ensures .1, rw (at-ratio-of .ratio-of .ensures) (start .pre .1 .ratio))
 
 returns-3 : tie.Need-returns-3
 returns-3 c =
-    let a = c .before .before .before .before .before .before .before .before .before .before .before .before .before .before .args in
-    let r = c .before .before .before .before .before .before .ratio .ensures in
-    tried-here (a .g) (a .weight) (a .total) _ _ _ (c .before .before .before .before .before .before .before .before .before .before .if1 .left) (c .before .before .before .before .before .before .before .if2 .left) _ _ (r .0) (rw (c .before .before .before .before .before .ratio-of .ensures) at (c .before .before .before .before .cost .ensures .0)) _ _ (c .before .before .if3 .taken) (c .before .line-term .ensures .0) (rw (c .before .before .before .before .before .ratio-of .ensures) at (c .ratio-term .ensures .0))
+    let at-cost = c .before .before .before .before in
+    let at-ratio-of = at-cost .before in
+    let at-ratio = at-ratio-of .before in
+    let at-if = at-ratio .before in
+    let at-if1 = at-if .before .before .before in
+    let start = at-if1 .before .before .before .before in
+    let a = start .args in
+    let r = at-ratio .ratio .ensures in
+    tried-here (a .g) (a .weight) (a .total) _ _ _ (at-if1 .if1 .left) (at-if .if2 .left) _ _ (r .0) (rw (at-ratio-of .ratio-of .ensures) at (at-cost .cost .ensures .0)) _ _ (c .before .before .if3 .taken) (c .before .line-term .ensures .0) (rw (at-ratio-of .ratio-of .ensures) at (c .ratio-term .ensures .0))
 
 returns-4 : tie.Need-returns-4
 returns-4 c =
-    let a = c .before .before .before .before .before .before .before .before .before .before .before .before .args in
-    let r = c .before .before .before .before .ratio .ensures in
-    tried-other (a .g) (a .weight) (a .total) _ _ _ (c .before .before .before .before .before .before .before .before .if1 .left) (c .before .before .before .before .before .if2 .left) _ _ (r .0) (rw (c .before .before .before .ratio-of .ensures) at (c .before .before .cost .ensures .0)) (c .if3 .left)
+    let at-ratio-of = c .before .before .before in
+    let at-ratio = at-ratio-of .before in
+    let at-if = at-ratio .before in
+    let at-if1 = at-if .before .before .before in
+    let start = at-if1 .before .before .before .before in
+    let a = start .args in
+    let r = at-ratio .ratio .ensures in
+    tried-other (a .g) (a .weight) (a .total) _ _ _ (at-if1 .if1 .left) (at-if .if2 .left) _ _ (r .0) (rw (at-ratio-of .ratio-of .ensures) at (c .before .before .cost .ensures .0)) (c .if3 .left)
 
 pub try-break-spec : {M : Type 1} → statement M
 try-break-spec =

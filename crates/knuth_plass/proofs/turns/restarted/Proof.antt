@@ -17,7 +17,9 @@ sub-minimum-2 c = search needs
 
 returns : tie.Need-returns
 unfolding ofBits neg
-returns c = restarted-fresh (c .before .before .before .before .before .args .g) (c .before .before .before .before .before .args .turn) (c .before .before .before .before .before .args .n) (c .before .before .before .before .before .args .least) (c .before .before .before .before .before .pre .0) (c .before .before .before .before .before .pre .1) _ refl (c .if1 .taken)
+returns c =
+    let start = c .before .before .before .before .before in
+    restarted-fresh (start .args .g) (start .args .turn) (start .args .n) (start .args .least) (start .pre .0) (start .pre .1) _ refl (c .if1 .taken)
 
 add-if2 : tie.Need-add-if2
 add-if2 c = search needs
@@ -27,14 +29,22 @@ add-if2-2 c = search needs
 
 returns-2 : tie.Need-returns-2
 unfolding ofBits neg
-returns-2 c = restarted-after (c .before .before .before .before .before .before .before .before .args .g) (c .before .before .before .before .before .before .before .before .args .turn) (c .before .before .before .before .before .before .before .before .args .n) (c .before .before .before .before .before .before .before .before .args .least) (c .before .before .before .before .before .before .before .before .pre .0) (c .before .before .before .before .before .before .before .before .pre .1) _ (c .before .before .before .before .before .before .before .reach .ensures .0) (c .before .before .before .if1 .left) _ refl (c .if2 .taken)
+returns-2 c =
+    let at-if = c .before .before .before in
+    let at-reach = at-if .before .before .before .before in
+    let start = at-reach .before in
+    restarted-after (start .args .g) (start .args .turn) (start .args .n) (start .args .least) (start .pre .0) (start .pre .1) _ (at-reach .reach .ensures .0) (at-if .if1 .left) _ refl (c .if2 .taken)
 
 add-t9 : tie.Need-add-t9
 add-t9 c = search needs
 
 returns-3 : tie.Need-returns-3
 unfolding ofBits neg
-returns-3 c = restarted-before (c .before .before .before .before .before .before .before .before .before .before .args .g) (c .before .before .before .before .before .before .before .before .before .before .args .turn) (c .before .before .before .before .before .before .before .before .before .before .args .n) (c .before .before .before .before .before .before .before .before .before .before .args .least) (c .before .before .before .before .before .before .before .before .before .before .pre .0) (c .before .before .before .before .before .before .before .before .before .before .pre .1) _ (c .before .before .before .before .before .before .before .before .before .reach .ensures .0) (c .before .before .before .before .before .if1 .left) _ refl (c .before .before .if2 .left)
+returns-3 c =
+    let at-if = c .before .before .before .before .before in
+    let at-reach = at-if .before .before .before .before in
+    let start = at-reach .before in
+    restarted-before (start .args .g) (start .args .turn) (start .args .n) (start .args .least) (start .pre .0) (start .pre .1) _ (at-reach .reach .ensures .0) (at-if .if1 .left) _ refl (c .before .before .if2 .left)
 
 pub restarted-spec : {M : Type 1} → statement M
 restarted-spec =
