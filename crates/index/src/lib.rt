@@ -4,7 +4,7 @@
 ghost use mathlib.Core.Path.{_≡_};
 ghost use mathlib.Core.Bool.{cond};
 ghost use mathlib.Core.List.{_++_};
-ghost use Prim.Native.Nat.{_*_, _^_, _≤_, min};
+ghost use Prim.Native.Nat.{_*_, _^_, _≤_};
 ghost use lib.Dec.{leb};
 ghost use lib.ListN.{length, drop};
 ghost use Rattle.marks.specs.Contracts.Marks.{marksIn};
@@ -138,7 +138,7 @@ fn next_record(marks: &[u32], r: Record) -> Record
     requires { ⌜ behind r ≤ 32 * length (front (now marks)) ⌝ }
     ensures { λ s. ⌜ s ≡ recordAfter (marksIn (front (now (marks .entry)))) r ⌝ }
 {
-    let end = least(marks.len(), MOST_NUMBERS);
+    let end = lists::lesser(marks.len(), MOST_NUMBERS);
     record_behind(&marks[..end], r)
 }
 
@@ -158,13 +158,4 @@ fn record_behind(marks: &[u32], r: Record) -> Record
         first,
         count: count as u64,
     }
-}
-
-fn least(a: usize, b: usize) -> usize
-    ensures { λ r. ⌜ r ≡ min a b ⌝ }
-{
-    if a < b {
-        return a;
-    }
-    b
 }

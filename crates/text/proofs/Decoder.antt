@@ -12,13 +12,13 @@ use Rattle.lists.specs.Runs.{begins}
 use Rattle.text.specs.Rfc3629.{scalar, encode, StandsFirst, front, nothing, spelled, decode}
 
 -- the row of section 3's table that a number is in, and its octets
-data Row (c : ℕ) : Type 0 where
+pub data Row (c : ℕ) : Type 0 where
   row1 : c < 0x80 → encode c ≡ c ∷ [] → Row c
   row2 : 0x80 ≤ c → c < 0x800 → encode c ≡ (0xC0 + c / 64) ∷ (0x80 + c % 64) ∷ [] → Row c
   row3 : 0x800 ≤ c → c < 0x10000 → encode c ≡ (0xE0 + c / 4096) ∷ (0x80 + c / 64 % 64) ∷ (0x80 + c % 64) ∷ [] → Row c
   row4 : 0x10000 ≤ c → encode c ≡ (0xF0 + c / 262144) ∷ (0x80 + c / 4096 % 64) ∷ (0x80 + c / 64 % 64) ∷ (0x80 + c % 64) ∷ [] → Row c
 
-row : (c : ℕ) → Row c
+pub row : (c : ℕ) → Row c
 unfolding encode
 row c = pick (ltb c 0x80) (ltb c 0x800) (ltb c 0x10000) refl refl refl
   where
