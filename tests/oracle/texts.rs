@@ -253,11 +253,11 @@ fn letters(r: &mut Rng, count: usize, two_bytes: bool) -> String {
 }
 
 /// Texts on the edges of the quick ways: lines whose words end at the width, one before it or one after it, in letters of one byte and of two;
-/// two and three spaces at the cut, after a sentence and elsewhere; a last word alone, a tab as any byte; paragraphs of 1,023 to 1,025 words of a
-/// letter and of 2,047 to 2,049 bytes.
+/// two and three spaces at the cut, after a sentence and elsewhere; a last word alone, a tab as any byte; paragraphs of 1,023 and 1,024 words of a
+/// letter (more are in asked.rs) and of 2,047 to 2,049 bytes.
 pub fn edges(r: &mut Rng, opts: &Opts) -> String {
     if r.chance(1) {
-        return "a ".repeat(1022 + r.below(3)) + "a\n";
+        return "a ".repeat(1022 + r.below(2)) + "a\n";
     }
     if r.chance(1) {
         let words = letters(r, 5, false) + " ";
