@@ -2,20 +2,16 @@
 use mathlib.Core.Path.{_≡_, refl, sym, _∙_}
 use mathlib.Core.Bool.{Bool, true}
 use mathlib.Core.List.{List}
-use Prim.Native.Nat.{ℕ, zero, suc, _+_, _/_, _≤_, _<_}
+use Prim.Native.Nat.{ℕ, zero, suc, _+_, _≤_, _<_}
 use native.Mathlib.Omega.{arith}
 use lib.Dec.{eqb}
 use lib.ListN.{length, getD, take}
 use lib.Seq.{getD-take, length-take-le}
-use lib.Bits.{bitAnd}
-use lib.Count.{trailingZeros}
 use borrow.Author.Tests.{eqb-true}
 use Rattle.lists.specs.Runs.{every}
 use Rattle.text.specs.Characters.{glyphs, isGood}
-use Rattle.text.specs.Contracts.Places.{Ascii}
+use Rattle.text.specs.Contracts.Places.{Ascii, Printable}
 use Rattle.text.proofs.Damage.{later-zero, damage-past, damage-none}
-use Rattle.text.specs.Contracts.Eights.{asNumber, eightAt}
-use Rattle.text.proofs.Eights.{clearOf, zeros-few, sum-fits, counted}
 use Rattle.text.proofs.Asciis.{ascii-none, ascii-one, ascii-more, damage-run}
 use Rattle.lines.specs.Lines.{firstLine}
 use Rattle.lines.specs.Contracts.Places.{lengthsOf, bodyEnd, AsciiBody}
@@ -46,25 +42,12 @@ pub run-nothing : (s : List ℕ) (i : ℕ) → i ≤ length s → AsciiBody s i 
 run-nothing s i h = let e : i ≡ i + 0 = omega arith in rw (← e) (run-none h)
 
 -- bytes from 32 to 127
-run-printable : (s : List ℕ) (i n : ℕ) → i + n ≤ length s → ((k : ℕ) → i ≤ k → k < i + n → (32 ≤ getD s k 0) × (getD s k 0 < 128)) → AsciiBody s i (i + n)
+pub run-printable : (s : List ℕ) (i n : ℕ) → i + n ≤ length s → Printable s i (i + n) → AsciiBody s i (i + n)
 run-printable s i zero h each = run-nothing s i (omega arith)
 run-printable s i (suc n) h each =
     let e : i + n + 1 ≡ i + suc n = omega arith in
     let b = each (i + n) (omega arith) (omega arith) in
     rw (← e) (run-byte (run-printable s i n (omega arith) (λ k a d. each k a (omega arith))) (omega arith) (b .1) (λ z. omega (arith, b .0, z)))
-
--- as many of eight as the zeros say
-module _ (s : List ℕ) (i : ℕ) (small : (k : ℕ) → getD s k 0 < 256) (x : ℕ) (is : x ≡ asNumber (eightAt s i)) (clear : bitAnd x 0x8080808080808080 ≡ 0) where
-  pub printable-fits : x + 0x6060606060606060 < 18446744073709551616
-  unfolding asNumber
-  printable-fits = sum-fits s i small x is clear 96 0x6060606060606060 (omega arith) refl
-
-  pub printable-count : i + 8 ≤ length s → AsciiBody s i (i + trailingZeros 64 (clearOf 0x6060606060606060 x) / 8)
-  unfolding asNumber
-  printable-count h =
-      let f = zeros-few (clearOf 0x6060606060606060 x) in
-      run-printable s i (trailingZeros 64 (clearOf 0x6060606060606060 x) / 8) (omega arith)
-      (λ k a b. let e = counted s i small x is clear 96 0x6060606060606060 (omega arith) refl k a b in (omega (arith, e .0), e .1))
 
 -- ---- a line of the run alone
 

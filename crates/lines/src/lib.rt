@@ -229,28 +229,13 @@ fn ascii_eights(s: &[u8], from: usize) -> usize
 {
     let mut i = from;
     while 8 <= s.len() - i {
-        let n = printable_among(s, i);
+        let n = text::printable_among(s, i);
         i += n;
         if n < 8 {
             return i;
         }
     }
     i
-}
-
-// How many of the eight bytes at a place, from the first on, are from 32 to 127; none if one of the eight is above. With 96 added, each byte
-// from 32 on has its high bit set. Below the first high bit that is clear stand eight zeros for each byte before it.
-fn printable_among(s: &[u8], i: usize) -> usize
-    requires { ⌜ (i ≤ length (now s)) × (8 ≤ length (now s) - i) ⌝ }
-    ensures { λ r. ⌜ (r ≤ 8) × AsciiBody (now (s .entry)) i (i + r) ⌝ }
-{
-    let x = text::eight(s, i);
-    if x & 0x8080808080808080 != 0 {
-        return 0;
-    }
-    let clear = 0x8080808080808080 - ((x + 0x6060606060606060) & 0x8080808080808080);
-    let zeros = u64::trailing_zeros(clear);
-    (zeros / 8) as usize
 }
 
 // How long a line's body is without a carriage return at its end.

@@ -7,6 +7,7 @@ use native.Mathlib.Omega.{arith}
 use lib.ListN.{length, getD}
 use lib.Seq.{slice, length-slice, slice-empty}
 use borrow.Author.Tests.{le-leb, lt-ltb, lt-leb, le-ltb}
+use Rattle.text.specs.Contracts.Places.{Printable}
 use Rattle.spacing.specs.declared.Setting.{Setting}
 use Rattle.words.specs.Contracts.Scan.{punctCode}
 use Rattle.output.proofs.Sink.{left-first}
@@ -30,6 +31,9 @@ regular-above b h = let l : 128 ≤ b = omega arith in let k : 32 ≤ b = omega 
 
 pub each-more : (s : List ℕ) (from i to : ℕ) → EachRegular s from i → EachRegular s i to → EachRegular s from to
 each-more s from i to a b = over (λ j. isRegular (getD s j 0) ≡ true) from i to a b
+
+pub each-printable : (s : List ℕ) (from to : ℕ) → Printable s from to → EachRegular s from to
+each-printable s from to p = λ k a b. let e = p k a b in regular-by _ (e .0) (omega (arith, e .1))
 
 -- ---- marks
 

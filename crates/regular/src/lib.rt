@@ -488,7 +488,7 @@ fn regular_end(s: &[u8], from: usize, end: usize) -> usize
     requires { ⌜ (from ≤ end) × (end ≤ length (now s)) ⌝ }
     ensures { λ r. ⌜ RegularTo (now (s .entry)) from end r ⌝ }
 {
-    let mut i = regular_eights(s, from, end);
+    let mut i = regular_eights(s, regular_sixteens(s, from, end), end);
     while i < end {
         let b = s[i];
         if b < 32 {
@@ -502,15 +502,15 @@ fn regular_end(s: &[u8], from: usize, end: usize) -> usize
     i
 }
 
-// On over regular bytes, as long as the next eight are.
-fn regular_eights(s: &[u8], from: usize, end: usize) -> usize
+// On over regular bytes, as long as the next sixteen are.
+fn regular_sixteens(s: &[u8], from: usize, end: usize) -> usize
     requires { ⌜ (from ≤ end) × (end ≤ length (now s)) ⌝ }
     ensures { λ r. ⌜ (from ≤ r) × (r ≤ end) × EachRegular (now (s .entry)) from r ⌝ }
 {
     let mut i = from;
-    while 8 <= end - i {
+    while 16 <= end - i {
         if are_regular(s, i) {
-            i += 8;
+            i += 16;
         } else {
             return i;
         }
@@ -518,26 +518,35 @@ fn regular_eights(s: &[u8], from: usize, end: usize) -> usize
     i
 }
 
-// Whether the eight bytes at a place are regular: without a branch between them the tests are as quick as one.
+// Whether the sixteen bytes at a place are regular: without a branch between them the compiler tests them as one.
 fn are_regular(s: &[u8], i: usize) -> bool
-    requires { ⌜ (i ≤ length (now s)) × (8 ≤ length (now s) - i) ⌝ }
-    ensures { λ r. ⌜ (r ≡ true → EachRegular (now (s .entry)) i (i + 8)) ⌝ }
+    requires { ⌜ (i ≤ length (now s)) × (16 ≤ length (now s) - i) ⌝ }
+    ensures { λ r. ⌜ (r ≡ true → EachRegular (now (s .entry)) i (i + 16)) ⌝ }
 {
-    let b = i + 1;
-    let c = i + 2;
-    let d = i + 3;
-    let e = i + 4;
-    let f = i + 5;
-    let g = i + 6;
-    let h = i + 7;
-    ((32 <= s[i]) & (s[i] < 128))
-        & ((32 <= s[b]) & (s[b] < 128))
-        & ((32 <= s[c]) & (s[c] < 128))
-        & ((32 <= s[d]) & (s[d] < 128))
-        & ((32 <= s[e]) & (s[e] < 128))
-        & ((32 <= s[f]) & (s[f] < 128))
-        & ((32 <= s[g]) & (s[g] < 128))
-        & ((32 <= s[h]) & (s[h] < 128))
+    let mut all = true;
+    let mut k = 0;
+    while k < 16 {
+        let at = i + k;
+        all = all & (32 <= s[at]) & (s[at] < 128);
+        k += 1;
+    }
+    all
+}
+
+// On over regular bytes, eight at a time, up to one that is not regular or the last eight.
+fn regular_eights(s: &[u8], from: usize, end: usize) -> usize
+    requires { ⌜ (from ≤ end) × (end ≤ length (now s)) ⌝ }
+    ensures { λ r. ⌜ (from ≤ r) × (r ≤ end) × EachRegular (now (s .entry)) from r ⌝ }
+{
+    let mut i = from;
+    while 8 <= end - i {
+        let n = text::printable_among(s, i);
+        i += n;
+        if n < 8 {
+            return i;
+        }
+    }
+    i
 }
 
 // Whether a line ends at a place: its line feed stands there, or the paragraph ends.
@@ -584,6 +593,17 @@ fn letters_end(s: &[u8], from: usize, end: usize) -> Letters
     Letters { end: i, count }
 }
 
+// The same where the regular bytes of a line end, as most lines do there.
+fn letters_after(s: &[u8], at: usize, next: usize) -> Letters
+    requires { ⌜ (at ≤ next) × (next ≤ length (now s)) ⌝ }
+    ensures { λ r. ⌜ SpelledTo (now (s .entry)) at next r ⌝ }
+{
+    if ends_line(s, at, next) {
+        return Letters { end: at, count: 0 };
+    }
+    letters_end(s, at, next)
+}
+
 // The line at a place of a paragraph, if it is of regular bytes and letters of two, and its gaps are written as they are.
 fn row_at(s: &[u8], i: usize, next: usize, skip: usize, later: usize, o: Options) -> Row
     requires { ⌜ (i < next) × (next ≤ length (now s)) × (length (now s) ≤ 2 ^ 20) × AllBegin (o .glue) skip later (linesOf (slice i next (now s))) ⌝ }
@@ -591,7 +611,7 @@ fn row_at(s: &[u8], i: usize, next: usize, skip: usize, later: usize, o: Options
 {
     let from = i + skip;
     let at = regular_end(s, from, next);
-    let letters = letters_end(s, at, next);
+    let letters = letters_after(s, at, next);
     let end = before_spaces(s, from, letters.end);
     Row {
         from,

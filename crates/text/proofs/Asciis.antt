@@ -9,7 +9,6 @@ use lib.Dec.{ltb}
 use lib.ListN.{length, getD, drop}
 use Rattle.text.specs.Characters.{damage}
 use Rattle.text.specs.Contracts.Places.{Ascii}
-use Rattle.text.proofs.Rows.{allAt, all-each}
 use Rattle.text.proofs.Glyphs.{ascii-here}
 use Rattle.text.proofs.Damage.{later, damage-on}
 
@@ -31,9 +30,12 @@ module _ {s : List ℕ} {from : ℕ} where
   pub ascii-one : from < length s → getD s from 0 < 0x80 → Ascii s from (from + 1)
   ascii-one h k = record { on = omega arith; within = omega arith; small = λ i a b. let e : i ≡ from = omega arith in rw e k }
 
--- by a test of eight bytes
-pub ascii-eight : (s : List ℕ) (i : ℕ) → i + 8 ≤ length s → allAt (λ b. ltb b 0x80) s i 7 ≡ true → Ascii s i (i + 8)
-ascii-eight s i h e = record { on = omega arith; within = h; small = λ k a b. ltb-true _ _ (all-each (λ b. ltb b 0x80) s i 7 e k a (omega arith)) }
+pub ascii-nothing : (s : List ℕ) (i : ℕ) → i ≤ length s → Ascii s i (i + 0)
+ascii-nothing s i h = let e : i ≡ i + 0 = omega arith in rw (← e) (ascii-none h)
+
+-- one byte more
+pub ascii-byte : {s : List ℕ} {from at : ℕ} (end : ℕ) → at + 1 ≡ end → Ascii s from at → at < length s → getD s at 0 < 0x80 → Ascii s from end
+ascii-byte end e a h k = rw (← e) (ascii-more a (ascii-one h k))
 
 -- a damaged place after a run is the first
 pub damage-run : (s : List ℕ) (from to : ℕ) → Ascii s from to → later from (damage (drop from s)) ≡ later to (damage (drop to s))

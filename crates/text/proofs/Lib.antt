@@ -10,6 +10,7 @@ pub mod Joining
 pub mod Rows
 pub mod Asciis
 pub mod Eights
+mod Printable
 mod Worked
 pub mod Extents
 pub mod Spelling

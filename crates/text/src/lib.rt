@@ -5,7 +5,7 @@ ghost use Prim.Native.Nat.{_+_, _-_, _*_, _^_, _≤_, _<_};
 ghost use lib.ListN.{length, getD, drop};
 ghost use Rattle.text.specs.Rfc3629.{decode};
 ghost use Rattle.text.specs.Characters.{glyph, characters, inkAhead, damage};
-ghost use Rattle.text.specs.Contracts.Places.{readAs, glyphOf, seenAs, letterAt, Ascii, noBreakAt, gluedExtent, RunOver};
+ghost use Rattle.text.specs.Contracts.Places.{readAs, glyphOf, seenAs, letterAt, Ascii, Printable, noBreakAt, gluedExtent, RunOver};
 ghost use Rattle.text.specs.Contracts.Eights.{asNumber, eightAt};
 ghost use Rattle.text.specs.Contracts.Joins.{joins, joinsAt, EachJoins, Joined, JoinedFrom};
 
@@ -418,7 +418,7 @@ pub fn ascii_end(s: &[u8], from: usize) -> usize
     requires { ⌜ from ≤ length (now s) ⌝ }
     ensures { λ r. ⌜ Ascii (now (s .entry)) from r ⌝ }
 {
-    let mut i = ascii_eights(s, from);
+    let mut i = ascii_sixteens(s, from);
     while i < s.len() {
         if 0x80 <= s[i] {
             return i;
@@ -428,15 +428,15 @@ pub fn ascii_end(s: &[u8], from: usize) -> usize
     i
 }
 
-// On over bytes below 0x80, as long as the next eight are: eight tests without a branch between them are as quick as one.
-fn ascii_eights(s: &[u8], from: usize) -> usize
+// On over bytes below 0x80, as long as the next sixteen are.
+fn ascii_sixteens(s: &[u8], from: usize) -> usize
     requires { ⌜ from ≤ length (now s) ⌝ }
     ensures { λ r. ⌜ Ascii (now (s .entry)) from r ⌝ }
 {
     let mut i = from;
-    while 8 <= s.len() - i {
+    while 16 <= s.len() - i {
         if are_ascii(s, i) {
-            i += 8;
+            i += 16;
         } else {
             return i;
         }
@@ -444,26 +444,34 @@ fn ascii_eights(s: &[u8], from: usize) -> usize
     i
 }
 
-// Whether the eight bytes at a place are below 0x80.
+// Whether the sixteen bytes at a place are below 0x80: without a branch between them the compiler tests them as one.
 fn are_ascii(s: &[u8], i: usize) -> bool
-    requires { ⌜ (i ≤ length (now s)) × (8 ≤ length (now s) - i) ⌝ }
-    ensures { λ r. ⌜ (r ≡ true → Ascii (now (s .entry)) i (i + 8)) ⌝ }
+    requires { ⌜ (i ≤ length (now s)) × (16 ≤ length (now s) - i) ⌝ }
+    ensures { λ r. ⌜ (r ≡ true → Ascii (now (s .entry)) i (i + 16)) ⌝ }
 {
-    let b = i + 1;
-    let c = i + 2;
-    let d = i + 3;
-    let e = i + 4;
-    let f = i + 5;
-    let g = i + 6;
-    let h = i + 7;
-    (s[i] < 0x80)
-        & (s[b] < 0x80)
-        & (s[c] < 0x80)
-        & (s[d] < 0x80)
-        & (s[e] < 0x80)
-        & (s[f] < 0x80)
-        & (s[g] < 0x80)
-        & (s[h] < 0x80)
+    let mut all = true;
+    let mut k = 0;
+    while k < 16 {
+        let at = i + k;
+        all = all & (s[at] < 0x80);
+        k += 1;
+    }
+    all
+}
+
+// How many of the eight bytes at a place, from the first on, are from 32 to 127; none if one of the eight is above. With 96 added, each byte
+// from 32 on has its high bit set. Below the first high bit that is clear stand eight zeros for each byte before it.
+pub fn printable_among(s: &[u8], i: usize) -> usize
+    requires { ⌜ (i ≤ length (now s)) × (8 ≤ length (now s) - i) ⌝ }
+    ensures { λ r. ⌜ (r ≤ 8) × Printable (now (s .entry)) i (i + r) ⌝ }
+{
+    let x = eight(s, i);
+    if x & 0x8080808080808080 != 0 {
+        return 0;
+    }
+    let clear = 0x8080808080808080 - ((x + 0x6060606060606060) & 0x8080808080808080);
+    let zeros = u64::trailing_zeros(clear);
+    (zeros / 8) as usize
 }
 
 // The eight bytes at a place as one number, so that one sum tests them all.

@@ -1,9 +1,10 @@
 -- `lines::ascii_eights` meets its contract. Invariant: such bytes stand up to the place reached.
 use Prim.Native.Nat.{_-_}
+use native.Mathlib.Omega.{arith}
 use lib.ListN.{length}
 use borrow.Author.Needs.{needs}
 use Rattle.lines.specs.Contracts.Places.{AsciiBody}
-use Rattle.lines.proofs.Asciis.{run-none, run-more}
+use Rattle.lines.proofs.Asciis.{run-none, run-more, run-printable}
 use Rattle.lines.proofs.ascii_eights.Statement.{statement}
 use Rattle.lines.proofs.ascii_eights.Tie as tie
 
@@ -26,13 +27,13 @@ add-i : tie.Need-add-i Inv-loop μ-loop
 add-i c = search needs
 
 returns : tie.Need-returns Inv-loop μ-loop
-returns c = run-more (c .before .before .before .loop .inv) (c .before .printable-among .ensures .1)
+returns c = run-more (c .before .before .before .loop .inv) (run-printable _ _ _ (omega (arith, c .before .printable-among .ensures .0)) (c .before .printable-among .ensures .1))
 
 loop-less : tie.Need-loop-less Inv-loop μ-loop
 loop-less c = search needs
 
 loop-again : tie.Need-loop-again Inv-loop μ-loop
-loop-again c = run-more (c .before .before .before .loop .inv) (c .before .printable-among .ensures .1)
+loop-again c = run-more (c .before .before .before .loop .inv) (run-printable _ _ _ (omega (arith, c .before .printable-among .ensures .0)) (c .before .printable-among .ensures .1))
 
 returns-2 : tie.Need-returns-2 Inv-loop μ-loop
 returns-2 c = search needs

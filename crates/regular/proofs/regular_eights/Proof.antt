@@ -4,7 +4,7 @@ use native.Mathlib.Omega.{arith}
 use denote.Ref.{now}
 use borrow.Author.Needs.{needs}
 use Rattle.regular.specs.Contracts.Places.{EachRegular}
-use Rattle.regular.proofs.Marks.{each-more}
+use Rattle.regular.proofs.Marks.{each-more, each-printable}
 use Rattle.regular.proofs.regular_eights.Statement.{statement}
 use Rattle.regular.proofs.regular_eights.Tie as tie
 
@@ -20,20 +20,20 @@ loop-holds c = (omega arith, omega arith, λ j h k. absurd (omega arith))
 sub-loop : tie.Need-sub-loop Inv-loop μ-loop
 sub-loop c = search needs
 
-are-regular-requires : tie.Need-are-regular-requires Inv-loop μ-loop
-are-regular-requires c κs = (omega arith, omega arith)
+printable-among-requires : tie.Need-printable-among-requires Inv-loop μ-loop
+printable-among-requires c κs = (omega arith, omega arith)
 
 add-i : tie.Need-add-i Inv-loop μ-loop
-add-i c = omega arith
-
-loop-less : tie.Need-loop-less Inv-loop μ-loop
-loop-less c = omega arith
-
-loop-again : tie.Need-loop-again Inv-loop μ-loop
-loop-again c = (omega arith, omega arith, each-more (now (c .before .before .before .before .before .args .s)) _ _ _ (c .before .before .before .loop .inv .2) (c .before .are-regular .ensures (c .if1 .taken)))
+add-i c = omega (arith, c .printable-among .ensures .0)
 
 returns : tie.Need-returns Inv-loop μ-loop
-returns c = let l = c .before .before .before .loop .inv in (l .0, l .1, l .2)
+returns c = let l = c .before .before .before .loop .inv in let n = c .before .printable-among .ensures in let s = now (c .before .before .before .before .before .args .s) in (omega (arith, l .0), omega (arith, n .0), each-more s _ _ _ (l .2) (each-printable s _ _ (n .1)))
+
+loop-less : tie.Need-loop-less Inv-loop μ-loop
+loop-less c = omega (arith, c .before .printable-among .ensures .0, c .if1 .left)
+
+loop-again : tie.Need-loop-again Inv-loop μ-loop
+loop-again c = let l = c .before .before .before .loop .inv in let n = c .before .printable-among .ensures in let s = now (c .before .before .before .before .before .args .s) in (omega (arith, l .0), omega (arith, n .0), each-more s _ _ _ (l .2) (each-printable s _ _ (n .1)))
 
 returns-2 : tie.Need-returns-2 Inv-loop μ-loop
 returns-2 c = let l = c .before .loop .inv in (l .0, l .1, l .2)
@@ -46,9 +46,9 @@ regular-eights-spec =
     μ-loop
     loop-holds
     sub-loop
-    are-regular-requires
+    printable-among-requires
     add-i
+    returns
     loop-less
     loop-again
-    returns
     returns-2)

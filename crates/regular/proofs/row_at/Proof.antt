@@ -31,16 +31,16 @@ add-from c = omega (arith, begins c, c .before .pre .1, c .before .pre .2)
 regular-end-requires : tie.Need-regular-end-requires
 regular-end-requires c κs = (begins c, c .before .pre .1)
 
-letters-end-requires : tie.Need-letters-end-requires
-letters-end-requires c κs = (c .regular-end .ensures .most, c .before .before .pre .1)
+letters-after-requires : tie.Need-letters-after-requires
+letters-after-requires c κs = (c .regular-end .ensures .most, c .before .before .pre .1)
 
 before-spaces-requires : tie.Need-before-spaces-requires
-before-spaces-requires c κs = (omega (arith, c .before .regular-end .ensures .on, c .letters-end .ensures .on), omega (arith, c .letters-end .ensures .most, c .before .before .before .pre .1))
+before-spaces-requires c κs = (omega (arith, c .before .regular-end .ensures .on, c .letters-after .ensures .on), omega (arith, c .letters-after .ensures .most, c .before .before .before .pre .1))
 
 -- the letters are before the spaces at its end
 counted : (c : tie.After-before-spaces)
-    → columnsIn (now (c .before .before .before .before .args .s)) (c .before .before .before .before .args .i + c .before .before .before .before .args .skip) (c .before-spaces .result) + c .before .letters-end .result .count ≡ c .before-spaces .result - (c .before .before .before .before .args .i + c .before .before .before .before .args .skip)
-counted c = row-columns _ _ _ _ (c .before .before .before .before .pre .1) (c .before .before .regular-end .ensures) _ (c .before .letters-end .ensures) _ (c .before-spaces .ensures)
+    → columnsIn (now (c .before .before .before .before .args .s)) (c .before .before .before .before .args .i + c .before .before .before .before .args .skip) (c .before-spaces .result) + c .before .letters-after .result .count ≡ c .before-spaces .result - (c .before .before .before .before .args .i + c .before .before .before .before .args .skip)
+counted c = row-columns _ _ _ _ (c .before .before .before .before .pre .1) (c .before .before .regular-end .ensures) _ (c .before .letters-after .ensures) _ (c .before-spaces .ensures)
 
 sub-t11 : tie.Need-sub-t11
 sub-t11 c = c .before-spaces .ensures .on
@@ -52,10 +52,10 @@ behind-line-requires : tie.Need-behind-line-requires
 behind-line-requires c κs = search needs
 
 ends-line-requires : tie.Need-ends-line-requires
-ends-line-requires c κs = (c .before .before .before .letters-end .ensures .most, c .before .before .before .before .before .before .pre .1)
+ends-line-requires c κs = (c .before .before .before .letters-after .ensures .most, c .before .before .before .before .before .before .pre .1)
 
 are-as-written-requires : tie.Need-are-as-written-requires
-are-as-written-requires c κs = let before = c .before .before .before .before-spaces .ensures in (before .on, omega (arith, before .most, c .before .before .before .before .letters-end .ensures .most, c .before .before .before .before .before .before .before .pre .1))
+are-as-written-requires c κs = let before = c .before .before .before .before-spaces .ensures in (before .on, omega (arith, before .most, c .before .before .before .before .letters-after .ensures .most, c .before .before .before .before .before .before .before .pre .1))
 
 returns : tie.Need-returns
 unfolding meant
@@ -64,7 +64,7 @@ returns c =
     let start = c .before .before .before .before .before .before .before .before in
     let p = start .pre in
     let regular = c .before .before .before .before .before .before .regular-end .ensures in
-    let letters = c .before .before .before .before .before .letters-end .ensures in
+    let letters = c .before .before .before .before .before .letters-after .ensures in
     let both = and-eq-true-iff _ _ .0 h in
     rw h
     (row-is (meant block (start .args .o)) (start .args .skip) (start .args .later) (now (start .args .s)) (start .args .next) (start .args .i) _ (p .0) (p .1) refl (p .3)
@@ -76,7 +76,7 @@ row-at-spec =
     (tie.spec
     add-from
     regular-end-requires
-    letters-end-requires
+    letters-after-requires
     before-spaces-requires
     sub-t11
     sub-t12

@@ -1,76 +1,60 @@
--- `text::are_ascii` meets its contract: it says so only where each test held.
+-- `text::are_ascii` meets its contract. Invariant: if all tests held, the bytes up to the place reached are below 0x80.
+use mathlib.Core.Path.{_≡_}
+use mathlib.Core.Bool.{true, and-eq-true-iff}
+use Prim.Native.Nat.{_+_, _-_, _≤_}
+use native.Mathlib.Omega.{arith}
 use borrow.Author.Needs.{needs}
-use Rattle.text.proofs.Rows.{allAt}
-use Rattle.text.proofs.Asciis.{ascii-eight}
+use borrow.Author.Tests.{ltb-true}
+use Rattle.text.specs.Contracts.Places.{Ascii}
+use Rattle.text.proofs.Asciis.{ascii-nothing, ascii-byte}
 use Rattle.text.proofs.are_ascii.Statement.{statement}
 use Rattle.text.proofs.are_ascii.Tie as tie
 
-add-b : tie.Need-add-b
-add-b c = search needs
+abbrev Inv-loop : tie.InvT-loop
+Inv-loop s i all₀ k₀ all k = (k ≤ 16) × (all ≡ true → Ascii s i (i + k))
 
-add-c : tie.Need-add-c
-add-c c = search needs
+abbrev μ-loop : tie.MeasureT-loop
+μ-loop s i all₀ k₀ all k = 16 - k
 
-add-d : tie.Need-add-d
-add-d c = search needs
+loop-holds : tie.Need-loop-holds Inv-loop μ-loop
+loop-holds c = (omega arith, λ e. ascii-nothing _ _ (c .pre .0))
 
-add-e : tie.Need-add-e
-add-e c = search needs
+add-at : tie.Need-add-at Inv-loop μ-loop
+add-at c = search needs
 
-add-f : tie.Need-add-f
-add-f c = search needs
+shared-slice-read-all : tie.Need-shared-slice-read-all Inv-loop μ-loop
+shared-slice-read-all c = let p = c .before .before .before .pre in omega (arith, p .0, p .1, c .before .loop-test .taken)
 
-add-g : tie.Need-add-g
-add-g c = search needs
+add-k : tie.Need-add-k Inv-loop μ-loop
+add-k c = search needs
 
-add-h : tie.Need-add-h
-add-h c = search needs
+loop-less : tie.Need-loop-less Inv-loop μ-loop
+loop-less c = omega (arith, c .before .loop-test .taken)
 
-shared-slice-read-result : tie.Need-shared-slice-read-result
-shared-slice-read-result c = search needs
+loop-again : tie.Need-loop-again Inv-loop μ-loop
+loop-again c =
+    let l = c .before .before .loop in
+    let p = c .before .before .before .pre in
+    let t = c .before .loop-test .taken in (
+      omega (arith, t),
+      λ e.
+          let b = and-eq-true-iff (l .all) _ .0 e in
+          ascii-byte _ (omega arith) (l .inv .1 (b .0)) (omega (arith, p .0, p .1, t)) (ltb-true _ _ (b .1)),
+    )
 
-shared-slice-read-result-2 : tie.Need-shared-slice-read-result-2
-shared-slice-read-result-2 c = search needs
-
-shared-slice-read-result-3 : tie.Need-shared-slice-read-result-3
-shared-slice-read-result-3 c = search needs
-
-shared-slice-read-result-4 : tie.Need-shared-slice-read-result-4
-shared-slice-read-result-4 c = search needs
-
-shared-slice-read-result-5 : tie.Need-shared-slice-read-result-5
-shared-slice-read-result-5 c = search needs
-
-shared-slice-read-result-6 : tie.Need-shared-slice-read-result-6
-shared-slice-read-result-6 c = search needs
-
-shared-slice-read-result-7 : tie.Need-shared-slice-read-result-7
-shared-slice-read-result-7 c = search needs
-
-shared-slice-read-result-8 : tie.Need-shared-slice-read-result-8
-shared-slice-read-result-8 c = search needs
-
-returns : tie.Need-returns
-unfolding allAt
-returns c = λ e. ascii-eight _ _ (search needs) e
+returns : tie.Need-returns Inv-loop μ-loop
+returns c = λ e. let q : c .before .loop .k ≡ 16 = omega (arith, c .before .loop .inv .0, c .loop-test .left) in rw q at (c .before .loop .inv .1 e)
 
 pub are-ascii-spec : {M : Type 1} → statement M
 are-ascii-spec =
     tie.close
     (tie.spec
-    add-b
-    add-c
-    add-d
-    add-e
-    add-f
-    add-g
-    add-h
-    shared-slice-read-result
-    shared-slice-read-result-2
-    shared-slice-read-result-3
-    shared-slice-read-result-4
-    shared-slice-read-result-5
-    shared-slice-read-result-6
-    shared-slice-read-result-7
-    shared-slice-read-result-8
+    Inv-loop
+    μ-loop
+    loop-holds
+    add-at
+    shared-slice-read-all
+    add-k
+    loop-less
+    loop-again
     returns)

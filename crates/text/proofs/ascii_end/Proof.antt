@@ -13,8 +13,8 @@ Inv-loop s from i₀ i = Ascii s from i
 abbrev μ-loop : tie.MeasureT-loop
 μ-loop s from i₀ i = length s - i
 
-ascii-eights-requires : tie.Need-ascii-eights-requires Inv-loop μ-loop
-ascii-eights-requires c κs = search needs
+ascii-sixteens-requires : tie.Need-ascii-sixteens-requires Inv-loop μ-loop
+ascii-sixteens-requires c κs = search needs
 
 loop-holds : tie.Need-loop-holds Inv-loop μ-loop
 loop-holds c = search needs
@@ -43,7 +43,7 @@ ascii-end-spec =
     (tie.spec
     Inv-loop
     μ-loop
-    ascii-eights-requires
+    ascii-sixteens-requires
     loop-holds
     shared-slice-read-if1
     returns

@@ -31,6 +31,10 @@ pub record Ascii (s : List ℕ) (from to : ℕ) : Type 0 where
   pub within : to ≤ length s
   pub small : (i : ℕ) → from ≤ i → i < to → getD s i 0 < 0x80
 
+-- the bytes from a place up to another are from 32 to 127
+abbrev pub Printable : List ℕ → ℕ → ℕ → Type 0
+Printable s from to = (k : ℕ) → from ≤ k → k < to → (32 ≤ getD s k 0) × (getD s k 0 < 128)
+
 -- a character of two bytes is at a place, U+0080 to U+07FF
 abbrev pub pairCode : List ℕ → ℕ → ℕ
 pairCode s at = getD s at 0 % 32 * 64 + getD s (at + 1) 0 % 64

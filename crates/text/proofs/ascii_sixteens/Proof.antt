@@ -1,11 +1,11 @@
--- `text::ascii_eights` meets its contract. Invariant: what was passed is below 0x80.
+-- `text::ascii_sixteens` meets its contract. Invariant: what was passed is below 0x80.
 use Prim.Native.Nat.{_-_}
 use lib.ListN.{length}
 use borrow.Author.Needs.{needs}
 use Rattle.text.specs.Contracts.Places.{Ascii}
 use Rattle.text.proofs.Asciis.{ascii-none, ascii-more}
-use Rattle.text.proofs.ascii_eights.Statement.{statement}
-use Rattle.text.proofs.ascii_eights.Tie as tie
+use Rattle.text.proofs.ascii_sixteens.Statement.{statement}
+use Rattle.text.proofs.ascii_sixteens.Tie as tie
 
 abbrev Inv-loop : tie.InvT-loop
 Inv-loop s from i₀ i = Ascii s from i
@@ -37,8 +37,8 @@ returns c = search needs
 returns-2 : tie.Need-returns-2 Inv-loop μ-loop
 returns-2 c = search needs
 
-pub ascii-eights-spec : {M : Type 1} → statement M
-ascii-eights-spec =
+pub ascii-sixteens-spec : {M : Type 1} → statement M
+ascii-sixteens-spec =
     tie.close
     (tie.spec
     Inv-loop
