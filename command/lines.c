@@ -18,10 +18,22 @@ bool next_line(struct lines *lines) {
     return true;
 }
 
+/* Few enough bytes for their count to be a byte, and a number of them that the compiler knows: it counts them all at once. */
+#define BLOCK 64
+
+static uint8_t feeds_of_block(const uint8_t *bytes) {
+    uint8_t count = 0;
+    int i;
+    for (i = 0; i < BLOCK; i++)
+        count = (uint8_t)(count + (bytes[i] == '\n'));
+    return count;
+}
+
 unsigned long feeds(const uint8_t *bytes, size_t length) {
     unsigned long count = 0;
-    size_t i;
-    for (i = 0; i < length; i++)
-        count += bytes[i] == '\n';
+    for (; length >= BLOCK; bytes += BLOCK, length -= BLOCK)
+        count += feeds_of_block(bytes);
+    for (; length > 0; bytes++, length--)
+        count += *bytes == '\n';
     return count;
 }

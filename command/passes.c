@@ -13,16 +13,34 @@ struct known {
 };
 
 /* In the manner of Fowler, Noll and Vo, eight bytes at a time. */
+#define BASIS 14695981039346656037u
+
+static uint64_t summed(uint64_t sum, uint64_t word) {
+    sum = (sum ^ word) * 1099511628211u;
+    return sum ^ sum >> 32;
+}
+
+/* Four sums side by side, of which none waits for another, and one of them all. */
+#define SUMS 4
+
+static void sum_words(uint64_t sums[SUMS], const uint64_t words[SUMS]) {
+    int i;
+    for (i = 0; i < SUMS; i++)
+        sums[i] = summed(sums[i], words[i]);
+}
+
 static uint64_t sum_of(const uint8_t *bytes, size_t length) {
-    uint64_t sum = 14695981039346656037u + length, word;
-    size_t taken;
-    for (; length > 0; bytes += taken, length -= taken) {
-        taken = length < sizeof word ? length : sizeof word;
-        word = 0;
-        memcpy(&word, bytes, taken);
-        sum = (sum ^ word) * 1099511628211u;
-        sum ^= sum >> 32;
+    uint64_t sums[SUMS] = {BASIS, BASIS, BASIS, BASIS}, words[SUMS], sum = BASIS + length;
+    int i;
+    for (; length >= sizeof words; bytes += sizeof words, length -= sizeof words) {
+        memcpy(words, bytes, sizeof words);
+        sum_words(sums, words);
     }
+    memset(words, 0, sizeof words);
+    memcpy(words, bytes, length);
+    sum_words(sums, words);
+    for (i = 0; i < SUMS; i++)
+        sum = summed(sum, sums[i]);
     return sum;
 }
 
