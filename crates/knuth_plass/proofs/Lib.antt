@@ -21,6 +21,7 @@ pub mod Span
 pub mod Again
 pub mod Rounding
 pub mod Intervals
+pub mod Skipping
 pub mod Unique
 pub mod Makers
 pub mod Asked

@@ -13,7 +13,6 @@ use super::turns::either;
 use super::turns::extended;
 use super::turns::offered;
 use super::turns::restarted;
-use super::turns::sentence_behind;
 use super::turns::turn_of;
 use records::Before;
 use records::Word;
@@ -24,7 +23,8 @@ ghost use Prim.Native.Nat.{_+_, _-_, _*_, _<_, _≤_, _^_};
 ghost use lib.Dec as D;
 ghost use lib.ListN.{length};
 ghost use Rattle.records.specs.declared.Before.the-variants.{Absent};
-ghost use Rattle.records.specs.Contracts.Table.{Holds};
+ghost use Rattle.records.specs.Contracts.Table.{Holds, Room};
+ghost use Rattle.spacing.specs.Contracts.Bounds.{AddedIs};
 ghost use Rattle.demerits.specs.Contracts.Bounds.{within};
 ghost use Rattle.knuth_plass.specs.Contracts.Table as T;
 ghost use Rattle.knuth_plass.specs.Contracts.Round as R;
@@ -34,6 +34,12 @@ ghost use Rattle.knuth_plass.specs.Contracts.Interval as I;
 pub struct Interval {
     pub head: usize,
     pub size: usize,
+    pub line: usize,
+}
+
+// The word that the skipped words end before, and the columns of the endless line with them.
+pub struct Skipped {
+    pub word: usize,
     pub line: usize,
 }
 
@@ -291,7 +297,71 @@ fn gap_behind(work: &[u32], n: usize, i: usize) -> usize
     w.after
 }
 
-// One round for each word after the first.
+// The sentence mark of word i. In the round of the second word it is not read from the word, but false.
+// In the original: `find_kp_breakpoints`.
+fn sentence_at(work: &[u32], i: usize) -> bool
+    requires { ⌜ Room i (now work) ⌝ }
+    ensures { λ r. ⌜ r ≡ I.sentenceAt (now (work .entry)) i ⌝ }
+{
+    if i < 2 {
+        return false;
+    }
+    let w = records::get(work, i);
+    if w.sentence {
+        return true;
+    }
+    if w.first {
+        let v = records::get(work, i - 1);
+        return v.punct;
+    }
+    false
+}
+
+// The space added before word i, which is w. Few words are the first of their line: the marks of the others are not worked out.
+fn space_at(work: &[u32], uniform: bool, i: usize, w: Word) -> usize
+    requires { ⌜ Room i (now work) ⌝ }
+    ensures { λ r. ⌜ AddedIs uniform (w .first) (I.sentenceAt (now (work .entry)) i) false r ⌝ }
+{
+    if w.first || uniform {
+        return spacing::added_space(uniform, w.first, sentence_at(work, i), false);
+    }
+    0
+}
+
+// The least columns of the endless line at which the line of a break may end.
+fn least_end(breaks: &[u32], g: Setting, head: usize) -> usize
+    requires { ⌜ R.Limits g × (head < length (T.tableIn (now breaks))) ⌝ }
+    ensures { λ r. ⌜ (r ≡ I.leastEnd g (T.tableIn (now (breaks .entry))) head) × (r < 2 ^ 33) ⌝ }
+{
+    let minimum = g.goal - (g.width - g.goal);
+    columns_from(g.indent, minimum + number(breaks, head, 6))
+}
+
+// The words from i on whose rounds change nothing but the endless line, which has p columns before them and less than low with them: the
+// first active break's line is too short to end there, and so is every other. The last word, of n, is never skipped.
+fn skip(work: &[u32], n: usize, uniform: bool, low: usize, i: usize, p: usize) -> Skipped
+    requires { ⌜ (i < n) × (n ≤ T.mostWords) × Holds n (now work) × (low < 2 ^ 33) ⌝ }
+    ensures { λ r. ⌜ r ≡ I.skippedFrom uniform low (now (work .entry)) (n - (i + 1)) i p ⌝ }
+{
+    // Rounds that offer follow one another: after one of them no word has to be read to see that there is nothing to skip.
+    if low <= p {
+        return Skipped { word: i, line: p };
+    }
+    let mut line = p;
+    let mut k = i;
+    while k + 1 < n {
+        let w = records::get(work, k);
+        let end = line + w.after + space_at(work, uniform, k, w) + w.width;
+        if low <= end {
+            return Skipped { word: k, line };
+        }
+        line = end;
+        k += 1;
+    }
+    Skipped { word: k, line }
+}
+
+// A round for each word after the first that is not skipped.
 // In the original: `find_kp_breakpoints`.
 fn rounds(g: Setting, work: &mut [u32], n: usize) -> Interval
     requires { ⌜ R.Limits g × (1 ≤ n) × R.Lent n (now work) × R.AllNarrow n (now work) × I.Regular g n (now work) ⌝ }
@@ -315,23 +385,30 @@ fn rounds(g: Setting, work: &mut [u32], n: usize) -> Interval
         size: 1,
         line: g.first + w.width,
     };
-    let mut sentence = false;
     let mut i = 1;
     while i < n {
-        let word = records::get(work, i);
-        let gap = gap_behind(work, n, i);
+        let low = least_end(&work[base..end], g, s.head);
+        let over = skip(work, n, g.uniform, low, i, s.line);
+        let k = over.word;
+        let word = records::get(work, k);
+        let gap = gap_behind(work, n, k);
+        let sentence = sentence_at(work, k);
+        let here = Interval {
+            head: s.head,
+            size: s.size,
+            line: over.line,
+        };
         s = round(
             g,
             word,
             gap,
-            i,
-            i + 1 == n,
+            k,
+            k + 1 == n,
             sentence,
-            s,
+            here,
             &mut work[base..end],
         );
-        sentence = sentence_behind(work, n, i);
-        i += 1;
+        i = k + 1;
     }
     s
 }

@@ -2,7 +2,7 @@
 -- is: the column of one endless line at which its own line begins, less the indent. Its line is x + indent - base columns long, where x are
 -- the columns of the endless line so far. Bases ascend, so that breaks leave at the head alone and the active breaks are an interval of the
 -- table. Demerits stay as they were made.
-use mathlib.Core.Bool.{Bool, true, false, cond, not, _&&_}
+use mathlib.Core.Bool.{Bool, true, false, cond, not, _&&_, _||_}
 use mathlib.Core.List.{List, [], _∷_}
 use mathlib.Core.Logic.{_⊎_}
 use mathlib.Core.Path.{_≡_}
@@ -23,6 +23,7 @@ use Rattle.knuth_plass.specs.declared.Break.{Break as Record}
 use Rattle.knuth_plass.specs.declared.Best.{Best}
 use Rattle.knuth_plass.specs.declared.Turn.{Turn}
 use Rattle.knuth_plass.specs.declared.interval.Interval.{Interval}
+use Rattle.knuth_plass.specs.declared.interval.Skipped.{Skipped}
 use Rattle.knuth_plass.specs.KnuthPlass.{Break, Place, Offer, none, offer, after, beforeWord, stretchOf, minimumOf, lesser, withOffer, least, pathOf}
 use Rattle.knuth_plass.specs.Contracts.Table.{ratioOf, Tables, breakIn, placeOf, pathTo, seen, breakMeant, Sound, Filled}
 use Rattle.knuth_plass.specs.Contracts.Round.{Limits, Turns, BestFits, nothing, offerMade}
@@ -232,6 +233,25 @@ pub record IntervalIs (g : Setting) (last sentence : Bool) (i gap : ℕ) (w : Wo
 -- the gap before the word after word i, of n: after the last word there is none
 abbrev pub gapAfter : ℕ → ℕ → List ℕ → ℕ
 gapAfter n i table = cond (ltb (i + 1) n) (wordIn table (i + 1) .after) 0
+
+-- ---- rounds that change nothing but the endless line
+
+-- the sentence mark that the round of word i has
+abbrev pub sentenceAt : List ℕ → ℕ → Bool
+sentenceAt table i = cond (ltb i 2) false (wordIn table i .sentence || wordIn table i .first && wordIn table (i - 1) .punct)
+
+-- the endless line with word i, from p columns
+abbrev pub endAt : Bool → List ℕ → ℕ → ℕ → ℕ
+endAt uniform table i p = p + wordIn table i .after + addedSpace uniform (wordIn table i .first) (sentenceAt table i) false + wordIn table i .width
+
+-- the least columns of the endless line at which the line of record k may end
+abbrev pub leastEnd : Setting → Tables → ℕ → ℕ
+leastEnd g t k = minimumOf g + breakIn t k .columns - g .indent
+
+-- up to m words from the i-th on, as long as the endless line with them stays below a limit
+unfoldable pub skippedFrom : Bool → ℕ → List ℕ → ℕ → ℕ → ℕ → Skipped
+skippedFrom uniform low table zero i p = record { word = i; line = p }
+skippedFrom uniform low table (suc m) i p = elim (leb low (endAt uniform table i p)) [ true ↦ record { word = i; line = p } | false ↦ skippedFrom uniform low table m (i + 1) (endAt uniform table i p) ]
 
 -- after all rounds: the least of the active entries has the path
 pub record IntervalsAre (g : Setting) (n : ℕ) (table : List ℕ) (t : Tables) (r : Interval) : Type 0 where
