@@ -54,8 +54,8 @@ def unfiltered(kind, row, above, size):
 class Browser:
     def __init__(self):
         self.home = tempfile.TemporaryDirectory(ignore_cleanup_errors=True)
-        self.log = pathlib.Path(self.home.name, "log")
-        log = open(self.log, "wb")
+        self.diary = pathlib.Path(self.home.name, "log")
+        log = open(self.diary, "wb")
         self.driver = subprocess.Popen(["chromedriver", "--port=0", "--enable-chrome-logs"], stdout=subprocess.PIPE, stderr=log, env={**os.environ, "HOME": self.home.name})
         self.port = self.find_port()
         flags = ["--headless=new", "--disable-gpu", "--hide-scrollbars", "--force-device-scale-factor=1", "--no-first-run", "--disable-background-networking",
@@ -72,7 +72,7 @@ class Browser:
 
     def first_error(self):
         """What the browser itself said first: the driver only says that it ended."""
-        found = re.search(r":ERROR:[^\]]*\] (.{,300})", self.log.read_text(errors="replace"))
+        found = re.search(r":ERROR:[^\]]*\] (.{,300})", self.diary.read_text(errors="replace"))
         return found and found[1]
 
     def find_port(self):
