@@ -2,10 +2,9 @@
 import json
 import os
 import pathlib
-import shutil
 import subprocess
 
-from .calls import RUDIGNALS, expect, run
+from .calls import RUDIGNALS, at_hand, expect, run
 
 NOTES = b"The valve at the north gate\nopened late.\n\nPump 7 was\nstarted.\n"
 DIGEST = b"The valve at the north gate opened late.\n\nPump 7 was started.\n"
@@ -99,7 +98,7 @@ def run_folders(folder):
     expect("audit of folders: the summary", plain[-2], "7 pairs: 3 carried, 1 text missing, 1 no digest, 2 no notes")
     for jobs in "1", "2", "7":
         expect(f"audit: the same whatever the jobs are ({jobs})", audit(folder, "--json", "--jobs", jobs, "notes", "digests")[1], out)
-    if shutil.which("jq"):
+    if at_hand("JSON read by jq", "jq", "jq"):
         done = subprocess.run(["jq", "-c", "[.verdict, (.missing | length)]"], input=out, stdout=subprocess.PIPE)
         expect("audit: jq reads the records", (done.returncode, len(done.stdout.splitlines())), (0, 7))
     (folder / "empty").mkdir()

@@ -1,6 +1,7 @@
 """Calls of the command, and the count of what was as expected."""
 import os
 import pathlib
+import shutil
 import subprocess
 import sys
 
@@ -13,6 +14,7 @@ SOURCES = sorted(str(path) for path in (ROOT / "command").glob("*.c"))
 
 tried = 0
 failures = 0
+left_out = set()
 
 
 def run(arguments, stdin=b"", program=FMT, **more):
@@ -20,6 +22,20 @@ def run(arguments, stdin=b"", program=FMT, **more):
     source = {"input": stdin} if isinstance(stdin, bytes) else {"stdin": stdin}
     done = subprocess.run([program, *arguments], stdout=more.pop("stdout", subprocess.PIPE), stderr=subprocess.PIPE, **source, **more)
     return done.returncode, done.stdout, done.stderr.decode(errors="backslashreplace")
+
+
+def leave_out(what, package):
+    """Said once of each: tests/all lists the lines that have these words."""
+    if what not in left_out:
+        left_out.add(what)
+        print(f"command: left out: {what}: install Debian's {package}", flush=True)
+
+
+def at_hand(what, tool, package):
+    """Whether there is such a program. If not, what needs it is told to be left out."""
+    if shutil.which(tool) is None:
+        leave_out(what, package)
+    return shutil.which(tool) is not None
 
 
 def shown(value):

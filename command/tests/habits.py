@@ -1,10 +1,9 @@
 """A user's habits: help, mistyped names, completion, JSON, numbers, options that are read in one way everywhere."""
 import json
 import re
-import shutil
 import subprocess
 
-from .calls import RUDIGNALS, expect, run
+from .calls import RUDIGNALS, at_hand, expect, run
 
 NAMES = ["format", "panel", "index", "explain", "page", "salvage", "restore", "flow", "unflow", "check", "audit", "night", "help", "completion"]
 FORMATTING = "-c -t -m -s -u -p -P -x -X -w -g -q -T --keep --glue --sentence-characters".split()
@@ -142,7 +141,7 @@ def objects(words, folder, stdin=b""):
     """Read by jq where it is at hand, else by Python: each line is an object of its own."""
     status, output, errors = run(words, stdin, RUDIGNALS, cwd=folder)
     rows = [json.loads(line) for line in output.decode().split("\n")[:-1]]
-    if shutil.which("jq"):
+    if at_hand("JSON read by jq", "jq", "jq"):
         again = subprocess.run(["jq", "-c", "."], input=output, stdout=subprocess.PIPE, check=True).stdout
         expect(f"jq reads {words}", [json.loads(line) for line in again.decode().split("\n")[:-1]], rows)
     expect(f"{words}: an object a line", output.count(b"\n"), len(rows))
@@ -239,7 +238,7 @@ def completed_by_bash(folder):
 
 
 def completed_by_fish(folder):
-    if not shutil.which("fish"):
+    if not at_hand("completion by fish", "fish", "fish"):
         return
     script = folder / "completion.fish"
     script.write_bytes(run(["completion", "fish"], b"", RUDIGNALS)[1])
@@ -261,7 +260,7 @@ def complete_for_all(folder):
             expect(f"completion {shell} has {name}'s options", missing, [])
         path = folder / f"script.{shell}"
         path.write_bytes(script)
-        if shutil.which(shell):
+        if at_hand(f"completion by {shell}", shell, shell):
             done = subprocess.run([shell, "-n", str(path)], capture_output=True)
             expect(f"{shell} reads it", (done.returncode, done.stderr), (0, b""))
     for words in [], ["csh"], ["bash", "zsh"]:

@@ -12,7 +12,7 @@ import subprocess
 import time
 import xml.etree.ElementTree
 
-from .calls import ROOT, RUDIGNALS, SANITIZED, expect, run
+from .calls import ROOT, RUDIGNALS, SANITIZED, at_hand, expect, leave_out, run
 
 FILES = ["digest.eml", "digest.txt", "index.json", "page.html", "status.json", "wall.html", "wall.svg"]
 NOTES = "22:40 Pump 2 tripped. Restarted by hand\nafter the valve was bled.\n\n  \u2013 falling\n".encode()
@@ -51,7 +51,7 @@ def files(folder):
     expect("night: wall.svg is a picture with the digest's words", (xml.etree.ElementTree.fromstring(read(made, "wall.svg")).tag[-3:], "falling" in seen_in(made, "wall.svg")), ("svg", True))
     for name in "page.html", "wall.html":
         expect(f"night: {name}", (b"<!doctype html>" in read(made, name)[:40].lower(), "falling" in seen_in(made, name)), (True, True))
-    if shutil.which("jq"):
+    if at_hand("JSON read by jq", "jq", "jq"):
         expect("night: jq reads status and index", subprocess.run(["jq", "-e", ".", made / "status.json", made / "index.json"], stdout=subprocess.DEVNULL).returncode, 0)
 
 
@@ -173,7 +173,7 @@ def generation(folder):
 
 def killed(folder):
     """Killed before each of its system calls: the old night or the new one stands whole, and the next run cleans up."""
-    if shutil.which("strace") is None or SANITIZED:
+    if SANITIZED or not at_hand("a night killed before each system call", "strace", "strace"):
         return
     (folder / "notes").write_bytes(b"first\n")
     night(folder, "--to", "out", "notes")
@@ -255,7 +255,10 @@ try:
 finally:
     c.stop()
 """
-    if SANITIZED or subprocess.run(["/usr/bin/python3", "-c", "import aiosmtpd"], stderr=subprocess.DEVNULL).returncode != 0:
+    if SANITIZED:
+        return
+    if subprocess.run(["/usr/bin/python3", "-c", "import aiosmtpd"], stderr=subprocess.DEVNULL).returncode != 0:
+        leave_out("a night through a mail server", "python3-aiosmtpd")
         return
     (folder / "notes").write_bytes(NOTES + b"\n.\n..x\nFrom me\n")
     night(folder, "--to", "out", "notes")
@@ -272,7 +275,7 @@ def units(folder):
         text = re.sub(r"Documentation=.*\n", "", unit.read_text())
         text = text.replace("/usr/bin/rudignals", RUDIGNALS).replace("/usr/bin/cage", "/bin/true").replace("/var/lib/rudignals", str(folder / "var"))
         (folder / unit.name).write_text(text)
-    if shutil.which("systemd-analyze"):
+    if at_hand("the units of a night read by systemd", "systemd-analyze", "systemd"):
         for unit in sorted(folder.glob("*.[st]*")):
             done = subprocess.run(["systemd-analyze", "verify", f"./{unit.name}"], cwd=folder, stdout=subprocess.PIPE, stderr=subprocess.STDOUT)
             expect(f"nightly: systemd takes {unit.name}", (done.returncode, done.stdout), (0, b""))
@@ -291,11 +294,11 @@ def read_by_others(folder):
     (folder / "notes").write_bytes(NOTES)
     night(folder, "--to", "out", "--mail-from", "Kryo W\u00e4chter <k@example.org>", "--mail-subject", "Nacht \u6f22", "notes")
     mail = read(folder, "out/notes/digest.eml")
-    if shutil.which("munpack"):
+    if at_hand("a night's mail taken apart by munpack", "munpack", "mpack"):
         (folder / "parts").mkdir()
         subprocess.run(["munpack", "-q", "-C", folder / "parts"], input=mail, stdout=subprocess.DEVNULL)
         expect("night: munpack finds the notes", read(folder, "parts/notes"), NOTES)
-    if shutil.which("neomutt") is None or shutil.which("script") is None:
+    if not at_hand("a night's mail shown by NeoMutt", "neomutt", "neomutt") or not at_hand("a night's mail shown by NeoMutt", "script", "bsdutils"):
         return
     (folder / "box").write_bytes(b"From k@example.org Mon Nov 16 16:00:00 2026\n" + mail.replace(b"\r\n", b"\n") + b"\n")
     (folder / "rc").write_text('set folder="."\nset pipe_decode=yes\nset wait_key=no\nset quit=yes\nset charset=utf-8\npush "<pipe-message>cat>seen<enter><quit>"\n')

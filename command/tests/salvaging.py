@@ -2,12 +2,11 @@
 import os
 import random
 import re
-import shutil
 import signal
 import subprocess
 import time
 
-from .calls import ROOT, RUDIGNALS, expect, expect_same, run
+from .calls import ROOT, RUDIGNALS, at_hand, expect, expect_same, run
 from .salvage import mended
 from .words import LONG
 
@@ -110,8 +109,7 @@ def said_once(folder):
 
 def as_iconv_has_it():
     """Where every line is ISO 8859-1, the copy is iconv's."""
-    if not shutil.which("iconv"):
-        print("command: iconv is not at hand", flush=True)
+    if not at_hand("as iconv has it", "iconv", "libc-bin"):
         return
     rng = random.Random(7)
     for _ in range(20):

@@ -85,12 +85,12 @@ def long_pair(browser, command, folder):
 
 def main():
     if missing():
-        print(f"report: {', '.join(missing())} not at hand")
+        print("audit: left out: the report in a browser: install Debian's chromium and chromium-driver")
         sys.exit(77)
     try:
         browser = Browser()
     except NotStarted as fault:
-        print(f"report: {fault}")
+        print(f"audit: left out: the report in a browser, which does not start: {fault}")
         sys.exit(77)
     with tempfile.TemporaryDirectory() as name:
         try:

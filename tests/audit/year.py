@@ -67,7 +67,7 @@ def tools(oracle):
              "fold -s": (["fold", "-s", "-w", "60"], False)}
     for name, (words, _) in asked.items():
         if words is None:
-            print(f"audit: {name} is not at hand")
+            print(f"audit: left out: {name}, which is not at hand")
     return {name: row for name, row in asked.items() if row[0]}
 
 

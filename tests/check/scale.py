@@ -147,7 +147,7 @@ def main():
         sys.exit(f"check: {lame} never refused")
     for program in ("the Rust", "GNU fmt", "par"):
         if not tried[program]:
-            print(f"check: {program} is not at hand: not compared")
+            print(f"check: left out: {program}, which is not at hand")
     print(f"at scale: {total} digests of {count} notes, {refused} of them refused, no difference")
 
 

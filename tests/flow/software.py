@@ -15,6 +15,7 @@ import texts
 import writer
 
 HERE = pathlib.Path(__file__).resolve().parent
+PACKAGES = {"horde": "php-cli and php-horde-text-flowed", "roundcube": "php-cli and roundcube-core"}
 
 
 def through(which, way, given):
@@ -87,7 +88,7 @@ def main():
     for which, expected in (("horde", lambda text: horde_like(model.paragraphs(text))), ("roundcube", roundcube_like)):
         read = through(which, "read", sent)
         if read is None:
-            print(f"{which}: not at hand")
+            print(f"flow: left out: {which}: install Debian's {PACKAGES[which]}")
             continue
         tried += 1
         faults += compare(which, f"{which} reads what is written here", sent, read, expected)

@@ -99,7 +99,7 @@ impl Rules<'_> {
         let (mut column, mut from, mut characters, mut at) = (0, 0, 0, 0);
         while at < line.len() {
             let (bytes, code) = self.front(&line[at..]);
-            let none = code.is_some_and(|c| self.widths[c as usize] == 0) && !self.has(Fault::ZeroWidthBreaks);
+            let none = code.map_or(false, |c| self.widths[c as usize] == 0) && !self.has(Fault::ZeroWidthBreaks);
             let end = self.behind(tab, column, from, code);
             if end > columns && !none && (characters > 0 || self.has(Fault::FirstBreaks)) {
                 out.push(b'\n');

@@ -243,11 +243,11 @@ class TwoMinutes:
     """A wall whose command was killed, in a browser of its own, for as long as it takes to turn red: looked at behind the other tests."""
 
     def __init__(self, program, folder):
+        self.wall = Wall()  # first: where no browser starts, no command is left behind
         self.night = Night(program, folder, "two-minutes.html")
         self.night.notes = folder / "two-minutes"
         self.night.write("quiet\n")
         self.night.follow()
-        self.wall = Wall()
         self.wall.open(self.night.page, width=1280, height=720)
         self.night.end(signal.SIGKILL)
         self.drawn = int(re.search(r"data-drawn=(\d+)", self.night.page.read_text(encoding="utf-8"))[1])
