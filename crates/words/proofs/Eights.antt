@@ -28,3 +28,8 @@ module _ (s : List ℕ) (i : ℕ) (small : (k : ℕ) → getD s k 0 < 256) (x : 
         least = λ k a b. let e = counted s i small x is clear 95 0x5F5F5F5F5F5F5F5F (omega arith) refl k a b in omega (arith, e .0);
         most = λ k a b. counted s i small x is clear 95 0x5F5F5F5F5F5F5F5F (omega arith) refl k a b .1;
       }
+
+  -- all eight, where none was marked
+  pub all-plain : clearOf 0x5F5F5F5F5F5F5F5F x ≡ 0 → i + 8 ≤ length s → Plain s i (i + 8)
+  unfolding trailingZeros
+  all-plain none h = rw none at (plain-count h)

@@ -61,6 +61,10 @@ module _ {s : List ℕ} {from : ℕ} where
     most = λ k h l. either-part (λ c. c < 128) s from i to (a .most) (b .most) k h l;
   }
 
+  -- and where the places are told otherwise
+  pub plain-both : {i j k to : ℕ} → Plain s from i → i ≡ j → Plain s j k → k ≡ to → Plain s from to
+  plain-both a e b f = rw (← f) (plain-join a (rw e b))
+
   -- the front of a run, and its last character
   pub plain-front : {to end : ℕ} → Plain s from to → from ≤ end → end ≤ to → Plain s from end
   plain-front p h k = record { on = h; within = omega (arith, p .within); least = λ i a b. p .least i a (omega arith); most = λ i a b. p .most i a (omega arith) }

@@ -1,6 +1,6 @@
 -- Words of plain characters, spaces apart: each is the next word of its line, wherever that ends.
 use mathlib.Core.Path.{_≡_, refl, ap}
-use mathlib.Core.Bool.{Bool, true, false, not, _||_, true≢false, false≢true}
+use mathlib.Core.Bool.{Bool, true, false, cond, not, _||_, true≢false, false≢true}
 use mathlib.Core.Logic.{⊎-elim}
 use mathlib.Core.List.{List, _++_}
 use Prim.Native.Nat.{ℕ, _+_, _-_, _≤_, _<_}
@@ -22,9 +22,9 @@ use Rattle.records.specs.declared.Before.the-variants.{Absent}
 use Rattle.records.specs.declared.Word.{Word as Record}
 use Rattle.words.specs.Words.{runs}
 use Rattle.words.specs.Places.{placesFrom}
-use Rattle.words.specs.Contracts.Scan.{glyphsBehind, noBlanks, Plain, OverBlanks, OverInk, wordAt, wordsFrom, NextWord}
+use Rattle.words.specs.Contracts.Scan.{glyphsBehind, noBlanks, punctCode, Plain, OverBlanks, OverInk, wordAt, wordsFrom, NextWord}
 use Rattle.words.specs.Contracts.Split.{Kept, placesIn, WordsFilled}
-use Rattle.words.specs.Contracts.Spaced.{SpacesBefore, plainInk, PlainBehind, EndsAt, SpacedTo}
+use Rattle.words.specs.Contracts.Spaced.{SpacesBefore, plainInk, PlainWord, PlainBehind, oneBlank, PlainNext, EndsAt, SpacedTo}
 use Rattle.words.specs.declared.Blanks.{Blanks}
 use Rattle.words.specs.declared.Count.{Count}
 use Rattle.words.specs.declared.Spaced.{Spaced}
@@ -47,6 +47,38 @@ as-none e o = rw e o
 
 pub none-counted : (at : ℕ) → noBlanks at ≡ record { end = at; before = Absent; after = at - at }
 none-counted at = let z : at - at ≡ 0 = omega arith in rw z
+
+-- ---- a word after one space
+
+-- its record: it starts no sentence
+pub near-record : (uniform characters previous : Bool) (s : List ℕ) (at end : ℕ)
+    → wordAt uniform characters false previous at (oneBlank at) (plainInk s (at + 1) end)
+    ≡ record { from = cond uniform (at + 1) at; start = at + 1; end = end; width = end - (at + 1); before = Absent; after = cond uniform 0 1; first = false; punct = punctCode (getD s (end - 1) 0); sentence = false }
+near-record true characters false s at end = refl
+near-record false characters false s at end = refl
+near-record true true true s at end = refl
+near-record false true true s at end = refl
+near-record true false true s at end = let z : at + 1 - at ≡ 1 = omega arith in rw z
+near-record false false true s at end = let z : at + 1 - at ≡ 1 = omega arith in rw z
+
+pub near-next : (o : Opts) (first previous : Bool) (s : List ℕ) (at stop : ℕ) (w : Record) → first ≡ false → at < length s → getD s at 0 ≡ 32 → PlainWord s (at + 1) stop
+    → w ≡ wordAt (o .uniform) (o .byCharacters) false previous at (oneBlank at) (plainInk s (at + 1) stop) → PlainNext o first previous s at w
+near-next o true previous s at stop w e within space p is = absurd (true≢false e)
+near-next o false previous s at stop w e within space p is =
+    let one : at + 1 - at ≡ 1 = omega arith in
+    record {
+      gap = oneBlank at;
+      stop = stop;
+      plain = record {
+        gap = record {
+          over = record { on = omega arith; within = omega arith; spaces = λ i h k. let q : i ≡ at = omega arith in rw q space };
+          counts = rw one;
+          none = λ f. absurd (false≢true f);
+        };
+        word = p;
+      };
+      is = is;
+    }
 
 -- ---- one word, where the line's text ends at e
 

@@ -20,7 +20,7 @@ ghost use Rattle.words.specs.Contracts.Places.{wordsAt, placesAt};
 ghost use Rattle.words.specs.Contracts.Scan.{glyphsBehind, gapIn, gapBehind, noBlanks, OverBlanks, punctCode, gluedBytes, OverInk, Plain, OverPlain, InkBegins, OneSpace, wordAt, mailAt, wordsFrom, NextIs};
 ghost use Rattle.words.specs.Contracts.Split.{Kept, placesIn, WordsFilled, Split};
 ghost use Rattle.words.specs.Contracts.Taken.{TakenTo};
-ghost use Rattle.words.specs.Contracts.Spaced.{OverSpaces, SpacesBefore, plainInk, PlainWord, EndsAt, SpacedTo};
+ghost use Rattle.words.specs.Contracts.Spaced.{OverSpaces, SpacesBefore, plainInk, PlainWord, EndsAt, SpacedTo, oneBlank, SpacedNext};
 use options::Options;
 use records::Before;
 use records::Word;
@@ -158,24 +158,12 @@ fn spaced_words(
         return r;
     }
     loop {
-        let at = r.at;
-        let b = spaces_before(s, at, r.first);
-        let end = plain_word_end(s, b.end);
-        if end == 0 {
-            return r;
-        }
         if most <= r.count {
             return r;
         }
-        let w = word_of(
-            o.uniform,
-            o.by_characters,
-            r.first,
-            r.punct,
-            at,
-            b,
-            plain_ink(s, b.end, end),
-        );
+        let Next::One(w) = spaced_word(s, r.at, r.first, r.punct, o) else {
+            return r;
+        };
         records::store(table, r.count, w);
         r = Spaced {
             count: r.count + 1,
@@ -184,6 +172,102 @@ fn spaced_words(
             punct: w.punct,
         };
     }
+}
+
+// The next word of a line, if it is plain and nothing but spaces is before it.
+fn spaced_word(s: &[u8], at: usize, first: bool, previous: bool, o: Options) -> Next
+    requires { ⌜ at ≤ length (now s) ⌝ }
+    ensures { λ r. ⌜ SpacedNext (meant [] o) first previous (now (s .entry)) at r ⌝ }
+{
+    if !first {
+        if s.len() <= at {
+            return Next::End;
+        }
+        if s[at] != 32 {
+            return Next::End;
+        }
+        // One space is between most words. That no other is behind it need not be asked: it is not plain.
+        let end = near_end(s, at);
+        if end != 0 {
+            return Next::One(near_word(s, o.uniform, at, end));
+        }
+    }
+    far_word(s, at, first, previous, o)
+}
+
+// The end of the plain word after the space at a place, if the next sixteen bytes show it: a space or a line feed stands there. 0 if not.
+fn near_end(s: &[u8], at: usize) -> usize
+    requires { ⌜ at < length (now s) ⌝ }
+    ensures { λ r. ⌜ (0 < r → PlainWord (now (s .entry)) (at + 1) r) ⌝ }
+{
+    if s.len() - at < 17 {
+        return 0;
+    }
+    let start = at + 1;
+    let n = plain_in_sixteen(s, start);
+    if n == 0 {
+        return 0;
+    }
+    let end = start + n;
+    if s.len() <= end {
+        return 0;
+    }
+    let b = s[end];
+    if b == 32 {
+        return end;
+    }
+    if b == 10 {
+        return end;
+    }
+    0
+}
+
+// The record of a plain word after one space: it starts no sentence.
+fn near_word(s: &[u8], uniform: bool, at: usize, end: usize) -> Word
+    requires { ⌜ (at < length (now s)) × PlainWord (now s) (at + 1) end ⌝ }
+    ensures { λ r. ⌜ ((characters previous : Bool) → r ≡ wordAt uniform characters false previous at (oneBlank at) (plainInk (now (s .entry)) (at + 1) end)) ⌝ }
+{
+    let start = at + 1;
+    let w = plain_ink(s, start, end);
+    if uniform {
+        return Word {
+            from: start,
+            start,
+            end,
+            width: w.width,
+            before: Before::Absent,
+            after: 0,
+            first: false,
+            punct: w.punct,
+            sentence: false,
+        };
+    }
+    Word {
+        from: at,
+        start,
+        end,
+        width: w.width,
+        before: Before::Absent,
+        after: 1,
+        first: false,
+        punct: w.punct,
+        sentence: false,
+    }
+}
+
+// A plain word after any spaces, or the first of a line.
+fn far_word(s: &[u8], at: usize, first: bool, previous: bool, o: Options) -> Next
+    requires { ⌜ at ≤ length (now s) ⌝ }
+    ensures { λ r. ⌜ SpacedNext (meant [] o) first previous (now (s .entry)) at r ⌝ }
+{
+    let b = spaces_before(s, at, first);
+    let start = b.end;
+    let end = plain_word_end(s, start);
+    if end == 0 {
+        return Next::End;
+    }
+    let w = plain_ink(s, start, end);
+    Next::One(word_of(o.uniform, o.by_characters, first, previous, at, b, w))
 }
 
 // The spaces before a word at a place: none before the first of a line.
@@ -812,6 +896,18 @@ fn plain_eights(s: &[u8], from: usize) -> usize
     i
 }
 
+// How many of the sixteen bytes at a place, from the first on, are plain; if one of them is not ASCII, at most those before its eight.
+fn plain_in_sixteen(s: &[u8], i: usize) -> usize
+    requires { ⌜ (i ≤ length (now s)) × (16 ≤ length (now s) - i) ⌝ }
+    ensures { λ r. ⌜ (r ≤ 16) × Plain (now (s .entry)) i (i + r) ⌝ }
+{
+    let n = plain_among(s, i);
+    if n < 8 {
+        return n;
+    }
+    8 + plain_among(s, i + 8)
+}
+
 // How many of the eight bytes at a place, from the first on, are plain; none if one of the eight is not ASCII. With 95 added, each byte from
 // 33 on has its high bit set. Below the first high bit that is clear stand eight zeros for each byte before it.
 fn plain_among(s: &[u8], i: usize) -> usize
@@ -823,16 +919,17 @@ fn plain_among(s: &[u8], i: usize) -> usize
         return 0;
     }
     let clear = 0x8080808080808080 - ((x + 0x5F5F5F5F5F5F5F5F) & 0x8080808080808080);
+    if clear == 0 {
+        return 8;
+    }
     let zeros = u64::trailing_zeros(clear);
     (zeros / 8) as usize
 }
 
+// Whether a character ends a sentence. Three comparisons cost less than a branch, which is hard to foresee.
 // In the original: `WordSplit::is_punctuation`.
 fn is_punct(code: u32) -> bool
     ensures { λ r. ⌜ r ≡ punctCode code ⌝ }
 {
-    match code {
-        33 | 46 | 63 => true,
-        _ => false,
-    }
+    (code == 33) | (code == 46) | (code == 63)
 }

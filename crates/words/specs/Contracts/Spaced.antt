@@ -13,12 +13,15 @@ use Rattle.text.specs.Contracts.Places.{inkGlyphs}
 use Rattle.options.specs.Opts.{Opts}
 use Rattle.records.specs.Contracts.Table.{wordsIn}
 use Rattle.records.specs.declared.Before.the-variants.{Absent}
+use Rattle.records.specs.declared.Word.{Word as Record}
 use Rattle.words.specs.Words.{runs}
 use Rattle.words.specs.Places.{placesFrom}
-use Rattle.words.specs.Contracts.Scan.{noBlanks, punctCode, Plain, glyphsBehind, wordsFrom}
+use Rattle.words.specs.Contracts.Scan.{noBlanks, punctCode, Plain, glyphsBehind, wordAt, wordsFrom}
 use Rattle.words.specs.Contracts.Split.{placesIn}
 use Rattle.words.specs.declared.Blanks.{Blanks}
 use Rattle.words.specs.declared.Ink.{Ink}
+use Rattle.words.specs.declared.Next.{Next}
+use Rattle.words.specs.declared.Next.the-variants.{One, End}
 use Rattle.words.specs.declared.Spaced.{Spaced}
 
 -- r is after the spaces at a place
@@ -47,6 +50,22 @@ pub record PlainWord (s : List ℕ) (start end : ℕ) : Type 0 where
 pub record PlainBehind (s : List ℕ) (at : ℕ) (first : Bool) (b : Blanks) (end : ℕ) : Type 0 where
   pub gap : SpacesBefore s at first b
   pub word : PlainWord s (b .end) end
+
+-- one space is at a place
+abbrev pub oneBlank : ℕ → Blanks
+oneBlank at = record { end = at + 1; before = Absent; after = 1 }
+
+-- w is the record of such a word, after these spaces
+pub record PlainNext (o : Opts) (first previous : Bool) (s : List ℕ) (at : ℕ) (w : Record) : Type 0 where
+  pub gap : Blanks
+  pub stop : ℕ
+  pub plain : PlainBehind s at first gap stop
+  pub is : w ≡ wordAt (o .uniform) (o .byCharacters) first previous at gap (plainInk s (gap .end) stop)
+
+-- the next word, if there is such a one
+abbrev pub SpacedNext : Opts → Bool → Bool → List ℕ → ℕ → Next → Type 0
+SpacedNext o first previous s at End = Unit {0}
+SpacedNext o first previous s at (One w) = PlainNext o first previous s at w
 
 -- the text of the line that a place is in ends at another: at the text's end, or at a line feed, with the carriage return before it
 pub record EndsAt (s : List ℕ) (from end : ℕ) : Type 0 where
