@@ -92,7 +92,7 @@ MUTANTS = [
     (MODEL, "[0..=2047, 1..=1000, 1..=1000, 0..=100]", "[0..=2047, 1..=1000, 1..=1000, 1..=100]"),
     (MODEL, "size == 2 &&", "size >= 2 &&"),
     (MODEL, "size <= 255 &&", "size <= 254 &&"),
-    (MODEL, "&& damage(v).is_none())", "&& std::str::from_utf8(v).is_ok())"),
+    (MODEL, "&& damage(v).is_none())", "&& v.is_ascii())"),
     (MODEL, "if notes.len() > most {", "if notes.len() >= most {"),
     (MODEL, "if words > 1024 {", "if words > 1023 {"),
     (MODEL, "if !fields.has(KEEP) {", "if true {"),
