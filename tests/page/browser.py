@@ -54,9 +54,8 @@ def unfiltered(kind, row, above, size):
 class Browser:
     def __init__(self):
         self.home = tempfile.TemporaryDirectory(ignore_cleanup_errors=True)
-        self.diary = pathlib.Path(self.home.name, "log")
-        log = open(self.diary, "wb")
-        self.driver = subprocess.Popen(["chromedriver", "--port=0", "--enable-chrome-logs"], stdout=subprocess.PIPE, stderr=log, env={**os.environ, "HOME": self.home.name})
+        log = open(os.path.join(self.home.name, "log"), "wb")
+        self.driver = subprocess.Popen(["chromedriver", "--port=0"], stdout=subprocess.PIPE, stderr=log, env={**os.environ, "HOME": self.home.name})
         self.port = self.find_port()
         flags = ["--headless=new", "--disable-gpu", "--hide-scrollbars", "--force-device-scale-factor=1", "--no-first-run", "--disable-background-networking",
                  f"--user-data-dir={self.home.name}/profile", "--disable-dev-shm-usage", "--touch-events=enabled"]
@@ -66,14 +65,8 @@ class Browser:
         try:
             self.session = self.call("POST", "/session", {"capabilities": {"alwaysMatch": wanted}})["sessionId"]
         except RuntimeError as fault:
-            why = self.first_error()
             self.stop()
-            raise NotStarted(why or str(fault)) from None
-
-    def first_error(self):
-        """What the browser itself said first: the driver only says that it ended."""
-        found = re.search(r":ERROR:[^\]]*\] (.{,300})", self.diary.read_text(errors="replace"))
-        return found and found[1]
+            raise NotStarted(str(fault)) from None
 
     def find_port(self):
         for line in self.driver.stdout:
