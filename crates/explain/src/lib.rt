@@ -246,7 +246,7 @@ fn pass_piece(o: Options, block: &[u8], notes: &[u8], s: Seek, work: &mut [u32])
 {
     let at = s.at;
     let asked = s.asked;
-    match pieces::next_piece(notes, at, o, block, s.mail) {
+    match pieces::next_piece(notes, at, o, block, s.mail, false) {
         Piece::Blank { next } => Passed::On(Seek {
             at: next,
             mail: true,

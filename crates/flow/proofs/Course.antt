@@ -1,22 +1,24 @@
 -- Piece by piece: what was sent of each, and what is left of the work.
 use mathlib.Core.Path.{_≡_, refl, sym, ap, _∙_}
-use mathlib.Core.Bool.{Bool, true, false}
+use mathlib.Core.Bool.{Bool, true, false, not}
 use mathlib.Core.List.{List, [], _∷_, _++_, append-nil}
 use Prim.Native.Nat.{ℕ, _+_, _-_, _*_, _≤_, _<_}
 use native.Mathlib.Nat.{mul-add}
 use native.Mathlib.Omega.{arith}
 use lib.ListN.{length}
 use lib.Seq.{slice, slice-empty}
-use borrow.Author.Tests.{le-ltb, lt-ltb}
+use borrow.Author.Tests.{le-ltb, lt-ltb, not-true}
 use Rattle.lists.specs.Runs.{joined, begins}
 use Rattle.lists.proofs.Parts.{joined-nil, joined-cons}
 use Rattle.lists.proofs.Walk.{walk-nil}
-use Rattle.text.specs.declared.Found.the-variants.{At}
+use Rattle.text.specs.Characters.{damage}
+use Rattle.text.specs.declared.Found.the-variants.{At, Nowhere}
 use Rattle.options.specs.Opts.{Opts, meant}
 use Rattle.options.specs.declared.Options.{Options}
 use Rattle.options.proofs.Accepted.{Kept, accepted}
 use Rattle.lines.specs.Contracts.Places.{Usable}
 use Rattle.lines.proofs.Lines.{lines-past}
+use Rattle.lines.proofs.Sound.{lines-sound}
 use Rattle.lines.proofs.Usable.{usable}
 use Rattle.pieces.specs.Pieces.{Piece, Kind, blankLine, plainLine, paragraph, Paragraph, nextPiece, pieces}
 use Rattle.pieces.specs.Contracts.Places.{Cleared, pieceAt}
@@ -45,7 +47,7 @@ use Rattle.walk.proofs.Rows.{text-words}
 use Rattle.walk.proofs.Meaning.{TextGoes, PieceGoes}
 use Rattle.walk.proofs.Bound.{any-text-most}
 use Rattle.walk.proofs.Steps.{piece-found, text-found}
-use Rattle.walk.proofs.Loop.{all-long, long-none, long-more, long-here}
+use Rattle.walk.proofs.Loop.{all-long, long-none, long-more, long-here, sound-more}
 use Rattle.unflow.specs.Flowed.{isDashes}
 use Rattle.flow.specs.Flow.{brokenInto, paragraphLines, sentLines, plainSent, trimmed, sent, sentPiece, flowed, pieceDashes, dashesIn}
 use Rattle.flow.specs.Contracts.Words.{mostSent}
@@ -81,6 +83,10 @@ module _ (block notes : List ℕ) (o : Options) (ready : Ready block notes o) wh
 
   pub ready-cleared : Cleared o
   ready-cleared = ready-kept .splitClears
+
+  -- where damaged characters are not kept there are none
+  pub ready-sound : not (o .keep) ≡ true → damage notes ≡ Nowhere
+  ready-sound k = ready .admitted .sound (ap (λ (m : Options). m .keep) (sym (ready .is)) ∙ not-true (o .keep) k)
 
   pub ready-uniform : o .uniform ≡ true
   ready-uniform = rw (ready .is)
@@ -267,7 +273,7 @@ module _ (o : Opts) (notes : List ℕ) where
 
   pub going-first : (room : ℕ) (out : List ℕ) → Going room out (record { at = 0; written = 0; mail = true; dashes = 0 }) out
   going-first room out = record {
-    stands = record { within = omega arith; bounded = omega arith; few = omega arith };
+    stands = record { within = omega arith; bounded = omega arith; few = omega arith; sound = lines-sound notes };
     left = rw all-sent (left-first out 0 (flowed o notes));
     dashes = omega (arith, all-dashes);
     long = all-long room o notes;
@@ -279,7 +285,7 @@ module _ (o : Opts) (notes : List ℕ) where
 
     pub going-on : {d : Cursor} {out′ : List ℕ} → Put room o notes out c d out′ → Going room out₀ d out′
     going-on {d} {out′} p = record {
-      stands = record { within = p .goes .within; bounded = omega (arith, g .stands .bounded, p .bounded); few = omega (arith, g .stands .few, p .counted) };
+      stands = record { within = p .goes .within; bounded = omega (arith, g .stands .bounded, p .bounded); few = omega (arith, g .stands .few, p .counted); sound = sound-more o (p .goes) (g .stands .sound) };
       left = left-then {d = joined sent (sentLines o (p .kind))} {e = flowedFrom o (d .mail) notes (d .at)} (rw (sent-more (p .goes)) at (g .left)) (p .wrote);
       dashes = omega (arith, g .dashes, p .dashes, dashes-more (p .goes));
       long = sym (long-more room o (p .goes) (p .few)) ∙ g .long;

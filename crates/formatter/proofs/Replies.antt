@@ -96,7 +96,7 @@ module _ (l : Limits) (block notes : List ℕ) (o : Options) where
   text-refused {f} {place} h e a = record { whole-is = notes-are (At place) h (sym a ∙ e); untouched = λ out. refl; early = omega arith }
 
   pub notes-passed : {f : Found} → length notes ≤ l .bytes → f ≡ damageIn (o .keep) notes → f ≡ Nowhere → AdmitsNotes l block o notes (Passed o)
-  notes-passed h e a = (refl, h, notes-are Nowhere h (sym a ∙ e))
+  notes-passed h e a = (refl, h, notes-are Nowhere h (sym a ∙ e), λ k. rw k at (sym e ∙ a))
 
 -- ---- with any block, and limits that the code is proved for
 
@@ -106,7 +106,7 @@ module _ (l : Limits) (block notes : List ℕ) (b : Block) (read : b ≡ readBlo
 
   pub block-admits : {o : Options} (r : Admission) → l .bytes ≤ mostLarge → b ≡ Accepted o → AdmitsNotes l block o notes r → Admits l block notes r
   block-admits (Refused r) m e n = record { whole-is = rw (sym read ∙ e) (n .whole-is); untouched = n .untouched; early = n .early }
-  block-admits {o} (Passed p) m e n = (record { accepted = sym read ∙ e ∙ ap Accepted (sym (n .0)); short = omega (arith, n .1, m) }, rw (sym read ∙ e, n .0) (n .2), n .1)
+  block-admits {o} (Passed p) m e n = (record { accepted = sym read ∙ e ∙ ap Accepted (sym (n .0)); short = omega (arith, n .1, m); sound = λ k. n .3 (ap (λ (x : Options). x .keep) (sym (n .0)) ∙ k) }, rw (sym read ∙ e, n .0) (n .2), n .1)
 
 -- ---- what is replied to it
 

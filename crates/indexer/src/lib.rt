@@ -278,7 +278,7 @@ fn put_piece(
     ensures { λ r. ⌜ PieceStepped (roomFor (o .quick) (length (now (work .entry)))) (meant (now (block .entry)) o) (now (notes .entry)) (now (out .entry)) c (now (out .exit)) r ⌝ }
 {
     let at = c.at;
-    match pieces::next_piece(notes, at, o, block, c.mail) {
+    match pieces::next_piece(notes, at, o, block, c.mail, !o.keep) {
         Piece::Blank { next } => Step::On(Cursor {
             at: next,
             written: output::emit_line(notes, at, at, out, c.written),

@@ -13,6 +13,7 @@ use Rattle.options.specs.Opts.{Opts, meant}
 use Rattle.options.specs.declared.Options.{Options}
 use Rattle.lines.specs.Lines.{linesOf}
 use Rattle.lines.specs.Contracts.Places.{mostLarge}
+use Rattle.lines.proofs.Sound.{lines-sound}
 use Rattle.pieces.specs.Pieces.{Kind, Piece, blankLine, plainLine, paragraph, pieces}
 use Rattle.pieces.specs.Contracts.Places.{pieceAt}
 use Rattle.pieces.specs.Contracts.Bounds.{AllBegin, MarginWithin, Bounded}
@@ -31,11 +32,11 @@ use Rattle.words.proofs.Order.{paragraph-some}
 use Rattle.output.specs.Contracts.Writers.{marginOf}
 use Rattle.paragraphs.proofs.Breaking.{split-many, split-few}
 use Rattle.walk.specs.Digest.{tooMany, longParagraph}
-use Rattle.walk.specs.Contracts.Course.{Admitted, piecesFrom, FirstPiece}
+use Rattle.walk.specs.Contracts.Course.{Admitted, SoundFrom, piecesFrom, FirstPiece}
 use Rattle.walk.proofs.Rows.{text-words}
 use Rattle.walk.proofs.Meaning.{TextGoes}
 use Rattle.walk.proofs.Steps.{ready-kept, found-goes}
-use Rattle.walk.proofs.Loop.{none-left, all-pieces}
+use Rattle.walk.proofs.Loop.{none-left, all-pieces, sound-more}
 use Rattle.checker.specs.Matching.{Match, on, fault, andThen, matchLine, matchWords, matchPiece, matchPieces}
 use Rattle.checker.specs.Contracts.Places.{matched, MatchedIn, Matches, SpotIn, MarginFits, Matchable}
 use Rattle.checker.specs.declared.Spot.{Spot}
@@ -174,13 +175,14 @@ module _ (o : Opts) where
 -- what is left where the work is at c, of what the digest had come to first
 pub record Going (most : ℕ) (o : Opts) (notes digest : List ℕ) (first : Matched) (c : Stand) : Type 0 where
   pub within : c .at ≤ length notes
+  pub sound : SoundFrom notes (c .at)
   pub inside : MatchedIn digest (c .matched)
   pub left : andThen (matched digest (c .matched)) (matchPieces o (piecesFrom o (c .mail) notes (c .at))) ≡ andThen (matched digest first) (matchPieces o (pieces o notes))
   pub long : longBehind most o notes c ≡ longParagraph most o 0 (pieces o notes)
 
 module _ (most : ℕ) (o : Opts) (notes digest : List ℕ) (first : Matched) where
   pub going-first : MatchedIn digest first → Going most o notes digest first (record { at = 0; mail = true; matched = first })
-  going-first h = record { within = omega arith; inside = h; left = rw (all-pieces o notes); long = rw (all-pieces o notes) }
+  going-first h = record { within = omega arith; sound = lines-sound notes; inside = h; left = rw (all-pieces o notes); long = rw (all-pieces o notes) }
 
   module _ {c : Stand} (g : Going most o notes digest first c) where
     pub going-on : {d : Stand} → Took most o notes digest c d → Going most o notes digest first d
@@ -189,6 +191,7 @@ module _ (most : ℕ) (o : Opts) (notes digest : List ℕ) (first : Matched) whe
         let rest = piecesFrom o (d .mail) notes (d .at) in
         record {
           within = t .goes .within;
+          sound = sound-more o (t .goes) (g .sound);
           inside = t .matches .inside;
           left =
               ap (λ (m : Match). andThen m (matchPieces o rest)) (t .matches .is)

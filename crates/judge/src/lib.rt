@@ -13,7 +13,7 @@ ghost use lib.ListN.{length};
 ghost use Rattle.options.specs.Opts.{meant};
 ghost use Rattle.records.specs.Contracts.Table.{Holds, wordsIn};
 ghost use Rattle.output.specs.Contracts.Writers.{marginOf};
-ghost use Rattle.walk.specs.Contracts.Course.{Admitted};
+ghost use Rattle.walk.specs.Contracts.Course.{Admitted, SoundFrom};
 ghost use Rattle.checker.specs.Matching.{andThen, matchLine, matchWords};
 ghost use Rattle.checker.specs.Contracts.Places.{matched, MatchedIn, Matches, MarginFits, Matchable};
 ghost use Rattle.formatter.specs.Format.{ownRoom};
@@ -189,12 +189,12 @@ fn match_piece(
     most: usize,
     table: &mut [u32],
 ) -> Step
-    requires { ⌜ Admitted (now block) (now notes) o × MatchedIn (now digest) (c .matched) × Holds most (now table) × (c .at < length (now notes)) ⌝ }
+    requires { ⌜ Admitted (now block) (now notes) o × MatchedIn (now digest) (c .matched) × Holds most (now table) × (c .at < length (now notes)) × SoundFrom (now notes) (c .at) ⌝ }
     ensures { λ r. ⌜ Stepped most (meant (now (block .entry)) o) (now (notes .entry)) (now (digest .entry)) c r ⌝ }
 {
     let at = c.at;
     let m = c.matched;
-    match pieces::next_piece(notes, at, o, block, c.mail) {
+    match pieces::next_piece(notes, at, o, block, c.mail, !o.keep) {
         Piece::Blank { next } => Step::On(Stand {
             at: next,
             mail: true,

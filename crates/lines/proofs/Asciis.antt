@@ -1,6 +1,6 @@
 -- A line's front of bytes below 0x80: the run that the code goes over, and that a line of such bytes alone has no damaged character.
 use mathlib.Core.Path.{_≡_, refl, sym, _∙_}
-use mathlib.Core.Bool.{Bool, true}
+use mathlib.Core.Bool.{true}
 use mathlib.Core.List.{List}
 use Prim.Native.Nat.{ℕ, zero, suc, _+_, _≤_, _<_}
 use native.Mathlib.Omega.{arith}
@@ -8,10 +8,10 @@ use lib.Dec.{eqb}
 use lib.ListN.{length, getD, take}
 use lib.Seq.{getD-take, length-take-le}
 use borrow.Author.Tests.{eqb-true}
-use Rattle.lists.specs.Runs.{every}
-use Rattle.text.specs.Characters.{glyphs, isGood}
+use Rattle.text.specs.Characters.{damage}
 use Rattle.text.specs.Contracts.Places.{Ascii, Printable}
-use Rattle.text.proofs.Damage.{later-zero, damage-past, damage-none}
+use Rattle.text.specs.declared.Found.the-variants.{Nowhere}
+use Rattle.text.proofs.Damage.{later-zero, damage-past}
 use Rattle.text.proofs.Asciis.{ascii-none, ascii-one, ascii-more, damage-run}
 use Rattle.lines.specs.Lines.{firstLine}
 use Rattle.lines.specs.Contracts.Places.{lengthsOf, bodyEnd, AsciiBody}
@@ -59,5 +59,5 @@ ascii-text s e run end h a b q =
     let l : length (take (e .text) s) ≡ e .text = length-take-le (e .text) s (omega (arith, a .ascii .within)) in
     record { on = omega arith; within = omega arith; small = λ i x y. rw (getD-take (e .text) s i 0 (omega arith)) (a .ascii .small i x (omega arith)) }
 
-pub ascii-good : (glue : Bool) (line : List ℕ) → Ascii line 0 (length line) → every isGood (glyphs glue line) ≡ true
-ascii-good glue line a = damage-none glue line (sym (later-zero _) ∙ damage-run line 0 (length line) a ∙ damage-past line (length line) (omega arith))
+pub ascii-sound : (line : List ℕ) → Ascii line 0 (length line) → damage line ≡ Nowhere
+ascii-sound line a = sym (later-zero _) ∙ damage-run line 0 (length line) a ∙ damage-past line (length line) (omega arith)

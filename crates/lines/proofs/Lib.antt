@@ -4,6 +4,7 @@ pub mod Ink
 pub mod Columns
 pub mod Lines
 pub mod Asciis
+pub mod Sound
 pub mod Measures
 pub mod Glued
 pub mod InkBefore

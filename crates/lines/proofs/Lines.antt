@@ -54,7 +54,7 @@ pub body-within : (s : List ℕ) → length (body s) ≤ length s
 unfolding body
 body-within s = while-within noFeed s
 
-body-front : (s : List ℕ) → body s ≡ take (length (body s)) s
+pub body-front : (s : List ℕ) → body s ≡ take (length (body s)) s
 unfolding body
 body-front s = while-front noFeed s
 

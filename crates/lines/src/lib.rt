@@ -6,8 +6,7 @@ ghost use lib.Dec.{eqb};
 ghost use lib.ListN.{length, getD, drop};
 ghost use Rattle.lists.specs.Runs.{while, every, begins};
 ghost use Rattle.widths.specs.Widths.{widthOf};
-ghost use Rattle.text.specs.Characters.{glyphs, isBlank, isGood};
-ghost use Rattle.text.specs.Contracts.Places.{Ascii};
+ghost use Rattle.text.specs.Characters.{glyphs, isBlank, isGood, damage};
 ghost use Rattle.options.specs.Opts.{textOf, meant};
 ghost use Rattle.lines.specs.Lines.{body, withoutReturn, firstLine};
 ghost use Rattle.lines.specs.Classes.{nextStop, search, skipFound, somewhere, classify};
@@ -60,10 +59,11 @@ pub fn first_line(s: &[u8]) -> Extent
     ended_at(s, body_end(s, 0))
 }
 
-// The same, with the class of its text. The pass for the line feed sees as well whether the line is ASCII, as most are.
+// The same, with the class of its text. The text may be known to be sound, that is without a damaged character. The pass for the line feed
+// sees as well whether the line is ASCII, as most are, and then it is so too.
 // In the original: `FileLines::next`.
-pub fn first_classed(s: &[u8], o: Options, block: &[u8]) -> ClassedExtent
-    requires { ⌜ Usable (now block) o × (length (now s) ≤ mostLarge) ⌝ }
+pub fn first_classed(s: &[u8], o: Options, block: &[u8], sound: bool) -> ClassedExtent
+    requires { ⌜ Usable (now block) o × (length (now s) ≤ mostLarge) × (sound ≡ true → damage (firstLine (now s) .text) ≡ Nowhere) ⌝ }
     ensures { λ r. ⌜ r ≡ classedOf (meant (now (block .entry)) o) (firstLine (now (s .entry))) ⌝ }
 {
     // Nothing need be looked at in an empty line, as stands between most paragraphs.
@@ -79,7 +79,7 @@ pub fn first_classed(s: &[u8], o: Options, block: &[u8]) -> ClassedExtent
     let text = extent.text;
     ClassedExtent {
         extent,
-        class: classify(&s[..text], reached == end, o, block),
+        class: classify(&s[..text], sound | (reached == end), o, block),
     }
 }
 
@@ -312,11 +312,11 @@ fn are_same(p: &[u8], s: &[u8], i: usize) -> bool
         & (s[h] == p[h])
 }
 
-// The class of a line's text, which may be known to be ASCII. Plain are a damaged line, a skipped one, and one without its prefix or
+// The class of a line's text, which may be known to be sound. Plain are a damaged line, a skipped one, and one without its prefix or
 // with only blanks after it.
 // In the original: `FileLines::next`.
-fn classify(line: &[u8], ascii: bool, o: Options, block: &[u8]) -> Class
-    requires { ⌜ Usable (now block) o × (length (now line) ≤ mostLarge) × (ascii ≡ true → Ascii (now line) 0 (length (now line))) ⌝ }
+fn classify(line: &[u8], sound: bool, o: Options, block: &[u8]) -> Class
+    requires { ⌜ Usable (now block) o × (length (now line) ≤ mostLarge) × (sound ≡ true → damage (now line) ≡ Nowhere) ⌝ }
     ensures { λ r. ⌜ r ≡ classify (meant (now (block .entry)) o) (now (line .entry)) ⌝ }
 {
     let tab = o.tab;
@@ -326,7 +326,7 @@ fn classify(line: &[u8], ascii: bool, o: Options, block: &[u8]) -> Class
     if is_all_blank(line, from) {
         return Class::Blank;
     }
-    if is_damaged(line, ascii) {
+    if is_damaged(line, sound) {
         return Class::Plain;
     }
     let skip = o.skip;
@@ -409,12 +409,12 @@ fn are_blank(s: &[u8], i: usize) -> bool
         & ((s[h] == 32) | (s[h] == 9))
 }
 
-// Whether a character of a line is damaged. A line that is known to be ASCII has none, and is not read again.
-fn is_damaged(line: &[u8], ascii: bool) -> bool
-    requires { ⌜ (ascii ≡ true → Ascii (now line) 0 (length (now line))) ⌝ }
+// Whether a character of a line is damaged. A line that is known to be sound has none, and is not read again.
+fn is_damaged(line: &[u8], sound: bool) -> bool
+    requires { ⌜ (sound ≡ true → damage (now line) ≡ Nowhere) ⌝ }
     ensures { λ r. ⌜ ((glue : Bool) → r ≡ not (every isGood (glyphs glue (now (line .entry))))) ⌝ }
 {
-    if ascii {
+    if sound {
         return false;
     }
     match text::first_damage(line) {

@@ -169,8 +169,8 @@ module _ (o : Opts) (nextMail : Bool) (notes : List ℕ) (at : ℕ) (inside : at
   pub bounded : Bounded (o .glue) notes at (pieceAt o nextMail notes at)
   bounded = found .bounds
 
--- of the code's options: a piece that is the one at the place, with its bounds
-pub piece-bounded : (block notes : List ℕ) (o : Options) (nextMail : Bool) (at : ℕ) (r : PieceAt) → (at < length notes) × (length notes ≤ mostLarge) × Usable block o × Cleared o
+-- of the code's options: a piece that is the one at the place, with its bounds, whatever else is known
+pub piece-bounded : (block notes : List ℕ) (o : Options) (nextMail : Bool) (at : ℕ) (r : PieceAt) (Known : Type 0) → (at < length notes) × (length notes ≤ mostLarge) × Usable block o × Cleared o × Known
     → r ≡ pieceAt (meant block o) nextMail notes at → (r ≡ pieceAt (meant block o) nextMail notes at) × Bounded (o .glue) notes at r
 unfolding meant
-piece-bounded block notes o nextMail at r h e = (e, subst⁻¹ (Bounded (o .glue) notes at) e (bounded (meant block o) nextMail notes at (h .0) (h .2 .least) (h .2 .most) (h .1) (h .3)))
+piece-bounded block notes o nextMail at r Known h e = (e, subst⁻¹ (Bounded (o .glue) notes at) e (bounded (meant block o) nextMail notes at (h .0) (h .2 .least) (h .2 .most) (h .1) (h .3)))

@@ -1,16 +1,22 @@
--- The line that begins at a place, from the answer of `first_classed` on a part of the notes.
-use mathlib.Core.Path.{_≡_, ap, _∙_}
-use mathlib.Core.List.{List}
+-- The line that begins at a place, from the answer of `first_classed` on a part of the notes; and where the lines from a place on are sound,
+-- so is the first, and so are those after it.
+use mathlib.Core.Path.{_≡_, refl, ap, _∙_}
+use mathlib.Core.Bool.{Bool, true}
+use mathlib.Core.List.{List, _∷_}
 use Prim.Native.Nat.{ℕ, _+_, _-_, _<_}
 use native.Mathlib.Omega.{arith}
 use lib.ListN.{length, take, drop, length-drop}
 use lib.Seq.{take-all}
+use Rattle.text.specs.Characters.{damage}
+use Rattle.text.specs.declared.Found.the-variants.{Nowhere}
 use Rattle.options.specs.Opts.{Opts}
-use Rattle.lines.specs.Lines.{firstLine}
-use Rattle.lines.specs.Contracts.Places.{lengthsOf, classedOf}
+use Rattle.lines.specs.Lines.{firstLine, linesOf}
+use Rattle.lines.specs.Contracts.Places.{lengthsOf, classedOf, LinesSound}
 use Rattle.lines.specs.declared.ClassedExtent.{ClassedExtent}
 use Rattle.lines.proofs.Lines.{LineHere, line-here}
-use Rattle.pieces.specs.Contracts.Places.{LineIs}
+use Rattle.lines.specs.declared.Shape.{Shape}
+use Rattle.pieces.specs.Contracts.Places.{LineIs, Joined}
+use Rattle.pieces.specs.declared.Classed.{Classed}
 
 module _ (o : Opts) (notes : List ℕ) (at : ℕ) (r : ClassedExtent) (inside : at < length notes)
     (read : r ≡ classedOf o (firstLine (take (length notes - at) (drop at notes)))) where
@@ -38,3 +44,23 @@ module _ (o : Opts) (notes : List ℕ) (at : ℕ) (r : ClassedExtent) (inside : 
         before = omega (arith, h .shorter);
         within = h .within;
       }
+
+-- ---- sound lines
+
+module _ (notes : List ℕ) (at : ℕ) (known : Bool) (sound : known ≡ true → LinesSound (linesOf (drop at notes))) where
+  -- the first, on a part of the notes
+  pub part-sound : at < length notes → known ≡ true → damage (firstLine (take (length notes - at) (drop at notes)) .text) ≡ Nowhere
+  part-sound h k =
+      let l = line-here notes at (lengthsOf (firstLine (drop at notes))) h refl in
+      rw (take-all (length notes - at) (drop at notes) (omega (arith, length-drop at notes))) ((rw (l .first) at (sound k)) .0)
+
+  -- those after it
+  rest-sound : (next : ℕ) → linesOf (drop at notes) ≡ firstLine (drop at notes) ∷ linesOf (drop next notes) → known ≡ true → LinesSound (linesOf (drop next notes))
+  rest-sound next first k = (rw first at (sound k)) .1
+
+-- from line to line
+pub next-sound : (o : Opts) (notes : List ℕ) (at : ℕ) (r : Classed) (known : Bool) → LineIs o notes at r → (known ≡ true → LinesSound (linesOf (drop at notes))) → known ≡ true → LinesSound (linesOf (drop (r .next) notes))
+next-sound o notes at r known l sound = rest-sound notes at known sound (r .next) (l .first)
+
+pub joined-sound : (notes : List ℕ) (at next : ℕ) (s : Shape) (known : Bool) → Joined notes at next s → (known ≡ true → LinesSound (linesOf (drop at notes))) → known ≡ true → LinesSound (linesOf (drop next notes))
+joined-sound notes at next s known j sound = rest-sound notes at known sound next (j .first)

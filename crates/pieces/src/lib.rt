@@ -10,7 +10,7 @@ ghost use lib.ListN.{length, drop};
 ghost use Rattle.lists.specs.Runs.{while};
 ghost use Rattle.options.specs.Opts.{meant};
 ghost use Rattle.lines.specs.Lines.{linesOf};
-ghost use Rattle.lines.specs.Contracts.Places.{mostLarge, Usable};
+ghost use Rattle.lines.specs.Contracts.Places.{mostLarge, Usable, LinesSound};
 ghost use Rattle.pieces.specs.Pieces.{headerText, startsMail, agrees, secondRule};
 ghost use Rattle.pieces.specs.Contracts.Bounds.{Bounded};
 ghost use Rattle.pieces.specs.Contracts.Places.{passesRule, headerName, marginAt, reach, secondAt, paragraphWith, pieceAt, PieceReady, Shaped, Cleared, LineIs, SecondSound};
@@ -60,13 +60,20 @@ pub struct Classed {
     pub class: Class,
 }
 
-// The piece that begins at a line's start.
+// The piece that begins at a line's start. The lines from there on may be known to be sound: then none is asked for a damaged character.
 // In the original: `ParagraphStream::next`.
-pub fn next_piece(notes: &[u8], at: usize, o: Options, block: &[u8], next_mail: bool) -> Piece
-    requires { ⌜ (at < length (now notes)) × (length (now notes) ≤ mostLarge) × Usable (now block) o × Cleared o ⌝ }
+pub fn next_piece(
+    notes: &[u8],
+    at: usize,
+    o: Options,
+    block: &[u8],
+    next_mail: bool,
+    sound: bool,
+) -> Piece
+    requires { ⌜ (at < length (now notes)) × (length (now notes) ≤ mostLarge) × Usable (now block) o × Cleared o × (sound ≡ true → LinesSound (linesOf (drop at (now notes)))) ⌝ }
     ensures { λ r. ⌜ (r ≡ pieceAt (meant (now (block .entry)) o) «next_mail» (now (notes .entry)) at) × Bounded (o .glue) (now (notes .entry)) at r ⌝ }
 {
-    let line = line_at(notes, at, o, block);
+    let line = line_at(notes, at, o, block, sound);
     let end = line.end;
     let next = line.next;
     let class = line.class;
@@ -75,12 +82,12 @@ pub fn next_piece(notes: &[u8], at: usize, o: Options, block: &[u8], next_mail: 
         Class::Plain => Piece::Plain { end, next },
         Class::Formatted(s) => {
             if starts_mail(&notes[at..end], o.mail, next_mail, s) {
-                return Piece::Text(mail_paragraph(notes, at, next, s, o, block));
+                return Piece::Text(mail_paragraph(notes, at, next, s, o, block, sound));
             }
             if is_hanging(o.crown, o.tagged) {
-                return Piece::Text(hanging_paragraph(notes, at, next, s, o, block));
+                return Piece::Text(hanging_paragraph(notes, at, next, s, o, block, sound));
             }
-            Piece::Text(plain_paragraph(notes, at, next, s, o, block))
+            Piece::Text(plain_paragraph(notes, at, next, s, o, block, sound))
         }
     }
 }
@@ -104,8 +111,9 @@ fn mail_paragraph(
     s: Shape,
     o: Options,
     block: &[u8],
+    sound: bool,
 ) -> Paragraph
-    requires { ⌜ PieceReady (now notes) (now block) o next ⌝ }
+    requires { ⌜ PieceReady (now notes) (now block) o next sound ⌝ }
     ensures { λ r. ⌜ r ≡ paragraphWith (meant (now (block .entry)) o) true at next s (linesOf (drop next (now (notes .entry)))) ⌝ }
 {
     let bare = Margin {
@@ -121,7 +129,7 @@ fn mail_paragraph(
         columns: 2,
     };
     Paragraph {
-        next: further(notes, next, Rule::Mail, o, block),
+        next: further(notes, next, Rule::Mail, o, block, sound),
         mail: true,
         first: bare,
         indent: two,
@@ -139,12 +147,13 @@ fn plain_paragraph(
     s: Shape,
     o: Options,
     block: &[u8],
+    sound: bool,
 ) -> Paragraph
-    requires { ⌜ PieceReady (now notes) (now block) o next × Shaped (now notes) at s × ((o .crown || o .tagged) ≡ false) ⌝ }
+    requires { ⌜ PieceReady (now notes) (now block) o next sound × Shaped (now notes) at s × ((o .crown || o .tagged) ≡ false) ⌝ }
     ensures { λ r. ⌜ r ≡ paragraphWith (meant (now (block .entry)) o) false at next s (linesOf (drop next (now (notes .entry)))) ⌝ }
 {
     Paragraph {
-        next: further(notes, next, Rule::Like(s), o, block),
+        next: further(notes, next, Rule::Like(s), o, block, sound),
         mail: false,
         first: margin_at(at, 0, s),
         indent: margin_at(at, 0, s),
@@ -162,14 +171,15 @@ fn hanging_paragraph(
     s: Shape,
     o: Options,
     block: &[u8],
+    sound: bool,
 ) -> Paragraph
-    requires { ⌜ PieceReady (now notes) (now block) o next × Shaped (now notes) at s × ((o .crown || o .tagged) ≡ true) × (o .split ≡ false) ⌝ }
+    requires { ⌜ PieceReady (now notes) (now block) o next sound × Shaped (now notes) at s × ((o .crown || o .tagged) ≡ true) × (o .split ≡ false) ⌝ }
     ensures { λ r. ⌜ r ≡ paragraphWith (meant (now (block .entry)) o) false at next s (linesOf (drop next (now (notes .entry)))) ⌝ }
 {
     let Second::Joins {
         next: behind,
         shape,
-    } = second_line(notes, next, s, o, block)
+    } = second_line(notes, next, s, o, block, sound)
     else {
         let more = further_spaces(o.tagged);
         return Paragraph {
@@ -182,7 +192,7 @@ fn hanging_paragraph(
         };
     };
     Paragraph {
-        next: follow(notes, behind, Rule::Like(shape), o, block),
+        next: follow(notes, behind, Rule::Like(shape), o, block, sound),
         mail: false,
         first: margin_at(at, 0, s),
         indent: margin_at(next, 0, shape),
@@ -192,11 +202,11 @@ fn hanging_paragraph(
 }
 
 // The line that begins at a place: the end of its text, the place after it, and its class.
-fn line_at(notes: &[u8], at: usize, o: Options, block: &[u8]) -> Classed
-    requires { ⌜ PieceReady (now notes) (now block) o at × (at < length (now notes)) ⌝ }
+fn line_at(notes: &[u8], at: usize, o: Options, block: &[u8], sound: bool) -> Classed
+    requires { ⌜ PieceReady (now notes) (now block) o at sound × (at < length (now notes)) ⌝ }
     ensures { λ r. ⌜ LineIs (meant (now (block .entry)) o) (now (notes .entry)) at r ⌝ }
 {
-    let line = lines::first_classed(&notes[at..], o, block);
+    let line = lines::first_classed(&notes[at..], o, block, sound);
     let class = line.class;
     Classed {
         end: at + line.extent.text,
@@ -217,14 +227,14 @@ fn further_spaces(tagged: bool) -> usize
 
 // The second line, if it is there and joins.
 // In the original: `ParagraphStream::next`.
-fn second_line(notes: &[u8], at: usize, s: Shape, o: Options, block: &[u8]) -> Second
-    requires { ⌜ PieceReady (now notes) (now block) o at ⌝ }
+fn second_line(notes: &[u8], at: usize, s: Shape, o: Options, block: &[u8], sound: bool) -> Second
+    requires { ⌜ PieceReady (now notes) (now block) o at sound ⌝ }
     ensures { λ r. ⌜ (r ≡ secondAt (meant (now (block .entry)) o) s (now (notes .entry)) at) × SecondSound (now (notes .entry)) at r ⌝ }
 {
     if notes.len() <= at {
         return Second::Alone;
     }
-    let line = line_at(notes, at, o, block);
+    let line = line_at(notes, at, o, block, sound);
     let class = line.class;
     let Class::Formatted(shape) = class else {
         return Second::Alone;
@@ -240,25 +250,25 @@ fn second_line(notes: &[u8], at: usize, s: Shape, o: Options, block: &[u8]) -> S
 
 // The place after the lines that join by a rule. Split: one line each.
 // In the original: `ParagraphStream::next`.
-fn further(notes: &[u8], at: usize, rule: Rule, o: Options, block: &[u8]) -> usize
-    requires { ⌜ PieceReady (now notes) (now block) o at ⌝ }
+fn further(notes: &[u8], at: usize, rule: Rule, o: Options, block: &[u8], sound: bool) -> usize
+    requires { ⌜ PieceReady (now notes) (now block) o at sound ⌝ }
     ensures { λ r. ⌜ (r ≡ cond (o .split) at (reach (meant (now (block .entry)) o) (passesRule rule (o .prefix)) (now (notes .entry)) at)) × (r ≤ length (now (notes .entry))) ⌝ }
 {
     if o.split {
         return at;
     }
-    follow(notes, at, rule, o, block)
+    follow(notes, at, rule, o, block, sound)
 }
 
 // In the original: `ParagraphStream::next`.
-fn follow(notes: &[u8], at: usize, rule: Rule, o: Options, block: &[u8]) -> usize
-    requires { ⌜ PieceReady (now notes) (now block) o at ⌝ }
+fn follow(notes: &[u8], at: usize, rule: Rule, o: Options, block: &[u8], sound: bool) -> usize
+    requires { ⌜ PieceReady (now notes) (now block) o at sound ⌝ }
     ensures { λ r. ⌜ (r ≡ reach (meant (now (block .entry)) o) (passesRule rule (o .prefix)) (now (notes .entry)) at) × (r ≤ length (now (notes .entry))) ⌝ }
 {
     let prefix = o.prefix;
     let mut i = at;
     while i < notes.len() {
-        let line = line_at(notes, i, o, block);
+        let line = line_at(notes, i, o, block, sound);
         let class = line.class;
         let Class::Formatted(s) = class else {
             return i;

@@ -9,6 +9,7 @@ pub mod Damage
 pub mod Joining
 pub mod Rows
 pub mod Asciis
+pub mod Cuts
 pub mod Eights
 mod Printable
 mod Worked

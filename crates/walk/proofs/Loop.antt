@@ -1,23 +1,27 @@
--- The loop over the pieces: what is left of the digest, and of the search for a paragraph of too many words.
+-- The loop over the pieces: what is left of the digest, and of the search for a paragraph of too many words; and that a line begins after each.
 use mathlib.Core.Path.{_≡_, refl, sym, ap, _∙_}
 use mathlib.Core.Bool.{Bool, true, false}
 use mathlib.Core.List.{List, [], _∷_, _++_}
 use Prim.Native.Nat.{ℕ, _≤_}
 use native.Mathlib.Omega.{arith}
-use lib.ListN.{length, replicate}
+use lib.ListN.{length, drop, replicate}
 use Rattle.lists.specs.Runs.{joined}
 use Rattle.lists.proofs.Walk.{walk-nil}
 use Rattle.lists.proofs.Parts.{joined-nil, joined-cons}
+use Rattle.lists.proofs.All.{all-back}
 use Rattle.text.specs.declared.Found.{Found}
 use Rattle.text.specs.declared.Found.the-variants.{At, Nowhere}
 use Rattle.options.specs.Opts.{Opts, meant}
 use Rattle.options.specs.declared.Options.{Options}
+use Rattle.lines.specs.Lines.{Line, linesOf}
 use Rattle.lines.proofs.Lines.{lines-past}
+use Rattle.lines.proofs.Sound.{lines-sound}
 use Rattle.pieces.specs.Pieces.{Kind, nextPiece, pieces}
 use Rattle.pieces.specs.declared.Paragraph.{Paragraph}
+use Rattle.pieces.proofs.Extents.{linesIn, walk-lines}
 use Rattle.output.proofs.Sink.{length-written, wrote-length, wrote-nil, left-first, left-then, left-last}
 use Rattle.walk.specs.Digest.{outputOf, pieceOutput, digest, tooMany, longParagraph}
-use Rattle.walk.specs.Contracts.Course.{piecesFrom, outputFrom, longFrom, FirstPiece, Put, TooLong, CursorIn, Going, start, FinishedFrom, ClearedFrom, Finished, Reached, Coursed}
+use Rattle.walk.specs.Contracts.Course.{piecesFrom, outputFrom, longFrom, FirstPiece, Put, TooLong, SoundFrom, CursorIn, Going, start, FinishedFrom, ClearedFrom, Finished, Reached, Coursed}
 use Rattle.paragraphs.specs.declared.Cursor.{Cursor}
 use Rattle.walk.specs.declared.Ahead.{Ahead}
 use Rattle.walk.specs.declared.Ahead.the-variants.{Text, End}
@@ -50,6 +54,17 @@ module _ (o : Opts) where
   unfolding outputFrom
   output-more {nextMail} {notes} {at} {kind} {state} {next} g =
       ap (joined (pieceOutput o)) (g .pieces) ∙ joined-cons (pieceOutput o) (g .piece) (piecesFrom o state notes next) ∙ ap (λ (k : Kind). outputOf o k ++ outputFrom o state notes next) (g .is)
+
+  -- after the first of them the lines of the others go on
+  lines-more : {nextMail : Bool} {notes : List ℕ} {at : ℕ} {kind : Kind} {state : Bool} {next : ℕ} (g : FirstPiece o nextMail notes at kind state next)
+      → linesOf (drop at notes) ≡ g .piece .lines ++ linesOf (drop next notes)
+  unfolding piecesFrom
+  lines-more {nextMail} {notes} {at} {kind} {state} {next} g =
+      sym (walk-lines o nextMail (linesOf (drop at notes))) ∙ ap (joined linesIn) (g .pieces) ∙ joined-cons linesIn (g .piece) (piecesFrom o state notes next)
+      ∙ ap (λ (ls : List Line). g .piece .lines ++ ls) (walk-lines o state (linesOf (drop next notes)))
+
+  pub sound-more : {nextMail : Bool} {notes : List ℕ} {at : ℕ} {kind : Kind} {state : Bool} {next : ℕ} → FirstPiece o nextMail notes at kind state next → SoundFrom notes at → SoundFrom notes next
+  sound-more {notes = notes} {next = next} g s h = all-back _ (g .piece .lines) (linesOf (drop next notes)) (rw (lines-more g) at (s h))
 
 -- the first of them that has more than so many words
 module _ (most : ℕ) (o : Opts) where
@@ -87,7 +102,7 @@ module _ (most : ℕ) (o : Opts) (notes : List ℕ) where
 
     pub going-on : {d : Cursor} {out′ : List ℕ} → Put most o notes out c d out′ → Going most o notes c₀ out₀ d out′
     going-on {d} {out′} p = record {
-      stands = record { within = p .goes .within; bounded = omega (arith, g .stands .bounded, p .bounded) };
+      stands = record { within = p .goes .within; bounded = omega (arith, g .stands .bounded, p .bounded); sound = sound-more o (p .goes) (g .stands .sound) };
       left = left-then {d = outputOf o (p .kind)} {e = outputFrom o (d .mail) notes (d .at)} (rw (output-more o (p .goes)) at (g .left)) (p .wrote);
       long = sym (long-more most o (p .goes) (p .few)) ∙ g .long;
     }
@@ -119,7 +134,7 @@ none-longer (x ∷ xs) e = absurd (omega (arith, e))
 
 -- from the first place on
 pub stands-first : (notes : List ℕ) → CursorIn notes start
-stands-first notes = record { within = omega arith; bounded = omega arith }
+stands-first notes = record { within = omega arith; bounded = omega arith; sound = lines-sound notes }
 
 module _ (most : ℕ) (o : Opts) (notes : List ℕ) where
   pub all-finished : (c : Cursor) (out out′ : List ℕ) (r : Ended) → c ≡ start → ClearedFrom most o notes c out out′ r → Finished most o notes out out′ r

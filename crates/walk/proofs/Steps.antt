@@ -1,13 +1,15 @@
 -- What a piece's writers have done, as the definition says it of the piece; and what they could ask.
 use mathlib.Core.Path.{_≡_, refl, sym, ap, _∙_}
-use mathlib.Core.Bool.{Bool, true, false, _||_}
+use mathlib.Core.Bool.{Bool, true, false, not, _||_}
 use mathlib.Core.List.{List, [], _++_}
 use Prim.Native.Nat.{ℕ, _+_, _-_, _≤_, _<_}
 use native.Mathlib.Omega.{arith}
 use lib.ListN.{length}
 use lib.Seq.{slice}
-use borrow.Author.Tests.{le-ltb, lt-ltb}
+use borrow.Author.Tests.{le-ltb, lt-ltb, not-true}
 use Rattle.lists.proofs.Slices.{slice-is}
+use Rattle.text.specs.Characters.{damage}
+use Rattle.text.specs.declared.Found.the-variants.{Nowhere}
 use Rattle.options.specs.Opts.{Opts, meant}
 use Rattle.options.specs.declared.Options.{Options}
 use Rattle.options.proofs.Accepted.{Kept, accepted}
@@ -95,6 +97,10 @@ module _ (block notes : List ℕ) (o : Options) (ready : Admitted block notes o)
 
   pub ready-cleared : Cleared o
   ready-cleared = ready-kept .splitClears
+
+  -- where damaged characters are not kept there are none
+  pub ready-sound : not (o .keep) ≡ true → damage notes ≡ Nowhere
+  ready-sound k = ready .sound (not-true (o .keep) k)
 
   pub found-goes : (nextMail : Bool) (at : ℕ) (r s : PieceAt) → at < length notes → (r ≡ pieceAt (meant block o) nextMail notes at) × Bounded (o .glue) notes at r → r ≡ s → PieceGoes (meant block o) nextMail notes at s
   found-goes nextMail at r s h p q = piece-found block notes o ready-kept (ready .short) nextMail at r s h p q

@@ -186,7 +186,7 @@ pub fn work_with(o: Options, block: &[u8], notes: &[u8], lent: usize) -> usize
     let mut at = 0;
     let mut mail = true;
     while at < notes.len() {
-        match pieces::next_piece(notes, at, o, block, mail) {
+        match pieces::next_piece(notes, at, o, block, mail, false) {
             Piece::Blank { next } => {
                 at = next;
                 mail = true;
@@ -229,7 +229,7 @@ fn put_lines(o: Options, block: &[u8], notes: &[u8], from: Cursor, out: &mut [u8
     let mut c = from;
     while c.at < notes.len() {
         let at = c.at;
-        match pieces::next_piece(notes, at, o, block, c.mail) {
+        match pieces::next_piece(notes, at, o, block, c.mail, !o.keep) {
             Piece::Blank { next } => {
                 c = Cursor {
                     at: next,

@@ -1,4 +1,5 @@
 -- `explain::pass_piece` meets its contract.
+use mathlib.Core.Bool.{false≢true}
 use Rattle.paragraphs.specs.declared.Cursor.{Cursor}
 use Rattle.walk.proofs.Steps.{ready-usable, ready-cleared, found-goes, found-begins, begins-placed}
 use Rattle.explain.proofs.Seeking.{blank-behind, plain-behind, text-passed}
@@ -9,7 +10,7 @@ use Rattle.explain.proofs.pass_piece.Statement.{statement}
 use Rattle.explain.proofs.pass_piece.Tie as tie
 
 next-piece-requires : tie.Need-next-piece-requires
-next-piece-requires c κs = let p = c .before .before .before .pre in (p .1, p .0 .short, ready-usable _ _ _ (p .0), ready-cleared _ _ _ (p .0))
+next-piece-requires c κs = let p = c .before .before .before .pre in (p .1, p .0 .short, ready-usable _ _ _ (p .0), ready-cleared _ _ _ (p .0), λ known. absurd (false≢true known))
 
 enum-known-next : tie.Need-enum-known-next
 enum-known-next c = search needs

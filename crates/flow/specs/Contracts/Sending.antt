@@ -27,7 +27,7 @@ use Rattle.output.specs.Contracts.Writers.{marginOf}
 use Rattle.quick.specs.Quick.{quickBreaks}
 use Rattle.paragraphs.specs.Contracts.Steps.{settingFor, wordsFor}
 use Rattle.walk.specs.Digest.{tooMany, longParagraph}
-use Rattle.walk.specs.Contracts.Course.{Admitted, piecesFrom, longFrom, FirstPiece}
+use Rattle.walk.specs.Contracts.Course.{Admitted, SoundFrom, piecesFrom, longFrom, FirstPiece}
 use Rattle.formatter.specs.Answers.{Answer, done, refused, room, outputAfter}
 use Rattle.formatter.specs.Format.{Limits, within, answering}
 use Rattle.formatter.specs.Contracts.Call.{told, replyCoded}
@@ -149,6 +149,7 @@ pub record CursorIn (notes : List ℕ) (c : Cursor) : Type 0 where
   pub within : c .at ≤ length notes
   pub bounded : c .written ≤ mostSentPerByte * c .at
   pub few : c .dashes ≤ mostSentPerByte * c .at
+  pub sound : SoundFrom notes (c .at)
 
 -- a piece was written, and the work goes on after it
 pub record Put (most : ℕ) (o : Opts) (notes out : List ℕ) (c d : Cursor) (out′ : List ℕ) : Type 0 where

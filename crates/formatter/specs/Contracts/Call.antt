@@ -1,9 +1,12 @@
 -- What the functions of the calls answer for: the code's answer, and what is told before any piece is looked at.
 use mathlib.Core.Path.{_≡_}
+use mathlib.Core.Bool.{false}
 use mathlib.Core.List.{List}
 use Prim.Native.Nat.{ℕ, _≤_}
 use lib.ListN.{length}
 use Rattle.lists.specs.Coded.{Coded, coded}
+use Rattle.text.specs.Characters.{damage}
+use Rattle.text.specs.declared.Found.the-variants.{Nowhere}
 use Rattle.options.specs.Opts.{Opts, meant}
 use Rattle.options.specs.OptionBlock.{readBlock}
 use Rattle.options.specs.declared.Options.{Options}
@@ -51,7 +54,7 @@ leftOf l o notes then = answering then (within (l .words) o notes)
 
 abbrev pub AdmitsNotes : Limits → List ℕ → Options → List ℕ → Admission → Type 0
 AdmitsNotes l block o notes (Refused r) = Refuses 3 (withNotes l (meant block o) notes) r
-AdmitsNotes l block o notes (Passed p) = (p ≡ o) × (length notes ≤ l .bytes) × (withNotes l (meant block o) notes ≡ within (l .words) (meant block o) notes)
+AdmitsNotes l block o notes (Passed p) = (p ≡ o) × (length notes ≤ l .bytes) × (withNotes l (meant block o) notes ≡ within (l .words) (meant block o) notes) × (o .keep ≡ false → damage notes ≡ Nowhere)
 
 abbrev pub Admits : Limits → List ℕ → List ℕ → Admission → Type 0
 Admits l block notes (Refused r) = Refuses 3 (withBlock l block notes (readBlock block)) r

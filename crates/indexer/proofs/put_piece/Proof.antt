@@ -3,20 +3,20 @@ use mathlib.Core.Path.{refl}
 use native.Mathlib.Omega.{arith}
 use borrow.Author.Needs.{needs}
 use denote.Ref.{now}
-use Rattle.walk.proofs.Steps.{ready-usable, ready-cleared, found-goes, found-begins, blank-put, plain-put, begins-placed}
+use Rattle.walk.proofs.Steps.{ready-usable, ready-cleared, ready-sound, found-goes, found-begins, blank-put, plain-put, begins-placed}
 use Rattle.indexer.proofs.Laws.{text-stepped}
 use Rattle.indexer.proofs.put_piece.Statement.{statement}
 use Rattle.indexer.proofs.put_piece.Tie as tie
 
 next-piece-requires : tie.Need-next-piece-requires
-next-piece-requires c κs = let p = c .before .before .before .before .pre in (p .2, p .0 .short, ready-usable _ _ _ (p .0), ready-cleared _ _ _ (p .0))
+next-piece-requires c κs = let p = c .before .before .before .before .before .pre in (p .2, p .0 .short, ready-usable _ _ _ (p .0), ready-cleared _ _ _ (p .0), λ k. p .1 .sound (ready-sound _ _ _ (p .0) k))
 
 enum-known-next : tie.Need-enum-known-next
 enum-known-next c = search needs
 
 emit-line-requires : tie.Need-emit-line-requires
 emit-line-requires c κs =
-    let at-pre = c .before .before .before .before .before .before .before .before .before in
+    let at-pre = c .before .before .before .before .before .before .before .before .before .before in
     let p = at-pre .pre in
     (omega arith, p .1 .within, omega (arith, p .0 .short), omega (arith, p .0 .short, p .1 .within, p .1 .bounded))
 
@@ -27,7 +27,7 @@ emit-line-requires-2 : tie.Need-emit-line-requires-2
 emit-line-requires-2 c κs =
     let at-end = c .before .before in
     let at-next-piece = at-end .before .before in
-    let at-pre = at-next-piece .before .before .before .before .before in
+    let at-pre = at-next-piece .before .before .before .before .before .before in
     let p = at-pre .pre in
     let m = found-goes _ _ _ (p .0) _ _ _ _ (p .2) (at-next-piece .next-piece .ensures) (at-end .end .given .1) in
     (omega (arith, m .1), omega (arith, m .1, m .2, m .0 .within), omega (arith, p .0 .short), omega (arith, p .0 .short, p .1 .within, p .1 .bounded))
@@ -43,7 +43,7 @@ put-paragraph-requires c κs =
     let at-room = c .before .before in
     let at-p = at-room .before .before in
     let at-next-piece = at-p .before .before in
-    let at-pre = at-next-piece .before .before .before .before .before in
+    let at-pre = at-next-piece .before .before .before .before .before .before in
     let p = at-pre .pre in
     let b = found-begins _ _ _ (at-pre .args .c) _ (p .2) (at-next-piece .next-piece .ensures) (at-p .p .given .1) in
     (begins-placed _ _ _ _ _ (p .0) b, omega (arith, p .0 .short, p .1 .within, p .1 .bounded))
@@ -56,7 +56,7 @@ returns c =
     let at-emit-line = c .before .before in
     let at-next = at-emit-line .before .before .before in
     let at-next-piece = at-next .before .before in
-    let at-pre = at-next-piece .before .before .before .before .before in
+    let at-pre = at-next-piece .before .before .before .before .before .before in
     let p = at-pre .pre in
     let m = found-goes _ _ _ (p .0) _ _ _ _ (p .2) (at-next-piece .next-piece .ensures) (at-next .next .given .1) in
     blank-put _ _ _ _ _ _ _ _ m (at-emit-line .emit-line .ensures)
@@ -69,7 +69,7 @@ returns-2 c =
     let at-emit-line2 = c .before .before in
     let at-end = at-emit-line2 .before .before .before in
     let at-next-piece = at-end .before .before in
-    let at-pre = at-next-piece .before .before .before .before .before in
+    let at-pre = at-next-piece .before .before .before .before .before .before in
     let p = at-pre .pre in
     let m = found-goes _ _ _ (p .0) _ _ _ _ (p .2) (at-next-piece .next-piece .ensures) (at-end .end .given .1) in
     plain-put _ _ _ _ _ _ _ _ _ m (at-emit-line2 .emit-line2 .ensures) refl (omega arith)
@@ -86,7 +86,7 @@ returns-3 c =
     let at-room = at-put-paragraph .before .before .before in
     let at-p = at-room .before .before in
     let at-next-piece = at-p .before .before in
-    let at-pre = at-next-piece .before .before .before .before .before in
+    let at-pre = at-next-piece .before .before .before .before .before .before in
     let p = at-pre .pre in
     let b = found-begins _ _ _ (at-pre .args .c) _ (p .2) (at-next-piece .next-piece .ensures) (at-p .p .given .1) in
     text-stepped _ _ _ _ _ _ (p .0) (p .1) b _ _ (at-put-paragraph .put-paragraph .result) (rw (at-room .room-for .ensures) at (at-put-paragraph .put-paragraph .ensures (now (at-pre .args .block))))

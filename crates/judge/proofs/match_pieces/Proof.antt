@@ -22,7 +22,7 @@ match-piece-requires : tie.Need-match-piece-requires Inv-loop μ-loop
 match-piece-requires c κs =
     let at-loop = c .before .before .before in
     let at-pre = at-loop .before .before .before .before .before in
-    let p = at-pre .pre in let i = at-loop .loop .inv in (p .0, i .0 .inside, omega (arith, p .2, i .1), c .before .if1 .taken)
+    let p = at-pre .pre in let i = at-loop .loop .inv in (p .0, i .0 .inside, omega (arith, p .2, i .1), c .before .if1 .taken, i .0 .sound)
 
 enum-known-d : tie.Need-enum-known-d Inv-loop μ-loop
 enum-known-d c = search needs

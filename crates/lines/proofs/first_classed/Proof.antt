@@ -1,11 +1,12 @@
--- `lines::first_classed` meets its contract: an empty line is blank; else its body's end is that from the end of the ASCII, and where the two are one its text is ASCII.
+-- `lines::first_classed` meets its contract: an empty line is blank; else its body's end is that from the end of the ASCII, and its text is sound where that is known
+-- or where the two are one.
 use mathlib.Core.Path.{sym}
 use native.Mathlib.Omega.{arith}
 use lib.ListN.{length-take}
 use lib.Seq.{length-take-le}
 use borrow.Author.Needs.{needs}
 use Rattle.lines.proofs.Lines.{lengths}
-use Rattle.lines.proofs.Asciis.{ascii-text}
+use Rattle.lines.proofs.Sound.{text-sound}
 use Rattle.lines.proofs.Classes.{classed-is, classed-empty}
 use Rattle.lines.proofs.first_classed.Statement.{statement}
 use Rattle.lines.proofs.first_classed.Tie as tie
@@ -31,7 +32,7 @@ slice-aggregate-classify c = let l = lengths _ _ (c .before .ended-at .ensures) 
 classify-requires : tie.Need-classify-requires
 classify-requires c κs =
     let p = c .before .before .before .before .before .before .before .before .pre in
-    (p .0, simp length-take (omega (arith, p .1)), ascii-text _ _ _ _ (c .before .ended-at .ensures) (c .before .before .before .ascii-body .ensures) (c .before .before .body-end .ensures .0))
+    (p .0, simp length-take (omega (arith, p .1)), text-sound _ _ _ _ _ (c .before .ended-at .ensures) (c .before .before .before .ascii-body .ensures) (c .before .before .body-end .ensures .0) (p .2))
 
 returns-2 : tie.Need-returns-2
 returns-2 c = classed-is _ _ _ _ (c .before .before .ended-at .ensures) (c .classify .ensures)

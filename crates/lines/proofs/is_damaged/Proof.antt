@@ -1,14 +1,13 @@
--- `lines::is_damaged` meets its contract: ASCII has no damaged character, and else one is looked for.
+-- `lines::is_damaged` meets its contract: a sound line has no damaged character, and else one is looked for.
 use mathlib.Core.Path.{sym, ap, _∙_}
 use mathlib.Core.Bool.{not}
 use borrow.Author.Needs.{needs}
 use Rattle.text.proofs.Damage.{damage-none, damage-some}
-use Rattle.lines.proofs.Asciis.{ascii-good}
 use Rattle.lines.proofs.is_damaged.Statement.{statement}
 use Rattle.lines.proofs.is_damaged.Tie as tie
 
 returns : tie.Need-returns
-returns c = λ glue. sym (ap not (ascii-good glue _ (c .before .before .pre (c .if1 .taken))))
+returns c = λ glue. sym (ap not (damage-none glue _ (c .before .before .pre (c .if1 .taken))))
 
 first-damage-requires : tie.Need-first-damage-requires
 first-damage-requires c κs = search needs

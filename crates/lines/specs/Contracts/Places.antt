@@ -6,7 +6,8 @@ use Prim.Native.Nat.{ℕ, _+_, _-_, _*_, _≤_, _<_}
 use lib.Dec.{eqb}
 use lib.ListN.{length, getD, drop}
 use Rattle.lists.specs.Runs.{while, every}
-use Rattle.text.specs.Characters.{Glyph, glyph, characters, inkAhead, isBlank, extent}
+use Rattle.lists.specs.Theorems.All.{All}
+use Rattle.text.specs.Characters.{Glyph, glyph, characters, inkAhead, isBlank, extent, damage}
 use Rattle.text.specs.Contracts.Places.{Ascii, settle, inkAfter, noBreakAt}
 use Rattle.text.specs.declared.Found.{Found}
 use Rattle.text.specs.declared.Found.the-variants.{At, Nowhere}
@@ -45,6 +46,10 @@ bodyEnd s at = at + length (body (drop at s))
 pub record AsciiBody (s : List ℕ) (from to : ℕ) : Type 0 where
   pub ascii : Ascii s from to
   pub same : bodyEnd s from ≡ bodyEnd s to
+
+-- no line's text has a damaged character
+abbrev pub LinesSound : List Line → Type 0
+LinesSound = All (λ (l : Line). damage (l .text) ≡ Nowhere)
 
 -- one byte stands from a place up to another, again and again
 pub record Repeats (byte : ℕ) (s : List ℕ) (from to : ℕ) : Type 0 where

@@ -1,12 +1,17 @@
--- `pieces::follow` meets its contract. Invariant: the place behind the lines that follow, counted from the place reached, is that counted from the start.
+-- `pieces::follow` meets its contract. Invariant: the place behind the lines that follow, counted from the place reached, is that counted from the start; and the
+-- lines from there on are sound if that is known.
 use mathlib.Core.Path.{_≡_, refl, sym, _∙_}
+use mathlib.Core.Bool.{true}
 use Prim.Native.Nat.{_-_, _≤_}
 use native.Mathlib.Omega.{arith}
-use lib.ListN.{length}
+use lib.ListN.{length, drop}
 use borrow.Author.Needs.{needs}
 use Rattle.options.specs.Opts.{meant}
+use Rattle.lines.specs.Lines.{linesOf}
+use Rattle.lines.specs.Contracts.Places.{LinesSound}
 use Rattle.pieces.specs.Contracts.Places.{reach, passesRule}
 use Rattle.pieces.proofs.Headers.{not-not}
+use Rattle.pieces.proofs.Places.{next-sound}
 use Rattle.pieces.proofs.Following.{other-keys, reach-past, reach-other, reach-fails, reach-joins}
 use Rattle.pieces.proofs.follow.Statement.{statement}
 use Rattle.pieces.proofs.follow.Tie as tie
@@ -16,16 +21,18 @@ use Rattle.pieces.proofs.line_at.Reads as line-at-reads
 use Rattle.pieces.proofs.passes.Reads as passes-reads
 
 abbrev Inv-loop : tie.InvT-loop
-Inv-loop notes at rule o block prefix i₀ i = (i ≤ length notes) × (reach (meant block o) (passesRule rule (o .prefix)) notes i ≡ reach (meant block o) (passesRule rule (o .prefix)) notes at)
+Inv-loop notes at rule o block sound prefix i₀ i =
+    (i ≤ length notes) × (reach (meant block o) (passesRule rule (o .prefix)) notes i ≡ reach (meant block o) (passesRule rule (o .prefix)) notes at)
+    × (sound ≡ true → LinesSound (linesOf (drop i notes)))
 
 abbrev μ-loop : tie.MeasureT-loop
-μ-loop notes at rule o block prefix i₀ i = length notes - i
+μ-loop notes at rule o block sound prefix i₀ i = length notes - i
 
 loop-holds : tie.Need-loop-holds Inv-loop μ-loop
-loop-holds c = (c .before .before .pre .place, refl)
+loop-holds c = (c .before .before .pre .place, refl, c .before .before .pre .sound)
 
 line-at-requires : tie.Need-line-at-requires Inv-loop μ-loop
-line-at-requires c κs = (record { short = c .before .before .before .before .pre .short; usable = c .before .before .before .before .pre .usable; place = c .before .loop .inv .0 }, c .loop-test .taken)
+line-at-requires c κs = (record { short = c .before .before .before .before .pre .short; usable = c .before .before .before .before .pre .usable; place = c .before .loop .inv .0; sound = c .before .loop .inv .2 }, c .loop-test .taken)
 
 enum-known-class : tie.Need-enum-known-class Inv-loop μ-loop
 enum-known-class c = search needs
@@ -43,7 +50,7 @@ loop-less : tie.Need-loop-less Inv-loop μ-loop
 loop-less c = omega (arith, c .before .before .before .before .before .line-at .ensures .on, c .before .before .before .before .before .line-at .ensures .within)
 
 loop-again : tie.Need-loop-again Inv-loop μ-loop
-loop-again c = let i = c .before .before .before .before .before .before .before .loop .inv in (c .before .before .before .before .before .line-at .ensures .within, reach-joins _ _ _ _ _ (c .before .before .before .before .before .line-at .ensures) _ (c .before .before .before .class .given .1) (sym (c .before .passes .ensures) ∙ not-not _ _ (c .if1 .left)) ∙ i .1)
+loop-again c = let i = c .before .before .before .before .before .before .before .loop .inv in (c .before .before .before .before .before .line-at .ensures .within, reach-joins _ _ _ _ _ (c .before .before .before .before .before .line-at .ensures) _ (c .before .before .before .class .given .1) (sym (c .before .passes .ensures) ∙ not-not _ _ (c .if1 .left)) ∙ i .1, next-sound _ _ _ _ _ (c .before .before .before .before .before .line-at .ensures) (i .2))
 
 returns-3 : tie.Need-returns-3 Inv-loop μ-loop
 returns-3 c = let i = c .before .loop .inv in (reach-past _ _ _ _ (c .loop-test .left) ∙ i .1, i .0)

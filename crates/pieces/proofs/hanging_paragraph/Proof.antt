@@ -1,6 +1,7 @@
 -- `pieces::hanging_paragraph` meets its contract: alone, or with a second line that joins.
 use mathlib.Core.Path.{sym, _∙_}
 use native.Mathlib.Omega.{arith}
+use Rattle.pieces.proofs.Places.{joined-sound}
 use Rattle.pieces.proofs.Paragraphs.{alone-from, joins-from}
 use Rattle.pieces.proofs.Seconds.{joined-of}
 use borrow.Author.Needs.{needs}
@@ -42,7 +43,7 @@ follow-requires : tie.Need-follow-requires
 follow-requires c κs =
     let at-second-line = c .before .before .before in
     let start = at-second-line .before .before .before in
-    let j = joined-of (start .args .notes .now) (start .args .next) _ (at-second-line .second-line .ensures .1) (c .before .behind .given .1) in record { short = start .pre .0 .short; usable = start .pre .0 .usable; place = j .within }
+    let j = joined-of (start .args .notes .now) (start .args .next) _ (at-second-line .second-line .ensures .1) (c .before .behind .given .1) in record { short = start .pre .0 .short; usable = start .pre .0 .usable; place = j .within; sound = joined-sound _ _ _ _ _ j (start .pre .0 .sound) }
 
 margin-at-requires-3 : tie.Need-margin-at-requires-3
 margin-at-requires-3 c κs = search needs

@@ -1,6 +1,7 @@
 -- `pieces::next_piece` meets its contract, class by class.
 use mathlib.Core.Path.{sym, _∙_}
 use mathlib.Core.Bool.{true, false}
+use Rattle.pieces.proofs.Places.{next-sound}
 use Rattle.pieces.proofs.Paragraphs.{joined-line}
 use Rattle.pieces.proofs.Seconds.{not-split}
 use Rattle.pieces.proofs.Next.{piece-blank, piece-plain, piece-text}
@@ -42,14 +43,17 @@ starts-mail-requires : tie.Need-starts-mail-requires
 starts-mail-requires c κs = search needs
 
 mail-paragraph-requires : tie.Need-mail-paragraph-requires
-mail-paragraph-requires c κs = search needs
+mail-paragraph-requires c κs =
+    let at-line-at = c .before .before .before .before .before .before in
+    let start = at-line-at .before .before .before in
+    record { short = start .pre .1; usable = start .pre .2; place = at-line-at .line-at .ensures .within; sound = next-sound _ _ _ _ _ (at-line-at .line-at .ensures) (start .pre .4) }
 
 returns : tie.Need-returns
 returns c =
     let at-class = c .before .before .before .before .before in
     let at-line-at = at-class .before .before in
     let start = at-line-at .before .before .before in
-    piece-bounded _ _ _ _ _ _ (start .pre) (piece-text _ _ _ _ _ _ (at-line-at .line-at .ensures) _ (at-class .class .given .1) true (sym (c .before .if1 .taken) ∙ c .before .before .starts-mail .ensures) _ (c .mail-paragraph .ensures))
+    piece-bounded _ _ _ _ _ _ _ (start .pre) (piece-text _ _ _ _ _ _ (at-line-at .line-at .ensures) _ (at-class .class .given .1) true (sym (c .before .if1 .taken) ∙ c .before .before .starts-mail .ensures) _ (c .mail-paragraph .ensures))
 
 is-hanging-requires : tie.Need-is-hanging-requires
 is-hanging-requires c κs = search needs
@@ -59,7 +63,7 @@ hanging-paragraph-requires c κs =
     let at-class = c .before .before .before .before .before .before in
     let at-line-at = at-class .before .before in
     let start = at-line-at .before .before .before in
-    let h = sym (c .before .is-hanging .ensures) ∙ c .if2 .taken in (record { short = start .pre .1; usable = start .pre .2; place = at-line-at .line-at .ensures .within }, joined-line _ _ _ _ _ (at-line-at .line-at .ensures) (at-class .class .given .1) (start .pre .2) (start .pre .1) .shaped, h, not-split _ _ (start .pre .3) h)
+    let h = sym (c .before .is-hanging .ensures) ∙ c .if2 .taken in (record { short = start .pre .1; usable = start .pre .2; place = at-line-at .line-at .ensures .within; sound = next-sound _ _ _ _ _ (at-line-at .line-at .ensures) (start .pre .4) }, joined-line _ _ _ _ _ (at-line-at .line-at .ensures) (at-class .class .given .1) (start .pre .2) (start .pre .1) .shaped, h, not-split _ _ (start .pre .3) h)
 
 returns-2 : tie.Need-returns-2
 returns-2 c =
@@ -68,20 +72,20 @@ returns-2 c =
     let at-class = at-starts-mail .before .before .before in
     let at-line-at = at-class .before .before in
     let start = at-line-at .before .before .before in
-    piece-bounded _ _ _ _ _ _ (start .pre) (piece-text _ _ _ _ _ _ (at-line-at .line-at .ensures) _ (at-class .class .given .1) false (sym (at-if .if1 .left) ∙ at-starts-mail .starts-mail .ensures) _ (c .hanging-paragraph .ensures))
+    piece-bounded _ _ _ _ _ _ _ (start .pre) (piece-text _ _ _ _ _ _ (at-line-at .line-at .ensures) _ (at-class .class .given .1) false (sym (at-if .if1 .left) ∙ at-starts-mail .starts-mail .ensures) _ (c .hanging-paragraph .ensures))
 
 plain-paragraph-requires : tie.Need-plain-paragraph-requires
 plain-paragraph-requires c κs =
     let at-class = c .before .before .before .before .before .before in
     let at-line-at = at-class .before .before in
     let start = at-line-at .before .before .before in
-    (record { short = start .pre .1; usable = start .pre .2; place = at-line-at .line-at .ensures .within }, joined-line _ _ _ _ _ (at-line-at .line-at .ensures) (at-class .class .given .1) (start .pre .2) (start .pre .1) .shaped, sym (c .before .is-hanging .ensures) ∙ c .if2 .left)
+    (record { short = start .pre .1; usable = start .pre .2; place = at-line-at .line-at .ensures .within; sound = next-sound _ _ _ _ _ (at-line-at .line-at .ensures) (start .pre .4) }, joined-line _ _ _ _ _ (at-line-at .line-at .ensures) (at-class .class .given .1) (start .pre .2) (start .pre .1) .shaped, sym (c .before .is-hanging .ensures) ∙ c .if2 .left)
 
 returns-3 : tie.Need-returns-3
-returns-3 c = piece-bounded _ _ _ _ _ _ (c .before .before .before .before .before .pre) (piece-blank _ _ _ _ _ (c .before .before .line-at .ensures) (c .enum-told .given .1))
+returns-3 c = piece-bounded _ _ _ _ _ _ _ (c .before .before .before .before .before .pre) (piece-blank _ _ _ _ _ (c .before .before .line-at .ensures) (c .enum-told .given .1))
 
 returns-4 : tie.Need-returns-4
-returns-4 c = piece-bounded _ _ _ _ _ _ (c .before .before .before .before .before .pre) (piece-plain _ _ _ _ _ (c .before .before .line-at .ensures) (c .enum-told2 .given .1))
+returns-4 c = piece-bounded _ _ _ _ _ _ _ (c .before .before .before .before .before .pre) (piece-plain _ _ _ _ _ (c .before .before .line-at .ensures) (c .enum-told2 .given .1))
 
 returns-5 : tie.Need-returns-5
 returns-5 c =
@@ -90,7 +94,7 @@ returns-5 c =
     let at-class = at-starts-mail .before .before .before in
     let at-line-at = at-class .before .before in
     let start = at-line-at .before .before .before in
-    piece-bounded _ _ _ _ _ _ (start .pre) (piece-text _ _ _ _ _ _ (at-line-at .line-at .ensures) _ (at-class .class .given .1) false (sym (at-if .if1 .left) ∙ at-starts-mail .starts-mail .ensures) _ (c .plain-paragraph .ensures))
+    piece-bounded _ _ _ _ _ _ _ (start .pre) (piece-text _ _ _ _ _ _ (at-line-at .line-at .ensures) _ (at-class .class .given .1) false (sym (at-if .if1 .left) ∙ at-starts-mail .starts-mail .ensures) _ (c .plain-paragraph .ensures))
 
 pub next-piece-spec : {M : Type 1} → statement M
 next-piece-spec =

@@ -9,7 +9,7 @@ use lib.Dec.{ltb}
 use Rattle.lists.specs.Runs.{joined}
 use Rattle.options.specs.Opts.{Opts}
 use Rattle.lines.specs.Lines.{Line, firstLine, linesOf}
-use Rattle.lines.specs.Contracts.Places.{mostLarge, mostColumns, Usable}
+use Rattle.lines.specs.Contracts.Places.{mostLarge, mostColumns, Usable, LinesSound}
 use Rattle.options.specs.declared.Options.{Options}
 use Rattle.lines.specs.Classes.{classify}
 use Rattle.lines.specs.declared.Shape.{Shape}
@@ -103,11 +103,13 @@ secondPlace next (joins text t) = Joins next t
 unfoldable pub secondAt : Opts → Shape → List ℕ → ℕ → SecondAt
 secondAt o s notes at = secondPlace (at + length (firstLine (drop at notes) .raw)) (secondOf o s (linesOf (drop at notes)))
 
--- what the functions ask: the notes are short, the options are those that a block gives, a place lies in the notes
-pub record PieceReady (notes block : List ℕ) (o : Options) (at : ℕ) : Type 0 where
+-- what the functions ask: the notes are short, the options are those that a block gives, a place lies in the notes, and the lines from there
+-- on are sound if that is said to be known
+pub record PieceReady (notes block : List ℕ) (o : Options) (at : ℕ) (known : Bool) : Type 0 where
   pub short : length notes ≤ mostLarge
   pub usable : Usable block o
   pub place : at ≤ length notes
+  pub sound : known ≡ true → LinesSound (linesOf (drop at notes))
 
 -- the line that begins at a place
 pub record LineIs (o : Opts) (notes : List ℕ) (at : ℕ) (r : Classed) : Type 0 where

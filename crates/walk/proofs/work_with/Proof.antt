@@ -1,5 +1,6 @@
 -- `walk::work_with` meets its contract. Invariant: the greatest need so far, with those of the pieces that are left, is that of all.
 use mathlib.Core.Path.{_≡_, sym, ap, _∙_}
+use mathlib.Core.Bool.{false≢true}
 use Prim.Native.Nat.{_-_, _≤_, max}
 use native.Mathlib.Omega.{arith}
 use lib.ListN.{length}
@@ -36,7 +37,7 @@ loop-holds c = (omega arith, work-first _ _ _)
 next-piece-requires : tie.Need-next-piece-requires Inv-loop μ-loop
 next-piece-requires c κs =
     let p = c .before .before .before .before .before .before .pre in
-    (c .loop-test .taken, p .0, p .1, p .2)
+    (c .loop-test .taken, p .0, p .1, p .2, λ known. absurd (false≢true known))
 
 enum-known-next : tie.Need-enum-known-next Inv-loop μ-loop
 enum-known-next c = search needs

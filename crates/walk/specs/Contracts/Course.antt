@@ -6,6 +6,7 @@ use Prim.Native.Nat.{ℕ, _+_, _*_, _≤_, _<_}
 use lib.ListN.{length, drop, replicate}
 use Rattle.lists.specs.Runs.{joined}
 use Rattle.lists.specs.Walk.{walk}
+use Rattle.text.specs.Characters.{damage}
 use Rattle.text.specs.declared.Found.{Found}
 use Rattle.text.specs.declared.Found.the-variants.{At, Nowhere}
 use Rattle.options.specs.Opts.{Opts, meant}
@@ -13,7 +14,7 @@ use Rattle.options.specs.OptionBlock.{readBlock}
 use Rattle.options.specs.declared.Options.{Options}
 use Rattle.options.specs.declared.Block.the-variants.{Accepted}
 use Rattle.lines.specs.Lines.{linesOf}
-use Rattle.lines.specs.Contracts.Places.{mostLarge}
+use Rattle.lines.specs.Contracts.Places.{mostLarge, LinesSound}
 use Rattle.pieces.specs.Pieces.{Piece, Kind, nextPiece, pieces}
 use Rattle.pieces.specs.Contracts.Places.{pieceAt}
 use Rattle.pieces.specs.Contracts.Bounds.{Bounded}
@@ -30,10 +31,11 @@ use Rattle.walk.specs.declared.Course.the-variants.{End as CourseEnd, Sh
 use Rattle.walk.specs.declared.Ended.{Ended}
 use Rattle.walk.specs.declared.Ended.the-variants.{All, Stopped}
 
--- the options of an accepted block, and notes within the limit
+-- the options of an accepted block, and notes within the limit, without a damaged character unless such are kept
 pub record Admitted (block notes : List ℕ) (o : Options) : Type 0 where
   pub accepted : readBlock block ≡ Accepted o
   pub short : length notes ≤ mostLarge
+  pub sound : o .keep ≡ false → damage notes ≡ Nowhere
 
 -- ---- pieces
 
@@ -81,10 +83,15 @@ pub record TooLong (most : ℕ) (o : Opts) (notes out : List ℕ) (c : Cursor) (
 
 -- ---- the notes
 
+-- a line begins there: where the notes have no damaged character, the lines from there on have none
+abbrev pub SoundFrom : List ℕ → ℕ → Type 0
+SoundFrom notes at = damage notes ≡ Nowhere → LinesSound (linesOf (drop at notes))
+
 -- a place within the notes, and what was written up to there
 pub record CursorIn (notes : List ℕ) (c : Cursor) : Type 0 where
   pub within : c .at ≤ length notes
   pub bounded : c .written ≤ mostPerByte * c .at
+  pub sound : SoundFrom notes (c .at)
 
 -- the paragraph that `next_piece` finds at a place
 pub record TextAhead (block : List ℕ) (o : Options) (notes : List ℕ) (c : Cursor) (p : Paragraph) : Type 0 where
