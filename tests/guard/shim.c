@@ -79,6 +79,8 @@ static uint64_t given_back(uint64_t answer) {
 #define ASKED const uint8_t *options, size_t options_len, const uint8_t *notes, size_t notes_len
 #define LENT IN(options, options_len), options_len, IN(notes, notes_len), notes_len
 #define OUTPUT OUT(output, output_len), output_len
+#define ROOM uint32_t *work, size_t work_len
+#define WORK OUT(work, work_len), work_len
 
 CALL(measure, (ASKED), (LENT))
 CALL(write, (ASKED, uint8_t *output, size_t output_len), (LENT, OUTPUT))
@@ -98,3 +100,11 @@ CALL(unflow, (const uint8_t *text, size_t text_len, uint8_t *output, size_t outp
 CALL(explain, (ASKED, uint64_t line, uint64_t reason[6]), (LENT, line, OUT(reason, 6)))
 CALL(flow, (ASKED, uint8_t *output, size_t output_len, uint64_t *dashes), (LENT, OUTPUT, OUT(dashes, 1)))
 CALL(check, (ASKED, const uint8_t *digest, size_t digest_len), (LENT, IN(digest, digest_len), digest_len))
+
+CALL(measure_large, (ASKED, ROOM), (LENT, WORK))
+CALL(write_large, (ASKED, uint8_t *output, size_t output_len, ROOM), (LENT, OUTPUT, WORK))
+CALL(write_indexed_large, (ASKED, uint8_t *output, size_t output_len, struct rudignals_record *index, size_t records, uint64_t *filled, ROOM),
+     (LENT, OUTPUT, OUT(index, records), records, OUT(filled, 1), WORK))
+CALL(explain_large, (ASKED, uint64_t line, uint64_t reason[6], ROOM), (LENT, line, OUT(reason, 6), WORK))
+CALL(flow_large, (ASKED, uint8_t *output, size_t output_len, uint64_t *dashes, ROOM), (LENT, OUTPUT, OUT(dashes, 1), WORK))
+CALL(check_large, (ASKED, const uint8_t *digest, size_t digest_len, ROOM), (LENT, IN(digest, digest_len), digest_len, WORK))

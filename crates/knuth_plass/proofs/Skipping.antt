@@ -1,12 +1,12 @@
 -- Words that are skipped: a word that ends before the first active line may changes nothing but the endless line, and the rounds go on behind it.
-use mathlib.Core.Path.{_≡_, refl, sym, _∙_}
-use mathlib.Core.Bool.{Bool, true, false, cond, _&&_, _||_}
+use mathlib.Core.Path.{_≡_, refl, _∙_}
+use mathlib.Core.Bool.{Bool, true, false, cond}
 use mathlib.Core.List.{List, [], _∷_}
 use Prim.Native.Nat.{ℕ, zero, suc, _+_, _-_, _≤_, _<_}
 use native.Mathlib.Numerals.{add-one}
 use native.Mathlib.Omega.{arith}
-use borrow.Author.Tests.{lt-leb, le-leb, leb-true, leb-false, lt-ltb, le-ltb, ltb-true, ltb-false, ne-eqb}
-use lib.Dec.{eqb, leb, ltb}
+use borrow.Author.Tests.{lt-leb, le-leb, leb-false, lt-ltb, le-ltb, ltb-true, ltb-false, ne-eqb}
+use lib.Dec.{leb, ltb}
 use lib.ListN.{drop}
 use Rattle.records.specs.Word.{meaning}
 use Rattle.records.specs.Contracts.Table.{wordIn, wordsIn}
@@ -20,7 +20,7 @@ use Rattle.knuth_plass.specs.declared.interval.Skipped.{Skipped}
 use Rattle.knuth_plass.specs.KnuthPlass.{minimumOf, sentenceBehind}
 use Rattle.knuth_plass.specs.Contracts.Table.{Tables, breakMeant, seen}
 use Rattle.knuth_plass.specs.Contracts.Round.{Limits, Worked}
-use Rattle.knuth_plass.specs.Contracts.Interval.{Good, reachOf, pops, near, bestEntry, nearOffer, intervalRound, span, activeOf, Between, IntervalIs, gapAfter, sentenceAt, endAt, leastEnd, skippedFrom}
+use Rattle.knuth_plass.specs.Contracts.Interval.{Good, reachOf, pops, near, bestEntry, intervalRound, span, activeOf, Between, IntervalIs, gapAfter, sentenceAt, endAt, leastEnd, skippedFrom}
 use Rattle.knuth_plass.proofs.Filled.{filled-later}
 use Rattle.knuth_plass.proofs.Paragraph.{behind-last, behind-next}
 use Rattle.knuth_plass.proofs.Work.{worked-word}

@@ -179,13 +179,6 @@ pub fn glyph_at(s: &[u8], at: usize) -> Glyph
     if a < 0x80 {
         return glyph_of(wide(a), at + 1);
     }
-    // Most others are U+00A0.
-    if is_no_break(s, at) {
-        return Glyph::Blank {
-            code: 0xA0,
-            next: at + 2,
-        };
-    }
     let Char::Good { code, next } = decode_at(s, at) else {
         return Glyph::Damaged;
     };

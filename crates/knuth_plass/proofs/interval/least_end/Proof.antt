@@ -1,8 +1,7 @@
 -- `knuth_plass::interval::least_end` meets its contract.
-use mathlib.Core.Path.{sym, _∙_}
 use native.Mathlib.Omega.{arith}
 use borrow.Author.Needs.{needs}
-use Rattle.knuth_plass.specs.Contracts.Table.{tableIn, breakMeant, seen}
+use Rattle.knuth_plass.specs.Contracts.Table.{breakMeant, seen}
 use Rattle.knuth_plass.proofs.Table.{has-room}
 use Rattle.knuth_plass.proofs.Span.{columns-at}
 use Rattle.knuth_plass.proofs.interval.least_end.Statement.{statement}

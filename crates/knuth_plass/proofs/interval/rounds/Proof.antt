@@ -8,7 +8,7 @@ use Rattle.knuth_plass.specs.Contracts.Round.{Lent, Worked}
 use Rattle.knuth_plass.proofs.Table.{table-record}
 use Rattle.knuth_plass.proofs.Work.{part-length, part-room, part-sized, part-home, worked-home, worked-none, worked-then, worked-lent, worked-word}
 use Rattle.knuth_plass.proofs.Intervals.{Along, between, along-start, along-next, line-room, gap-same, regular-then, intervals-are, intervals-then}
-use Rattle.knuth_plass.proofs.Skipping.{markAt, mark-here, mark-behind, along-second, sentence-same, skips-same, behind-skipped}
+use Rattle.knuth_plass.proofs.Skipping.{markAt, mark-here, mark-behind, along-second, sentence-same, behind-skipped}
 use Rattle.knuth_plass.proofs.interval.rounds.Statement.{statement}
 use Rattle.knuth_plass.proofs.interval.rounds.Tie as tie
 

@@ -1,6 +1,5 @@
 -- `knuth_plass::interval::sentence_at` meets its contract. One law for each way through it.
 use native.Mathlib.Omega.{arith}
-use borrow.Author.Needs.{needs}
 use Rattle.knuth_plass.proofs.Skipping.{sentence-second, sentence-own, sentence-first, sentence-none}
 use Rattle.knuth_plass.proofs.interval.sentence_at.Statement.{statement}
 use Rattle.knuth_plass.proofs.interval.sentence_at.Tie as tie

@@ -1,8 +1,8 @@
 -- `knuth_plass::interval::skip` meets its contract. Invariant: what is skipped from here is what is skipped from the start.
 use mathlib.Core.Path.{_≡_, refl, sym, _∙_}
-use Prim.Native.Nat.{_+_, _-_, _≤_, _<_}
+use Prim.Native.Nat.{_+_, _-_, _<_}
 use native.Mathlib.Omega.{arith}
-use Rattle.knuth_plass.specs.Contracts.Interval.{endAt, skippedFrom}
+use Rattle.knuth_plass.specs.Contracts.Interval.{skippedFrom}
 use Rattle.knuth_plass.proofs.Skipping.{end-is, skips-last, skips-stop, skips-go, skips-none}
 use Rattle.knuth_plass.proofs.interval.skip.Statement.{statement}
 use Rattle.knuth_plass.proofs.interval.skip.Tie as tie
