@@ -111,7 +111,7 @@ extent_codes [] = rw joined_nil
 extent_codes (c ∷ codes) = rw (joined_cons encode c codes, length-append (encode c) (octets codes), extent_codes codes)
 
 -- a kind of characters: by number; a damaged glyph is none of it, and no line feed
-module _ (kind : ℕ → Bool) (no-damage : kind 0xFFFD ≡ false) (no_feed : kind 10 ≡ false) where
+module _ (kind : ℕ → Bool) (no-damage : kind 0xFFFD ≡ false) (no_feed_law : kind 10 ≡ false) where
   abbrev of_kind : Glyph → Bool
   of_kind g = kind g.code
 
@@ -177,7 +177,7 @@ module _ (kind : ℕ → Bool) (no-damage : kind 0xFFFD ≡ false) (no_feed : ki
   kind_other c k = go (eqb c 10) refl
     where
       go : (t : Bool) → eqb c 10 ≡ t → t ≡ false
-      go true e = absurd (false≢true (sym no_feed ∙ ap kind (sym (eqb-true c 10 e)) ∙ k))
+      go true e = absurd (false≢true (sym no_feed_law ∙ ap kind (sym (eqb-true c 10 e)) ∙ k))
       go false e = refl
 
   pub octets_feedless : (codes : List ℕ) → every kind codes ≡ true → Feedless (octets codes)

@@ -251,19 +251,19 @@ some_fits : (glue : Bool) (r : Run) (g : Glyph) (gs : List Glyph) → r.text ≡
 some_fits glue r g gs e (inl z) = absurd (let q = sym z ∙ e in let y : ◌≡◌ {A = ℕ} 0 1 = cc in omega arith)
 some_fits glue r g gs e (inr f) = f
 
-line_words : (glue : Bool) (count : List Glyph → ℕ) (o : Opts) (new_line previousPunct : Bool) (rs : List Run) → All (RunFits glue) rs → All (WordFits glue) (line_words count o new_line previousPunct rs)
+line_words_law : (glue : Bool) (count : List Glyph → ℕ) (o : Opts) (new_line previousPunct : Bool) (rs : List Run) → All (RunFits glue) rs → All (WordFits glue) (line_words count o new_line previousPunct rs)
 unfolding line_words word_of
-line_words glue count o new_line previousPunct [] a = tt
-line_words glue count o new_line previousPunct (r ∷ rs) a = go r.text refl (line_words glue count o false (punct_at_end r.text) rs a.1)
+line_words_law glue count o new_line previousPunct [] a = tt
+line_words_law glue count o new_line previousPunct (r ∷ rs) a = go r.text refl (line_words_law glue count o false (punct_at_end r.text) rs a.1)
   where
     go : (t : List Glyph) → r.text ≡ t → All (WordFits glue) (line_words count o false (punct_at_end r.text) rs) → All (WordFits glue) (line_words count o new_line previousPunct (r ∷ rs))
     go [] e ih = rw (line_words, e) tt
     go (g ∷ t) e ih = let f = some_fits glue r g t e a.0 in rw (line_words, e) (f, ih)
 
-mail_words : (glue : Bool) (rs : List Run) → All (RunFits glue) rs → All (WordFits glue) (mail_words rs)
+mail_words_law : (glue : Bool) (rs : List Run) → All (RunFits glue) rs → All (WordFits glue) (mail_words rs)
 unfolding mail_words mail_word
-mail_words glue [] a = tt
-mail_words glue (r ∷ rs) a = go r.text refl (mail_words glue rs a.1)
+mail_words_law glue [] a = tt
+mail_words_law glue (r ∷ rs) a = go r.text refl (mail_words_law glue rs a.1)
   where
     go : (t : List Glyph) → r.text ≡ t → All (WordFits glue) (mail_words rs) → All (WordFits glue) (mail_words (r ∷ rs))
     go [] e ih = rw (mail_words, e) tt
@@ -271,6 +271,6 @@ mail_words glue (r ∷ rs) a = go r.text refl (mail_words glue rs a.1)
 
 pub row_fits : (o : Opts) (mail : Bool) (row : Row) → every is_good (glyphs o.glue row.text) ≡ true → Feedless row.text → All (WordFits o.glue) (row_words o mail row)
 unfolding row_words
-row_fits o true row e f = mail_words o.glue _ (runs_fit o.glue _ (glyphs_line o.glue row.text e f))
+row_fits o true row e f = mail_words_law o.glue _ (runs_fit o.glue _ (glyphs_line o.glue row.text e f))
 row_fits o false row e f =
-    line_words o.glue (counting o.by_characters) o true false _ (runs_fit o.glue _ (line_from o.glue row.start _ (glyphs_line o.glue row.text e f)))
+    line_words_law o.glue (counting o.by_characters) o true false _ (runs_fit o.glue _ (line_from o.glue row.start _ (glyphs_line o.glue row.text e f)))

@@ -86,9 +86,9 @@ pub ratio_le : (r old : Float) → T (within 1 r) → T (within 1 old) → ratio
 ratio_le r old h k = term_le 600 600 1 _ (lit≤ tt) (lit≤ tt) (lit≤ tt) (change_within r old h k)
 
 -- ---- the cost
-pub cost_with : (r old : Float) (s word w : ℕ) → w ≡ word_term s word → cost_with r old w ≡ cost r old s word
+pub cost_with_law : (r old : Float) (s word w : ℕ) → w ≡ word_term s word → cost_with r old w ≡ cost r old s word
 unfolding cost
-cost_with r old s word w e = rw e
+cost_with_law r old s word w e = rw e
 
 pub square_le_most : (l w d : ℕ) → l ≤ 100 → w ≤ most_word → d ≤ 600 → (1 + l + w + d) * (1 + l + w + d) ≤ most_cost
 square_le_most l w d L W D = let s : 1 + l + w + d ≤ 3101 = omega arith in mul-le-mul s s

@@ -29,11 +29,11 @@ told_coded (because e) = refl
 told_coded (refused r) = refl
 told_coded (no_line lines) = refl
 
-pub told_reason : (x : Explanation) (reason : List ℕ) → told_reason (told x) reason ≡ reason_after x reason
+pub told_reason_law : (x : Explanation) (reason : List ℕ) → told_reason (told x) reason ≡ reason_after x reason
 unfolding reason_after
-told_reason (because e) reason = refl
-told_reason (refused r) reason = refl
-told_reason (no_line lines) reason = refl
+told_reason_law (because e) reason = refl
+told_reason_law (refused r) reason = refl
+told_reason_law (no_line lines) reason = refl
 
 -- ---- what the answer tells
 

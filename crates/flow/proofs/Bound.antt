@@ -30,7 +30,7 @@ use Rattle.unflow.specs.Flowed.{cr_lf, stuffing}
 use Rattle.flow.specs.Flow.{paragraph_lines, sent_lines, plain_sent, sent, flowed}
 use Rattle.flow.specs.Cited.Sending.{flowed_from}
 use Rattle.unflow.proofs.Texts.{stuffing_most}
-use Rattle.flow.proofs.Words.{words_sent, sent_most}
+use Rattle.flow.proofs.Words.{words_sent_law, sent_most}
 use Rattle.flow.proofs.Plain.{plain_shorter}
 use Rattle.flow.proofs.Course.{one_sent, sent_longest, sent_none, sent_more, all_sent}
 
@@ -45,7 +45,7 @@ paragraph_most o nextMail notes at {p} g few =
     let q = g.paragraph_is in
     let ws = words_of o q in
     let breaks = breaks_by (o.quick || q.mail) (setting_of o q.mail q.first.columns q.indent.columns) ws in
-    let e = ap length (words_sent q.indent.bytes q.first.bytes breaks ws (paragraph_some o _ q g.text.rows)) in
+    let e = ap length (words_sent_law q.indent.bytes q.first.bytes breaks ws (paragraph_some o _ q g.text.rows)) in
     omega (
       arith,
       e,

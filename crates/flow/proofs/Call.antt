@@ -28,8 +28,8 @@ use Rattle.flow.proofs.Theorems.{what_was_written_comes_back, its_words_come_bac
 
 -- ---- what an answer that is done says
 
-sent_notes : (l : Limits) (space : ℕ) (o : Opts) (notes bytes : List ℕ) → sent_notes l space o notes ≡ done bytes → bytes ≡ flowed o notes
-sent_notes l space o notes bytes h = go (with_notes l o notes) h
+sent_notes_law : (l : Limits) (space : ℕ) (o : Opts) (notes bytes : List ℕ) → sent_notes l space o notes ≡ done bytes → bytes ≡ flowed o notes
+sent_notes_law l space o notes bytes h = go (with_notes l o notes) h
   where
     fitted : (a b : Bool) → cond a (cond b (done (flowed o notes)) (room (length (flowed o notes)))) (room most_told) ≡ done bytes → bytes ≡ flowed o notes
     fitted true true k = cc
@@ -79,7 +79,7 @@ what_the_call_wrote_comes_back l block notes space bytes h = read (read_block bl
     fit o e true u k = absurd (let z : ◌≡◌ {A = ℕ} 0 1 = cc in omega arith)
     fit o e false u k =
         let m = mailed (meant block o) in
-        let s = sent_notes l space m notes bytes k in
+        let s = sent_notes_law l space m notes bytes k in
         let b = ap (λ (t : List ℕ). paragraphs (mail_lines t)) s ∙ what_was_written_comes_back m notes in
         record {
           options = o;

@@ -57,7 +57,7 @@ use Rattle.flow.specs.declared.Step.{Step}
 use Rattle.flow.specs.declared.Step.TheVariants.{On, Over}
 use Rattle.flow.specs.declared.Ended.TheVariants.{All, Stopped}
 use Rattle.flow.specs.declared.Turn.{Turn}
-use Rattle.flow.proofs.Words.{words_sent, words_dashes, sent_most, words_dashes_few}
+use Rattle.flow.proofs.Words.{words_sent_law, words_dashes_law, sent_most, words_dashes_few}
 
 -- ---- what the options allow
 
@@ -212,8 +212,8 @@ module _ (block notes : List ℕ) (o : Options) (ready : Ready block notes o) (n
         kind = paragraph q;
         goes = rw (a, m, v.next, v.mail) goes;
         few = rw words_count (le-ltb room (length ws) v.few);
-        wrote = rw (lines_are, words_sent indent first breaks ws some) v.wrote;
-        dashes = rw (lines_are, words_dashes indent first breaks ws some) v.dashes;
+        wrote = rw (lines_are, words_sent_law indent first breaks ws some) v.wrote;
+        dashes = rw (lines_are, words_dashes_law indent first breaks ws some) v.dashes;
         bounded = rw (a, v.next) (omega (arith, v.wrote.count, b, l, sent_longest first indent ws));
         counted = rw (a, v.next) (omega (arith, v.dashes, b, k, few_longest first indent ws));
       }

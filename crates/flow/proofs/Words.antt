@@ -158,17 +158,17 @@ module _ (indent : List ℕ) where
       ∙ ap (λ (n : ℕ). cond (is_dashed line) 1 0 + n) (from_dashes (indent ++ w.text) w.ends_punct bs ws)
   from_dashes line punct (false ∷ bs) (w ∷ ws) = from_dashes (line ++ (space_before true punct w ++ w.text)) w.ends_punct bs ws ∙ rw (on_dashed line punct w) (omega arith)
 
-  pub words_sent : (first : List ℕ) (breaks : List Bool) (ws : List Word) → 0 < length ws → joined sent (all_but_last (broken_into first indent breaks ws)) ≡ words_sent first indent breaks ws
+  pub words_sent_law : (first : List ℕ) (breaks : List Bool) (ws : List Word) → 0 < length ws → joined sent (all_but_last (broken_into first indent breaks ws)) ≡ words_sent first indent breaks ws
   unfolding broken_into words_sent opened
-  words_sent first breaks [] h = absurd (omega arith)
-  words_sent first breaks (w ∷ ws) h =
+  words_sent_law first breaks [] h = absurd (omega arith)
+  words_sent_law first breaks (w ∷ ws) h =
       from_sent (first ++ w.text) false breaks ws
       ∙ sym (append_assoc (stuffing ((first ++ w.text) ++ space_if (some ws))) (first ++ w.text) (rest_sent indent (is_dashed (first ++ w.text)) false breaks ws))
 
-  pub words_dashes : (first : List ℕ) (breaks : List Bool) (ws : List Word) → 0 < length ws → dashes_among (broken_into first indent breaks ws) ≡ words_dashes first indent breaks ws
+  pub words_dashes_law : (first : List ℕ) (breaks : List Bool) (ws : List Word) → 0 < length ws → dashes_among (broken_into first indent breaks ws) ≡ words_dashes first indent breaks ws
   unfolding broken_into words_dashes
-  words_dashes first breaks [] h = absurd (omega arith)
-  words_dashes first breaks (w ∷ ws) h = from_dashes (first ++ w.text) false breaks ws
+  words_dashes_law first breaks [] h = absurd (omega arith)
+  words_dashes_law first breaks (w ∷ ws) h = from_dashes (first ++ w.text) false breaks ws
 
 -- ---- how long it gets
 

@@ -32,11 +32,11 @@ told_coded (refused r) = refl
 told_coded (full pieces) = refl
 told_coded (room needed) = refl
 
-pub told_filled : (a : Indexed) → told_filled (told a) ≡ filled_after a
-told_filled (done digest index) = refl
-told_filled (refused r) = refl
-told_filled (full pieces) = refl
-told_filled (room needed) = refl
+pub told_filled_law : (a : Indexed) → told_filled (told a) ≡ filled_after a
+told_filled_law (done digest index) = refl
+told_filled_law (refused r) = refl
+told_filled_law (full pieces) = refl
+told_filled_law (room needed) = refl
 
 -- no more records than there are
 output_few : (b c : Bool) (rs : List Record) (d : List ℕ) (records : ℕ) → length rs ≤ records → filled_after (cond b (cond c (done d rs) (room (length d))) (room most_told)) ≤ records
@@ -156,11 +156,11 @@ module _ (block notes : List ℕ) where
 pub marked : {a : Indexed} {out out' table : List ℕ} {records filled' : ℕ} {r : Filled} {t : Told} → Indexes a out r out' table → filled_after a ≤ records
     → (t.answer ≡ numbered (filled_coded r)) × (t.records ≡ told_filled r) × (filled' ≡ told_filled r) → Marked a records out out' filled' table t
 marked {a} i h e =
-    let count = e.1 ∙ ap told_filled i.is ∙ told_filled a in
+    let count = e.1 ∙ ap told_filled i.is ∙ told_filled_law a in
     record {
       answer = e.0 ∙ ap (λ (f : Filled). numbered (filled_coded f)) i.is ∙ ap numbered (told_coded a);
       output = i.output;
-      filled = e.2 ∙ ap told_filled i.is ∙ told_filled a;
+      filled = e.2 ∙ ap told_filled i.is ∙ told_filled_law a;
       count = count;
       few = rw count h;
       read = rw count i.read;

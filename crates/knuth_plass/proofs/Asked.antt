@@ -193,9 +193,9 @@ module _ (g : Setting) (table : List ℕ) (n : ℕ) (notes : List ℕ) where
 
 module _ (g : Setting) (n e : ℕ) (table : List ℕ) (t : Tables) (a : List ℕ) (r : AllTold) (told : AllToldIs g n e table t a r) (last : ℕ) (found : LeastIs r.st t a last)
     (words : 1 ≤ n) (some : 1 ≤ e) where
-  path_of : (notes : List ℕ) → path_to t last ≡ path_of g (words_in notes n table)
+  path_of_law : (notes : List ℕ) → path_to t last ≡ path_of g (words_in notes n table)
   unfolding path_of begin
-  path_of notes = rw (words_drop notes n table 0 words) (path_is g n table t a r.st told.rounds last found notes)
+  path_of_law notes = rw (words_drop notes n table 0 words) (path_is g n table t a r.st told.rounds last found notes)
 
   pub ends_before : (b : Bool) (x : Ending) → b ≡ before_at e (path_to t last) → x ≡ cond b r.second r.first → e < n → (notes : List ℕ) → x ≡ ending_before g e (words_in notes n table)
-  ends_before b x before is h notes = is ∙ rw (before, path_of notes, told.second notes h, told.first notes (omega arith))
+  ends_before b x before is h notes = is ∙ rw (before, path_of_law notes, told.second notes h, told.first notes (omega arith))

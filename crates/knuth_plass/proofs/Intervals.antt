@@ -78,9 +78,9 @@ room_up table i (suc n) h = by (ltb i (suc n)) refl (room_up table i n) where
   by false e up = let k = ltb-false i (suc n) e in let q : i ≡ suc n = omega arith in rw q (omega arith)
 
 -- the next gap is in it too
-pub line_room : (first n i line : ℕ) (table : List ℕ) → OneLine first n table → i < n → line ≤ first + line_room table i
+pub line_room_law : (first n i line : ℕ) (table : List ℕ) → OneLine first n table → i < n → line ≤ first + line_room table i
     → line + ((word_in table i).after + 2 + (word_in table i).width) + gap_after n i table < 2 ^ 31
-line_room first n i line table one h l = by (ltb (i + 1) n) refl where
+line_room_law first n i line table one h l = by (ltb (i + 1) n) refl where
   by : (x : Bool) → ltb (i + 1) n ≡ x → line + ((word_in table i).after + 2 + (word_in table i).width) + cond x (word_in table (i + 1)).after 0 < 2 ^ 31
   by true e =
       let k = ltb-true (i + 1) n e in

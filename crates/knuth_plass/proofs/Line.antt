@@ -13,7 +13,7 @@ use Rattle.spacing.specs.Spacing.{gap_width}
 use Rattle.spacing.specs.declared.Setting.{Setting}
 use Rattle.demerits.specs.Demerits.{no_ratio, ratio, line_term, ratio_term, cost, cost_with}
 use Rattle.demerits.specs.Cited.Bounds.{within, most_word, most_cost}
-use Rattle.demerits.proofs.Terms.{line_le, ratio_le, cost_with, square_le_most}
+use Rattle.demerits.proofs.Terms.{line_le, ratio_le, cost_with_law, square_le_most}
 use Rattle.knuth_plass.specs.declared.Break.{Break as Record}
 use Rattle.knuth_plass.specs.declared.Best.{Best}
 use Rattle.records.specs.declared.Before.TheVariants.{Absent}
@@ -133,5 +133,5 @@ module _ (g : Setting) (turn : Turn) (n : ℕ) (b : Record) (best : Best) (x : �
           let d = cost_with r (ratio_of b.ratio) turn.weight in
           let k = floor_least r (ratio_of b.ratio) turn.weight f floor in
           let small : d ≤ most_cost = square_le_most (line_term r) turn.weight (ratio_term r (ratio_of b.ratio)) (line_le r w) o.turns.light (ratio_le r (ratio_of b.ratio) w o.sound.ratio) in
-          let is : d ≡ cost (ratio g.goal x (stretch_of g)) (ratio_of b.ratio) (stretch_of g) turn.word.width = rw (← e) (cost_with r (ratio_of b.ratio) (stretch_of g) turn.word.width turn.weight o.turns.weight) in
+          let is : d ≡ cost (ratio g.goal x (stretch_of g)) (ratio_of b.ratio) (stretch_of g) turn.word.width = rw (← e) (cost_with_law r (ratio_of b.ratio) (stretch_of g) turn.word.width turn.weight o.turns.weight) in
           subst (λ (z : Best). OfferedIs g turn n b x best z) (better_stays best n (d + b.demerits) r (omega (arith, k, h))) (offered-full d r l e is small w)

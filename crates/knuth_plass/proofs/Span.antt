@@ -92,10 +92,10 @@ module _ (t : Tables) (k size : ℕ) (end : size ≤ k) where
   least_ends m = rw (span_none t k size end)
 
 -- an entry's offer is that of a break whose line has the entry's columns
-pub entry_offer : (g : Setting) (i x gap : ℕ) (notes : List ℕ) (w : WordRecord) (t : Tables) (k y : ℕ) (b : Record) → b ≡ break_in t k → y ≡ reach_of g x (break_meant t k)
+pub entry_offer_law : (g : Setting) (i x gap : ℕ) (notes : List ℕ) (w : WordRecord) (t : Tables) (k y : ℕ) (b : Record) → b ≡ break_in t k → y ≡ reach_of g x (break_meant t k)
     → offer_at g false i w.width y (x + gap) false (seen (path_to t k) b) ≡ entry_offer g i x gap (meaning notes w) (break_meant t k)
 unfolding offer_at entry_offer meaning break_meant
-entry_offer g i x gap notes w t k y b e f = rw (e, f)
+entry_offer_law g i x gap notes w t k y b e f = rw (e, f)
 
 pub columns_meant : (t : Tables) (k : ℕ) (b : Record) → b ≡ break_in t k → (break_meant t k).columns ≡ b.columns
 unfolding break_meant seen
@@ -107,7 +107,7 @@ pub offers_next : (g : Setting) (turn : Turn) (t : Tables) (x k size : ℕ) → 
     → lesser (offer_made (x + gap) false turn.number t r) (best_entry g turn.number x gap (meaning notes turn.word) (near g x (span t (k + 1) (size - (k + 1)))))
     ≡ lesser (offer_made (x + gap) false turn.number t best) (best_entry g turn.number x gap (meaning notes turn.word) (near g x (span t k (size - k))))
 offers_next g turn t x k size more inner notes gap best r b y e f h o =
-    rw (o.is (x + gap) false t, inner, entry_offer g turn.number x gap notes turn.word t k y b e f)
+    rw (o.is (x + gap) false t, inner, entry_offer_law g turn.number x gap notes turn.word t k y b e f)
     (offers_go g t x k size more turn.number gap (meaning notes turn.word) (offer_made (x + gap) false turn.number t best) h)
 
 -- `first_least`: the number of the first least so far

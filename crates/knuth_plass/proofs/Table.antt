@@ -84,9 +84,9 @@ module _ (l : List ℕ) where
   unfolding break_in table_in
   table_at i h = let e = table_length in below_at no_record (length l / 8) i (record_at l) (omega arith)
 
-  pub active_at : (k : ℕ) → k < length (table_in l) → get_or (active_in l) k 0 ≡ active_at l k
+  pub active_at_law : (k : ℕ) → k < length (table_in l) → get_or (active_in l) k 0 ≡ active_at l k
   unfolding active_in
-  active_at k h = let e = table_length in below_at 0 (length l / 8) k (active_at l) (omega arith)
+  active_at_law k h = let e = table_length in below_at 0 (length l / 8) k (active_at l) (omega arith)
 
 module _ (l l₁ : List ℕ) (same : length l₁ ≡ length l) where
   table_same : ((j : ℕ) → record_at l₁ j ≡ record_at l j) → table_in l₁ ≡ table_in l

@@ -14,7 +14,7 @@ use Rattle.text.specs.Cited.Places.{settle, ink_after}
 use Rattle.text.proofs.Glyphs.{Bytes, characters_past, characters_step, characters_induct}
 use Rattle.text.proofs.Glue.{glyphs_settle}
 use Rattle.lines.specs.Classes.{next_stop, column_behind, columns_of}
-use Rattle.lines.proofs.Measures.{next_stop}
+use Rattle.lines.proofs.Measures.{next_stop_law}
 use Rattle.lines.proofs.Glued.{columns_settle, settle_cut}
 
 -- ---- columns
@@ -33,7 +33,7 @@ module _ (tab : ℕ) (least : 1 ≤ tab) where
   column_on column g = pick (is_tab g)
     where
       pick : (t : Bool) → column ≤ cond t (next_stop tab column) (column + g.width)
-      pick true = omega (arith, next_stop column tab least)
+      pick true = omega (arith, next_stop_law column tab least)
       pick false = omega arith
 
   columns_on : (column : ℕ) (gs : List Glyph) → column ≤ columns_of tab column gs
@@ -55,7 +55,7 @@ module _ (tab : ℕ) (least : 1 ≤ tab) where
     column_near column g h = pick (is_tab g)
       where
         pick : (t : Bool) → cond t (next_stop tab column) (column + g.width) ≤ column + 100
-        pick true = omega (arith, next_stop column tab least)
+        pick true = omega (arith, next_stop_law column tab least)
         pick false = omega arith
 
     characters_near : (line : List ℕ) → (column : ℕ) → columns_of tab column (characters line) ≤ column + 100 * length line

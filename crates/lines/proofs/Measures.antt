@@ -21,8 +21,8 @@ use Rattle.lines.specs.declared.Spot.{Spot}
 
 -- ---- columns
 
-pub next_stop : (column tab : ℕ) → 1 ≤ tab → (column < (column / tab + 1) * tab) × ((column / tab + 1) * tab ≤ column + tab) × (column / tab ≤ column)
-next_stop column tab h =
+pub next_stop_law : (column tab : ℕ) → 1 ≤ tab → (column < (column / tab + 1) * tab) × ((column / tab + 1) * tab ≤ column + tab) × (column / tab ≤ column)
+next_stop_law column tab h =
     let d = div-add-mod' column tab in
     let m = mod-lt column {m = tab} h in
     let e = add-mul (column / tab) 1 tab in

@@ -18,7 +18,7 @@ use Rattle.options.specs.declared.Block.TheVariants.{Accepted, Fault}
 use Rattle.options.specs.OptionBlock.{number, fields, first_fault, part_of, number_at, least_width, fits, bit, options_of, judged, read_block}
 use Rattle.options.proofs.Values.{number_two, text_true, prefix_true, allowed_tab, allowed_prefix}
 use Rattle.options.proofs.Given.{Value, part_value}
-use Rattle.options.proofs.Settled.{least_width, fits_true}
+use Rattle.options.proofs.Settled.{least_width_law, fits_true}
 
 -- a given prefix: a part of the block, of at most 255 bytes, none of them damaged
 pub record Prefix (block : List ℕ) (start end : ℕ) : Type 0 where
@@ -77,7 +77,7 @@ module _ (block : List ℕ) where
   unfolding options_of
   kept f e =
       let r = fits_true _ _ _ e in
-      let l = least_width (part_of 2 (fields block)) (part_of 3 (fields block)) in
+      let l = least_width_law (part_of 2 (fields block)) (part_of 3 (fields block)) in
       let flags = number_at block 0 (part_of 1 (fields block)) in
       record {
         goal_least = omega arith;

@@ -48,7 +48,7 @@ fits_true least width goal e =
     let c = (and-eq-true_iff _ _).0 b.0 in
     record { width_least = leb-true _ _ c.0; goal_most = leb-true _ _ c.1; width_twice = leb-true _ _ b.1; width_most = leb-true _ _ a.1 }
 
-pub least_width : (width goal : Part) → 1 ≤ least_width width goal
-least_width Absent goal = omega arith
-least_width (Given s e) Absent = omega arith
-least_width (Given s e) (Given start end) = omega arith
+pub least_width_law : (width goal : Part) → 1 ≤ least_width width goal
+least_width_law Absent goal = omega arith
+least_width_law (Given s e) Absent = omega arith
+least_width_law (Given s e) (Given start end) = omega arith

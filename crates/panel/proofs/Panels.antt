@@ -32,15 +32,15 @@ take_replicate {A} (suc k) (suc n) a h = ap (λ (l : List A). a ∷ l) (take_rep
 
 -- ---- blank rows
 
-pub blank_row : (tab : ℕ) → row_cells tab [] ≡ replicate 80 blank
+pub blank_row_law : (tab : ℕ) → row_cells tab [] ≡ replicate 80 blank
 unfolding row_cells draw finished blank_row
-blank_row tab = rw signs_nil
+blank_row_law tab = rw signs_nil
 
 blank_rows : (tab r : ℕ) → joined (row_cells tab) (replicate r []) ≡ replicate (r * 80) blank
 blank_rows tab zero = joined_nil (row_cells tab)
 blank_rows tab (suc r) =
     let e : suc r * 80 ≡ 80 + r * 80 = omega arith in
-    rw (joined_cons (row_cells tab) [] (replicate r []), blank_row tab, blank_rows tab r, e) (replicate-append-replicate 80 (r * 80) blank)
+    rw (joined_cons (row_cells tab) [] (replicate r []), blank_row_law tab, blank_rows tab r, e) (replicate-append-replicate 80 (r * 80) blank)
 
 -- ---- the turns
 

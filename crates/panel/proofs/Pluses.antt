@@ -77,9 +77,9 @@ module _ (Q : ℕ → Type 0) (of-blank : Q blank) (of-filler : Q 0) where
       pick true false = rw (get_or-set_other r.cells 79 i 0x2B blank (λ e. absurd (omega (arith, e)))) (all i)
       pick true true = rw (get_or-set_other (set r.cells 78 blank) 79 i 0x2B blank (λ e. absurd (omega (arith, e)))) (set_cells r.cells 78 blank all of-blank i)
 
-  row_cells : (tab : ℕ) (line : List ℕ) → All (Shows Q) (signs line) → (i : ℕ) → i < 79 → Q (get_or (row_cells tab line) i blank)
+  row_cells_law : (tab : ℕ) (line : List ℕ) → All (Shows Q) (signs line) → (i : ℕ) → i < 79 → Q (get_or (row_cells tab line) i blank)
   unfolding row_cells blank_row
-  row_cells tab line q i h = finished_cells (draw tab blank_row (signs line)) (draw_cells tab (signs line) q blank_row (λ j. blank_cells 80 j)) i h
+  row_cells_law tab line q i h = finished_cells (draw tab blank_row (signs line)) (draw_cells tab (signs line) q blank_row (λ j. blank_cells 80 j)) i h
 
   sign_shows : (c : ℕ) → Q c → Shows Q (sign_of c)
   unfolding sign_of
@@ -121,4 +121,4 @@ module _ (G : Type 0) where
 
 pub no_cell_but_the_last_is_a_plus_unless_the_line_has_it : (tab : ℕ) (line : List ℕ) (i : ℕ) → i < 79 → get_or (row_cells tab line) i blank ≡ 43 → 43 ∈ line
 no_cell_but_the_last_is_a_plus_unless_the_line_has_it tab line i h e =
-    row_cells (λ c. c ≡ 43 → 43 ∈ line) (λ z. absurd (omega (arith, z))) (λ z. absurd (omega (arith, z))) tab line (signs_plus (43 ∈ line) line (λ m. m)) i h e
+    row_cells_law (λ c. c ≡ 43 → 43 ∈ line) (λ z. absurd (omega (arith, z))) (λ z. absurd (omega (arith, z))) tab line (signs_plus (43 ∈ line) line (λ m. m)) i h e

@@ -104,9 +104,9 @@ module _ (o : Opts) where
       go Plain e = widened_margined o.tab i (cond o.tagged 4 0) m
       go (Formatted b) e = join (second_rule o.tagged s b) b e
 
-  indent_for : (text : List ℕ) (s : Shape) (ls : List Line) → All Feedless ls → Margined o.tab (indent_of text s) → Margined o.tab (indent_for o false text s ls)
+  indent_for_law : (text : List ℕ) (s : Shape) (ls : List Line) → All Feedless ls → Margined o.tab (indent_of text s) → Margined o.tab (indent_for o false text s ls)
   unfolding indent_for
-  indent_for text s ls f m = go (o.crown || o.tagged)
+  indent_for_law text s ls f m = go (o.crown || o.tagged)
     where
       go : (two : Bool) → Margined o.tab (elim two as (λ x. Indent) [ true ↦ later_indent o (indent_of text s) (second_of o s ls) | false ↦ indent_of text s ])
       go true = later_margined (indent_of text s) s ls f m
@@ -120,7 +120,7 @@ module _ (o : Opts) where
       record {
         formatted = ((s, e), all_weaken _ _ (λ k (h : Starts o _ k). (h.shape, h.formatted)) (take (further o false s ls) ls) (further_starts o s ls));
         first = m;
-        indent = indent_for l.text s ls f.1 m;
+        indent = indent_for_law l.text s ls f.1 m;
       }
 
 abbrev SettledKind : Opts → List Line → Kind → Type 0

@@ -21,7 +21,7 @@ use Rattle.pieces.specs.Cited.Places.{taken, margin_at, spaces_at, later_at, ind
 use Rattle.pieces.specs.declared.Margin.{Margin}
 use Rattle.pieces.proofs.Following.{taken_more}
 use Rattle.pieces.proofs.Reach.{further_is}
-use Rattle.pieces.proofs.Indents.{MarginFound, margin_at, margin_bare, margin_spaces, second_is}
+use Rattle.pieces.proofs.Indents.{MarginFound, margin_at_law, margin_bare, margin_spaces, second_is}
 use Rattle.pieces.proofs.Taken.{line_at, behind_at, rest_at, here}
 
 -- the place after a paragraph whose first line, of a shape, begins at a place
@@ -92,7 +92,7 @@ module _ (o : Opts) (notes : List ℕ) (at : ℕ) (inside : at < length notes) w
         later alone e t =
             let h = here notes at inside in
             let k = known o line.text s least most formed in
-            margin_at notes at (end_of o false s notes at) at (cond o.tagged 4 0) line.text s h.text (omega (arith, k.indent)) (omega (arith, k.columns, h.shorter, h.within)) (omega arith) (omega (arith, h.shorter)) (four o.tagged)
+            margin_at_law notes at (end_of o false s notes at) at (cond o.tagged 4 0) line.text s h.text (omega (arith, k.indent)) (omega (arith, k.columns, h.shorter, h.within)) (omega arith) (omega (arith, h.shorter)) (four o.tagged)
         later (joins text b) e t = joins_is text b e t
 
         two : (t : Bool) → (o.crown || o.tagged) ≡ t

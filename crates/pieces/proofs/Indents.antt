@@ -37,10 +37,10 @@ widened_none i =
     rw (append-nil i.bytes, c)
 
 module _ (notes : List ℕ) (at next : ℕ) where
-  pub margin_at : (a more : ℕ) (text : List ℕ) (s : Shape) → text ≡ slice a (a + length text) notes → s.indent_end ≤ length text → s.indent_length ≤ most_columns
+  pub margin_at_law : (a more : ℕ) (text : List ℕ) (s : Shape) → text ≡ slice a (a + length text) notes → s.indent_end ≤ length text → s.indent_length ≤ most_columns
       → at ≤ a → a + length text ≤ next → more ≤ 4 → MarginFound notes at next (margin_at a more s) (widened (indent_of text s) more)
   unfolding indent_of
-  margin_at a more text s e i c low high m =
+  margin_at_law a more text s e i c low high m =
       let b : slice a (a + s.indent_end) notes ≡ take s.indent_end text =
       slice_is a s.indent_end notes ∙ sym (take-take s.indent_end (length text) (drop a notes) i) ∙ ap (take s.indent_end) (sym (slice_is a (length text) notes)) ∙ ap (take s.indent_end) (sym e) in
       record {
@@ -50,7 +50,7 @@ module _ (notes : List ℕ) (at next : ℕ) where
 
   pub margin_bare : (a : ℕ) (text : List ℕ) (s : Shape) → text ≡ slice a (a + length text) notes → s.indent_end ≤ length text → s.indent_length ≤ most_columns
       → at ≤ a → a + length text ≤ next → MarginFound notes at next (margin_at a 0 s) (indent_of text s)
-  margin_bare a text s e i c low high = rw widened_none at (margin_at a 0 text s e i c low high (omega arith))
+  margin_bare a text s e i c low high = rw widened_none at (margin_at_law a 0 text s e i c low high (omega arith))
 
   pub margin_spaces : (n : ℕ) → at ≤ next → n ≤ 4 → MarginFound notes at next (spaces_at at n) (widened no_indent n)
   margin_spaces n h m =

@@ -117,18 +117,18 @@ next_state o nextMail (l ∷ ls) h = go (classify o l.text)
     go (Formatted s) = refl
 
 -- after all pieces of lines
-pub next_mail_behind : (o : Opts) (nextMail : Bool) (ls : List Line) (ps : List Piece) → walk (next_piece o) nextMail ls ≡ ps → last (next_piece o) nextMail ls ≡ next_mail_behind nextMail ps
+pub next_mail_behind_law : (o : Opts) (nextMail : Bool) (ls : List Line) (ps : List Piece) → walk (next_piece o) nextMail ls ≡ ps → last (next_piece o) nextMail ls ≡ next_mail_behind nextMail ps
 unfolding next_mail_behind
-next_mail_behind o nextMail [] [] e = last_nil (next_piece o) nextMail
-next_mail_behind o nextMail (l ∷ ls) [] e = absurd (let n = ap length (sym (walk_step (next_piece o) nextMail (l ∷ ls) (omega arith)) ∙ e) in omega arith)
-next_mail_behind o nextMail [] (p ∷ ps) e = absurd (let n = ap length (sym (walk_nil (next_piece o) nextMail) ∙ e) in omega arith)
-next_mail_behind o nextMail (l ∷ ls) (p ∷ ps) e =
+next_mail_behind_law o nextMail [] [] e = last_nil (next_piece o) nextMail
+next_mail_behind_law o nextMail (l ∷ ls) [] e = absurd (let n = ap length (sym (walk_step (next_piece o) nextMail (l ∷ ls) (omega arith)) ∙ e) in omega arith)
+next_mail_behind_law o nextMail [] (p ∷ ps) e = absurd (let n = ap length (sym (walk_nil (next_piece o) nextMail) ∙ e) in omega arith)
+next_mail_behind_law o nextMail (l ∷ ls) (p ∷ ps) e =
     let t = next_piece o nextMail (l ∷ ls) in
     let u : t.item ∷ walk (next_piece o) t.state (drop t.besides ls) ≡ p ∷ ps = sym (walk_step (next_piece o) nextMail (l ∷ ls) (omega arith)) ∙ e in
     let i : t.item ≡ p = cc in
     let w : walk (next_piece o) t.state (drop t.besides ls) ≡ ps = cc in
     last_step (next_piece o) nextMail (l ∷ ls) (omega arith)
-    ∙ next_mail_behind o t.state (drop t.besides ls) ps w
+    ∙ next_mail_behind_law o t.state (drop t.besides ls) ps w
     ∙ ap (λ (m : Bool). next_mail_behind m ps) (next_state o nextMail (l ∷ ls) (omega arith) ∙ ap (λ (q : Piece). next_mail_as q.kind) i)
 
 -- without mail no paragraph starts as mail, so it does not matter
@@ -165,7 +165,7 @@ unfolding pieces
 pieces_part o cleared notes ps qs e m =
     let c = lines_part o cleared true (lines_of notes) ps qs e in
     let ls = lines_cut notes (joined lines_in ps) (joined lines_in qs) (sym (pieces_lines o notes) ∙ ap (joined lines_in) e ∙ joined_append lines_in ps qs) in
-    let b = next_mail_behind o true (joined lines_in ps) ps c.front in (
+    let b = next_mail_behind_law o true (joined lines_in ps) ps c.front in (
       ap (walk (next_piece o) true) ls.0 ∙ c.front,
       ap (walk (next_piece o) true) ls.1 ∙ go o.mail refl m b ∙ c.back,
     )

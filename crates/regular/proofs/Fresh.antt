@@ -27,11 +27,11 @@ pub no_words : (o : Opts) (new_line previous : Bool) → stretch_words o new_lin
 unfolding stretch_words line_words spelling
 no_words o new_line previous = rw runs_nil
 
-fresh_punct : (counts : Bool) (ink rest : List ℕ) → every not_space ink ≡ true → 0 < length ink → opens rest ≡ true
+fresh_punct_law : (counts : Bool) (ink rest : List ℕ) → every not_space ink ≡ true → 0 < length ink → opens rest ≡ true
     → lastly (counts && lastly false ink) rest ≡ fresh_punct counts (ink ++ rest)
 unfolding fresh_punct lastly opens
-fresh_punct counts ink [] inked some next = rw (append-nil ink, inked, or-false counts)
-fresh_punct counts ink (r ∷ rest) inked some next =
+fresh_punct_law counts ink [] inked some next = rw (append-nil ink, inked, or-false counts)
+fresh_punct_law counts ink (r ∷ rest) inked some next =
     rw (every_append not_space ink (r ∷ rest), inked, every_end not_space r rest (ap not next), or-true counts, lastly_append false ink (r ∷ rest))
 
 module _ (o : Opts) (g : Setting) (indent : List ℕ) (same : o.uniform ≡ g.uniform) (more : List Word) where
@@ -84,7 +84,7 @@ module _ (o : Opts) (g : Setting) (indent : List ℕ) (same : o.uniform ≡ g.un
           ≡ a ++ quick_rest g indent (column + columns a) (fresh_punct counts a) (stretch_words o false (lastly false a) ys ++ more)
       whole ink rest is inked some n end =
           let z : column + columns (ink ++ rest) ≡ column + columns ink + columns rest = omega (arith, columns_append ink rest) in
-          rw (is, append_assoc ink rest ys, append_assoc, z, ← fresh_punct counts ink rest inked some n, lastly_append false ink rest)
+          rw (is, append_assoc ink rest ys, append_assoc, z, ← fresh_punct_law counts ink rest inked some n, lastly_append false ink rest)
           (fresh_word counts new_line previous column [] ink (rest ++ ys) (every_nil is_space) inked some (opens_append rest ys n next) ∙ ap (λ (l : List ℕ). ink ++ l) (behind ink rest is inked some n end))
 
   -- the same after a line of output that has begun, of the first words of the next line

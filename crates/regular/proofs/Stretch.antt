@@ -293,10 +293,10 @@ module _ (sp ink rest : List ℕ) (spaces : every is_space sp ≡ true) (inked :
       each true = refl
       each false = refl
 
-  line_words : (o : Opts) (new_line previous : Bool)
+  line_words_law : (o : Opts) (new_line previous : Bool)
       → line_words (counting o.by_characters) o new_line previous (first ∷ runs (spelling rest)) ≡ word_of (counting o.by_characters) o new_line previous first ∷ line_words (counting o.by_characters) o false (punct_at_end (spelling ink)) (runs (spelling rest))
   unfolding line_words
-  line_words o new_line previous = pick (spelling ink) (some_glyphs ink some) _
+  line_words_law o new_line previous = pick (spelling ink) (some_glyphs ink some) _
     where
       pick : (t : List Glyph) → 0 < length t → (ws : List Word) → elim t as (λ t. List Word) [ [] ↦ [] | x ∷ (xs → y) ↦ ws ] ≡ ws
       pick [] l ws = absurd (omega arith)
@@ -307,5 +307,5 @@ module _ (sp ink rest : List ℕ) (spaces : every is_space sp ≡ true) (inked :
       → stretch_words o new_line previous (sp ++ (ink ++ rest)) ≡ plain_word u new_line previous sp ink ∷ stretch_words o false (lastly false ink) rest
   unfolding stretch_words
   word_first o u new_line previous e =
-      ap (line_words (counting o.by_characters) o new_line previous) runs_are ∙ line_words o new_line previous ∙ rw (is_word o new_line previous, punct_is)
+      ap (line_words (counting o.by_characters) o new_line previous) runs_are ∙ line_words_law o new_line previous ∙ rw (is_word o new_line previous, punct_is)
       (ap (λ (v : Bool). plain_word v new_line previous sp ink ∷ line_words (counting o.by_characters) o false (lastly false ink) (runs (spelling rest))) e)

@@ -46,8 +46,8 @@ output_in ws = ws.1.1.0
 abbrev pub filled_in : Ends → ℕ
 filled_in ws = ws.1.1.1.1.0
 
-abbrev pub marks_in : Ends → List ℕ
-marks_in ws = ws.1.1.1.1.1.0
+abbrev pub marks_in_law : Ends → List ℕ
+marks_in_law ws = ws.1.1.1.1.1.0
 
 -- the numbers of `Told` fit
 pub answer_fits : (t : Told) (w : Val) → Is T t (w ∷ []) → t.answer < 2 ^ 64

@@ -34,7 +34,7 @@ use Rattle.words.specs.Words.{row_words, words_of}
 use Rattle.words.specs.Places.{Standing, words_standing}
 use Rattle.words.specs.Theorems.Ink.{row_ink}
 use Rattle.words.specs.Theorems.Standing.{Ascends, Stands, WordsStand}
-use Rattle.words.proofs.Order.{Whole, row_ink, paragraph_whole}
+use Rattle.words.proofs.Order.{Whole, row_ink_law, paragraph_whole}
 use Rattle.output.specs.Theorems.Order.{InOrder}
 use Rattle.lists.specs.Coded.{numbered}
 use Rattle.formatter.specs.Answers.{done, answer_coded}
@@ -200,7 +200,7 @@ words_come_from_the_lines o notes q p m e = rw (rows_of o notes q p m e).rows
 -- .. and none of a line's bytes is left out: its words, joined, are the bytes of the non-blank characters at or after its indent's
 -- end, of a mail paragraph's line those of the whole line.
 pub no_byte_is_left_out : (o : Opts) (mail : Bool) (row : Row) → joined (λ (w : Word). w.text) (row_words o mail row) ≡ row_ink o mail row
-no_byte_is_left_out = row_ink
+no_byte_is_left_out = row_ink_law
 
 -- No word is empty.
 pub no_word_is_empty : (o : Opts) (notes : List ℕ) (q : Piece) (p : Paragraph)

@@ -52,10 +52,10 @@ use Rattle.rudignals.proofs.Order.{members_all, rows_of, space_separates}
 
 -- ---- what is before a word on its line
 
-gap_end : (tab column : ℕ) (before : Before) (after : ℕ) → 1 ≤ tab → gap_end tab column before after ≡ column + gap_width tab column before after
+gap_end_law : (tab column : ℕ) (before : Before) (after : ℕ) → 1 ≤ tab → gap_end tab column before after ≡ column + gap_width tab column before after
 unfolding gap_end gap_width
-gap_end tab column Absent after h = refl
-gap_end tab column (Count n) after h = let s = stop_behind tab (n + column) h in omega arith
+gap_end_law tab column Absent after h = refl
+gap_end_law tab column (Count n) after h = let s = stop_behind tab (n + column) h in omega arith
 
 no_gap : (tab a k : ℕ) → a + k + gap_width tab (a + k) Absent 0 ≡ a + gap_width tab a Absent 0 + k
 unfolding gap_width
@@ -78,8 +78,8 @@ module _ (o : Opts) (least : 1 ≤ o.tab) where
       go true e =
           let b = c.bare e in
           let k : ℕ = cond (w.sentence_start || w.new_line && punct) 2 1 in
-          rw (b.1, b.2, gap_end o.tab (column + k) Absent 0 least) (no_gap o.tab column k)
-      go false e = rw (gap_end o.tab (column + 0) w.before w.after least) (same_gap o.tab column w.before w.after)
+          rw (b.1, b.2, gap_end_law o.tab (column + k) Absent 0 least) (no_gap o.tab column k)
+      go false e = rw (gap_end_law o.tab (column + 0) w.before w.after least) (same_gap o.tab column w.before w.after)
 
   space_columns : (punct : Bool) (w : Word) → Counted o w → plain_gap w ≡ true → (column : ℕ) (ys : List ℕ)
       → columns_of o.tab column (characters (space_before o.uniform punct w ++ ys)) ≡ columns_of o.tab (column + gap_at o.tab column w + added punct w) (characters ys)

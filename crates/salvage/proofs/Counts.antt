@@ -149,9 +149,9 @@ unfolding changes_from
 changes_none at = rw no_lines
 
 module _ (s : List ℕ) (at end : ℕ) (l : LineAt s at end) where
-  pub mended_line : mended (drop at s) ≡ mended_line (take (end - at) (drop at s)) ++ mended (drop end s)
+  pub mended_line_law : mended (drop at s) ≡ mended_line (take (end - at) (drop at s)) ++ mended (drop end s)
   unfolding mended
-  mended_line = rw (l.first, joined_cons)
+  mended_line_law = rw (l.first, joined_cons)
 
   pub line_length : length (take (end - at) (drop at s)) ≡ end - at
   line_length = simp (length-take, length-drop) (omega (arith, l.within))
@@ -189,7 +189,7 @@ notes_more notes n at end r p l q =
     let line = take (end - at) (drop at notes) in
     let k = line_length notes at end l in
     let a = ap length (changes_line notes at end l) ∙ length-append (line_changes at line) (changes_from end (whole_lines (drop end notes))) in
-    let b = ap length (mended_line notes at end l) ∙ length-append (mended_line line) (mended (drop end notes)) in
+    let b = ap length (mended_line_law notes at end l) ∙ length-append (mended_line line) (mended (drop end notes)) in
     let f : r ≤ length line = few line r q in
     record {
       within = l.within;

@@ -15,7 +15,7 @@ use Rattle.text.specs.Rfc3629.{encode}
 use Rattle.salvage.specs.Lines.{is_utf8, whole_lines}
 use Rattle.salvage.specs.Mending.{Change, mended_line, mended, high_bytes, line_changes, changes_from, changes}
 use Rattle.salvage.specs.Cited.Steps.{LineAt, Fits, Put}
-use Rattle.salvage.proofs.Counts.{encode_low, encode_high, high_nil, high_low, high_high, high_cons, mended_line, changes_line, mended_past, changes_past, left_as_found, line_length}
+use Rattle.salvage.proofs.Counts.{encode_low, encode_high, high_nil, high_low, high_high, high_cons, mended_line_law, changes_line, mended_past, changes_past, left_as_found, line_length}
 
 -- one run of stores after another
 pub sets_append : {A : Type 0} (l : List A) (k : ℕ) (xs ys : List A) → sets (sets l k xs) (k + length xs) ys ≡ sets l k (xs ++ ys)
@@ -183,7 +183,7 @@ module _ {notes copy₀ places₀ bytes₀ : List ℕ} {at n : ℕ} {copy places
   module _ {end : ℕ} (l : LineAt notes at end) where
     line_and_rest : Left 0 0 (mended notes) (changes notes) copy₀ places₀ bytes₀ at n
         (mended_line (take (end - at) (drop at notes)) ++ mended (drop end notes)) (line_changes at (take (end - at) (drop at notes)) ++ changes_from end (whole_lines (drop end notes))) copy places bytes
-    line_and_rest = rw (← mended_line notes at end l, ← changes_line notes at end l) p.left
+    line_and_rest = rw (← mended_line_law notes at end l, ← changes_line notes at end l) p.left
 
     pub line_fits : Fits 0 0 (mended notes) (changes notes) copy₀ places₀ bytes₀
         → Fits at n (mended_line (take (end - at) (drop at notes))) (line_changes at (take (end - at) (drop at notes))) copy places bytes

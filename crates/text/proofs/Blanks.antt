@@ -33,9 +33,9 @@ blanks_spaces zero codes bytes b = b
 blanks_spaces (suc n) codes bytes b = blanks_cons 32 (replicate n 32 ++ codes) (replicate n 32 ++ bytes) refl (blanks_spaces n codes bytes b)
 
 -- a blank glyph in which no line feed stands
-no_feed : (g : Glyph) → Sound g → g.blank ≡ true → every (λ b. not (eqb b 10)) g.bytes ≡ true → space_code g.code ≡ true
+no_feed_law : (g : Glyph) → Sound g → g.blank ≡ true → every (λ b. not (eqb b 10)) g.bytes ≡ true → space_code g.code ≡ true
 unfolding every encode
-no_feed g s e f = go (eqb g.code 10) refl
+no_feed_law g s e f = go (eqb g.code 10) refl
   where
     go : (t : Bool) → eqb g.code 10 ≡ t → (white_space g.code && not t) ≡ true
     go true k =
@@ -50,7 +50,7 @@ blanks_glyphs [] s e f = rw joined_nil blanks_none
 blanks_glyphs (g ∷ gs) s e f =
     let h = (and-eq-true_iff g.blank (every is_blank gs)).0 (rw every_cons at e) in
     let k = (and-eq-true_iff _ _).0 (rw (joined_cons, every_append) at f) in
-    rw (joined_cons, s.0.octets h.0) (blanks_cons g.code _ _ (no_feed g s.0 h.0 k.0) (blanks_glyphs gs s.1 h.1 k.1))
+    rw (joined_cons, s.0.octets h.0) (blanks_cons g.code _ _ (no_feed_law g s.0 h.0 k.0) (blanks_glyphs gs s.1 h.1 k.1))
 
 blank_good : (gs : List Glyph) → All Sound gs → every is_blank gs ≡ true → every is_good gs ≡ true
 blank_good [] s e = every_nil is_good

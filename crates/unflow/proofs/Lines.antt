@@ -79,10 +79,10 @@ unfolding stuffing needs_space
 needs_none [] h = refl
 needs_none (x ∷ c) h = absurd (omega arith)
 
-pub needs_space : (c : List ℕ) → (length c ≡ 0 → ⊥) → get_or c 0 0 ≡ 32 → stuffing c ≡ 32 ∷ []
+pub needs_space_law : (c : List ℕ) → (length c ≡ 0 → ⊥) → get_or c 0 0 ≡ 32 → stuffing c ≡ 32 ∷ []
 unfolding stuffing needs_space
-needs_space [] n h = absurd (n refl)
-needs_space (x ∷ c) n h = rw (eq-eqb x 32 h)
+needs_space_law [] n h = absurd (n refl)
+needs_space_law (x ∷ c) n h = rw (eq-eqb x 32 h)
 
 pub needs_mark : (c : List ℕ) → (length c ≡ 0 → ⊥) → get_or c 0 0 ≡ 62 → stuffing c ≡ 32 ∷ []
 unfolding stuffing needs_space

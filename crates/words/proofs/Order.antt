@@ -66,8 +66,8 @@ spelled_ink glue uniform (w ∷ ws) gs s =
       ink_all b.ink b.inked,
     )
 
-pub row_ink : (o : Opts) (mail : Bool) (row : Row) → joined text_of (row_words o mail row) ≡ row_ink o mail row
-row_ink o mail row = spelled_ink o.glue (o.uniform || mail) _ _ (row_spelled o mail row)
+pub row_ink_law : (o : Opts) (mail : Bool) (row : Row) → joined text_of (row_words o mail row) ≡ row_ink o mail row
+row_ink_law o mail row = spelled_ink o.glue (o.uniform || mail) _ _ (row_spelled o mail row)
 
 -- ---- each word
 

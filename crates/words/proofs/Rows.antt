@@ -91,17 +91,17 @@ indent_extent glue start text b =
     let rest : joined glyph_bytes (glyphs_from start gs) ≡ drop start text = ap (joined glyph_bytes) b.glyph ∙ behind_joined glue true (drop start text) in
     omega (arith, b.within, extent_bytes (glyphs_before start gs), simp length-append at (ap length whole), ap length rest, length-drop start text)
 
-row_places : (glue mail : Bool) (at : ℕ) (text : List ℕ) (start : ℕ) → (mail ≡ false → InkBegins glue start text)
+row_places_law : (glue mail : Bool) (at : ℕ) (text : List ℕ) (start : ℕ) → (mail ≡ false → InkBegins glue start text)
     → row_places glue mail at (record { text = text; start = start }) ≡ places_from (at + cond mail 0 start) (runs (glyphs_behind glue (not mail) (drop (cond mail 0 start) text)))
 unfolding row_places
-row_places glue true at text start b = let z : at + 0 ≡ at = omega arith in rw z
-row_places glue false at text start b = rw (indent_extent glue start text (b refl), (b refl).glyph)
+row_places_law glue true at text start b = let z : at + 0 ≡ at = omega arith in rw z
+row_places_law glue false at text start b = rw (indent_extent glue start text (b refl), (b refl).glyph)
 
-row_words : (o : Opts) (mail : Bool) (text : List ℕ) (start : ℕ) → (mail ≡ false → InkBegins o.glue start text)
+row_words_law : (o : Opts) (mail : Bool) (text : List ℕ) (start : ℕ) → (mail ≡ false → InkBegins o.glue start text)
     → row_words o mail (record { text = text; start = start }) ≡ words_from o mail (not mail) false (glyphs_behind o.glue (not mail) (drop (cond mail 0 start) text))
 unfolding row_words words_from
-row_words o true text start b = refl
-row_words o false text start b = rw (b refl).glyph
+row_words_law o true text start b = refl
+row_words_law o false text start b = rw (b refl).glyph
 
 -- the line at a place i of the notes up to next, of which e are the lengths
 pub record LineAt (o : Opts) (mail : Bool) (skip later : ℕ) (notes : List ℕ) (next i : ℕ) (e : Extent) : Type 0 where
@@ -125,8 +125,8 @@ module _ (o : Opts) (mail : Bool) (skip later : ℕ) (notes : List ℕ) (next i 
     within = omega (arith, here.within, sized);
     starts = starts;
     begins = low mail starts;
-    words = rw (here.first, rows_first o mail skip later, row_words o mail line.text skip (λ m. (begin m).0), text, drop-drop (cond mail 0 skip) i (take (i + e.text) notes));
-    places = rw (here.first, places_first o.glue mail i skip later, row_places o.glue mail i line.text skip (λ m. (begin m).0), text, drop-drop (cond mail 0 skip) i (take (i + e.text) notes), size);
+    words = rw (here.first, rows_first o mail skip later, row_words_law o mail line.text skip (λ m. (begin m).0), text, drop-drop (cond mail 0 skip) i (take (i + e.text) notes));
+    places = rw (here.first, places_first o.glue mail i skip later, row_places_law o.glue mail i line.text skip (λ m. (begin m).0), text, drop-drop (cond mail 0 skip) i (take (i + e.text) notes), size);
     ink = λ m. rw (m, ← drop-drop skip i (take (i + e.text) notes), ← text) (begin m).0.ink;
     rest = λ m. (begin m).1;
   }

@@ -16,13 +16,13 @@ returns : tie.Need-returns
 returns c =
     let o = c.before.before in
     let p = o.before.before.before.requires in
-    rw (← p.is_width, ← p.is_goal, ← o.before.least-width.ensures, ← o.options-of.ensures, ← c.before.fits2.ensures, c.if1.true)
+    rw (← p.is_width, ← p.is_goal, ← o.before.least_width_law.ensures, ← o.options-of.ensures, ← c.before.fits2.ensures, c.if1.true)
 
 returns-2 : tie.Need-returns-2
 returns-2 c =
     let o = c.before.before in
     let p = o.before.before.before.requires in
-    rw (← p.is_width, ← p.is_goal, ← o.before.least-width.ensures, ← o.options-of.ensures, ← c.before.fits2.ensures, c.if1.false)
+    rw (← p.is_width, ← p.is_goal, ← o.before.least_width_law.ensures, ← o.options-of.ensures, ← c.before.fits2.ensures, c.if1.false)
 
 pub settle-spec : {M : Type 1} → statement M
 settle-spec =

@@ -55,7 +55,7 @@ add-t14 : tie.Need-overflow-add-t14
 add-t14 c = search rules
 
 returns-3 : tie.Need-returns-3
-returns-3 c = tab_drawn _ _ _ _ _ c.before.enum_told.given.1 c.next-stop.ensures
+returns-3 c = tab_drawn _ _ _ _ _ c.before.enum_told.given.1 c.next_stop_law.ensures
 
 returns-4 : tie.Need-returns-4
 returns-4 c = dropped_drawn _ _ _ _ c.enum-told2.given.1 (omega arith)

@@ -37,7 +37,7 @@ returns c =
     let at-enum-told = c.before.before.before in
     let at-second-line = at-enum-told.before.before in
     let start = at-second-line.before.before.before in
-    rw (c.before.margin-at.ensures, c.margin-at2.ensures) (alone_from _ _ _ _ _ _ start.requires.2 start.requires.3 _ c.before.before.further-spaces.ensures.0 (sym at-enum-told.enum_told.given.1 ∙ at-second-line.second-line.ensures.0))
+    rw (c.before.margin_at_law.ensures, c.margin-at2.ensures) (alone_from _ _ _ _ _ _ start.requires.2 start.requires.3 _ c.before.before.further-spaces.ensures.0 (sym at-enum-told.enum_told.given.1 ∙ at-second-line.second-line.ensures.0))
 
 follow-requires : tie.Need-follow-requires
 follow-requires c κs =

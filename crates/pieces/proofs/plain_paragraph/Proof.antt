@@ -18,7 +18,7 @@ margin-at-requires-2 : tie.Need-margin-at-requires-2
 margin-at-requires-2 c κs = search rules
 
 returns : tie.Need-returns
-returns c = rw (c.before.margin-at.ensures, c.margin-at2.ensures) (plain_from _ _ _ _ _ _ c.before.before.before.before.before.requires.2 _ c.before.before.further.ensures.0)
+returns c = rw (c.before.margin_at_law.ensures, c.margin-at2.ensures) (plain_from _ _ _ _ _ _ c.before.before.before.before.before.requires.2 _ c.before.before.further.ensures.0)
 
 pub plain-paragraph-spec : {M : Type 1} → statement M
 plain-paragraph-spec =

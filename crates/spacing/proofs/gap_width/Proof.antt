@@ -35,7 +35,7 @@ returns c = gap_is _ _ _ _ _ c.before.before.requires.0 (rw c.enum_told.given.1)
 
 returns-2 : tie.Need-returns-2
 unfolding gap_width
-returns-2 c = gap_is _ _ _ _ _ c.before.before.before.before.requires.0 (rw (c.before.before.before2.given.1, c.next-stop.ensures.0))
+returns-2 c = gap_is _ _ _ _ _ c.before.before.before.before.requires.0 (rw (c.before.before.before2.given.1, c.next_stop_law.ensures.0))
 
 pub gap-width-spec : {M : Type 1} → statement M
 gap-width-spec =

@@ -3,7 +3,7 @@ use borrow.Author.Rules.{rules}
 use mathlib.Core.Path.{sym, ◌∙◌}
 use native.Mathlib.Omega.{arith}
 use Rattle.pieces.specs.Pieces.{from_word}
-use Rattle.unflow.proofs.Lines.{needs_none, needs_space, needs_mark, needs_from, needs_not}
+use Rattle.unflow.proofs.Lines.{needs_none, needs_space_law, needs_mark, needs_from, needs_not}
 use Rattle.unflow.proofs.stuffing_of.Statement.{statement}
 use Rattle.unflow.proofs.stuffing_of.Tie as tie
 
@@ -14,7 +14,7 @@ shared-slice-read-if2 : tie.Need-shared-slice-read-if2
 shared-slice-read-if2 c = search rules
 
 returns-2 : tie.Need-returns-2
-returns-2 c = (sym (needs_space _ c.before.before.if1.false c.if2.true), omega arith)
+returns-2 c = (sym (needs_space_law _ c.before.before.if1.false c.if2.true), omega arith)
 
 shared-slice-read-if3 : tie.Need-shared-slice-read-if3
 shared-slice-read-if3 c = search rules

@@ -7,7 +7,7 @@ use Rattle.knuth_plass.specs.Cited.Table.{records_part, table_in}
 use Rattle.knuth_plass.specs.Cited.Round.{Lent, Worked}
 use Rattle.knuth_plass.proofs.Table.{table_record}
 use Rattle.knuth_plass.proofs.Work.{part_length, part_room, part_sized, part_home, worked_home, worked_none, worked_then, worked_lent, worked_word}
-use Rattle.knuth_plass.proofs.Intervals.{Along, between, along-start, along_next, line_room, gap_same, regular_then, intervals_are, intervals_then}
+use Rattle.knuth_plass.proofs.Intervals.{Along, between, along-start, along_next, line_room_law, gap_same, regular_then, intervals_are, intervals_then}
 use Rattle.knuth_plass.proofs.Skipping.{mark_at, mark_here, mark_behind, along_second, sentence_same, behind_skipped}
 use Rattle.knuth_plass.proofs.interval.rounds.Statement.{statement}
 use Rattle.knuth_plass.proofs.interval.rounds.Tie as tie
@@ -189,7 +189,7 @@ round-requires c κs =
       },
       rw (part_room a.n l.work v.2) t,
       rw word (between a.g a.n _ k _ _ (table_in (records_part a.n l.work)) behind.along t),
-      rw (word, gap) (line_room a.g.first a.n k _ _ regular.line t behind.along.short),
+      rw (word, gap) (line_room_law a.g.first a.n k _ _ regular.line t behind.along.short),
     )
 
 add-i : tie.Need-overflow-add-i invariant-loop decreases-loop

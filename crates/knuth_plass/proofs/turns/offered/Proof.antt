@@ -2,7 +2,7 @@
 use mathlib.Core.Path.{refl, ap₂, ◌∙◌}
 use lib.Ieee.{Float, of_bits}
 use Rattle.demerits.specs.Demerits.{cost_with}
-use Rattle.demerits.proofs.Terms.{cost_with}
+use Rattle.demerits.proofs.Terms.{cost_with_law}
 use Rattle.knuth_plass.proofs.Line.{offered-last-none, offered-last, offered-beaten, offered-full}
 use borrow.Author.Rules.{rules}
 use Rattle.knuth_plass.proofs.turns.offered.Statement.{statement}
@@ -73,7 +73,7 @@ returns-4 c =
     let p = start.requires in
     let r = at-ratio.ratio.ensures in
     let o = c.before.before.cost.ensures in
-    let cost-is = o.0 ∙ ap₂ (λ (y z : Float). cost_with y z a.turn.weight) r.0 at-ratio-of.ratio-of.ensures ∙ cost_with _ _ _ _ _ p.0.turns.weight in
+    let cost-is = o.0 ∙ ap₂ (λ (y z : Float). cost_with y z a.turn.weight) r.0 at-ratio-of.ratio-of.ensures ∙ cost_with_law _ _ _ _ _ p.0.turns.weight in
     rw c.better2.ensures
     (offered-full a.g a.turn a.n a.b a.best a.t p.0 p.1 _ _ at-if.if1.false r.0 cost-is o.1 r.1)
 

@@ -7,7 +7,7 @@ use Rattle.formatter.specs.Format.{own_room}
 use Rattle.formatter.proofs.Values.{own_room_sound}
 use Rattle.explain.specs.declared.Explained.{Explained}
 use Rattle.explain.specs.Cited.Seeking.{explained_coded, told_reason}
-use Rattle.explain.proofs.Values.{told_coded, told_reason, told_fits}
+use Rattle.explain.proofs.Values.{told_coded, told_reason_law, told_fits}
 use Rattle.rudignals.proofs.explaining.rudignals_explain.Statement.{statement}
 use Rattle.rudignals.proofs.explaining.rudignals_explain.Tie as tie
 
@@ -20,7 +20,7 @@ tell-requires c κs = rw c.before.explain.ensures (told_fits own_room own_room_s
 returns : tie.Need-returns
 returns c =
     let x = c.before.before.explain.ensures in
-    (c.tell.ensures.0 ∙ ap (λ (y : Explained). numbered (explained_coded y)) x ∙ ap numbered (told_coded (explaining own_room _ _ _)), c.tell.ensures.1 ∙ ap (λ (y : Explained). told_reason y c.before.before.before.before.before.args.reason.now) x ∙ told_reason _ _)
+    (c.tell.ensures.0 ∙ ap (λ (y : Explained). numbered (explained_coded y)) x ∙ ap numbered (told_coded (explaining own_room _ _ _)), c.tell.ensures.1 ∙ ap (λ (y : Explained). told_reason y c.before.before.before.before.before.args.reason.now) x ∙ told_reason_law _ _)
 
 pub rudignals-explain-spec : {M : Type 1} → statement M
 rudignals-explain-spec = tie.close (tie.spec explain-requires tell-requires returns)

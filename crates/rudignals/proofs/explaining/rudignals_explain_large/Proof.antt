@@ -7,7 +7,7 @@ use Rattle.lists.specs.Coded.{numbered}
 use Rattle.formatter.proofs.Work.{lending_sound}
 use Rattle.explain.specs.declared.Explained.{Explained}
 use Rattle.explain.specs.Cited.Seeking.{explained_coded, told_reason}
-use Rattle.explain.proofs.Values.{told_coded, told_reason, told_fits}
+use Rattle.explain.proofs.Values.{told_coded, told_reason_law, told_fits}
 use Rattle.rudignals.proofs.explaining.rudignals_explain_large.Statement.{statement}
 use Rattle.rudignals.proofs.explaining.rudignals_explain_large.Tie as tie
 
@@ -23,7 +23,7 @@ same_length c = search rules
 returns : tie.Need-returns
 returns c =
     let x = c.before.before.before.before.explain-large.ensures in
-    (c.tell.ensures.0 ∙ ap (λ (y : Explained). numbered (explained_coded y)) x ∙ ap numbered (told_coded (explaining (lending _) _ _ _)), c.tell.ensures.1 ∙ ap (λ (y : Explained). told_reason y c.before.before.before.before.before.before.before.before.before.args.reason.now) x ∙ told_reason _ _)
+    (c.tell.ensures.0 ∙ ap (λ (y : Explained). numbered (explained_coded y)) x ∙ ap numbered (told_coded (explaining (lending _) _ _ _)), c.tell.ensures.1 ∙ ap (λ (y : Explained). told_reason y c.before.before.before.before.before.before.before.before.before.args.reason.now) x ∙ told_reason_law _ _)
 
 pub rudignals-explain-large-spec : {M : Type 1} → statement M
 rudignals-explain-large-spec = tie.close (tie.spec explain-large-requires tell-requires same_length returns)

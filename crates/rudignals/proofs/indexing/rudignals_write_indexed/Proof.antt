@@ -45,7 +45,7 @@ use Rattle.indexer.specs.contracts.write_marked as write-marked
 use Rattle.indexer.proofs.write_marked.Symbol as write-marked-def
 use Rattle.indexer.proofs.write_marked.Symbol.{name as #indexer·write-marked}
 use Rattle.indexer.proofs.write_marked.Met as write-marked-thm
-use Rattle.rudignals.proofs.Filling.{T, slice, Ends, output_in, filled_in, marks_in, answer_fits, records_fit, Left, left}
+use Rattle.rudignals.proofs.Filling.{T, slice, Ends, output_in, filled_in, marks_in_law, answer_fits, records_fit, Left, left}
 use Rattle.rudignals.proofs.Lent.{table_ty, Stands, big_lit, repeated_typed, repeated_stands, lends_table, shares_table, table_over}
 use Rattle.rudignals.specs.contracts.indexing.rudignals_write_indexed.Key.{name as #rudignals·indexing·rudignals-write-indexed}
 use Rattle.rudignals.specs.contracts.indexing.rudignals_write_indexed as f
@@ -190,16 +190,16 @@ module _ {M : Type 1} {𝓤 : Ura M} (𝓛 : Logic 𝓤) (mem : Memory → SProp
         calls_at ! fm (WriteMarked 𝓛 mem run) known-write (to-write-marked l₆ α γ) (and_then ! (load ! (from ! (stop !)) (look ! 37 refl)) (and_then ! (load ! (from ! (stop !)) (look ! 35 refl)) (and_then ! (load ! (from ! (stop !)) (look ! 22 refl))
         (and_then ! (load ! (from ! (stop !)) (look ! 20 refl)) (and_then ! (load ! (from ! (stop !)) (look ! 18 refl)) (and_then ! (load ! (from ! (stop !)) (look ! 14 refl)) (no_more !))))))) (λ w.
         use1 𝓛 (later (some (λ (t : Told). ((‵ (flft κ₀ q₀) ⊛ ‵ (flft κ₁ q₁) ⊛ ‵ (flft κ₂ q₂) ⊛ ‵ (flft κ₄ q₄) ⊛ ‵ (flft (α ∷ []) full_share) ⊛ ‵ ftrue) ⊛ ‵ (T.own_val t (w ∷ []))) ⊛ raw (ensured 𝓛 write-marked.ended (write-marked.clauses 𝓛 mem run) (marked-at l₆ α γ) (marked-args l₆ α γ) tt t)))) (id⊢ 𝓤 _) $ await ! tt $ pick ! (λ t.
-        split ! $ move ! (1 ∷ []) $ use1 𝓛 (some (λ (ws : Ends). ‵ (lasts write-marked.ended (marked-at l₆ α γ) (marked-args l₆ α γ) ws) ⊛ raw (fact 𝓤 (Noted (output_in ws) (filled_in ws) (marks_in ws) t)))) (id⊢ 𝓤 _) $ pick ! (λ ws.
-        split ! $ move ! (1 ∷ []) $ heard ! (Noted (output_in ws) (filled_in ws) (marks_in ws) t) (λ noted.
+        split ! $ move ! (1 ∷ []) $ use1 𝓛 (some (λ (ws : Ends). ‵ (lasts write-marked.ended (marked-at l₆ α γ) (marked-args l₆ α γ) ws) ⊛ raw (fact 𝓤 (Noted (output_in ws) (filled_in ws) (marks_in_law ws) t)))) (id⊢ 𝓤 _) $ pick ! (λ ws.
+        split ! $ move ! (1 ∷ []) $ heard ! (Noted (output_in ws) (filled_in ws) (marks_in_law ws) t) (λ noted.
         fsplit ! $ drop ! $ fsplit ! $ drop ! $ fsplit ! $ fsplit ! $ move ! (1 ∷ []) $ feq_l ! (λ out-length. move ! (1 ∷ []) $ fsplit ! $ drop ! $ fsplit ! $ move ! (1 ∷ []) $ fsplit ! $ move ! (1 ∷ []) $ drop ! $ fsplit ! $ move ! (1 ∷ []) $ feq_l ! (λ _.
         -- [the table's last list; filled's; output's; the tokens and what t owns; index's; the token of κ₃; the lender's part; _18; …]
         move ! (3 ∷ []) $ split ! $ move ! (1 ∷ []) $ facts ! T (Is T) (shows 𝓛 T) t (w ∷ []) (λ is.
         land ! (from ! (stop !)) (init ! 29 refl ((LL.lawful Tol.the_type Tol'.the_laws 𝓛).typed t _ is).0) $ rewrite ! 29 (λ (u : Val). ‵ (fat full_share Tol'.mir l₇ 0 u)) (ap only (LL.tells Tol.the_type Tol'.the_laws t _ is)) refl $
         split ! $ move ! (1 ∷ []) $ split ! $ move ! (1 ∷ []) $ split ! $ move ! (1 ∷ []) $ split ! $ move ! (1 ∷ []) $ split ! $ move ! (1 ∷ []) $ drop ! $
         -- [α's token; the tokens of κ₄, κ₂, κ₁, κ₀; the table's last list; filled's; output's; index's; the token of κ₃; the lender's part; _18; …]
-        lft_end ! tt $ move ! (0 ∷ 10 ∷ 5 ∷ []) $ use3 𝓛 (later (‵ (Stands 19456 l₆ (marks_in ws)))) (slice_back 𝓛 u32 (α ∷ []) γ (marks_in ws) 19456 l₆ 0) $ await ! tt $
-        fsplit ! $ feq_l ! (λ marks_length. feq_i ! ℕ (length (marks_in ws)) 19456 marks_length $ fjoin ! $
+        lft_end ! tt $ move ! (0 ∷ 10 ∷ 5 ∷ []) $ use3 𝓛 (later (‵ (Stands 19456 l₆ (marks_in_law ws)))) (slice_back 𝓛 u32 (α ∷ []) γ (marks_in_law ws) 19456 l₆ 0) $ await ! tt $
+        fsplit ! $ feq_l ! (λ marks_length. feq_i ! ℕ (length (marks_in_law ws)) 19456 marks_length $ fjoin ! $
         -- [the table; the tokens of κ₄, κ₂, κ₁, κ₀; filled's; output's; index's; the token of κ₃; _18; …]
         assigns ! (addr ! (from ! (fld ! refl (hop ! (look_in ! 36 (sub ! 0 refl (whole !))) (stop !))))) (from ! (stop !)) (init ! 15 refl (tt, tt)) $
         assigns ! (agg ! (and_then ! (load ! (from ! (stop !)) (look ! 15 refl)) (and_then ! (load ! (from ! (fld ! refl (stop !))) (look_in ! 36 (sub ! 1 refl (whole !)))) (no_more !)))) (from ! (stop !)) (init ! 13 refl (tt, (tt, (record { fits = index-room.0 }, tt)))) $
@@ -207,25 +207,25 @@ module _ {M : Type 1} {𝓤 : Ura M} (𝓛 : Logic 𝓤) (mem : Memory → SProp
         assigns ! (agg ! (and_then ! (load ! (from ! (stop !)) (look ! 11 refl)) (and_then ! (big_lit ! (record { fits = fits_table.0 })) (no_more !)))) (from ! (stop !)) (init ! 9 refl (tt, (tt, (record { fits = fits_table.0 }, tt)))) $
         -- the table is lent again, for a lifetime β of the second call
         lft_new ! tt (λ β. move ! (1 ∷ []) $
-        use1 𝓛 (later (some (λ (δ : GName). ‵ ((ShrSlice (named 1) (β ∷ []) u32).own_val (table l₆ δ (marks_in ws)) (slice_val (l₆, 0) 19456 ∷ [])) ⊛ ‵ (flent (β ∷ []) ((arr_parts (shares u32) 19456).part full_share (marks_in ws) l₆ 0))))) (shares_table 𝓛 19456 l₆ (β ∷ []) (named 1) (marks_in ws) fits_table) $ await ! tt $ pick ! (λ δ. split ! $
+        use1 𝓛 (later (some (λ (δ : GName). ‵ ((ShrSlice (named 1) (β ∷ []) u32).own_val (table l₆ δ (marks_in_law ws)) (slice_val (l₆, 0) 19456 ∷ [])) ⊛ ‵ (flent (β ∷ []) ((arr_parts (shares u32) 19456).part full_share (marks_in_law ws) l₆ 0))))) (shares_table 𝓛 19456 l₆ (β ∷ []) (named 1) (marks_in_law ws) fits_table) $ await ! tt $ pick ! (λ δ. split ! $
         -- [the slice; the lender's part; β's token; the tokens of κ₄, κ₂, κ₁, κ₀; filled's; output's; index's; the token of κ₃; _18; …]
         move ! (10 ∷ 2 ∷ 9 ∷ 0 ∷ []) $ group ! 4 $
-        use1 𝓛 (raw ((StoreRecords 𝓛 mem run).pre (to-store-records l₆ β δ (marks_in ws) t.records))) (store-records-goes l₆ β δ (marks_in ws) t.records (records_fit t w is) noted.few) $
-        calls_at ! fm (StoreRecords 𝓛 mem run) known_store (to-store-records l₆ β δ (marks_in ws) t.records) (and_then ! (load ! (from ! (stop !)) (look ! 12 refl)) (and_then ! (load ! (from ! (fld ! refl (stop !))) (look_in ! 30 (sub ! 1 refl (whole !)))) (and_then ! (load ! (from ! (stop !)) (look ! 8 refl)) (no_more !)))) (λ w'.
-        use1 𝓛 (later (some (λ (u : Unit {0}). ((‵ (flft κ₃ q₃) ⊛ ‵ (flft (β ∷ []) full_share) ⊛ ‵ ftrue) ⊛ ‵ (unit.own_val u (w' ∷ []))) ⊛ raw (ensured 𝓛 store-records.ended (store-records.clauses 𝓛 mem run) (stored_at l₆ β δ (marks_in ws) t.records) (stored-args l₆ β δ (marks_in ws) t.records) tt u)))) (id⊢ 𝓤 _) $ await ! tt $ pick ! (λ u.
-        split ! $ move ! (1 ∷ []) $ use1 𝓛 (some (λ (zs : List Record × (Unit {0} × (Unit {0} × Unit {0}))). ‵ (lasts store-records.ended (stored_at l₆ β δ (marks_in ws) t.records) (stored-args l₆ β δ (marks_in ws) t.records) zs) ⊛ raw (fact 𝓤 (zs.0 ≡ read_from (marks_in (front (marks_in ws))) t.records no_record ++ drop-list t.records index.now)))) (id⊢ 𝓤 _) $ pick ! (λ zs.
-        split ! $ move ! (1 ∷ []) $ heard ! (zs.0 ≡ read_from (marks_in (front (marks_in ws))) t.records no_record ++ drop-list t.records index.now) (λ stored. fsplit ! $ move ! (1 ∷ []) $ drop ! $ fsplit ! $ move ! (1 ∷ []) $ feq_l ! (λ index-length.
+        use1 𝓛 (raw ((StoreRecords 𝓛 mem run).pre (to-store-records l₆ β δ (marks_in_law ws) t.records))) (store-records-goes l₆ β δ (marks_in_law ws) t.records (records_fit t w is) noted.few) $
+        calls_at ! fm (StoreRecords 𝓛 mem run) known_store (to-store-records l₆ β δ (marks_in_law ws) t.records) (and_then ! (load ! (from ! (stop !)) (look ! 12 refl)) (and_then ! (load ! (from ! (fld ! refl (stop !))) (look_in ! 30 (sub ! 1 refl (whole !)))) (and_then ! (load ! (from ! (stop !)) (look ! 8 refl)) (no_more !)))) (λ w'.
+        use1 𝓛 (later (some (λ (u : Unit {0}). ((‵ (flft κ₃ q₃) ⊛ ‵ (flft (β ∷ []) full_share) ⊛ ‵ ftrue) ⊛ ‵ (unit.own_val u (w' ∷ []))) ⊛ raw (ensured 𝓛 store-records.ended (store-records.clauses 𝓛 mem run) (stored_at l₆ β δ (marks_in_law ws) t.records) (stored-args l₆ β δ (marks_in_law ws) t.records) tt u)))) (id⊢ 𝓤 _) $ await ! tt $ pick ! (λ u.
+        split ! $ move ! (1 ∷ []) $ use1 𝓛 (some (λ (zs : List Record × (Unit {0} × (Unit {0} × Unit {0}))). ‵ (lasts store-records.ended (stored_at l₆ β δ (marks_in_law ws) t.records) (stored-args l₆ β δ (marks_in_law ws) t.records) zs) ⊛ raw (fact 𝓤 (zs.0 ≡ read_from (marks_in (front (marks_in_law ws))) t.records no_record ++ drop-list t.records index.now)))) (id⊢ 𝓤 _) $ pick ! (λ zs.
+        split ! $ move ! (1 ∷ []) $ heard ! (zs.0 ≡ read_from (marks_in (front (marks_in_law ws))) t.records no_record ++ drop-list t.records index.now) (λ stored. fsplit ! $ move ! (1 ∷ []) $ drop ! $ fsplit ! $ move ! (1 ∷ []) $ feq_l ! (λ index-length.
         -- [index's last list; the tokens and the result; the lender's part; the tokens of κ₄, κ₂, κ₁, κ₀; filled's; output's; _18; …]
         move ! (1 ∷ []) $ split ! $ move ! (1 ∷ []) $ facts ! unit (Is unit) (shows 𝓛 unit) u (w' ∷ []) (λ nil.
         land ! (from ! (stop !)) (init ! 17 refl ((Nothing-Lawful 𝓛).typed u _ nil).0) $
-        split ! $ move ! (1 ∷ []) $ split ! $ move ! (1 ∷ []) $ drop ! $ lft_end ! tt $ move ! (0 ∷ 3 ∷ []) $ use2 𝓛 (later (‵ (froom (table_ty 19456) l₆ 0))) (table_over 𝓛 19456 l₆ (β ∷ []) (marks_in ws)) $ await ! tt $
+        split ! $ move ! (1 ∷ []) $ split ! $ move ! (1 ∷ []) $ drop ! $ lft_end ! tt $ move ! (0 ∷ 3 ∷ []) $ use2 𝓛 (later (‵ (froom (table_ty 19456) l₆ 0))) (table_over 𝓛 19456 l₆ (β ∷ []) (marks_in_law ws)) $ await ! tt $
         -- [room for the table; the token of κ₃; index's; the tokens of κ₄, κ₂, κ₁, κ₀; filled's; output's; _18; …; _7; …; _6's end; _5; …; _0; …]
         assigns ! (of_opd ! (load ! (from ! (fld ! refl (stop !))) (look_in ! 31 (sub ! 0 refl (whole !))))) (from ! (stop !)) (init ! 44 refl (tt, record { fits = answer_fits t w is })) $ returns ! (look ! 44 refl) $
         forget ! 9 refl $ forget ! 11 refl $ forget ! 13 refl $ forget ! 15 refl $ forget ! 17 refl $ forget ! 19 refl $ forget ! 21 refl $ forget ! 23 refl $ forget ! 25 refl $ forget ! 27 refl $ forget ! 29 refl $ forget ! 31 refl $ forget ! 34 refl $ forget ! 36 refl $ forget ! 38 refl $ forget ! 40 refl $ forget ! 42 refl $ forget ! 44 refl $
         move ! (44 ∷ 45 ∷ []) $ free1 ! $ move ! (42 ∷ 43 ∷ []) $ free1 ! $ move ! (40 ∷ 41 ∷ []) $ free1 ! $ move ! (38 ∷ 39 ∷ []) $ free1 ! $ move ! (36 ∷ 37 ∷ []) $ free1 ! $ move ! (34 ∷ 35 ∷ []) $ free1 ! $ move ! (0 ∷ 33 ∷ []) $ free1 ! $
         move ! (30 ∷ 31 ∷ []) $ free1 ! $ move ! (28 ∷ 29 ∷ []) $ free1 ! $ move ! (26 ∷ 27 ∷ []) $ free1 ! $ move ! (24 ∷ 25 ∷ []) $ free1 ! $ move ! (22 ∷ 23 ∷ []) $ free1 ! $ move ! (20 ∷ 21 ∷ []) $ free1 ! $ move ! (18 ∷ 19 ∷ []) $ free1 ! $ move ! (16 ∷ 17 ∷ []) $ free1 ! $
         move ! (14 ∷ 15 ∷ []) $ free1 ! $ move ! (12 ∷ 13 ∷ []) $ free1 ! $ move ! (10 ∷ 11 ∷ []) $ free1 ! $ move ! (8 ∷ 9 ∷ []) $ free1 ! $ free0 ! $
-        move ! (5 ∷ 4 ∷ 3 ∷ 0 ∷ 2 ∷ 7 ∷ 1 ∷ 6 ∷ []) $ by ! (exits t.answer (answer_fits t w is) (output_in ws) out-length zs.0 index-length (filled_in ws) (left answer output.now index.now (output_in ws) (filled_in ws) (marks_in ws) t zs.0 noted stored)))))))))))))))))))))))))))))))))))))))
+        move ! (5 ∷ 4 ∷ 3 ∷ 0 ∷ 2 ∷ 7 ∷ 1 ∷ 6 ∷ []) $ by ! (exits t.answer (answer_fits t w is) (output_in ws) out-length zs.0 index-length (filled_in ws) (left answer output.now index.now (output_in ws) (filled_in ws) (marks_in_law ws) t zs.0 noted stored)))))))))))))))))))))))))))))))))))))))
 
 module _ {M : Type 1} {𝓤 : Ura M} (𝓛 : Logic 𝓤) (mem : Memory → SProp 𝓤) (run : Routine → Fun 𝓤) where
   open 𝓛 use {H}

@@ -43,7 +43,7 @@ use Rattle.indexer.specs.contracts.write_marked_large as write-marked
 use Rattle.indexer.proofs.write_marked_large.Symbol as write-marked-def
 use Rattle.indexer.proofs.write_marked_large.Symbol.{name as #indexer·write-marked-large}
 use Rattle.indexer.proofs.write_marked_large.Met as write-marked-thm
-use Rattle.rudignals.proofs.Filling.{T, slice, Ends, output_in, filled_in, marks_in, answer_fits, records_fit, Left, left}
+use Rattle.rudignals.proofs.Filling.{T, slice, Ends, output_in, filled_in, marks_in_law, answer_fits, records_fit, Left, left}
 use Rattle.rudignals.specs.contracts.indexing.rudignals_write_indexed_large.Key.{name as #rudignals·indexing·rudignals-write-indexed-large}
 use Rattle.rudignals.specs.contracts.indexing.rudignals_write_indexed_large as f
 use Rattle.rudignals.proofs.indexing.rudignals_write_indexed_large.Statement as stated
@@ -196,8 +196,8 @@ module _ {M : Type 1} {𝓤 : Ura M} (𝓛 : Logic 𝓤) (mem : Memory → SProp
         calls_at ! fm (WriteMarked 𝓛 mem run) known-write (to-write-marked α γ) (and_then ! (load ! (from ! (stop !)) (look ! 38 refl)) (and_then ! (load ! (from ! (stop !)) (look ! 36 refl)) (and_then ! (load ! (from ! (stop !)) (look ! 22 refl))
         (and_then ! (load ! (from ! (stop !)) (look ! 20 refl)) (and_then ! (load ! (from ! (stop !)) (look ! 18 refl)) (and_then ! (load ! (from ! (stop !)) (look ! 14 refl)) (no_more !))))))) (λ w.
         use1 𝓛 (later (some (λ (t : Told). ((‵ (flft κ₀ q₀) ⊛ ‵ (flft κ₁ q₁) ⊛ ‵ (flft κ₂ q₂) ⊛ ‵ (flft κ₄ q₄) ⊛ ‵ (flft (α ∷ []) full_share) ⊛ ‵ ftrue) ⊛ ‵ (T.own_val t (w ∷ []))) ⊛ raw (ensured 𝓛 write-marked.ended (write-marked.clauses 𝓛 mem run) (marked-at α γ) (marked-args α γ) tt t)))) (id⊢ 𝓤 _) $ await ! tt $ pick ! (λ t.
-        split ! $ move ! (1 ∷ []) $ use1 𝓛 (some (λ (ws : Ends). ‵ (lasts write-marked.ended (marked-at α γ) (marked-args α γ) ws) ⊛ raw (fact 𝓤 (Noted (output_in ws) (filled_in ws) (marks_in ws) t)))) (id⊢ 𝓤 _) $ pick ! (λ ws.
-        split ! $ move ! (1 ∷ []) $ heard ! (Noted (output_in ws) (filled_in ws) (marks_in ws) t) (λ noted.
+        split ! $ move ! (1 ∷ []) $ use1 𝓛 (some (λ (ws : Ends). ‵ (lasts write-marked.ended (marked-at α γ) (marked-args α γ) ws) ⊛ raw (fact 𝓤 (Noted (output_in ws) (filled_in ws) (marks_in_law ws) t)))) (id⊢ 𝓤 _) $ pick ! (λ ws.
+        split ! $ move ! (1 ∷ []) $ heard ! (Noted (output_in ws) (filled_in ws) (marks_in_law ws) t) (λ noted.
         fsplit ! $ drop ! $ fsplit ! $ drop ! $ fsplit ! $ fsplit ! $ move ! (1 ∷ []) $ feq_l ! (λ out-length. move ! (1 ∷ []) $ fsplit ! $ drop ! $ fsplit ! $ move ! (1 ∷ []) $ fsplit ! $ move ! (1 ∷ []) $ drop ! $ fsplit ! $ move ! (1 ∷ []) $ feq_l ! (λ _.
         -- [the room's last list; filled's; output's; the tokens and what t owns; what is kept; index's; the token of κ₃; _18; …]
         move ! (3 ∷ []) $ split ! $ move ! (1 ∷ []) $ facts ! T (Is T) (shows 𝓛 T) t (w ∷ []) (λ is.
@@ -205,7 +205,7 @@ module _ {M : Type 1} {𝓤 : Ura M} (𝓛 : Logic 𝓤) (mem : Memory → SProp
         split ! $ move ! (1 ∷ []) $ split ! $ move ! (1 ∷ []) $ split ! $ move ! (1 ∷ []) $ split ! $ move ! (1 ∷ []) $ split ! $ move ! (1 ∷ []) $ drop ! $
         -- [α's token; the tokens of κ₄, κ₂, κ₁, κ₀; the room's last list; filled's; output's; what is kept; index's; the token of κ₃; _18; …]
         lft_end ! tt $ move ! (0 ∷ 8 ∷ 5 ∷ []) $
-        use3 𝓛 (later (given (length (marks_in ws) ≡ length work.now) (‵ (Lends κ₅ work.ghost_name (marks_in ws)) ⊛ ‵ (flft κ₅ q₅)))) (sl_relent_backˡ 𝓛 u32 κ₅ q₅ (α ∷ []) work.ref_ptr.0 work.ref_ptr.1 work.ghost_name γ work.now (marks_in ws)) $ await ! tt $ learn ! (λ same. split ! $
+        use3 𝓛 (later (given (length (marks_in_law ws) ≡ length work.now) (‵ (Lends κ₅ work.ghost_name (marks_in_law ws)) ⊛ ‵ (flft κ₅ q₅)))) (sl_relent_backˡ 𝓛 u32 κ₅ q₅ (α ∷ []) work.ref_ptr.0 work.ref_ptr.1 work.ghost_name γ work.now (marks_in_law ws)) $ await ! tt $ learn ! (λ same. split ! $
         -- [the room; the tokens of κ₅, κ₄, κ₂, κ₁, κ₀; filled's; output's; index's; the token of κ₃; _18; …]
         assigns ! (addr ! (from ! (fld ! refl (hop ! (look_in ! 38 (sub ! 0 refl (whole !))) (stop !))))) (from ! (stop !)) (init ! 16 refl (tt, tt)) $
         assigns ! (agg ! (and_then ! (load ! (from ! (stop !)) (look ! 16 refl)) (and_then ! (load ! (from ! (fld ! refl (stop !))) (look_in ! 38 (sub ! 1 refl (whole !)))) (no_more !)))) (from ! (stop !)) (init ! 14 refl (tt, (tt, (record { fits = index-room.0 }, tt)))) $
@@ -213,28 +213,28 @@ module _ {M : Type 1} {𝓤 : Ura M} (𝓛 : Logic 𝓤) (mem : Memory → SProp
         assigns ! (agg ! (and_then ! (load ! (from ! (stop !)) (look ! 12 refl)) (and_then ! (load ! (from ! (fld ! refl (stop !))) (look_in ! 34 (sub ! 1 refl (whole !)))) (no_more !)))) (from ! (stop !)) (init ! 10 refl (tt, (tt, (record { fits = work-room.0 }, tt)))) $
         -- the room is lent again, to be read, for a lifetime β of the second call
         lft_new ! tt (λ β. move ! (1 ∷ 2 ∷ []) $
-        use2 𝓛 (later (some (λ (δ : GName). ‵ (Shows (β ∷ []) δ (marks_in ws)) ⊛ ‵ (KeptShown (β ∷ []) (marks_in ws))))) (sl-reshare 𝓛 u32 κ₅ q₅ (β ∷ []) work.ptr.0 work.ptr.1 work.name (marks_in ws)) $ await ! tt $ pick ! (λ δ. split ! $
-        fsplit ! $ feq_i ! (List Val) (slice work ∷ []) (slice (room_at δ (marks_in ws)) ∷ []) (ap (λ (n : ℕ). slice_val work.ptr n ∷ []) (sym same)) $ fjoin ! $ fjoin ! $
+        use2 𝓛 (later (some (λ (δ : GName). ‵ (Shows (β ∷ []) δ (marks_in_law ws)) ⊛ ‵ (KeptShown (β ∷ []) (marks_in_law ws))))) (sl-reshare 𝓛 u32 κ₅ q₅ (β ∷ []) work.ptr.0 work.ptr.1 work.name (marks_in_law ws)) $ await ! tt $ pick ! (λ δ. split ! $
+        fsplit ! $ feq_i ! (List Val) (slice work ∷ []) (slice (room_at δ (marks_in_law ws)) ∷ []) (ap (λ (n : ℕ). slice_val work.ptr n ∷ []) (sym same)) $ fjoin ! $ fjoin ! $
         -- [the slice; what is kept; β's token; the tokens of κ₄, κ₂, κ₁, κ₀; filled's; output's; index's; the token of κ₃; _18; …]
         move ! (10 ∷ 2 ∷ 9 ∷ 0 ∷ []) $ group ! 4 $
-        use1 𝓛 (raw ((StoreRecords 𝓛 mem run).pre (to-store-records β δ (marks_in ws) t.records))) (store-records-goes β δ (marks_in ws) t.records (records_fit t w is) noted.few) $
-        calls_at ! fm (StoreRecords 𝓛 mem run) known_store (to-store-records β δ (marks_in ws) t.records) (and_then ! (load ! (from ! (stop !)) (look ! 12 refl)) (and_then ! (load ! (from ! (fld ! refl (stop !))) (look_in ! 30 (sub ! 1 refl (whole !)))) (and_then ! (load ! (from ! (stop !)) (look ! 8 refl)) (no_more !)))) (λ w'.
-        use1 𝓛 (later (some (λ (u : Unit {0}). ((‵ (flft κ₃ q₃) ⊛ ‵ (flft (β ∷ []) full_share) ⊛ ‵ ftrue) ⊛ ‵ (unit.own_val u (w' ∷ []))) ⊛ raw (ensured 𝓛 store-records.ended (store-records.clauses 𝓛 mem run) (stored_at β δ (marks_in ws) t.records) (stored-args β δ (marks_in ws) t.records) tt u)))) (id⊢ 𝓤 _) $ await ! tt $ pick ! (λ u.
-        split ! $ move ! (1 ∷ []) $ use1 𝓛 (some (λ (zs : List Record × (Unit {0} × (Unit {0} × Unit {0}))). ‵ (lasts store-records.ended (stored_at β δ (marks_in ws) t.records) (stored-args β δ (marks_in ws) t.records) zs) ⊛ raw (fact 𝓤 (zs.0 ≡ read_from (marks_in (front (marks_in ws))) t.records no_record ++ drop-list t.records index.now)))) (id⊢ 𝓤 _) $ pick ! (λ zs.
-        split ! $ move ! (1 ∷ []) $ heard ! (zs.0 ≡ read_from (marks_in (front (marks_in ws))) t.records no_record ++ drop-list t.records index.now) (λ stored. fsplit ! $ move ! (1 ∷ []) $ drop ! $ fsplit ! $ move ! (1 ∷ []) $ feq_l ! (λ index-length.
+        use1 𝓛 (raw ((StoreRecords 𝓛 mem run).pre (to-store-records β δ (marks_in_law ws) t.records))) (store-records-goes β δ (marks_in_law ws) t.records (records_fit t w is) noted.few) $
+        calls_at ! fm (StoreRecords 𝓛 mem run) known_store (to-store-records β δ (marks_in_law ws) t.records) (and_then ! (load ! (from ! (stop !)) (look ! 12 refl)) (and_then ! (load ! (from ! (fld ! refl (stop !))) (look_in ! 30 (sub ! 1 refl (whole !)))) (and_then ! (load ! (from ! (stop !)) (look ! 8 refl)) (no_more !)))) (λ w'.
+        use1 𝓛 (later (some (λ (u : Unit {0}). ((‵ (flft κ₃ q₃) ⊛ ‵ (flft (β ∷ []) full_share) ⊛ ‵ ftrue) ⊛ ‵ (unit.own_val u (w' ∷ []))) ⊛ raw (ensured 𝓛 store-records.ended (store-records.clauses 𝓛 mem run) (stored_at β δ (marks_in_law ws) t.records) (stored-args β δ (marks_in_law ws) t.records) tt u)))) (id⊢ 𝓤 _) $ await ! tt $ pick ! (λ u.
+        split ! $ move ! (1 ∷ []) $ use1 𝓛 (some (λ (zs : List Record × (Unit {0} × (Unit {0} × Unit {0}))). ‵ (lasts store-records.ended (stored_at β δ (marks_in_law ws) t.records) (stored-args β δ (marks_in_law ws) t.records) zs) ⊛ raw (fact 𝓤 (zs.0 ≡ read_from (marks_in (front (marks_in_law ws))) t.records no_record ++ drop-list t.records index.now)))) (id⊢ 𝓤 _) $ pick ! (λ zs.
+        split ! $ move ! (1 ∷ []) $ heard ! (zs.0 ≡ read_from (marks_in (front (marks_in_law ws))) t.records no_record ++ drop-list t.records index.now) (λ stored. fsplit ! $ move ! (1 ∷ []) $ drop ! $ fsplit ! $ move ! (1 ∷ []) $ feq_l ! (λ index-length.
         -- [index's last list; the tokens and the result; what is kept; the tokens of κ₄, κ₂, κ₁, κ₀; filled's; output's; _18; …]
         move ! (1 ∷ []) $ split ! $ move ! (1 ∷ []) $ facts ! unit (Is unit) (shows 𝓛 unit) u (w' ∷ []) (λ nil.
         land ! (from ! (stop !)) (init ! 17 refl ((Nothing-Lawful 𝓛).typed u _ nil).0) $
         split ! $ move ! (1 ∷ []) $ split ! $ move ! (1 ∷ []) $ drop ! $ lft_end ! tt $ move ! (0 ∷ 3 ∷ []) $
-        use2 𝓛 (later (‵ (Lends κ₅ work.name (marks_in ws)) ⊛ ‵ (flft κ₅ q₅))) (sl_reshare_back 𝓛 u32 κ₅ q₅ (β ∷ []) work.ptr.0 work.ptr.1 work.name (marks_in ws)) $ await ! tt $ split ! $
-        fsplit ! $ feq_i ! (List Val) (slice work ∷ []) (slice (room_at work.name (marks_in ws)) ∷ []) (ap (λ (n : ℕ). slice_val work.ptr n ∷ []) (sym same)) $ fjoin ! $ fjoin ! $
+        use2 𝓛 (later (‵ (Lends κ₅ work.name (marks_in_law ws)) ⊛ ‵ (flft κ₅ q₅))) (sl_reshare_back 𝓛 u32 κ₅ q₅ (β ∷ []) work.ptr.0 work.ptr.1 work.name (marks_in_law ws)) $ await ! tt $ split ! $
+        fsplit ! $ feq_i ! (List Val) (slice work ∷ []) (slice (room_at work.name (marks_in_law ws)) ∷ []) (ap (λ (n : ℕ). slice_val work.ptr n ∷ []) (sym same)) $ fjoin ! $ fjoin ! $
         -- [the room; the tokens of κ₅ and κ₃; index's; the tokens of κ₄, κ₂, κ₁, κ₀; filled's; output's; _18; …; _0; …]
         assigns ! (of_opd ! (load ! (from ! (fld ! refl (stop !))) (look_in ! 32 (sub ! 0 refl (whole !))))) (from ! (stop !)) (init ! 46 refl (tt, record { fits = answer_fits t w is })) $ returns ! (look ! 46 refl) $
         forget ! 10 refl $ forget ! 12 refl $ forget ! 14 refl $ forget ! 16 refl $ forget ! 18 refl $ forget ! 20 refl $ forget ! 22 refl $ forget ! 24 refl $ forget ! 26 refl $ forget ! 28 refl $ forget ! 30 refl $ forget ! 32 refl $ forget ! 34 refl $ forget ! 36 refl $ forget ! 38 refl $ forget ! 40 refl $ forget ! 42 refl $ forget ! 44 refl $ forget ! 46 refl $
         move ! (46 ∷ 47 ∷ []) $ free1 ! $ move ! (44 ∷ 45 ∷ []) $ free1 ! $ move ! (42 ∷ 43 ∷ []) $ free1 ! $ move ! (40 ∷ 41 ∷ []) $ free1 ! $ move ! (38 ∷ 39 ∷ []) $ free1 ! $ move ! (36 ∷ 37 ∷ []) $ free1 ! $ move ! (34 ∷ 35 ∷ []) $ free1 ! $ move ! (32 ∷ 33 ∷ []) $ free1 ! $
         move ! (30 ∷ 31 ∷ []) $ free1 ! $ move ! (28 ∷ 29 ∷ []) $ free1 ! $ move ! (26 ∷ 27 ∷ []) $ free1 ! $ move ! (24 ∷ 25 ∷ []) $ free1 ! $ move ! (22 ∷ 23 ∷ []) $ free1 ! $ move ! (20 ∷ 21 ∷ []) $ free1 ! $ move ! (18 ∷ 19 ∷ []) $ free1 ! $ move ! (16 ∷ 17 ∷ []) $ free1 ! $
         move ! (14 ∷ 15 ∷ []) $ free1 ! $ move ! (12 ∷ 13 ∷ []) $ free1 ! $ move ! (10 ∷ 11 ∷ []) $ free1 ! $ free0 ! $
-        move ! (7 ∷ 6 ∷ 5 ∷ 2 ∷ 4 ∷ 1 ∷ 9 ∷ 3 ∷ 8 ∷ 0 ∷ []) $ by ! (exits t.answer (answer_fits t w is) (output_in ws) out-length zs.0 index-length (filled_in ws) (marks_in ws) same (left answer output.now index.now (output_in ws) (filled_in ws) (marks_in ws) t zs.0 noted stored))))))))))))))))))))))))))))))))))))))))
+        move ! (7 ∷ 6 ∷ 5 ∷ 2 ∷ 4 ∷ 1 ∷ 9 ∷ 3 ∷ 8 ∷ 0 ∷ []) $ by ! (exits t.answer (answer_fits t w is) (output_in ws) out-length zs.0 index-length (filled_in ws) (marks_in_law ws) same (left answer output.now index.now (output_in ws) (filled_in ws) (marks_in_law ws) t zs.0 noted stored))))))))))))))))))))))))))))))))))))))))
 
 module _ {M : Type 1} {𝓤 : Ura M} (𝓛 : Logic 𝓤) (mem : Memory → SProp 𝓤) (run : Routine → Fun 𝓤) where
   open 𝓛 use {H}
