@@ -1,6 +1,8 @@
 // The program: formats standard input with the empty option block, and writes the digest or, where the call refuses, the code and N. A
 // digest may read like a refusal, and the program has no exit status to tell them apart by: so where standard output has no whole digest it
 // also says so on standard error, where nothing of the notes goes.
+#![tactic(auto)]
+
 ghost use Rattle.std.specs.Prelude.{◌≤◌, length};
 
 use libc::{STDERR_FILENO, STDIN_FILENO, STDOUT_FILENO};

@@ -2,12 +2,14 @@
 // output under code 0; each line of data/cases.txt, written from RULES, a block, notes, the whole number that the call answers and
 // all bytes of the output slice afterwards. Writes how many lines each has and how many of them the call answers so. The lines of the two
 // lists of wrong rows are the same but for one fault each: of them none may be answered so.
+#![tactic(auto)]
+
 ghost use Rattle.std.specs.Prelude.{◌≡◌, ◌+◌, ◌*◌, ◌<◌, ◌≤◌, length};
 
 use libc::STDOUT_FILENO;
 
 // Where the fields of a line begin, and the next line.
-#[derive(Drop)]
+#[derive(Clone, Copy)]
 struct Row {
     block: usize,
     notes: usize,
@@ -16,7 +18,7 @@ struct Row {
     next: usize,
 }
 
-#[derive(Drop)]
+#[derive(Clone, Copy)]
 struct Tally {
     lines: usize,
     right: usize,
