@@ -1,4 +1,6 @@
 // Checking a digest: it is matched against the words of the notes, from its front.
+#![tactic(auto)]
+
 ghost use Rattle.std.specs.Prelude.{◌≡◌, cond, ◌++◌, ◌≤◌, length, drop, replicate};
 ghost use Rattle.output.specs.Cited.Writers.{margin_of};
 ghost use Rattle.records.specs.Cited.Table.{words_in};
@@ -9,21 +11,21 @@ use pieces::Margin;
 use text::Glyph;
 
 // A place in the digest, and the number of its line.
-#[derive(Drop)]
+#[derive(Clone, Copy)]
 pub struct Spot {
     pub at: usize,
     pub line: usize,
 }
 
 // Where matching goes on, or the first line with which no acceptable digest can go on.
-#[derive(Drop)]
+#[derive(Clone, Copy)]
 pub enum Matched {
     On(Spot),
     Fault(usize),
 }
 
 // Blanks at a place of the digest: where those end that part words by themselves, and where all end.
-#[derive(Drop)]
+#[derive(Clone, Copy)]
 struct Gap {
     hard: usize,
     end: usize,

@@ -15,9 +15,14 @@ use Rattle.demerits.proofs.Rounding.{abs_round, round_within}
 -- ---- a value with no sign
 pub abs_up_to : (n : ℕ) (x : Float) → T (within n x) → T (at_most n (abs x))
 abs_up_to n (fin s m e) h = h
+abs_up_to n nan h = elim h [ ]
+abs_up_to n (inf _) h = elim h [ ]
 
 pub up_to_more : (n k : ℕ) (x : Float) → n ≤ k → T (at_most n x) → T (at_most k x)
 up_to_more n k (fin false m e) l h = le→leb (m * up e) (k * down e) (le_trans (leb→le (m * up e) (n * down e) h) (mul-le-mul_right (down e) l))
+up_to_more n k nan l h = elim h [ ]
+up_to_more n k (inf _) l h = elim h [ ]
+up_to_more n k (fin true m e) l h = elim h [ ]
 
 round_up_to : (n a c : ℕ) → n ≤ 2 ^ 24 → 0 < c → a ≤ n * c → T (at_most n (round binary32 false a c))
 round_up_to n a c N C h = subst (λ (z : Float). T (at_most n z)) (abs_round false a c) (abs_up_to n (round binary32 false a c) (round_within false n a c N C h))
@@ -34,11 +39,21 @@ pub mul_within : (p q : ℕ) (x y : Float) → p * q ≤ 2 ^ 24 → T (within p 
 unfolding mul
 mul_within p q (fin s m e) (fin t n d) N h k =
     round_within (unlike s t) (p * q) (m * up e * (n * up d)) (down e * down d) N (mul-pos (down_pos e) (down_pos d)) (product_le p q (m * up e) (down e) (n * up d) (down d) h k)
+mul_within p q nan y N h k = elim h [ ]
+mul_within p q (inf _) y N h k = elim h [ ]
+mul_within p q (fin s m e) nan N h k = elim k [ ]
+mul_within p q (fin s m e) (inf _) N h k = elim k [ ]
 
 pub mul_up_to : (p q : ℕ) (x y : Float) → p * q ≤ 2 ^ 24 → T (at_most p x) → T (at_most q y) → T (at_most (p * q) (mul binary32 x y))
 unfolding mul
 mul_up_to p q (fin false m e) (fin false n d) N h k =
     round_up_to (p * q) (m * up e * (n * up d)) (down e * down d) N (mul-pos (down_pos e) (down_pos d)) (product_le p q (m * up e) (down e) (n * up d) (down d) h k)
+mul_up_to p q nan y N h k = elim h [ ]
+mul_up_to p q (inf _) y N h k = elim h [ ]
+mul_up_to p q (fin false m e) nan N h k = elim k [ ]
+mul_up_to p q (fin false m e) (inf _) N h k = elim k [ ]
+mul_up_to p q (fin false m e) (fin true n d) N h k = elim k [ ]
+mul_up_to p q (fin true m e) y N h k = elim h [ ]
 
 -- ---- differences
 sum_within : (n : ℕ) (s : Bool) (a : ℕ) (t : Bool) (b c : ℕ) → n ≤ 2 ^ 24 → 0 < c → a + b ≤ n * c → T (within n (sum binary32 s a t b c))
@@ -65,6 +80,10 @@ unfolding sub
 sub_within p q (fin s m e) (fin t n d) N h k =
     sum_within (p + q) s (m * up e * down d) (not t) (n * up d * down e) (down e * down d) N (mul-pos (down_pos e) (down_pos d))
     (difference_le p q (m * up e) (down e) (n * up d) (down d) h k)
+sub_within p q nan y N h k = elim h [ ]
+sub_within p q (inf _) y N h k = elim h [ ]
+sub_within p q (fin s m e) nan N h k = elim k [ ]
+sub_within p q (fin s m e) (inf _) N h k = elim k [ ]
 
 -- ---- quotients
 quotient_le : (n p b m e k d : ℕ) → T (leb m (p * e)) → p ≤ n * b → k ≡ b * d → m * d ≤ n * (k * e)
@@ -73,6 +92,8 @@ quotient_le n p b m e k d h g q = rw q (le_trans (mul-le-mul_right d (le_trans (
 -- x / y, for a y of the size b
 pub div_within : (n p b : ℕ) (t : Bool) (x y : Float) → n ≤ 2 ^ 24 → p ≤ n * b → 0 < b → T (within p x) → HasValue y t b 1 → T (within n (div binary32 x y))
 unfolding div
+div_within n p b t nan y N g B h v = elim h [ ]
+div_within n p b t (inf _) y N g B h v = elim h [ ]
 div_within n p b t (fin s m e) nan N g B h v = absurd v
 div_within n p b t (fin s m e) (inf u) N g B h v = absurd v
 div_within n p b t (fin s m e) (fin u k d) N g B h v = pick (eqb k 0) (eqb→eq k 0)

@@ -45,6 +45,7 @@ lt_or_eq a b = pick (ltb a b) (eqb a b) (ltb→lt a b) (eqb→eq a b)
     pick : (p q : Bool) → (T p → a < b) → (T q → a ≡ b) → T (p || (q && true)) → a ≤ b
     pick true q f g t = le_of_lt (f tt)
     pick false true f g t = le_of_eq (g tt)
+    pick false false f g t = elim t [ ]
 
 -- |x| ≤ y, for a y of the value n
 le_within : (x y : Float) (n : ℕ) → HasValue y false n 1 → T (le (abs x) y) → T (within n x)
@@ -58,6 +59,8 @@ le_within (fin s m e) (fin false k d) n v t =
     le→leb (m * up e) (n * down e)
     (le_trans (le_of_eq (sym (mul-one (m * up e))))
     (transfer (m * up e) n (down e) 1 (m * up e) (k * up d) (down e) (down d) (down_pos e) (down_pos d) refl (sym v.1) (lt_or_eq (m * up e * down d) (k * up d * down e) t)))
+le_within nan y n v t = elim t [ ]
+le_within (inf s) (fin _ k d) n v t = elim t [ ]
 
 pub round_within : (s : Bool) (n a c : ℕ) → n ≤ 2 ^ 24 → 0 < c → a ≤ n * c → T (within n (round binary32 s a c))
 round_within s n a c N C h =

@@ -1,4 +1,6 @@
 // The ways an output line ends.
+#![tactic(auto)]
+
 ghost use Rattle.std.specs.Prelude.{◌≡◌, cond, ◌-◌, ◌≤◌};
 ghost use Rattle.records.specs.Cited.Table.{Holds};
 ghost use Rattle.records.specs.Cited.Marks.{breaks_of};
@@ -8,7 +10,7 @@ ghost use Rattle.endings.specs.Cited.Spots.{spot_of};
 // Why a line ends where it does: with its paragraph; as a plain or a blank line of the notes; since the next word would not fit after
 // the column, with the gap and the added space before it; by a break that was chosen, with the line's columns t, the terms L, W and D
 // and the cost of the offer that became the break; by a break that was forced, before the next word or after the last.
-#[derive(Drop)]
+#[derive(Clone, Copy)]
 pub enum Ending {
     Paragraph,
     Plain,
@@ -78,7 +80,7 @@ pub fn put(e: Ending, reason: &mut [u64; 6])
 }
 
 // Where a line of a paragraph stands: it ends before a word; it is the last; or it is so many lines after the paragraph's.
-#[derive(Drop)]
+#[derive(Clone, Copy)]
 pub enum Spot {
     Before(usize),
     Last,

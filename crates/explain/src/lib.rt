@@ -1,5 +1,7 @@
 // Explaining: why a line of the digest ends where it does. The walk goes over the pieces of the notes as measuring does. The paragraph
 // that has the line is broken once more, and this time what ended the line is kept: so formatting has nothing to carry for it.
+#![tactic(auto)]
+
 ghost use Rattle.std.specs.Prelude.{◌≡◌, true, false, List, [], ◌∷◌, ℕ, ◌^◌, ◌≤◌, ◌<◌, length};
 ghost use Rattle.lists.specs.Coded.{numbered};
 ghost use Rattle.options.specs.Opts.{meant};
@@ -25,7 +27,7 @@ use spacing::Setting;
 use words::Count;
 
 // What the call replies: why the line ends; why the notes are refused; or how many lines there are, where there is no such line.
-#[derive(Drop)]
+#[derive(Clone, Copy)]
 pub enum Explained {
     Because(Ending),
     Refused(Refusal),
@@ -33,14 +35,14 @@ pub enum Explained {
 }
 
 // The line asked for: it is known why it ends, or it stands so many lines after those that were passed.
-#[derive(Drop)]
+#[derive(Clone, Copy)]
 pub enum Asked {
     Told(Ending),
     Behind(usize),
 }
 
 // Where the search stands: the place in the notes, next_mail, and the line.
-#[derive(Drop)]
+#[derive(Clone, Copy)]
 pub struct Seek {
     pub at: usize,
     pub mail: bool,
@@ -48,21 +50,21 @@ pub struct Seek {
 }
 
 // What came of a piece: the search goes on after it, or it is a paragraph of more words than there is room for.
-#[derive(Drop)]
+#[derive(Clone, Copy)]
 pub enum Passed {
     On(Seek),
     Over,
 }
 
 // How far the tables reach: to the end of the notes, or to a paragraph of more words than they have room for.
-#[derive(Drop)]
+#[derive(Clone, Copy)]
 enum Course {
     End(Asked),
     Short(Seek),
 }
 
 // What came of the notes, or the place of the first paragraph that has too many words.
-#[derive(Drop)]
+#[derive(Clone, Copy)]
 enum Sought {
     All(Asked),
     Stopped(usize),

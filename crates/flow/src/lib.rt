@@ -1,4 +1,6 @@
 // Digests by mail: the notes' pieces written as format=flowed (RFC 3676, DelSp=no), and the lines `--` counted that this makes.
+#![tactic(auto)]
+
 ghost use Rattle.std.specs.Prelude.{◌≡◌, true, cond, List, ◌++◌, ℕ, ◌+◌, ◌-◌, ◌^◌, ◌≤◌, ◌<◌, length, get_or, take, replicate};
 ghost use Rattle.std.proofs.Math.Seq.{slice};
 ghost use Rattle.text.specs.declared.Found.TheVariants.{Nowhere};
@@ -26,14 +28,14 @@ use spacing::Setting;
 use words::Count;
 
 // What the writer answers: the reply of a writing call, and the count of lines `--`.
-#[derive(Drop)]
+#[derive(Clone, Copy)]
 pub struct Outcome {
     pub reply: Reply,
     pub dashes: usize,
 }
 
 // Where the work stands: the place in the notes, the length of what is sent up to there, next_mail, and the lines `--` made.
-#[derive(Drop)]
+#[derive(Clone, Copy)]
 struct Cursor {
     at: usize,
     written: usize,
@@ -42,28 +44,28 @@ struct Cursor {
 }
 
 // What came of a piece: the work goes on after it, or it is a paragraph of too many words.
-#[derive(Drop)]
+#[derive(Clone, Copy)]
 enum Step {
     On(Cursor),
     Over,
 }
 
 // What came of the notes: the length of what is sent and its lines `--`, or the place of the first paragraph that has too many words.
-#[derive(Drop)]
+#[derive(Clone, Copy)]
 enum Ended {
     All { written: usize, dashes: usize },
     Stopped(usize),
 }
 
 // How a line begins: the spaces that it is stuffed with, and whether it is `--` so far.
-#[derive(Drop)]
+#[derive(Clone, Copy)]
 struct Opening {
     spaces: usize,
     dashed: bool,
 }
 
 // Where a paragraph stands: the written end, whether the line is `--` so far, and how many such lines were ended.
-#[derive(Drop)]
+#[derive(Clone, Copy)]
 struct Turn {
     at: usize,
     dashed: bool,

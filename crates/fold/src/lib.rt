@@ -1,4 +1,6 @@
 // Folding, for the wall: a line feed is put before each character that would end past the columns, so that all of a text can be shown.
+#![tactic(auto)]
+
 ghost use Rattle.std.specs.Prelude.{◌≡◌, true, cond, ◌∷◌, ◌++◌, ◌+◌, ◌-◌, ◌*◌, ◌^◌, ◌≤◌, ◌<◌, eqb, length, take, drop, replicate};
 ghost use Rattle.std.proofs.Math.Seq.{slice};
 ghost use Rattle.widths.specs.Widths.{width_of};
@@ -11,7 +13,7 @@ ghost use Rattle.fold.specs.Cited.Steps.{Folds, number_of, Plain, plain_byte, Be
 use text::Char;
 
 // What folding answers: the length of what was written, or a refusal with what is told of it.
-#[derive(Drop)]
+#[derive(Clone, Copy)]
 pub enum Folding {
     Done(usize),
     Options,
@@ -20,7 +22,7 @@ pub enum Folding {
 }
 
 // A place of a line, and the column that it is at on its row.
-#[derive(Drop)]
+#[derive(Clone, Copy)]
 struct Spot {
     at: usize,
     column: usize,

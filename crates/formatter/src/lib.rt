@@ -1,4 +1,6 @@
 // What the calls stand on: codes 1 to 3, then the digest measured or written, and the reply's number.
+#![tactic(auto)]
+
 ghost use Rattle.std.specs.Prelude.{◌≡◌, List, ℕ, ◌^◌, ◌≤◌, ◌<◌, length};
 ghost use Rattle.options.specs.Opts.{meant};
 ghost use Rattle.lines.specs.Cited.Places.{most_large};
@@ -16,7 +18,7 @@ use text::Found;
 use walk::Ended;
 
 // Why there is no digest, with what is told of it: `Words` with the calls' own room, `Work` where room is lent.
-#[derive(Drop)]
+#[derive(Clone, Copy)]
 pub enum Refusal {
     Options(usize),
     Long,
@@ -26,7 +28,7 @@ pub enum Refusal {
 }
 
 // What measuring and writing reply: the digest's length, why there is none, or the room that it needs.
-#[derive(Drop)]
+#[derive(Clone, Copy)]
 pub enum Reply {
     Done(usize),
     Refused(Refusal),
@@ -34,7 +36,7 @@ pub enum Reply {
 }
 
 // What comes before the work: a refusal, or the options of an accepted block.
-#[derive(Drop)]
+#[derive(Clone, Copy)]
 pub enum Admission {
     Refused(Refusal),
     Passed(Options),

@@ -1,6 +1,8 @@
 // The index of a digest: for each piece of the notes a record, and the part of the notes that an output line stands for. The borrow checker
 // covers no function over a slice of structs: `lookup` and `store_records`, which are lent the list, are proved by walks of their MIR, by
 // hand, and all that can work on a record by value is a covered function of its own.
+#![tactic(auto)]
+
 ghost use Rattle.std.specs.Prelude.{◌≡◌, cond, ◌++◌, ◌*◌, ◌^◌, ◌≤◌, leb, length, drop};
 ghost use Rattle.marks.specs.Cited.Marks.{marks_in};
 ghost use Rattle.index.specs.Lookup.{holds, part_in, lookup, answered, part_after};
@@ -9,7 +11,7 @@ ghost use Rattle.index.specs.Cited.Reading.{front, behind, record_after, read_fr
 
 // A piece: its place and length in the notes, its first output line and its count of output lines.
 #[repr(C)]
-#[derive(Drop)]
+#[derive(Clone, Copy)]
 pub struct Record {
     pub place: u64,
     pub length: u64,
@@ -18,7 +20,7 @@ pub struct Record {
 }
 
 // The part of the notes that an output line stands for, if there is one.
-#[derive(Drop)]
+#[derive(Clone, Copy)]
 pub enum Part {
     Nowhere,
     At { place: u64, length: u64 },

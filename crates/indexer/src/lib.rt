@@ -1,6 +1,8 @@
 // The digest written with an index beside it: a record for each piece of the notes. What the records tell is noted as the digest is
 // written: each piece's length in the notes and its count of output lines, spelled as two gaps between marks. Of the records nothing is
 // stored here: whoever is lent their list reads them from the marks, once it is known that all of them and all of the digest fit.
+#![tactic(auto)]
+
 ghost use Rattle.std.specs.Prelude.{◌≡◌, ◌-◌, ◌^◌, ◌≤◌, ◌<◌, length};
 ghost use Rattle.lists.specs.Coded.{numbered};
 ghost use Rattle.options.specs.Opts.{meant};
@@ -18,14 +20,14 @@ use paragraphs::{Cursor, Step};
 use pieces::Piece;
 
 // What the call tells: its answer's number, and how many records the marks tell (none where it is refused).
-#[derive(Drop)]
+#[derive(Clone, Copy)]
 pub struct Told {
     pub answer: u64,
     pub records: usize,
 }
 
 // What the work comes to: the digest's length and the number of records; why there is no digest; or how many records or bytes it needs.
-#[derive(Drop)]
+#[derive(Clone, Copy)]
 enum Filled {
     Done { written: usize, records: usize },
     Refused(Refusal),
@@ -34,7 +36,7 @@ enum Filled {
 }
 
 // What came of the pieces: the digest's length and their number, or the place of the first paragraph that has too many words.
-#[derive(Drop)]
+#[derive(Clone, Copy)]
 enum Pieces {
     All { written: usize, pieces: usize },
     Stopped(usize),

@@ -1,4 +1,6 @@
 // Checking the digest that another site sent with its notes. The notes are walked once, and the digest is matched against them on the way.
+#![tactic(auto)]
+
 ghost use Rattle.std.specs.Prelude.{◌≡◌, ◌^◌, ◌<◌, length};
 ghost use Rattle.options.specs.Opts.{meant};
 ghost use Rattle.records.specs.Cited.Table.{Holds, words_in};
@@ -20,7 +22,7 @@ use pieces::{Margin, Piece};
 use words::Count;
 
 // What the call answers: the digest is accepted; the notes are refused; or the digest is, with the line that is named.
-#[derive(Drop)]
+#[derive(Clone, Copy)]
 pub enum Judgement {
     Accepted,
     Refused(Refusal),
@@ -29,7 +31,7 @@ pub enum Judgement {
 }
 
 // Where the work stands: the place in the notes and next_mail, and what the digest has come to.
-#[derive(Drop)]
+#[derive(Clone, Copy)]
 struct Stand {
     at: usize,
     mail: bool,
@@ -37,14 +39,14 @@ struct Stand {
 }
 
 // What came of a piece: the work goes on after it, or it is a paragraph of too many words.
-#[derive(Drop)]
+#[derive(Clone, Copy)]
 enum Step {
     On(Stand),
     Over,
 }
 
 // What came of the notes: what the digest has come to after the last piece, or the place of the first paragraph that has too many words.
-#[derive(Drop)]
+#[derive(Clone, Copy)]
 enum Course {
     Through(Matched),
     Stopped(usize),

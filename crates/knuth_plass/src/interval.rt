@@ -17,7 +17,7 @@ use records::{Before, Word};
 use spacing::Setting;
 
 // Between rounds: the active breaks are the records from head up to size, and all words so far are on an endless line of so many columns.
-#[derive(Drop)]
+#[derive(Clone, Copy)]
 pub struct Interval {
     pub head: usize,
     pub size: usize,
@@ -25,7 +25,7 @@ pub struct Interval {
 }
 
 // The word that the skipped words end before, and the columns of the endless line with them.
-#[derive(Drop)]
+#[derive(Clone, Copy)]
 pub struct Skipped {
     pub word: usize,
     pub line: usize,

@@ -1,5 +1,7 @@
 // Knuth-Plass: the best breaks of a paragraph, one round for each word over the active breaks. A paragraph is one lent slice: its n words,
 // and after them n break records.
+#![tactic(auto)]
+
 mod interval;
 mod listed;
 mod marking;
@@ -19,7 +21,7 @@ use spacing::Setting;
 
 // A break place: the number of the previous break, the word and whether it is before or after it; its demerits and the ratio of
 // the line that it ends, as bits; the columns of the line that it begins, and whether nothing but the indent stands on that line.
-#[derive(Drop)]
+#[derive(Clone, Copy)]
 pub struct Break {
     pub previous: usize,
     pub word: usize,
@@ -32,7 +34,7 @@ pub struct Break {
 
 // What a round goes by: its word and the word's number, the space that is added before it, what it weighs in the cost of a break after
 // it, and whether it is the last.
-#[derive(Drop)]
+#[derive(Clone, Copy)]
 pub struct Turn {
     pub word: Word,
     pub number: usize,
@@ -42,7 +44,7 @@ pub struct Turn {
 }
 
 // The best offer so far: its total, or NOTHING; the break it goes on from, and its ratio.
-#[derive(Drop)]
+#[derive(Clone, Copy)]
 pub struct Best {
     pub total: u64,
     pub previous: usize,
@@ -50,7 +52,7 @@ pub struct Best {
 }
 
 // A round so far: how many breaks stay, the number and the demerits of the first least break, and the best offer.
-#[derive(Drop)]
+#[derive(Clone, Copy)]
 pub struct State {
     pub kept: usize,
     pub from: usize,
@@ -59,7 +61,7 @@ pub struct State {
 }
 
 // Between rounds: how many breaks are active, how many records the table has, and what each active break loses.
-#[derive(Drop)]
+#[derive(Clone, Copy)]
 pub struct Standing {
     pub count: usize,
     pub size: usize,
@@ -93,21 +95,21 @@ pub fn best_breaks(work: &mut [u32], n: usize, g: Setting)
 }
 
 // Whether a break that stays made the offer of a total, and with what.
-#[derive(Drop)]
+#[derive(Clone, Copy)]
 pub enum Tried {
     Other,
     Here(Ending),
 }
 
 // A round's end: between rounds, and what made the round's break.
-#[derive(Drop)]
+#[derive(Clone, Copy)]
 pub struct Told {
     pub st: Standing,
     pub ending: Ending,
 }
 
 // All rounds: between rounds, and what made the breaks of two words, one after the other.
-#[derive(Drop)]
+#[derive(Clone, Copy)]
 pub struct AllTold {
     pub st: Standing,
     pub first: Ending,

@@ -1,4 +1,6 @@
 // Lines: where one ends, where its text ends, and its class.
+#![tactic(auto)]
+
 ghost use Rattle.std.specs.Prelude.{◌≡◌, Bool, true, false, cond, not, ◌+◌, ◌-◌, ◌≤◌, ◌<◌, eqb, length, get_or, drop};
 ghost use Rattle.lists.specs.Runs.{while, every, begins};
 ghost use Rattle.widths.specs.Widths.{width_of};
@@ -13,7 +15,7 @@ use options::{Options, Part};
 use text::{Char, Found, Glyph};
 
 // How long a line is: its text, and the whole with its line end.
-#[derive(Drop)]
+#[derive(Clone, Copy)]
 pub struct Extent {
     pub text: usize,
     pub whole: usize,
@@ -21,7 +23,7 @@ pub struct Extent {
 
 // Of a formatted line: the place of its prefix, the end of its indent (both in bytes), the indent's columns, and the columns up to
 // the prefix's end.
-#[derive(Drop)]
+#[derive(Clone, Copy)]
 pub struct Shape {
     pub prefix_place: usize,
     pub indent_end: usize,
@@ -29,7 +31,7 @@ pub struct Shape {
     pub prefix_length: usize,
 }
 
-#[derive(Drop)]
+#[derive(Clone, Copy)]
 pub enum Class {
     Blank,
     Plain,
@@ -37,14 +39,14 @@ pub enum Class {
 }
 
 // A line by its lengths, with its class.
-#[derive(Drop)]
+#[derive(Clone, Copy)]
 pub struct ClassedExtent {
     pub extent: Extent,
     pub class: Class,
 }
 
 // A place of a line, and the column that it is at.
-#[derive(Drop)]
+#[derive(Clone, Copy)]
 struct Spot {
     at: usize,
     column: usize,

@@ -1,4 +1,6 @@
 // Lists worked off from the front, leading runs and tables: definitions and laws that the crates above share; and what their functions share.
+#![tactic(auto)]
+
 ghost use Rattle.std.specs.Prelude.{◌≡◌, ◌^◌, ◌<◌, min};
 
 // How much of a text fits; and where a part of the output begins: at the written end or, where that lies past the output, at the output's

@@ -1,5 +1,7 @@
 // Marks on places, kept as the bits of 32-bit words: 131,072 places take 16 KiB. Numbers that are noted one after another are the gaps
 // between marks.
+#![tactic(auto)]
+
 ghost use Rattle.std.specs.Prelude.{◌≡◌, true, false, suc, ◌*◌, ◌^◌, ◌≤◌, length, get_or, set, drop, replicate};
 ghost use Rattle.std.specs.Int.Count.{count_trailing_zeros};
 ghost use Rattle.marks.specs.Cited.Marks.{marks_in, to_mark};

@@ -1,4 +1,6 @@
 // The option block: from any bytes to the accepted options, or the place of the first fault.
+#![tactic(auto)]
+
 ghost use Rattle.std.specs.Prelude.{◌≡◌, cond, not, ◌&&◌, ◌+◌, ◌-◌, ◌/◌, ◌%◌, ◌^◌, ◌≤◌, ◌<◌, min, max, eqb, length, get_or, drop};
 ghost use Rattle.text.specs.declared.Found.TheVariants.{Nowhere};
 ghost use Rattle.options.specs.OptionBlock.{number, fields, allowed, well_formed, number_at, width_from, goal_from, least_width, fits, bit, options_of, judged, read_block};
@@ -46,14 +48,14 @@ const CHARACTERS: usize = 1024;
 const ALL_FLAGS: usize = 2047;
 
 // A part of the block, from start up to end, or none.
-#[derive(Drop)]
+#[derive(Clone, Copy)]
 pub enum Part {
     Absent,
     Given { start: usize, end: usize },
 }
 
 // The options as accepted: flags after the clearing rules, width and goal settled, tab at least 1, the prefixes as parts of the block.
-#[derive(Drop)]
+#[derive(Clone, Copy)]
 pub struct Options {
     pub crown: bool,
     pub tagged: bool,
@@ -73,7 +75,7 @@ pub struct Options {
     pub skip: Part,
 }
 
-#[derive(Drop)]
+#[derive(Clone, Copy)]
 pub enum Block {
     Accepted(Options),
     Fault(usize),

@@ -1,5 +1,7 @@
 // Output: writers of words, spaces and indents. Each is handed the output from its written end onwards, writes what fits at the front
 // of it, and answers how many bytes there were to write.
+#![tactic(auto)]
+
 ghost use Rattle.std.specs.Prelude.{◌≡◌, true, false, cond, ◌++◌, ◌+◌, ◌-◌, ◌≤◌, ◌<◌, ◌^◌, length, replicate};
 ghost use Rattle.std.proofs.Math.Seq.{slice};
 ghost use Rattle.records.specs.Word.{meaning};
@@ -14,7 +16,7 @@ use pieces::Margin;
 use records::Word;
 
 // How a paragraph is laid out: uniform spacing, and its two indents.
-#[derive(Drop)]
+#[derive(Clone, Copy)]
 pub struct Layout {
     pub uniform: bool,
     pub first: Margin,
@@ -22,7 +24,7 @@ pub struct Layout {
 }
 
 // Four bytes that move as one: all are read before the first is stored.
-#[derive(Drop)]
+#[derive(Clone, Copy)]
 struct Four {
     b0: u8,
     b1: u8,
@@ -91,7 +93,7 @@ fn copy_short(text: &[u8], rest: &mut [u8])
 }
 
 // Sixteen bytes, likewise.
-#[derive(Drop)]
+#[derive(Clone, Copy)]
 struct Sixteen {
     a: Four,
     b: Four,
@@ -293,7 +295,7 @@ pub fn put_first(notes: &[u8], from: usize, to: usize, first: Margin, rest: &mut
 
 // Words that are in the notes just as they are to be written, so that they are written as one piece: the number of the word after
 // them, where they end in the notes, and the mark of the last of them.
-#[derive(Drop)]
+#[derive(Clone, Copy)]
 struct Run {
     next: usize,
     end: usize,

@@ -1,4 +1,6 @@
 // The wall panel: the last 24 lines of a digest as 24 rows of 80 cells.
+#![tactic(auto)]
+
 ghost use Rattle.std.specs.Prelude.{◌≡◌, ◌+◌, ◌-◌, ◌≤◌, ◌<◌, min, length, drop, replicate};
 ghost use Rattle.lists.specs.Runs.{joined};
 ghost use Rattle.lines.specs.Lines.{lines_of};
@@ -10,14 +12,14 @@ ghost use Rattle.panel.specs.Cited.Places.{seen_at, row_at, step_of, Newest};
 use text::Char;
 
 // What the call answers: the panel is drawn, or the tab width is refused.
-#[derive(Drop)]
+#[derive(Clone, Copy)]
 pub enum Answer {
     Done,
     Options,
 }
 
 // What a character asks of its row: a tab, nothing, a cell, or its cell and a filler cell.
-#[derive(Drop)]
+#[derive(Clone, Copy)]
 pub enum Sign {
     Tab,
     Dropped,
@@ -26,21 +28,21 @@ pub enum Sign {
 }
 
 // A sign of a line, and the place after it.
-#[derive(Drop)]
+#[derive(Clone, Copy)]
 struct Seen {
     sign: Sign,
     next: usize,
 }
 
 // Where drawing a row goes on: at a column, or no more, since the line runs past the last.
-#[derive(Drop)]
+#[derive(Clone, Copy)]
 enum Step {
     At(usize),
     Over,
 }
 
 // The end of a text: where it begins, and how many lines it has.
-#[derive(Drop)]
+#[derive(Clone, Copy)]
 struct Tail {
     at: usize,
     count: usize,

@@ -1,4 +1,6 @@
 // A paragraph's work: split into words, broken into lines, written.
+#![tactic(auto)]
+
 ghost use Rattle.std.specs.Prelude.{◌≡◌, cond, ◌&&◌, ◌||◌, leb, List, ℕ, ◌+◌, ◌-◌, ◌*◌, ◌/◌, ◌^◌, ◌≤◌, ◌<◌, length};
 ghost use Rattle.lines.specs.Cited.Places.{most_large};
 ghost use Rattle.knuth_plass.specs.Cited.Round.{Limits, AllNarrow};
@@ -11,7 +13,7 @@ use spacing::Setting;
 use words::Count;
 
 // Where the work stands: the place in the notes, the length of the digest up to there, and next_mail.
-#[derive(Drop)]
+#[derive(Clone, Copy)]
 pub struct Cursor {
     pub at: usize,
     pub written: usize,
@@ -19,7 +21,7 @@ pub struct Cursor {
 }
 
 // What came of a paragraph: the work goes on after it, or there is no room for its words.
-#[derive(Drop)]
+#[derive(Clone, Copy)]
 pub enum Step {
     On(Cursor),
     Over,

@@ -1,4 +1,6 @@
 // Pieces: blank lines, plain lines and paragraphs.
+#![tactic(auto)]
+
 ghost use Rattle.std.specs.Prelude.{◌≡◌, true, false, cond, ◌||◌, ◌+◌, ◌≤◌, ◌<◌, ◌^◌, length, drop};
 ghost use Rattle.lists.specs.Runs.{while};
 ghost use Rattle.options.specs.Opts.{meant};
@@ -12,7 +14,7 @@ use lines::{Class, Shape};
 use options::{Options, Part};
 
 // An indent: bytes of the notes from start up to end, then further spaces; and its columns.
-#[derive(Drop)]
+#[derive(Clone, Copy)]
 pub struct Margin {
     pub start: usize,
     pub end: usize,
@@ -22,7 +24,7 @@ pub struct Margin {
 
 // A paragraph: the place after it, whether it is mail, its first indent and its indent, and where the words of its first line and of
 // its other lines begin in their line.
-#[derive(Drop)]
+#[derive(Clone, Copy)]
 pub struct Paragraph {
     pub next: usize,
     pub mail: bool,
@@ -33,7 +35,7 @@ pub struct Paragraph {
 }
 
 // A piece of the notes, with the place after it; of a plain line also the end of its text.
-#[derive(Drop)]
+#[derive(Clone, Copy)]
 pub enum Piece {
     Blank { next: usize },
     Plain { end: usize, next: usize },
@@ -41,21 +43,21 @@ pub enum Piece {
 }
 
 // The rule by which further lines join a paragraph: those of mail continue it, others agree with a line before.
-#[derive(Drop)]
+#[derive(Clone, Copy)]
 pub enum Rule {
     Mail,
     Like(Shape),
 }
 
 // The second line of a crown or tagged paragraph: where the line after it begins, and its shape; or the first line stands alone.
-#[derive(Drop)]
+#[derive(Clone, Copy)]
 pub enum Second {
     Alone,
     Joins { next: usize, shape: Shape },
 }
 
 // A line by places, with its class.
-#[derive(Drop)]
+#[derive(Clone, Copy)]
 pub struct Classed {
     pub end: usize,
     pub next: usize,

@@ -37,7 +37,7 @@ module _ (g : Setting) where
   quick_length : (column : ℕ) (punct : Bool) (ws : List Word) → length (quick_from g column punct ws) ≡ length ws
   unfolding quick_from
   quick_length column punct [] = refl
-  quick_length column punct (w ∷ ws) = ap length (quick_cons column punct w ws) ∙ ap suc (quick_length _ w.ends_punct ws)
+  quick_length column punct (w ∷ ws) = ap length (quick_cons column punct w ws) ∙ ap suc (quick_length (cond (ltb g.width (reached column punct w)) (g.indent + w.width) (reached column punct w)) w.ends_punct ws)
 
 -- ---- the words of a table
 

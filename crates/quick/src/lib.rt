@@ -1,4 +1,6 @@
 // Quick: the greedy breaker.
+#![tactic(auto)]
+
 ghost use Rattle.std.specs.Prelude.{◌≡◌, cond, List, ℕ, ◌+◌, ◌-◌, ◌≤◌, ◌<◌, ◌^◌, get_or};
 ghost use Rattle.records.specs.Cited.Table.{Holds, words_in, Small};
 ghost use Rattle.records.specs.Cited.Marks.{MarkedBy};

@@ -1,10 +1,12 @@
 // Word records: a struct by value, kept in a table of numbers, seven for each record.
+#![tactic(auto)]
+
 ghost use Rattle.std.specs.Prelude.{◌≡◌, cond, ◌*◌, ◌<◌, ◌≤◌, ◌^◌};
 ghost use Rattle.records.specs.Cited.Table.{number_in, before_number, before_of, with_word, stored, Room, Small, Got};
 ghost use Rattle.records.specs.Cited.Marks.{mark_in, with_mark};
 
 // The count of blanks before a gap's first tab, which may be absent.
-#[derive(Drop)]
+#[derive(Clone, Copy)]
 pub enum Before {
     Absent,
     Count(usize),
@@ -12,7 +14,7 @@ pub enum Before {
 
 // A word of the notes: the blanks before it begin at from, its own bytes at start; width; the counts before and after the gap's first
 // tab; first of its line, ends in punctuation, starts a sentence.
-#[derive(Drop)]
+#[derive(Clone, Copy)]
 pub struct Word {
     pub from: usize,
     pub start: usize,

@@ -1,5 +1,7 @@
 // Quick, written as it is read. On a line of ASCII and letters of two bytes the columns are the bytes that begin a character, so that the
 // words that stay are those that end by one place, and the last space up to it is looked for; any other line goes word by word.
+#![tactic(auto)]
+
 ghost use Rattle.std.specs.Prelude.{◌≡◌, true, false, ◌||◌, List, [], ◌++◌, ℕ, ◌+◌, ◌-◌, ◌≤◌, ◌<◌, ◌^◌, length, get_or, replicate};
 ghost use Rattle.std.proofs.Math.Seq.{slice};
 ghost use Rattle.options.specs.Opts.{meant};
@@ -24,14 +26,14 @@ use records::Word;
 use spacing::Setting;
 
 // A paragraph's work so far: the written end, and the column.
-#[derive(Drop)]
+#[derive(Clone, Copy)]
 struct State {
     written: usize,
     column: usize,
 }
 
 // The stretch of a line's words with its columns, and the line after it, if its bytes are regular or letters of two.
-#[derive(Drop)]
+#[derive(Clone, Copy)]
 struct Row {
     from: usize,
     end: usize,
@@ -41,21 +43,21 @@ struct Row {
 }
 
 // A place, and how many columns are left to take from it on.
-#[derive(Drop)]
+#[derive(Clone, Copy)]
 struct Over {
     at: usize,
     left: usize,
 }
 
 // Where regular bytes and letters of two end, and how many letters there are.
-#[derive(Drop)]
+#[derive(Clone, Copy)]
 struct Letters {
     end: usize,
     count: usize,
 }
 
 // Where a paragraph stands: the written end, the column, the mark of the last word, and whether its first word is still to come.
-#[derive(Drop)]
+#[derive(Clone, Copy)]
 struct Reached {
     written: usize,
     column: usize,
@@ -64,7 +66,7 @@ struct Reached {
 }
 
 // The same after words of which the last wait to be written: they are in the notes as they are to be.
-#[derive(Drop)]
+#[derive(Clone, Copy)]
 struct Waiting {
     from: usize,
     to: usize,
@@ -75,7 +77,7 @@ struct Waiting {
 }
 
 // The same after a line: where the next one is.
-#[derive(Drop)]
+#[derive(Clone, Copy)]
 struct Progress {
     at: usize,
     written: usize,
@@ -85,7 +87,7 @@ struct Progress {
 }
 
 // Where a line of output ends in the notes, and where the next word begins.
-#[derive(Drop)]
+#[derive(Clone, Copy)]
 struct Cut {
     end: usize,
     next: usize,

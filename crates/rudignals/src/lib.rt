@@ -1,4 +1,6 @@
 // The call: an option block and notes in, their digest or a refusal out. The work is in the crates below.
+#![tactic(auto)]
+
 pub mod checking;
 pub mod explaining;
 pub mod indexing;

@@ -1,4 +1,6 @@
 // Salvage: notes in ISO 8859-1 made readable, with a list of what was changed; and the way back.
+#![tactic(auto)]
+
 ghost use Rattle.std.specs.Prelude.{◌≡◌, true, [], ◌∷◌, map, ◌+◌, ◌-◌, ◌^◌, ◌≤◌, ◌<◌, min, length, drop};
 ghost use Rattle.std.proofs.lemmas.List.Edits.{sets};
 ghost use Rattle.lists.specs.Runs.{joined};
@@ -11,7 +13,7 @@ ghost use Rattle.salvage.specs.Cited.Steps.{Mends, number_of, number_back, Resto
 use text::Char;
 
 // What mending answers: the copy's length, or a refusal with what is told of it.
-#[derive(Drop)]
+#[derive(Clone, Copy)]
 pub enum Mended {
     Done(usize),
     Long,
@@ -20,7 +22,7 @@ pub enum Mended {
 }
 
 // What restoring answers: the notes' length, or a refusal with what is told of it.
-#[derive(Drop)]
+#[derive(Clone, Copy)]
 pub enum Restored {
     Done(usize),
     Long,

@@ -1,4 +1,6 @@
 // Spacing: the width of a gap at a column, and added space.
+#![tactic(auto)]
+
 ghost use Rattle.std.specs.Prelude.{◌≡◌, cond, ◌+◌, ◌≤◌, ◌<◌, ◌^◌};
 ghost use Rattle.lines.specs.Classes.{next_stop};
 ghost use Rattle.records.specs.Cited.Table.{before_number};
@@ -7,7 +9,7 @@ ghost use Rattle.spacing.specs.Cited.Bounds.{GapIs, AddedIs};
 use records::Before;
 
 // What a paragraph is broken with: width limit, goal, tab width, uniform spacing, and the columns of its first indent and its indent.
-#[derive(Drop)]
+#[derive(Clone, Copy)]
 pub struct Setting {
     pub width: usize,
     pub goal: usize,

@@ -1,4 +1,6 @@
 // Characters: what is at a place of a line. RFC 3629 decides which bytes are characters.
+#![tactic(auto)]
+
 ghost use Rattle.std.specs.Prelude.{◌≡◌, true, false, ◌&&◌, ◌+◌, ◌-◌, ◌*◌, ◌^◌, ◌≤◌, ◌<◌, length, get_or, drop};
 ghost use Rattle.text.specs.Rfc3629.{decode};
 ghost use Rattle.text.specs.Characters.{glyph, characters, ink_ahead, damage};
@@ -7,21 +9,21 @@ ghost use Rattle.text.specs.Cited.Eights.{as_number, eight_at};
 ghost use Rattle.text.specs.Cited.Joins.{joins, joins_at, EachJoins, Joined, JoinedFrom};
 
 // A place, or none.
-#[derive(Drop)]
+#[derive(Clone, Copy)]
 pub enum Found {
     At(usize),
     Nowhere,
 }
 
 // What reading a character at a place finds: its number and the place after it, or none.
-#[derive(Drop)]
+#[derive(Clone, Copy)]
 pub enum Char {
     Good { code: u32, next: usize },
     Damaged,
 }
 
 // What is at a place of a line, for all that formatting asks of it.
-#[derive(Drop)]
+#[derive(Clone, Copy)]
 pub enum Glyph {
     Ink { code: u32, next: usize },
     Blank { code: u32, next: usize },

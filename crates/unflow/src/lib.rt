@@ -1,4 +1,6 @@
 // Reading mail: lines of format=flowed (RFC 3676, DelSp=no) are joined to paragraphs, and each paragraph is written as one line.
+#![tactic(auto)]
+
 ghost use Rattle.std.specs.Prelude.{◌≡◌, ◌+◌, ◌*◌, ◌^◌, ◌≤◌, ◌<◌, length, drop, replicate};
 ghost use Rattle.output.specs.Cited.Sink.{Wrote};
 ghost use Rattle.unflow.specs.Flowed.{quote_depth, stuffing, content_of, is_dashes, is_separator, ends_in_space};
@@ -6,7 +8,7 @@ ghost use Rattle.unflow.specs.Unflow.{unflow as unflowOf, unflowed};
 ghost use Rattle.unflow.specs.Cited.Steps.{Reads, number_of, Parted, end_of, start_of, placed};
 
 // What reading answers: the length of what was read, or a refusal with what is told of it.
-#[derive(Drop)]
+#[derive(Clone, Copy)]
 pub enum Reading {
     Done(usize),
     Long,
@@ -14,7 +16,7 @@ pub enum Reading {
 }
 
 // A line of mail: its quote depth, the place where its content begins, whether it is soft, and whether it is a signature separator.
-#[derive(Drop)]
+#[derive(Clone, Copy)]
 struct Line {
     depth: usize,
     start: usize,

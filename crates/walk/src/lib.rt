@@ -1,4 +1,6 @@
 // The walk over the notes: their pieces, written one after the other as far as there is room, and counted.
+#![tactic(auto)]
+
 ghost use Rattle.std.specs.Prelude.{◌≡◌, true, false, cond, List, [], ℕ, ◌+◌, ◌-◌, ◌*◌, ◌≤◌, max, length, replicate};
 ghost use Rattle.std.proofs.Math.Seq.{slice};
 ghost use Rattle.text.specs.declared.Found.TheVariants.{Nowhere};
@@ -18,21 +20,21 @@ use paragraphs::{Cursor, Step};
 use pieces::{Paragraph, Piece};
 
 // What follows the lines after a place: a paragraph, where the cursor stands, or the end of the notes.
-#[derive(Drop)]
+#[derive(Clone, Copy)]
 enum Ahead {
     Text { c: Cursor, p: Paragraph },
     End(usize),
 }
 
 // How far the tables reach: to the end of the digest, of so many bytes, or to a paragraph of more words than they have room for.
-#[derive(Drop)]
+#[derive(Clone, Copy)]
 enum Course {
     End(usize),
     Short { c: Cursor, p: Paragraph },
 }
 
 // What came of the notes: the digest's length, or the place of the first paragraph that has too many words.
-#[derive(Drop)]
+#[derive(Clone, Copy)]
 pub enum Ended {
     All(usize),
     Stopped(usize),

@@ -1,4 +1,6 @@
 // Of a character: how many columns it takes, and whether it is white space. Both by Unicode 15.0.0.
+#![tactic(auto)]
+
 ghost use Rattle.std.specs.Prelude.{◌≡◌, ◌≤◌, ◌<◌};
 ghost use Rattle.widths.specs.Widths.{width_of};
 ghost use Rattle.widths.specs.WhiteSpace.{white_space};

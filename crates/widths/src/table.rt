@@ -7,7 +7,7 @@ ghost use Rattle.widths.specs.Cited.Forms.{beyond, behind};
 ghost use Rattle.widths.specs.Cited.Starts.{near_starts, next_starts, far_starts};
 
 // Characters of one width.
-#[derive(Drop)]
+#[derive(Clone, Copy)]
 pub struct Span {
     pub first: u32,
     pub last: u32,

@@ -1,4 +1,6 @@
 // Words: a paragraph's word records.
+#![tactic(auto)]
+
 ghost use Rattle.std.specs.Prelude.{◌≡◌, Bool, true, false, cond, not, ◌&&◌, ◌||◌, List, [], ◌++◌, ℕ, ◌+◌, ◌-◌, ◌*◌, ◌≤◌, ◌<◌, ltb, eqb, length, get_or, take, drop};
 ghost use Rattle.std.proofs.Math.Seq.{slice};
 ghost use Rattle.lists.specs.Runs.{while};
@@ -22,14 +24,14 @@ use records::{Before, Word};
 use text::{Char, Glyph};
 
 // How many words a paragraph has, or that there are more than so many.
-#[derive(Drop)]
+#[derive(Clone, Copy)]
 pub enum Count {
     Words(usize),
     TooMany,
 }
 
 // Blanks at a place: where they end, and the counts before and after their first tab.
-#[derive(Drop)]
+#[derive(Clone, Copy)]
 struct Blanks {
     end: usize,
     before: Before,
@@ -37,7 +39,7 @@ struct Blanks {
 }
 
 // Ink at a place: where it ends, its width, and whether it ends in punctuation.
-#[derive(Drop)]
+#[derive(Clone, Copy)]
 struct Ink {
     end: usize,
     width: usize,
@@ -46,7 +48,7 @@ struct Ink {
 
 // Words spaces apart: how many the table has with them, where they end, whether the first word of the line is still to come, and if not,
 // the mark of the last.
-#[derive(Drop)]
+#[derive(Clone, Copy)]
 struct Spaced {
     count: usize,
     at: usize,
@@ -56,7 +58,7 @@ struct Spaced {
 
 // Words of a line, as many as there is room for: how many the table has with them, where they end, whether the first word of the line is
 // still to come, and if not, the mark of the last; and whether there is one more.
-#[derive(Drop)]
+#[derive(Clone, Copy)]
 pub struct Taken {
     pub count: usize,
     pub at: usize,
@@ -66,7 +68,7 @@ pub struct Taken {
 }
 
 // The next word of a line, or the line's end.
-#[derive(Drop)]
+#[derive(Clone, Copy)]
 pub enum Next {
     One(Word),
     End,

@@ -1,0 +1,7 @@
+-- `records::store` meets its contract.
+use mathlib.Core.Path.{◌∙◌}
+use Rattle.records.proofs.Table.{stored_word}
+use Rattle.records.proofs.store.Goals as goal
+
+pub returns : goal.returns
+returns c = c.put.ensures ∙ stored_word _ _ _ _ _ c.number_of.ensures (cc)
