@@ -8,7 +8,7 @@ CRATES = ROOT / "crates"
 NAME = re.compile(r"[^\s(){}\[\],;:.λ⌜⌝=|\"]+")
 HEAD = re.compile(r"(?:unfoldable |abbrev |opaque )?(pub )?(?:(?:record|data) (\S+)|([^\s:(){}]+) :(?= |$))")
 USE = re.compile(r"^\s*(?:ghost )?use (\S+?)(?:\.\{(.*)\}| as (\w+));?$")
-MODULE = re.compile(r"^Rattle·(\w+)(?:·specs|·proofs)?\.(specs|proofs)\.(.+)$")
+MODULE = re.compile(r"^Rattle\.(\w+)\.(specs|proofs)\.(.+)$")
 
 
 class File:
@@ -67,8 +67,8 @@ class File:
 
 
 def spelled(name):
-    """what stands in a line for a name: of `_∈_` the sign"""
-    return [part for part in name.split("_") if part] if name.startswith("_") or name.endswith("_") else [name]
+    """what stands in a line for a name: of `◌∈◌` the sign"""
+    return [part for part in name.split("◌") if part] if "◌" in name else [name]
 
 
 def module_of(path):
