@@ -60,7 +60,9 @@ class File:
         for item in filter(str.strip, (use.group(2) or "").split(",")):
             there, _, here = item.strip().partition(" as ")
             self.imported.append(here or there)
-            self.origins[here or there] = (module or use.group(1), there)
+            # the kit passes a name on by several modules
+            own = where and (CRATES / where.group(1)).is_dir()
+            self.origins[here or there] = (module if own else "", there)
             if where:
                 self.names[here or there] = (module, there)
         return True
