@@ -181,5 +181,5 @@ module _ (l : Limits) (block notes : List ℕ) where
   pub refused_answer : (r : Refusal) (space records : ℕ) (out table : List ℕ) → Admits l block notes (Barred r) → Indexes (indexing l block notes space records) out (Refused r) out table
   unfolding indexing finding index_output_after read_from
   refused_answer r space records out table s =
-      subst (λ (f : Finding). Indexes (in_index l.words space records (index_under block notes (read_block block)) f) out (Refused r) out table) (sym s.whole-is)
+      subst (λ (f : Finding). Indexes (in_index l.words space records (index_under block notes (read_block block)) f) out (Refused r) out table) (sym s.whole_is)
       (record { is = refl; output = sym (s.untouched out); read = refl })

@@ -131,4 +131,4 @@ module _ (l : Limits) (block notes : List ℕ) where
 
   pub refused_answer : (digest : List ℕ) {r : Refusal} → Admits l block notes (Barred r) → Refused r ≡ checking l block notes digest
   unfolding checking finding
-  refused_answer digest s = ap (after_notes (digest_within l.bytes (length digest) (verdict_under block notes digest (read_block block)))) (sym s.whole-is)
+  refused_answer digest s = ap (after_notes (digest_within l.bytes (length digest) (verdict_under block notes digest (read_block block)))) (sym s.whole_is)

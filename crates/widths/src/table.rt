@@ -1,4 +1,4 @@
-// Written by tools/widths: the ranges of specs/Table.antt and the lists of specs/Contracts/Starts.antt. A match on 0, 1, .. is compiled to
+// Written by tools/widths: the ranges of specs/Table.antt and the lists of specs/Cited/Starts.antt. A match on 0, 1, .. is compiled to
 // tables of constants; a const array would be built anew on the stack.
 ghost use Rattle.std.specs.Prelude.{◌≡◌, get_or};
 ghost use Rattle.widths.specs.Ranges.{span};

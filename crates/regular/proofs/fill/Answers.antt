@@ -1,0 +1,65 @@
+-- `regular::fill` meets its contract. Invariant: what is left of the output is that of the words from p on, on a fresh line, and of those that follow; left are their columns.
+use mathlib.Core.Path.{◌≡◌, refl, ◌∙◌}
+use mathlib.Core.Logic.{inl, inr}
+use Prim.Native.Nat.{◌+◌, ◌-◌, ◌≤◌}
+use native.Mathlib.Omega.{arith}
+use Rattle.output.proofs.Sink.{wrote_length}
+use Rattle.regular.specs.Cited.Places.{CutAt, columns_in}
+use Rattle.regular.proofs.Columns.{columns_some, columns_size, columns_join}
+use Rattle.regular.proofs.Filling.{along_first, along_turn, along_done}
+use Rattle.regular.proofs.fill.Goals as goal
+
+pub loop-column-init : goal.loop-column-init
+loop-column-init c = let pre = c.requires in (omega arith, omega arith, omega arith, refl, along_first _ _ _ _ _ _ _ _ _ pre.0 pre.2, pre.1)
+
+pub overflow_add-column : goal.overflow_add-column
+overflow_add-column c =
+    let few : c.loop-column.left ≤ c.args.e - c.loop-column.p = omega (arith, c.loop-column.invariant.5, columns_size c.args.s.now c.loop-column.p c.args.e c.loop-column.invariant.4.inked.within) in
+    let l = c.loop-column in let pre = c.requires in omega (arith, few, l.invariant.4.inked.within, pre.4, pre.6, pre.7, l.invariant.2)
+
+pub place_of-at-requires : goal.place_of-at-requires
+place_of-at-requires c =
+    let l = c.loop-column in
+    let inked = l.invariant.4.inked in (
+      omega (arith, inked.on),
+      inked.within,
+      l.invariant.5,
+      omega (arith, c.room_of-room.ensures, c.loop-column-test.true, l.invariant.5, columns_some c.args.s.now l.p c.args.e c.args.e inked.on (omega arith) inked.within inked.letters),
+    )
+
+pub overflow_add-result : goal.overflow_add-result
+overflow_add-result c =
+    let few : c.loop-column.left ≤ c.args.e - c.loop-column.p = omega (arith, c.loop-column.invariant.5, columns_size c.args.s.now c.loop-column.p c.args.e c.loop-column.invariant.4.inked.within) in
+    let l = c.loop-column in let pre = c.requires in omega (arith, few, l.invariant.4.inked.within, pre.4, pre.6, pre.7, l.invariant.2)
+
+pub returns-then-cut-e : goal.returns-then-cut-e
+returns-then-cut-e c =
+    let l = c.loop-column in
+    let sum : l.column + l.left ≡ l.column + columns_in c.args.s.now l.p c.args.e = rw l.invariant.5 in
+    along_done _ _ _ _ _ _ _ _ _ _ _ _ _ _ l.invariant.4 (inr (c.cut_line-cut.ensures.lone (omega (arith, c.if-cut-e.true)))) l.invariant.0 l.invariant.1 l.invariant.2 c.requires.4 _ _ c.put_at.ensures sum
+
+pub overflow_sub-left : goal.overflow_sub-left
+overflow_sub-left c =
+    let found : CutAt c.args.s.now c.loop-column.p c.args.e c.place_of-at.result c.cut_line-cut.result = c.cut_line-cut.ensures.cut (omega (arith, c.cut_line-cut.ensures.most, c.if-cut-e.false)) in
+    let rest : c.loop-column.left ≡ c.columns_before-left.result + columns_in c.args.s.now c.cut_line-cut.result.next c.args.e = omega (arith, c.loop-column.invariant.5, c.columns_before-left.ensures, columns_join c.args.s.now c.loop-column.p c.cut_line-cut.result.next c.args.e (omega (arith, found.on, found.gap)) (omega (arith, found.rest.on)) found.rest.within) in
+    omega (arith, rest)
+
+pub loop-column-preserved : goal.loop-column-preserved
+loop-column-preserved c =
+    let found : CutAt c.args.s.now c.loop-column.p c.args.e c.place_of-at.result c.cut_line-cut.result = c.cut_line-cut.ensures.cut (omega (arith, c.cut_line-cut.ensures.most, c.if-cut-e.false)) in
+    let rest : c.loop-column.left ≡ c.columns_before-left.result + columns_in c.args.s.now c.cut_line-cut.result.next c.args.e = omega (arith, c.loop-column.invariant.5, c.columns_before-left.ensures, columns_join c.args.s.now c.loop-column.p c.cut_line-cut.result.next c.args.e (omega (arith, found.on, found.gap)) (omega (arith, found.rest.on)) found.rest.within) in
+    let l = c.loop-column in
+    let put = c.put_line-k.ensures in (
+      omega (arith, l.invariant.0, found.on, found.gap),
+      omega (arith, l.invariant.0, l.invariant.1, put.1, found.on, found.gap),
+      omega arith,
+      wrote_length put.0 ∙ l.invariant.3,
+      along_turn _ _ _ _ _ _ _ _ _ _ _ _ _ _ l.invariant.4 _ _ _ c.room_of-room.ensures c.place_of-at.ensures found _ _ put.0,
+      omega (arith, rest),
+    )
+
+pub returns : goal.returns
+returns c =
+    let l = c.loop-column in
+    let sum : l.column + l.left ≡ l.column + columns_in c.args.s.now l.p c.args.e = rw l.invariant.5 in
+    along_done _ _ _ _ _ _ _ _ _ _ _ _ _ _ l.invariant.4 (inl (omega (arith, c.loop-column-test.false, l.invariant.5))) l.invariant.0 l.invariant.1 l.invariant.2 c.requires.4 _ _ c.put_at-2.ensures sum
