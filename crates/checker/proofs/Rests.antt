@@ -41,8 +41,8 @@ module _ (glue : Bool) (indent notes table : List ℕ) (n : ℕ) (digest : List 
 
   module _ (from : Spot) (i : ℕ) (p : Spot) (l : RestLeft from i p) where
     module _ (w : Record) (g : Got table i w) (h : i < n) (k : w.start ≤ w.end) {r : Matched} (a : Matches digest (match_next glue indent (take (w.end - w.start) (drop w.start notes)) (drop p.at digest) p.line) r) where
-      pub rest-fault : {line : ℕ} → r ≡ Fault line → Matches digest (rest_from 1 from) (Fault line)
-      rest-fault e = matches_same (sym (rest_next i p w g h k) ∙ l.is) (then_fault a (match_rest glue indent (drop (i + 1) (words_in notes n table))) e)
+      pub rest_fault : {line : ℕ} → r ≡ Fault line → Matches digest (rest_from 1 from) (Fault line)
+      rest_fault e = matches_same (sym (rest_next i p w g h k) ∙ l.is) (then_fault a (match_rest glue indent (drop (i + 1) (words_in notes n table))) e)
 
       pub rest_more : {q : Spot} → r ≡ On q → RestLeft from (i + 1) q
       rest_more {q} e = record {

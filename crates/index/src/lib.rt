@@ -1,6 +1,4 @@
-// The index of a digest: for each piece of the notes a record, and the part of the notes that an output line stands for. The borrow checker
-// covers no function over a slice of structs: `lookup` and `store_records`, which are lent the list, are proved by walks of their MIR, by
-// hand, and all that can work on a record by value is a covered function of its own.
+// The index of a digest: for each piece of the notes a record, and the part of the notes that an output line stands for.
 #![tactic(auto)]
 
 ghost use Rattle.std.specs.Prelude.{◌≡◌, cond, ◌++◌, ◌*◌, ◌^◌, ◌≤◌, leb, length, drop};

@@ -14,8 +14,8 @@ use Rattle.records.specs.Word.{Word}
 use Rattle.records.specs.declared.Before.TheVariants.{Absent}
 use Rattle.spacing.specs.Spacing.{added_space, gap_width}
 use Rattle.spacing.specs.declared.Setting.{Setting}
-use Rattle.demerits.specs.Demerits.{no_ratio, ratio}
-use Rattle.knuth_plass.specs.KnuthPlass.{Break, Place, Offer, none, offer, after, before_word, minimum_of, first_break, reached, staying, offer_of, lesser, best_offer, with_offer, least_from, least, restart, is_last, sentence_behind, path_of}
+use Rattle.demerits.specs.Demerits.{no_ratio}
+use Rattle.knuth_plass.specs.KnuthPlass.{Break, Place, Offer, none, offer, before_word, minimum_of, first_break, reached, staying, offer_of, lesser, best_offer, with_offer, least_from, least, restart, is_last, sentence_behind, path_of}
 use Rattle.knuth_plass.specs.Cited.Interval.{fresh_at, view, BaseIs, MadeBelow, Good, line_to, reach_of, pops, near, entry_after, entry_offer, best_entry, near_offer, entry_restart, entry_settled, interval_round, Some, Above, Rising, Ready, gap_behind}
 use Rattle.knuth_plass.proofs.Absolute.{plain_offer, plain_settled, plain_round, plain_from, path_plain}
 

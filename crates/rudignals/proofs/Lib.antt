@@ -8,7 +8,6 @@ pub mod Gaps
 pub mod Indexed
 pub mod PieceStarts
 pub mod Windows
-pub mod Lent
 mod Filling
 pub mod Mailed
 pub mod Numbers

@@ -1,8 +1,6 @@
-use mathlib.Core.Path.{◌≡◌, refl, ◌∙◌}
+use mathlib.Core.Path.{◌≡◌}
 use Prim.Native.Nat.{◌≤◌, ◌-◌}
-use native.Mathlib.Omega.{arith}
-use borrow.Author.Rules.{rules}
-use Rattle.endings.proofs.Spots.{spot_from, spot_here, spot_on, spot_last, spot_behind}
+use Rattle.endings.proofs.Spots.{spot_from}
 use Rattle.endings.proofs.find_line.Given as goal
 
 abbrev pub invariant-loop-i : goal.invariant-loop-i

@@ -1,6 +1,5 @@
 -- `endings::put` meets its contract.
 use Rattle.endings.specs.Endings.{numbers_of}
-use borrow.Author.Rules.{rules}
 use Rattle.endings.proofs.put.Goals as goal
 
 pub returns-in-Paragraph : goal.returns-in-Paragraph

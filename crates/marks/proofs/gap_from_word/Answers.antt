@@ -8,9 +8,8 @@ use Rattle.marks.proofs.gap_from_word.Goals as goal
 pub returns-then-word-ne0 : goal.returns-then-word-ne0
 returns-then-word-ne0 c =
     let i = c.loop-i.i in
-    let start = c in
-    ap (λ (m : ℕ). 32 * (i - start.args.k) + m) c.first.ensures
-    ∙ reached-mark start.args.table.now start.args.k i c.loop-i.invariant.1 c.loop-i-test.true c.if-word-ne0.true (c.shared_slice_known-in-loop-i-1.given i).fits
+    ap (λ (m : ℕ). 32 * (i - c.args.k) + m) c.first.ensures
+    ∙ reached-mark c.args.table.now c.args.k i c.loop-i.invariant.1 c.loop-i-test.true c.if-word-ne0.true (c.shared_slice_known-in-loop-i-1.given i).fits
 
 pub loop-i-preserved : goal.loop-i-preserved
 loop-i-preserved c = (omega (arith, c.loop-i.invariant.0), reached-more c.args.table.now c.args.k c.loop-i.i c.loop-i.invariant.1 c.loop-i-test.true c.loop-i.invariant.0 c.if-word-ne0.false)

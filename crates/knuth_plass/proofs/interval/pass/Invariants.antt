@@ -1,0 +1,14 @@
+use mathlib.Core.Path.{◌≡◌}
+use Prim.Native.Nat.{◌-◌, ◌≤◌}
+use Rattle.knuth_plass.specs.Cited.Table.{table_in}
+use Rattle.knuth_plass.specs.Cited.Interval.{pops, span}
+use Rattle.knuth_plass.proofs.interval.pass.Given as goal
+
+abbrev pub invariant-loop-k : goal.invariant-loop-k
+invariant-loop-k l =
+    (l.head ≤ l.k)
+    × (l.k ≤ l.size)
+    × (pops l.g l.x (span (table_in l.breaks) l.head (l.size - l.head)) ≡ pops l.g l.x (span (table_in l.breaks) l.k (l.size - l.k)))
+
+abbrev pub decreases-loop-k : goal.decreases-loop-k
+decreases-loop-k l = l.size - l.k

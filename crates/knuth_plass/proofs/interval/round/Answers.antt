@@ -1,0 +1,113 @@
+-- `knuth_plass::interval::round` meets its contract. One law for each way through it: begin again, the last word, none is offered, one break more.
+use mathlib.Core.Path.{refl, ap, ◌∙◌}
+use native.Mathlib.Omega.{arith}
+use Rattle.knuth_plass.specs.Cited.Table.{table_in}
+use Rattle.knuth_plass.proofs.Table.{has_room, table_record}
+use Rattle.knuth_plass.proofs.Span.{columns_at}
+use Rattle.knuth_plass.proofs.Rounding.{room, again-fits, round-again, inside, round_last, round_short, stays, has-offer, made-fits, round-made}
+use Rattle.knuth_plass.proofs.interval.round.Goals as goal
+
+pub store_break-requires : goal.store_break-requires
+store_break-requires c =
+    let a = c.args in
+    let p = c.requires in
+    let added = c.added_space-space.ensures in
+    let passed = c.pass-head.ensures in
+    let begins = rw c.turn_of-turn.ensures.0 at c.again-b.ensures in
+    (has_room a.breaks.now a.s.size (room a.g a.last a.sentence a.i a.gap a.word a.s (table_in a.breaks.now) p.1 p.2 p.3 p.4 _ added.most added.is _ refl _ passed), again-fits a.g a.last a.sentence a.i a.gap a.word a.s (table_in a.breaks.now) p.1 p.2 p.3 p.4 _ added.most added.is _ refl _ passed c.if-head-size.true _ _ begins)
+
+pub returns-then-head-size : goal.returns-then-head-size
+returns-then-head-size c =
+    let a = c.args in
+    let p = c.requires in
+    let added = c.added_space-space.ensures in
+    let passed = c.pass-head.ensures in
+    let begins = rw c.turn_of-turn.ensures.0 at c.again-b.ensures in
+    let stored = ap table_in c.store_break.ensures ∙ table_record a.breaks.now a.s.size _ (room a.g a.last a.sentence a.i a.gap a.word a.s (table_in a.breaks.now) p.1 p.2 p.3 p.4 _ added.most added.is _ refl _ passed) in
+    round-again a.g a.last a.sentence a.i a.gap a.word a.s (table_in a.breaks.now) p.1 p.2 p.3 p.4 _ added.most added.is _ refl _ passed c.if-head-size.true _ _ begins _ stored
+
+pub returns-then-last : goal.returns-then-last
+returns-then-last c =
+    let a = c.args in
+    let p = c.requires in
+    let added = c.added_space-space.ensures in
+    let passed = c.pass-head.ensures in
+    round_last a.g a.last a.sentence a.i a.gap a.word a.s (table_in a.breaks.now) p.1 p.2 p.3 p.4 _ added.most added.is _ refl _ passed c.if-head-size.false c.if-last.true
+
+pub number-requires : goal.number-requires
+number-requires c =
+    let a = c.args in
+    let p = c.requires in
+    let added = c.added_space-space.ensures in
+    let passed = c.pass-head.ensures in
+    let room = room a.g a.last a.sentence a.i a.gap a.word a.s (table_in a.breaks.now) p.1 p.2 p.3 p.4 _ added.most added.is _ refl _ passed in
+    let stay = inside a.g a.last a.sentence a.i a.gap a.word a.s (table_in a.breaks.now) p.1 p.2 p.3 p.4 _ added.most added.is _ refl _ passed c.if-head-size.false in
+    (has_room a.breaks.now c.pass-head.result (omega arith), omega arith)
+
+pub returns-then-line-g : goal.returns-then-line-g
+returns-then-line-g c =
+    let a = c.args in
+    let p = c.requires in
+    let added = c.added_space-space.ensures in
+    let passed = c.pass-head.ensures in
+    let room = room a.g a.last a.sentence a.i a.gap a.word a.s (table_in a.breaks.now) p.1 p.2 p.3 p.4 _ added.most added.is _ refl _ passed in
+    let stay = inside a.g a.last a.sentence a.i a.gap a.word a.s (table_in a.breaks.now) p.1 p.2 p.3 p.4 _ added.most added.is _ refl _ passed c.if-head-size.false in
+    let e = columns_at a.breaks.now c.pass-head.result (omega arith) in
+    let n = c.number.ensures.0 in
+    let h = c.if-line-g.true in
+    round_short a.g a.last a.sentence a.i a.gap a.word a.s (table_in a.breaks.now) p.1 p.2 p.3 p.4 _ added.most added.is _ refl _ passed c.if-head-size.false c.if-last.false (omega arith)
+
+pub best_offer-best-requires : goal.best_offer-best-requires
+best_offer-best-requires c =
+    let a = c.args in
+    let p = c.requires in
+    let added = c.added_space-space.ensures in
+    let passed = c.pass-head.ensures in
+    let turn = c.turn_of-turn-2.ensures in
+    rw turn.0 (stays a.g a.last a.sentence a.i a.gap a.word a.s (table_in a.breaks.now) p.1 p.2 p.3 p.4 _ added.most added.is _ refl _ passed c.if-head-size.false p.0 c.if-last.false _ (rw turn.0 at turn.1))
+
+pub made-b-requires : goal.made-b-requires
+made-b-requires c =
+    let a = c.args in
+    let p = c.requires in
+    let added = c.added_space-space.ensures in
+    let passed = c.pass-head.ensures in
+    let turn = c.turn_of-turn-2.ensures in
+    let offered = rw turn.0 at c.best_offer-best.ensures in
+    let room = room a.g a.last a.sentence a.i a.gap a.word a.s (table_in a.breaks.now) p.1 p.2 p.3 p.4 _ added.most added.is _ refl _ passed in
+    let stay = inside a.g a.last a.sentence a.i a.gap a.word a.s (table_in a.breaks.now) p.1 p.2 p.3 p.4 _ added.most added.is _ refl _ passed c.if-head-size.false in
+    let e = columns_at a.breaks.now c.pass-head.result (omega arith) in
+    let n = c.number.ensures.0 in
+    let h = c.if-line-g.false in
+    (offered.fits (has-offer a.g a.last a.sentence a.i a.gap a.word a.s (table_in a.breaks.now) p.1 p.2 p.3 p.4 _ added.most added.is _ refl _ passed c.if-head-size.false p.0 c.if-last.false _ (rw turn.0 at turn.1) (omega arith) _ offered)).ratio
+
+pub store_break-requires-2 : goal.store_break-requires-2
+store_break-requires-2 c =
+    let a = c.args in
+    let p = c.requires in
+    let added = c.added_space-space.ensures in
+    let passed = c.pass-head.ensures in
+    let turn = c.turn_of-turn-2.ensures in
+    let offered = rw turn.0 at c.best_offer-best.ensures in
+    let room = room a.g a.last a.sentence a.i a.gap a.word a.s (table_in a.breaks.now) p.1 p.2 p.3 p.4 _ added.most added.is _ refl _ passed in
+    let stay = inside a.g a.last a.sentence a.i a.gap a.word a.s (table_in a.breaks.now) p.1 p.2 p.3 p.4 _ added.most added.is _ refl _ passed c.if-head-size.false in
+    let e = columns_at a.breaks.now c.pass-head.result (omega arith) in
+    let n = c.number.ensures.0 in
+    let h = c.if-line-g.false in
+    (has_room a.breaks.now a.s.size room, made-fits a.g a.last a.sentence a.i a.gap a.word a.s (table_in a.breaks.now) p.1 p.2 p.3 p.4 _ added.most added.is _ refl _ passed c.if-head-size.false p.0 c.if-last.false _ (rw turn.0 at turn.1) (omega arith) _ offered _ c.made-b.ensures)
+
+pub returns : goal.returns
+returns c =
+    let a = c.args in
+    let p = c.requires in
+    let added = c.added_space-space.ensures in
+    let passed = c.pass-head.ensures in
+    let turn = c.turn_of-turn-2.ensures in
+    let offered = rw turn.0 at c.best_offer-best.ensures in
+    let room = room a.g a.last a.sentence a.i a.gap a.word a.s (table_in a.breaks.now) p.1 p.2 p.3 p.4 _ added.most added.is _ refl _ passed in
+    let stay = inside a.g a.last a.sentence a.i a.gap a.word a.s (table_in a.breaks.now) p.1 p.2 p.3 p.4 _ added.most added.is _ refl _ passed c.if-head-size.false in
+    let e = columns_at a.breaks.now c.pass-head.result (omega arith) in
+    let n = c.number.ensures.0 in
+    let h = c.if-line-g.false in
+    let stored = ap table_in c.store_break-2.ensures ∙ table_record a.breaks.now a.s.size _ room in
+    round-made a.g a.last a.sentence a.i a.gap a.word a.s (table_in a.breaks.now) p.1 p.2 p.3 p.4 _ added.most added.is _ refl _ passed c.if-head-size.false p.0 c.if-last.false _ (rw turn.0 at turn.1) (omega arith) _ offered _ c.made-b.ensures _ stored

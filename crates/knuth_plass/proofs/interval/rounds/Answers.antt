@@ -1,0 +1,161 @@
+-- `knuth_plass::interval::rounds` meets its contract. Invariant: the rounds still to do come to what all rounds come to from the start.
+use mathlib.Core.Path.{refl, sym, ap, ◌∙◌}
+use Prim.Native.Nat.{◌≤◌, ◌<◌}
+use native.Mathlib.Omega.{arith}
+use lib.Ieee.{of_bits}
+use Rattle.knuth_plass.specs.Cited.Table.{records_part, table_in}
+use Rattle.knuth_plass.proofs.Table.{table_record}
+use Rattle.knuth_plass.proofs.Work.{part_room, part_sized, part_home, worked_home, worked_none, worked_then, worked_lent, worked_word}
+use Rattle.knuth_plass.proofs.Intervals.{between, along-start, along_next, line_room_law, gap_same, regular_then, intervals_are, intervals_then}
+use Rattle.knuth_plass.proofs.Skipping.{mark_here, mark_behind, along_second, sentence_same, behind_skipped}
+use Rattle.knuth_plass.proofs.interval.rounds.Goals as goal
+
+pub loop-i-init : goal.loop-i-init
+unfolding of_bits
+loop-i-init c =
+    let a = c.args in
+    let p = c.requires in
+    let worked = worked_home a.n a.work.now p.2 c.store_break.new.breaks _ c.work-1.given.0 refl in
+    let home = part_home a.n a.work.now p.2 c.store_break.new.breaks _ c.work-1.given.0 refl in
+    let some = p.1 in
+    let room = part_room a.n a.work.now p.2 in
+    let stored = ap table_in (home ∙ c.store_break.ensures) ∙ table_record (records_part a.n a.work.now) 0 _ (rw room (omega arith)) in (
+      omega arith,
+      p.1,
+      worked_lent a.n a.work.now _ worked p.2,
+      worked_none a.n _,
+      along_second a.g a.n _ _ _
+          (along-start a.g a.n _ p.0 (regular_then a.n a.work.now _ worked a.g p.4) p.1 0 refl (table_in (records_part a.n a.work.now)) (part_sized a.n a.work.now p.2) (rw room (omega arith)) _ _
+          (c.get-w.ensures.is ∙ sym (worked_word a.n a.work.now _ worked 0 p.1)) stored),
+    )
+
+pub least_end-low-requires : goal.least_end-low-requires
+least_end-low-requires c =
+    let l = c.loop-i in
+    let v = l.invariant in
+    let some = v.4.some in
+    let few = v.4.few in
+    let t = c.loop-i-test.true in
+    (c.requires.0, rw (part_room c.args.n l.work v.2) (omega arith))
+
+pub get-word-requires : goal.get-word-requires
+get-word-requires c =
+    let here : (c.loop-i.i ≤ c.skip-over.result.word) × (c.skip-over.result.word < c.args.n) =
+    let a = c.args in
+    let l = c.loop-i in
+    let v = l.invariant in
+    let behind = behind_skipped a.g a.n _ c.requires.0 l.s.head l.s.size (table_in (records_part a.n l.work)) l.work v.3 l.i l.s.line v.0 c.loop-i-test.true v.4 _ c.least_end-low.ensures.0 _ c.skip-over.ensures in
+    (behind.from, behind.to) in
+    let r = c.loop-i.invariant.2.room in let k = here.1 in omega arith
+
+pub gap_behind-gap-requires : goal.gap_behind-gap-requires
+gap_behind-gap-requires c =
+    let here : (c.loop-i.i ≤ c.skip-over.result.word) × (c.skip-over.result.word < c.args.n) =
+    let a = c.args in
+    let l = c.loop-i in
+    let v = l.invariant in
+    let behind = behind_skipped a.g a.n _ c.requires.0 l.s.head l.s.size (table_in (records_part a.n l.work)) l.work v.3 l.i l.s.line v.0 c.loop-i-test.true v.4 _ c.least_end-low.ensures.0 _ c.skip-over.ensures in
+    (behind.from, behind.to) in
+    let lent = c.loop-i.invariant.2 in
+    let r = lent.room in
+    (here.1, omega arith, lent.few)
+
+pub sentence_at-sentence-requires : goal.sentence_at-sentence-requires
+sentence_at-sentence-requires c =
+    let here : (c.loop-i.i ≤ c.skip-over.result.word) × (c.skip-over.result.word < c.args.n) =
+    let a = c.args in
+    let l = c.loop-i in
+    let v = l.invariant in
+    let behind = behind_skipped a.g a.n _ c.requires.0 l.s.head l.s.size (table_in (records_part a.n l.work)) l.work v.3 l.i l.s.line v.0 c.loop-i-test.true v.4 _ c.least_end-low.ensures.0 _ c.skip-over.ensures in
+    (behind.from, behind.to) in
+    let r = c.loop-i.invariant.2.room in let k = here.1 in omega arith
+
+pub overflow_add-k : goal.overflow_add-k
+overflow_add-k c =
+    let here : (c.loop-i.i ≤ c.skip-over.result.word) × (c.skip-over.result.word < c.args.n) =
+    let a = c.args in
+    let l = c.loop-i in
+    let v = l.invariant in
+    let behind = behind_skipped a.g a.n _ c.requires.0 l.s.head l.s.size (table_in (records_part a.n l.work)) l.work v.3 l.i l.s.line v.0 c.loop-i-test.true v.4 _ c.least_end-low.ensures.0 _ c.skip-over.ensures in
+    (behind.from, behind.to) in
+    let f = c.loop-i.invariant.2.few in let k = here.1 in omega arith
+
+pub round-s-requires : goal.round-s-requires
+round-s-requires c =
+    let a = c.args in
+    let p = c.requires in
+    let l = c.loop-i in
+    let v = l.invariant in
+    let k = c.skip-over.result.word in
+    let first = worked_home a.n a.work.now p.2 c.store_break.new.breaks _ c.work-1.given.0 refl in
+    let regular = regular_then a.n a.work.now _ first a.g p.4 in
+    let behind = behind_skipped a.g a.n _ p.0 l.s.head l.s.size (table_in (records_part a.n l.work)) l.work v.3 l.i l.s.line v.0 c.loop-i-test.true v.4 _ c.least_end-low.ensures.0 _ c.skip-over.ensures in
+    let t = behind.to in
+    let got = c.get-word.ensures in
+    let word = got.is ∙ worked_word a.n _ l.work v.3 k t in
+    let gap = c.gap_behind-gap.ensures ∙ gap_same a.n _ l.work v.3 k in (
+      p.0,
+      record {
+        small = got.small;
+        narrow = rw (word, worked_word a.n a.work.now _ first k t) (p.3 _ t);
+        tabless = rw word (regular.line.tabless k t);
+      },
+      rw (part_room a.n l.work v.2) t,
+      rw word (between a.g a.n _ k _ _ (table_in (records_part a.n l.work)) behind.along t),
+      rw (word, gap) (line_room_law a.g.first a.n k _ _ regular.line t behind.along.short),
+    )
+
+pub overflow_add-i : goal.overflow_add-i
+overflow_add-i c =
+    let here : (c.loop-i.i ≤ c.skip-over.result.word) × (c.skip-over.result.word < c.args.n) =
+    let a = c.args in
+    let l = c.loop-i in
+    let v = l.invariant in
+    let behind = behind_skipped a.g a.n _ c.requires.0 l.s.head l.s.size (table_in (records_part a.n l.work)) l.work v.3 l.i l.s.line v.0 c.loop-i-test.true v.4 _ c.least_end-low.ensures.0 _ c.skip-over.ensures in
+    (behind.from, behind.to) in
+    let f = c.loop-i.invariant.2.few in let k = here.1 in omega arith
+
+pub loop-i-smaller : goal.loop-i-smaller
+loop-i-smaller c =
+    let here : (c.loop-i.i ≤ c.skip-over.result.word) × (c.skip-over.result.word < c.args.n) =
+    let a = c.args in
+    let l = c.loop-i in
+    let v = l.invariant in
+    let behind = behind_skipped a.g a.n _ c.requires.0 l.s.head l.s.size (table_in (records_part a.n l.work)) l.work v.3 l.i l.s.line v.0 c.loop-i-test.true v.4 _ c.least_end-low.ensures.0 _ c.skip-over.ensures in
+    (behind.from, behind.to) in
+    let k = here in let from = k.0 in let to = k.1 in omega arith
+
+pub loop-i-preserved : goal.loop-i-preserved
+loop-i-preserved c =
+    let a = c.args in
+    let l = c.loop-i in
+    let v = l.invariant in
+    let k = c.skip-over.result.word in
+    let some = v.0 in
+    let behind = behind_skipped a.g a.n _ c.requires.0 l.s.head l.s.size (table_in (records_part a.n l.work)) l.work v.3 l.i l.s.line some c.loop-i-test.true v.4 _ c.least_end-low.ensures.0 _ c.skip-over.ensures in
+    let from = behind.from in
+    let t = behind.to in
+    let next = worked_home a.n l.work v.2 c.round-s.new.breaks _ c.work-in-loop-i-1.given.0 refl in
+    let home = part_home a.n l.work v.2 c.round-s.new.breaks _ c.work-in-loop-i-1.given.0 refl in
+    let word = c.get-word.ensures.is ∙ worked_word a.n _ l.work v.3 k t in
+    let gap = c.gap_behind-gap.ensures ∙ gap_same a.n _ l.work v.3 k in
+    let mark = c.sentence_at-sentence.ensures ∙ sentence_same a.n _ l.work v.3 k t in (
+      omega arith,
+      omega arith,
+      worked_lent a.n l.work _ next v.2,
+      worked_then a.n _ l.work v.3 _ next,
+      along_next a.g a.n _ k _ _ (table_in (records_part a.n l.work)) behind.along t _ _ _
+          (rw (home, mark_here a.n _ k t, ← mark, ← word, ← gap) c.round-s.ensures)
+          (λ notes. mark_behind a.n _ k notes (omega arith)),
+    )
+
+pub returns : goal.returns
+returns c =
+    let a = c.args in
+    let p = c.requires in
+    let l = c.loop-i in
+    let v = l.invariant in
+    let first = worked_home a.n a.work.now p.2 c.store_break.new.breaks _ c.work-1.given.0 refl in
+    let room = part_room a.n l.work v.2 in
+    let are = intervals_are a.g a.n _ p.0 (regular_then a.n a.work.now _ first a.g p.4) p.1 l.i _ l.s (table_in (records_part a.n l.work)) v.1 c.loop-i-test.false (omega arith) v.4 in
+    (intervals_then a.n a.work.now _ first a.g _ _ are, worked_then a.n a.work.now _ first l.work v.3)

@@ -1,0 +1,28 @@
+-- `knuth_plass::interval::skip` meets its contract. Invariant: what is skipped from here is what is skipped from the start.
+use mathlib.Core.Path.{sym, ◌∙◌}
+use Rattle.knuth_plass.proofs.Skipping.{end_is, skips_last, skips_stop, skips_go, skips_none}
+use Rattle.knuth_plass.proofs.interval.skip.Goals as goal
+
+pub returns-then-low-p : goal.returns-then-low-p
+returns-then-low-p c = let a = c.args in sym (skips_none a.uniform a.low a.work.now a.n a.i a.p c.if-low-p.true)
+
+pub returns-then-low-end : goal.returns-then-low-end
+returns-then-low-end c =
+    let a = c.args in
+    let l = c.loop-k in
+    let e = end_is a.uniform a.work.now l.k l.line _ _ c.get-w.ensures.is c.space_at.ensures in
+    sym (l.invariant.2 ∙ skips_stop a.uniform a.low a.work.now a.n l.k l.line c.loop-k-test.true (rw (← e) c.if-low-end.true))
+
+pub loop-k-preserved : goal.loop-k-preserved
+loop-k-preserved c =
+    let a = c.args in
+    let l = c.loop-k in
+    let more = c.loop-k-test.true in
+    let e = end_is a.uniform a.work.now l.k l.line _ _ c.get-w.ensures.is c.space_at.ensures in
+    (more, c.if-low-end.false, rw e (l.invariant.2 ∙ skips_go a.uniform a.low a.work.now a.n l.k l.line more (rw (← e) c.if-low-end.false)))
+
+pub returns : goal.returns
+returns c =
+    let a = c.args in
+    let l = c.loop-k in
+    sym (l.invariant.2 ∙ skips_last a.uniform a.low a.work.now a.n l.k l.line c.loop-k-test.false)

@@ -1,0 +1,8 @@
+-- `knuth_plass::turns::better` meets its contract. A choice for each number.
+use Rattle.knuth_plass.proofs.Offers.{better_is}
+use Rattle.knuth_plass.proofs.turns.better.Goals as goal
+
+pub returns : goal.returns
+returns c =
+    let a = c.args in
+    better_is a.best a.previous a.total a.ratio _ _ _ c.either_total.ensures c.either.ensures c.either_ratio.ensures

@@ -1,0 +1,11 @@
+-- `paragraphs::room_for` meets its contract.
+use Rattle.paragraphs.specs.Cited.Steps.{room_for}
+use Rattle.paragraphs.proofs.room_for.Goals as goal
+
+pub returns-then-quick : goal.returns-then-quick
+unfolding room_for
+returns-then-quick c = rw c.if-quick.true
+
+pub returns : goal.returns
+unfolding room_for
+returns c = rw c.if-quick.false

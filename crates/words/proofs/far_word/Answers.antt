@@ -1,0 +1,13 @@
+-- `words::far_word` meets its contract: the spaces, the plain characters after them, and the record of both.
+use native.Mathlib.Omega.{arith}
+use Rattle.options.specs.Opts.{meant}
+use Rattle.words.proofs.far_word.Goals as goal
+
+pub returns : goal.returns
+unfolding meant
+returns c = record {
+  gap = c.spaces_before-b.result;
+  stop = c.plain_word_end-end.result;
+  plain = record { gap = c.spaces_before-b.ensures; word = c.plain_word_end-end.ensures (omega (arith, c.if-end-eq0.false)) };
+  is = rw c.plain_ink-w.ensures at c.word_of.ensures;
+}
