@@ -5,7 +5,7 @@
 #   make install      header, libraries, rudignals.pc, command, completion and manual pages, under PREFIX; DESTDIR is put before it
 #   make uninstall    takes the same files away again
 #   make deb          four Debian packages in target/deb: rudignals, librudignals1, librudignals-dev, python3-rudignals
-#   make clean        removes target/, the proofs too: the next make takes some minutes
+#   make clean        removes target/; the proofs stay, in crates/NAME/out, until `rm -rf crates/*/out`
 PREFIX ?= /usr/local
 DESTDIR ?=
 BINDIR ?= $(PREFIX)/bin

@@ -1,6 +1,6 @@
 /* A host to copy from: formats standard input to a width, or says why not.
  *
- *     make                     # the library for this machine, x86-64 or Arm
+ *     make                     # the library, for x86-64
  *     cc -std=c11 -I include -o host examples/host.c target/package/librudignals.a
  *     ./host 60 <examples/notes.txt
  */

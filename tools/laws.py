@@ -8,7 +8,7 @@ CRATES = ROOT / "crates"
 NAME = re.compile(r"[^\s(){}\[\],;:.λ⌜⌝=|\"]+")
 HEAD = re.compile(r"(?:unfoldable |abbrev |opaque )?(pub )?(?:(?:record|data) (\S+)|([^\s:(){}]+) :(?= |$))")
 USE = re.compile(r"^\s*(?:ghost )?use (\S+?)(?:\.\{(.*)\}| as (\w+));?$")
-MODULE = re.compile(r"^Rattle·(\w+)(?:·specs|·proofs)?\.(specs|proofs)\.(.+)$")
+MODULE = re.compile(r"^Rattle\.(\w+)\.(specs|proofs)\.(.+)$")
 
 
 class File:
@@ -60,15 +60,17 @@ class File:
         for item in filter(str.strip, (use.group(2) or "").split(",")):
             there, _, here = item.strip().partition(" as ")
             self.imported.append(here or there)
-            self.origins[here or there] = (module or use.group(1), there)
+            # the kit passes a name on by several modules
+            own = where and (CRATES / where.group(1)).is_dir()
+            self.origins[here or there] = (module if own else "", there)
             if where:
                 self.names[here or there] = (module, there)
         return True
 
 
 def spelled(name):
-    """what stands in a line for a name: of `_∈_` the sign"""
-    return [part for part in name.split("_") if part] if name.startswith("_") or name.endswith("_") else [name]
+    """what stands in a line for a name: of `◌∈◌` the sign"""
+    return [part for part in name.split("◌") if part] if "◌" in name else [name]
 
 
 def module_of(path):

@@ -9,7 +9,7 @@ table = (SPECS / "Table.antt").read_text(encoding="utf-8")
 for first, last, width in re.findall(rf"span {NUMBER} {NUMBER} {NUMBER} ∷", table):
     print("width", int(first, 0), int(last, 0), int(width, 0))
 
-white = (SPECS / "WhiteSpace.antt").read_text(encoding="utf-8").partition("whiteSpace c =")[2]
+white = (SPECS / "WhiteSpace.antt").read_text(encoding="utf-8").partition("white_space c =")[2]
 for term in "".join(white.split("\n")).split("||"):
     span = re.fullmatch(rf"\s*\(?leb {NUMBER} c && leb c {NUMBER}\)?\s*", term)
     single = re.fullmatch(rf"\s*eqb c {NUMBER}\s*", term)

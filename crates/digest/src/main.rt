@@ -3,9 +3,10 @@
 // also says so on standard error, where nothing of the notes goes.
 #![tactic(auto)]
 
-ghost use Rattle.std.specs.Prelude.{◌≤◌, length};
+ghost use Rattle.std.specs.Prelude.{◌≤◌, length, IfOk};
 
-use libc::{STDERR_FILENO, STDIN_FILENO, STDOUT_FILENO};
+use std::io;
+use std::io::{Read, Write};
 
 // As many of the output's bytes as an answer counts; all of them where it counts more or refuses.
 fn counted(n: u64, output: &[u8]) -> usize
@@ -24,47 +25,44 @@ fn ask(notes: &[u8], output: &mut [u8]) -> u64 {
     rudignals::rudignals_write(b"", notes, &mut output[..room])
 }
 
-// Whether the input ended where reading stopped: it may have failed there. A terminal is not asked, since it would wait for another line.
-fn ended() -> bool {
-    if libc::isatty(STDIN_FILENO) == 1 {
-        return true;
+// Reads until there is no more room or the input ends, and answers how many bytes were read. A terminal is not asked again where it has
+// ended, since it would wait for another line.
+fn read_full(from: &mut impl Read, bytes: &mut [u8]) -> io::Result<usize>
+    ensures { IfOk result (λ n. n ≤ length bytes.new) }
+{
+    let mut done = 0;
+    while done < bytes.len() {
+        let n = from.read(&mut bytes[done..])?;
+        if n == 0 {
+            break;
+        }
+        done += n;
     }
-    let mut next = [0u8; 1];
-    libc::read(STDIN_FILENO, &mut next) == 0
+    Ok(done)
 }
 
-fn refused(code: u64, value: u64) {
-    io::write_all(STDOUT_FILENO, b"refused ");
-    io::print_decimal(STDOUT_FILENO, code);
-    io::write_all(STDOUT_FILENO, b" ");
-    io::print_decimal(STDOUT_FILENO, value);
-    io::write_all(STDOUT_FILENO, b"\n");
-    io::write_all(STDERR_FILENO, b"digest: the notes were refused\n");
+// Standard error has it even where standard output takes nothing.
+fn refused(rt: &(impl Print + Eprint), code: u64, value: u64) -> io::Result<()> {
+    let _ = println!(rt; "refused {code} {value}");
+    eprintln!(rt; "digest: the notes were refused")
 }
 
-fn main() {
+fn main(rt: HostRuntime) -> io::Result<()> {
     // One byte more than the call takes, so that notes that are too long are seen to be.
     let mut notes = [0u8; 65537];
     let mut output = [0u8; 65536];
-    let n = io::read_full(STDIN_FILENO, &mut notes);
-    if n < 65537 {
-        if !ended() {
-            io::write_all(STDERR_FILENO, b"digest: standard input could not be read\n");
-            return;
-        }
-    }
+    let Ok(n) = read_full(&mut rt.stdin(), &mut notes) else {
+        return eprintln!(rt; "digest: standard input could not be read");
+    };
     let answer = ask(&notes[..n], &mut output);
     let code = answer / 0x1_0000_0000;
     let value = answer % 0x1_0000_0000;
     if code != 0 {
-        refused(code, value);
-        return;
+        return refused(&rt, code, value);
     }
     let done = counted(value, &output);
-    if !io::write_all(STDOUT_FILENO, &output[..done]) {
-        io::write_all(
-            STDERR_FILENO,
-            b"digest: standard output could not be written\n",
-        );
+    if rt.stdout().write_all(&output[..done]).is_err() {
+        return eprintln!(rt; "digest: standard output could not be written");
     }
+    Ok(())
 }

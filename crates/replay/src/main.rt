@@ -4,9 +4,11 @@
 // lists of wrong rows are the same but for one fault each: of them none may be answered so.
 #![tactic(auto)]
 
-ghost use Rattle.std.specs.Prelude.{◌≡◌, ◌+◌, ◌*◌, ◌<◌, ◌≤◌, length};
+ghost use Rattle.std.specs.Prelude.{◌≡◌, ◌+◌, ◌*◌, ◌<◌, ◌≤◌, length, IfOk};
 
-use libc::STDOUT_FILENO;
+use std::io::Read;
+use std::rt::Files;
+use std::{fs, io};
 
 // Where the fields of a line begin, and the next line.
 #[derive(Clone, Copy)]
@@ -319,11 +321,19 @@ fn room_for_digest() -> [u8; 131072]
 }
 
 // Reads after what is held, and answers how much is held then.
-fn fill_up(fd: i32, text: &mut [u8], held: usize) -> usize
+fn fill_up(file: &mut impl Read, text: &mut [u8], held: usize) -> io::Result<usize>
     requires { held ≤ length text.old }
-    ensures { result ≤ length text.new }
+    ensures { IfOk result (λ n. n ≤ length text.new) }
 {
-    held + io::read_full(fd, &mut text[held..])
+    let mut done = held;
+    while done < text.len() {
+        let n = file.read(&mut text[done..])?;
+        if n == 0 {
+            break;
+        }
+        done += n;
+    }
+    Ok(done)
 }
 
 // The place after the last line feed before a place, or 0.
@@ -356,19 +366,19 @@ fn to_front(text: &mut [u8], from: usize, to: usize)
 
 // The list is longer than the room: it is read and replayed part by part, a line that is cut off staying for the next.
 fn replay_file(
-    fd: i32,
+    file: &mut impl Read,
     whole: bool,
     text: &mut [u8],
     block: &mut [u8],
     notes: &mut [u8],
     output: &mut [u8],
-) -> Tally {
+) -> io::Result<Tally> {
     let mut held = 0;
     let mut turns: u32 = 0;
     let mut lines: usize = 0;
     let mut right: usize = 0;
     while turns < 64 {
-        let got = fill_up(fd, text, held);
+        let got = fill_up(file, text, held)?;
         let end = whole_lines(text, got);
         let part = replay_all(text, end, whole, block, notes, output);
         lines = wrapping_add(lines, part.lines);
@@ -377,38 +387,40 @@ fn replay_file(
         held = got - end;
         turns += 1;
     }
-    Tally { lines, right }
+    Ok(Tally { lines, right })
 }
 
 fn wrapping_add(a: usize, b: usize) -> usize {
-    std::num::wrapping_add_usize(a, b)
+    a.wrapping_add(b)
 }
 
 // A list's name, how many lines it has, and how many of them were answered rightly.
-fn tell(name: &[u8], tally: Tally) {
-    io::write_all(STDOUT_FILENO, name);
-    io::write_all(STDOUT_FILENO, b": ");
-    io::print_decimal(STDOUT_FILENO, tally.lines as u64);
-    io::write_all(STDOUT_FILENO, b" lines, ");
-    io::print_decimal(STDOUT_FILENO, tally.right as u64);
-    io::write_all(STDOUT_FILENO, b" answered so\n");
+fn tell(rt: &impl Print, name: &str, tally: Tally) -> io::Result<()> {
+    let lines = tally.lines;
+    let right = tally.right;
+    println!(rt; "{name}: {lines} lines, {right} answered so")
 }
 
-fn replay_list(name: &[u8], whole: bool) {
+fn replay_list(rt: &(impl Files + Print), name: &str, whole: bool) -> io::Result<()> {
     let mut text = room_for_lines();
-    let mut block = io::buffer();
+    let mut block = [0; 4096];
     let mut notes = room_for_digest();
     let mut output = room_for_digest();
-    let fd = os::open_read(name);
-    tell(
-        name,
-        replay_file(fd, whole, &mut text, &mut block, &mut notes, &mut output),
-    );
+    let mut file = fs::open(rt, name)?;
+    let tally = replay_file(
+        &mut file,
+        whole,
+        &mut text,
+        &mut block,
+        &mut notes,
+        &mut output,
+    )?;
+    tell(rt, name, tally)
 }
 
-fn main() {
-    replay_list(b"vectors.txt", false);
-    replay_list(b"cases.txt", true);
-    replay_list(b"wrong-vectors.txt", false);
-    replay_list(b"wrong-cases.txt", true);
+fn main(rt: HostRuntime) -> io::Result<()> {
+    replay_list(&rt, "vectors.txt", false)?;
+    replay_list(&rt, "cases.txt", true)?;
+    replay_list(&rt, "wrong-vectors.txt", false)?;
+    replay_list(&rt, "wrong-cases.txt", true)
 }

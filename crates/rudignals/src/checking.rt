@@ -7,21 +7,14 @@ ghost use Rattle.judge.specs.Answers.{check_coded};
 ghost use Rattle.judge.specs.Checking.{checking};
 
 // The answer's number. Nothing is written.
-#[unsafe(no_mangle)]
-pub extern "C" fn rudignals_check(options: &[u8], notes: &[u8], digest: &[u8]) -> u64
+pub fn rudignals_check(options: &[u8], notes: &[u8], digest: &[u8]) -> u64
     ensures { result ≡ numbered (check_coded (checking own_room options.now notes.now digest.now)) }
 {
     judge::number_of(judge::check(options, notes, digest))
 }
 
 // The same in working room that the host lends, which may hold anything.
-#[unsafe(no_mangle)]
-pub extern "C" fn rudignals_check_large(
-    options: &[u8],
-    notes: &[u8],
-    digest: &[u8],
-    work: &mut [u32],
-) -> u64
+pub fn rudignals_check_large(options: &[u8], notes: &[u8], digest: &[u8], work: &mut [u32]) -> u64
     ensures { result ≡ numbered (check_coded (checking (lending (length work.old)) options.now notes.now digest.now)) }
 {
     judge::number_of(judge::check_large(options, notes, digest, work))

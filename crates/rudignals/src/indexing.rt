@@ -15,8 +15,7 @@ const NUMBERS: usize = 19456;
 
 // The answer's number, and the output, the records and the count of those filled as the answer leaves them. Nothing is stored in the records
 // before it is known that all of them and all of the digest fit: until then a table of marks tells them.
-#[unsafe(no_mangle)]
-pub extern "C" fn rudignals_write_indexed(
+pub fn rudignals_write_indexed(
     options: &[u8],
     notes: &[u8],
     output: &mut [u8],
@@ -32,8 +31,7 @@ pub extern "C" fn rudignals_write_indexed(
 }
 
 // The same in working room that the host lends, which may hold anything.
-#[unsafe(no_mangle)]
-pub extern "C" fn rudignals_write_indexed_large(
+pub fn rudignals_write_indexed_large(
     options: &[u8],
     notes: &[u8],
     output: &mut [u8],
@@ -49,8 +47,7 @@ pub extern "C" fn rudignals_write_indexed_large(
 }
 
 // 1 and the part's place and length, or 0 and nothing written.
-#[unsafe(no_mangle)]
-pub extern "C" fn rudignals_lookup(
+pub fn rudignals_lookup(
     index: &[Record],
     filled: u64,
     notes: &[u8],

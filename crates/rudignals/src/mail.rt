@@ -9,13 +9,7 @@ ghost use Rattle.unflow.specs.Unflow.{unflow as reading, unflow_coded, unflow_ou
 ghost use Rattle.flow.specs.Answers.{flow as sending, dashes_of};
 
 // The notes written as mail: the answer's number, the output as the answer leaves it, and the count of lines `--`, which is 0 on a refusal.
-#[unsafe(no_mangle)]
-pub extern "C" fn rudignals_flow(
-    options: &[u8],
-    notes: &[u8],
-    output: &mut [u8],
-    dashes: &mut u64,
-) -> u64
+pub fn rudignals_flow(options: &[u8], notes: &[u8], output: &mut [u8], dashes: &mut u64) -> u64
     ensures { (result ≡ numbered (answer_coded (sending own_room options.now notes.now (length output.old)))) × (output.new ≡ output_after (sending own_room options.now notes.now (length output.old)) output.old) × (dashes.new ≡ dashes_of own_room options.now notes.now (length output.old)) }
 {
     let r = flow::flow(options, notes, output);
@@ -25,8 +19,7 @@ pub extern "C" fn rudignals_flow(
 }
 
 // The same for notes of up to 1 MiB, in working room that the host lends.
-#[unsafe(no_mangle)]
-pub extern "C" fn rudignals_flow_large(
+pub fn rudignals_flow_large(
     options: &[u8],
     notes: &[u8],
     output: &mut [u8],
@@ -42,8 +35,7 @@ pub extern "C" fn rudignals_flow_large(
 }
 
 // Mail read: the answer's number, and the output as the answer leaves it, each paragraph of the mail a line.
-#[unsafe(no_mangle)]
-pub extern "C" fn rudignals_unflow(text: &[u8], output: &mut [u8]) -> u64
+pub fn rudignals_unflow(text: &[u8], output: &mut [u8]) -> u64
     ensures { (result ≡ numbered (unflow_coded (reading text.now (length output.old)))) × (output.new ≡ unflow_output_after (reading text.now (length output.old)) output.old) }
 {
     unflow::reading_number(unflow::unflow(text, output))

@@ -5,16 +5,14 @@ ghost use Rattle.panel.specs.Panel.{panel_answer, cells_after, panel_coded};
 ghost use Rattle.fold.specs.Fold.{fold as folding, fold_coded, fold_output_after};
 
 // The answer's number, and the cells as the answer leaves them: 24 rows of 80.
-#[unsafe(no_mangle)]
-pub extern "C" fn rudignals_panel(digest: &[u8], tab: u64, cells: &mut [u32; 1920]) -> u64
+pub fn rudignals_panel(digest: &[u8], tab: u64, cells: &mut [u32; 1920]) -> u64
     ensures { (result ≡ numbered (panel_coded (panel_answer tab))) × (cells.new ≡ cells_after tab digest.now) }
 {
     panel::number_of(panel::draw(digest, tab, cells))
 }
 
 // A text folded into rows of at most so many columns: the answer's number, and the output as the answer leaves it.
-#[unsafe(no_mangle)]
-pub extern "C" fn rudignals_fold(text: &[u8], tab: u64, columns: u64, output: &mut [u8]) -> u64
+pub fn rudignals_fold(text: &[u8], tab: u64, columns: u64, output: &mut [u8]) -> u64
     ensures { (result ≡ numbered (fold_coded (folding text.now tab columns (length output.old)))) × (output.new ≡ fold_output_after (folding text.now tab columns (length output.old)) output.old) }
 {
     fold::folding_number(fold::fold(text, tab, columns, output))
