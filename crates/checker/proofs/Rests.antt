@@ -1,5 +1,5 @@
 -- The words of a table, matched one after the other.
-use mathlib.Core.Path.{◌≡◌, refl, sym, ap, ◌∙◌}
+use mathlib.Core.Path.{◌≡◌, sym, ap, ◌∙◌}
 use mathlib.Core.Bool.{Bool}
 use mathlib.Core.List.{List, ◌++◌}
 use Prim.Native.Nat.{ℕ, ◌+◌, ◌-◌, ◌≤◌, ◌<◌}
@@ -30,9 +30,6 @@ module _ (glue : Bool) (indent notes table : List ℕ) (n : ℕ) (digest : List 
     pub is : rest_from i p ≡ rest_from 1 from
     pub some : 1 ≤ i
     pub few : i ≤ n
-
-  pub rest_first : (from : Spot) → SpotIn digest from → 1 ≤ n → RestLeft from 1 from
-  rest_first from s h = record { inside = s; is = refl; some = omega arith; few = h }
 
   -- the next word, as the code has it
   rest_next : (i : ℕ) (p : Spot) (w : Record) → Got table i w → i < n → w.start ≤ w.end → rest_from i p ≡ and_then (match_next glue indent (take (w.end - w.start) (drop w.start notes)) (drop p.at digest) p.line) (match_rest glue indent (drop (i + 1) (words_in notes n table)))

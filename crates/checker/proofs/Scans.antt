@@ -68,13 +68,6 @@ pub record GapLeft (glue : Bool) (s : List ℕ) (at : ℕ) (g : Gap) : Type 0 wh
   pub within : g.end ≤ length s
 
 module _ (glue : Bool) (s : List ℕ) (at : ℕ) where
-  pub gap_first : at ≤ length s → GapLeft glue s at (record { hard = at; end = at })
-  gap_first h = record { end = refl; hard = go (ltb 0 (parting glue (spaces (drop at s)))) refl; order = omega arith; within = h }
-    where
-      go : (t : Bool) → ltb 0 (parting glue (spaces (drop at s))) ≡ t → cond t (at + parting glue (spaces (drop at s))) at ≡ at + parting glue (spaces (drop at s))
-      go true e = refl
-      go false e = let k = ltb-false 0 (parting glue (spaces (drop at s))) e in omega arith
-
   pub gap_stop : (g : Gap) → GapLeft glue s at g → spaces (drop g.end s) ≡ [] → GapAt glue s at g
   unfolding parting extent
   gap_stop g l e = record { end = omega (arith, rw e at l.end); hard = rw e at l.hard; order = l.order; within = l.within }

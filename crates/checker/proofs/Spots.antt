@@ -1,12 +1,12 @@
 -- Matching by places: what a step of the code comes to in the digest from a place on.
 use mathlib.Core.Path.{◌≡◌, refl, sym, ap, ◌∙◌}
-use mathlib.Core.Bool.{Bool, true, false, cond, ◌&&◌, false≢true}
+use mathlib.Core.Bool.{Bool, true, false, cond, ◌&&◌}
 use mathlib.Core.List.{List, [], ◌∷◌, ◌++◌}
-use Prim.Native.Nat.{ℕ, zero, suc, ◌+◌, ◌-◌, ◌≤◌, ◌<◌}
+use Prim.Native.Nat.{ℕ, suc, ◌+◌, ◌-◌, ◌≤◌, ◌<◌}
 use native.Mathlib.Omega.{arith}
 use lib.Dec.{eqb}
-use lib.ListN.{length, get_or, take, drop, replicate, length-drop, length-append}
-use lib.Seq.{slice, drop-drop, length-take-le}
+use lib.ListN.{length, get_or, take, drop, length-drop, length-append}
+use lib.Seq.{slice, drop-drop}
 use Rattle.lists.proofs.Slices.{slice_is}
 use borrow.Author.Tests.{ne_eqb, lt-ltb, le-ltb, le-leb, lt-leb}
 use Rattle.lists.specs.Runs.{begins}
@@ -15,7 +15,7 @@ use Rattle.lists.proofs.Views.{drop_here, drop_none}
 use Rattle.text.specs.Characters.{extent}
 use Rattle.text.proofs.Forms.{rest_is}
 use Rattle.output.specs.Emission.{line_feed}
-use Rattle.checker.specs.Matching.{Match, on, fault, and_then, match_text, match_feed, spaces, soft, parting, lead, match_spaced, match_next}
+use Rattle.checker.specs.Matching.{Match, on, fault, and_then, match_text, match_feed, spaces, parting, lead, match_spaced, match_next}
 use Rattle.checker.specs.Cited.Places.{SpotIn, matched, Matches, GapAt}
 use Rattle.checker.specs.declared.Spot.{Spot}
 use Rattle.checker.specs.declared.Matched.{Matched}
@@ -113,26 +113,6 @@ module _ (digest : List ℕ) (p : Spot) (s : SpotIn digest p) where
 
 -- ---- a gap
 
-pub soft_on : (glue : Bool) (c : ℕ) → glue ≡ true → eqb c 0xA0 ≡ soft glue c
-soft_on true c e = refl
-soft_on false c e = absurd (false≢true e)
-
-pub soft_off : (glue : Bool) (c : ℕ) → glue ≡ false → false ≡ soft glue c
-soft_off true c e = absurd (false≢true (sym e))
-soft_off false c e = refl
-
--- spaces of a part of four
-pub spaces_part : (count : ℕ) → count ≤ 4 → take count (replicate {A = ℕ} 4 32) ≡ replicate count 32
-spaces_part zero h = refl
-spaces_part (suc zero) h = refl
-spaces_part (suc (suc zero)) h = refl
-spaces_part (suc (suc (suc zero))) h = refl
-spaces_part (suc (suc (suc (suc zero)))) h = refl
-spaces_part (suc (suc (suc (suc (suc n))))) h = absurd (omega arith)
-
-pub spaces_count : (count : ℕ) → count ≤ 4 → count ≡ length (take count (replicate {A = ℕ} 4 32))
-spaces_count count h = sym (length-take-le count (replicate {A = ℕ} 4 32) h)
-
 module _ (glue : Bool) (w digest : List ℕ) (p : Spot) (s : SpotIn digest p) (g : Gap) (a : GapAt glue digest p.at g) where
   -- too few blanks
   pub spaced_short : g.hard ≤ p.at → Matches digest (match_spaced glue w (drop p.at digest) p.line) (Fault p.line)
@@ -146,9 +126,6 @@ module _ (glue : Bool) (w digest : List ℕ) (p : Spot) (s : SpotIn digest p) (g
       is = rw (lt-ltb 0 (parting glue (spaces (drop p.at digest))) (omega (arith, a.hard)), lt-leb (parting glue (spaces (drop p.at digest)) + lead w) (extent (spaces (drop p.at digest))) (omega (arith, a.hard, a.end, a.order)));
       inside = omega (arith, s.within, s.line);
     }
-
-    pub spaced_spot : own ≤ g.end - g.hard → SpotIn digest (record { at = g.end - own; line = p.line })
-    spaced_spot k = record { within = omega (arith, a.within); line = omega (arith, s.line, a.order) }
 
     pub spaced_text : own ≤ g.end - g.hard → {r : Matched} → Matches digest (match_text w (drop (g.end - own) digest) p.line) r → Matches digest (match_spaced glue w (drop p.at digest) p.line) r
     unfolding match_spaced

@@ -7,7 +7,7 @@ use native.Mathlib.Nat.{le_trans, le_of_eq, lt_of_lt_of_le, lt_of_le_of_lt, zero
 use native.Mathlib.Omega.{arith}
 use mathlib.Core.Bool.{Bool, true, false, not, cond}
 use lib.IntN.{ℤ}
-use lib.Dec.{T, ltb, leb→le, lit<}
+use lib.Dec.{T, ltb, leb→le}
 use lib.Pow.{pow-add, pow_pos, pow_mono, shr-shr}
 use lib.Bits.{bit_and, bit_or, and_mask, or_shifted_r}
 use lib.Ieee.{Float, nan, inf, fin, binary32, up, down, size, to_bits, is_nan}
@@ -90,13 +90,6 @@ cut_is n b k q s e h l =
     ∙ ap (λ (x : ℕ). n / 2 ^ k / 2 ^ x) g
     ∙ shr-shr n k (149 - k)
     ∙ ap (λ (x : ℕ). n / 2 ^ x) j
-
-pub places_few : (e : ℕ) → places e < 32
-places_few e = by (ltb e 127) refl
-  where
-    by : (y : Bool) → ltb e 127 ≡ y → cond y 24 (150 - e) < 32
-    by true h = lit< tt
-    by false h = let k = ltb-false e 127 h in omega arith
 
 -- 24 places leave nothing of 24 digits
 none_left : (b : ℕ) → digits b / 2 ^ 24 ≡ 0

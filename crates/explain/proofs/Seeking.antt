@@ -137,9 +137,6 @@ module _ (most : ℕ) (o : Opts) (notes : List ℕ) where
 -- ---- the search
 
 module _ (most : ℕ) (o : Opts) (notes : List ℕ) where
-  pub seeking_first : (s : Seek) → s.at ≤ length notes → Seeking most o notes s s
-  seeking_first s h = record { within = h; asked = refl; long = refl }
-
   module _ {s t : Seek} (g : Seeking most o notes s t) where
     pub seeking_on : {room : ℕ} {u : Seek} → room ≤ most → PieceBehind room o notes t u → Seeking most o notes s u
     seeking_on {room} {u} fewer p = record {
@@ -179,9 +176,6 @@ module _ (most room : ℕ) (o : Opts) (notes : List ℕ) (s : Seek) (r : Course)
 module _ (room : ℕ) (o : Opts) (notes : List ℕ) (s : Seek) (r : Passed) (p : PiecePassed room o notes s r) where
   pub piece_on : {t : Seek} → r ≡ On t → PieceBehind room o notes s t
   piece_on e = rw e at p
-
-  pub piece_over : r ≡ Over → NoRoom room o notes s
-  piece_over e = rw e at p
 
 -- ---- a piece
 

@@ -215,11 +215,6 @@ module _ (lends : ℕ) (o : Opts) (notes out : List ℕ) where
       let m = (lending_sound lends).modest o notes short in
       rw (within, with_work, lt-ltb lends (work_for o notes) (omega (arith, n))) (record { is = ap (λ (k : ℕ). Declined (Work k)) n; output = refl; counts = refl; small = omega (arith, n, m) })
 
-  pub enough_answer : (needed : ℕ) {q : Outcome} {out' : List ℕ} → needed ≡ max lends (work_for o notes) → needed ≤ lends
-      → Sends (sent_in (lending lends).words (length out) (flowed o notes)) (if_done (sent_in (lending lends).words (length out) (flowed o notes)) (dashes_in o (pieces o notes))) out q out'
-      → Sends (left_of (lending lends) o notes (length out)) (left_dashes (lending lends) o notes (length out)) out q out'
-  enough_answer needed e h s = rw (within, with_work, le-ltb lends (work_for o notes) (omega arith)) s
-
   module _ {room_is : ℕ} (quick : o.quick ≡ true) (is : room_is ≡ room_for true lends) (fits : work_for o notes ≤ lends) (out' : List ℕ) (r : Ended) (f : Finished room_is o notes out out' r) (short : length notes ≤ most_large) where
     -- the work does not stop
     pub never_stopped : {A : Type 0} {place : ℕ} → r ≡ Stopped place → A

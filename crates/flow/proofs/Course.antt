@@ -12,7 +12,7 @@ use Rattle.lists.specs.Runs.{joined, begins}
 use Rattle.lists.proofs.Parts.{joined_nil, joined_cons}
 use Rattle.lists.proofs.Walk.{walk_nil}
 use Rattle.text.specs.Characters.{damage}
-use Rattle.text.specs.declared.Found.TheVariants.{At, Nowhere}
+use Rattle.text.specs.declared.Found.TheVariants.{Nowhere}
 use Rattle.options.specs.Opts.{Opts, meant}
 use Rattle.options.specs.declared.Options.{Options}
 use Rattle.options.proofs.Accepted.{Kept, accepted}
@@ -37,7 +37,7 @@ use Rattle.output.specs.declared.Layout.{Layout}
 use Rattle.output.specs.Cited.Bound.{longest}
 use Rattle.output.specs.Cited.Sink.{Wrote, Left}
 use Rattle.output.specs.Cited.Writers.{margin_of}
-use Rattle.output.proofs.Sink.{length_written, wrote_nil, left_first, left_then, left_last}
+use Rattle.output.proofs.Sink.{wrote_nil, left_first, left_then, left_last}
 use Rattle.quick.specs.Quick.{quick_breaks}
 use Rattle.paragraphs.specs.Cited.Steps.{setting_for, words_for, Placed}
 use Rattle.paragraphs.proofs.Breaking.{limits_of}
@@ -55,7 +55,7 @@ use Rattle.flow.specs.Cited.Sending.{Ready, ParagraphSent, TextSent, TextStepped
 use Rattle.flow.specs.declared.Cursor.{Cursor}
 use Rattle.flow.specs.declared.Step.{Step}
 use Rattle.flow.specs.declared.Step.TheVariants.{On, Over}
-use Rattle.flow.specs.declared.Ended.TheVariants.{All, Stopped}
+use Rattle.flow.specs.declared.Ended.TheVariants.{All}
 use Rattle.flow.specs.declared.Turn.{Turn}
 use Rattle.flow.proofs.Words.{words_sent_law, words_dashes_law, sent_most, words_dashes_few}
 
@@ -280,9 +280,6 @@ module _ (o : Opts) (notes : List ℕ) where
   }
 
   module _ {room : ℕ} {out₀ : List ℕ} {c : Cursor} {out : List ℕ} (g : Going room out₀ c out) where
-    pub going_length : length out ≡ length out₀
-    going_length = sym (length_written c.written out (flowed_from o c.mail notes c.at)) ∙ ap length g.left.bytes ∙ length_written 0 out₀ (flowed o notes)
-
     pub going_on : {d : Cursor} {out' : List ℕ} → Put room o notes out c d out' → Going room out₀ d out'
     going_on {d} {out'} p = record {
       stands = record { within = p.goes.within; bounded = omega (arith, g.stands.bounded, p.bounded); few = omega (arith, g.stands.few, p.counted); sound = sound_more o p.goes g.stands.sound };
@@ -290,9 +287,6 @@ module _ (o : Opts) (notes : List ℕ) where
       dashes = omega (arith, g.dashes, p.dashes, dashes_more p.goes);
       long = sym (long_more room o p.goes p.few) ∙ g.long;
     }
-
-    pub going_over : {out' : List ℕ} → (long_from room o c.mail notes c.at ≡ At c.at) × (out' ≡ out) → Finished room o notes out₀ out' (Stopped c.at)
-    going_over t = (sym g.long ∙ t.0, ap length t.1 ∙ going_length, g.stands.within)
 
     pub going_last : length notes ≤ c.at → Finished room o notes out₀ out (All c.written c.dashes)
     going_last h = (
@@ -307,6 +301,3 @@ module _ (o : Opts) (notes : List ℕ) where
 module _ (room : ℕ) (o : Opts) (notes out out' : List ℕ) (c : Cursor) {r : Step} (s : PieceStepped room o notes out c out' r) where
   pub stepped_on : {d : Cursor} → r ≡ On d → Put room o notes out c d out'
   stepped_on e = rw e at s
-
-  pub stepped_over : r ≡ Over → (long_from room o c.mail notes c.at ≡ At c.at) × (out' ≡ out)
-  stepped_over e = rw e at s

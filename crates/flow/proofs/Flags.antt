@@ -1,18 +1,17 @@
 -- The flags of a well-formed block: tags ascend, so that theirs is the first field, or there are none.
 use mathlib.Core.Path.{◌≡◌, refl, sym, ap, ◌∙◌}
-use mathlib.Core.Bool.{Bool, true, false, cond, ◌||◌, or-true, or-false, true≢false}
+use mathlib.Core.Bool.{Bool, true, false, cond, true≢false}
 use mathlib.Core.List.{List, [], ◌∷◌}
-use Prim.Native.Nat.{ℕ, zero, suc, ◌+◌, ◌*◌, ◌/◌, ◌%◌, ◌≤◌, ◌<◌}
+use Prim.Native.Nat.{ℕ, zero, suc, ◌+◌, ◌*◌, ◌≤◌, ◌<◌}
 use native.Mathlib.Omega.{arith}
-use lib.Dec.{eqb, leb, ltb}
+use lib.Dec.{leb, ltb}
 use lib.ListN.{length, get_or, drop}
 use lib.Seq.{get_or-drop}
 use borrow.Author.Tests.{ltb-true, ltb-false, leb-true, leb-false}
 use Rattle.text.specs.declared.Found.{Found}
 use Rattle.text.specs.declared.Found.TheVariants.{At, Nowhere}
-use Rattle.options.specs.OptionBlock.{number, fields, well_formed, first_fault, part_of, number_at, options_of, fits, least_width, judged, read_block, bit}
+use Rattle.options.specs.OptionBlock.{number, fields, well_formed, first_fault, part_of, number_at, options_of, fits, least_width, judged, read_block}
 use Rattle.options.specs.Cited.Places.{field_at}
-use Rattle.options.specs.declared.Part.{Part}
 use Rattle.options.specs.declared.Part.TheVariants.{Absent, Given}
 use Rattle.options.specs.declared.Options.{Options}
 use Rattle.options.specs.declared.Block.TheVariants.{Accepted, Fault}
@@ -124,11 +123,3 @@ unfolding refused_for
 fault_fits block e = rw e
 
 -- ---- the lowest three bits
-
-pub absent_shaped : (flags : ℕ) (prefix : Part) → prefix ≡ Absent → (eqb (flags % 2) 1 || eqb (flags / 2 % 2) 1 || eqb (flags / 4 % 2) 1) ≡ shaped flags prefix
-absent_shaped flags prefix e =
-    let z : flags / 1 ≡ flags = omega arith in
-    rw (e, z) (sym (or-false (eqb (flags % 2) 1 || eqb (flags / 2 % 2) 1 || eqb (flags / 4 % 2) 1)))
-
-pub given_shaped : (flags : ℕ) (prefix : Part) {start end : ℕ} → prefix ≡ Given start end → true ≡ shaped flags prefix
-given_shaped flags prefix e = rw e (sym (or-true (bit 0 flags || bit 1 flags || bit 2 flags)))

@@ -14,7 +14,7 @@ use Rattle.text.specs.Characters.{Glyph, characters, extent}
 use Rattle.text.proofs.Glyphs.{bytes_of_part, characters_step, characters_past, characters_first, characters_joined}
 use Rattle.lines.specs.Classes.{column_behind}
 use Rattle.output.specs.Cited.Sink.{Wrote, Left}
-use Rattle.output.proofs.Sink.{left_length, left_first, left_then, left_last, wrote_nil, wrote_then}
+use Rattle.output.proofs.Sink.{left_then, left_last, wrote_nil, wrote_then}
 use Rattle.fold.specs.Fold.{stays, staying_on, first_row, rows_of, feed, row_bytes, fed, in_rows}
 use Rattle.fold.specs.Cited.Steps.{row_end}
 use Rattle.fold.proofs.Stays.{staying_more, staying_end}
@@ -133,13 +133,7 @@ module _ (tab columns : ℕ) where
       pub bounded : k ≤ 2 * at
       pub left : Left out₀ k₀ (joined fed (rows_at at₀)) out k (joined fed (rows_at at))
 
-    pub turning_first : {o out : List ℕ} {end k : ℕ} → end ≤ length line → Wrote o 0 (slice 0 end line) out k → Turning end k out end k out
-    turning_first {o} {out} {end} {k} h w = record { within = h; bounded = omega (arith, w.count, length-slice 0 end line h); left = left_first out k _ }
-
     module _ {at₀ k₀ : ℕ} {out₀ out : List ℕ} {at k : ℕ} (t : Turning at₀ k₀ out₀ at k out) where
-      pub turning_length : length out ≡ length out₀
-      turning_length = left_length t.left
-
       pub turning-row : {out' : List ℕ} {end k' : ℕ} → at < length line → end ≡ row_end tab columns line at → at < end → end ≤ length line
           → Wrote out k (feed ∷ slice at end line) out' k' → Turning at₀ k₀ out₀ end k' out'
       turning-row {out'} {end} {k'} h e on within w =

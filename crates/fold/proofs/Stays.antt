@@ -169,9 +169,6 @@ module _ (tab columns : ℕ) where
       pub small : column ≤ 1000
       pub same : stay_end tab columns line from start ≡ stay_end tab columns line at column
 
-    pub going_first : {from start : ℕ} → from ≤ length line → start ≤ 1000 → Going from start from start
-    going_first h k = record { on = omega arith; within = h; small = k; same = refl }
-
     module _ {from start at column : ℕ} (g : Going from start at column) (most : columns ≤ 1000) where
       pub going-plain : {to n : ℕ} → 1 ≤ tab → n ≡ columns - column → Plain line at to → to ≤ at + n → Going from start to (column + (to - at))
       going-plain some e p h =

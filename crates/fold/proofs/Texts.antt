@@ -13,7 +13,7 @@ use Rattle.lines.specs.Lines.{lines_of, first_line}
 use Rattle.lines.specs.declared.Extent.{Extent}
 use Rattle.lines.proofs.Lines.{LineHere, lines_past}
 use Rattle.output.specs.Cited.Sink.{Wrote, Left}
-use Rattle.output.proofs.Sink.{left_length, left_first, left_then, left_last, wrote_nil, wrote_then}
+use Rattle.output.proofs.Sink.{left_then, left_last, wrote_nil, wrote_then}
 use Rattle.fold.specs.Fold.{rows_of, in_rows, end_of, folded_line, folded}
 
 -- the line at a place, as it is lent
@@ -71,13 +71,7 @@ module _ (tab columns : ℕ) where
       pub bounded : k ≤ 2 * at
       pub left : Left out₀ 0 (folded tab columns text) out k (folded tab columns (drop at text))
 
-    pub passing_first : (out : List ℕ) → Passing out 0 0 out
-    passing_first out = record { within = omega arith; bounded = omega arith; left = left_first out 0 _ }
-
     module _ {out₀ out : List ℕ} {at k : ℕ} (p : Passing out₀ at k out) where
-      pub passing-length : length out ≡ length out₀
-      passing-length = left_length p.left
-
       pub passing-line : {e : Extent} {out' : List ℕ} {r : ℕ} → LineHere text at e → r ≤ 2 * length (lent text at (at + e.whole))
           → Wrote out k (line_is (lent text at (at + e.whole)) e.text) out' (k + r) → Passing out₀ (at + e.whole) (k + r) out'
       passing-line {e} h few w =

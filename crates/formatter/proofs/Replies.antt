@@ -68,16 +68,6 @@ module _ (o : Opts) (notes out out' : List ℕ) (r : Ended) (f : Finished most_w
       let over : length out < length (digest o notes) = omega arith in
       rw (w.0, lt-leb (length (digest o notes)) (length out) over) (record { is = ap Room c; output = z ∙ ap (λ (k : ℕ). replicate k 0) l })
 
-  -- measured: the same without an output
-  pub words_measured : {place : ℕ} → r ≡ Stopped place → Declined (Many place) ≡ told (left_of own_room o notes done)
-  words_measured e = rw (stopped_of e).0
-
-  pub done_measured : {n : ℕ} → r ≡ All n → Done n ≡ told (left_of own_room o notes done)
-  done_measured {n} e =
-      let w = all_of e in
-      let c : n ≡ length (digest o notes) = omega (arith, w.1.count) in
-      rw w.0 (ap Done c)
-
 -- ---- with the options of an accepted block
 
 -- up to so many bytes, however many words a paragraph may have
@@ -163,17 +153,6 @@ module _ (lends : ℕ) (block notes : List ℕ) where
       let n : needed ≡ work_for o notes = omega arith in
       record { whole_is = rw (within, with_work, lt-ltb lends (work_for o notes) (omega arith), n); untouched = λ out. refl; early = omega arith }
 
-  pub work_passed : (o : Opts) (p : Options) (needed : ℕ) → needed ≡ max lends (work_for o notes) → needed ≤ lends → AdmitsWork lends o notes p (Passed p)
-  work_passed o p needed e h = (refl, omega arith)
-
-  pub lent_admits : {a : Admission} {o : Options} (r : Admission) → AdmitsWithin most_lent block notes a → a ≡ Passed o → AdmitsWork lends (meant block o) notes o r → AdmitsLent lends block notes r
-  lent_admits {a} {o} (Refused r) s e w =
-      let f : Admits (lending lends) block notes (Passed o) = rw e at (s (lending lends).words) in
-      record { whole_is = f.1 ∙ w.whole_is; untouched = w.untouched; early = w.early }
-  lent_admits {a} {o} (Passed p) s e w =
-      let f : Admits (lending lends) block notes (Passed o) = rw e at (s (lending lends).words) in
-      rw w.0 (f.0, f.1 ∙ rw (within, with_work, le-ltb lends (work_for (meant block o) notes) w.1), w.1)
-
   module _ (a : Admission) (admits : AdmitsLent lends block notes a) where
     pub lent_passed : {o : Options} → a ≡ Passed o → AdmitsLent lends block notes (Passed o)
     lent_passed e = rw e at admits
@@ -203,12 +182,6 @@ module _ (lends : ℕ) (d out out' : List ℕ) (n : ℕ) (w : Wrote out 0 d out'
 
   untold_is : most_told < n → measured (lending lends).words d ≡ room most_told
   untold_is h = rw (lt-leb (length d) most_told (omega (arith, counted)))
-
-  pub told_measured : n ≤ most_told → Done n ≡ told (measured (lending lends).words d)
-  told_measured h = rw (told_is h) (ap Done counted)
-
-  pub untold_measured : most_told < n → Room most_told ≡ told (measured (lending lends).words d)
-  untold_measured h = rw (untold_is h)
 
   pub untold_written : {clear : List ℕ} → most_told < n → clear ≡ replicate (length out') 0 → Answers (in_room (length out) (measured (lending lends).words d)) out (Room most_told) clear
   unfolding output_after

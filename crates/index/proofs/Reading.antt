@@ -6,8 +6,8 @@ use Prim.Native.Nat.{ℕ, zero, suc, ◌+◌, ◌*◌, ◌^◌, ◌≤◌, ◌<�
 use native.Mathlib.Nat.{not-suc-le-zero, le_of_suc-le-suc}
 use native.Mathlib.Omega.{arith}
 use lib.Dec.{leb}
-use lib.ListN.{length, set, take, drop, length-append, length-take, length-drop}
-use lib.Seq.{take_all, length-take-le}
+use lib.ListN.{length, set, take, drop, length-take, length-drop}
+use lib.Seq.{take_all}
 use borrow.Author.Tests.{leb-true, leb-false}
 use Rattle.marks.specs.Cited.Marks.{marks_in, to_mark}
 use Rattle.marks.proofs.Laws.{to_mark_within, length_marks}
@@ -15,9 +15,6 @@ use Rattle.index.specs.declared.Record.{Record}
 use Rattle.index.specs.Cited.Reading.{front, behind, record_after, read_from}
 
 -- ---- the numbers that may hold marks
-
-pub front_length : (table : List ℕ) (end : ℕ) → end ≡ min (length table) 65536 → end ≡ length (take end table)
-front_length table end e = sym (length-take-le end table (omega (arith, e)))
 
 pub front_is : (table : List ℕ) (end : ℕ) → end ≡ min (length table) 65536 → take end table ≡ front table
 front_is table end e = go (leb (length table) 65536) refl
@@ -71,11 +68,3 @@ module _ (marks : List Bool) where
   read_more n r [] l = absurd (not-suc-le-zero l)
   read_more zero r (y ∷ ys) l = refl
   read_more (suc n) r (y ∷ ys) l = ap (λ (t : List Record). record_after marks r ∷ t) (read_more n (record_after marks r) ys (le_of_suc-le-suc l))
-
-  length_read : (n : ℕ) (r : Record) → length (read_from marks n r) ≡ n
-  unfolding read_from
-  length_read zero r = refl
-  length_read (suc n) r = ap suc (length_read n (record_after marks r))
-
-  pub same_length : (n : ℕ) (r : Record) (ys : List Record) → n ≤ length ys → length (read_to n r ys) ≡ length ys
-  same_length n r ys l = let a = length-append (read_from marks n r) (drop n ys) in let b = length_read n r in let c = length-drop n ys in omega (arith, l, a, b, c)

@@ -2,7 +2,7 @@
 use mathlib.Core.Path.{◌≡◌, refl, sym, ap, ◌∙◌}
 use mathlib.Core.Bool.{Bool, true, false}
 use mathlib.Core.List.{List, [], ◌∷◌}
-use Prim.Native.Nat.{ℕ, ◌-◌, ◌*◌, ◌≤◌, ◌<◌}
+use Prim.Native.Nat.{ℕ, ◌-◌, ◌≤◌, ◌<◌}
 use native.Mathlib.Omega.{arith}
 use lib.ListN.{length, take, drop}
 use lib.Seq.{slice}
@@ -38,20 +38,14 @@ use Rattle.walk.proofs.Meaning.{TextGoes}
 use Rattle.walk.proofs.Steps.{ready_kept, found_goes}
 use Rattle.walk.proofs.Loop.{none_left, all_pieces, sound_more}
 use Rattle.checker.specs.Matching.{Match, on, fault, and_then, match_line, match_words, match_piece, match_pieces}
-use Rattle.checker.specs.Cited.Places.{matched, MatchedIn, Matches, SpotIn, MarginFits, Matchable}
-use Rattle.checker.specs.declared.Spot.{Spot}
+use Rattle.checker.specs.Cited.Places.{matched, MatchedIn, Matches, MarginFits, Matchable}
 use Rattle.checker.specs.declared.Matched.{Matched}
-use Rattle.checker.specs.declared.Matched.TheVariants.{On as MatchedOn, Fault}
-use Rattle.checker.proofs.Spots.{then_fault, then_on, on_in, matches_same, part_slice}
+use Rattle.checker.proofs.Spots.{matches_same, part_slice}
 use Rattle.judge.specs.Cited.Judging.{Took, long_behind, Stepped, Walked}
 use Rattle.judge.specs.declared.Stand.{Stand}
 use Rattle.judge.specs.declared.Step.{Step}
-use Rattle.judge.specs.declared.Step.TheVariants.{On, Over}
-use Rattle.judge.specs.declared.Course.TheVariants.{Through, Stopped}
-
--- the table has room for the most words that a paragraph may have
-pub table_holds : {size : ℕ} → size ≡ 1024 * 7 → 1024 * 7 ≤ size
-table_holds e = omega (arith, e)
+use Rattle.judge.specs.declared.Step.TheVariants.{On}
+use Rattle.judge.specs.declared.Course.TheVariants.{Through}
 
 -- ---- the first paragraph of over so many words
 
@@ -69,19 +63,6 @@ module _ (most : ℕ) (o : Opts) (notes : List ℕ) (c : Stand) where
         ∙ ap (λ (x : Bool). elim x as (λ y. Found) [ true ↦ At c.at | false ↦ long_paragraph most o next (pieces_from o state notes next) ]) (ap (too_many most o) g.is ∙ e)
 
 -- ---- after what is matched
-
-module _ {digest : List ℕ} {m : Matched} (h : MatchedIn digest m) where
-  stands : Matches digest (matched digest m) m
-  stands = record { is = refl; inside = h }
-
-  pub spot_in : {p : Spot} → m ≡ MatchedOn p → SpotIn digest p
-  spot_in e = on_in stands e
-
-  pub behind_fault : (f : List ℕ → ℕ → Match) {line : ℕ} → m ≡ Fault line → Matches digest (and_then (matched digest m) f) (Fault line)
-  behind_fault f e = then_fault stands f e
-
-  pub behind_on : (f : List ℕ → ℕ → Match) {p : Spot} {r : Matched} → m ≡ MatchedOn p → Matches digest (f (drop p.at digest) p.line) r → Matches digest (and_then (matched digest m) f) r
-  behind_on f e b = then_on stands f e b
 
 -- ---- a piece
 
@@ -156,9 +137,6 @@ module _ (most : ℕ) (o : Opts) (notes digest : List ℕ) (c : Stand) {r : Step
   pub stepped_on : {d : Stand} → r ≡ On d → Took most o notes digest c d
   stepped_on e = rw e at s
 
-  pub stepped_over : r ≡ Over → long_behind most o notes c ≡ At c.at
-  stepped_over e = rw e at s
-
 -- ---- the pieces from a place on
 
 module _ (o : Opts) where
@@ -210,6 +188,3 @@ module _ (most : ℕ) (o : Opts) (notes digest : List ℕ) (first : Matched) whe
         inside = g.inside;
       },
     )
-
-    pub going_stopped : long_behind most o notes c ≡ At c.at → Walked most o notes digest first (Stopped c.at)
-    going_stopped e = sym g.long ∙ e

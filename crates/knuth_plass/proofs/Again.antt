@@ -2,7 +2,7 @@
 use mathlib.Core.Path.{◌≡◌, refl, sym, ◌∙◌, ap}
 use mathlib.Core.Bool.{Bool, true, false, cond, not, ◌&&◌}
 use mathlib.Core.List.{List, [], ◌∷◌}
-use Prim.Native.Nat.{ℕ, zero, suc, ◌+◌, ◌-◌, ◌^◌, ◌≤◌, ◌<◌}
+use Prim.Native.Nat.{ℕ, zero, suc, ◌+◌, ◌-◌, ◌≤◌}
 use native.Mathlib.Numerals.{add-one}
 use native.Mathlib.Omega.{arith}
 use borrow.Author.Tests.{ne_eqb}
@@ -16,20 +16,11 @@ use Rattle.knuth_plass.specs.declared.Turn.{Turn}
 use Rattle.knuth_plass.specs.declared.interval.Interval.{Interval}
 use Rattle.knuth_plass.specs.KnuthPlass.{Break, Place, before_word, minimum_of, restart}
 use Rattle.knuth_plass.specs.Cited.Table.{ratio_of, Tables, break_in, place_of, path_in, path_to, seen, break_meant}
-use Rattle.knuth_plass.specs.Cited.Round.{Limits, extended, Restarted}
+use Rattle.knuth_plass.specs.Cited.Round.{extended, Restarted}
 use Rattle.knuth_plass.specs.Cited.Interval.{fresh_at, view, Good, reach_of, entry_after, entry_restart, FirstLeast, is_fresh, view_of, active_of, Leaves, AgainIs}
 use Rattle.knuth_plass.proofs.Bases.{least_all, restart_view}
 
 -- ---- a record as the active break that its entry is
-
-pub fresh_first : (i n : ℕ) (b : Record) → n ≡ 0 → false ≡ is_fresh i n b
-fresh_first i n b e = rw e
-
-pub fresh_before : (i n : ℕ) (b : Record) → (n ≡ 0 → ⊥) → b.before ≡ true → false ≡ is_fresh i n b
-fresh_before i n b ne e = rw (ne_eqb n 0 ne, e)
-
-pub fresh_after : (i n : ℕ) (b : Record) → (n ≡ 0 → ⊥) → b.before ≡ false → eqb (b.word + 1) i ≡ is_fresh i n b
-fresh_after i n b ne e = rw (ne_eqb n 0 ne, e)
 
 fresh_is : (i : ℕ) (t : Tables) (n : ℕ) → is_fresh i n (break_in t n) ≡ fresh_at i (path_to t n)
 unfolding path_to path_in
@@ -42,13 +33,6 @@ fresh_is i t (suc n) = rw (ne_eqb (suc n) 0 (λ e. absurd (omega arith)), add-on
 view_is : (g : Setting) (i p : ℕ) (t : Tables) (n : ℕ) → seen (path_to t n) (view_of g i p n (break_in t n)) ≡ view g i p (break_meant t n)
 unfolding view break_meant seen
 view_is g i p t n = rw (fresh_is i t n)
-
--- its line can be counted
-pub view_small : (g : Setting) (i p n : ℕ) (b : Record) → Limits g → p < 2 ^ 31 → (view_of g i p n b).columns < 2 ^ 32
-view_small g i p n b limits h = by (is_fresh i n b) where
-  by : (z : Bool) → cond z g.indent (p + g.indent - b.columns) < 2 ^ 32
-  by true = let l = limits.indent in omega arith
-  by false = let l = limits.indent in omega arith
 
 -- ---- what begins again
 

@@ -17,7 +17,7 @@ use Rattle.spacing.specs.declared.Setting.{Setting}
 use Rattle.demerits.specs.Demerits.{no_ratio}
 use Rattle.knuth_plass.specs.KnuthPlass.{Break, Place, Offer, none, offer, before_word, minimum_of, first_break, reached, staying, offer_of, lesser, best_offer, with_offer, least_from, least, restart, is_last, sentence_behind, path_of}
 use Rattle.knuth_plass.specs.Cited.Interval.{fresh_at, view, BaseIs, MadeBelow, Good, line_to, reach_of, pops, near, entry_after, entry_offer, best_entry, near_offer, entry_restart, entry_settled, interval_round, Some, Above, Rising, Ready, gap_behind}
-use Rattle.knuth_plass.proofs.Absolute.{plain_offer, plain_settled, plain_round, plain_from, path_plain}
+use Rattle.knuth_plass.proofs.Absolute.{stays_as, plain_offer, plain_settled, plain_round, plain_from, path_plain}
 
 unfoldable pub fitting : Setting → ℕ → List Break → List Break
 fitting g x [] = []
@@ -47,10 +47,7 @@ module _ (g : Setting) (i p s : ℕ) (w : Word) (plain : w.before ≡ Absent) wh
   abbrev x : ℕ
   x = line_to p s w
 
-  abbrev stays_as : Break → Break
-  stays_as b = record { places = b.places; demerits = b.demerits; ratio = b.ratio; columns = reached g s w b; fresh = false }
-
-  stays_view : (e : Break) → Good g i p w.after e → stays_as (view g i p e) ≡ view g (suc i) x e
+  stays_view : (e : Break) → Good g i p w.after e → stays_as g s w (view g i p e) ≡ view g (suc i) x e
   unfolding view
   stays_view e h = rw (reached_view g i p s w plain e h, old_not_fresh i e.places h.made)
 

@@ -12,7 +12,7 @@ use Rattle.records.specs.Word.{meaning}
 use Rattle.spacing.specs.Spacing.{gap_width}
 use Rattle.spacing.specs.declared.Setting.{Setting}
 use Rattle.demerits.specs.Demerits.{no_ratio, ratio, line_term, ratio_term, cost, cost_with}
-use Rattle.demerits.specs.Cited.Bounds.{within, most_word, most_cost}
+use Rattle.demerits.specs.Cited.Bounds.{within, most_cost}
 use Rattle.demerits.proofs.Terms.{line_le, ratio_le, cost_with_law, square_le_most}
 use Rattle.knuth_plass.specs.declared.Break.{Break as Record}
 use Rattle.knuth_plass.specs.declared.Best.{Best}
@@ -27,10 +27,6 @@ use Rattle.knuth_plass.proofs.Offers.{better_stays, offer_some, offer_better, fi
 pub plain_small : (x : Bool) (space width after r : ℕ) → r ≡ cond x (space + width) (after + (space + width)) → r ≤ after + (space + width)
 plain_small true space width after r e = omega arith
 plain_small false space width after r e = omega arith
-
--- the square of what the word alone weighs
-pub square_small : (w : ℕ) → w ≤ most_word → (1 + w) * (1 + w) ≤ most_cost
-square_small w h = let s : 1 + w ≤ 3101 = omega arith in mul-le-mul s s
 
 -- the cost is never below the floor
 floor_least : (r old : Float) (w f : ℕ) → Floor w f → f ≤ cost_with r old w

@@ -70,13 +70,6 @@ module _ (st : Standing) (t : Tables) (s : State) (n : ℕ) (b : Record) (c : Br
 
 -- ---- the same by number, over all active breaks
 
-module _ (t : Tables) (m n : ℕ) (a b : Record) (first : a ≡ break_in t m) (second : b ≡ break_in t n) where
-  pub lesser_second : b.demerits < a.demerits → n ≡ lesser_in t m n
-  lesser_second h = sym (rw (← first, ← second, lt-ltb b.demerits a.demerits h))
-
-  pub lesser_first : a.demerits ≤ b.demerits → m ≡ lesser_in t m n
-  lesser_first h = sym (rw (← first, ← second, le-ltb b.demerits a.demerits h))
-
 pub lesser_below : (t : Tables) (m n size : ℕ) → m < size → n < size → lesser_in t m n < size
 lesser_below t m n size h k = by (ltb (break_in t n).demerits (break_in t m).demerits) where
   by : (x : Bool) → cond x n m < size

@@ -27,7 +27,7 @@ use Rattle.knuth_plass.specs.KnuthPlass.{Break, none, stretch_of, minimum_of, re
 use Rattle.knuth_plass.specs.BestLines.{offering, chosen_of, forced, maker_of, maker}
 use Rattle.knuth_plass.specs.Cited.Table.{ratio_of, Tables, break_in, path_to, seen, break_meant}
 use Rattle.knuth_plass.specs.Cited.Round.{Turns, lessened, nothing, breaks_listed, Fit, Restarted, Done, Settled, turn_of}
-use Rattle.knuth_plass.specs.Cited.Makers.{tried_of, found, chosen_in, Kept, From, ForcedIs, MakerIs, ToldIs}
+use Rattle.knuth_plass.specs.Cited.Makers.{tried_of, found, chosen_in, Kept, ForcedIs, MakerIs, ToldIs}
 use Rattle.knuth_plass.proofs.Ascends.{ascends_each}
 use Rattle.knuth_plass.proofs.Offers.{offer_some, offer_none}
 use Rattle.knuth_plass.proofs.Over.{fit_all}
@@ -117,9 +117,6 @@ module _ (g : Setting) (turn : Turn) (st : Standing) (t : Tables) (a : List ℕ)
           let l = fit.active in
           let e = length-take-le s.kept a (omega arith) in
           rw (← get_or-take s.kept a j 0 p) (ascends_each 0 st.size (take s.kept a) j (fit_all turn st t a st.count s (omega arith) fit) (omega arith))
-
-  pub from_is : From turn st s.from t
-  from_is = let f = fit.from in let m = fit.few in let h = fit.holds in record { sized = fit.filled.sized; within = omega arith; sound = fit.filled.sound s.from fit.from }
 
   module _ (notes : List ℕ) (active : List Break) (done : Done g turn st active t a s notes) where
     abbrev word : Word

@@ -5,7 +5,7 @@ use mathlib.Core.List.{List}
 use Prim.Native.Nat.{ℕ, suc, ◌+◌, ◌≤◌, ◌<◌}
 use native.Mathlib.Numerals.{add-one}
 use native.Mathlib.Omega.{arith}
-use borrow.Author.Tests.{ne_eqb, eqb-false}
+use borrow.Author.Tests.{eqb-false}
 use lib.Dec.{eqb}
 use Rattle.records.specs.Cited.Table.{Holds}
 use Rattle.records.specs.Cited.Marks.{mark_in, with_mark, MarkedUpTo}
@@ -52,9 +52,6 @@ module _ (n at : ℕ) (work : List ℕ) where
 
   pub marked : (new : List ℕ) → Holds n work → at < n → new ≡ with_mark work at true → MarkedUpTo n work new with
   marked new held h put = rw put (up_to_as (up_to_set (up_to_none n work) held at true h) held with (λ j k. or_cond (eqb at j) (mark_in work j)))
-
-  pub unmarked : Holds n work → n ≤ at → MarkedUpTo n work work with
-  unmarked held h = up_to_as (up_to_none n work) held with (λ j k. rw (ne_eqb at j (λ e. omega arith)) (sym (or-false (mark_in work j))))
 
 -- marks that were all clear, and then those of a path
 pub marked_path : (n : ℕ) (work clear new : List ℕ) (path : List Place) → MarkedUpTo n work clear (λ (j : ℕ). false) → MarkedUpTo n clear new (λ (j : ℕ). mark_in clear j || starts_line j path)

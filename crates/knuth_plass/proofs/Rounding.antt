@@ -18,8 +18,8 @@ use Rattle.knuth_plass.specs.declared.Best.{Best}
 use Rattle.knuth_plass.specs.declared.interval.Interval.{Interval}
 use Rattle.knuth_plass.specs.KnuthPlass.{Break, Offer, none, offer, minimum_of, lesser}
 use Rattle.knuth_plass.specs.Cited.Table.{Tables, break_in, with_break, place_of, path_to, seen, break_meant, Sound, Filled, Fits}
-use Rattle.knuth_plass.specs.Cited.Round.{Limits, Turns, turn_of, Turnable, nothing, offer_made}
-use Rattle.knuth_plass.specs.Cited.Interval.{Good, reach_of, pops, near, entry_offer, best_entry, near_offer, interval_round, span, PassIs, Stay, BestOffered, active_of, Between, Leaves, AgainIs, MadeIs, Plain, IntervalIs}
+use Rattle.knuth_plass.specs.Cited.Round.{Limits, Turns, turn_of, nothing, offer_made}
+use Rattle.knuth_plass.specs.Cited.Interval.{Good, reach_of, pops, near, entry_offer, best_entry, near_offer, interval_round, span, PassIs, Stay, BestOffered, active_of, Between, AgainIs, MadeIs, Plain, IntervalIs}
 use Rattle.knuth_plass.proofs.Filled.{filled_later, filled_more}
 use Rattle.knuth_plass.proofs.Offers.{offer_some, offer_none}
 use Rattle.knuth_plass.proofs.Bases.{fitting, fitting_pops, reach_exact}
@@ -67,9 +67,6 @@ module _ (g : Setting) (last sentence : Bool) (i gap : ℕ) (w : WordRecord) (s 
   abbrev after : ℕ → ℕ → Interval
   after h n = record { head = h; size = n; line = x }
 
-  pub turnable : Turnable i w space
-  turnable = let f = between.filled.sized.few in record { narrow = plain.narrow; small = plain.small; few = omega arith; space = most }
-
   line_is : x ≡ s.line + w.after + added_space g.uniform w.first sentence false + w.width
   line_is = rw (← added) is
 
@@ -99,9 +96,6 @@ module _ (g : Setting) (last sentence : Bool) (i gap : ℕ) (w : WordRecord) (s 
   -- ---- nothing stays
 
   module _ (gone : head ≡ s.size) where
-    pub leaves : (weight : ℕ) → Leaves g (turn_of last i w space weight) x gap s t
-    leaves weight = record { between = between; tabless = plain.tabless; holds = holds; line = is; short = omega arith }
-
     none_stays : pops g x (active_of s t) ≡ []
     none_stays = passed.is ∙ span_none t head s.size (omega arith)
 

@@ -2,7 +2,7 @@
 use mathlib.Core.Path.{◌≡◌, refl, ap, ap₂, ◌∙◌}
 use mathlib.Core.Bool.{true, false}
 use mathlib.Core.List.{List, [], ◌∷◌, ◌++◌, map-append}
-use Prim.Native.Nat.{ℕ, suc, ◌+◌, ◌^◌, ◌≤◌, ◌<◌}
+use Prim.Native.Nat.{ℕ, suc, ◌+◌, ◌≤◌, ◌<◌}
 use native.Mathlib.Numerals.{add-one}
 use native.Mathlib.Omega.{arith}
 use lib.ListN.{length, set, take, length-set, length-map, length-append}
@@ -14,7 +14,7 @@ use Rattle.knuth_plass.specs.declared.Turn.{Turn}
 use Rattle.knuth_plass.specs.declared.State.{State}
 use Rattle.knuth_plass.specs.declared.Standing.{Standing}
 use Rattle.knuth_plass.specs.KnuthPlass.{Break, Active, least, restart, settled}
-use Rattle.knuth_plass.specs.Cited.Table.{most_words, ratio_of, Tables, break_in, with_break, place_of, path_to, seen, break_meant, Sound, Ascends, Fits}
+use Rattle.knuth_plass.specs.Cited.Table.{ratio_of, Tables, break_in, with_break, place_of, path_to, seen, break_meant, Sound, Ascends}
 use Rattle.knuth_plass.specs.Cited.Round.{Limits, Turns, lessened, nothing, LeastFound, Fit, RoundReady, breaks_listed, Restarted, Settled}
 use Rattle.knuth_plass.proofs.Table.{length_with}
 use Rattle.knuth_plass.proofs.Path.{meant_before, meant_more}
@@ -41,27 +41,6 @@ module _ (g : Setting) (turn : Turn) (st : Standing) (t : Tables) (a : List ℕ)
 
   pub kept_room : s.kept < length t
   kept_room = let r = room in let h = fit.kept in let l = fit.room in omega arith
-
-  pub append_room : (st.size < length t) × (s.kept < length t) × (st.size < most_words)
-  append_room =
-      let f = turns.few in
-      let h = fit.few in
-      (room, kept_room, omega arith)
-
-  -- the new break's numbers fit the table
-  sound_fits : (b : Record) → Sound (suc turn.number) b → b.previous < st.size → Fits b
-  sound_fits b sound before =
-      let w = sound.word in
-      let f = turns.few in
-      let h = fit.few in
-      record { previous = omega arith; word = omega arith; columns = sound.columns }
-
-  pub restart_fits : (b c : Record) → Restarted g turn s.from c b → Fits b
-  restart_fits b c again = sound_fits b again.sound (rw again.previous fit.from)
-
-  -- the line of the break that begins again
-  pub again_columns : (c : Record) → c ≡ lessened st.reduction (break_in t s.from) → c.columns < 2 ^ 32
-  again_columns c is = rw is (fit.filled.sound s.from fit.from).columns
 
   -- one break more, b, in the tables t₁ and the list a₁
   module _ (b : Record) (d : ℕ) (t₁ : Tables) (a₁ : List ℕ) (sound : Sound (suc turn.number) b) (before : b.previous < st.size)
@@ -126,9 +105,6 @@ module _ (g : Setting) (turn : Turn) (st : Standing) (t : Tables) (a : List ℕ)
 
     offer_sound : Sound (suc turn.number) offered
     offer_sound = let i = limits.indent in let f = fit.best best in record { ratio = rw same f.ratio; columns = omega arith; demerits = f.total; word = omega arith }
-
-    pub offer_fits : Fits offered
-    offer_fits = sound_fits offered offer_sound (fit.best best).previous
 
     pub settles_offer : t₁ ≡ with_break t st.size offered → a₁ ≡ set a s.kept st.size
         → Settled g turn st t a s t₁ a₁ (record { count = s.kept + 1; size = st.size + 1; reduction = s.least })

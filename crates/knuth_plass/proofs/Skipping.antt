@@ -86,21 +86,6 @@ mark_behind n table i notes some = by (ltb (i + 1) n) refl where
       rw (le-ltb (i + 1) 2 (omega arith), back) (behind_next table n i notes (meaning notes (word_in table i)) (word_in table (i + 1)) refl (ltb-true (i + 1) n e))
   by false e = rw (lt-ltb 1 (i + 1) (omega arith)) (behind_last table n i notes (meaning notes (word_in table i)) (ltb-false (i + 1) n e))
 
--- by the tests of the code
-module _ (table : List ℕ) (i : ℕ) where
-  pub sentence_second : i < 2 → false ≡ sentence_at table i
-  sentence_second h = rw (lt-ltb i 2 h)
-
-  module _ (later : 2 ≤ i) (w : WordRecord) (got : w ≡ word_in table i) where
-    pub sentence_own : w.sentence ≡ true → true ≡ sentence_at table i
-    sentence_own e = rw (le-ltb i 2 later, ← got, e)
-
-    pub sentence_first : w.sentence ≡ false → w.first ≡ true → (v : WordRecord) → v ≡ word_in table (i - 1) → v.punct ≡ sentence_at table i
-    sentence_first e f v h = rw (le-ltb i 2 later, ← got, e, f, h)
-
-    pub sentence_none : w.sentence ≡ false → w.first ≡ false → false ≡ sentence_at table i
-    sentence_none e f = rw (le-ltb i 2 later, ← got, e, f)
-
 -- ---- the words skipped
 
 pub end_is : (uniform : Bool) (table : List ℕ) (i p : ℕ) (w : WordRecord) (space : ℕ) → w ≡ word_in table i → AddedIs uniform w.first (sentence_at table i) false space

@@ -143,10 +143,6 @@ module _ (l : List ℕ) (k n : ℕ) where
 
 -- ---- the numbers of a place, and those of a line, stored one by one
 
-pub bit_small : (a : Bool) (r : ℕ) → r ≡ cond a 1 0 → r ≤ 1
-bit_small true r e = omega arith
-bit_small false r e = omega arith
-
 bit_back : (a : Bool) → eqb (cond a 1 0) 1 ≡ a
 bit_back true = refl
 bit_back false = refl

@@ -17,7 +17,7 @@ use Rattle.spacing.specs.declared.Setting.{Setting}
 use Rattle.knuth_plass.specs.declared.Standing.{Standing}
 use Rattle.knuth_plass.specs.KnuthPlass.{Place, Break, Active, least, rounds_from, path_of, starts_line, marks_from, best_breaks}
 use Rattle.knuth_plass.specs.Cited.Table.{Tables, path_to, seen, break_meant, Leads}
-use Rattle.knuth_plass.specs.Cited.Round.{begin, RoundsAre, Listed, LeastIs, PathIs, Worked, BestAre}
+use Rattle.knuth_plass.specs.Cited.Round.{begin, RoundsAre, LeastIs, PathIs, Worked, BestAre}
 use Rattle.knuth_plass.proofs.Filled.{filled_leads}
 use Rattle.knuth_plass.proofs.Work.{worked_word, worked_beyond}
 
@@ -29,17 +29,7 @@ marks_are marks n path i (w ∷ ws) h l e =
     rw (slice_here marks i n false (omega arith) h, e i (omega arith), add-one i) (ap (λ (bs : List Bool). starts_line i path ∷ bs) (marks_are marks n path (suc i) ws h (omega arith) e))
 
 module _ (g : Setting) (n : ℕ) (table : List ℕ) (t : Tables) (a : List ℕ) (st : Standing) (rounds : RoundsAre g n table t a st) where
-  pub listed : Listed st t a
-  listed =
-      let r = rounds.ready in
-      let f = r.few in
-      let h = rounds.holds in
-      record { sized = r.filled.sized; size = omega arith; some = r.some; room = r.room; active = r.active; ascends = r.ascends }
-
   module _ (last : ℕ) (found : LeastIs st t a last) where
-    pub last_room : last < length t
-    last_room = let r = rounds.ready.few in let h = rounds.holds in let w = found.within in omega arith
-
     pub leads : Leads t last
     leads =
         let h = rounds.holds in

@@ -6,7 +6,6 @@ use Prim.Native.Nat.{ℕ, ◌+◌, ◌<◌}
 use native.Mathlib.Omega.{arith}
 use lib.Dec.{eqb}
 use lib.ListN.{length, get_or, take}
-use lib.Seq.{slice}
 use borrow.Author.Tests.{eq-eqb, ne_eqb}
 use Rattle.lists.specs.Runs.{while, every}
 use Rattle.text.specs.Characters.{Glyph, characters, glyphs, is_blank, is_good, extent}
@@ -14,9 +13,7 @@ use Rattle.text.specs.Cited.Places.{settle}
 use Rattle.text.specs.declared.Found.{Found}
 use Rattle.text.specs.declared.Found.TheVariants.{At, Nowhere}
 use Rattle.text.proofs.Glue.{glyphs_settle}
-use Rattle.options.specs.Opts.{Opts, Text, absent, given, text_of}
-use Rattle.options.specs.declared.Part.{Part}
-use Rattle.options.specs.declared.Part.TheVariants.{Given}
+use Rattle.options.specs.Opts.{Opts, Text, absent, given}
 use Rattle.lines.specs.Lines.{body, without_return, first_line}
 use Rattle.lines.specs.Classes.{glyphs_before, glyphs_from, columns_of, search, prefix_found, prefix_size, skip_found, somewhere, shape_at, class_behind, classify}
 use Rattle.lines.specs.Cited.Places.{lengths_of, classed_of, line_start, behind_all, class_at, BehindBlanks, BehindPlace, ink_before, glyphs_behind}
@@ -118,11 +115,6 @@ module _ (o : Opts) (line : List ℕ) where
         pub class-given : (p : List ℕ) (k : Class) → o.prefix ≡ given p
             → k ≡ class_at o.tab (length p) (glyphs o.glue line) (search o.exact_prefix p line 0 (glyphs o.glue line)) → k ≡ classify o line
         class-given p k h e = e ∙ class-with (given p) h
-
--- a skip prefix that is given, from the answer of find
-pub skip_given : (exact : Bool) (block line : List ℕ) (skip : Part) (gs : List Glyph) (start end : ℕ) (f : Found) → skip ≡ Given start end
-    → f ≡ search exact (slice start end block) line 0 gs → somewhere f ≡ somewhere (skip_found exact (text_of block skip) line gs)
-skip_given exact block line skip gs start end f h e = rw (h, e)
 
 -- the first line with its class, from the two answers
 pub classed_is : (o : Opts) (s : List ℕ) (e : Extent) (k : Class) → e ≡ lengths_of (first_line s) → k ≡ classify o (take e.text s)

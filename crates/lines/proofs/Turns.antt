@@ -1,10 +1,9 @@
 -- The loops that measure, turn by turn: what is left from a spot on leads where the whole does.
 use mathlib.Core.Path.{◌≡◌, refl, sym, ap, subst, ◌∙◌}
 use mathlib.Core.Bool.{Bool, true, false, cond, ◌||◌}
-use mathlib.Core.Logic.{⊎_elim}
 use mathlib.Core.List.{List, [], ◌∷◌}
 use Prim.Native.Nat.{ℕ, zero, suc, ◌+◌, ◌-◌, ◌*◌, ◌/◌, ◌≤◌, ◌<◌}
-use native.Mathlib.Nat.{sub-zero, add-mul, mul-div_cancel, eq-or-lt_of_le}
+use native.Mathlib.Nat.{add-mul, mul-div_cancel}
 use native.Mathlib.Omega.{arith}
 use lib.Dec.{ltb, eqb}
 use lib.ListN.{length, get_or, drop}
@@ -19,7 +18,7 @@ use Rattle.text.proofs.Rows.{all_at, all_each}
 use Rattle.text.proofs.Edges.{glyphs_past, glyphs_first, blank_on}
 use Rattle.lines.specs.Classes.{next_stop, glyphs_before, glyphs_from}
 use Rattle.widths.specs.Widths.{width_of}
-use Rattle.lines.specs.Cited.Places.{Repeats, BehindTabs, Inside, line_start, behind_all, Behind, BehindBlanks, BehindPlace}
+use Rattle.lines.specs.Cited.Places.{BehindTabs, Inside, line_start, behind_all, Behind, BehindBlanks, BehindPlace}
 use Rattle.lines.specs.declared.Spot.{Spot}
 use Rattle.lines.proofs.Measures.{behind_none, up_to_zero, from_zero, behind_char, blanks_on, every_on, up_to_on, from_on}
 use Rattle.lines.proofs.UsualBlanks.{tab_here, ends_here}
@@ -31,9 +30,6 @@ pub record Left (tab : ℕ) (line : List ℕ) (place : ℕ) (m : Spot) : Type 0 
   pub rest : glyphs_from (place - m.at) (characters (drop m.at line)) ≡ glyphs_from place (characters line)
 
 module _ {tab : ℕ} {line : List ℕ} {place : ℕ} where
-  pub left_first : Left tab line place line_start
-  left_first = record { spot = rw (sub-zero place); rest = rw (sub-zero place) }
-
   pub left_then : {m r : Spot} → Behind tab line m r → m.at < place → Left tab line place m → Left tab line place r
   left_then st h l = record { spot = sym (up_to_on _ _ _ _ st place h) ∙ l.spot; rest = sym (from_on _ _ _ _ st place h) ∙ l.rest }
 
@@ -101,16 +97,6 @@ pub blank_eight : (line : List ℕ) (i : ℕ) → i + 8 ≤ length line → all_
 blank_eight line i h e = blank_run line i 7 (omega arith) (λ k a b. all_each usual line i 7 e k a b)
 
 -- ---- one byte, again and again
-
-pub repeats_none : {byte : ℕ} {line : List ℕ} {from : ℕ} → from ≤ length line → Repeats byte line from from
-repeats_none h = record { on = omega arith; within = h; each = λ i a d. absurd (omega arith) }
-
-pub repeats_more : {byte : ℕ} {line : List ℕ} {from to : ℕ} → Repeats byte line from to → to < length line → get_or line to 0 ≡ byte → Repeats byte line from (to + 1)
-repeats_more {byte} {line} {from} {to} t h e = record {
-  on = omega (arith, t.on);
-  within = omega arith;
-  each = λ i a d. ⊎_elim (λ (q : i ≡ to). rw q e) (λ (l : i < to). t.each i a l) (eq-or-lt_of_le (let g : i ≤ to = omega arith in g));
-}
 
 -- ---- over blanks: what is left from m on leads where going from the first spot does
 

@@ -1,11 +1,11 @@
 -- A run of stores, `sets l k vs`: what is read of it within and elsewhere, and the run cut out again. A list that is filled up to its end.
 use mathlib.Core.Path.{◌≡◌, refl, ◌∙◌}
-use mathlib.Core.List.{List, [], ◌∷◌, ◌++◌, append-nil}
+use mathlib.Core.List.{List, [], ◌∷◌}
 use Prim.Native.Nat.{ℕ, zero, suc, ◌+◌, ◌≤◌, ◌<◌}
 use native.Mathlib.Omega.{arith}
 use native.Mathlib.Nat.{add-zero, add-suc, suc-add}
 use native.Mathlib.Numerals.{add-one, add-two, add-three, add-four, add_five, add_six}
-use lib.ListN.{length, get_or, set, drop, replicate, length-set, drop_of_length-le}
+use lib.ListN.{length, get_or, set, length-set}
 use lib.Seq.{sets, get_or-set_same, get_or-set_other}
 
 module _ {A : Type 0} (d : A) where
@@ -26,7 +26,3 @@ pub sets_seven : {A : Type 0} (l : List A) (k : ℕ) (a b c d e f g : A)
     → set (set (set (set (set (set (set l k a) (k + 1) b) (k + 2) c) (k + 3) d) (k + 4) e) (k + 5) f) (k + 6) g
     ≡ sets l k (a ∷ b ∷ c ∷ d ∷ e ∷ f ∷ g ∷ [])
 sets_seven l k a b c d e f g = rw (add-one k, add-two k, add-three k, add-four k, add_five k, add_six k)
-
--- a list filled to its end
-pub fill_all : {A : Type 0} (v : A) (i : ℕ) (o : List A) → i ≡ length o → replicate i v ++ drop i o ≡ replicate (length o) v
-fill_all v i o e = rw (drop_of_length-le o {i = i} (omega arith), e) (append-nil (replicate (length o) v))

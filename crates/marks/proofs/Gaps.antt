@@ -129,11 +129,6 @@ abbrev pub Reached : List ℕ → ℕ → ℕ → Type 0
 Reached t k i = to_mark (marks_in (drop k t)) ≡ further (32 * (i - k)) (to_mark (marks_in (drop i t)))
 
 module _ (t : List ℕ) (k : ℕ) where
-  pub reached_first : Reached t k k
-  reached_first =
-      let e : 0 ≡ 32 * (k - k) = omega arith in
-      sym (further_none (to_mark (marks_in (drop k t)))) ∙ ap (λ (n : ℕ). further n (to_mark (marks_in (drop k t)))) e
-
   module _ (i : ℕ) (so : Reached t k i) where
     pub reached_last : length t ≤ i → 0 ≡ to_mark (marks_in (drop k t))
     reached_last h = sym (so ∙ ap (further (32 * (i - k))) (gap_none t i h))

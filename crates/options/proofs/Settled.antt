@@ -1,19 +1,13 @@
 -- Width and goal: a given goal is the goal; the rule, test by test.
-use mathlib.Core.Path.{◌≡◌, refl}
+use mathlib.Core.Path.{◌≡◌}
 use mathlib.Core.Bool.{true, false, and-eq-true_iff}
-use mathlib.Core.List.{List}
 use Prim.Native.Nat.{ℕ, ◌*◌, ◌-◌, ◌≤◌, ◌<◌}
 use native.Mathlib.Omega.{arith}
 use lib.Dec.{leb}
-use lib.ListN.{drop}
 use borrow.Author.Tests.{le-leb, lt-leb, leb-true}
 use Rattle.options.specs.declared.Part.{Part}
 use Rattle.options.specs.declared.Part.TheVariants.{Absent, Given}
-use Rattle.options.specs.OptionBlock.{number, goal_from, least_width, fits}
-
-pub goal_given : (block : List ℕ) (width : Part) (start end : ℕ) → goal_from block width (Given start end) ≡ number (drop start block)
-goal_given block Absent start end = refl
-goal_given block (Given s e) start end = refl
+use Rattle.options.specs.OptionBlock.{least_width, fits}
 
 module _ (least width goal : ℕ) where
   pub fits_low : width < least → fits least width goal ≡ false

@@ -9,7 +9,6 @@ use lib.ListN.{length, get_or, take, drop, set, replicate, length-take, length-r
 use lib.Seq.{slice, length-slice, take-nil, take_all, take-take}
 use Rattle.lists.proofs.Joins.{slice_join}
 use Rattle.lists.proofs.Slices.{slice_is, slice_one}
-use Rattle.lists.proofs.Views.{drop_here}
 use Rattle.output.specs.Cited.Sink.{paint, written, Wrote}
 use Rattle.output.proofs.Sink.{written_nil, wrote_byte, wrote_length, wrote_then}
 
@@ -45,13 +44,6 @@ byte_over {o} {o'} text j k h l t r w = covered text j k 1 h l (omega arith) w (
 
 pub copied_byte : {o o' : List ℕ} (text : List ℕ) (n : ℕ) → n < length text → n < length o → Wrote o 0 (take n text) o' n → Wrote o 0 (take (n + 1) text) (set o' n (get_or text n 0)) (n + 1)
 copied_byte text n h k w = byte_over text n n (omega arith) (omega arith) h k w
-
-pub four_here : (text : List ℕ) (at : ℕ) → at + 4 ≤ length text
-    → get_or text at 0 ∷ get_or text (at + 1) 0 ∷ get_or text (at + 2) 0 ∷ get_or text (at + 3) 0 ∷ [] ≡ slice at (at + 4) text
-four_here text at h =
-    let second : at + 1 + 1 ≡ at + 2 = omega arith in
-    let third : at + 2 + 1 ≡ at + 3 = omega arith in
-    sym (slice_is at 4 text ∙ rw (drop_here 0 text at (omega arith), drop_here 0 text (at + 1) (omega arith), second, drop_here 0 text (at + 2) (omega arith), third, drop_here 0 text (at + 3) (omega arith)))
 
 pub byte_to : (o : List ℕ) (n n' x : ℕ) → n < length o → n' ≡ n + 1 → Wrote o n (x ∷ []) (set o n x) n'
 byte_to o n n' x h e = rw e (wrote_byte o n x h)

@@ -94,12 +94,3 @@ module _ (notes table : List ℕ) (n : ℕ) (l : Layout) where
   emit_first w e h =
       let view : words_in notes n table ≡ meaning notes (word_in table 0) ∷ drop 1 (words_in notes n table) = words_drop notes n table 0 h in
       rw (e, view)
-
-  pub first_most : (from to : ℕ) {o o' : List ℕ} {r : ℕ} → Laid notes table n l → to ≤ length notes → Wrote o 0 (margin_of notes l.first ++ slice from to notes) o' r → r ≤ 2 ^ 34
-  first_most from to laid h q =
-      let m = margin_most notes l.first laid.first in
-      let t = length-slice from to notes h in
-      let s = laid.small in
-      let a = length-append (margin_of notes l.first) (slice from to notes) in
-      let e = q.count in
-      omega arith

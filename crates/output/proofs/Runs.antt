@@ -1,14 +1,12 @@
 -- The laws of runs: spaces of the notes, a word that joins, the run's start and one word more.
-use mathlib.Core.Path.{◌≡◌, refl, sym, ap, ◌∙◌}
+use mathlib.Core.Path.{◌≡◌, sym, ap, ◌∙◌}
 use mathlib.Core.Bool.{Bool, false}
 use mathlib.Core.List.{List, ◌++◌, append_assoc}
-use Prim.Native.Nat.{ℕ, ◌+◌, ◌≤◌, ◌<◌}
-use native.Mathlib.Nat.{add-zero}
+use Prim.Native.Nat.{ℕ, ◌+◌, ◌<◌}
 use native.Mathlib.Omega.{arith}
-use lib.ListN.{length, get_or, replicate}
-use lib.Seq.{slice, slice_empty}
+use lib.ListN.{length, replicate}
+use lib.Seq.{slice}
 use Rattle.lists.proofs.Joins.{slice_join}
-use Rattle.lists.proofs.Slices.{slice_one}
 use Rattle.records.specs.declared.Word.{Word as Record}
 use Rattle.records.specs.Word.{meaning}
 use Rattle.records.specs.Cited.Table.{Within, Got}
@@ -23,19 +21,6 @@ use Rattle.output.proofs.Sink.{wrote_then, left_then}
 use Rattle.output.proofs.Emission.{joined, turn_within, rest_turn, emit_first}
 
 -- ---- spaces of the notes
-
-pub no_space : (notes : List ℕ) (at count : ℕ) → count ≡ 0 → slice at (at + count) notes ≡ replicate count 32
-no_space notes at count e = rw (e, add-zero) (slice_empty at notes)
-
-pub one_space : (notes : List ℕ) (at count : ℕ) → count ≡ 1 → at < length notes → get_or notes at 0 ≡ 32 → slice at (at + count) notes ≡ replicate count 32
-one_space notes at count c h e = rw (c, slice_one 0 notes at h, e)
-
-pub two_spaces : (notes : List ℕ) (at count : ℕ) → count ≡ 2 → at + 1 < length notes → get_or notes at 0 ≡ 32 → get_or notes (at + 1) 0 ≡ 32
-    → slice at (at + count) notes ≡ replicate count 32
-two_spaces notes at count c h e f =
-    let q : at + 1 + 1 ≡ at + count = omega arith in
-    sym (slice_join at (at + 1) (at + count) notes (omega arith) (omega arith) (omega arith))
-    ∙ rw (one_space notes at 1 refl (omega arith) e, ← q, one_space notes (at + 1) 1 refl h f, c)
 
 -- ---- a word that joins
 
@@ -53,9 +38,6 @@ joins notes w added at within e s =
 -- ---- a run
 
 module _ {notes table : List ℕ} {n : ℕ} {l : Layout} {at : ℕ} {punct : Bool} {i : ℕ} where
-  pub run_first : at ≤ length notes → i ≤ n → Runs notes table n l at punct i (record { next = i; end = at; punct = punct })
-  run_first h k = record { on = omega arith; few = k; order = omega arith; within = h; is = rw slice_empty }
-
   pub run_more : {r : Run} {w : Record} {added : ℕ} → Laid notes table n l → Runs notes table n l at punct i r → r.next < n → Got table r.next w
       → added ≡ added_space l.uniform w.first w.sentence r.punct → mark_in table r.next ≡ false → Joins notes w false added r.end
       → Runs notes table n l at punct i (record { next = r.next + 1; end = w.end; punct = w.punct })

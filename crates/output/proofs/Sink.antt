@@ -107,9 +107,6 @@ wrote_part o n k d ys r e w = record { count = let c = w.count in omega arith; b
 pub left_first : (o : List ℕ) (n : ℕ) (d : List ℕ) → Left o n d o n d
 left_first o n d = record { count = refl; bytes = refl }
 
-pub left_length : {o₀ o : List ℕ} {n₀ n : ℕ} {d₀ d : List ℕ} → Left o₀ n₀ d₀ o n d → length o ≡ length o₀
-left_length {o₀} {o} {n₀} {n} {d₀} {d} p = sym (length_written n o d) ∙ ap length p.bytes ∙ length_written n₀ o₀ d₀
-
 pub left_then : {o₀ o o' : List ℕ} {n₀ n n' : ℕ} {d₀ d e : List ℕ} → Left o₀ n₀ d₀ o n (d ++ e) → Wrote o n d o' n' → Left o₀ n₀ d₀ o' n' e
 left_then {o} {n} {d} {e} p q = record {
   count = let l = length-append d e in omega arith;

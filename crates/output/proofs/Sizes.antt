@@ -34,9 +34,6 @@ placed_is notes w false added indent h =
     omega arith
 
 module _ {notes table : List ℕ} {n : ℕ} {l : Layout} (laid : Laid notes table n l) where
-  pub margin_small : (m : Margin) → MarginIn (length notes) m → (m.start ≤ m.end) × (m.end < 2 ^ 32) × (m.more < 2 ^ 32)
-  margin_small m h = (h.order, omega (arith, h.end, laid.small), h.more)
-
   module _ {i : ℕ} {w : Record} (got : Got table i w) (more : i < n) where
     pub word_small : Within (2 ^ 32) w
     word_small = let h = turn_within laid got more in record { gap = h.gap; text = h.text; end = omega (arith, h.end, laid.small) }

@@ -1,5 +1,5 @@
 -- Drawing a row, turn by turn: what is left to draw gives the row that the whole line gives.
-use mathlib.Core.Path.{◌≡◌, refl, sym, ap, ◌∙◌}
+use mathlib.Core.Path.{◌≡◌, refl, ap, ◌∙◌}
 use mathlib.Core.Bool.{Bool, true, false, cond}
 use mathlib.Core.List.{List, [], ◌∷◌}
 use Prim.Native.Nat.{ℕ, ◌+◌, ◌-◌, ◌≤◌, ◌<◌}
@@ -109,9 +109,6 @@ pub record Drawing (line : List ℕ) (tab : ℕ) (row : List ℕ) (at column : �
   pub few : column ≤ 80
   pub size : length row ≡ 80
   pub left : finished (draw tab (row_at column row) (signs (drop at line))) ≡ row_cells tab line
-
-pub eighty : (row : List ℕ) → row ≡ replicate 80 blank → 80 ≡ length row
-eighty row e = sym (ap length e ∙ length-replicate 80 blank)
 
 pub drawing_first : (line : List ℕ) (tab : ℕ) (row : List ℕ) → row ≡ replicate 80 blank → Drawing line tab row 0 0
 unfolding row_cells blank_row

@@ -27,7 +27,7 @@ use Rattle.output.specs.Cited.Sink.{Wrote}
 use Rattle.output.specs.Cited.Writers.{margin_of, emitted}
 use Rattle.output.specs.declared.Layout.{Layout}
 use Rattle.quick.specs.Quick.{quick_breaks}
-use Rattle.knuth_plass.specs.Cited.Round.{Limits, AllNarrow, BestAre}
+use Rattle.knuth_plass.specs.Cited.Round.{Limits, AllNarrow}
 use Rattle.paragraphs.specs.Breaks.{setting_of, breaks_by}
 use Rattle.paragraphs.specs.Cited.Steps.{setting_for, Broken, Placed}
 
@@ -65,9 +65,6 @@ module _ {longest : ℕ} {notes t : List ℕ} {r : Count} {ws : List Word} {es :
 module _ (fast : Bool) (g : Setting) (n : ℕ) (work work' : List ℕ) where
   pub broken_fast : fast ≡ true → ((notes : List ℕ) → MarkedBy n work (quick_breaks g (words_in notes n work)) work') → Broken fast g n work work'
   broken_fast e m = record { breaks = λ notes. rw e (m notes).says; words = λ j h. (m []).words j; sized = (m []).sized }
-
-  pub broken_best : fast ≡ false → BestAre g n work work' → Broken fast g n work work'
-  broken_best e m = record { breaks = λ notes. rw e (m.breaks notes); words = m.words; sized = m.sized }
 
 -- what was emitted is the paragraph, in terms of its own words
 pub emitted_is : (notes old work : List ℕ) (n : ℕ) (l : Layout) {uniform fast₀ fast : Bool} {first indent : Margin} {g₀ g : Setting} {ws : List Word}

@@ -23,8 +23,7 @@ use Rattle.output.specs.Cited.Writers.{margin_of}
 use Rattle.output.proofs.Bound.{emit_most}
 use Rattle.quick.specs.Quick.{quick_breaks}
 use Rattle.paragraphs.specs.Breaks.{setting_of, breaks_by}
-use Rattle.paragraphs.specs.Cited.Steps.{Placed, setting_for, words_for, TextPut, takes, TextStepped}
-use Rattle.paragraphs.specs.declared.Step.{Step}
+use Rattle.paragraphs.specs.Cited.Steps.{Placed, setting_for, words_for, TextPut, takes}
 use Rattle.regular.specs.Cited.Places.{PutIs}
 
 -- over plain marks
@@ -48,13 +47,6 @@ takes_many quick bytes most room words e = pick (quick && leb ((bytes + 1) / 2) 
     pick true e = absurd (true≢false e)
     pick false e = leb-false words room e
 
--- with quick alone
-pub only_quick : (quick b : Bool) → quick ≡ false → false ≡ (quick && b)
-only_quick quick b e = rw e
-
-pub if_quick : (quick b : Bool) → quick ≡ true → b ≡ (quick && b)
-if_quick quick b e = rw e
-
 pub is_quick : (quick b : Bool) → true ≡ (quick && b) → quick ≡ true
 is_quick true b e = refl
 is_quick false b e = absurd (true≢false e)
@@ -62,10 +54,6 @@ is_quick false b e = absurd (true≢false e)
 -- by the bytes, or by the table
 pub by_bytes : (a b : Bool) → true ≡ a → (a || b) ≡ true
 by_bytes a b e = rw (← e)
-
-pub by_table : (a b : Bool) → false ≡ a → (notes : List ℕ) (at : ℕ) (o : Options) (p : Paragraph) (out : List ℕ) (written : ℕ) (out' : List ℕ) (r : Step) (block : List ℕ) → TextStepped b notes at o p out written out' r block
-    → TextStepped (a || b) notes at o p out written out' r block
-by_table a b e notes at o p out written out' r block s = rw (← e) s
 
 module _ (notes : List ℕ) (at : ℕ) (o : Options) (p : Paragraph) (placed : Placed notes at o p) where
   -- every second byte at most begins a word

@@ -1,6 +1,6 @@
 -- A paragraph of each kind, from the place that its lines reach.
 use mathlib.Core.Path.{◌≡◌, refl, sym, ap, ◌∙◌, fun_ext}
-use mathlib.Core.Bool.{Bool, true, false, cond, not, ◌&&◌, ◌||◌, true≢false, false≢true}
+use mathlib.Core.Bool.{Bool, true, false, cond, not, ◌&&◌, ◌||◌}
 use mathlib.Core.List.{List, []}
 use Prim.Native.Nat.{ℕ, ◌+◌, ◌≤◌}
 use native.Mathlib.Omega.{arith}
@@ -161,15 +161,6 @@ module _ (o : Opts) (notes : List ℕ) (at next : ℕ) (s : Shape) where
             let b : start_at o false s (lines_of (drop next notes)) ≡ t.indent_end = hang_start ∙ ap (later_start s) h ∙ ap (λ (x : Shape). x.indent_end) ut in
             let n = q ∙ hang_count behind text t (h ∙ ap (joins text) ut) j in
             rw (← n, i, b)
-
--- a choice by a test
-pub cond_taken : (t : Bool) (a b : ℕ) → t ≡ true → a ≡ cond t a b
-cond_taken true a b e = refl
-cond_taken false a b e = absurd (false≢true e)
-
-pub cond_left : (t : Bool) (a b r : ℕ) → t ≡ false → r ≡ b → r ≡ cond t a b
-cond_left true a b r e h = absurd (true≢false e)
-cond_left false a b r e h = h
 
 -- the same of the code's options
 module _ (block notes : List ℕ) (o : Options) (at next : ℕ) (s : Shape) where

@@ -14,8 +14,7 @@ use Rattle.lines.specs.Lines.{first_line, lines_of}
 use Rattle.lines.specs.Cited.Places.{lengths_of, classed_of, LinesSound}
 use Rattle.lines.specs.declared.ClassedExtent.{ClassedExtent}
 use Rattle.lines.proofs.Lines.{LineHere, line_here}
-use Rattle.lines.specs.declared.Shape.{Shape}
-use Rattle.pieces.specs.Cited.Places.{LineIs, Joined}
+use Rattle.pieces.specs.Cited.Places.{LineIs}
 use Rattle.pieces.specs.declared.Classed.{Classed}
 
 module _ (o : Opts) (notes : List ℕ) (at : ℕ) (r : ClassedExtent) (inside : at < length notes)
@@ -61,6 +60,3 @@ module _ (notes : List ℕ) (at : ℕ) (known : Bool) (sound : known ≡ true �
 -- from line to line
 pub next_sound : (o : Opts) (notes : List ℕ) (at : ℕ) (r : Classed) (known : Bool) → LineIs o notes at r → (known ≡ true → LinesSound (lines_of (drop at notes))) → known ≡ true → LinesSound (lines_of (drop r.next notes))
 next_sound o notes at r known l sound = rest_sound notes at known sound r.next l.first
-
-pub joined_sound : (notes : List ℕ) (at next : ℕ) (s : Shape) (known : Bool) → Joined notes at next s → (known ≡ true → LinesSound (lines_of (drop at notes))) → known ≡ true → LinesSound (lines_of (drop next notes))
-joined_sound notes at next s known j sound = rest_sound notes at known sound next j.first

@@ -95,9 +95,6 @@ module _ (s : List ℕ) (p e at : ℕ) (inked : Inked s p e) (from : p ≤ at) (
         pick true true x y = first.none i (omega (arith, ltb-true at i y)) k
         pick true false x y = last.none i (omega (arith, ltb-true p i x)) (ltb-false at i y)
 
-    pub cut_lone : e ≤ z → CutIs s p e at (record { end = e; next = e })
-    cut_lone h = record { most = omega arith; cut = λ x. absurd (omega arith); lone = λ x i a b. one_word i a (omega arith) }
-
     pub cut_long : (next : ℕ) → z < e → OverSpaces s (z + 1) e next → CutIs s p e at (record { end = z; next = next })
     cut_long next l over =
         let f = first.on in

@@ -9,16 +9,12 @@ use Rattle.options.specs.Opts.{meant}
 use Rattle.options.specs.declared.Options.{Options}
 use Rattle.lines.specs.Lines.{lines_of}
 use Rattle.lines.specs.declared.Extent.{Extent}
-use Rattle.pieces.specs.Cited.Bounds.{AllBegin}
 use Rattle.spacing.specs.declared.Setting.{Setting}
 use Rattle.words.proofs.Rows.{LineAt, lines_end, words_same}
-use Rattle.output.proofs.Sink.{left_first}
 use Rattle.regular.specs.declared.Row.{Row}
 use Rattle.regular.specs.declared.Reached.{Reached}
-use Rattle.regular.specs.declared.Progress.{Progress}
-use Rattle.regular.specs.Cited.Places.{RowIs, Stands, reached_of, Went, Worded, Gone, RowPut, Rowed, words_on}
+use Rattle.regular.specs.Cited.Places.{RowIs, Went, Worded, Gone, RowPut, Rowed, words_on}
 use Rattle.regular.proofs.Rest.{on_none}
-use Rattle.regular.proofs.Joining.{left_on}
 
 -- of a paragraph that is no mail, gaps are as the options have them
 pub gaps_same : (a b c : Bool) → c ≡ (a || b) → b ≡ false → a ≡ c
@@ -72,26 +68,6 @@ module _ (s : List ℕ) (i next : ℕ) (mail : Bool) (skip later : ℕ) (o : Opt
       }
 
 module _ (s : List ℕ) (at next : ℕ) (mail : Bool) (start later : ℕ) (o : Options) (g : Setting) (indent : List ℕ) (out : List ℕ) (t : Reached) where
-  pub gone_first : at ≤ next → (mail ≡ false → AllBegin o.glue start later (lines_of (slice at next s))) → Stands t → Gone s at next mail start later o g indent out t out at start t
-  gone_first on begins near = record { on = omega arith; most = on; rest = begins; left = λ block. left_first _ _ _; few = omega arith; stands = near }
-
-  pub gone_turn : (i skip : ℕ) (v : Reached) (out' : List ℕ) → Gone s at next mail start later o g indent out t out' i skip v → (out'' : List ℕ) (r : Progress) → RowPut s i next mail skip later o g indent out' v out'' r
-      → Gone s at next mail start later o g indent out t out'' r.at later (reached_of r)
-  gone_turn i skip v out' gone out'' r row =
-      let y = row.gone in
-      let a = y.on in
-      let b = y.few in
-      let c = gone.on in
-      let d = gone.few in
-      record {
-        on = omega arith;
-        most = y.most;
-        rest = y.rest;
-        left = λ block. left_on (gone.left block) (y.left block);
-        few = omega arith;
-        stands = y.stands;
-      }
-
   -- all of them
   pub gone_all : (i skip : ℕ) (v : Reached) (out' : List ℕ) → Gone s at next mail start later o g indent out t out' i skip v → next ≤ i → next ≤ 2 ^ 20
       → Rowed s at next mail start later o g indent out t out' v

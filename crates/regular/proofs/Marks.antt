@@ -6,34 +6,16 @@ use Prim.Native.Nat.{ℕ, zero, suc, ◌+◌, ◌-◌, ◌≤◌, ◌<◌, ◌^�
 use native.Mathlib.Omega.{arith}
 use lib.ListN.{length, get_or}
 use lib.Seq.{slice, length-slice, slice_empty}
-use borrow.Author.Tests.{le-leb, lt-ltb, lt-leb, le-ltb}
-use Rattle.text.specs.Cited.Places.{Printable}
 use Rattle.spacing.specs.declared.Setting.{Setting}
 use Rattle.words.specs.Cited.Scan.{punct_code}
 use Rattle.output.proofs.Sink.{left_first}
 use Rattle.regular.specs.declared.State.{State}
 use Rattle.regular.specs.declared.Reached.{Reached}
-use Rattle.regular.proofs.Searches.{over}
-use Rattle.regular.specs.Cited.Regular.{is_regular, stretch_words, lastly, fresh_punct, quick_on}
-use Rattle.regular.specs.Cited.Places.{FirstSpace, Inked, Filled, Joined, EachRegular, Stands, Went}
+use Rattle.regular.specs.Cited.Regular.{stretch_words, lastly, fresh_punct, quick_on}
+use Rattle.regular.specs.Cited.Places.{FirstSpace, Inked, Filled, Joined, Stands, Went}
 use Rattle.regular.proofs.Rest.{on_rest, on_fresh}
 use Rattle.regular.proofs.Fresh.{no_words}
 use Rattle.regular.proofs.Parts.{part_at, part_ink, part_spaced}
-
-pub regular_by : (b : ℕ) → 32 ≤ b → b ≤ 127 → is_regular b ≡ true
-regular_by b h k = let l : b < 128 = omega arith in rw (le-leb 32 b h, lt-ltb b 128 l)
-
-pub regular_below : (b : ℕ) → b < 32 → is_regular b ≡ false
-regular_below b h = rw (lt-leb 32 b h)
-
-pub regular_above : (b : ℕ) → 127 < b → is_regular b ≡ false
-regular_above b h = let l : 128 ≤ b = omega arith in let k : 32 ≤ b = omega arith in rw (le-leb 32 b k, le-ltb b 128 l)
-
-pub each_more : (s : List ℕ) (from i to : ℕ) → EachRegular s from i → EachRegular s i to → EachRegular s from to
-each_more s from i to a b = over (λ j. is_regular (get_or s j 0) ≡ true) from i to a b
-
-pub each_printable : (s : List ℕ) (from to : ℕ) → Printable s from to → EachRegular s from to
-each_printable s from to p = λ k a b. let e = p k a b in regular_by _ e.0 (omega (arith, e.1))
 
 -- ---- marks
 

@@ -2,12 +2,11 @@
 use mathlib.Core.Path.{◌≡◌, refl, sym, ◌∙◌}
 use mathlib.Core.Bool.{Bool, true, false, not, false≢true}
 use mathlib.Core.List.{List, [], ◌∷◌, ◌++◌, append_assoc}
-use Prim.Native.Nat.{ℕ, suc, ◌+◌, ◌-◌, ◌*◌, ◌≤◌, ◌<◌, ◌^◌}
+use Prim.Native.Nat.{ℕ, ◌+◌, ◌-◌, ◌*◌, ◌≤◌, ◌<◌, ◌^◌}
 use native.Mathlib.Omega.{arith}
-use lib.Dec.{eqb}
-use lib.ListN.{length, get_or, drop, replicate}
-use lib.Seq.{slice, slice_empty, slice-cons, length-slice}
-use borrow.Author.Tests.{lt-ltb, le-ltb, eqb-true, not-true}
+use lib.ListN.{length, drop, replicate}
+use lib.Seq.{slice, length-slice}
+use borrow.Author.Tests.{lt-ltb, le-ltb}
 use Rattle.lists.specs.Runs.{while}
 use Rattle.lists.proofs.Joins.{slice_join, append_inner}
 use Rattle.text.specs.Characters.{is_blank}
@@ -20,7 +19,6 @@ use Rattle.records.specs.Cited.Table.{Within, word_in, records_of, words_in}
 use Rattle.records.proofs.Table.{words_drop, words_end}
 use Rattle.spacing.specs.Spacing.{gap_width, added_space}
 use Rattle.spacing.specs.declared.Setting.{Setting}
-use Rattle.words.specs.Cited.Split.{Kept}
 use Rattle.words.specs.Cited.Taken.{words_between, TakenTo}
 use Rattle.words.specs.declared.Taken.{Taken}
 use Rattle.output.specs.Emission.{line_feed, space_before}
@@ -35,17 +33,6 @@ use Rattle.regular.proofs.Rest.{word_breaks, word_stays, on_rest, on_fresh}
 use Rattle.regular.proofs.Joining.{left_on}
 
 -- ---- spaces of the notes
-
-pub gap_none : (s : List ℕ) (to from count : ℕ) → from ≡ to → eqb count 0 ≡ true → GapIn s to from count
-gap_none s to from count e z = record { on = omega arith; spaces = rw (e, eqb-true count 0 z) (slice_empty to s) }
-
-pub gap_one : (s : List ℕ) (to from count : ℕ) → from ≡ to + 1 → count ≡ 1 → from ≤ length s → eqb (get_or s to 0) 32 ≡ true → GapIn s to from count
-gap_one s to from count e one within z =
-    let n : to + 1 ≡ suc to = omega arith in
-    record {
-      on = omega arith;
-      spaces = rw (e, one, slice-cons to (to + 1) s 0 (omega arith) (omega arith), eqb-true (get_or s to 0) 32 z, n, slice_empty (suc to) s);
-    }
 
 -- ---- one word
 
@@ -156,9 +143,6 @@ module _ (s : List ℕ) (w : Record) (g : Setting) (indent : List ℕ) (out : Li
 -- ---- the words of a table
 
 module _ (s table : List ℕ) (n : ℕ) (g : Setting) (indent : List ℕ) (out : List ℕ) (t : Waiting) where
-  pub listed_first : t.from ≤ t.to → t.to ≤ length s → Stands (standing t) → Listed s table n g indent out t out 0 t
-  listed_first order within near = record { few = omega arith; left = λ more. left_first _ _ _; order = order; within = within; most = omega arith; stands = near }
-
   pub listed_turn : (j : ℕ) (v : Waiting) (out' : List ℕ) → Listed s table n g indent out t out' j v → j < n → (w : Record) → w ≡ word_in table j → (out'' : List ℕ) (v' : Waiting) → WordPut s w g indent out' v out'' v'
       → Listed s table n g indent out t out'' (j + 1) v'
   listed_turn j v out' so more w is out'' v' put = record {
@@ -169,20 +153,6 @@ module _ (s table : List ℕ) (n : ℕ) (g : Setting) (indent : List ℕ) (out :
     most = let x = so.most in let y = put.most in omega arith;
     stands = put.stands;
   }
-
-  pub listed_all : (j : ℕ) (v : Waiting) (out' : List ℕ) → Listed s table n g indent out t out' j v → n ≤ j → Listed s table n g indent out t out' n v
-  listed_all j v out' so h = let z : j ≡ n = omega (arith, so.few, h) in rw z at so
-
--- what a table keeps of its words
-module _ (size n : ℕ) (table : List ℕ) (kept : Kept n size n table) (j : ℕ) (more : j < n) (w : Record) (is : w ≡ word_in table j) where
-  pub word_lies : Within size w
-  word_lies = rw is (kept.within j more)
-
-  pub word_narrow : w.width ≤ size
-  word_narrow = rw is (kept.narrow j more)
-
-pub kept_all : {most size n : ℕ} {table : List ℕ} → Kept most size n table → Kept n size n table
-kept_all k = record { few = omega arith; held = let h = k.held in let f = k.few in omega arith; within = k.within; narrow = k.narrow }
 
 -- ---- the words of a line, through a table
 
@@ -204,19 +174,6 @@ unfolding words_in records_of
 words_zero s table = refl
 
 module _ (s : List ℕ) (start end : ℕ) (mail : Bool) (o : Options) (g : Setting) (indent : List ℕ) (out : List ℕ) (t : Reached) where
-  pub wording_first : start ≤ end → end ≤ length s → (mail ≡ false → while is_blank (ink_glyphs o.glue (slice start end s)) ≡ []) → Stands t
-      → Wording s start end mail o g indent out t out start (not mail) false (record { from = start; to = start; written = t.written; column = t.column; punct = t.punct; begins = t.begins })
-  wording_first order within ink near = record {
-    on = omega arith;
-    to = order;
-    ink = λ e. ink (not-true mail e);
-    left = λ more. rw (slice_empty start s) (left_first _ _ _);
-    order = omega arith;
-    within = omega arith;
-    most = omega arith;
-    stands = near;
-  }
-
   module _ (out' : List ℕ) (at : ℕ) (first punct : Bool) (v : Waiting) (so : Wording s start end mail o g indent out t out' at first punct v) (table table' : List ℕ) (r : Taken) (taken : TakenTo 16 (meant [] o) mail s at end first punct 0 table r table')
       (out'' : List ℕ) (v' : Waiting) (listed : Listed s table' r.count g indent out' v out'' r.count v') where
     all : (more : List Word)

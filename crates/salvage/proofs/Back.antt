@@ -4,7 +4,7 @@ use mathlib.Core.Bool.{Bool, true, false, ◌&&◌}
 use mathlib.Core.List.{List, [], ◌∷◌, ◌++◌}
 use Prim.Native.Nat.{ℕ, zero, suc, ◌+◌, ◌-◌, ◌/◌, ◌%◌, ◌≤◌, ◌<◌, min}
 use native.Mathlib.Omega.{arith}
-use native.Mathlib.Nat.{zero-add, suc-add, zero-min, min-zero, suc-min-suc}
+use native.Mathlib.Nat.{suc-add, zero-min, min-zero, suc-min-suc}
 use lib.Dec.{leb}
 use lib.ListN.{length, get_or, take, drop, set, length-append, length-drop}
 use lib.Seq.{sets, length-sets, drop-drop, length-take-le}
@@ -16,7 +16,6 @@ use Rattle.lists.proofs.Fronts.{part_to_end}
 use Rattle.text.specs.Rfc3629.{encode}
 use Rattle.salvage.specs.Mending.{Change}
 use Rattle.salvage.specs.Restoring.{listed, belongs, belonging, restored}
-use Rattle.salvage.specs.Cited.Steps.{Whole}
 use Rattle.salvage.proofs.Counts.{encode_high}
 use Rattle.salvage.proofs.Writes.{sets_append}
 
@@ -211,9 +210,6 @@ pub record Counting (copy : List ℕ) (list : List Change) (at k : ℕ) : Type 0
   pub few : k ≤ length list
   pub count : k + belonging at (drop (at + k) copy) (drop k list) ≡ belonging 0 copy list
 
-pub counting_first : (copy : List ℕ) (list : List Change) → Counting copy list 0 0
-counting_first copy list = record { within = omega arith; few = omega arith; count = zero-add _ }
-
 module _ {copy : List ℕ} {list : List Change} {at k : ℕ} (p : Counting copy list at k) where
   module _ (e : Change) (h : k < length list) (here : drop k list ≡ e ∷ drop (k + 1) list) where
     counting_end : belongs at (drop (at + k) copy) e ≡ false → k ≡ belonging 0 copy list
@@ -250,9 +246,6 @@ pub record Returning (copy : List ℕ) (list : List Change) (notes₀ : List ℕ
   pub all : belonging at (drop (at + k) copy) (drop k list) ≡ length (drop k list)
   pub room : at + length (restored at (drop (at + k) copy) (drop k list)) ≤ length notes₀
   pub left : sets notes at (restored at (drop (at + k) copy) (drop k list)) ≡ sets notes₀ 0 (restored 0 copy list)
-
-pub returning_first : (copy : List ℕ) (list : List Change) (notes : List ℕ) → Whole copy list notes → Returning copy list notes 0 0 notes
-returning_first copy list notes w = record { within = omega arith; few = omega arith; all = w.all; room = rw zero-add w.room; left = refl }
 
 module _ {copy : List ℕ} {list : List Change} {notes₀ : List ℕ} {at k : ℕ} {notes : List ℕ} (p : Returning copy list notes₀ at k notes) where
   pub returning_length : length notes ≡ length notes₀

@@ -89,9 +89,6 @@ pub record CountLeft (line : List ℕ) (n i : ℕ) : Type 0 where
   pub few : n ≤ i
   pub count : (m : ℕ) → HighCounted (drop i line) m → HighCounted line (n + m)
 
-pub count_first : (line : List ℕ) → CountLeft line 0 0
-count_first line = record { within = omega arith; few = omega arith; count = λ m h. rw (zero-add m) h }
-
 pub count_more : (line : List ℕ) (n i r : ℕ) → i < length line → CountLeft line n i → HighCounted (get_or line i 0 ∷ []) r → CountLeft line (n + r) (i + 1)
 count_more line n i r h p q =
     let f : r ≤ 1 = low_or_high (get_or line i 0) (λ l. omega (arith, q.count, ap length (high_low 0 (get_or line i 0) [] l), ap length (high_nil 1))) (λ l. omega (arith, q.count, ap length (high_high 0 (get_or line i 0) [] l), ap length (high_nil 1))) in

@@ -1,33 +1,14 @@
 -- Runs of bytes that pass a test: one after another, one byte, eight; and a leading run counted from after one.
 use mathlib.Core.Path.{◌≡◌, refl, ap, ◌∙◌}
-use mathlib.Core.Bool.{Bool, true, false}
+use mathlib.Core.Bool.{Bool, true}
 use mathlib.Core.List.{List}
 use Prim.Native.Nat.{ℕ, zero, suc, ◌+◌, ◌-◌, ◌≤◌, ◌<◌}
 use native.Mathlib.Omega.{arith}
-use lib.Dec.{ltb}
 use lib.ListN.{length, get_or, drop}
-use borrow.Author.Tests.{ltb-true, ltb-false}
 use Rattle.lists.specs.Runs.{while}
 use Rattle.lists.proofs.RunsAt.{run_more as while-one}
 use Rattle.text.proofs.Rows.{all_at, all_each}
 use Rattle.salvage.specs.Cited.Steps.{Run}
-
-module _ {test : ℕ → Bool} {s : List ℕ} {from : ℕ} where
-  pub run_none : from ≤ length s → Run test s from from
-  run_none h = record { on = omega arith; within = h; pass = λ i a b. absurd (omega arith) }
-
-  pub run_more : {i to : ℕ} → Run test s from i → Run test s i to → Run test s from to
-  run_more {i} {to} a b = record { on = omega (arith, a.on, b.on); within = b.within; pass = pass }
-    where
-      pass : (k : ℕ) → from ≤ k → k < to → test (get_or s k 0) ≡ true
-      pass k h l = pick (ltb k i) refl
-        where
-          pick : (t : Bool) → ltb k i ≡ t → test (get_or s k 0) ≡ true
-          pick true e = a.pass k h (ltb-true k i e)
-          pick false e = b.pass k (ltb-false k i e) l
-
-  pub run_one : from < length s → test (get_or s from 0) ≡ true → Run test s from (from + 1)
-  run_one h k = record { on = omega arith; within = omega arith; pass = λ i a b. let e : i ≡ from = omega arith in rw e k }
 
 -- by a test of eight bytes
 pub run_eight : (test : ℕ → Bool) (s : List ℕ) (i : ℕ) → i + 8 ≤ length s → all_at test s i 7 ≡ true → Run test s i (i + 8)

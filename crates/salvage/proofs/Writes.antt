@@ -27,21 +27,6 @@ pub record Storing (text out₀ : List ℕ) (at : ℕ) (out : List ℕ) (i : ℕ
   pub within : i ≤ length text
   pub left : sets out (at + i) (drop i text) ≡ sets out₀ at text
 
-pub storing_first : (text out : List ℕ) (at : ℕ) → Storing text out at out 0
-storing_first text out at = record { within = omega arith; left = rw add-zero }
-
-module _ {text out₀ : List ℕ} {at : ℕ} {out : List ℕ} {i : ℕ} (p : Storing text out₀ at out i) where
-  pub storing_length : length out ≡ length out₀
-  storing_length = sym (length-sets out (at + i) (drop i text)) ∙ ap length p.left ∙ length-sets out₀ at text
-
-  pub storing_one : i < length text → Storing text out₀ at (set out (at + i) (get_or text i 0)) (i + 1)
-  storing_one h =
-      let k : at + (i + 1) ≡ suc (at + i) = omega arith in
-      record { within = omega arith; left = rw k (rw (drop_here 0 text i h) at p.left) }
-
-  pub storing_last : length text ≤ i → out ≡ sets out₀ at text
-  storing_last h = rw (drop_none 0 text i h) at p.left
-
 map_append : {A B : Type 0} (f : A → B) (xs ys : List A) → map f (xs ++ ys) ≡ map f xs ++ map f ys
 map_append f [] ys = refl
 map_append {A} {B} f (x ∷ xs) ys = ap (λ (l : List B). f x ∷ l) (map_append f xs ys)
@@ -135,10 +120,6 @@ fits_front t text l list f =
 pub record LinePart (line : List ℕ) (at n : ℕ) (copy₀ places₀ bytes₀ : List ℕ) (i m : ℕ) (copy places bytes : List ℕ) : Type 0 where
   pub within : i ≤ length line
   pub left : Left at n (joined encode line) (high_bytes at line) copy₀ places₀ bytes₀ (at + i) m (joined encode (drop i line)) (high_bytes (at + i) (drop i line)) copy places bytes
-
-pub line_first : (line : List ℕ) (at n : ℕ) (copy places bytes : List ℕ) → LinePart line at n copy places bytes 0 n copy places bytes
-line_first line at n copy places bytes =
-    record { within = omega arith; left = rw add-zero (left_first at n (joined encode line) (high_bytes at line) copy places bytes) }
 
 module _ {line : List ℕ} {at n : ℕ} {copy₀ places₀ bytes₀ : List ℕ} {i m : ℕ} {copy places bytes : List ℕ} (p : LinePart line at n copy₀ places₀ bytes₀ i m copy places bytes) where
   module _ (h : i < length line) where

@@ -30,13 +30,6 @@ module _ {s : List ℕ} {from : ℕ} where
   pub ascii_one : from < length s → get_or s from 0 < 0x80 → Ascii s from (from + 1)
   ascii_one h k = record { on = omega arith; within = omega arith; small = λ i a b. let e : i ≡ from = omega arith in rw e k }
 
-pub ascii_nothing : (s : List ℕ) (i : ℕ) → i ≤ length s → Ascii s i (i + 0)
-ascii_nothing s i h = let e : i ≡ i + 0 = omega arith in rw (← e) (ascii_none h)
-
--- one byte more
-pub ascii_byte : {s : List ℕ} {from at : ℕ} (end : ℕ) → at + 1 ≡ end → Ascii s from at → at < length s → get_or s at 0 < 0x80 → Ascii s from end
-ascii_byte end e a h k = rw (← e) (ascii_more a (ascii_one h k))
-
 -- a damaged place after a run is the first
 pub damage_run : (s : List ℕ) (from to : ℕ) → Ascii s from to → later from (damage (drop from s)) ≡ later to (damage (drop to s))
 damage_run s from to a = go (to - from) to (omega (arith, a.on)) (omega (arith, a.on))

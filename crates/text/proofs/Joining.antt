@@ -1,15 +1,13 @@
 -- Where each octet joins the three before it, no place is damaged: by the characters of a text, one after the other.
 use mathlib.Core.Path.{◌≡◌, refl, sym, ap, ◌∙◌}
 use mathlib.Core.Bool.{Bool, true, false, not, ◌&&◌, ◌||◌, and-eq-true_iff, or-true}
-use mathlib.Core.Logic.{⊎_elim}
 use mathlib.Core.List.{List, [], ◌∷◌}
 use Prim.Native.Nat.{ℕ, zero, suc, ◌+◌, ◌-◌, ◌*◌, ◌/◌, ◌%◌, ◌≤◌, ◌<◌}
-use native.Mathlib.Nat.{eq-or-lt_of_le}
 use native.Mathlib.Omega.{arith}
 use lib.Dec.{ltb, leb, eqb}
 use lib.ListN.{length, get_or, drop}
 use borrow.Author.Tests.{ltb-true, ltb-false, leb-true, le-leb, lt-leb, eqb-true, eqb-false, eq-eqb, not-true}
-use Rattle.lists.proofs.Views.{drop_here, drop_none}
+use Rattle.lists.proofs.Views.{drop_here}
 use Rattle.text.specs.Rfc3629.{decode}
 use Rattle.text.specs.Characters.{damage}
 use Rattle.text.specs.Cited.Places.{read_as}
@@ -205,30 +203,9 @@ joined_more s i h k e j =
     let z : i + 1 - 1 ≡ i = omega arith in
     rw (drop_here 0 s i k) (e, rw (x, y, z) at j)
 
-pub joined_end : (s : List ℕ) → (get_or s (length s - 3) 0 < 0xF0) × (get_or s (length s - 2) 0 < 0xE0) × (get_or s (length s - 1) 0 < 0xC0) → JoinedFrom s (length s)
-joined_end s h = rw (drop_none 0 s (length s) (omega arith)) h
-
 -- where each octet from a place on joins, and none is missing at the end
 pub joined_each : (s : List ℕ) (n i : ℕ) → i + n ≡ length s → 3 ≤ i → EachJoins s i (length s) → JoinedFrom s (length s) → JoinedFrom s i
 joined_each s zero i e h all j = let q : length s ≡ i = omega arith in rw q at j
 joined_each s (suc n) i e h all j =
     joined_more s i h (omega arith) (all.each i (omega arith) (omega arith))
     (joined_each s n (i + 1) (omega arith) (omega arith) (record { each = λ k a b. all.each k (omega arith) b }) j)
-
--- each octet of a stretch: of none, and one more
-pub each_none : (s : List ℕ) (from to : ℕ) → to ≤ from → EachJoins s from to
-each_none s from to h = record { each = λ k a b. absurd (omega arith) }
-
-pub each_same : {s : List ℕ} {from to : ℕ} (end : ℕ) → to ≡ end → EachJoins s from to → EachJoins s from end
-each_same end e all = rw (← e) all
-
-pub each_more : (s : List ℕ) (from to : ℕ) → EachJoins s from to → joins_at s to ≡ true → EachJoins s from (to + 1)
-each_more s from to all e = record { each = λ k a b. ⊎_elim (λ (q : k ≡ to). rw q e) (λ (l : k < to). all.each k a l) (eq-or-lt_of_le (let g : k ≤ to = omega arith in g)) }
-
--- stretches that touch or overlap
-pub each_both : {s : List ℕ} {from mid on to : ℕ} → on ≤ mid → EachJoins s from mid → EachJoins s on to → EachJoins s from to
-each_both {s} {from} {mid} {on} {to} h a b = record { each = λ k l m. pick k l m (ltb k mid) refl }
-  where
-    pick : (k : ℕ) → from ≤ k → k < to → (t : Bool) → ltb k mid ≡ t → joins_at s k ≡ true
-    pick k l m true e = a.each k l (ltb-true k mid e)
-    pick k l m false e = let q = ltb-false k mid e in b.each k (omega arith) m

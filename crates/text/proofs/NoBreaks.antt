@@ -120,9 +120,6 @@ pub record RunLeft (s : List ℕ) (at i : ℕ) : Type 0 where
   pub within : i ≤ length s
 
 module _ (s : List ℕ) (at : ℕ) where
-  pub run_first : at ≤ length s → RunLeft s at at
-  run_first h = record { run = refl; ahead = refl; within = h }
-
   module _ (i : ℕ) (l : RunLeft s at i) where
     pub run_more : no_break_at s i ≡ true → RunLeft s at (i + 2)
     unfolding extent

@@ -10,7 +10,7 @@ use Rattle.lines.specs.Lines.{Line as LineOf, lines_of, first_line}
 use Rattle.lines.specs.declared.Extent.{Extent}
 use Rattle.lines.proofs.Lines.{LineHere, lines_past}
 use Rattle.output.specs.Cited.Sink.{Wrote, Left}
-use Rattle.output.proofs.Sink.{left_length, left_first, left_then, left_last}
+use Rattle.output.proofs.Sink.{left_first, left_then, left_last}
 use Rattle.unflow.specs.Flowed.{space, quote_mark, quote_depth, needs_space, stuffing, content_of, is_soft}
 use Rattle.unflow.specs.Unflow.{mail_lines, unflowed}
 use Rattle.unflow.specs.Cited.Steps.{Parted, joins, end_of, start_of, placed, placed_from}
@@ -89,9 +89,6 @@ unfolding unflowed end_of
 turning_first text out = record { within = omega arith; bounded = omega arith; left = rw (← written_lines (mail_lines text)) (left_first out 0 _) }
 
 module _ {text out₀ : List ℕ} {at k : ℕ} {going : Bool} {depth : ℕ} {out : List ℕ} (t : Turning text out₀ at k going depth out) where
-  pub turning_length : length out ≡ length out₀
-  turning_length = left_length t.left
-
   pub turning_line : {e : Extent} {l : Line} {out' : List ℕ} {k' : ℕ} → LineHere text at e → Parted (lent text at e) l
       → Wrote out k (placed going depth (lent text at e)) out' k'
       → Turning text out₀ (at + e.whole) k' l.soft l.depth out'

@@ -3,7 +3,7 @@
 use mathlib.Core.Path.{◌≡◌, refl, sym, ap, ◌∙◌}
 use mathlib.Core.Bool.{Bool, true, false, cond}
 use mathlib.Core.List.{List, [], ◌∷◌}
-use Prim.Native.Nat.{ℕ, ◌+◌, ◌-◌, ◌*◌, ◌/◌, ◌≤◌, ◌<◌, max}
+use Prim.Native.Nat.{ℕ, ◌+◌, ◌-◌, ◌*◌, ◌≤◌, max}
 use native.Mathlib.Omega.{arith}
 use lib.ListN.{length}
 use lib.Seq.{slice, length-slice}
@@ -96,18 +96,6 @@ text_half block notes o nextMail at p g other =
     let w = ap length (text_words (meant block o) notes at p g.paragraph_is g.text) in
     let s = ap length (sym (words_same o block p.mail p.start p.later ls) ∙ words_same o other p.mail p.start p.later ls) in
     omega (arith, h, e, n, w, s, g.bounds.on)
-
--- its bytes show that so much is enough
-pub bytes_show : (quick : Bool) (words bytes most : ℕ) {n : ℕ} → 2 * words ≤ bytes + 1 → n ≡ cond quick 7 15 * ((bytes + 1) / 2) → n ≤ most → most ≡ max most (cond quick 7 15 * words)
-bytes_show true words bytes most h e k = omega arith
-bytes_show false words bytes most h e k = omega arith
-
--- or its words are counted
-pub less_or_so : (each most : ℕ) (words : ℕ) {count n : ℕ} → count ≡ words → n ≡ each * count → n ≤ most → most ≡ max most (each * words)
-less_or_so each most words c e k = let z : each * words ≤ most = rw (← c, ← e) k in omega (arith, z)
-
-pub greater : (each most : ℕ) (words : ℕ) {count n : ℕ} → count ≡ words → n ≡ each * count → most < n → n ≡ max most (each * words)
-greater each most words {count} {n} c e k = let z : n ≡ each * words = e ∙ ap (λ (x : ℕ). each * x) c in omega (arith, z, k)
 
 -- what it needs, as the definition says it
 pub text_work : (block notes : List ℕ) (o : Options) (nextMail : Bool) (at : ℕ) (p : ParagraphAt) (g : TextGoes (meant block o) nextMail notes at p) → work_of (meant block o) (paragraph g.paragraph_is) ≡ cond o.quick 7 15 * length (words_for block notes at o p)

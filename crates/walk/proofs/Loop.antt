@@ -11,7 +11,7 @@ use Rattle.lists.proofs.Parts.{joined_nil, joined_cons}
 use Rattle.lists.proofs.All.{all_back}
 use Rattle.text.specs.declared.Found.{Found}
 use Rattle.text.specs.declared.Found.TheVariants.{At, Nowhere}
-use Rattle.options.specs.Opts.{Opts, meant}
+use Rattle.options.specs.Opts.{Opts}
 use Rattle.options.specs.declared.Options.{Options}
 use Rattle.lines.specs.Lines.{Line, lines_of}
 use Rattle.lines.proofs.Lines.{lines_past}
@@ -28,7 +28,7 @@ use Rattle.walk.specs.declared.Ahead.TheVariants.{Text, End}
 use Rattle.walk.specs.declared.Ended.{Ended}
 use Rattle.walk.specs.declared.Ended.TheVariants.{All, Stopped}
 use Rattle.walk.specs.declared.Course.{Course}
-use Rattle.walk.specs.declared.Course.TheVariants.{End as CourseEnd, Short}
+use Rattle.walk.specs.declared.Course.TheVariants.{Short}
 
 -- ---- the pieces from a place on
 
@@ -153,16 +153,6 @@ module _ (most : ℕ) (o : Opts) (notes : List ℕ) where
   pub none_left_out : {c₀ c : Cursor} {out : List ℕ} → Going most o notes c₀ [] c out → Going most o notes c₀ [] c []
   none_left_out {out = out} g = rw (none_longer out (going_length most o notes g)) at g
 
--- by what came of the work from a place on
-module _ (most : ℕ) (o : Opts) (notes : List ℕ) (c : Cursor) (out out' : List ℕ) (r : Ended) (s : FinishedFrom most o notes c out out' r) where
-  pub finished_all : {n : ℕ} → r ≡ All n → ClearedFrom most o notes c out out' (All n)
-  finished_all e = rw e at s
-
-  pub finished_stopped : {place : ℕ} {clear : List ℕ} → r ≡ Stopped place → clear ≡ replicate (length out') 0 → ClearedFrom most o notes c out clear (Stopped place)
-  finished_stopped {place} e z =
-      let f : FinishedFrom most o notes c out out' (Stopped place) = rw e at s in
-      (f.0, z ∙ ap (λ (n : ℕ). replicate n 0) f.1)
-
 -- by what follows the lines
 module _ (most : ℕ) (block : List ℕ) (o : Options) (notes out₀ out : List ℕ) (c₀ : Cursor) (r : Ahead) (s : Reached most block o notes c₀ out₀ out r) where
   pub reached_text : {c : Cursor} {p : Paragraph} → r ≡ Text c p → Reached most block o notes c₀ out₀ out (Text c p)
@@ -173,8 +163,5 @@ module _ (most : ℕ) (block : List ℕ) (o : Options) (notes out₀ out : List 
 
 -- by how far the room reached
 module _ (most room : ℕ) (block : List ℕ) (o : Options) (notes out₀ out : List ℕ) (c₀ : Cursor) (r : Course) (s : Coursed most room block o notes c₀ out₀ out r) where
-  pub course_end : {n : ℕ} → r ≡ CourseEnd n → FinishedFrom most (meant block o) notes c₀ out₀ out (All n)
-  course_end e = rw e at s
-
   pub course_short : {c : Cursor} {p : Paragraph} → r ≡ Short c p → Coursed most room block o notes c₀ out₀ out (Short c p)
   course_short e = rw e at s

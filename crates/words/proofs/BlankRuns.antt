@@ -24,7 +24,6 @@ use Rattle.text.proofs.Extents.{glyph_read}
 use Rattle.text.proofs.NoBreaks.{no_break_blank}
 use Rattle.text.proofs.Edges.{glyphs_past, ink_past, glyphs_first, ink_begins, blank_on}
 use Rattle.lines.specs.Classes.{next_stop}
-use Rattle.lines.specs.Cited.Places.{most_columns}
 use Rattle.records.specs.Cited.Table.{before_number}
 use Rattle.records.specs.declared.Before.{Before}
 use Rattle.records.specs.declared.Before.TheVariants.{Absent, Count}
@@ -39,9 +38,6 @@ stop_near tab after =
     let d = div-add-mod' after tab in
     let e = add-mul (after / tab) 1 tab in
     omega arith
-
-pub stop_small : (tab after : ℕ) → tab ≤ 100 → after ≤ most_columns → (after / tab + 1) * tab < 18446744073709551616
-stop_small tab after h k = let s = stop_near tab after in omega arith
 
 -- both counts grow by at most 100 with a blank
 module _ (tab m : ℕ) (few : tab ≤ 100) where
@@ -65,9 +61,6 @@ module _ (tab m : ℕ) (few : tab ≤ 100) where
 module _ (tab code : ℕ) (before : Before) (after : ℕ) where
   pub gap_other : (code ≡ 9 → ⊥) → ◌≡◌ {A = Gap} (record { before = before; after = after + 1 }) (gap_behind tab code (record { before = before; after = after }))
   gap_other h = rw (ne_eqb code 9 h)
-
-  pub gap_first : code ≡ 9 → before ≡ Absent → ◌≡◌ {A = Gap} (record { before = Count after; after = 0 }) (gap_behind tab code (record { before = before; after = after }))
-  gap_first h e = rw (eq-eqb code 9 h, e)
 
   pub gap_later : code ≡ 9 → (n : ℕ) → before ≡ Count n → ◌≡◌ {A = Gap} (record { before = Count n; after = (after / tab + 1) * tab }) (gap_behind tab code (record { before = before; after = after }))
   unfolding next_stop

@@ -10,9 +10,6 @@ use Rattle.text.specs.Cited.Eights.{as_number, eight_at}
 use Rattle.text.proofs.Eights.{clear_of, zeros_few, sum_fits as sum_below, counted}
 use Rattle.words.specs.Cited.Scan.{Plain}
 
-pub none_plain : (s : List ℕ) (i : ℕ) → i ≤ length s → Plain s i (i + 0)
-none_plain s i h = record { on = omega arith; within = omega arith; least = λ k a b. absurd (omega arith); most = λ k a b. absurd (omega arith) }
-
 module _ (s : List ℕ) (i : ℕ) (small : (k : ℕ) → get_or s k 0 < 256) (x : ℕ) (is : x ≡ as_number (eight_at s i)) (clear : bit_and x 0x8080808080808080 ≡ 0) where
   pub sum_fits : x + 0x5F5F5F5F5F5F5F5F < 18446744073709551616
   unfolding as_number

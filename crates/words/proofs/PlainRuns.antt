@@ -1,14 +1,10 @@
 -- Plain characters in ink: a run of them is as many glyphs of ink, each of one column.
 use mathlib.Core.Path.{◌≡◌, refl, sym}
-use mathlib.Core.Bool.{Bool, true, false, ◌&&◌, and-eq-true_iff}
-use mathlib.Core.Logic.{⊎_elim}
+use mathlib.Core.Bool.{Bool, false}
 use mathlib.Core.List.{List}
 use Prim.Native.Nat.{ℕ, zero, suc, ◌+◌, ◌-◌, ◌≤◌, ◌<◌}
-use native.Mathlib.Nat.{eq-or-lt_of_le}
 use native.Mathlib.Omega.{arith}
 use lib.ListN.{length, get_or}
-use borrow.Author.Tests.{leb-true, ltb-true, ltb-false}
-use lib.Dec.{ltb, leb}
 use Rattle.widths.specs.Widths.{width_of}
 use Rattle.widths.proofs.Laws.{one_before_300}
 use Rattle.text.proofs.Glyphs.{Here, ascii_here}
@@ -22,49 +18,7 @@ plain_here s at i e h k l = rw (e, ← plain_ink (get_or s i 0) k l) (ascii_here
 
 -- ---- a run, character by character
 
--- what holds of the bytes before a place and of the byte there
-pub before_and_at : (P : ℕ → Type 0) (s : List ℕ) (from to : ℕ) → ((i : ℕ) → from ≤ i → i < to → P (get_or s i 0)) → P (get_or s to 0) → (i : ℕ) → from ≤ i → i < to + 1 → P (get_or s i 0)
-before_and_at P s from to all one i h k =
-    ⊎_elim (λ (e : i ≡ to). rw e one) (λ (l : i < to). all i h l) (eq-or-lt_of_le (let g : i ≤ to = omega arith in g))
-
--- what holds of the bytes of two parts
-either_part : (P : ℕ → Type 0) (s : List ℕ) (from i to : ℕ) → ((k : ℕ) → from ≤ k → k < i → P (get_or s k 0)) → ((k : ℕ) → i ≤ k → k < to → P (get_or s k 0))
-    → (k : ℕ) → from ≤ k → k < to → P (get_or s k 0)
-either_part P s from i to first second k h l = pick (ltb k i) refl
-  where
-    pick : (t : Bool) → ltb k i ≡ t → P (get_or s k 0)
-    pick true e = first k h (ltb-true k i e)
-    pick false e = second k (ltb-false k i e) l
-
 module _ {s : List ℕ} {from : ℕ} where
-  pub plain_none : from ≤ length s → Plain s from from
-  plain_none h = record { on = omega arith; within = h; least = λ i l k. absurd (omega arith); most = λ i l k. absurd (omega arith) }
-
-  pub plain_more : {to : ℕ} → Plain s from to → to < length s → 33 ≤ get_or s to 0 → get_or s to 0 < 128 → Plain s from (to + 1)
-  plain_more {to} p h k l = record {
-    on = omega (arith, p.on);
-    within = omega arith;
-    least = before_and_at (λ b. 33 ≤ b) s from to p.least k;
-    most = before_and_at (λ b. b < 128) s from to p.most l;
-  }
-
-  -- one character, by its tests
-  pub plain_by : from < length s → (leb 33 (get_or s from 0) && ltb (get_or s from 0) 128) ≡ true → Plain s from (from + 1)
-  plain_by h e = let t = (and-eq-true_iff _ _).0 e in plain_more (plain_none (omega arith)) h (leb-true _ _ t.0) (ltb-true _ _ t.1)
-
-  -- one run after another
-  pub plain_join : {i to : ℕ} → Plain s from i → Plain s i to → Plain s from to
-  plain_join {i} {to} a b = record {
-    on = omega (arith, a.on, b.on);
-    within = b.within;
-    least = λ k h l. either_part (λ c. 33 ≤ c) s from i to a.least b.least k h l;
-    most = λ k h l. either_part (λ c. c < 128) s from i to a.most b.most k h l;
-  }
-
-  -- and where the places are told otherwise
-  pub plain_both : {i j k to : ℕ} → Plain s from i → i ≡ j → Plain s j k → k ≡ to → Plain s from to
-  plain_both a e b f = rw (← f) (plain_join a (rw e b))
-
   -- the front of a run, and its last character
   pub plain_front : {to end : ℕ} → Plain s from to → from ≤ end → end ≤ to → Plain s from end
   plain_front p h k = record { on = h; within = omega (arith, p.within); least = λ i a b. p.least i a (omega arith); most = λ i a b. p.most i a (omega arith) }

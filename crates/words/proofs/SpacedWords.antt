@@ -1,6 +1,6 @@
 -- Words of plain characters, spaces apart: each is the next word of its line, wherever that ends.
 use mathlib.Core.Path.{◌≡◌, refl, ap}
-use mathlib.Core.Bool.{Bool, true, false, cond, not, ◌||◌, true≢false, false≢true}
+use mathlib.Core.Bool.{Bool, true, false, not, ◌||◌, true≢false, false≢true}
 use mathlib.Core.Logic.{⊎_elim}
 use mathlib.Core.List.{List, ◌++◌}
 use Prim.Native.Nat.{ℕ, ◌+◌, ◌-◌, ◌≤◌, ◌<◌}
@@ -8,7 +8,7 @@ use native.Mathlib.Omega.{arith}
 use lib.Dec.{ltb, eqb}
 use lib.ListN.{length, get_or, take, drop, length-take}
 use lib.Seq.{slice, get_or-take, take-take, length-take-le}
-use borrow.Author.Tests.{ltb-true, ltb-false, not-true}
+use borrow.Author.Tests.{ltb-true, ltb-false}
 use Rattle.lists.proofs.Runs.{while_end}
 use Rattle.text.specs.Characters.{glyphs, is_blank}
 use Rattle.text.proofs.Glyphs.{Here}
@@ -22,7 +22,7 @@ use Rattle.records.specs.declared.Before.TheVariants.{Absent}
 use Rattle.records.specs.declared.Word.{Word as Record}
 use Rattle.words.specs.Words.{runs}
 use Rattle.words.specs.Places.{places_from}
-use Rattle.words.specs.Cited.Scan.{glyphs_behind, no_blanks, punct_code, Plain, OverBlanks, OverInk, word_at, words_from, NextWord}
+use Rattle.words.specs.Cited.Scan.{glyphs_behind, no_blanks, Plain, OverBlanks, OverInk, word_at, words_from, NextWord}
 use Rattle.words.specs.Cited.Split.{Kept, places_in, WordsFilled}
 use Rattle.words.specs.Cited.Spaced.{SpacesBefore, plain_ink, PlainWord, PlainBehind, one_blank, PlainNext, EndsAt, SpacedTo}
 use Rattle.words.specs.declared.Blanks.{Blanks}
@@ -45,21 +45,7 @@ as_counted b e o = rw e o
 as_none : {glue : Bool} {tab : ℕ} {s : List ℕ} {at : ℕ} {b : Blanks} → b ≡ no_blanks at → OverBlanks glue tab true s at (no_blanks at) → OverBlanks glue tab true s at b
 as_none e o = rw e o
 
-pub none_counted : (at : ℕ) → no_blanks at ≡ record { end = at; before = Absent; after = at - at }
-none_counted at = let z : at - at ≡ 0 = omega arith in rw z
-
 -- ---- a word after one space
-
--- its record: it starts no sentence
-pub near_record : (uniform characters previous : Bool) (s : List ℕ) (at end : ℕ)
-    → word_at uniform characters false previous at (one_blank at) (plain_ink s (at + 1) end)
-    ≡ record { from = cond uniform (at + 1) at; start = at + 1; end = end; width = end - (at + 1); before = Absent; after = cond uniform 0 1; first = false; punct = punct_code (get_or s (end - 1) 0); sentence = false }
-near_record true characters false s at end = refl
-near_record false characters false s at end = refl
-near_record true true true s at end = refl
-near_record false true true s at end = refl
-near_record true false true s at end = let z : at + 1 - at ≡ 1 = omega arith in rw z
-near_record false false true s at end = let z : at + 1 - at ≡ 1 = omega arith in rw z
 
 pub near_next : (o : Opts) (first previous : Bool) (s : List ℕ) (at stop : ℕ) (w : Record) → first ≡ false → at < length s → get_or s at 0 ≡ 32 → PlainWord s (at + 1) stop
     → w ≡ word_at o.uniform o.by_characters false previous at (one_blank at) (plain_ink s (at + 1) stop) → PlainNext o first previous s at w
@@ -209,10 +195,6 @@ module _ (o : Opts) (notes : List ℕ) (next at : ℕ) (first previous : Bool) (
           places = g.places;
           ink = λ a b. absurd (false≢true b);
         }
-
--- no word yet
-pub spaced_none : {o : Opts} {notes : List ℕ} {start end n : ℕ} {t : List ℕ} (mail : Bool) → start ≤ end → SpacedTo o mail notes start end n t (record { count = n; at = start; first = not mail; punct = false }) t
-spaced_none mail on = record { to = on; words = refl; places = refl; ink = λ ink e. ink (not-true mail e) }
 
 -- with the words of the rest of the line, up to where its end was found
 pub spaced_filled : (most : ℕ) {o : Opts} {mail : Bool} {notes : List ℕ} {start end n : ℕ} {t : List ℕ} {r : Spaced} {t' : List ℕ} → SpacedTo o mail notes start end n t r t' → (stop : ℕ) → stop ≡ end → (t'' : List ℕ) (k : Count)
