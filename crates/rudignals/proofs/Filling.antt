@@ -1,14 +1,8 @@
--- What the walks of the two indexed calls use: what is told, the last values that the call which marks binds, and what is said at the end.
+-- What the two indexed calls use: what is said at the end of an answer's number, the output, the records and the count.
 use mathlib.Core.Path.{◌≡◌, refl, ap, ◌∙◌}
-use mathlib.Core.List.{List, [], ◌∷◌, ◌++◌}
-use Prim.Native.Nat.{ℕ, ◌^◌, ◌<◌}
+use mathlib.Core.List.{List, ◌++◌}
+use Prim.Native.Nat.{ℕ}
 use lib.ListN.{length, drop}
-use mir.Val.{Val}
-use denote.Laws.{Is}
-use denote.Ref.{Bor}
-use denote.RattleType.{RattleType}
-use denote.Slice.{slice_val}
-use denote.Struct.Laws as LL
 use Rattle.marks.specs.Cited.Marks.{marks_in}
 use Rattle.index.specs.declared.Record.{Record}
 use Rattle.index.specs.Cited.Lists.{no_record}
@@ -17,8 +11,6 @@ use Rattle.indexer.specs.declared.Told.{Told}
 use Rattle.lists.specs.Coded.{numbered}
 use Rattle.indexer.specs.Answers.{Indexed, done, refused, full, room, index_coded, index_output_after, records_after, filled_after}
 use Rattle.indexer.specs.Cited.Noting.{Marked, records_of}
-use Rattle.indexer.specs.contracts.Told as Tol
-use Rattle.indexer.proofs.Told.TheLaws as Tol'
 
 -- an answer's records and those after them are the records that it leaves
 records_left : (a : Indexed) (xs : List Record) → records_of a ++ drop (filled_after a) xs ≡ records_after a xs
@@ -27,34 +19,6 @@ records_left (done digest index) xs = refl
 records_left (refused r) xs = refl
 records_left (full pieces) xs = refl
 records_left (room needed) xs = refl
-
--- the row of `Told`
-abbrev pub T : RattleType
-T = Tol.the_row
-
--- a slice's machine value
-abbrev pub slice : {X : Type 0} → Bor (List X) → Val
-slice x = slice_val x.ref_ptr (length x.now)
-
--- the last values that `write_marked` binds, and of them the output's, the count's and the table's
-abbrev pub Ends : Type 0
-Ends = Unit {0} × (Unit {0} × (List ℕ × (Unit {0} × (ℕ × (List ℕ × Unit {0})))))
-
-abbrev pub output_in : Ends → List ℕ
-output_in ws = ws.1.1.0
-
-abbrev pub filled_in : Ends → ℕ
-filled_in ws = ws.1.1.1.1.0
-
-abbrev pub marks_in_law : Ends → List ℕ
-marks_in_law ws = ws.1.1.1.1.1.0
-
--- the numbers of `Told` fit
-pub answer_fits : (t : Told) (w : Val) → Is T t (w ∷ []) → t.answer < 2 ^ 64
-answer_fits t w is = (LL.owed Tol.the_type Tol'.the_laws t _ is).0.1
-
-pub records_fit : (t : Told) (w : Val) → Is T t (w ∷ []) → t.records < 2 ^ 64
-records_fit t w is = (LL.owed Tol.the_type Tol'.the_laws t _ is).1.0.1
 
 -- what is said at the end of an answer: of its number, the output, the records and the count
 module _ (answer : Indexed) (output : List ℕ) (index : List Record) where

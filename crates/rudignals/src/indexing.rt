@@ -1,6 +1,5 @@
 // The calls of RULES 12: the digest written with an index beside it, and the way back from an output line to the notes. The work is in the
-// crates indexer and index. The borrow checker covers no function over a slice of structs: a call that is lent the records is proved by a
-// walk of its MIR, by hand.
+// crates indexer and index.
 ghost use Rattle.std.specs.Prelude.{◌≡◌, length};
 ghost use Rattle.index.specs.Lookup.{lookup, answered, part_after};
 ghost use Rattle.formatter.specs.Format.{own_room};
