@@ -35,17 +35,17 @@ def rlib(name):
     return ROOT / "crates" / name / "out/rlib" / f"{name}.rlib"
 
 
-def words(crate, deps):
+def words(crate, deps, jobs=1):
     """What `rattle check` is called with in the folder of a crate that stands on these."""
     out = ["--crate-name", crate, "src/lib.rt", "--extern", f"std={KIT}/rlibs/std.rlib", "-L", f"dependency={KIT}/rlibs"]
     out += [word for d in deps for word in ("--extern", f"{d}={rlib(d)}")]
     out += [word for d in below(deps) for word in ("-L", f"dependency={rlib(d).parent}")]
-    return out + ["--antt-project", f"{KIT}/rattle/logic/antt-project.json", "--logic-built", f"{KIT}/logic_built", "--links", f"{crate}=", "--jobs", "1"]
+    return out + ["--antt-project", f"{KIT}/rattle/logic/antt-project.json", "--logic-built", f"{KIT}/logic_built", "--links", f"{crate}=", "--jobs", str(jobs)]
 
 
-def check(crate, deps, folder, *more):
+def check(crate, deps, folder, *more, jobs=1):
     """Checks a crate in a folder of its own: exit status and log."""
-    run = subprocess.run([f"{KIT}/bin/rattle", "check", *words(crate, deps), *more], cwd=folder, stdin=subprocess.DEVNULL, stdout=subprocess.PIPE, stderr=subprocess.STDOUT)
+    run = subprocess.run([f"{KIT}/bin/rattle", "check", *words(crate, deps, jobs), *more], cwd=folder, stdin=subprocess.DEVNULL, stdout=subprocess.PIPE, stderr=subprocess.STDOUT)
     return run.returncode, run.stdout.decode("utf-8", "replace")
 
 

@@ -79,4 +79,4 @@ def module_of(path):
 
 def files():
     """every file of definitions and laws, by its module"""
-    return {module_of(path): File(path) for path in sorted(CRATES.glob("*/*/**/*.antt")) if "must-fail" not in path.parts}
+    return {module_of(path): File(path) for path in sorted(CRATES.glob("*/*/**/*.antt")) if not {"must-fail", "out"} & {*path.parts}}
