@@ -182,10 +182,10 @@ ink_feedless glue [] a = rw (while_nil, joined_nil) (every_nil no_feed)
 ink_feedless glue (g ∷ gs) a = go g.blank refl (ink_feedless glue gs a.1)
   where
     go : (t : Bool) → g.blank ≡ t → Feedless (joined glyph_bytes (while is_ink gs)) → Feedless (joined glyph_bytes (while is_ink (g ∷ gs)))
-    go true e ih = rw (while-stop, joined_nil) (every_nil no_feed)
+    go true e ih = rw (while_stop, joined_nil) (every_nil no_feed)
       where
-        while-stop : while is_ink (g ∷ gs) ≡ []
-        while-stop = while_end is_ink g gs (ap not e)
+        while_stop : while is_ink (g ∷ gs) ≡ []
+        while_stop = while_end is_ink g gs (ap not e)
     go false e ih = rw (while_more is_ink g gs (ap not e), joined_cons glyph_bytes g (while is_ink gs), every_append no_feed g.bytes (joined glyph_bytes (while is_ink gs)), a.0.feedless, ih)
 
 ink_fits : (glue : Bool) (gs : List Glyph) → Line glue gs → InkFirst gs → Fits glue (bytes_of (while is_ink gs))

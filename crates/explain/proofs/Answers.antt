@@ -78,8 +78,8 @@ module _ (most : ℕ) (o : Opts) (notes : List ℕ) (line : ℕ) where
 
     -- with a limit on words
     module _ (bytes : ℕ) where
-      pub stopped-told : {place : ℕ} → r ≡ Stopped place → Refused (Words place) ≡ told (left_of (limited bytes most) o notes line)
-      stopped-told e = rw (stopped_of e)
+      pub stopped_told : {place : ℕ} → r ≡ Stopped place → Refused (Words place) ≡ told (left_of (limited bytes most) o notes line)
+      stopped_told e = rw (stopped_of e)
 
       pub all_told : {a : Asked} {x : Explained} → r ≡ All a → x ≡ told (asking line a) → x ≡ told (left_of (limited bytes most) o notes line)
       all_told e h = all_asked e h ∙ ap (λ (f : Found). told (after_measuring (look_up line (line_endings o notes)) (with_words o notes f))) (sym (all_of e).0)

@@ -41,7 +41,7 @@ pub enum Asked {
     Behind(usize),
 }
 
-// Where the search stands: the place in the notes, next_mail, and the line.
+// Where the search stands: the place in the notes, next-mail, and the line.
 #[derive(Clone, Copy)]
 pub struct Seek {
     pub at: usize,

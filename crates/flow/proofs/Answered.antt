@@ -163,8 +163,8 @@ module _ (l : Limits) (sound : Sound l) (block notes : List ℕ) where
       passed : Admits l block notes (Passed o)
       passed = passed_of l block notes r s e
 
-      pub passed-ready : Ready block notes (switched o)
-      passed-ready = record { read = o; admitted = passed.0; is = refl }
+      pub passed_ready : Ready block notes (switched o)
+      passed_ready = record { read = o; admitted = passed.0; is = refl }
 
       undamaged : damage_in o.keep notes ≡ Nowhere
       unfolding meant
@@ -176,9 +176,9 @@ module _ (l : Limits) (sound : Sound l) (block notes : List ℕ) where
               let w : with_block l block notes (read_block block) ≡ stopped (Damaged place) = rw (passed.0.accepted, with_notes, le-ltb l.bytes (length notes) passed.2, d) in
               absurd (let k = later l.words (meant block o) notes (sym passed.1 ∙ w) in omega (arith, k))
 
-      flow-left : (space : ℕ) → flow l block notes space ≡ left_of l (meant block (switched o)) notes space
+      flow_left : (space : ℕ) → flow l block notes space ≡ left_of l (meant block (switched o)) notes space
       unfolding flow mailed meant refused_for
-      flow-left space =
+      flow_left space =
           ap (sent_block l space block notes) passed.0.accepted
           ∙ ap (λ (t : Bool). elim t as (λ x. Answer) [ true ↦ refused (Faulty (length block)) | false ↦ sent_notes l space m notes ]) fits
           ∙ ap (λ (t : Bool). answering (sending l m notes space) (elim t as (λ x. Finding) [ true ↦ stopped Long | false ↦ with_text l.words m notes (damage_in o.keep notes) ])) (le-ltb l.bytes (length notes) passed.2)
@@ -190,18 +190,18 @@ module _ (l : Limits) (sound : Sound l) (block notes : List ℕ) where
           fits : unfit block ≡ false
           fits = rw passed.0.accepted at fit
 
-      dashes-left : (space : ℕ) → dashes_of l block notes space ≡ left_dashes l (meant block (switched o)) notes space
+      dashes_left : (space : ℕ) → dashes_of l block notes space ≡ left_dashes l (meant block (switched o)) notes space
       unfolding dashes_of mailed meant
-      dashes-left space = rw (flow-left space, passed.0.accepted) (go (left_of l (meant block (switched o)) notes space))
+      dashes_left space = rw (flow_left space, passed.0.accepted) (go (left_of l (meant block (switched o)) notes space))
         where
           go : (a : Answer) → counted_by a block notes (Accepted o) ≡ if_done a (dashes_in (meant block (switched o)) (pieces (meant block (switched o)) notes))
           go (done bytes) = refl
           go (refused r) = refl
           go (room needed) = refl
 
-      pub passed-answer : (out out' : List ℕ) {q : Outcome} → Sends (left_of l (meant block (switched o)) notes (length out)) (left_dashes l (meant block (switched o)) notes (length out)) out q out'
+      pub passed_answer : (out out' : List ℕ) {q : Outcome} → Sends (left_of l (meant block (switched o)) notes (length out)) (left_dashes l (meant block (switched o)) notes (length out)) out q out'
           → Sends (flow l block notes (length out)) (dashes_of l block notes (length out)) out q out'
-      passed-answer out out' a = rw (flow-left (length out), dashes-left (length out)) a
+      passed_answer out out' a = rw (flow_left (length out), dashes_left (length out)) a
 
 -- ---- where working room is lent
 

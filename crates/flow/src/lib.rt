@@ -34,7 +34,7 @@ pub struct Outcome {
     pub dashes: usize,
 }
 
-// Where the work stands: the place in the notes, the length of what is sent up to there, next_mail, and the lines `--` made.
+// Where the work stands: the place in the notes, the length of what is sent up to there, next-mail, and the lines `--` made.
 #[derive(Clone, Copy)]
 struct Cursor {
     at: usize,

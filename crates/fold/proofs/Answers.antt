@@ -55,16 +55,16 @@ module _ (text : List ℕ) (tab columns : ℕ) (out : List ℕ) where
       size : length (folded (stop_width tab) columns text) ≡ m
       size = omega (arith, w.count)
 
-      pub folds-done : m ≤ length out' → Folds (fold text tab columns (length out)) out (Done m) out'
+      pub folds_done : m ≤ length out' → Folds (fold text tab columns (length out)) out (Done m) out'
       unfolding fold fold_output_after
-      folds-done f =
+      folds_done f =
           let q = wrote_length w in
           rw (le-ltb 100 tab h, ne_eqb columns 0 n, le-ltb 1000 columns k, le-ltb 1073741824 (length text) l, le-leb (length (folded (stop_width tab) columns text)) (length out) (omega (arith, size)))
           (record { is = ap Done (omega (arith, size)); output = w.bytes ∙ written_fits 0 out (folded (stop_width tab) columns text) (omega (arith, size)); small = omega arith })
 
-      pub folds-room : {out'' : List ℕ} → length out' < m → out'' ≡ replicate (length out') 0 → Folds (fold text tab columns (length out)) out (Room m) out''
+      pub folds_room : {out'' : List ℕ} → length out' < m → out'' ≡ replicate (length out') 0 → Folds (fold text tab columns (length out)) out (Room m) out''
       unfolding fold fold_output_after
-      folds-room f z =
+      folds_room f z =
           let q = wrote_length w in
           rw (le-ltb 100 tab h, ne_eqb columns 0 n, le-ltb 1000 columns k, le-ltb 1073741824 (length text) l, lt-leb (length (folded (stop_width tab) columns text)) (length out) (omega (arith, size)))
           (record { is = ap Room (omega (arith, size)); output = z ∙ ap (λ (j : ℕ). replicate j 0) q; small = omega arith })

@@ -134,9 +134,9 @@ module _ (tab columns : ℕ) where
       pub left : Left out₀ k₀ (joined fed (rows_at at₀)) out k (joined fed (rows_at at))
 
     module _ {at₀ k₀ : ℕ} {out₀ out : List ℕ} {at k : ℕ} (t : Turning at₀ k₀ out₀ at k out) where
-      pub turning-row : {out' : List ℕ} {end k' : ℕ} → at < length line → end ≡ row_end tab columns line at → at < end → end ≤ length line
+      pub turning_row : {out' : List ℕ} {end k' : ℕ} → at < length line → end ≡ row_end tab columns line at → at < end → end ≤ length line
           → Wrote out k (feed ∷ slice at end line) out' k' → Turning at₀ k₀ out₀ end k' out'
-      turning-row {out'} {end} {k'} h e on within w =
+      turning_row {out'} {end} {k'} h e on within w =
           record {
             within = within;
             bounded = omega (arith, w.count, t.bounded, length-slice at end line within);

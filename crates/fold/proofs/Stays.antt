@@ -91,24 +91,24 @@ module _ (tab columns : ℕ) where
     stay_past at column h = rw (characters_past line at h, staying_nil column) (omega arith)
 
     module _ {at column : ℕ} {r : Spot} (b : Behind tab line at column r) where
-      stays-is : stays tab columns column (glyph (drop at line)) ≡ not (ltb columns r.column && ltb column r.column)
+      stays_is : stays tab columns column (glyph (drop at line)) ≡ not (ltb columns r.column && ltb column r.column)
       unfolding stays
-      stays-is = rw b.reached (go (leb r.column columns) (eqb (glyph (drop at line)).width 0) refl refl)
+      stays_is = rw b.reached (go (leb r.column columns) (eqb (glyph (drop at line)).width 0) refl refl)
         where
           go : (p q : Bool) → leb r.column columns ≡ p → eqb (glyph (drop at line)).width 0 ≡ q → (p || q) ≡ not (ltb columns r.column && ltb column r.column)
           go true q e f = rw (le-ltb columns r.column (leb-true _ _ e))
           go false true e f = rw (lt-ltb columns r.column (leb-false _ _ e), le-ltb column r.column (omega (arith, b.still (eqb-true _ _ f))))
           go false false e f = rw (lt-ltb columns r.column (leb-false _ _ e), lt-ltb column r.column (b.moved (eqb-false _ _ f)))
 
-      pub stay-on : (ltb columns r.column && ltb column r.column) ≡ false → stay_end tab columns line at column ≡ stay_end tab columns line r.at r.column
+      pub stay_on : (ltb columns r.column && ltb column r.column) ≡ false → stay_end tab columns line at column ≡ stay_end tab columns line r.at r.column
       unfolding stay_end extent
-      stay-on e =
-          rw (b.first, staying_more column (glyph (drop at line)) (characters (drop r.at line)) (stays-is ∙ ap not e), b.reached)
+      stay_on e =
+          rw (b.first, staying_more column (glyph (drop at line)) (characters (drop r.at line)) (stays_is ∙ ap not e), b.reached)
           (omega (arith, b.count))
 
-      pub stay-off : (ltb columns r.column && ltb column r.column) ≡ true → stay_end tab columns line at column ≡ at
+      pub stay_off : (ltb columns r.column && ltb column r.column) ≡ true → stay_end tab columns line at column ≡ at
       unfolding stay_end extent
-      stay-off e = rw (b.first, staying_end column (glyph (drop at line)) (characters (drop r.at line)) (stays-is ∙ ap not e)) (omega arith)
+      stay_off e = rw (b.first, staying_end column (glyph (drop at line)) (characters (drop r.at line)) (stays_is ∙ ap not e)) (omega arith)
 
       -- the first character of a row
       pub row_begins : column ≡ 0 → row_end tab columns line at ≡ stay_end tab columns line r.at r.column
@@ -142,7 +142,7 @@ module _ (tab columns : ℕ) where
         let front : Plain line at (at + n) = record { on = omega arith; within = omega (arith, p.within); each = λ i a b. p.each i a (omega arith) } in
         let one = plain_behind (at + n) (column + n) some (omega (arith, p.within)) (p.each (at + n) (omega arith) (omega arith)) in
         plain_stays at column n some front (omega arith)
-        ∙ stay-on one (rw (le-ltb columns (column + n + 1) (omega arith)))
+        ∙ stay_on one (rw (le-ltb columns (column + n + 1) (omega arith)))
         ∙ rw (q, w)
 
     pub stay_plain : {at to : ℕ} (column : ℕ) → 1 ≤ tab → Plain line at to → to ≤ at + (columns - column) → stay_end tab columns line at column ≡ stay_end tab columns line to (column + (to - at))
@@ -170,8 +170,8 @@ module _ (tab columns : ℕ) where
       pub same : stay_end tab columns line from start ≡ stay_end tab columns line at column
 
     module _ {from start at column : ℕ} (g : Going from start at column) (most : columns ≤ 1000) where
-      pub going-plain : {to n : ℕ} → 1 ≤ tab → n ≡ columns - column → Plain line at to → to ≤ at + n → Going from start to (column + (to - at))
-      going-plain some e p h =
+      pub going_plain : {to n : ℕ} → 1 ≤ tab → n ≡ columns - column → Plain line at to → to ≤ at + n → Going from start to (column + (to - at))
+      going_plain some e p h =
           record {
             on = omega (arith, g.on, p.on);
             within = p.within;
@@ -181,7 +181,7 @@ module _ (tab columns : ℕ) where
 
       pub going_on : {r : Spot} → Behind tab line at column r → (ltb columns r.column && ltb column r.column) ≡ false → Going from start r.at r.column
       going_on {r} b e =
-          record { on = omega (arith, g.on, b.on); within = b.within; small = go (ltb columns r.column) refl; same = g.same ∙ stay-on b e }
+          record { on = omega (arith, g.on, b.on); within = b.within; small = go (ltb columns r.column) refl; same = g.same ∙ stay_on b e }
         where
           go : (t : Bool) → ltb columns r.column ≡ t → r.column ≤ 1000
           go false f = omega (arith, ltb-false columns r.column f)
@@ -191,7 +191,7 @@ module _ (tab columns : ℕ) where
 
     module _ {from start at column : ℕ} (g : Going from start at column) where
       pub going_end : {r : Spot} → Behind tab line at column r → (ltb columns r.column && ltb column r.column) ≡ true → (at ≡ stay_end tab columns line from start) × (from ≤ at) × (at ≤ length line)
-      going_end b e = (sym (g.same ∙ stay-off b e), g.on, g.within)
+      going_end b e = (sym (g.same ∙ stay_off b e), g.on, g.within)
 
-      pub going-past : length line ≤ at → (at ≡ stay_end tab columns line from start) × (from ≤ at) × (at ≤ length line)
-      going-past h = (sym (g.same ∙ stay_past at column h), g.on, g.within)
+      pub going_past : length line ≤ at → (at ≡ stay_end tab columns line from start) × (from ≤ at) × (at ≤ length line)
+      going_past h = (sym (g.same ∙ stay_past at column h), g.on, g.within)

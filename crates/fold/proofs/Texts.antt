@@ -43,8 +43,8 @@ module _ (tab columns : ℕ) where
       text_is : (first_line (drop at text)).text ≡ take e.text (lent text at (at + e.whole))
       text_is = h.text ∙ slice_is at e.text text ∙ rw (lent_is) (sym (take-take e.text e.whole (drop at text) h.shorter))
 
-      raw-is : (first_line (drop at text)).raw ≡ lent text at (at + e.whole)
-      raw-is = h.raw ∙ slice_is at e.whole text ∙ sym lent_is
+      raw_is : (first_line (drop at text)).raw ≡ lent text at (at + e.whole)
+      raw_is = h.raw ∙ slice_is at e.whole text ∙ sym lent_is
 
       pub lent_length : length (lent text at (at + e.whole)) ≡ e.whole
       lent_length = rw lent_is (length-take-le e.whole (drop at text) (omega (arith, length-drop at text, h.within)))
@@ -54,11 +54,11 @@ module _ (tab columns : ℕ) where
 
       line_here : folded_line tab columns (first_line (drop at text)) ≡ line_is (lent text at (at + e.whole)) e.text
       unfolding folded_line end_of
-      line_here = rw (size_is, text_is, raw-is)
+      line_here = rw (size_is, text_is, raw_is)
 
-      folded-here : folded tab columns (drop at text) ≡ line_is (lent text at (at + e.whole)) e.text ++ folded tab columns (drop (at + e.whole) text)
+      folded_here : folded tab columns (drop at text) ≡ line_is (lent text at (at + e.whole)) e.text ++ folded tab columns (drop (at + e.whole) text)
       unfolding folded
-      folded-here = rw (h.first, joined_cons (folded_line tab columns) (first_line (drop at text)) (lines_of (drop (at + e.whole) text)), line_here)
+      folded_here = rw (h.first, joined_cons (folded_line tab columns) (first_line (drop at text)) (lines_of (drop (at + e.whole) text)), line_here)
 
     folded_past : (at : ℕ) → length text ≤ at → folded tab columns (drop at text) ≡ []
     unfolding folded
@@ -72,14 +72,14 @@ module _ (tab columns : ℕ) where
       pub left : Left out₀ 0 (folded tab columns text) out k (folded tab columns (drop at text))
 
     module _ {out₀ out : List ℕ} {at k : ℕ} (p : Passing out₀ at k out) where
-      pub passing-line : {e : Extent} {out' : List ℕ} {r : ℕ} → LineHere text at e → r ≤ 2 * length (lent text at (at + e.whole))
+      pub passing_line : {e : Extent} {out' : List ℕ} {r : ℕ} → LineHere text at e → r ≤ 2 * length (lent text at (at + e.whole))
           → Wrote out k (line_is (lent text at (at + e.whole)) e.text) out' (k + r) → Passing out₀ (at + e.whole) (k + r) out'
-      passing-line {e} h few w =
+      passing_line {e} h few w =
           record {
             within = h.within;
             bounded = omega (arith, few, lent_length at e h, p.bounded);
-            left = left_then (rw (folded-here at e h) at p.left) w;
+            left = left_then (rw (folded_here at e h) at p.left) w;
           }
 
-      pub passing-last : length text ≤ at → Wrote out₀ 0 (folded tab columns text) out k × (k ≤ 2 * length text)
-      passing-last h = (left_last (rw (folded_past at h) at p.left) (wrote_nil out k), omega (arith, p.bounded, p.within))
+      pub passing_last : length text ≤ at → Wrote out₀ 0 (folded tab columns text) out k × (k ≤ 2 * length text)
+      passing_last h = (left_last (rw (folded_past at h) at p.left) (wrote_nil out k), omega (arith, p.bounded, p.within))

@@ -2,7 +2,7 @@
 -- nothing assumed. `rows_of`, `folded` and `fold` stand in specs/Fold.antt, `fits`, `marked` and `unadded` in specs/Theorems/Rows.antt.
 use mathlib.Core.Path.{◌≡◌, refl, sym, ap, ap₂, ◌∙◌}
 use mathlib.Core.Bool.{Bool, true, false, cond, ◌&&◌, ◌||◌, false≢true, and-eq-true_iff}
-use mathlib.Core.List.{List, [], ◌∷◌, ◌++◌, map, map-append}
+use mathlib.Core.List.{List, [], ◌∷◌, ◌++◌, map, map_append}
 use Prim.Native.Nat.{ℕ, suc, ◌+◌, ◌-◌, ◌*◌, ◌/◌, ◌%◌, ◌^◌, ◌≤◌, ◌<◌}
 use native.Mathlib.Omega.{arith}
 use lib.Dec.{ltb, leb, eqb}
@@ -116,11 +116,11 @@ module _ (tab : ℕ) (some : 1 ≤ tab) where
         go true e = rw (le-leb (columns_of tab (column_behind tab 0 g) row) columns (stay_within (column_behind tab 0 g) gs t.1 (leb-true _ _ e)))
         go false e =
             let p = leb-false _ _ e in
-            rw (lt-ltb columns (column_behind tab 0 g) p, stay_past_columns (column_behind tab 0 g) gs t.1 p) (or-true (leb (columns_of tab (column_behind tab 0 g) row) columns))
+            rw (lt-ltb columns (column_behind tab 0 g) p, stay_past_columns (column_behind tab 0 g) gs t.1 p) (or_true (leb (columns_of tab (column_behind tab 0 g) row) columns))
           where
-            or-true : (a : Bool) → (a || true) ≡ true
-            or-true true = refl
-            or-true false = refl
+            or_true : (a : Bool) → (a || true) ≡ true
+            or_true true = refl
+            or_true false = refl
 
     -- Every row takes at most the columns, or holds a single character wider than they are, with ones of width 0 after it.
     pub every_row_fits : (text : List ℕ) → All (λ row. fits tab columns row ≡ true) (rows_of tab columns (characters text))
@@ -155,7 +155,7 @@ fed_marked r = added_feed ∷ map kept (row_bytes r)
 fed_bytes : (rows : List (List Glyph)) → map (λ (m : Marked). m.byte) (joined fed_marked rows) ≡ joined fed rows
 unfolding joined fed
 fed_bytes [] = refl
-fed_bytes (r ∷ rows) = map-append (λ (m : Marked). m.byte) (fed_marked r) (joined fed_marked rows) ∙ ap₂ (λ (a b : List ℕ). feed ∷ a ++ b) (map_kept (row_bytes r)) (fed_bytes rows)
+fed_bytes (r ∷ rows) = map_append (λ (m : Marked). m.byte) (fed_marked r) (joined fed_marked rows) ∙ ap₂ (λ (a b : List ℕ). feed ∷ a ++ b) (map_kept (row_bytes r)) (fed_bytes rows)
 
 fed_unadded : (rows : List (List Glyph)) → unadded (joined fed_marked rows) ≡ joined row_bytes rows
 unfolding joined unadded
@@ -196,7 +196,7 @@ module _ (tab columns : ℕ) where
   unfolding marked_rows in_rows
   bytes_rows [] = refl
   bytes_rows (row ∷ rows) =
-      map-append (λ (m : Marked). m.byte) (map kept (row_bytes row)) (joined fed_marked rows)
+      map_append (λ (m : Marked). m.byte) (map kept (row_bytes row)) (joined fed_marked rows)
       ∙ ap₂ (λ (a b : List ℕ). a ++ b) (map_kept (row_bytes row)) (fed_bytes rows)
 
   unadded_rows : (rows : List (List Glyph)) → unadded (marked_rows rows) ≡ joined row_bytes rows
@@ -214,12 +214,12 @@ module _ (tab columns : ℕ) where
     where
       line : (l : Line) → map (λ (m : Marked). m.byte) (marked_line tab columns l) ≡ folded_line tab columns l
       line l =
-          map-append (λ (m : Marked). m.byte) (marked_rows (rows_of tab columns (characters l.text))) (map kept (end_of l))
+          map_append (λ (m : Marked). m.byte) (marked_rows (rows_of tab columns (characters l.text))) (map kept (end_of l))
           ∙ ap₂ (λ (a b : List ℕ). a ++ b) (bytes_rows (rows_of tab columns (characters l.text))) (map_kept (end_of l))
 
       go : (ls : List Line) → map (λ (m : Marked). m.byte) (joined (marked_line tab columns) ls) ≡ joined (folded_line tab columns) ls
       go [] = refl
-      go (l ∷ ls) = map-append (λ (m : Marked). m.byte) (marked_line tab columns l) (joined (marked_line tab columns) ls) ∙ ap₂ (λ (a b : List ℕ). a ++ b) (line l) (go ls)
+      go (l ∷ ls) = map_append (λ (m : Marked). m.byte) (marked_line tab columns l) (joined (marked_line tab columns) ls) ∙ ap₂ (λ (a b : List ℕ). a ++ b) (line l) (go ls)
 
   -- a line of a text is its text and its line end
   ends : (text : List ℕ) → All (λ (l : Line). l.text ++ end_of l ≡ l.raw) (lines_of text)
@@ -264,13 +264,13 @@ module _ (tab columns : ℕ) where
       row [] = tt
       row (r ∷ rows) = ((λ e. refl, keeps (row_bytes r)), row rows)
 
-      all-rows : (rows : List (List Glyph)) → All Fed (marked_rows rows)
-      all-rows [] = tt
-      all-rows (r ∷ rows) = all_append Fed (map kept (row_bytes r)) _ (keeps (row_bytes r)) (all_joined (λ q. added_feed ∷ map kept (row_bytes q)) Fed rows (row rows))
+      all_rows : (rows : List (List Glyph)) → All Fed (marked_rows rows)
+      all_rows [] = tt
+      all_rows (r ∷ rows) = all_append Fed (map kept (row_bytes r)) _ (keeps (row_bytes r)) (all_joined (λ q. added_feed ∷ map kept (row_bytes q)) Fed rows (row rows))
 
       each_line : (ls : List Line) → All (λ l. All Fed (marked_line tab columns l)) ls
       each_line [] = tt
-      each_line (l ∷ ls) = (all_append Fed (marked_rows (rows_of tab columns (characters l.text))) (map kept (end_of l)) (all-rows (rows_of tab columns (characters l.text))) (keeps (end_of l)), each_line ls)
+      each_line (l ∷ ls) = (all_append Fed (marked_rows (rows_of tab columns (characters l.text))) (map kept (end_of l)) (all_rows (rows_of tab columns (characters l.text))) (keeps (end_of l)), each_line ls)
 
   -- ---- the answer's number
 
@@ -306,10 +306,10 @@ module _ (tab columns : ℕ) where
 
   pub folded_most : (text : List ℕ) → length (folded tab columns text) ≤ 2 * length text
   unfolding folded
-  folded_most text = ap-le (go (lines_of text) (ends text)) (lines_extents text)
+  folded_most text = ap_le (go (lines_of text) (ends text)) (lines_extents text)
     where
-      ap-le : {n : ℕ} {xs ys : List ℕ} → n ≤ 2 * length xs → xs ≡ ys → n ≤ 2 * length ys
-      ap-le h e = rw (← e) h
+      ap_le : {n : ℕ} {xs ys : List ℕ} → n ≤ 2 * length xs → xs ≡ ys → n ≤ 2 * length ys
+      ap_le h e = rw (← e) h
 
       go : (ls : List Line) → All (λ (l : Line). l.text ++ end_of l ≡ l.raw) ls → length (joined (folded_line tab columns) ls) ≤ 2 * length (joined (λ (l : Line). l.raw) ls)
       go [] t = rw (joined_nil (folded_line tab columns)) (omega arith)

@@ -55,11 +55,11 @@ module _ (most : ℕ) (o : Opts) (notes out : List ℕ) where
     noted_as n e = rw e at n
 
     module _ (records n k : ℕ) (noted : Noted most o notes out out' work' (All n k)) where
-      count-is : k ≡ length (index_of o notes)
-      count-is = noted.2
+      count_is : k ≡ length (index_of o notes)
+      count_is = noted.2
 
-      length-is : n ≡ length (digest o notes)
-      length-is = let c = noted.1.count in omega (arith, c)
+      length_is : n ≡ length (digest o notes)
+      length_is = let c = noted.1.count in omega (arith, c)
 
       same_out : length out' ≡ length out
       same_out = wrote_length noted.1
@@ -67,38 +67,38 @@ module _ (most : ℕ) (o : Opts) (notes out : List ℕ) where
       left_is : found_of most o notes (length out) records ≡ with_index numbering (length out) records (index_of o notes) (digest o notes)
       left_is = rw noted.0
 
-      pub full-answer : (out'' : List ℕ) → records < k → out'' ≡ replicate (length out') 0 → Indexes (found_of most o notes (length out) records) out (Full k) out'' work'
+      pub full_answer : (out'' : List ℕ) → records < k → out'' ≡ replicate (length out') 0 → Indexes (found_of most o notes (length out) records) out (Full k) out'' work'
       unfolding index_output_after read_from
-      full-answer out'' h z =
-          let a : found_of most o notes (length out) records ≡ full (length (index_of o notes)) = left_is ∙ rw (lt-leb (length (index_of o notes)) records (omega (arith, h, count-is))) in
-          record { is = rw (a, count-is); output = rw a (z ∙ ap (λ (m : ℕ). replicate m 0) same_out); read = rw a }
+      full_answer out'' h z =
+          let a : found_of most o notes (length out) records ≡ full (length (index_of o notes)) = left_is ∙ rw (lt-leb (length (index_of o notes)) records (omega (arith, h, count_is))) in
+          record { is = rw (a, count_is); output = rw a (z ∙ ap (λ (m : ℕ). replicate m 0) same_out); read = rw a }
 
       -- the digest's length is more than N can tell
       pub untold_answer : (out'' : List ℕ) → k ≤ records → most_told < n → out'' ≡ replicate (length out') 0 → Indexes (found_of most o notes (length out) records) out (Room most_told) out'' work'
       unfolding index_output_after read_from
       untold_answer out'' h g z =
           let a : found_of most o notes (length out) records ≡ room most_told =
-          left_is ∙ rw (le-leb (length (index_of o notes)) records (omega (arith, h, count-is)), lt-leb (length (digest o notes)) most_told (omega (arith, g, length-is))) in
+          left_is ∙ rw (le-leb (length (index_of o notes)) records (omega (arith, h, count_is)), lt-leb (length (digest o notes)) most_told (omega (arith, g, length_is))) in
           record { is = rw a; output = rw a (z ∙ ap (λ (m : ℕ). replicate m 0) same_out); read = rw a }
 
       module _ (few : k ≤ records) (short : n ≤ most_told) where
         told_is : found_of most o notes (length out) records ≡ cond (leb (length (digest o notes)) (length out)) (done (digest o notes) (index_of o notes)) (room (length (digest o notes)))
-        told_is = left_is ∙ rw (le-leb (length (index_of o notes)) records (omega (arith, few, count-is)), le-leb (length (digest o notes)) most_told (omega (arith, short, length-is)))
+        told_is = left_is ∙ rw (le-leb (length (index_of o notes)) records (omega (arith, few, count_is)), le-leb (length (digest o notes)) most_told (omega (arith, short, length_is)))
 
         pub room_answer : (out'' : List ℕ) → length out < n → out'' ≡ replicate (length out') 0 → Indexes (found_of most o notes (length out) records) out (Room n) out'' work'
         unfolding index_output_after read_from
         room_answer out'' g z =
-            let a : found_of most o notes (length out) records ≡ room (length (digest o notes)) = told_is ∙ rw (lt-leb (length (digest o notes)) (length out) (omega (arith, g, length-is))) in
-            record { is = rw (a, length-is); output = rw a (z ∙ ap (λ (m : ℕ). replicate m 0) same_out); read = rw a }
+            let a : found_of most o notes (length out) records ≡ room (length (digest o notes)) = told_is ∙ rw (lt-leb (length (digest o notes)) (length out) (omega (arith, g, length_is))) in
+            record { is = rw (a, length_is); output = rw a (z ∙ ap (λ (m : ℕ). replicate m 0) same_out); read = rw a }
 
         pub done_answer : n ≤ length out → Indexes (found_of most o notes (length out) records) out (Done n k) out' work'
         unfolding index_output_after
         done_answer g =
-            let a : found_of most o notes (length out) records ≡ done (digest o notes) (index_of o notes) = told_is ∙ rw (le-leb (length (digest o notes)) (length out) (omega (arith, g, length-is))) in
+            let a : found_of most o notes (length out) records ≡ done (digest o notes) (index_of o notes) = told_is ∙ rw (le-leb (length (digest o notes)) (length out) (omega (arith, g, length_is))) in
             record {
-              is = rw (a, length-is, count-is);
-              output = rw a (noted.1.bytes ∙ written_fits 0 out (digest o notes) (omega (arith, g, length-is)));
-              read = rw a (ap (λ (m : ℕ). read_from (marks_in (front work')) m no_record) (sym count-is) ∙ noted.3 g);
+              is = rw (a, length_is, count_is);
+              output = rw a (noted.1.bytes ∙ written_fits 0 out (digest o notes) (omega (arith, g, length_is)));
+              read = rw a (ap (λ (m : ℕ). read_from (marks_in (front work')) m no_record) (sym count_is) ∙ noted.3 g);
             }
 
 -- ---- the families
@@ -135,11 +135,6 @@ module _ (o : Opts) (notes : List ℕ) (space records lends : ℕ) where
       record { is = rw a; output = rw a; read = rw a }
 
 -- ---- the rooms
-
--- for the most words of a paragraph
-pub few_numbers : (quick : Bool) {n : ℕ} → n ≡ cond quick 7 15 * 1024 → n ≤ 15360
-few_numbers true e = omega (arith, e)
-few_numbers false e = omega (arith, e)
 
 pub small_room : (quick : Bool) (marks n : ℕ) → n ≡ cond quick 7 15 * 1024 → room_for quick (marks + n - marks) ≡ most_words
 unfolding room_for

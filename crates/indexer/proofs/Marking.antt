@@ -120,72 +120,72 @@ module _ (o : Opts) (notes : List ℕ) (size marks : ℕ) where
       abbrev here : Piece
       here = p.goes.piece
 
-      lines-here : (1 ≤ line_count o here) × (line_count o here ≤ length (extent_of here))
-      lines-here = piece_lines o c.mail notes c.at here (pieces_from o d.mail notes d.at) p.goes.pieces
+      lines_here : (1 ≤ line_count o here) × (line_count o here ≤ length (extent_of here))
+      lines_here = piece_lines o c.mail notes c.at here (pieces_from o d.mail notes d.at) p.goes.pieces
 
-      some-here : 1 ≤ length (extent_of here)
-      some-here = omega (arith, p.goes.extent, p.goes.on)
+      some_here : 1 ≤ length (extent_of here)
+      some_here = omega (arith, p.goes.extent, p.goes.on)
 
       behind : c.written ≤ d.written
       behind = omega (arith, p.wrote.count)
 
       module _ (fits : d.written ≤ length out') where
-        in-room : c.written ≤ size
-        in-room = omega (arith, behind, fits, same)
+        in_room : c.written ≤ size
+        in_room = omega (arith, behind, fits, same)
 
-        lines-put : lines_put out' c d ≡ line_count o here
+        lines_put_law : lines_put out' c d ≡ line_count o here
         unfolding line_count
-        lines-put =
+        lines_put_law =
             ap (λ (t : List ℕ). length (lines_of t)) (wrote_there out out' _ c.written d.written p.wrote (omega (arith, fits, wrote_length p.wrote)))
             ∙ ap (λ (t : Kind). length (lines_of (output_of o t))) (sym p.goes.is)
 
         ends_here : sum (gaps_of o m.before) + length (extent_of here) ≡ d.at + line
-        ends_here = omega (arith, m.upto in-room, p.goes.extent)
+        ends_here = omega (arith, m.upto in_room, p.goes.extent)
 
-        fits-here : d.at + line + line_count o here ≤ 32 * marks
-        fits-here = omega (arith, lines-here.1, m.lines, p.goes.extent, p.goes.within, short)
+        fits_here : d.at + line + line_count o here ≤ 32 * marks
+        fits_here = omega (arith, lines_here.1, m.lines, p.goes.extent, p.goes.within, short)
 
-      pub marking-spells : Spells gaps out' c d line
-      marking-spells = record {
+      pub marking_spells : Spells gaps out' c d line
+      marking_spells = record {
         on = p.goes.on;
         within = omega (arith, p.goes.within, short, few);
         few = m.lines;
         behind = behind;
-        lines = λ f. omega (arith, lines-put f, lines-here.1, p.goes.extent);
-        first = λ f. first_free _ _ _ _ _ m.some some-here lines-here.0 (ends_here f) _ (fits-here f) (m.spelt (in-room f));
-        second = λ f. rw (lines-put f) (second_free _ _ _ _ _ m.some some-here lines-here.0 (ends_here f) _ (fits-here f) (m.spelt (in-room f)));
+        lines = λ f. omega (arith, lines_put_law f, lines_here.1, p.goes.extent);
+        first = λ f. first_free _ _ _ _ _ m.some some_here lines_here.0 (ends_here f) _ (fits_here f) (m.spelt (in_room f));
+        second = λ f. rw (lines_put_law f) (second_free _ _ _ _ _ m.some some_here lines_here.0 (ends_here f) _ (fits_here f) (m.spelt (in_room f)));
       }
 
       module _ {gaps' : List ℕ} {line' : ℕ} (s : Spelt gaps out' c d line gaps' line') where
-        sum-here : d.written ≤ length out' → sum (gaps_of o (m.before ++ here ∷ [])) ≡ d.at + line'
-        sum-here f =
+        sum_here : d.written ≤ length out' → sum (gaps_of o (m.before ++ here ∷ [])) ≡ d.at + line'
+        sum_here f =
             let a = sum_more (gaps_of o m.before) (length (extent_of here)) in
             let b = sum_more (gaps_of o m.before ++ length (extent_of here) ∷ []) (line_count o here) in
-            ap sum (gaps_more o m.before here) ∙ omega (arith, a, b, ends_here f, s.moves f, lines-put f)
+            ap sum (gaps_more o m.before here) ∙ omega (arith, a, b, ends_here f, s.moves f, lines_put_law f)
 
-        spelt-here : d.written ≤ length out' → marks_in gaps' ≡ spelled (gaps_of o (m.before ++ here ∷ [])) ++ replicate (32 * marks - sum (gaps_of o (m.before ++ here ∷ []))) false
-        spelt-here f =
-            rw (lines-put f) at (s.marked f)
-            ∙ marked_twice _ _ _ _ _ m.some some-here lines-here.0 (ends_here f) _ (fits-here f) (m.spelt (in-room f))
+        spelt_here : d.written ≤ length out' → marks_in gaps' ≡ spelled (gaps_of o (m.before ++ here ∷ [])) ++ replicate (32 * marks - sum (gaps_of o (m.before ++ here ∷ []))) false
+        spelt_here f =
+            rw (lines_put_law f) at (s.marked f)
+            ∙ marked_twice _ _ _ _ _ m.some some_here lines_here.0 (ends_here f) _ (fits_here f) (m.spelt (in_room f))
             ∙ ap (λ (gs : List ℕ). spelled gs ++ replicate (32 * marks - sum gs) false) (sym (gaps_more o m.before here))
 
-        lines-less : line' ≤ d.at
-        lines-less = go (leb d.written (length out')) refl
+        lines_less : line' ≤ d.at
+        lines_less = go (leb d.written (length out')) refl
           where
             go : (b : Bool) → leb d.written (length out') ≡ b → line' ≤ d.at
-            go true e = let f = leb-true d.written (length out') e in omega (arith, s.moves f, lines-put f, lines-here.1, m.lines, p.goes.extent)
+            go true e = let f = leb-true d.written (length out') e in omega (arith, s.moves f, lines_put_law f, lines_here.1, m.lines, p.goes.extent)
             go false e = let f = leb-false d.written (length out') e in omega (arith, s.stays f, m.lines, p.goes.on)
 
-        pub marking-on : Marking o notes size marks d (k + 1) line' gaps'
-        marking-on = record {
+        pub marking_on : Marking o notes size marks d (k + 1) line' gaps'
+        marking_on = record {
           before = m.before ++ here ∷ [];
           all = append_assoc m.before (here ∷ []) _ ∙ ap (λ (qs : List Piece). m.before ++ qs) (sym p.goes.pieces) ∙ m.all;
           count = omega (arith, m.count, length-append m.before (here ∷ []));
-          some = rw (gaps_more o m.before here) (positive_more (gaps_of o m.before ++ length (extent_of here) ∷ []) _ (positive_more (gaps_of o m.before) _ m.some some-here) lines-here.0);
+          some = rw (gaps_more o m.before here) (positive_more (gaps_of o m.before ++ length (extent_of here) ∷ []) _ (positive_more (gaps_of o m.before) _ m.some some_here) lines_here.0);
           few = omega (arith, m.few, p.goes.on);
-          lines = lines-less;
-          upto = λ f. sum-here (omega (arith, f, same));
-          spelt = λ f. spelt-here (omega (arith, f, same));
+          lines = lines_less;
+          upto = λ f. sum_here (omega (arith, f, same));
+          spelt = λ f. spelt_here (omega (arith, f, same));
         }
 
     all_before : length notes ≤ c.at → m.before ≡ pieces o notes

@@ -2,7 +2,7 @@
 use mathlib.Core.Path.{◌≡◌, refl, sym, ap, ◌∙◌}
 use mathlib.Core.Bool.{Bool, true, false, cond}
 use mathlib.Core.List.{List}
-use Prim.Native.Nat.{ℕ, ◌≤◌, ◌<◌, max}
+use Prim.Native.Nat.{ℕ, ◌<◌, max}
 use native.Mathlib.Omega.{arith}
 use lib.Dec.{ltb}
 use lib.ListN.{length, drop}
@@ -22,49 +22,29 @@ use Rattle.formatter.specs.Format.{Limits, limited, Finding, found, stopped, wit
 use Rattle.formatter.specs.Work.{most_lent, lending}
 use Rattle.formatter.specs.Cited.Call.{Admits}
 use Rattle.formatter.specs.declared.Refusal.{Refusal}
-use Rattle.formatter.specs.declared.Refusal.TheVariants.{Words, Work}
+use Rattle.formatter.specs.declared.Refusal.TheVariants.{Work}
 use Rattle.formatter.specs.declared.Admission.TheVariants.{Refused as Barred, Passed}
 use Rattle.formatter.proofs.Lent.{fits, over}
 use Rattle.checker.specs.Matching.{Match, on, and_then, match_pieces, verdict_of, verdict}
 use Rattle.checker.specs.Cited.Places.{matched, MatchedIn}
-use Rattle.checker.specs.declared.Spot.{Spot}
 use Rattle.checker.specs.declared.Matched.{Matched}
 use Rattle.checker.specs.declared.Matched.TheVariants.{On, Fault}
 use Rattle.judge.specs.Checking.{with_verdict, digest_within, after_notes, verdict_under, checking}
 use Rattle.judge.specs.Cited.Judging.{Walked, begun, told_of, judged_by, left_of}
 use Rattle.judge.specs.declared.Judgement.{Judgement}
-use Rattle.judge.specs.declared.Judgement.TheVariants.{Accepted, Refused, LongDigest, Line}
+use Rattle.judge.specs.declared.Judgement.TheVariants.{Accepted, Refused, Line}
 use Rattle.judge.specs.declared.Course.{Course}
 use Rattle.judge.specs.declared.Course.TheVariants.{Through, Stopped}
 
 -- ---- where matching begins, and what is told of where it ends
 
 module _ (bytes : ℕ) where
-  pub begun_long : (size : ℕ) → bytes < size → Fault 0 ≡ begun bytes size
-  begun_long size h = rw (lt-ltb bytes size h)
-
-  pub begun_short : (size : ℕ) → size ≤ bytes → On (record { at = 0; line = 0 }) ≡ begun bytes size
-  begun_short size h = rw (le-ltb bytes size h)
-
   pub begun_in : (digest : List ℕ) {m : Matched} → m ≡ begun bytes (length digest) → MatchedIn digest m
   begun_in digest e = rw e (go (ltb bytes (length digest)))
     where
       go : (b : Bool) → MatchedIn digest (cond b (Fault 0) (On (record { at = 0; line = 0 })))
       go true = omega arith
       go false = record { within = omega arith; line = omega arith }
-
-  pub judged_long : (size : ℕ) (m : Matched) → bytes < size → LongDigest ≡ judged_by bytes size m
-  judged_long size m h = rw (lt-ltb bytes size h)
-
-  module _ (size : ℕ) {m : Matched} (h : size ≤ bytes) where
-    pub judged_fault : {line : ℕ} → m ≡ Fault line → Line line ≡ judged_by bytes size m
-    judged_fault e = rw (le-ltb bytes size h, e)
-
-    pub judged_left : {p : Spot} → m ≡ On p → p.at < size → Line p.line ≡ judged_by bytes size m
-    judged_left {p} e k = rw (le-ltb bytes size h, e, lt-ltb p.at size k)
-
-    pub judged_whole : {p : Spot} → m ≡ On p → size ≤ p.at → Accepted ≡ judged_by bytes size m
-    judged_whole {p} e k = rw (le-ltb bytes size h, e, le-ltb p.at size k)
 
 -- nothing may be left of the digest
 told_verdict : (digest : List ℕ) (m : Matched) → told_of (length digest) m ≡ with_verdict (verdict_of (matched digest m))
@@ -95,10 +75,6 @@ module _ (bytes most : ℕ) (o : Opts) (notes digest : List ℕ) (first : Matche
           let k : first ≡ On (record { at = 0; line = 0 }) = b ∙ rw t in
           let v : matched digest m ≡ match_pieces o (pieces o notes) digest 0 = f ∙ ap (λ (x : Matched). and_then (matched digest x) (match_pieces o (pieces o notes))) k in
           rw t (told_verdict digest m ∙ ap (λ (x : Match). with_verdict (verdict_of x)) v)
-
-  -- with a limit on words
-  pub stopped_answer : {place : ℕ} → r ≡ Stopped place → Refused (Words place) ≡ left_of (limited bytes most) o notes digest
-  stopped_answer e = rw (stopped_at e)
 
   pub through_answer : {m : Matched} → r ≡ Through m → first ≡ begun bytes (length digest) → {a : Judgement} → a ≡ judged_by bytes (length digest) m → a ≡ left_of (limited bytes most) o notes digest
   through_answer e b q = q ∙ through_judged e b ∙ ap (λ (f : Found). after_notes (digest_within bytes (length digest) (verdict o notes digest)) (with_words o notes f)) (sym (through e).0)

@@ -115,18 +115,18 @@ module _ (block notes : List ℕ) (o : Options) (c : Stand) (p : Paragraph) (rea
     text_over e = long_as most (meant block o) notes c goes.goes true (lt-ltb most (length (words_of (meant block o) goes.paragraph_is)) (omega (arith, split_many s e, ap length words_are)))
 
     module _ (n : ℕ) (e : k ≡ Words n) where
-      pub text-matchable : Matchable notes table n p.indent × MarginFits notes p.first
-      text-matchable =
+      pub text_matchable : Matchable notes table n p.indent × MarginFits notes p.first
+      text_matchable =
           let w = s.kept n e in
           let f = split_few s n e in (
             record { some = omega (arith, words_some, f.0); words = w.within; held = omega (arith, w.few, w.held); fits = margin_fits p.indent goes.bounds.indent },
             margin_fits p.first goes.bounds.first,
           )
 
-      pub text-took : {digest : List ℕ} {r : Matched} → Matches digest (and_then (matched digest c.matched) (match_words o.glue (margin_of notes p.first) (margin_of notes p.indent) (words_in notes n table))) r
+      pub text_took : {digest : List ℕ} {r : Matched} → Matches digest (and_then (matched digest c.matched) (match_words o.glue (margin_of notes p.first) (margin_of notes p.indent) (words_in notes n table))) r
           → Took most (meant block o) notes digest c (record { at = p.next; mail = p.mail; matched = r })
       unfolding match_piece meant
-      text-took m = record {
+      text_took m = record {
         kind = paragraph goes.paragraph_is;
         goes = goes.goes;
         few = le-ltb most (length (words_of (meant block o) goes.paragraph_is)) (omega (arith, (split_few s n e).1, ap length words_are));

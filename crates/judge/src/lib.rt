@@ -30,7 +30,7 @@ pub enum Judgement {
     Line(usize),
 }
 
-// Where the work stands: the place in the notes and next_mail, and what the digest has come to.
+// Where the work stands: the place in the notes and next-mail, and what the digest has come to.
 #[derive(Clone, Copy)]
 struct Stand {
     at: usize,

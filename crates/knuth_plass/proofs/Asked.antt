@@ -64,41 +64,41 @@ module _ (makers : List Ending) (e : ℕ) (some : 1 ≤ e) where
       unfolding next_at
       next_here = rw (next_at, eq-eqb (start_of k) e q)
 
-      before-first : before_at e (k ∷ ks) ≡ k.before
+      before_first : before_at e (k ∷ ks) ≡ k.before
       unfolding before_at
-      before-first = rw (before_at, eq-eqb (start_of k) e q)
+      before_first = rw (before_at, eq-eqb (start_of k) e q)
 
-      told-word : (b : Bool) → cond b k.word (suc k.word) ≡ e → get_or makers k.word Paragraph ≡ told b
-      told-word true r = ap (λ (j : ℕ). get_or makers j Paragraph) r
-      told-word false r = ap (λ (j : ℕ). get_or makers j Paragraph) (omega arith)
+      told_word : (b : Bool) → cond b k.word (suc k.word) ≡ e → get_or makers k.word Paragraph ≡ told b
+      told_word true r = ap (λ (j : ℕ). get_or makers j Paragraph) r
+      told_word false r = ap (λ (j : ℕ). get_or makers j Paragraph) (omega arith)
 
-      tells-here : next_at makers e (k ∷ ks) ≡ ended (told (before_at e (k ∷ ks)))
-      tells-here = next_here ∙ ap ended (told-word k.before q) ∙ sym (ap (λ (b : Bool). ended (told b)) before-first)
+      tells_here : next_at makers e (k ∷ ks) ≡ ended (told (before_at e (k ∷ ks)))
+      tells_here = next_here ∙ ap ended (told_word k.before q) ∙ sym (ap (λ (b : Bool). ended (told b)) before_first)
 
     module _ (q : start_of k ≡ e → ⊥) where
-      next-on : next_at makers e (k ∷ ks) ≡ next_at makers e ks
+      next_on : next_at makers e (k ∷ ks) ≡ next_at makers e ks
       unfolding next_at
-      next-on = rw (next_at, ne_eqb (start_of k) e q)
+      next_on = rw (next_at, ne_eqb (start_of k) e q)
 
-      before-past : before_at e (k ∷ ks) ≡ before_at e ks
+      before_past : before_at e (k ∷ ks) ≡ before_at e ks
       unfolding before_at
-      before-past = rw (before_at, ne_eqb (start_of k) e q)
+      before_past = rw (before_at, ne_eqb (start_of k) e q)
 
-      starts-on : (b : Bool) → (cond b k.word (suc k.word) ≡ e → ⊥) → (cond b (eqb k.word e) (eqb (suc k.word) e) || starts_line e ks) ≡ true → starts_line e ks ≡ true
-      starts-on true r h = rw (ne_eqb k.word e r) at h
-      starts-on false r h = rw (ne_eqb (suc k.word) e r) at h
+      starts_on : (b : Bool) → (cond b k.word (suc k.word) ≡ e → ⊥) → (cond b (eqb k.word e) (eqb (suc k.word) e) || starts_line e ks) ≡ true → starts_line e ks ≡ true
+      starts_on true r h = rw (ne_eqb k.word e r) at h
+      starts_on false r h = rw (ne_eqb (suc k.word) e r) at h
 
-      tells-on : Tells ks → Tells (k ∷ ks)
+      tells_on : Tells ks → Tells (k ∷ ks)
       unfolding starts_line
-      tells-on rest h = next-on ∙ rest (starts-on k.before q h) ∙ sym (ap (λ (b : Bool). ended (told b)) before-past)
+      tells_on rest h = next_on ∙ rest (starts_on k.before q h) ∙ sym (ap (λ (b : Bool). ended (told b)) before_past)
 
   pub path_tells : (path : List Place) → Tells path
   unfolding starts_line
   path_tells [] h = absurd (subst T (sym h) tt)
   path_tells (k ∷ ks) h = by (eqb (start_of k) e) refl (path_tells ks) h where
     by : (x : Bool) → eqb (start_of k) e ≡ x → Tells ks → Tells (k ∷ ks)
-    by true q rest h = tells-here k ks (eqb-true (start_of k) e q)
-    by false q rest h = tells-on k ks (eqb-false (start_of k) e q) rest h
+    by true q rest h = tells_here k ks (eqb-true (start_of k) e q)
+    by false q rest h = tells_on k ks (eqb-false (start_of k) e q) rest h
 
 -- ---- forgetting what made them, the lines are the formatter's
 

@@ -169,30 +169,30 @@ module _ (g : Setting) (n : ℕ) (table : List ℕ) where
       abbrev begun : Interval
       begun = record { head = 0; size = 1; line = g.first + (word_in table 0).width }
 
-      start-active : active_of begun (with_break t 0 start) ≡ first_entry g ∷ []
+      start_active : active_of begun (with_break t 0 start) ≡ first_entry g ∷ []
       unfolding break_meant seen
-      start-active =
+      start_active =
           span_here (with_break t 0 start) 0 1 (omega arith)
           ∙ rw (span_none (with_break t 0 start) 1 1 (omega arith), path_start (with_break t 0 start) 0 (omega arith), read_back t 0 start room sized, zero-ratio)
 
-      start-sound : Sound 1 start
-      start-sound = let f = limits.indent in record { ratio = rw zero-ratio tt; columns = omega arith; demerits = omega arith; word = omega arith }
+      start_sound : Sound 1 start
+      start_sound = let f = limits.indent in record { ratio = rw zero-ratio tt; columns = omega arith; demerits = omega arith; word = omega arith }
 
       along_first : (t₁ : Tables) → t₁ ≡ with_break t 0 start → Along 1 false begun t₁
       along_first t₁ e = rw e (record {
         filled = record {
           sized = sized_with t 0 start sized;
-          sound = λ j h. (let z : j ≡ 0 = omega arith in rw (z, read_back t 0 start room sized) start-sound);
+          sound = λ j h. (let z : j ≡ 0 = omega arith in rw (z, read_back t 0 start room sized) start_sound);
           down = λ j p h. absurd (omega arith);
         };
         few = omega arith;
         some = omega arith;
         short = (let m = room_more table 0 in omega arith);
-        goes = λ notes. rw start-active (record { ready = first_ready g (g.first + (word_in table 0).width) (gap_behind (drop 1 (words_in notes n table))); never = never notes; is = refl });
+        goes = λ notes. rw start_active (record { ready = first_ready g (g.first + (word_in table 0).width) (gap_behind (drop 1 (words_in notes n table))); never = never notes; is = refl });
       })
 
-      pub along-start : (w : WordRecord) (t₁ : Tables) → w ≡ word_in table 0 → t₁ ≡ with_break t 0 start → Along 1 false (record { head = 0; size = 1; line = g.first + w.width }) t₁
-      along-start w t₁ e f = rw e (along_first t₁ f)
+      pub along_start : (w : WordRecord) (t₁ : Tables) → w ≡ word_in table 0 → t₁ ≡ with_break t 0 start → Along 1 false (record { head = 0; size = 1; line = g.first + w.width }) t₁
+      along_start w t₁ e f = rw e (along_first t₁ f)
 
     -- after the last round
     pub intervals_are : (i : ℕ) (sentence : Bool) (s : Interval) (t : Tables) → i ≤ n → n ≤ i → n ≤ length t → Along i sentence s t → IntervalsAre g n table t s

@@ -94,40 +94,40 @@ module _ (g : Setting) (turn : Turn) (n : ℕ) (b : Record) (best : Best) (x : �
     offered_short h = offers_none (λ columns fresh path. rw (offer_at, le-leb x g.width o.fits, lt-leb (minimum_of g) x h))
 
     module _ (long : minimum_of g ≤ x) where
-      pub offered-last-none : turn.last ≡ true → 0 < b.demerits → OfferedIs g turn n b x best best
+      pub offered_last_none : turn.last ≡ true → 0 < b.demerits → OfferedIs g turn n b x best best
       unfolding offer_at seen
-      offered-last-none l h =
+      offered_last_none l h =
           offers_none (λ columns fresh path. rw (offer_at, le-leb x g.width o.fits, le-leb (minimum_of g) x long, l, lt-leb b.demerits 0 h))
 
-      pub offered-last : (r : Float) → r ≡ no_ratio → turn.last ≡ true → b.demerits ≤ 0 → OfferedIs g turn n b x best (better best n 0 r)
+      pub offered_last : (r : Float) → r ≡ no_ratio → turn.last ≡ true → b.demerits ≤ 0 → OfferedIs g turn n b x best (better best n 0 r)
       unfolding offer_at offer_made seen
-      offered-last r z l h =
+      offered_last r z l h =
           rw z
           (offers_some 0 no_ratio o.turns.few (omega arith) tt
           (λ columns fresh t. rw (offer_at, le-leb x g.width o.fits, le-leb (minimum_of g) x long, l, le-leb b.demerits 0 h)))
 
-      full-offer : (d : ℕ) (r : Float) → turn.last ≡ false → r ≡ ratio g.goal x (stretch_of g)
+      full_offer : (d : ℕ) (r : Float) → turn.last ≡ false → r ≡ ratio g.goal x (stretch_of g)
           → d ≡ cost (ratio g.goal x (stretch_of g)) (ratio_of b.ratio) (stretch_of g) turn.word.width → d + b.demerits < nothing
           → (columns : ℕ) (fresh : Bool) (t : Tables) → made columns fresh (path_to t n) ≡ offer_made columns fresh turn.number t (best_from n (d + b.demerits) r)
       unfolding offer_at seen
-      full-offer d r l e f few columns fresh t =
+      full_offer d r l e f few columns fresh t =
           rw (offer_at, le-leb x g.width o.fits, le-leb (minimum_of g) x long, l, ← f, ← e)
           (sym (offer_some columns fresh turn.number t (best_from n (d + b.demerits) r) few))
 
-      pub offered-full : (d : ℕ) (r : Float) → turn.last ≡ false → r ≡ ratio g.goal x (stretch_of g)
+      pub offered_full : (d : ℕ) (r : Float) → turn.last ≡ false → r ≡ ratio g.goal x (stretch_of g)
           → d ≡ cost (ratio g.goal x (stretch_of g)) (ratio_of b.ratio) (stretch_of g) turn.word.width → d ≤ most_cost → T (within 1 r)
           → OfferedIs g turn n b x best (better best n (d + b.demerits) r)
-      offered-full d r l e f k w =
+      offered_full d r l e f k w =
           let s = o.sound.demerits in
           let h = o.turns.few in
-          offers_some (d + b.demerits) r h (omega arith) w (full-offer d r l e f (omega arith))
+          offers_some (d + b.demerits) r h (omega arith) w (full_offer d r l e f (omega arith))
 
       -- the best offer so far is no more than the floor, so it stays
-      pub offered-beaten : (f : ℕ) (r : Float) → turn.last ≡ false → r ≡ ratio g.goal x (stretch_of g) → T (within 1 r) → Floor turn.weight f
+      pub offered_beaten : (f : ℕ) (r : Float) → turn.last ≡ false → r ≡ ratio g.goal x (stretch_of g) → T (within 1 r) → Floor turn.weight f
           → best.total ≤ f + b.demerits → OfferedIs g turn n b x best best
-      offered-beaten f r l e w floor h =
+      offered_beaten f r l e w floor h =
           let d = cost_with r (ratio_of b.ratio) turn.weight in
           let k = floor_least r (ratio_of b.ratio) turn.weight f floor in
           let small : d ≤ most_cost = square_le_most (line_term r) turn.weight (ratio_term r (ratio_of b.ratio)) (line_le r w) o.turns.light (ratio_le r (ratio_of b.ratio) w o.sound.ratio) in
           let is : d ≡ cost (ratio g.goal x (stretch_of g)) (ratio_of b.ratio) (stretch_of g) turn.word.width = rw (← e) (cost_with_law r (ratio_of b.ratio) (stretch_of g) turn.word.width turn.weight o.turns.weight) in
-          subst (λ (z : Best). OfferedIs g turn n b x best z) (better_stays best n (d + b.demerits) r (omega (arith, k, h))) (offered-full d r l e is small w)
+          subst (λ (z : Best). OfferedIs g turn n b x best z) (better_stays best n (d + b.demerits) r (omega (arith, k, h))) (offered_full d r l e is small w)

@@ -105,17 +105,17 @@ module _ (g : Setting) (last sentence : Bool) (i gap : ℕ) (w : WordRecord) (s 
     none_offers false v = refl
 
     module _ (weight : ℕ) (b : Record) (begins : AgainIs g (turn_of last i w space weight) x gap s t b) where
-      pub again-fits : Fits b
-      again-fits = fits_table b begins.sound begins.previous
+      pub again_fits : Fits b
+      again_fits = fits_table b begins.sound begins.previous
 
-      again-active : (notes : List ℕ) → active_of (after s.size (s.size + 1)) (with_break t s.size b) ≡ interval_round g last i s.line x gap (meaning notes w) (active_of s t)
+      again_active : (notes : List ℕ) → active_of (after s.size (s.size + 1)) (with_break t s.size b) ≡ interval_round g last i s.line x gap (meaning notes w) (active_of s t)
       unfolding interval_round
-      again-active notes =
+      again_active notes =
           active_more s.size b (omega arith) begins.previous
           ∙ rw (span_none t s.size s.size (omega arith), none_stays, none_offers last (meaning notes w)) (ap (λ (e : Break). e ∷ []) (begins.is notes))
 
-      pub round-again : (t₁ : Tables) → t₁ ≡ with_break t s.size b → Is t₁ (after s.size (s.size + 1))
-      round-again t₁ e =
+      pub round_again : (t₁ : Tables) → t₁ ≡ with_break t s.size b → Is t₁ (after s.size (s.size + 1))
+      round_again t₁ e =
           let f = between.few in
           rw e (record {
             filled = stored b begins.sound begins.previous;
@@ -123,7 +123,7 @@ module _ (g : Setting) (last sentence : Bool) (i gap : ℕ) (w : WordRecord) (s 
             some = omega arith;
             line = line_is;
             most = line_most;
-            is = again-active;
+            is = again_active;
           })
 
   -- ---- some stay
@@ -148,12 +148,12 @@ module _ (g : Setting) (last sentence : Bool) (i gap : ℕ) (w : WordRecord) (s 
 
     -- no offer
     module _ (none-offered : (notes : List ℕ) → near_offer g last i x gap (meaning notes w) (pops g x (active_of s t)) ≡ none) where
-      none-active : (notes : List ℕ) → active_of (after head s.size) t ≡ interval_round g last i s.line x gap (meaning notes w) (active_of s t)
+      none_active : (notes : List ℕ) → active_of (after head s.size) t ≡ interval_round g last i s.line x gap (meaning notes w) (active_of s t)
       unfolding interval_round
-      none-active notes = rw (none-offered notes, staying) (span_here t head s.size inside)
+      none_active notes = rw (none-offered notes, staying) (span_here t head s.size inside)
 
-      round-none : Is t (after head s.size)
-      round-none =
+      round_none : Is t (after head s.size)
+      round_none =
           let f = between.few in
           record {
             filled = rw (add-one i) (filled_later i s.size t between.filled);
@@ -161,17 +161,17 @@ module _ (g : Setting) (last sentence : Bool) (i gap : ℕ) (w : WordRecord) (s 
             some = inside;
             line = line_is;
             most = line_most;
-            is = none-active;
+            is = none_active;
           }
 
     pub round_last : last ≡ true → Is t (after head s.size)
-    round_last l = round-none (λ notes. rw l refl)
+    round_last l = round_none (λ notes. rw l refl)
 
     pub round_short : last ≡ false → x + g.indent < minimum_of g + (break_meant t head).columns → Is t (after head s.size)
     unfolding near best_entry break_meant seen
     round_short l h =
         let f = (fits head (omega arith) inside).0 in
-        round-none (λ notes. rw (l, staying, near, lt-leb (minimum_of g) (reach_of g x (break_meant t head)) (omega arith)) refl)
+        round_none (λ notes. rw (l, staying, near, lt-leb (minimum_of g) (reach_of g x (break_meant t head)) (omega arith)) refl)
 
     module _ (limits : Limits g) (inner : last ≡ false) (weight : ℕ) (turns : Turns g (turn_of last i w space weight)) where
       pub stays : Stay g (turn_of last i w space weight) x head s.size t
@@ -181,12 +181,12 @@ module _ (g : Setting) (last sentence : Bool) (i gap : ℕ) (w : WordRecord) (s 
           record { limits = limits; turns = turns; inner = inner; short = omega arith; filled = between.filled; room = omega arith; order = h; fits = fits }
 
       module _ (long : minimum_of g + (break_meant t head).columns ≤ x + g.indent) (best : Best) (offered : BestOffered g (turn_of last i w space weight) x head s.size t best) where
-        near-offer : (notes : List ℕ) → near_offer g last i x gap (meaning notes w) (pops g x (active_of s t)) ≡ offer_made (x + gap) false i t best
-        near-offer notes = rw (inner, passed.is) (sym (offered.is notes gap))
+        near_offer_law : (notes : List ℕ) → near_offer g last i x gap (meaning notes w) (pops g x (active_of s t)) ≡ offer_made (x + gap) false i t best
+        near_offer_law notes = rw (inner, passed.is) (sym (offered.is notes gap))
 
-        first-offers : best_entry g i x gap (meaning [] w) (near g x (span t head (s.size - head))) ≡ none → ⊥
+        first_offers : best_entry g i x gap (meaning [] w) (near g x (span t head (s.size - head))) ≡ none → ⊥
         unfolding best_entry near entry_offer break_meant seen
-        first-offers =
+        first_offers =
             let f = fits head (omega arith) inside in
             rw (
               span_here t head s.size inside,
@@ -199,40 +199,40 @@ module _ (g : Setting) (last sentence : Bool) (i gap : ℕ) (w : WordRecord) (s 
             ) (some_offer _ _)
 
         -- there is an offer
-        pub has-offer : best.total < nothing
-        has-offer = by (ltb best.total nothing) refl where
+        pub has_offer : best.total < nothing
+        has_offer = by (ltb best.total nothing) refl where
           by : (z : Bool) → ltb best.total nothing ≡ z → best.total < nothing
           by true e = ltb-true best.total nothing e
-          by false e = absurd (first-offers (sym (offered.is [] gap) ∙ offer_none (x + gap) false i t best (ltb-false best.total nothing e)))
+          by false e = absurd (first_offers (sym (offered.is [] gap) ∙ offer_none (x + gap) false i t best (ltb-false best.total nothing e)))
 
         module _ (b : Record) (made : MadeIs best i (x + gap) b) where
-          made-sound : Sound (suc i) b
-          made-sound =
-              let f = offered.fits has-offer in
+          made_sound : Sound (suc i) b
+          made_sound =
+              let f = offered.fits has_offer in
               rw made.is (record { ratio = rw made.ratio f.ratio; columns = omega arith; demerits = f.total; word = omega arith })
 
-          made-below : b.previous < s.size
-          made-below = rw made.is (offered.fits has-offer).previous
+          made_below : b.previous < s.size
+          made_below = rw made.is (offered.fits has_offer).previous
 
-          pub made-fits : Fits b
-          made-fits = fits_table b made-sound made-below
+          pub made_fits : Fits b
+          made_fits = fits_table b made_sound made_below
 
-          made-active : (notes : List ℕ) → active_of (after head (s.size + 1)) (with_break t s.size b) ≡ interval_round g last i s.line x gap (meaning notes w) (active_of s t)
+          made_active : (notes : List ℕ) → active_of (after head (s.size + 1)) (with_break t s.size b) ≡ interval_round g last i s.line x gap (meaning notes w) (active_of s t)
           unfolding interval_round seen
-          made-active notes =
-              active_more head b passed.to made-below
-              ∙ rw (near-offer notes, offer_some (x + gap) false i t best has-offer, staying, span_here t head s.size inside, ← made.ratio)
+          made_active notes =
+              active_more head b passed.to made_below
+              ∙ rw (near_offer_law notes, offer_some (x + gap) false i t best has_offer, staying, span_here t head s.size inside, ← made.ratio)
               (ap (λ (r : Record). break_meant t head ∷ span t (head + 1) (s.size - (head + 1)) ++ seen (place_of r ∷ path_to t r.previous) r ∷ []) made.is)
 
-          pub round-made : (t₁ : Tables) → t₁ ≡ with_break t s.size b → Is t₁ (after head (s.size + 1))
-          round-made t₁ e =
+          pub round_made : (t₁ : Tables) → t₁ ≡ with_break t s.size b → Is t₁ (after head (s.size + 1))
+          round_made t₁ e =
               let f = between.few in
               let k = inside in
               rw e (record {
-                filled = stored b made-sound made-below;
+                filled = stored b made_sound made_below;
                 few = omega arith;
                 some = omega arith;
                 line = line_is;
                 most = line_most;
-                is = made-active;
+                is = made_active;
               })

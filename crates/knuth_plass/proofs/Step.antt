@@ -74,8 +74,8 @@ module _ (g : Setting) (turn : Turn) (st : Standing) (k : ℕ) (t : Tables) (a :
     from_fits = noted_from s (n) b.demerits st.size fit.from within
 
     module _ (long : g.width < line_at g turn b) where
-      pub fit-drops : Fit turn st (k + 1) t a (noted s (n) b.demerits)
-      fit-drops =
+      pub fit_drops : Fit turn st (k + 1) t a (noted s (n) b.demerits)
+      fit_drops =
           let h = fit.kept in
           record {
             filled = fit.filled;
@@ -90,9 +90,9 @@ module _ (g : Setting) (turn : Turn) (st : Standing) (k : ℕ) (t : Tables) (a :
             best = rw (noted_best s (n) b.demerits) fit.best;
           }
 
-      pub goes-drops : (z : Outcome) → RoundGoes g turn st z k t a s → RoundGoes g turn st z (k + 1) t a (noted s (n) b.demerits)
+      pub goes_drops : (z : Outcome) → RoundGoes g turn st z k t a s → RoundGoes g turn st z (k + 1) t a (noted s (n) b.demerits)
       unfolding best_offer lesser
-      goes-drops z v =
+      goes_drops z v =
           let r : rest st k t a ≡ seen (path_to t (n)) b ∷ rest st (k + 1) t a = rw is next in
           record {
             stayed = rw (noted_kept s (n) b.demerits) (rw (r, staying_drops g turn z.notes b (path_to t (n)) (rest st (k + 1) t a) long) at v.stayed);
@@ -122,14 +122,14 @@ module _ (g : Setting) (turn : Turn) (st : Standing) (k : ℕ) (t : Tables) (a :
       back : slice (k + 1) st.count (set a s.kept (n)) ≡ slice (k + 1) st.count a
       back = let h = fit.kept in slice_set a (k + 1) st.count s.kept (n) (omega arith) (omega arith)
 
-      rest-same : rest st (k + 1) t₁ (set a s.kept (n)) ≡ rest st (k + 1) t a
-      rest-same = rw (back, map_right (break_meant t₁) (break_meant t) (n) (slice (k + 1) st.count a) 0 st.size (take s.kept a) split beside)
+      rest_same : rest st (k + 1) t₁ (set a s.kept (n)) ≡ rest st (k + 1) t a
+      rest_same = rw (back, map_right (break_meant t₁) (break_meant t) (n) (slice (k + 1) st.count a) 0 st.size (take s.kept a) split beside)
 
       abbrev state : State
       state = record { kept = s.kept + 1; from = (noted s (n) b.demerits).from; least = (noted s (n) b.demerits).least; best = best }
 
-      pub fit-keeps : Fit turn st (k + 1) t₁ (set a s.kept (n)) state
-      fit-keeps =
+      pub fit_keeps : Fit turn st (k + 1) t₁ (set a s.kept (n)) state
+      fit_keeps =
           let h = fit.kept in
           let w = limits.wide in
           record {
@@ -145,15 +145,15 @@ module _ (g : Setting) (turn : Turn) (st : Standing) (k : ℕ) (t : Tables) (a :
             best = offered.fits st.size within fit.best;
           }
 
-      pub goes-keeps : (z : Outcome) → RoundGoes g turn st z k t a s → RoundGoes g turn st z (k + 1) t₁ (set a s.kept (n)) state
+      pub goes_keeps : (z : Outcome) → RoundGoes g turn st z k t a s → RoundGoes g turn st z (k + 1) t₁ (set a s.kept (n)) state
       unfolding best_offer
-      goes-keeps z v =
+      goes_keeps z v =
           let r : rest st k t a ≡ seen (path_to t (n)) b ∷ rest st (k + 1) t a = rw is next in
           let f : line_at g turn b ≤ g.width = rw (← line) fits in
           record {
             stayed = rw (
               front,
-              rest-same,
+              rest_same,
               map-append,
               map_left (break_meant t₁) (break_meant t) (n) (slice (k + 1) st.count a) 0 st.size (take s.kept a) split beside,
               itself,
@@ -161,14 +161,14 @@ module _ (g : Setting) (turn : Turn) (st : Standing) (k : ℕ) (t : Tables) (a :
               line,
             ) (rw (r, staying_keeps g turn z.notes b (path_to t (n)) (rest st (k + 1) t a) f) at v.stayed);
             best = rw (
-              rest-same,
+              rest_same,
               offer_same g.indent true turn.number st.size t t₁ best (offered.fits st.size within fit.best) paths,
               offered_line g turn n b s.best x best line offered z.notes t,
               lesser_assoc,
             ) (rw (r, best_offer) at v.best);
             so_far = lower st t s (n) b v.so_far v.found;
             found = record { demerits = (noted_found st t s (n) b v.so_far v.found is).demerits; again = λ z. absurd (omega arith) };
-            least = rw rest-same (sym (least_step st t s (n) b v.so_far v.found (rest st (k + 1) t a)) ∙ rw r at v.least);
+            least = rw rest_same (sym (least_step st t s (n) b v.so_far v.found (rest st (k + 1) t a)) ∙ rw r at v.least);
           }
 
     -- as the code goes on, with what it has stored
@@ -181,7 +181,7 @@ module _ (g : Setting) (turn : Turn) (st : Standing) (k : ℕ) (t : Tables) (a :
       pub keeps : x ≤ g.width → OfferedIs g turn n b x s.best best → Onward
       keeps fits offered =
           let stored = stored_with t n (extended x b) room fit.filled.sized in
-          rw (went, listed, saw, kept, noted_kept s n b.demerits) (fit-keeps x best _ limits line fits offered stored, goes-keeps x best _ limits line fits offered stored)
+          rw (went, listed, saw, kept, noted_kept s n b.demerits) (fit_keeps x best _ limits line fits offered stored, goes_keeps x best _ limits line fits offered stored)
 
     pub offers : (x : ℕ) → Limits g → x ≤ g.width → Offers g turn b x
     offers x limits fits = record { limits = limits; turns = turns; fits = fits; sound = rw is sound }

@@ -87,34 +87,34 @@ module _ (o : Opts) (line : List ℕ) where
     class_damaged e = rw (ink, e)
 
     module _ (good : every is_good (glyphs o.glue line) ≡ true) where
-      pub class-skipped : somewhere (skip_found o.exact_skip o.skip line (glyphs o.glue line)) ≡ true → Plain ≡ classify o line
+      pub class_skipped : somewhere (skip_found o.exact_skip o.skip line (glyphs o.glue line)) ≡ true → Plain ≡ classify o line
       unfolding classify
-      class-skipped e = rw (ink, good) (pick (prefix_found o.exact_prefix o.prefix line (glyphs o.glue line)))
+      class_skipped e = rw (ink, good) (pick (prefix_found o.exact_prefix o.prefix line (glyphs o.glue line)))
         where
           pick : (f : Found) → Plain ≡ class_behind o line (glyphs o.glue line) f
           pick Nowhere = refl
           pick (At place) = rw (e, or-true (every is_blank (glyphs_from (place + prefix_size o.prefix) (glyphs o.glue line))))
 
       module _ (unskipped : somewhere (skip_found o.exact_skip o.skip line (glyphs o.glue line)) ≡ false) where
-        class-prefixed : class_at o.tab (prefix_size o.prefix) (glyphs o.glue line) (prefix_found o.exact_prefix o.prefix line (glyphs o.glue line)) ≡ classify o line
+        class_prefixed : class_at o.tab (prefix_size o.prefix) (glyphs o.glue line) (prefix_found o.exact_prefix o.prefix line (glyphs o.glue line)) ≡ classify o line
         unfolding classify
-        class-prefixed = rw (ink, good) (pick (prefix_found o.exact_prefix o.prefix line (glyphs o.glue line)))
+        class_prefixed = rw (ink, good) (pick (prefix_found o.exact_prefix o.prefix line (glyphs o.glue line)))
           where
             pick : (f : Found) → class_at o.tab (prefix_size o.prefix) (glyphs o.glue line) f ≡ class_behind o line (glyphs o.glue line) f
             pick Nowhere = refl
             pick (At place) = rw (unskipped, or-false (every is_blank (glyphs_from (place + prefix_size o.prefix) (glyphs o.glue line))))
 
-        class-with : (t : Text) → o.prefix ≡ t → class_at o.tab (prefix_size t) (glyphs o.glue line) (prefix_found o.exact_prefix t line (glyphs o.glue line)) ≡ classify o line
-        class-with t h = ap (λ (u : Text). class_at o.tab (prefix_size u) (glyphs o.glue line) (prefix_found o.exact_prefix u line (glyphs o.glue line))) (sym h) ∙ class-prefixed
+        class_with : (t : Text) → o.prefix ≡ t → class_at o.tab (prefix_size t) (glyphs o.glue line) (prefix_found o.exact_prefix t line (glyphs o.glue line)) ≡ classify o line
+        class_with t h = ap (λ (u : Text). class_at o.tab (prefix_size u) (glyphs o.glue line) (prefix_found o.exact_prefix u line (glyphs o.glue line))) (sym h) ∙ class_prefixed
 
         -- without a prefix, from the spot after the line's first blanks
-        pub class-bare : (r : Spot) → o.prefix ≡ absent → r ≡ behind_all o.tab line_start (while is_blank (glyphs o.glue line))
+        pub class_bare : (r : Spot) → o.prefix ≡ absent → r ≡ behind_all o.tab line_start (while is_blank (glyphs o.glue line))
             → Formatted (record { prefix_place = 0; indent_end = r.at; indent_length = r.column; prefix_length = 0 }) ≡ classify o line
-        class-bare r h e = ap Formatted (shape_bare o.tab (glyphs o.glue line) r e) ∙ rw (from_zero (glyphs o.glue line), ink) at (class-with absent h)
+        class_bare r h e = ap Formatted (shape_bare o.tab (glyphs o.glue line) r e) ∙ rw (from_zero (glyphs o.glue line), ink) at (class_with absent h)
 
-        pub class-given : (p : List ℕ) (k : Class) → o.prefix ≡ given p
+        pub class_given : (p : List ℕ) (k : Class) → o.prefix ≡ given p
             → k ≡ class_at o.tab (length p) (glyphs o.glue line) (search o.exact_prefix p line 0 (glyphs o.glue line)) → k ≡ classify o line
-        class-given p k h e = e ∙ class-with (given p) h
+        class_given p k h e = e ∙ class_with (given p) h
 
 -- the first line with its class, from the two answers
 pub classed_is : (o : Opts) (s : List ℕ) (e : Extent) (k : Class) → e ≡ lengths_of (first_line s) → k ≡ classify o (take e.text s)

@@ -49,8 +49,8 @@ module _ (line : List ℕ) (place : ℕ) where
           let d : (place - i) - length g.bytes ≡ place - next = omega arith in
           record { within = w; rest = sym (rw (e, up_to_more (place - i) g cs (omega arith), after_cons ink g (glyphs_before ((place - i) - length g.bytes) cs), b, d)) ∙ l.rest }
 
-      pub left-run : no_break_at line i ≡ true → InkLeft line place (i + 2) ink
-      left-run n =
+      pub left_run : no_break_at line i ≡ true → InkLeft line place (i + 2) ink
+      left_run n =
           let g = no_break_here line i n in
           left_on (i + 2) ink g.on g.within g.first g.count (behind_run ink (glyph (drop i line)) (eq-eqb _ _ g.has_code))
 
@@ -58,11 +58,11 @@ module _ (line : List ℕ) (place : ℕ) where
         other : (t : Bool) → (glyph (drop i line)).blank ≡ t → ink_behind ink (glyph (drop i line)) ≡ not t
         other t b = behind_other ink (glyph (drop i line)) (no_break_other line i k n) ∙ ap not b
 
-        pub left-char : {t : Bool} {code next : ℕ} → Here t line i code next → InkLeft line place next (not t)
-        left-char {t} {code} {next} g = left_on next (not t) g.on g.within g.first g.count (other t g.is_blank)
+        pub left_char : {t : Bool} {code next : ℕ} → Here t line i code next → InkLeft line place next (not t)
+        left_char {t} {code} {next} g = left_on next (not t) g.on g.within g.first g.count (other t g.is_blank)
 
-        pub left-damaged : DamagedHere line i → InkLeft line place (i + 1) true
-        left-damaged g = left_on (i + 1) true (omega arith) (omega arith) g.first (ap length g.has_bytes ∙ omega arith) (other false g.is_blank)
+        pub left_damaged : DamagedHere line i → InkLeft line place (i + 1) true
+        left_damaged g = left_on (i + 1) true (omega arith) (omega arith) g.first (ap length g.has_bytes ∙ omega arith) (other false g.is_blank)
 
 -- ---- an ordinary U+00A0 where the prefix ends
 
@@ -77,13 +77,13 @@ module _ (glue : Bool) (line : List ℕ) (end at : ℕ) where
     glued_other n = rw (o, n)
 
     module _ (n : no_break_at line at ≡ true) where
-      pub glued-edge : ink_ahead (characters (drop at line)) ≡ false → false ≡ glued_at glue line end at
+      pub glued_edge : ink_ahead (characters (drop at line)) ≡ false → false ≡ glued_at glue line end at
       unfolding glued_at
-      glued-edge a = rw (o, n, a)
+      glued_edge a = rw (o, n, a)
 
-      pub glued-ink : ink_ahead (characters (drop at line)) ≡ true → ink_before end line ≡ glued_at glue line end at
+      pub glued_ink : ink_ahead (characters (drop at line)) ≡ true → ink_before end line ≡ glued_at glue line end at
       unfolding glued_at
-      glued-ink a = rw (o, n, a)
+      glued_ink a = rw (o, n, a)
 
 module _ (line : List ℕ) (end at : ℕ) where
   -- if none stands there, the line goes on as at an edge

@@ -79,8 +79,8 @@ module _ (p line : List ℕ) (some : 0 < length p) where
           pick zero e = not_at 0 (rw e at unlike)
           pick (suc k) e = not_at 0 (λ z. bare (z ∙ r.each 0 (omega arith) (omega arith)))
 
-      pub search-nowhere : (exact glue : Bool) → search exact p line 0 (glyphs glue line) ≡ Nowhere
-      search-nowhere true glue = search_exact p line 0 true (glyphs glue line) not_first refl
-      search-nowhere false glue =
+      pub search_nowhere : (exact glue : Bool) → search exact p line 0 (glyphs glue line) ≡ Nowhere
+      search_nowhere true glue = search_exact p line 0 true (glyphs glue line) not_first refl
+      search_nowhere false glue =
           sym (search_spaces glue n r)
           ∙ search_stop p (drop n line) n false (glyphs glue (drop n line)) (not_at n unlike) (no_blank glue line n (omega arith) (plain_stop line n r h least most)).none

@@ -22,7 +22,7 @@ module _ {A B S : Type 0} (stride : S → List A → Stride B S) where
   walk s xs = walk_up_to (length xs) s xs
 
 -- A walk without a state, by two functions of what is left: `f` gives the item, and `cut` counts the elements that are taken besides
--- the first. So it is f of the list, then f of what is after the first suc (cut xs) elements, and so on: proofs/Walk, `Each-step`.
+-- the first. So it is f of the list, then f of what is after the first suc (cut xs) elements, and so on: proofs/Walk, `each_step`.
 module _ {A B : Type 0} (cut : List A → ℕ) (f : List A → B) where
   unfoldable pub piece : Unit {0} → List A → Stride B (Unit {0})
   piece u xs = record { item = f xs; besides = cut xs; state = u }

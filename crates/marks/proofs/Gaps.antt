@@ -134,11 +134,11 @@ module _ (t : List ℕ) (k : ℕ) where
     reached_last h = sym (so ∙ ap (further (32 * (i - k))) (gap_none t i h))
 
     module _ (less : i < length t) where
-      pub reached-mark : (get_or t i 0 ≡ 0 → ⊥) → get_or t i 0 < 2 ^ 32 → 32 * (i - k) + suc (count_trailing_zeros 32 (get_or t i 0)) ≡ to_mark (marks_in (drop k t))
-      reached-mark p l = sym (so ∙ ap (further (32 * (i - k))) (gap_here t i less p l) ∙ omega arith)
+      pub reached_mark : (get_or t i 0 ≡ 0 → ⊥) → get_or t i 0 < 2 ^ 32 → 32 * (i - k) + suc (count_trailing_zeros 32 (get_or t i 0)) ≡ to_mark (marks_in (drop k t))
+      reached_mark p l = sym (so ∙ ap (further (32 * (i - k))) (gap_here t i less p l) ∙ omega arith)
 
-      pub reached-more : k ≤ i → get_or t i 0 ≡ 0 → Reached t k (i + 1)
-      reached-more h e =
+      pub reached_more : k ≤ i → get_or t i 0 ≡ 0 → Reached t k (i + 1)
+      reached_more h e =
           let q : 32 * (i - k) + 32 ≡ 32 * (i + 1 - k) = omega arith in
           let m = to_mark (marks_in (drop (i + 1) t)) in
           so ∙ ap (further (32 * (i - k))) (gap_on t i less e) ∙ further_both (32 * (i - k)) 32 m ∙ ap (λ (n : ℕ). further n m) q

@@ -20,13 +20,13 @@ module _ (least width goal : ℕ) where
     fits_under h = rw (le-leb least width l, lt-leb goal width h)
 
     module _ (g : goal ≤ width) where
-      pub fits-far : goal < width - goal → fits least width goal ≡ false
+      pub fits_far : goal < width - goal → fits least width goal ≡ false
       unfolding fits
-      fits-far h = rw (le-leb least width l, le-leb goal width g, lt-leb width (2 * goal) (omega arith))
+      fits_far h = rw (le-leb least width l, le-leb goal width g, lt-leb width (2 * goal) (omega arith))
 
-      pub fits-near : width - goal ≤ goal → fits least width goal ≡ leb width 1000
+      pub fits_near : width - goal ≤ goal → fits least width goal ≡ leb width 1000
       unfolding fits
-      fits-near h = rw (le-leb least width l, le-leb goal width g, le-leb width (2 * goal) (omega arith))
+      fits_near h = rw (le-leb least width l, le-leb goal width g, le-leb width (2 * goal) (omega arith))
 
 pub record Fits (least width goal : ℕ) : Type 0 where
   pub width_least : least ≤ width

@@ -12,7 +12,7 @@ use pieces::Paragraph;
 use spacing::Setting;
 use words::Count;
 
-// Where the work stands: the place in the notes, the length of the digest up to there, and next_mail.
+// Where the work stands: the place in the notes, the length of the digest up to there, and next-mail.
 #[derive(Clone, Copy)]
 pub struct Cursor {
     pub at: usize,

@@ -58,7 +58,7 @@ module _ (o : Opts) where
   pieces_stop l after stops nextMail before =
       walk_append (next_piece o) (λ ls. Unit {0}) (l ∷ after) (λ m ls u h. (next_append l after stops m ls h, next_within m ls h, tt)) nextMail before tt
 
-  -- ---- a blank line and a plain line are pieces of their own; after a blank line next_mail is as at the start
+  -- ---- a blank line and a plain line are pieces of their own; after a blank line next-mail is as at the start
 
   module _ (nextMail : Bool) (l : Line) (after : List Line) where
     blank_step : classify o l.text ≡ Blank → walk (next_piece o) nextMail (l ∷ after) ≡ blank_piece l ∷ walk (next_piece o) true after

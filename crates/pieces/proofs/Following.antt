@@ -62,19 +62,19 @@ module _ (o : Opts) (test : Shape → Bool) where
     reach_past h = rw (lines_past notes i h, taken_none) (omega arith)
 
     module _ (line : Classed) (here : LineIs o notes i line) where
-      reach-none : follow o test (lines_of (drop i notes)) ≡ 0 → i ≡ reach o test notes i
+      reach_none : follow o test (lines_of (drop i notes)) ≡ 0 → i ≡ reach o test notes i
       unfolding reach
-      reach-none h = rw (h, taken_none) (omega arith)
+      reach_none h = rw (h, taken_none) (omega arith)
 
-      pub reach-other : (k : Class) → line.class ≡ k → Other k → i ≡ reach o test notes i
-      reach-other k h n = reach-none (ap (follow o test) here.first ∙ follow_other _ _ k (sym here.class ∙ h) n)
+      pub reach_other : (k : Class) → line.class ≡ k → Other k → i ≡ reach o test notes i
+      reach_other k h n = reach_none (ap (follow o test) here.first ∙ follow_other _ _ k (sym here.class ∙ h) n)
 
       module _ (s : Shape) (shape : line.class ≡ Formatted s) where
-        pub reach-fails : test s ≡ false → i ≡ reach o test notes i
-        reach-fails h = reach-none (ap (follow o test) here.first ∙ follow_fails _ _ s (sym here.class ∙ shape) h)
+        pub reach_fails : test s ≡ false → i ≡ reach o test notes i
+        reach_fails h = reach_none (ap (follow o test) here.first ∙ follow_fails _ _ s (sym here.class ∙ shape) h)
 
-        pub reach-joins : test s ≡ true → reach o test notes line.next ≡ reach o test notes i
+        pub reach_joins : test s ≡ true → reach o test notes line.next ≡ reach o test notes i
         unfolding reach
-        reach-joins h =
+        reach_joins h =
             let w = here.next in
             rw (here.first, follow_joins (first_line (drop i notes)) (lines_of (drop line.next notes)) s (sym here.class ∙ shape) h, taken_more) (omega arith)

@@ -42,12 +42,12 @@ module _ (o : Opts) (a : Shape) (notes : List ℕ) (at : ℕ) where
       shaped : second_place place (cond (second_rule o.tagged a s) (joins (first_line (drop at notes)).text s) alone) ≡ second_at o a notes at
       shaped = ap (λ (k : Class). second_place place (second_as o a (first_line (drop at notes)).text k)) (sym shape) ∙ second_is
 
-      pub second-not : second_rule o.tagged a s ≡ false → Alone ≡ second_at o a notes at
-      second-not h = ap (λ (t : Bool). second_place place (cond t (joins (first_line (drop at notes)).text s) alone)) (sym h) ∙ shaped
+      pub second_not : second_rule o.tagged a s ≡ false → Alone ≡ second_at o a notes at
+      second_not h = ap (λ (t : Bool). second_place place (cond t (joins (first_line (drop at notes)).text s) alone)) (sym h) ∙ shaped
 
-      pub second-joins : second_rule o.tagged a s ≡ true → Joins line.next s ≡ second_at o a notes at
+      pub second_joins : second_rule o.tagged a s ≡ true → Joins line.next s ≡ second_at o a notes at
       unfolding place
-      second-joins h = ap (λ (n : ℕ). Joins n s) here.next ∙ ap (λ (t : Bool). second_place place (cond t (joins (first_line (drop at notes)).text s) alone)) (sym h) ∙ shaped
+      second_joins h = ap (λ (n : ℕ). Joins n s) here.next ∙ ap (λ (t : Bool). second_place place (cond t (joins (first_line (drop at notes)).text s) alone)) (sym h) ∙ shaped
 
 pub joined_of : (notes : List ℕ) (at : ℕ) (r : SecondAt) {n : ℕ} {s : Shape} → SecondSound notes at r → r ≡ Joins n s → Joined notes at n s
 joined_of notes at r h e = subst (SecondSound notes at) e h

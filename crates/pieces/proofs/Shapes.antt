@@ -24,13 +24,13 @@ module _ (a b : Shape) where
     agree_not_prefix h = rw (eq-eqb a.indent_end b.indent_end indent, ne_eqb a.prefix_place b.prefix_place h)
 
     module _ (prefix : a.prefix_place ≡ b.prefix_place) where
-      pub agree-not-columns : (a.indent_length ≡ b.indent_length → ⊥) → false ≡ agrees a b
+      pub agree_not_columns : (a.indent_length ≡ b.indent_length → ⊥) → false ≡ agrees a b
       unfolding agrees
-      agree-not-columns h = rw (eq-eqb a.indent_end b.indent_end indent, eq-eqb a.prefix_place b.prefix_place prefix, ne_eqb a.indent_length b.indent_length h)
+      agree_not_columns h = rw (eq-eqb a.indent_end b.indent_end indent, eq-eqb a.prefix_place b.prefix_place prefix, ne_eqb a.indent_length b.indent_length h)
 
-      pub agree-margin : a.indent_length ≡ b.indent_length → eqb a.prefix_length b.prefix_length ≡ agrees a b
+      pub agree_margin : a.indent_length ≡ b.indent_length → eqb a.prefix_length b.prefix_length ≡ agrees a b
       unfolding agrees
-      agree-margin h = rw (eq-eqb a.indent_end b.indent_end indent, eq-eqb a.prefix_place b.prefix_place prefix, eq-eqb a.indent_length b.indent_length h)
+      agree_margin h = rw (eq-eqb a.indent_end b.indent_end indent, eq-eqb a.prefix_place b.prefix_place prefix, eq-eqb a.indent_length b.indent_length h)
 
   pub second_not_prefix : (tagged : Bool) → (a.prefix_place ≡ b.prefix_place → ⊥) → false ≡ second_rule tagged a b
   unfolding second_rule
@@ -42,20 +42,20 @@ module _ (a b : Shape) where
     second_not_margin tagged h = rw (eq-eqb a.prefix_place b.prefix_place prefix, ne_eqb a.prefix_length b.prefix_length h)
 
     module _ (margin : a.prefix_length ≡ b.prefix_length) where
-      pub second-crown : (tagged : Bool) → not tagged ≡ true → true ≡ second_rule tagged a b
+      pub second_crown : (tagged : Bool) → not tagged ≡ true → true ≡ second_rule tagged a b
       unfolding second_rule
-      second-crown true h = absurd (false≢true h)
-      second-crown false h = rw (eq-eqb a.prefix_place b.prefix_place prefix, eq-eqb a.prefix_length b.prefix_length margin)
+      second_crown true h = absurd (false≢true h)
+      second_crown false h = rw (eq-eqb a.prefix_place b.prefix_place prefix, eq-eqb a.prefix_length b.prefix_length margin)
 
-      pub second-indent : (tagged : Bool) → not tagged ≡ false → (a.indent_end ≡ b.indent_end → ⊥) → true ≡ second_rule tagged a b
+      pub second_indent : (tagged : Bool) → not tagged ≡ false → (a.indent_end ≡ b.indent_end → ⊥) → true ≡ second_rule tagged a b
       unfolding second_rule
-      second-indent true on h = rw (eq-eqb a.prefix_place b.prefix_place prefix, eq-eqb a.prefix_length b.prefix_length margin, ne_eqb a.indent_end b.indent_end h)
-      second-indent false on h = absurd (true≢false on)
+      second_indent true on h = rw (eq-eqb a.prefix_place b.prefix_place prefix, eq-eqb a.prefix_length b.prefix_length margin, ne_eqb a.indent_end b.indent_end h)
+      second_indent false on h = absurd (true≢false on)
 
-      pub second-columns : (tagged : Bool) → not tagged ≡ false → a.indent_end ≡ b.indent_end → not (eqb a.indent_length b.indent_length) ≡ second_rule tagged a b
+      pub second_columns : (tagged : Bool) → not tagged ≡ false → a.indent_end ≡ b.indent_end → not (eqb a.indent_length b.indent_length) ≡ second_rule tagged a b
       unfolding second_rule
-      second-columns true on h = rw (eq-eqb a.prefix_place b.prefix_place prefix, eq-eqb a.prefix_length b.prefix_length margin, eq-eqb a.indent_end b.indent_end h)
-      second-columns false on h = absurd (true≢false on)
+      second_columns true on h = rw (eq-eqb a.prefix_place b.prefix_place prefix, eq-eqb a.prefix_length b.prefix_length margin, eq-eqb a.indent_end b.indent_end h)
+      second_columns false on h = absurd (true≢false on)
 
 module _ (s : Shape) where
   pub mail_not : (p : Part) → s.indent_end ≡ 0 → false ≡ passes_rule Mail p s

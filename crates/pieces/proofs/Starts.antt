@@ -1,5 +1,5 @@
--- Notes may be cut where a piece begins: the pieces before the cut are those of their own lines, and so are the pieces after it, from next_mail
--- as it is there. Without mail next_mail does not matter.
+-- Notes may be cut where a piece begins: the pieces before the cut are those of their own lines, and so are the pieces after it, from next-mail
+-- as it is there. Without mail next-mail does not matter.
 use mathlib.Core.Path.{◌≡◌, refl, sym, ap, ◌∙◌}
 use mathlib.Core.Bool.{Bool, true, false, cond, ◌||◌, true≢false}
 use mathlib.Core.List.{List, [], ◌∷◌, ◌++◌}
@@ -103,7 +103,7 @@ module _ (o : Opts) where
     lines_part : (nextMail : Bool) (ls : List Line) (ps qs : List Piece) → walk (next_piece o) nextMail ls ≡ ps ++ qs → Cut (next_piece o) lines_in (next_lines o) next_front nextMail ps qs
     lines_part nextMail ls ps qs e = walk_cut (next_piece o) lines_in (next_lines o) next_front nextMail ls ps qs e
 
--- ---- next_mail
+-- ---- next-mail
 
 -- it is what the piece before tells
 next_state : (o : Opts) (nextMail : Bool) (ls : List Line) → 0 < length ls → (next_piece o nextMail ls).state ≡ next_mail_as (next_piece o nextMail ls).item.kind
@@ -156,7 +156,7 @@ no_mail o off m n (l ∷ ls) =
 abbrev pub bytes_in : List Piece → List ℕ
 bytes_in ps = joined (λ (l : Line). l.raw) (joined lines_in ps)
 
--- With mail, next_mail is true where the second part begins.
+-- With mail, next-mail is true where the second part begins.
 pub pieces_part : (o : Opts) → (o.split ≡ true → (o.crown || o.tagged) ≡ false) → (notes : List ℕ) (ps qs : List Piece)
     → pieces o notes ≡ ps ++ qs
     → (o.mail ≡ true → next_mail_behind true ps ≡ true)

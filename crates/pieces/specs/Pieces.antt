@@ -52,7 +52,7 @@ header_text line =
     let name = while no_colon line in
     begins from_word line || (ltb (length name) (length line) && ltb 0 (length name) && every printable name)
 
--- a mail paragraph starts here: flag set, next_mail true, indent end 0
+-- a mail paragraph starts here: flag set, next-mail true, indent end 0
 unfoldable pub starts_mail : Bool → Bool → Shape → List ℕ → Bool
 starts_mail mail nextMail s line = mail && nextMail && eqb s.indent_end 0 && header_text line
 
@@ -163,7 +163,7 @@ paragraph_at o nextMail s l ls =
     } in
     record { item = record { kind = paragraph p; lines = taken }; besides = n; state = mail }
 
--- a blank line sets next_mail true, a plain line false; next_mail after a paragraph tells whether it was mail
+-- a blank line sets next-mail true, a plain line false; next-mail after a paragraph tells whether it was mail
 abbrev pub piece_as : Opts → Bool → Line → List Line → Class → Stride Piece Bool
 piece_as o nextMail l ls Blank = record { item = record { kind = blank_line; lines = l ∷ [] }; besides = 0; state = true }
 piece_as o nextMail l ls Plain = record { item = record { kind = plain_line l.text; lines = l ∷ [] }; besides = 0; state = false }
@@ -174,6 +174,6 @@ unfoldable pub next_piece : Opts → Bool → List Line → Stride Piece Bool
 next_piece o nextMail [] = record { item = record { kind = blank_line; lines = [] }; besides = 0; state = nextMail }
 next_piece o nextMail (l ∷ ls) = piece_as o nextMail l ls (classify o l.text)
 
--- next_mail starts true
+-- next-mail starts true
 unfoldable pub pieces : Opts → List ℕ → List Piece
 pieces o notes = walk (next_piece o) true (lines_of notes)

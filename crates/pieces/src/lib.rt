@@ -298,7 +298,7 @@ fn margin_at(at: usize, more: usize, s: Shape) -> Margin
     }
 }
 
-// A line starts mail: flag set, next_mail true, indent end 0, and a header's text.
+// A line starts mail: flag set, next-mail true, indent end 0, and a header's text.
 // In the original: `ParagraphStream::is_mail_header`.
 fn starts_mail(line: &[u8], mail: bool, next_mail: bool, s: Shape) -> bool
     ensures { result ≡ starts_mail mail next_mail s line.now }

@@ -20,8 +20,8 @@ module _ (s : List ℕ) (p e at : ℕ) (inked : Inked s p e) (from : p ≤ at) (
   behind : (z next : ℕ) → z < e → get_or s z 0 ≡ 32 → OverSpaces s (z + 1) e next → next < e
   behind z next l h over = pick (ltb next e) refl
     where
-      z-less : z < e - 1
-      z-less = go (ltb z (e - 1)) refl
+      z_less : z < e - 1
+      z_less = go (ltb z (e - 1)) refl
         where
           go : (t : Bool) → ltb z (e - 1) ≡ t → z < e - 1
           go true q = ltb-true z (e - 1) q
@@ -29,7 +29,7 @@ module _ (s : List ℕ) (p e at : ℕ) (inked : Inked s p e) (from : p ≤ at) (
 
       pick : (t : Bool) → ltb next e ≡ t → next < e
       pick true q = ltb-true next e q
-      pick false q = absurd (inked.last (over.spaces (e - 1) (let k = z-less in omega arith) (let k = ltb-false next e q in omega arith)))
+      pick false q = absurd (inked.last (over.spaces (e - 1) (let k = z_less in omega arith) (let k = ltb-false next e q in omega arith)))
 
   -- after a space a character begins
   rest_spelled : (z : ℕ) → p ≤ z → z < e → get_or s z 0 ≡ 32 → spelled false (slice (suc z) e s) ≡ true

@@ -124,10 +124,10 @@ module _ (s : List ℕ) (w : Record) (g : Setting) (indent : List ℕ) (out : Li
               )
 
       -- after them
-      pub put-stays : (out₁ out₂ : List ℕ) (i j : ℕ) → Wrote out t.written (slice t.from t.to s) out₁ i → Wrote out₁ i (replicate count 32) out₂ j → j ≤ i + 2
+      pub put_stays : (out₁ out₂ : List ℕ) (i j : ℕ) → Wrote out t.written (slice t.from t.to s) out₁ i → Wrote out₁ i (replicate count 32) out₂ j → j ≤ i + 2
           → WordPut s w g indent out t out₂ (record { from = w.from; to = w.end; written = j; column = reached; punct = w.punct; begins = false })
       unfolding quick_on
-      put-stays out₁ out₂ i j wrote spaces near =
+      put_stays out₁ out₂ i j wrote spaces near =
           let n = length-slice t.from t.to s within in
           let c = wrote.count in
           let a = lies.gap in

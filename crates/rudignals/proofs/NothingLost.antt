@@ -157,17 +157,17 @@ module _ (block first second : List ℕ) (o : Options) (digest₁ digest₂ : Li
   module _ (room₁ room₂ space : ℕ) (enough-room : length digest₁ + 1 + length digest₂ ≤ space) where
     module _ (first_done : answer own_room block first room₁ ≡ done digest₁) (second-done : answer own_room block second room₂ ≡ done digest₂) where
       -- Formatting the first part, a line feed and the second part gives the first's output, one line feed, and the second's output.
-      pub an-empty-line-is-a-full-boundary : answer own_room block (first ++ 10 ∷ second) space ≡ done (digest₁ ++ 10 ∷ digest₂)
-      an-empty-line-is-a-full-boundary =
+      pub an_empty_line_is_a_full_boundary : answer own_room block (first ++ 10 ∷ second) space ≡ done (digest₁ ++ 10 ∷ digest₂)
+      an_empty_line_is_a_full_boundary =
           a_blank_line_is_a_full_boundary most_bytes most_words block first [] (10 ∷ []) second o digest₁ digest₂ block-accepted first_ends (every_nil no_feed) (feed refl (λ z. z)) (empty_blank (meant block o)) within-limit room₁ room₂ space enough-room first_done second-done
 
-      pub the-counts-add-up : numbered (answer_coded (answer own_room block (first ++ 10 ∷ second) space)) ≡ numbered (answer_coded (answer own_room block first room₁)) + 1 + numbered (answer_coded (answer own_room block second room₂))
-      the-counts-add-up =
+      pub the_counts_add_up : numbered (answer_coded (answer own_room block (first ++ 10 ∷ second) space)) ≡ numbered (answer_coded (answer own_room block first room₁)) + 1 + numbered (answer_coded (answer own_room block second room₂))
+      the_counts_add_up =
           the_counts_of_the_parts_add_up most_bytes most_words block first [] (10 ∷ []) second o digest₁ digest₂ block-accepted first_ends (every_nil no_feed) (feed refl (λ z. z)) (empty_blank (meant block o)) within-limit room₁ room₂ space enough-room first_done second-done
 
     module _ (first-written : writing own_room block first room₁ ≡ done digest₁) (second-written : writing own_room block second room₂ ≡ done digest₂) where
-      pub an-empty-line-is-a-full-boundary-for-writing : writing own_room block (first ++ 10 ∷ second) space ≡ done (digest₁ ++ 10 ∷ digest₂)
-      an-empty-line-is-a-full-boundary-for-writing =
+      pub an_empty_line_is_a_full_boundary_for_writing : writing own_room block (first ++ 10 ∷ second) space ≡ done (digest₁ ++ 10 ∷ digest₂)
+      an_empty_line_is_a_full_boundary_for_writing =
           a_blank_line_is_a_full_boundary_for_writing own_room tt block first [] (10 ∷ []) second o digest₁ digest₂ block-accepted first_ends (every_nil no_feed) (feed refl (λ z. z)) (empty_blank (meant block o)) within-limit refl room₁ room₂ space enough-room first-written second-written
 
 -- ---- 2. words stand once and in order
@@ -360,7 +360,7 @@ pub without_mail_every_start_is_a_cut : (o : Opts) (k : ℕ) (notes : List ℕ) 
 without_mail_every_start_is_a_cut o k notes off on = absurd (false≢true (sym off ∙ on))
 
 -- The option block is accepted. For any k the notes are cut after their first k pieces, where the next piece begins. Without mail nothing
--- else is asked; with mail, that next_mail is true there. (`up_to_piece`, `from_piece` and `MayCut`: specs/Theorems/Parts.antt.)
+-- else is asked; with mail, that next-mail is true there. (`up_to_piece`, `from_piece` and `MayCut`: specs/Theorems/Parts.antt.)
 module _ (block notes : List ℕ) (o : Options) (k : ℕ)
     (block-accepted : read_block block ≡ Accepted o)
     (may-cut : MayCut (meant block o) k notes) where
@@ -451,12 +451,12 @@ module _ (block notes : List ℕ) (o : Options) (k : ℕ)
         (first_done : answer (limited most words) block first_part room₁ ≡ done digest₁)
         (second-done : answer (limited most words) block second_part room₂ ≡ done digest₂)
         (enough-room : length digest₁ + length digest₂ ≤ space) where
-      pub the-outputs-of-the-parts-join : answer (limited most words) block notes space ≡ done (digest₁ ++ digest₂)
-      the-outputs-of-the-parts-join =
+      pub the_outputs_of_the_parts_join : answer (limited most words) block notes space ≡ done (digest₁ ++ digest₂)
+      the_outputs_of_the_parts_join =
           sym (together_they_do_what_the_old_call_did most words block notes space)
           ∙ what_is_written_of_the_parts_joins (limited most words) tt within-limit digest₁ digest₂ room₁ room₂ space
           (together_they_do_what_the_old_call_did most words block first_part room₁ ∙ first_done) (together_they_do_what_the_old_call_did most words block second_part room₂ ∙ second-done) refl enough-room
 
-      pub the-numbers-of-the-parts-add-up : numbered (answer_coded (answer (limited most words) block notes space)) ≡ numbered (answer_coded (answer (limited most words) block first_part room₁)) + numbered (answer_coded (answer (limited most words) block second_part room₂))
+      pub the_numbers_of_the_parts_add_up : numbered (answer_coded (answer (limited most words) block notes space)) ≡ numbered (answer_coded (answer (limited most words) block first_part room₁)) + numbered (answer_coded (answer (limited most words) block second_part room₂))
       unfolding numbered
-      the-numbers-of-the-parts-add-up = rw (the-outputs-of-the-parts-join, first_done, second-done, length-append) (omega arith)
+      the_numbers_of_the_parts_add_up = rw (the_outputs_of_the_parts_join, first_done, second-done, length-append) (omega arith)

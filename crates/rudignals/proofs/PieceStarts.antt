@@ -147,11 +147,11 @@ module _ (o : Opts) (notes first second : List ℕ)
 
   text_both : (w : Words) → ByParts w → (f g : Found) → with_text w o notes (or_later (length first) f g) ≡ both_found (length first) (with_text w o first f) (with_text w o second g)
   text_both w j (At place) (At later) = refl
-  text_both w j (At place) Nowhere = text-first (within w o second)
+  text_both w j (At place) Nowhere = text_first (within w o second)
     where
-      text-first : (f : Finding) → stopped (Damaged place) ≡ both_found (length first) (stopped (Damaged place)) f
-      text-first (found d) = refl
-      text-first (stopped r) = refl
+      text_first : (f : Finding) → stopped (Damaged place) ≡ both_found (length first) (stopped (Damaged place)) f
+      text_first (found d) = refl
+      text_first (stopped r) = refl
   text_both w j Nowhere (At place) = text_wins w o first (length first) place
   text_both w j Nowhere Nowhere = within_both w j
 

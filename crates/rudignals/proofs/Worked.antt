@@ -206,6 +206,6 @@ not_closed c = let z : ◌≡◌ {A = ℕ} 97 10 = c in omega arith
 
 -- ---- parts
 
--- where next_mail is true the notes may be cut, with mail too
+-- where next-mail is true the notes may be cut, with mail too
 may_cut_there : (o : Opts) (k : ℕ) (notes : List ℕ) → next_mail_behind true (take k (pieces o notes)) ≡ true → MayCut o k notes
 may_cut_there o k notes next on = next

@@ -10,7 +10,7 @@ use borrow.Author.Tests.{lt-ltb, le-ltb}
 use Rattle.lists.specs.Coded.{numbered}
 use Rattle.salvage.specs.Mending.{Change, mended, changes, MendAnswer, done, long, full, room, mend, mend_coded, over, copy_after, places_after, bytes_after}
 use Rattle.salvage.specs.Restoring.{Back, done as given, long as longCopy, stray, room as roomBack, belonging, restored, restore, restore_coded, notes_after}
-use Rattle.salvage.specs.Cited.Steps.{told, number_of, told_back, number_back, Mends, Restores, Counted, Fits}
+use Rattle.salvage.specs.Cited.Steps.{told, number_of, told_back, number_back, Mends, Restores, Counted}
 use Rattle.salvage.specs.declared.Mended.TheVariants.{Done, Long, Full, Room}
 use Rattle.salvage.specs.declared.Restored.TheVariants.{Done as Given, Long as LongCopy, Stray, Room as RoomBack}
 
@@ -47,13 +47,13 @@ module _ (notes : List ℕ) (space entries : ℕ) where
     mend_full k = rw (le-ltb 65536 (length notes) h, lt-ltb entries (length (changes notes)) k)
 
     module _ (k : length (changes notes) ≤ entries) where
-      pub mend-room : space < length (mended notes) → mend notes space entries ≡ room (length (mended notes))
+      pub mend_room : space < length (mended notes) → mend notes space entries ≡ room (length (mended notes))
       unfolding mend
-      mend-room l = rw (le-ltb 65536 (length notes) h, le-ltb entries (length (changes notes)) k, lt-ltb space (length (mended notes)) l)
+      mend_room l = rw (le-ltb 65536 (length notes) h, le-ltb entries (length (changes notes)) k, lt-ltb space (length (mended notes)) l)
 
-      pub mend-done : length (mended notes) ≤ space → mend notes space entries ≡ done (mended notes) (changes notes)
+      pub mend_done : length (mended notes) ≤ space → mend notes space entries ≡ done (mended notes) (changes notes)
       unfolding mend
-      mend-done l = rw (le-ltb 65536 (length notes) h, le-ltb entries (length (changes notes)) k, le-ltb space (length (mended notes)) l)
+      mend_done l = rw (le-ltb 65536 (length notes) h, le-ltb entries (length (changes notes)) k, le-ltb space (length (mended notes)) l)
 
 module _ (notes copy places bytes : List ℕ) where
   pub mends_long : 65536 < length notes → Mends (mend notes (length copy) (min (length places) (length bytes))) copy places bytes Long copy places bytes
@@ -68,23 +68,20 @@ module _ (notes copy places bytes : List ℕ) where
         (record { is = refl; copied = refl; placed = refl; kept = refl; small = omega (arith, q.few) })
 
     module _ (k : r ≤ min (length places) (length bytes)) where
-      pub mends-room : length copy < length notes + r
+      pub mends_room : length copy < length notes + r
           → Mends (mend notes (length copy) (min (length places) (length bytes))) copy places bytes (Room (length notes + r)) copy places bytes
       unfolding copy_after places_after bytes_after
-      mends-room l =
-          rw (mend-room notes (length copy) (min (length places) (length bytes)) h (rw q.count k) (rw q.mended l), q.mended)
+      mends_room l =
+          rw (mend_room notes (length copy) (min (length places) (length bytes)) h (rw q.count k) (rw q.mended l), q.mended)
           (record { is = refl; copied = refl; placed = refl; kept = refl; small = omega (arith, q.few) })
 
       module _ (l : length notes + r ≤ length copy) where
-        pub all-fits : Fits 0 0 (mended notes) (changes notes) copy places bytes
-        all-fits = record { copied = omega (arith, q.mended); placed = omega (arith, q.count); kept = omega (arith, q.count) }
-
-        pub mends-done : {copy' places' bytes' : List ℕ}
+        pub mends_done : {copy' places' bytes' : List ℕ}
             → copy' ≡ sets copy 0 (mended notes) → places' ≡ sets places 0 (map (λ c. c.place) (changes notes)) → bytes' ≡ sets bytes 0 (map (λ c. c.byte) (changes notes))
             → Mends (mend notes (length copy) (min (length places) (length bytes))) copy places bytes (Done (length notes + r)) copy' places' bytes'
         unfolding copy_after places_after bytes_after
-        mends-done a b d =
-            rw (mend-done notes (length copy) (min (length places) (length bytes)) h (rw q.count k) (rw q.mended l))
+        mends_done a b d =
+            rw (mend_done notes (length copy) (min (length places) (length bytes)) h (rw q.count k) (rw q.mended l))
             (record {
               is = ap Done (sym q.mended);
               copied = a ∙ over_front (mended notes) copy (rw q.mended l);
@@ -106,13 +103,13 @@ module _ (copy : List ℕ) (list : List Change) (space : ℕ) where
     restore_stray k = rw (le-ltb 131072 (length copy) h, lt-ltb (belonging 0 copy list) (length list) k)
 
     module _ (k : length list ≤ belonging 0 copy list) where
-      pub restore-room : space < length (restored 0 copy list) → restore copy list space ≡ roomBack (length (restored 0 copy list))
+      pub restore_room : space < length (restored 0 copy list) → restore copy list space ≡ roomBack (length (restored 0 copy list))
       unfolding restore
-      restore-room l = rw (le-ltb 131072 (length copy) h, le-ltb (belonging 0 copy list) (length list) k, lt-ltb space (length (restored 0 copy list)) l)
+      restore_room l = rw (le-ltb 131072 (length copy) h, le-ltb (belonging 0 copy list) (length list) k, lt-ltb space (length (restored 0 copy list)) l)
 
-      pub restore-done : length (restored 0 copy list) ≤ space → restore copy list space ≡ given (restored 0 copy list)
+      pub restore_done : length (restored 0 copy list) ≤ space → restore copy list space ≡ given (restored 0 copy list)
       unfolding restore
-      restore-done l = rw (le-ltb 131072 (length copy) h, le-ltb (belonging 0 copy list) (length list) k, le-ltb space (length (restored 0 copy list)) l)
+      restore_done l = rw (le-ltb 131072 (length copy) h, le-ltb (belonging 0 copy list) (length list) k, le-ltb space (length (restored 0 copy list)) l)
 
 module _ (copy : List ℕ) (list : List Change) (notes : List ℕ) where
   pub restores_long : 131072 < length copy → Restores (restore copy list (length notes)) notes LongCopy notes
@@ -127,12 +124,12 @@ module _ (copy : List ℕ) (list : List Change) (notes : List ℕ) where
         (record { is = refl; back = refl; small = omega arith })
 
     module _ (n : ℕ) (k : length list ≤ belonging 0 copy list) (e : length (restored 0 copy list) ≡ n) (b : n ≤ length copy) where
-      pub restores-room : length notes < n → Restores (restore copy list (length notes)) notes (RoomBack n) notes
+      pub restores_room : length notes < n → Restores (restore copy list (length notes)) notes (RoomBack n) notes
       unfolding notes_after
-      restores-room l = rw (restore-room copy list (length notes) h k (rw e l), e) (record { is = refl; back = refl; small = omega arith })
+      restores_room l = rw (restore_room copy list (length notes) h k (rw e l), e) (record { is = refl; back = refl; small = omega arith })
 
-      pub restores-done : {notes' : List ℕ} → n ≤ length notes → notes' ≡ sets notes 0 (restored 0 copy list) → Restores (restore copy list (length notes)) notes (Given n) notes'
+      pub restores_done : {notes' : List ℕ} → n ≤ length notes → notes' ≡ sets notes 0 (restored 0 copy list) → Restores (restore copy list (length notes)) notes (Given n) notes'
       unfolding notes_after
-      restores-done l a =
-          rw (restore-done copy list (length notes) h k (rw e l))
+      restores_done l a =
+          rw (restore_done copy list (length notes) h k (rw e l))
           (record { is = ap Given (sym e); back = a ∙ over_front (restored 0 copy list) notes (rw e l); small = omega arith })

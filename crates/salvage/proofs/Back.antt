@@ -74,25 +74,25 @@ module _ (copy : List ℕ) (at k place byte : ℕ) where
     entry_low l = rw (le-leb at place h, lt-leb 0x80 byte l)
 
     module _ (l : 0x80 ≤ byte) (m : byte < 256) where
-      entry-pair : belongs at (drop (at + k) copy) (record { place = place; byte = byte }) ≡ begins ((0xC0 + byte / 64) ∷ (0x80 + byte % 64) ∷ []) (drop (place + k) copy)
+      entry_pair : belongs at (drop (at + k) copy) (record { place = place; byte = byte }) ≡ begins ((0xC0 + byte / 64) ∷ (0x80 + byte % 64) ∷ []) (drop (place + k) copy)
       unfolding belongs
-      entry-pair =
+      entry_pair =
           let e : at + k + (place - at) ≡ place + k = omega arith in
           rw (le-leb at place h, le-leb 0x80 byte l, encode_high byte l m, drop-drop (place - at) (at + k) copy, e)
 
-      pub entry-cut : length copy ≤ place + k + 1 → false ≡ belongs at (drop (at + k) copy) (record { place = place; byte = byte })
-      entry-cut c = rw entry-pair (sym (pair_cut (0xC0 + byte / 64) (0x80 + byte % 64) copy (place + k) c))
+      pub entry_cut : length copy ≤ place + k + 1 → false ≡ belongs at (drop (at + k) copy) (record { place = place; byte = byte })
+      entry_cut c = rw entry_pair (sym (pair_cut (0xC0 + byte / 64) (0x80 + byte % 64) copy (place + k) c))
 
       module _ (c : place + k + 1 < length copy) where
         pub entry_first : (get_or copy (place + k) 0 ≡ 0xC0 + byte / 64 → ⊥) → false ≡ belongs at (drop (at + k) copy) (record { place = place; byte = byte })
-        entry_first e = rw entry-pair (sym (pair_first (0xC0 + byte / 64) (0x80 + byte % 64) copy (place + k) c e))
+        entry_first e = rw entry_pair (sym (pair_first (0xC0 + byte / 64) (0x80 + byte % 64) copy (place + k) c e))
 
         module _ (e : get_or copy (place + k) 0 ≡ 0xC0 + byte / 64) where
-          pub entry-second : (get_or copy (place + k + 1) 0 ≡ 0x80 + byte % 64 → ⊥) → false ≡ belongs at (drop (at + k) copy) (record { place = place; byte = byte })
-          entry-second f = rw entry-pair (sym (pair_second (0xC0 + byte / 64) (0x80 + byte % 64) copy (place + k) c e f))
+          pub entry_second : (get_or copy (place + k + 1) 0 ≡ 0x80 + byte % 64 → ⊥) → false ≡ belongs at (drop (at + k) copy) (record { place = place; byte = byte })
+          entry_second f = rw entry_pair (sym (pair_second (0xC0 + byte / 64) (0x80 + byte % 64) copy (place + k) c e f))
 
-          pub entry-both : get_or copy (place + k + 1) 0 ≡ 0x80 + byte % 64 → true ≡ belongs at (drop (at + k) copy) (record { place = place; byte = byte })
-          entry-both f = rw entry-pair (sym (pair_both (0xC0 + byte / 64) (0x80 + byte % 64) copy (place + k) c e f))
+          pub entry_both : get_or copy (place + k + 1) 0 ≡ 0x80 + byte % 64 → true ≡ belongs at (drop (at + k) copy) (record { place = place; byte = byte })
+          entry_both f = rw entry_pair (sym (pair_both (0xC0 + byte / 64) (0x80 + byte % 64) copy (place + k) c e f))
 
 -- what an entry that belongs says
 pub record Belongs (at : ℕ) (copy : List ℕ) (e : Change) : Type 0 where
@@ -218,17 +218,17 @@ module _ {copy : List ℕ} {list : List Change} {at k : ℕ} (p : Counting copy 
         omega arith
 
     module _ (m : e.byte < 256) (b : belongs at (drop (at + k) copy) e ≡ true) where
-      within-two : e.place + k + 2 ≤ length copy
-      within-two =
+      within_two : e.place + k + 2 ≤ length copy
+      within_two =
           let w = belongs_so at (drop (at + k) copy) e b in
           let g = entry_within at (drop (at + k) copy) e m w in
           let d = length-drop (at + k) copy in
           omega (arith, w.on, p.within)
 
-      counting-on : Counting copy list (e.place + 1) (k + 1)
-      counting-on =
+      counting_on : Counting copy list (e.place + 1) (k + 1)
+      counting_on =
           let w = belongs_so at (drop (at + k) copy) e b in
-          let r = within-two in
+          let r = within_two in
           let j : at + k + (e.place - at + 2) ≡ e.place + 1 + (k + 1) = omega (arith, w.on) in
           let q = rw (here, belonging_on at (drop (at + k) copy) e (drop (k + 1) list) b, drop-drop (e.place - at + 2) (at + k) copy, j) at p.count in
           record { within = omega arith; few = omega arith; count = omega arith }
@@ -333,7 +333,7 @@ module _ (places bytes : List ℕ) (k place : ℕ) {count : ℕ} (c : count ≡ 
 
   pub count_goes_on : {copy : List ℕ} {at : ℕ} → Counting copy (listed places bytes) at k → get_or bytes k 0 < 256
       → true ≡ belongs at (drop (at + k) copy) (record { place = place; byte = get_or bytes k 0 }) → Counting copy (listed places bytes) (place + 1) (k + 1)
-  count_goes_on p m b = counting-on p (record { place = place; byte = get_or bytes k 0 }) inside here m (sym b)
+  count_goes_on p m b = counting_on p (record { place = place; byte = get_or bytes k 0 }) inside here m (sym b)
 
   module _ {copy notes₀ : List ℕ} {at : ℕ} {notes : List ℕ} (p : Returning copy (listed places bytes) notes₀ at k notes) (m : get_or bytes k 0 < 256) where
     pub entry_stands : (at ≤ place) × (place + k + 2 ≤ length copy)
@@ -345,8 +345,8 @@ module _ (places bytes : List ℕ) (k place : ℕ) {count : ℕ} (c : count ≡ 
         omega (arith, t.gap, (store_room p (record { place = place; byte = get_or bytes k 0 }) inside here m refl).0)
 
     module _ {notes' : List ℕ} (q : notes' ≡ sets notes at (take (place + k - (at + k)) (drop (at + k) copy))) where
-      pub byte-room : place < length notes'
-      byte-room = (store_room p (record { place = place; byte = get_or bytes k 0 }) inside here m q).1
+      pub byte_room : place < length notes'
+      byte_room = (store_room p (record { place = place; byte = get_or bytes k 0 }) inside here m q).1
 
-      pub byte-back : Returning copy (listed places bytes) notes₀ (place + 1) (k + 1) (set notes' place (get_or bytes k 0))
-      byte-back = returning_on p (record { place = place; byte = get_or bytes k 0 }) inside here m q
+      pub byte_back : Returning copy (listed places bytes) notes₀ (place + 1) (k + 1) (set notes' place (get_or bytes k 0))
+      byte_back = returning_on p (record { place = place; byte = get_or bytes k 0 }) inside here m q

@@ -18,7 +18,7 @@ use Rattle.salvage.specs.Lines.{whole_lines, is_utf8}
 use Rattle.salvage.specs.Mending.{Change, mended_line, mended, high_bytes, line_changes, changes_from, changes, done, long, full, room, mend, over, places_after, bytes_after}
 use Rattle.salvage.specs.Restoring.{done as given, long as longCopy, stray, room as roomBack, listed, belongs, belonging, restored, restore, expanded}
 use Rattle.salvage.proofs.Counts.{encode_low, encode_high, high_nil, high_low, high_high, low_or_high, left_as_found, changed, formed_or_not}
-use Rattle.salvage.proofs.Answers.{mend-done, restore-done}
+use Rattle.salvage.proofs.Answers.{mend_done, restore_done}
 use Rattle.salvage.proofs.Back.{Small, belonging_nil, belonging_on, belonging_few, whole_first, belongs_so, entry_within, restored_nil, restored_cons}
 use Rattle.salvage.proofs.MendedLines.{Bytes, bytes_front, bytes_back, lines_joined, lines_formed}
 
@@ -178,7 +178,7 @@ pub back_exactly : (notes : List ℕ) → Bytes notes → (space : ℕ) → leng
 back_exactly notes o space h k =
     let b = notes_back notes o in
     let l = mended_length notes o in
-    restore-done (mended notes) (changes notes) space (omega (arith, l.0, l.1)) (omega (arith, b.all)) (rw b.is k) ∙ ap given b.is
+    restore_done (mended notes) (changes notes) space (omega (arith, l.0, l.1)) (omega (arith, b.all)) (rw b.is k) ∙ ap given b.is
 
 -- ---- mending again
 
@@ -197,7 +197,7 @@ formed_again xs a = let r = again_lines 0 (whole_lines xs) a in (r.0 ∙ lines_j
 pub again_same : (notes : List ℕ) → Bytes notes → (space entries : ℕ) → length (mended notes) ≤ 65536 → length (mended notes) ≤ space → mend (mended notes) space entries ≡ done (mended notes) []
 again_same notes o space entries h k =
     let a = formed_again (mended notes) (lines_formed notes o) in
-    mend-done (mended notes) space entries h (rw a.1 (omega arith)) (rw a.0 k) ∙ rw (a.0, a.1)
+    mend_done (mended notes) space entries h (rw a.1 (omega arith)) (rw a.0 k) ∙ rw (a.0, a.1)
 
 -- ---- when restoring is done
 

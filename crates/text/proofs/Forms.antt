@@ -85,8 +85,8 @@ module _ (at : ℕ) (xs : List ℕ) (a : ℕ) (at0 : a ≡ get_or xs 0 0) where
 
   module _ (b : ℕ) (at1 : b ≡ get_or xs 1 0) where
     module _ (lo : 0xC2 ≤ a) (hi : a < 0xE0) where
-      pub no-two : ((k : ℕ) → Two k a b → ⊥) → Damaged ≡ read_as at (decode xs)
-      no-two never = rw (missed xs pick)
+      pub no_two : ((k : ℕ) → Two k a b → ⊥) → Damaged ≡ read_as at (decode xs)
+      no_two never = rw (missed xs pick)
         where
           pick : (k : ℕ) → Scalar k → Octets k xs → ⊥
           pick k s (one h e) = omega arith
@@ -94,8 +94,8 @@ module _ (at : ℕ) (xs : List ℕ) (a : ℕ) (at0 : a ≡ get_or xs 0 0) where
           pick k s (three h l e f g) = omega arith
           pick k s (four h l e f g m) = omega arith
 
-      pub is-two : (k : ℕ) → Two k a b → Good k (at + 2) ≡ read_as at (decode xs)
-      is-two k t = rw (pick xs at0 at1)
+      pub is_two : (k : ℕ) → Two k a b → Good k (at + 2) ≡ read_as at (decode xs)
+      is_two k t = rw (pick xs at0 at1)
         where
           pick : (ys : List ℕ) → a ≡ get_or ys 0 0 → b ≡ get_or ys 1 0 → decode ys ≡ front k 2
           pick [] e f = absurd (omega arith)
@@ -104,8 +104,8 @@ module _ (at : ℕ) (xs : List ℕ) (a : ℕ) (at0 : a ≡ get_or xs 0 0) where
 
     module _ (c : ℕ) (at2 : c ≡ get_or xs 2 0) where
       module _ (lo : 0xE0 ≤ a) (hi : a < 0xF0) where
-        pub no-three : ((k : ℕ) → Three k a b c → ⊥) → Damaged ≡ read_as at (decode xs)
-        no-three never = rw (missed xs pick)
+        pub no_three : ((k : ℕ) → Three k a b c → ⊥) → Damaged ≡ read_as at (decode xs)
+        no_three never = rw (missed xs pick)
           where
             pick : (k : ℕ) → Scalar k → Octets k xs → ⊥
             pick k s (one h e) = omega arith
@@ -113,8 +113,8 @@ module _ (at : ℕ) (xs : List ℕ) (a : ℕ) (at0 : a ≡ get_or xs 0 0) where
             pick k s (three h l e f g) = never k (record { second = omega arith; third = omega arith; number = omega arith; long = h; is_scalar = s })
             pick k s (four h l e f g m) = omega arith
 
-        pub is-three : (k : ℕ) → Three k a b c → Good k (at + 3) ≡ read_as at (decode xs)
-        is-three k t = rw (pick xs at0 at1 at2)
+        pub is_three : (k : ℕ) → Three k a b c → Good k (at + 3) ≡ read_as at (decode xs)
+        is_three k t = rw (pick xs at0 at1 at2)
           where
             pick : (ys : List ℕ) → a ≡ get_or ys 0 0 → b ≡ get_or ys 1 0 → c ≡ get_or ys 2 0 → decode ys ≡ front k 3
             pick [] e f g = absurd (omega arith)
@@ -123,8 +123,8 @@ module _ (at : ℕ) (xs : List ℕ) (a : ℕ) (at0 : a ≡ get_or xs 0 0) where
             pick (x ∷ y ∷ z ∷ r) e f g = rw (← e, ← f, ← g) (found k (a ∷ b ∷ c ∷ []) r t.is_scalar (encode_three k a b c lo hi t))
 
       module _ (d : ℕ) (at3 : d ≡ get_or xs 3 0) (lo : 0xF0 ≤ a) where
-        pub no-four : ((k : ℕ) → Four k a b c d → ⊥) → Damaged ≡ read_as at (decode xs)
-        no-four never = rw (missed xs pick)
+        pub no_four : ((k : ℕ) → Four k a b c d → ⊥) → Damaged ≡ read_as at (decode xs)
+        no_four never = rw (missed xs pick)
           where
             pick : (k : ℕ) → Scalar k → Octets k xs → ⊥
             pick k s (one h e) = omega arith
@@ -134,8 +134,8 @@ module _ (at : ℕ) (xs : List ℕ) (a : ℕ) (at0 : a ≡ get_or xs 0 0) where
                 let number = sym (number_four k a b c d l (at0 ∙ e) (at1 ∙ f) (at2 ∙ g) (at3 ∙ m)) in
                 never k (record { lead = omega arith; second = omega arith; third = omega arith; fourth = omega arith; number = number; long = h; most = l })
 
-        pub is-four : (k : ℕ) → Four k a b c d → Good k (at + 4) ≡ read_as at (decode xs)
-        is-four k t = rw (pick xs at0 at1 at2 at3)
+        pub is_four : (k : ℕ) → Four k a b c d → Good k (at + 4) ≡ read_as at (decode xs)
+        is_four k t = rw (pick xs at0 at1 at2 at3)
           where
             pick : (ys : List ℕ) → a ≡ get_or ys 0 0 → b ≡ get_or ys 1 0 → c ≡ get_or ys 2 0 → d ≡ get_or ys 3 0 → decode ys ≡ front k 4
             pick [] e f g m = absurd (omega arith)
@@ -165,22 +165,22 @@ module _ (s : List ℕ) (at : ℕ) where
     ascii_at h = rw (drop_here 0 s at more, ascii (get_or s at 0) (drop (at + 1) s) h)
 
     module _ (a b : ℕ) (ea : a ≡ get_or s at 0) (eb : b ≡ get_or s (at + 1) 0) where
-      pub no-two-at : 0xC2 ≤ a → a < 0xE0 → ((k : ℕ) → Two k a b → ⊥) → Damaged ≡ read_as at (decode (drop at s))
-      no-two-at = no-two at (drop at s) a (ea ∙ lead) b (eb ∙ sym (get_or-drop at s 1 0))
+      pub no_two_at : 0xC2 ≤ a → a < 0xE0 → ((k : ℕ) → Two k a b → ⊥) → Damaged ≡ read_as at (decode (drop at s))
+      no_two_at = no_two at (drop at s) a (ea ∙ lead) b (eb ∙ sym (get_or-drop at s 1 0))
 
-      pub is-two-at : 0xC2 ≤ a → a < 0xE0 → (k : ℕ) → Two k a b → Good k (at + 2) ≡ read_as at (decode (drop at s))
-      is-two-at = is-two at (drop at s) a (ea ∙ lead) b (eb ∙ sym (get_or-drop at s 1 0))
+      pub is_two_at : 0xC2 ≤ a → a < 0xE0 → (k : ℕ) → Two k a b → Good k (at + 2) ≡ read_as at (decode (drop at s))
+      is_two_at = is_two at (drop at s) a (ea ∙ lead) b (eb ∙ sym (get_or-drop at s 1 0))
 
       module _ (c : ℕ) (ec : c ≡ get_or s (at + 2) 0) where
-        pub no-three-at : 0xE0 ≤ a → a < 0xF0 → ((k : ℕ) → Three k a b c → ⊥) → Damaged ≡ read_as at (decode (drop at s))
-        no-three-at = no-three at (drop at s) a (ea ∙ lead) b (eb ∙ sym (get_or-drop at s 1 0)) c (ec ∙ sym (get_or-drop at s 2 0))
+        pub no_three_at : 0xE0 ≤ a → a < 0xF0 → ((k : ℕ) → Three k a b c → ⊥) → Damaged ≡ read_as at (decode (drop at s))
+        no_three_at = no_three at (drop at s) a (ea ∙ lead) b (eb ∙ sym (get_or-drop at s 1 0)) c (ec ∙ sym (get_or-drop at s 2 0))
 
-        pub is-three-at : 0xE0 ≤ a → a < 0xF0 → (k : ℕ) → Three k a b c → Good k (at + 3) ≡ read_as at (decode (drop at s))
-        is-three-at = is-three at (drop at s) a (ea ∙ lead) b (eb ∙ sym (get_or-drop at s 1 0)) c (ec ∙ sym (get_or-drop at s 2 0))
+        pub is_three_at : 0xE0 ≤ a → a < 0xF0 → (k : ℕ) → Three k a b c → Good k (at + 3) ≡ read_as at (decode (drop at s))
+        is_three_at = is_three at (drop at s) a (ea ∙ lead) b (eb ∙ sym (get_or-drop at s 1 0)) c (ec ∙ sym (get_or-drop at s 2 0))
 
         module _ (d : ℕ) (ed : d ≡ get_or s (at + 3) 0) where
-          pub no-four-at : 0xF0 ≤ a → ((k : ℕ) → Four k a b c d → ⊥) → Damaged ≡ read_as at (decode (drop at s))
-          no-four-at = no-four at (drop at s) a (ea ∙ lead) b (eb ∙ sym (get_or-drop at s 1 0)) c (ec ∙ sym (get_or-drop at s 2 0)) d (ed ∙ sym (get_or-drop at s 3 0))
+          pub no_four_at : 0xF0 ≤ a → ((k : ℕ) → Four k a b c d → ⊥) → Damaged ≡ read_as at (decode (drop at s))
+          no_four_at = no_four at (drop at s) a (ea ∙ lead) b (eb ∙ sym (get_or-drop at s 1 0)) c (ec ∙ sym (get_or-drop at s 2 0)) d (ed ∙ sym (get_or-drop at s 3 0))
 
-          pub is-four-at : 0xF0 ≤ a → (k : ℕ) → Four k a b c d → Good k (at + 4) ≡ read_as at (decode (drop at s))
-          is-four-at = is-four at (drop at s) a (ea ∙ lead) b (eb ∙ sym (get_or-drop at s 1 0)) c (ec ∙ sym (get_or-drop at s 2 0)) d (ed ∙ sym (get_or-drop at s 3 0))
+          pub is_four_at : 0xF0 ≤ a → (k : ℕ) → Four k a b c d → Good k (at + 4) ≡ read_as at (decode (drop at s))
+          is_four_at = is_four at (drop at s) a (ea ∙ lead) b (eb ∙ sym (get_or-drop at s 1 0)) c (ec ∙ sym (get_or-drop at s 2 0)) d (ed ∙ sym (get_or-drop at s 3 0))

@@ -14,7 +14,7 @@ use Rattle.text.specs.Cited.Places.{read_as}
 use Rattle.text.specs.Cited.Joins.{asked, goes_on, joins, joins_at, EachJoins, Joined, JoinedFrom}
 use Rattle.text.specs.declared.Found.TheVariants.{Nowhere}
 use Rattle.text.specs.declared.Char.TheVariants.{Good}
-use Rattle.text.proofs.Forms.{ascii, is-two, is-three, is-four}
+use Rattle.text.proofs.Forms.{ascii, is_two, is_three, is_four}
 use Rattle.text.proofs.Glyphs.{char_here}
 use Rattle.text.proofs.Damage.{later, later_zero, damage_past, damage_on}
 
@@ -99,7 +99,7 @@ two_octets : (q r a : ℕ) (xs : List ℕ) → 0xC2 ≤ a → a < 0xE0 → r < 0
 two_octets q r a [] lo hi hr j rest = absurd (omega (arith, j.2))
 two_octets q r a (b ∷ xs) lo hi hr j rest =
     let s = asked_by (joins_is q r a b j.0) (by_last q r a (omega arith)) in
-    one_more (a ∷ b ∷ xs) (a % 32 * 64 + b % 64) 2 (sym (is-two 0 (a ∷ b ∷ xs) a refl b refl lo hi _ (record { second = s.1; number = refl })))
+    one_more (a ∷ b ∷ xs) (a % 32 * 64 + b % 64) 2 (sym (is_two 0 (a ∷ b ∷ xs) a refl b refl lo hi _ (record { second = s.1; number = refl })))
     (rest r a b xs (omega arith) (omega arith) hi s.0 j.1)
 
 three_octets : (q r a : ℕ) (xs : List ℕ) → 0xE0 ≤ a → a < 0xF0 → Joined q r a xs → Rest (suc (length xs)) → damage (a ∷ xs) ≡ Nowhere
@@ -110,7 +110,7 @@ three_octets q r a (b ∷ c ∷ xs) lo hi j rest =
     let s = asked_by second (by_last q r a (omega arith)) in
     let t = asked_by (joins_is r a b c j.1.0) (by_second r a b lo) in
     one_more (a ∷ b ∷ c ∷ xs) (a % 16 * 4096 + b % 64 * 64 + c % 64) 3
-    (sym (is-three 0 (a ∷ b ∷ c ∷ xs) a refl b refl c refl lo hi _
+    (sym (is_three 0 (a ∷ b ∷ c ∷ xs) a refl b refl c refl lo hi _
     (record {
       second = s.1;
       third = t.1;
@@ -137,7 +137,7 @@ four_octets q r a (b ∷ c ∷ d ∷ xs) lo hi j rest =
     let t = asked_by (joins_is r a b c j.1.0) (by_second r a b (omega arith)) in
     let u = asked_by (joins_is a b c d j.1.1.0) (by_third a b c lo) in
     one_more (a ∷ b ∷ c ∷ d ∷ xs) (a % 8 * 262144 + b % 64 * 4096 + c % 64 * 64 + d % 64) 4
-    (sym (is-four 0 (a ∷ b ∷ c ∷ d ∷ xs) a refl b refl c refl d refl lo _
+    (sym (is_four 0 (a ∷ b ∷ c ∷ d ∷ xs) a refl b refl c refl d refl lo _
     (record {
       lead = hi;
       second = s.1;

@@ -17,7 +17,7 @@ use Rattle.widths.proofs.Inks.{ink_at}
 use Rattle.text.specs.Rfc3629.{decode}
 use Rattle.text.specs.Cited.Places.{read_as, letter_at, pair_code, Pair}
 use Rattle.text.specs.declared.Char.TheVariants.{Good}
-use Rattle.text.proofs.Forms.{lead, is-two}
+use Rattle.text.proofs.Forms.{lead, is_two}
 use Rattle.text.proofs.Glyphs.{Here, char_here}
 
 pub record Letter (s : List ℕ) (at : ℕ) : Type 0 where
@@ -63,7 +63,7 @@ module _ (s : List ℕ) (at : ℕ) where
     pair_char =
         let first : get_or s at 0 ≡ get_or (drop at s) 0 0 = lead s at (omega (arith, p.within)) in
         let second : get_or s (at + 1) 0 ≡ get_or (drop at s) 1 0 = sym (get_or-drop at s 1 0) in
-        sym (is-two at (drop at s) (get_or s at 0) first (get_or s (at + 1) 0) second p.least (omega (arith, p.most)) (pair_code s at) (record { second = p.second; number = refl }))
+        sym (is_two at (drop at s) (get_or s at 0) first (get_or s (at + 1) 0) second p.least (omega (arith, p.most)) (pair_code s at) (record { second = p.second; number = refl }))
 
     pub pair_here : Here (white_space (pair_code s at)) s at (pair_code s at) (at + 2)
     pair_here = char_here s at (pair_code s at) (at + 2) pair_char

@@ -18,7 +18,7 @@ pub bytes_are : (qs : List Piece) → bytes_in qs ≡ joined extent_of qs
 unfolding extent_of
 bytes_are qs = joined_joined (λ (l : Line). l.raw) lines_in qs
 
--- Split clears crown and tagged; with mail, next_mail is true where the second part begins.
+-- Split clears crown and tagged; with mail, next-mail is true where the second part begins.
 module _ (o : Opts) (cleared : o.split ≡ true → (o.crown || o.tagged) ≡ false) (notes : List ℕ) (ps qs : List Piece) (are : pieces o notes ≡ ps ++ qs)
     (mail : o.mail ≡ true → next_mail_behind true ps ≡ true) where
   pub parts_are_notes : notes ≡ joined extent_of ps ++ joined extent_of qs

@@ -75,15 +75,15 @@ module _ {most : ℕ} {notes : List ℕ} {whole left : List Word} {ps qs : List 
       together : (words_in notes n t ++ line) ++ rest ≡ whole
       together = append_assoc (words_in notes n t) line rest ∙ rw e at f.words
 
-      pub filling-over : most < length (words_in notes n t ++ line) → most < length whole
-      filling-over l = omega (arith, l, simp (length-append (words_in notes n t ++ line) rest) at (ap length together))
+      pub filling_over : most < length (words_in notes n t ++ line) → most < length whole
+      filling_over l = omega (arith, l, simp (length-append (words_in notes n t ++ line) rest) at (ap length together))
 
       module _ (here later : List ℕ) (q : qs ≡ here ++ later) (t' : List ℕ) where
-        places-together : (places_in n t ++ here) ++ later ≡ ps
-        places-together = append_assoc (places_in n t) here later ∙ rw q at f.places
+        places_together : (places_in n t ++ here) ++ later ≡ ps
+        places_together = append_assoc (places_in n t) here later ∙ rw q at f.places
 
         pub filling_line : (m : ℕ) → WordsFilled most notes (words_in notes n t ++ line) (places_in n t ++ here) t' (Words m) → Filling most notes whole rest ps later m t'
-        filling_line m l = record { words = rw l.0 together; places = rw l.1 places-together; kept = l.2 }
+        filling_line m l = record { words = rw l.0 together; places = rw l.1 places_together; kept = l.2 }
 
 -- no word is there yet
 pub kept_none : (most size : ℕ) (t : List ℕ) → Holds most t → Kept most size 0 t

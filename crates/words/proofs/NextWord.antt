@@ -164,24 +164,24 @@ module _ (o : Opts) (new_line : Bool) (s : List ℕ) (at : ℕ) (b : Blanks) (ov
     next_line previous = let e = ends in record {
       first = onward false previous (word_at o.uniform o.by_characters new_line previous at b w) (line_means previous) refl;
       place = placed;
-      within = pick-within o.uniform;
+      within = pick_within o.uniform;
       on = omega (arith, over.end);
       narrow = omega (arith, ink.narrow, ink.within);
-      before = pick-before o.uniform;
-      after = pick-after o.uniform;
+      before = pick_before o.uniform;
+      after = pick_after o.uniform;
     }
       where
-        pick-within : (u : Bool) → Within (length s) (word_at u o.by_characters new_line previous at b w)
-        pick-within true = let e = ends in record { gap = omega arith; text = omega arith; end = ink.within }
-        pick-within false = let e = ends in record { gap = omega (arith, over.end); text = omega arith; end = ink.within }
+        pick_within : (u : Bool) → Within (length s) (word_at u o.by_characters new_line previous at b w)
+        pick_within true = let e = ends in record { gap = omega arith; text = omega arith; end = ink.within }
+        pick_within false = let e = ends in record { gap = omega (arith, over.end); text = omega arith; end = ink.within }
 
-        pick-before : (u : Bool) → before_number (cond u Absent b.before) ≤ 100 * length s
-        pick-before true = omega arith
-        pick-before false = over.before
+        pick_before : (u : Bool) → before_number (cond u Absent b.before) ≤ 100 * length s
+        pick_before true = omega arith
+        pick_before false = over.before
 
-        pick-after : (u : Bool) → cond u 0 b.after ≤ 100 * length s
-        pick-after true = omega arith
-        pick-after false = over.after
+        pick_after : (u : Bool) → cond u 0 b.after ≤ 100 * length s
+        pick_after true = omega arith
+        pick_after false = over.after
 
 -- its numbers fit the table
 pub next_small : {o : Opts} {mail new_line previous : Bool} {s : List ℕ} {at : ℕ} {w : Record} → NextWord o mail new_line previous s at w → length s ≤ most_large → Small w

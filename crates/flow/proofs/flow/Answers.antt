@@ -3,7 +3,7 @@ use mathlib.Core.Path.{sym, ◌∙◌}
 use native.Mathlib.Omega.{arith}
 use Rattle.formatter.specs.Format.{own_room}
 use Rattle.formatter.proofs.Values.{own_room_sound}
-use Rattle.flow.proofs.Answered.{unfit_answer, refused_answer, passed-answer}
+use Rattle.flow.proofs.Answered.{unfit_answer, refused_answer, passed_answer}
 use Rattle.flow.proofs.flow.Goals as goal
 
 pub returns-then-is_unfit : goal.returns-then-is_unfit
@@ -16,4 +16,4 @@ returns-in-Refused c =
 
 pub returns-in-Passed : goal.returns-in-Passed
 returns-in-Passed c =
-    passed-answer own_room own_room_sound _ _ (sym c.is_unfit.ensures ∙ c.if-is_unfit.false) c.admit.ensures c.in-Passed.is _ _ (rw c.mailed.ensures at c.send_notes.ensures)
+    passed_answer own_room own_room_sound _ _ (sym c.is_unfit.ensures ∙ c.if-is_unfit.false) c.admit.ensures c.in-Passed.is _ _ (rw c.mailed.ensures at c.send_notes.ensures)

@@ -4,7 +4,7 @@ use native.Mathlib.Omega.{arith}
 use lib.ListN.{length}
 use Rattle.formatter.specs.Work.{lending}
 use Rattle.formatter.proofs.Work.{lending_sound}
-use Rattle.flow.proofs.Answered.{unfit_answer, refused_answer, passed-ready, passed-answer}
+use Rattle.flow.proofs.Answered.{unfit_answer, refused_answer, passed_ready, passed_answer}
 use Rattle.flow.proofs.flow_lent.Goals as goal
 
 pub returns-then-is_unfit : goal.returns-then-is_unfit
@@ -13,7 +13,7 @@ returns-then-is_unfit c =
 
 pub send_large-requires : goal.send_large-requires
 send_large-requires c =
-    rw c.mailed.ensures (passed-ready (lending (length c.args.work.now)) (lending_sound (length c.args.work.now)) _ _ (sym c.is_unfit.ensures ∙ c.if-is_unfit.false) (c.admit_within.ensures (lending (length c.args.work.now)).words) c.in-Passed.is)
+    rw c.mailed.ensures (passed_ready (lending (length c.args.work.now)) (lending_sound (length c.args.work.now)) _ _ (sym c.is_unfit.ensures ∙ c.if-is_unfit.false) (c.admit_within.ensures (lending (length c.args.work.now)).words) c.in-Passed.is)
 
 pub returns-in-Refused : goal.returns-in-Refused
 returns-in-Refused c =
@@ -21,4 +21,4 @@ returns-in-Refused c =
 
 pub returns-in-Passed : goal.returns-in-Passed
 returns-in-Passed c =
-    passed-answer (lending (length c.args.work.now)) (lending_sound (length c.args.work.now)) _ _ (sym c.is_unfit.ensures ∙ c.if-is_unfit.false) (c.admit_within.ensures (lending (length c.args.work.now)).words) c.in-Passed.is _ _ (rw c.mailed.ensures at c.send_large.ensures)
+    passed_answer (lending (length c.args.work.now)) (lending_sound (length c.args.work.now)) _ _ (sym c.is_unfit.ensures ∙ c.if-is_unfit.false) (c.admit_within.ensures (lending (length c.args.work.now)).words) c.in-Passed.is _ _ (rw c.mailed.ensures at c.send_large.ensures)

@@ -1,5 +1,5 @@
 -- `fold::fold` meets its contract.
-use Rattle.fold.proofs.Answers.{stop_some, folds_tab, folds_none, folds_many, folds_long, folds-done, folds-room}
+use Rattle.fold.proofs.Answers.{stop_some, folds_tab, folds_none, folds_many, folds_long, folds_done, folds_room}
 use Rattle.fold.proofs.fold.Goals as goal
 
 pub returns-then-tab-gt100 : goal.returns-then-tab-gt100
@@ -21,8 +21,8 @@ put_lines-needed-requires c =
 
 pub returns-then-needed-out : goal.returns-then-needed-out
 returns-then-needed-out c =
-    let p = c.put_lines-needed.ensures in folds-done _ _ _ _ c.if-tab-gt100.false c.if-columns-eq0.false c.if-columns-gt1000.false c.if-text-gt1073741824.false (rw c.stop_width.ensures at p.0) p.1 c.if-needed-out.true
+    let p = c.put_lines-needed.ensures in folds_done _ _ _ _ c.if-tab-gt100.false c.if-columns-eq0.false c.if-columns-gt1000.false c.if-text-gt1073741824.false (rw c.stop_width.ensures at p.0) p.1 c.if-needed-out.true
 
 pub returns : goal.returns
 returns c =
-    let p = c.put_lines-needed.ensures in folds-room _ _ _ _ c.if-tab-gt100.false c.if-columns-eq0.false c.if-columns-gt1000.false c.if-text-gt1073741824.false (rw c.stop_width.ensures at p.0) p.1 c.if-needed-out.false c.clear.ensures
+    let p = c.put_lines-needed.ensures in folds_room _ _ _ _ c.if-tab-gt100.false c.if-columns-eq0.false c.if-columns-gt1000.false c.if-text-gt1073741824.false (rw c.stop_width.ensures at p.0) p.1 c.if-needed-out.false c.clear.ensures

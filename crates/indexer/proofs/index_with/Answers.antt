@@ -1,11 +1,11 @@
 -- `indexer::index_with` meets its contract.
 use native.Mathlib.Omega.{arith}
-use Rattle.indexer.proofs.Answers.{noted_as, words_answer, full-answer, untold_answer, room_answer, done_answer}
+use Rattle.indexer.proofs.Answers.{noted_as, words_answer, full_answer, untold_answer, room_answer, done_answer}
 use Rattle.indexer.proofs.index_with.Goals as goal
 
 pub returns-then-records-pieces : goal.returns-then-records-pieces
 returns-then-records-pieces c =
-    full-answer _ _ _ _ _ _ _ _ _ (noted_as _ _ _ _ _ _ c.note_pieces.ensures c.in-All.is) _ c.if-records-pieces.true c.clear-then-records-pieces.ensures
+    full_answer _ _ _ _ _ _ _ _ _ (noted_as _ _ _ _ _ _ c.note_pieces.ensures c.in-All.is) _ c.if-records-pieces.true c.clear-then-records-pieces.ensures
 
 pub returns-then-written-gt-MOST_TOLD : goal.returns-then-written-gt-MOST_TOLD
 returns-then-written-gt-MOST_TOLD c =

@@ -7,7 +7,7 @@ use lib.Seq.{take_at, length-take-le}
 use borrow.Rule.Slice.PartMut.{put_mid, same_len_mid}
 use Rattle.walk.proofs.Loop.{going_first, going_length, going_on, stands_first}
 use Rattle.indexer.proofs.Laws.{stepped_on, stepped_over}
-use Rattle.indexer.proofs.Marking.{marking_first, marking-spells, marking-on, noted_all, noted_stopped, part_room, front_cleared, front_kept, front_home}
+use Rattle.indexer.proofs.Marking.{marking_first, marking_spells, marking_on, noted_all, noted_stopped, part_room, front_cleared, front_kept, front_home}
 use Rattle.indexer.proofs.note_pieces.Goals as goal
 
 pub loop-c-init : goal.loop-c-init
@@ -39,7 +39,7 @@ spell-line-requires c =
     let home = same_len_mid c.args.marks (c.args.end - c.args.marks) l.work part c.put_piece.auto.work in
     let is = part_room c.args.o.quick c.args.marks c.args.end l.work c.requires.1.order within in
     let p = stepped_on is _ _ _ _ _ c.put_piece.result c.put_piece.ensures c.in-On.is in
-    rw (front_kept c.args.marks (c.args.end - c.args.marks) l.work part (omega (arith, room, fits))) (marking-spells _ _ _ _ l.invariant.1 p c.requires.1.enough c.requires.1.few (c.put_piece.auto.out ∙ going_length _ _ _ l.invariant.0))
+    rw (front_kept c.args.marks (c.args.end - c.args.marks) l.work part (omega (arith, room, fits))) (marking_spells _ _ _ _ l.invariant.1 p c.requires.1.enough c.requires.1.few (c.put_piece.auto.out ∙ going_length _ _ _ l.invariant.0))
 
 pub loop-c-preserved : goal.loop-c-preserved
 loop-c-preserved c =
@@ -55,7 +55,7 @@ loop-c-preserved c =
     let kept = front_kept c.args.marks (c.args.end - c.args.marks) l.work part (omega (arith, room, fits)) in
     let back = front_home c.args.marks (put_mid c.args.marks (c.args.end - c.args.marks) l.work part) c.spell-line.new.gaps (c.spell-line.auto.gaps ∙ length-take-le c.args.marks (put_mid c.args.marks (c.args.end - c.args.marks) l.work part) (omega (arith, home, room, fits))) (omega (arith, home, room, fits)) in (
       going_on _ _ _ l.invariant.0 p,
-      rw back.0 (marking-on _ _ _ _ l.invariant.1 p c.requires.1.enough c.requires.1.few (c.put_piece.auto.out ∙ going_length _ _ _ l.invariant.0) (rw kept at c.spell-line.ensures)),
+      rw back.0 (marking_on _ _ _ _ l.invariant.1 p c.requires.1.enough c.requires.1.few (c.put_piece.auto.out ∙ going_length _ _ _ l.invariant.0) (rw kept at c.spell-line.ensures)),
       back.1 ∙ home ∙ l.invariant.2,
     )
 

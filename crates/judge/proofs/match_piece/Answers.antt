@@ -1,6 +1,6 @@
 -- `judge::match_piece` meets its contract.
 use Rattle.walk.proofs.Steps.{ready_usable, ready_cleared, ready_sound, found_goes}
-use Rattle.judge.proofs.Laws.{blank_took, plain_took, text_splits, text_over, text-matchable, text-took}
+use Rattle.judge.proofs.Laws.{blank_took, plain_took, text_splits, text_over, text_matchable, text_took}
 use Rattle.judge.proofs.match_piece.Goals as goal
 
 pub next_piece-requires : goal.next_piece-requires
@@ -16,7 +16,7 @@ returns-in_default c =
 
 pub words_behind-requires : goal.words_behind-requires
 words_behind-requires c =
-    let p = c.requires in let w = text-matchable _ _ _ c.args.c _ p.0 p.3 c.next_piece.ensures c.in-Text.is (c.split_words.ensures _) _ c.in-Words.is in (w.0, w.1, p.1)
+    let p = c.requires in let w = text_matchable _ _ _ c.args.c _ p.0 p.3 c.next_piece.ensures c.in-Text.is (c.split_words.ensures _) _ c.in-Words.is in (w.0, w.1, p.1)
 
 pub returns-in-Blank : goal.returns-in-Blank
 returns-in-Blank c =
@@ -28,4 +28,4 @@ returns-in-Plain c =
 
 pub returns-in-Words : goal.returns-in-Words
 returns-in-Words c =
-    let p = c.requires in text-took _ _ _ c.args.c _ p.0 p.3 c.next_piece.ensures c.in-Text.is (c.split_words.ensures _) _ c.in-Words.is c.words_behind.ensures
+    let p = c.requires in text_took _ _ _ c.args.c _ p.0 p.3 c.next_piece.ensures c.in-Text.is (c.split_words.ensures _) _ c.in-Words.is c.words_behind.ensures

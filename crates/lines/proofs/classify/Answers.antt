@@ -6,7 +6,7 @@ use Rattle.lists.specs.Runs.{every}
 use Rattle.lists.proofs.Fronts.{part_between}
 use Rattle.text.specs.Characters.{glyphs, is_blank, is_good}
 use Rattle.options.specs.Opts.{meant}
-use Rattle.lines.proofs.Classes.{class_blank, class_damaged, class-skipped, class-bare, class-given}
+use Rattle.lines.proofs.Classes.{class_blank, class_damaged, class_skipped, class_bare, class_given}
 use Rattle.lines.proofs.Spaces.{spaces_blank}
 use Rattle.lines.proofs.classify.Goals as goal
 
@@ -29,7 +29,7 @@ returns-then-is_skipped c =
     let blank : every is_blank (glyphs c.args.o.glue c.args.line.now) ≡ c.is_all_blank.result = sym (spaces_blank _ _ c.run_end-from.ensures _) ∙ sym (c.is_all_blank.ensures _) in
     let ink : every is_blank (glyphs c.args.o.glue c.args.line.now) ≡ false = blank ∙ c.if-is_all_blank.false in
     let good : every is_good (glyphs c.args.o.glue c.args.line.now) ≡ true = not-false _ (sym (c.is_damaged.ensures _) ∙ c.if-is_damaged.false) in
-    class-skipped _ _ ink good (sym (c.is_skipped.ensures _) ∙ c.if-is_skipped.true)
+    class_skipped _ _ ink good (sym (c.is_skipped.ensures _) ∙ c.if-is_skipped.true)
 
 pub returns-in_default : goal.returns-in_default
 unfolding meant
@@ -37,7 +37,7 @@ returns-in_default c =
     let blank : every is_blank (glyphs c.args.o.glue c.args.line.now) ≡ c.is_all_blank.result = sym (spaces_blank _ _ c.run_end-from.ensures _) ∙ sym (c.is_all_blank.ensures _) in
     let ink : every is_blank (glyphs c.args.o.glue c.args.line.now) ≡ false = blank ∙ c.if-is_all_blank.false in
     let good : every is_good (glyphs c.args.o.glue c.args.line.now) ≡ true = not-false _ (sym (c.is_damaged.ensures _) ∙ c.if-is_damaged.false) in
-    class-bare _ _ ink good (sym (c.is_skipped.ensures _) ∙ c.if-is_skipped.false) _ (rw c.in_default.is) (c.lead_of-lead.ensures _)
+    class_bare _ _ ink good (sym (c.is_skipped.ensures _) ∙ c.if-is_skipped.false) _ (rw c.in_default.is) (c.lead_of-lead.ensures _)
 
 pub returns : goal.returns
 unfolding meant
@@ -46,4 +46,4 @@ returns c =
     let ink : every is_blank (glyphs c.args.o.glue c.args.line.now) ≡ false = blank ∙ c.if-is_all_blank.false in
     let good : every is_good (glyphs c.args.o.glue c.args.line.now) ≡ true = not-false _ (sym (c.is_damaged.ensures _) ∙ c.if-is_damaged.false) in
     let lies = rw c.in-Given.is at c.requires.0.prefix in
-    class-given _ _ ink good (sym (c.is_skipped.ensures _) ∙ c.if-is_skipped.false) _ _ (rw c.in-Given.is) (rw (part_between _ _ _ lies.0) at c.behind_prefix.ensures)
+    class_given _ _ ink good (sym (c.is_skipped.ensures _) ∙ c.if-is_skipped.false) _ _ (rw c.in-Given.is) (rw (part_between _ _ _ lies.0) at c.behind_prefix.ensures)

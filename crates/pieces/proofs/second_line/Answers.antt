@@ -3,7 +3,7 @@ use mathlib.Core.Path.{sym, ◌∙◌}
 use Rattle.options.specs.Opts.{meant}
 use Rattle.pieces.proofs.Following.{other_keys}
 use Rattle.pieces.proofs.Paragraphs.{joined_line}
-use Rattle.pieces.proofs.Seconds.{second_past, second_other, second-not, second-joins}
+use Rattle.pieces.proofs.Seconds.{second_past, second_other, second_not, second_joins}
 use borrow.Enum.Refused.{opened}
 use Rattle.pieces.proofs.second_line.Goals as goal
 
@@ -15,11 +15,11 @@ returns-in_default c = (second_other _ _ _ _ _ c.line_at-line.ensures (other_key
 
 pub returns-then-not-is_second : goal.returns-then-not-is_second
 unfolding meant
-returns-then-not-is_second c = (second-not _ _ _ _ _ c.line_at-line.ensures _ c.in-Formatted.is (sym c.is_second.ensures ∙ c.if-not-is_second.true), tt)
+returns-then-not-is_second c = (second_not _ _ _ _ _ c.line_at-line.ensures _ c.in-Formatted.is (sym c.is_second.ensures ∙ c.if-not-is_second.true), tt)
 
 pub returns : goal.returns
 unfolding meant
 returns c =
     let l = c.line_at-line.ensures in
     let p = c.requires in
-    (second-joins _ _ _ _ _ c.line_at-line.ensures _ c.in-Formatted.is (sym c.is_second.ensures ∙ c.if-not-is_second.false), joined_line _ _ _ _ _ l c.in-Formatted.is p.usable p.short)
+    (second_joins _ _ _ _ _ c.line_at-line.ensures _ c.in-Formatted.is (sym c.is_second.ensures ∙ c.if-not-is_second.false), joined_line _ _ _ _ _ l c.in-Formatted.is p.usable p.short)

@@ -1,5 +1,5 @@
 -- `regular::put_word` meets its contract.
-use Rattle.regular.proofs.Words.{put_head, put_fresh, put_on, put-stays}
+use Rattle.regular.proofs.Words.{put_head, put_fresh, put_on, put_stays}
 use Rattle.regular.proofs.put_word.Goals as goal
 
 pub returns-then-t : goal.returns-then-t
@@ -19,4 +19,4 @@ returns-then-is_gap c =
 pub returns : goal.returns
 returns c =
     let p = c.requires in
-    put-stays _ _ _ _ _ _ p.0 p.5 p.6 p.7 c.if-t.false _ c.reach-reached.ensures.0 c.if-g-reached.false p.11 _ c.added_space-added.ensures.is _ _ _ _ c.put_at-i.ensures c.spaces_at-j.ensures.0 c.spaces_at-j.ensures.1
+    put_stays _ _ _ _ _ _ p.0 p.5 p.6 p.7 c.if-t.false _ c.reach-reached.ensures.0 c.if-g-reached.false p.11 _ c.added_space-added.ensures.is _ _ _ _ c.put_at-i.ensures c.spaces_at-j.ensures.0 c.spaces_at-j.ensures.1

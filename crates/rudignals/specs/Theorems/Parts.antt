@@ -21,7 +21,7 @@ up_to_piece o k notes = joined extent_of (take k (pieces o notes))
 abbrev pub from_piece : Opts → ℕ → List ℕ → List ℕ
 from_piece o k notes = joined extent_of (drop k (pieces o notes))
 
--- without mail every piece's start is a cut; with mail those where next_mail is true
+-- without mail every piece's start is a cut; with mail those where next-mail is true
 abbrev pub MayCut : Opts → ℕ → List ℕ → Type 0
 MayCut o k notes = o.mail ≡ true → next_mail_behind true (take k (pieces o notes)) ≡ true
 

@@ -1,6 +1,6 @@
 -- `salvage::mend` meets its contract.
 use native.Mathlib.Omega.{arith}
-use Rattle.salvage.proofs.Answers.{mends_long, mends_full, mends-room, mends-done}
+use Rattle.salvage.proofs.Answers.{mends_long, mends_full, mends_room, mends_done}
 use Rattle.salvage.proofs.mend.Goals as goal
 
 pub returns-then-notes-gt65536 : goal.returns-then-notes-gt65536
@@ -11,9 +11,9 @@ returns-then-lesser-changed c = mends_full _ _ _ _ _ c.if-notes-gt65536.false c.
 
 pub returns-then-copy-needed : goal.returns-then-copy-needed
 returns-then-copy-needed c =
-    mends-room _ _ _ _ _ c.if-notes-gt65536.false c.count_changes-changed.ensures (omega (arith, c.lesser.ensures, c.if-lesser-changed.false)) c.if-copy-needed.true
+    mends_room _ _ _ _ _ c.if-notes-gt65536.false c.count_changes-changed.ensures (omega (arith, c.lesser.ensures, c.if-lesser-changed.false)) c.if-copy-needed.true
 
 pub returns : goal.returns
 returns c =
     let p = c.put_all.ensures in
-    mends-done _ _ _ _ _ c.if-notes-gt65536.false c.count_changes-changed.ensures (omega (arith, c.lesser.ensures, c.if-lesser-changed.false)) c.if-copy-needed.false p.0 p.1 p.2
+    mends_done _ _ _ _ _ c.if-notes-gt65536.false c.count_changes-changed.ensures (omega (arith, c.lesser.ensures, c.if-lesser-changed.false)) c.if-copy-needed.false p.0 p.1 p.2

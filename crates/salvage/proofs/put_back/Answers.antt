@@ -2,7 +2,7 @@
 use Prim.Native.Nat.{◌+◌, ◌≤◌}
 use native.Mathlib.Omega.{arith}
 use lib.ListN.{length}
-use Rattle.salvage.proofs.Back.{listed_length, rest_room, returning_last, entry_stands, gap_room, byte-room, byte-back}
+use Rattle.salvage.proofs.Back.{listed_length, rest_room, returning_last, entry_stands, gap_room, byte_room, byte_back}
 use Rattle.salvage.proofs.put_back.Goals as goal
 
 pub slice_bounds-put_text-count : goal.slice_bounds-put_text-count
@@ -39,13 +39,13 @@ pub bounds-notes-place : goal.bounds-notes-place
 bounds-notes-place c =
     let s = c.args in
     let l = c.loop-k in
-    byte-room s.places.now s.bytes.now l.k _ c.lesser-count.ensures c.loop-k-test.true c.wide-place.ensures.0 l.invariant (omega (arith, c.type_inv.bytes l.k)) c.put_text.ensures
+    byte_room s.places.now s.bytes.now l.k _ c.lesser-count.ensures c.loop-k-test.true c.wide-place.ensures.0 l.invariant (omega (arith, c.type_inv.bytes l.k)) c.put_text.ensures
 
 pub loop-k-preserved : goal.loop-k-preserved
 loop-k-preserved c =
     let s = c.args in
     let l = c.loop-k in
-    byte-back s.places.now s.bytes.now l.k _ c.lesser-count.ensures c.loop-k-test.true c.wide-place.ensures.0 l.invariant (omega (arith, c.type_inv.bytes l.k)) c.put_text.ensures
+    byte_back s.places.now s.bytes.now l.k _ c.lesser-count.ensures c.loop-k-test.true c.wide-place.ensures.0 l.invariant (omega (arith, c.type_inv.bytes l.k)) c.put_text.ensures
 
 pub put_text-requires-2 : goal.put_text-requires-2
 put_text-requires-2 c =

@@ -3,7 +3,7 @@ use Prim.Native.Nat.{◌≤◌}
 use native.Mathlib.Omega.{arith}
 use lib.ListN.{length}
 use Rattle.salvage.specs.Restoring.{listed, belonging}
-use Rattle.salvage.proofs.Answers.{restores_long, restores_stray, restores-room, restores-done}
+use Rattle.salvage.proofs.Answers.{restores_long, restores_stray, restores_room, restores_done}
 use Rattle.salvage.proofs.Back.{listed_length, listed_small, belonging_few, measured}
 use Rattle.salvage.proofs.restore.Goals as goal
 
@@ -30,7 +30,7 @@ returns-then-notes-needed c =
     let m = measured s.copy.now s.places.now s.bytes.now _ _ (λ i. omega (arith, c.type_inv.bytes i)) c.lesser-count.ensures c.count_belonging-fit.ensures c.if-fit-count.false in
     let l = listed_length s.places.now s.bytes.now in
     let k : length (listed s.places.now s.bytes.now) ≤ belonging 0 s.copy.now (listed s.places.now s.bytes.now) = omega (arith, m.all) in
-    restores-room _ _ _ c.if-copy-gt131072.false _ k m.needed (omega arith) c.if-notes-needed.true
+    restores_room _ _ _ c.if-copy-gt131072.false _ k m.needed (omega arith) c.if-notes-needed.true
 
 pub put_back-requires : goal.put_back-requires
 put_back-requires c =
@@ -46,4 +46,4 @@ returns c =
     let m = measured s.copy.now s.places.now s.bytes.now _ _ (λ i. omega (arith, c.type_inv.bytes i)) c.lesser-count.ensures c.count_belonging-fit.ensures c.if-fit-count.false in
     let l = listed_length s.places.now s.bytes.now in
     let k : length (listed s.places.now s.bytes.now) ≤ belonging 0 s.copy.now (listed s.places.now s.bytes.now) = omega (arith, m.all) in
-    restores-done _ _ _ c.if-copy-gt131072.false _ k m.needed (omega arith) c.if-notes-needed.false c.put_back.ensures
+    restores_done _ _ _ c.if-copy-gt131072.false _ k m.needed (omega arith) c.if-notes-needed.false c.put_back.ensures

@@ -19,7 +19,7 @@ use Rattle.words.specs.Cited.Spaced.{SpacedTo}
 use Rattle.records.specs.Cited.Table.{words_in}
 use Rattle.words.proofs.LineEnds.{LineEnds, ends_later, line_ends, same_ends}
 use Rattle.words.proofs.SpacedWords.{spaced_filled}
-use Rattle.words.proofs.Filling.{filling_none, filling_line, filling-over, filling_done}
+use Rattle.words.proofs.Filling.{filling_none, filling_line, filling_over, filling_done}
 use Rattle.words.proofs.Rows.{LineAt, line_at, lines_end, places_end, filled_words}
 use Rattle.words.proofs.split_words.Goals as goal
 
@@ -108,7 +108,7 @@ returns-in_default c =
     (places_in l.n l.table ++ places_from (l.i + cond a.mail 0 l.skip) (runs (glyphs_behind (meant [] a.o).glue (not a.mail) (slice (l.i + cond a.mail 0 l.skip) (l.i + (lengths_of (first_line (slice l.i a.next a.notes.now))).text) a.notes.now))))
     c.split_line.new.table c.split_line.result =
     rw e at (spaced_filled a.most spaced (run.result.at + c.first_line-line.result.text) found.0 c.split_line.new.table c.split_line.result c.split_line.ensures) in
-    filled_words _ _ _ _ _ _ _ _ _ _ (filling-over l.invariant.2 _ _ line.words (rw c.in_default.is at filled))
+    filled_words _ _ _ _ _ _ _ _ _ _ (filling_over l.invariant.2 _ _ line.words (rw c.in_default.is at filled))
 
 pub overflow_add-i : goal.overflow_add-i
 overflow_add-i c =

@@ -4,7 +4,7 @@ use native.Mathlib.Omega.{arith}
 use Rattle.knuth_plass.specs.Cited.Table.{table_in}
 use Rattle.knuth_plass.proofs.Table.{has_room, table_record}
 use Rattle.knuth_plass.proofs.Span.{columns_at}
-use Rattle.knuth_plass.proofs.Rounding.{room, again-fits, round-again, inside, round_last, round_short, stays, has-offer, made-fits, round-made}
+use Rattle.knuth_plass.proofs.Rounding.{room, again_fits, round_again, inside, round_last, round_short, stays, has_offer, made_fits, round_made}
 use Rattle.knuth_plass.proofs.interval.round.Goals as goal
 
 pub store_break-requires : goal.store_break-requires
@@ -14,7 +14,7 @@ store_break-requires c =
     let added = c.added_space-space.ensures in
     let passed = c.pass-head.ensures in
     let begins = rw c.turn_of-turn.ensures.0 at c.again-b.ensures in
-    (has_room a.breaks.now a.s.size (room a.g a.last a.sentence a.i a.gap a.word a.s (table_in a.breaks.now) p.1 p.2 p.3 p.4 _ added.most added.is _ refl _ passed), again-fits a.g a.last a.sentence a.i a.gap a.word a.s (table_in a.breaks.now) p.1 p.2 p.3 p.4 _ added.most added.is _ refl _ passed c.if-head-size.true _ _ begins)
+    (has_room a.breaks.now a.s.size (room a.g a.last a.sentence a.i a.gap a.word a.s (table_in a.breaks.now) p.1 p.2 p.3 p.4 _ added.most added.is _ refl _ passed), again_fits a.g a.last a.sentence a.i a.gap a.word a.s (table_in a.breaks.now) p.1 p.2 p.3 p.4 _ added.most added.is _ refl _ passed c.if-head-size.true _ _ begins)
 
 pub returns-then-head-size : goal.returns-then-head-size
 returns-then-head-size c =
@@ -24,7 +24,7 @@ returns-then-head-size c =
     let passed = c.pass-head.ensures in
     let begins = rw c.turn_of-turn.ensures.0 at c.again-b.ensures in
     let stored = ap table_in c.store_break.ensures ∙ table_record a.breaks.now a.s.size _ (room a.g a.last a.sentence a.i a.gap a.word a.s (table_in a.breaks.now) p.1 p.2 p.3 p.4 _ added.most added.is _ refl _ passed) in
-    round-again a.g a.last a.sentence a.i a.gap a.word a.s (table_in a.breaks.now) p.1 p.2 p.3 p.4 _ added.most added.is _ refl _ passed c.if-head-size.true _ _ begins _ stored
+    round_again a.g a.last a.sentence a.i a.gap a.word a.s (table_in a.breaks.now) p.1 p.2 p.3 p.4 _ added.most added.is _ refl _ passed c.if-head-size.true _ _ begins _ stored
 
 pub returns-then-last : goal.returns-then-last
 returns-then-last c =
@@ -79,7 +79,7 @@ made-b-requires c =
     let e = columns_at a.breaks.now c.pass-head.result (omega arith) in
     let n = c.number.ensures.0 in
     let h = c.if-line-g.false in
-    (offered.fits (has-offer a.g a.last a.sentence a.i a.gap a.word a.s (table_in a.breaks.now) p.1 p.2 p.3 p.4 _ added.most added.is _ refl _ passed c.if-head-size.false p.0 c.if-last.false _ (rw turn.0 at turn.1) (omega arith) _ offered)).ratio
+    (offered.fits (has_offer a.g a.last a.sentence a.i a.gap a.word a.s (table_in a.breaks.now) p.1 p.2 p.3 p.4 _ added.most added.is _ refl _ passed c.if-head-size.false p.0 c.if-last.false _ (rw turn.0 at turn.1) (omega arith) _ offered)).ratio
 
 pub store_break-requires-2 : goal.store_break-requires-2
 store_break-requires-2 c =
@@ -94,7 +94,7 @@ store_break-requires-2 c =
     let e = columns_at a.breaks.now c.pass-head.result (omega arith) in
     let n = c.number.ensures.0 in
     let h = c.if-line-g.false in
-    (has_room a.breaks.now a.s.size room, made-fits a.g a.last a.sentence a.i a.gap a.word a.s (table_in a.breaks.now) p.1 p.2 p.3 p.4 _ added.most added.is _ refl _ passed c.if-head-size.false p.0 c.if-last.false _ (rw turn.0 at turn.1) (omega arith) _ offered _ c.made-b.ensures)
+    (has_room a.breaks.now a.s.size room, made_fits a.g a.last a.sentence a.i a.gap a.word a.s (table_in a.breaks.now) p.1 p.2 p.3 p.4 _ added.most added.is _ refl _ passed c.if-head-size.false p.0 c.if-last.false _ (rw turn.0 at turn.1) (omega arith) _ offered _ c.made-b.ensures)
 
 pub returns : goal.returns
 returns c =
@@ -110,4 +110,4 @@ returns c =
     let n = c.number.ensures.0 in
     let h = c.if-line-g.false in
     let stored = ap table_in c.store_break-2.ensures ∙ table_record a.breaks.now a.s.size _ room in
-    round-made a.g a.last a.sentence a.i a.gap a.word a.s (table_in a.breaks.now) p.1 p.2 p.3 p.4 _ added.most added.is _ refl _ passed c.if-head-size.false p.0 c.if-last.false _ (rw turn.0 at turn.1) (omega arith) _ offered _ c.made-b.ensures _ stored
+    round_made a.g a.last a.sentence a.i a.gap a.word a.s (table_in a.breaks.now) p.1 p.2 p.3 p.4 _ added.most added.is _ refl _ passed c.if-head-size.false p.0 c.if-last.false _ (rw turn.0 at turn.1) (omega arith) _ offered _ c.made-b.ensures _ stored

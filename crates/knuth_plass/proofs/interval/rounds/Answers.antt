@@ -6,7 +6,7 @@ use lib.Ieee.{of_bits}
 use Rattle.knuth_plass.specs.Cited.Table.{records_part, table_in}
 use Rattle.knuth_plass.proofs.Table.{table_record}
 use Rattle.knuth_plass.proofs.Work.{part_room, part_sized, part_home, worked_home, worked_none, worked_then, worked_lent, worked_word}
-use Rattle.knuth_plass.proofs.Intervals.{between, along-start, along_next, line_room_law, gap_same, regular_then, intervals_are, intervals_then}
+use Rattle.knuth_plass.proofs.Intervals.{between, along_start, along_next, line_room_law, gap_same, regular_then, intervals_are, intervals_then}
 use Rattle.knuth_plass.proofs.Skipping.{mark_here, mark_behind, along_second, sentence_same, behind_skipped}
 use Rattle.knuth_plass.proofs.interval.rounds.Goals as goal
 
@@ -25,7 +25,7 @@ loop-i-init c =
       worked_lent a.n a.work.now _ worked p.2,
       worked_none a.n _,
       along_second a.g a.n _ _ _
-          (along-start a.g a.n _ p.0 (regular_then a.n a.work.now _ worked a.g p.4) p.1 0 refl (table_in (records_part a.n a.work.now)) (part_sized a.n a.work.now p.2) (rw room (omega arith)) _ _
+          (along_start a.g a.n _ p.0 (regular_then a.n a.work.now _ worked a.g p.4) p.1 0 refl (table_in (records_part a.n a.work.now)) (part_sized a.n a.work.now p.2) (rw room (omega arith)) _ _
           (c.get-w.ensures.is ∙ sym (worked_word a.n a.work.now _ worked 0 p.1)) stored),
     )
 

@@ -4,7 +4,7 @@ use Prim.Native.Nat.{◌<◌}
 use Rattle.knuth_plass.specs.Cited.Table.{table_in, active_in}
 use Rattle.knuth_plass.specs.Cited.Round.{line_at, lessened}
 use Rattle.knuth_plass.proofs.Table.{table_kept, active_kept}
-use Rattle.knuth_plass.proofs.Step.{room, kept_room, sound, keep_room, fit-drops, goes-drops, keeps, offers, short_fits, short_offers}
+use Rattle.knuth_plass.proofs.Step.{room, kept_room, sound, keep_room, fit_drops, goes_drops, keeps, offers, short_fits, short_offers}
 use Rattle.knuth_plass.proofs.listed.visit.Goals as goal
 
 pub get_break-requires : goal.get_break-requires
@@ -44,8 +44,8 @@ returns-then-g-t c =
     let is = c.lessened-b.ensures ∙ ap (lessened a.st.reduction) c.get_break.ensures in
     let long : a.g.width < line_at a.g a.turn c.lessened-b.result = rw (← c.reach-t.ensures.0) c.if-g-t.true in
     rw c.noted-seen.ensures (
-      fit-drops a.g a.turn a.st a.k (table_in a.breaks.now) (active_in a.breaks.now) a.s p.1 p.2 p.3 _ c.active-n.ensures _ is long,
-      goes-drops a.g a.turn a.st a.k (table_in a.breaks.now) (active_in a.breaks.now) a.s p.1 p.2 p.3 _ c.active-n.ensures _ is long,
+      fit_drops a.g a.turn a.st a.k (table_in a.breaks.now) (active_in a.breaks.now) a.s p.1 p.2 p.3 _ c.active-n.ensures _ is long,
+      goes_drops a.g a.turn a.st a.k (table_in a.breaks.now) (active_in a.breaks.now) a.s p.1 p.2 p.3 _ c.active-n.ensures _ is long,
     )
 
 pub offered-better-requires : goal.offered-better-requires
