@@ -2,7 +2,7 @@
 -- nothing assumed. `rows_of`, `folded` and `fold` stand in specs/Fold.antt, `fits`, `marked` and `unadded` in specs/Theorems/Rows.antt.
 use mathlib.Core.Path.{◌≡◌, refl, sym, ap, ap₂, ◌∙◌}
 use mathlib.Core.Bool.{Bool, true, false, cond, ◌&&◌, ◌||◌, false≢true, and-eq-true_iff}
-use mathlib.Core.List.{List, [], ◌∷◌, ◌++◌, map, map_append}
+use mathlib.Core.List.{List, [], ◌∷◌, ◌++◌, map, map-append}
 use Prim.Native.Nat.{ℕ, suc, ◌+◌, ◌-◌, ◌*◌, ◌/◌, ◌%◌, ◌^◌, ◌≤◌, ◌<◌}
 use native.Mathlib.Omega.{arith}
 use lib.Dec.{ltb, leb, eqb}
@@ -155,7 +155,7 @@ fed_marked r = added_feed ∷ map kept (row_bytes r)
 fed_bytes : (rows : List (List Glyph)) → map (λ (m : Marked). m.byte) (joined fed_marked rows) ≡ joined fed rows
 unfolding joined fed
 fed_bytes [] = refl
-fed_bytes (r ∷ rows) = map_append (λ (m : Marked). m.byte) (fed_marked r) (joined fed_marked rows) ∙ ap₂ (λ (a b : List ℕ). feed ∷ a ++ b) (map_kept (row_bytes r)) (fed_bytes rows)
+fed_bytes (r ∷ rows) = map-append (λ (m : Marked). m.byte) (fed_marked r) (joined fed_marked rows) ∙ ap₂ (λ (a b : List ℕ). feed ∷ a ++ b) (map_kept (row_bytes r)) (fed_bytes rows)
 
 fed_unadded : (rows : List (List Glyph)) → unadded (joined fed_marked rows) ≡ joined row_bytes rows
 unfolding joined unadded
@@ -196,7 +196,7 @@ module _ (tab columns : ℕ) where
   unfolding marked_rows in_rows
   bytes_rows [] = refl
   bytes_rows (row ∷ rows) =
-      map_append (λ (m : Marked). m.byte) (map kept (row_bytes row)) (joined fed_marked rows)
+      map-append (λ (m : Marked). m.byte) (map kept (row_bytes row)) (joined fed_marked rows)
       ∙ ap₂ (λ (a b : List ℕ). a ++ b) (map_kept (row_bytes row)) (fed_bytes rows)
 
   unadded_rows : (rows : List (List Glyph)) → unadded (marked_rows rows) ≡ joined row_bytes rows
@@ -214,12 +214,12 @@ module _ (tab columns : ℕ) where
     where
       line : (l : Line) → map (λ (m : Marked). m.byte) (marked_line tab columns l) ≡ folded_line tab columns l
       line l =
-          map_append (λ (m : Marked). m.byte) (marked_rows (rows_of tab columns (characters l.text))) (map kept (end_of l))
+          map-append (λ (m : Marked). m.byte) (marked_rows (rows_of tab columns (characters l.text))) (map kept (end_of l))
           ∙ ap₂ (λ (a b : List ℕ). a ++ b) (bytes_rows (rows_of tab columns (characters l.text))) (map_kept (end_of l))
 
       go : (ls : List Line) → map (λ (m : Marked). m.byte) (joined (marked_line tab columns) ls) ≡ joined (folded_line tab columns) ls
       go [] = refl
-      go (l ∷ ls) = map_append (λ (m : Marked). m.byte) (marked_line tab columns l) (joined (marked_line tab columns) ls) ∙ ap₂ (λ (a b : List ℕ). a ++ b) (line l) (go ls)
+      go (l ∷ ls) = map-append (λ (m : Marked). m.byte) (marked_line tab columns l) (joined (marked_line tab columns) ls) ∙ ap₂ (λ (a b : List ℕ). a ++ b) (line l) (go ls)
 
   -- a line of a text is its text and its line end
   ends : (text : List ℕ) → All (λ (l : Line). l.text ++ end_of l ≡ l.raw) (lines_of text)
