@@ -29,12 +29,12 @@ fn abs(x: f32) -> f32
     ensures { result ≡ S.abs x }
 {
     if x < 0.0 {
-        return -x;
+        -x
+    } else if x == 0.0 {
+        0.0
+    } else {
+        x
     }
-    if x == 0.0 {
-        return 0.0;
-    }
-    x
 }
 
 // How many of an f32's 24 digits stand after the point. A value below 1 has no whole part: all of them do.
@@ -42,10 +42,7 @@ fn places(exponent: u32) -> u32
     requires { exponent ≤ 150 }
     ensures { result ≡ B.places exponent }
 {
-    if exponent < 127 {
-        return 24;
-    }
-    150 - exponent
+    if exponent < 127 { 24 } else { 150 - exponent }
 }
 
 // The whole part of x, from its own bits: the exponent, and 23 digits after a first one that is not written.
@@ -73,9 +70,10 @@ fn apart(goal: usize, t: usize) -> f32
     ensures { result ≡ B.apart goal t }
 {
     if t < goal {
-        return float(goal - t);
+        float(goal - t)
+    } else {
+        -float(t - goal)
     }
-    -float(t - goal)
 }
 
 // How far a line of t columns is from the goal, as a part of the stretch: above 0 where it is short, below 0 where it is long.
@@ -99,15 +97,6 @@ pub fn line_term(r: f32) -> u16
     term(LINE_WEIGHT, r)
 }
 
-fn less(a: usize, b: usize) -> usize
-    ensures { result ≡ a - b }
-{
-    if a < b {
-        return 0;
-    }
-    a - b
-}
-
 // W, for the width of the line's last word. W is 0 for a word as wide as the stretch or wider, and for every word where the stretch is 1, so that nothing is divided by 0.
 // In the original: `compute_demerits`.
 pub fn word_term(stretch: usize, word: usize) -> u16
@@ -117,7 +106,10 @@ pub fn word_term(stretch: usize, word: usize) -> u16
     if stretch <= 1 {
         return 0;
     }
-    term(WORD_WEIGHT, float(less(stretch, word)) / float(stretch - 1))
+    term(
+        WORD_WEIGHT,
+        float(stretch.saturating_sub(word)) / float(stretch - 1),
+    )
 }
 
 // D, for the line's ratio r and that of the line before.
@@ -136,6 +128,6 @@ pub fn cost(r: f32, old: f32, weight: u16) -> u64
     ensures { (result ≡ S.cost_with r old weight) × (result ≤ B.most_cost) }
 {
     let sum = 1 + line_term(r) + weight + ratio_term(r, old);
-    let wide = sum as u64;
+    let wide = u64::from(sum);
     wide * wide
 }

@@ -1,9 +1,7 @@
 -- RULES 4.6 to 4.8: the classes of lines, prefixes and indents.
-use Rattle.std.specs.Prelude.{Bool, true, false, cond, not, ◌&&◌, ◌||◌, List, [], ◌∷◌, ◌++◌, ℕ, ◌+◌, ◌-◌, ◌*◌, ◌/◌, eqb, length, drop}
+use Rattle.std.specs.Prelude.{Bool, true, false, cond, not, ◌&&◌, ◌||◌, List, [], ◌∷◌, ◌++◌, ℕ, ◌+◌, ◌-◌, ◌*◌, ◌/◌, eqb, length, drop, Option, Some, None}
 use Rattle.lists.specs.Runs.{while, every, begins}
 use Rattle.text.specs.Characters.{Glyph, glyphs, is_blank, is_good, is_tab, extent}
-use Rattle.text.specs.declared.Found.{Found}
-use Rattle.text.specs.declared.Found.TheVariants.{At, Nowhere}
 use Rattle.options.specs.Opts.{Opts, Text, absent, given}
 use Rattle.lines.specs.declared.Shape.{Shape}
 use Rattle.lines.specs.declared.Class.{Class}
@@ -34,20 +32,20 @@ columns_of tab column (g ∷ gs) = columns_of tab (column_behind tab column g) g
 
 -- A prefix is found at the line's start or, unless exact, at the first place with only blanks before it. xs is the line from the
 -- place on, and the glyphs are its own.
-unfoldable pub search : Bool → List ℕ → List ℕ → ℕ → List Glyph → Found
-search exact p xs place [] = cond (begins p xs) (At place) Nowhere
+unfoldable pub search : Bool → List ℕ → List ℕ → ℕ → List Glyph → Option ℕ
+search exact p xs place [] = cond (begins p xs) (Some place) None
 search exact p xs place (g ∷ gs) =
     elim (begins p xs) [
-      | true ↦ At place
+      | true ↦ Some place
       | false ↦ elim (g.blank && not exact) [
         | true ↦ search exact p (drop (length g.bytes) xs) (place + length g.bytes) gs
-        | false ↦ Nowhere
+        | false ↦ None
       ]
     ]
 
 -- the prefix's place, if it is found; without a prefix, place and length are 0
-abbrev pub prefix_found : Bool → Text → List ℕ → List Glyph → Found
-prefix_found exact absent line gs = At 0
+abbrev pub prefix_found : Bool → Text → List ℕ → List Glyph → Option ℕ
+prefix_found exact absent line gs = Some 0
 prefix_found exact (given p) line gs = search exact p line 0 gs
 
 abbrev pub prefix_size : Text → ℕ
@@ -55,13 +53,13 @@ prefix_size absent = 0
 prefix_size (given p) = length p
 
 -- a skip prefix that is not given is found in no line
-abbrev pub skip_found : Bool → Text → List ℕ → List Glyph → Found
-skip_found exact absent line gs = Nowhere
+abbrev pub skip_found : Bool → Text → List ℕ → List Glyph → Option ℕ
+skip_found exact absent line gs = None
 skip_found exact (given p) line gs = search exact p line 0 gs
 
-abbrev pub somewhere : Found → Bool
-somewhere (At place) = true
-somewhere Nowhere = false
+abbrev pub somewhere : Option ℕ → Bool
+somewhere (Some place) = true
+somewhere None = false
 
 -- A formatted line with a prefix of so many bytes at a place: the indent ends at the first non-blank at or after the prefix's end.
 -- Prefix place and indent end are places, in bytes; indent length and prefix length are columns.
@@ -78,9 +76,9 @@ shape_at tab size gs place =
     }
 
 -- prefix not found, only blanks after the prefix, or skip prefix found: plain; else formatted
-abbrev pub class_behind : Opts → List ℕ → List Glyph → Found → Class
-class_behind o line gs Nowhere = Plain
-class_behind o line gs (At place) =
+abbrev pub class_behind : Opts → List ℕ → List Glyph → Option ℕ → Class
+class_behind o line gs None = Plain
+class_behind o line gs (Some place) =
     cond (every is_blank (glyphs_from (place + prefix_size o.prefix) gs) || somewhere (skip_found o.exact_skip o.skip line gs)) Plain
     (Formatted (shape_at o.tab (prefix_size o.prefix) gs place))
 

@@ -8,14 +8,13 @@ ghost use Rattle.text.specs.Characters.{glyphs, is_blank, is_good, damage};
 ghost use Rattle.options.specs.Opts.{text_of, meant};
 ghost use Rattle.lines.specs.Lines.{body, without_return, first_line};
 ghost use Rattle.lines.specs.Classes.{next_stop, search, skip_found, somewhere, classify};
-ghost use Rattle.text.specs.declared.Found.TheVariants.{Nowhere};
 ghost use Rattle.lines.specs.Cited.Places.{lengths_of, classed_of, most_large, most_columns, body_end, AsciiBody, Repeats, BehindTabs, Lies, Usable, Inside, line_start, behind_all, class_at, Behind, BehindBlanks, BehindPlace, ink_before, glyphs_behind, glued_at};
 
 use options::{Options, Part};
-use text::{Char, Found, Glyph};
+use text::{Char, Glyph};
 
 // How long a line is: its text, and the whole with its line end.
-#[derive(Clone, Copy)]
+#[derive(Clone, Copy, Debug, PartialEq, Eq)]
 pub struct Extent {
     pub text: usize,
     pub whole: usize,
@@ -23,7 +22,7 @@ pub struct Extent {
 
 // Of a formatted line: the place of its prefix, the end of its indent (both in bytes), the indent's columns, and the columns up to
 // the prefix's end.
-#[derive(Clone, Copy)]
+#[derive(Clone, Copy, Debug, PartialEq, Eq)]
 pub struct Shape {
     pub prefix_place: usize,
     pub indent_end: usize,
@@ -31,7 +30,7 @@ pub struct Shape {
     pub prefix_length: usize,
 }
 
-#[derive(Clone, Copy)]
+#[derive(Clone, Copy, Debug, PartialEq, Eq)]
 pub enum Class {
     Blank,
     Plain,
@@ -39,14 +38,14 @@ pub enum Class {
 }
 
 // A line by its lengths, with its class.
-#[derive(Clone, Copy)]
+#[derive(Clone, Copy, Debug, PartialEq, Eq)]
 pub struct ClassedExtent {
     pub extent: Extent,
     pub class: Class,
 }
 
 // A place of a line, and the column that it is at.
-#[derive(Clone, Copy)]
+#[derive(Clone, Copy, Debug, PartialEq, Eq)]
 struct Spot {
     at: usize,
     column: usize,
@@ -64,7 +63,7 @@ pub fn first_line(s: &[u8]) -> Extent
 // sees as well whether the line is ASCII, as most are, and then it is so too.
 // In the original: `FileLines::next`.
 pub fn first_classed(s: &[u8], o: Options, block: &[u8], sound: bool) -> ClassedExtent
-    requires { Usable block.now o × (length s.now ≤ most_large) × (sound ≡ true → damage (first_line s.now).text ≡ Nowhere) }
+    requires { Usable block.now o × (length s.now ≤ most_large) × (sound ≡ true → damage (first_line s.now).text ≡ None) }
     ensures { result ≡ classed_of (meant block.now o) (first_line s.now) }
 {
     // Nothing need be looked at in an empty line, as stands between most paragraphs.
@@ -88,10 +87,7 @@ pub fn first_classed(s: &[u8], o: Options, block: &[u8], sound: bool) -> Classed
 fn is_empty(s: &[u8]) -> bool
     ensures { result ≡ true → (0 < length s.now) × (get_or s.now 0 0 ≡ 10) }
 {
-    if s.len() == 0 {
-        return false;
-    }
-    s[0] == 10
+    s.first() == Some(&10)
 }
 
 // The first line, from the end of its body.
@@ -134,10 +130,7 @@ fn ends_body(s: &[u8], at: usize) -> bool
     requires { at ≤ length s.now }
     ensures { (result ≡ true → body_end s.now at ≡ at) × (result ≡ false → (at < length s.now) × (body_end s.now at ≡ body_end s.now (at + 1))) }
 {
-    if at == s.len() {
-        return true;
-    }
-    s[at] == 10
+    at == s.len() || s[at] == 10
 }
 
 // On over bytes that are no line feed, as long as the next eight are none: eight tests without a branch between them are as quick as
@@ -214,11 +207,8 @@ fn are_ascii(s: &[u8], i: usize) -> bool
     ensures { result ≡ true → AsciiBody s.now i (i + 16) }
 {
     let mut all = true;
-    let mut k = 0;
-    while k < 16 {
-        let at = i + k;
-        all = all & (s[at] < 0x80) & (s[at] != 10);
-        k += 1;
+    for k in 0..16 {
+        all &= (s[i + k] < 0x80) & (s[i + k] != 10);
     }
     all
 }
@@ -243,11 +233,10 @@ fn ascii_eights(s: &[u8], from: usize) -> usize
 fn without_return(body: &[u8]) -> usize
     ensures { result ≡ length (without_return body.now) }
 {
-    if body.len() == 0 {
-        return 0;
+    match body.split_last() {
+        Some((13, before)) => before.len(),
+        _ => body.len(),
     }
-    let last = body.len() - 1;
-    if body[last] == 13 { last } else { body.len() }
 }
 
 // Whether p is at the front of s. Its last byte is tried first: among blanks that alone tells most places.
@@ -265,12 +254,10 @@ pub fn begins(p: &[u8], s: &[u8]) -> bool
     if s[last] != p[last] {
         return false;
     }
-    let mut i = same_eights(p, s);
-    while i < p.len() {
+    for i in same_eights(p, s)..p.len() {
         if s[i] != p[i] {
             return false;
         }
-        i += 1;
     }
     true
 }
@@ -317,7 +304,7 @@ fn are_same(p: &[u8], s: &[u8], i: usize) -> bool
 // with only blanks after it.
 // In the original: `FileLines::next`.
 fn classify(line: &[u8], sound: bool, o: Options, block: &[u8]) -> Class
-    requires { Usable block.now o × (length line.now ≤ most_large) × (sound ≡ true → damage line.now ≡ Nowhere) }
+    requires { Usable block.now o × (length line.now ≤ most_large) × (sound ≡ true → damage line.now ≡ None) }
     ensures { result ≡ classify (meant block.now o) line.now }
 {
     let tab = o.tab;
@@ -330,13 +317,11 @@ fn classify(line: &[u8], sound: bool, o: Options, block: &[u8]) -> Class
     if is_damaged(line, sound) {
         return Class::Plain;
     }
-    let skip = o.skip;
-    if is_skipped(line, from, skip, o.exact_skip, block) {
+    if is_skipped(line, from, o.skip, o.exact_skip, block) {
         return Class::Plain;
     }
-    let prefix = o.prefix;
     // Without a prefix the indent is the line's first blanks.
-    let Part::Given { start, end } = prefix else {
+    let Some(Part { start, end }) = o.prefix else {
         let lead = lead_of(line, from, tab);
         return Class::Formatted(Shape {
             prefix_place: 0,
@@ -357,13 +342,13 @@ fn is_all_blank(line: &[u8], from: usize) -> bool
     while i < line.len() {
         let b = line[i];
         if b < 0x80 {
-            if widths::is_white_space(text::wide(b)) {
+            if widths::is_white_space(u32::from(b)) {
                 i = blank_eights(line, i + 1);
             } else {
                 return false;
             }
         } else {
-            let Glyph::Blank { code: _, next } = text::glyph_at(line, i) else {
+            let Glyph::Blank { next, .. } = text::glyph_at(line, i) else {
                 return false;
             };
             i = next;
@@ -412,16 +397,13 @@ fn are_blank(s: &[u8], i: usize) -> bool
 
 // Whether a character of a line is damaged. A line that is known to be sound has none, and is not read again.
 fn is_damaged(line: &[u8], sound: bool) -> bool
-    requires { sound ≡ true → damage line.now ≡ Nowhere }
+    requires { sound ≡ true → damage line.now ≡ None }
     ensures { (glue : Bool) → result ≡ not (every is_good (glyphs glue line.now)) }
 {
     if sound {
         return false;
     }
-    match text::first_damage(line) {
-        Found::At(_) => true,
-        Found::Nowhere => false,
-    }
+    text::first_damage(line).is_some()
 }
 
 // The class of a line by its prefix, which must be there with more than blanks after it.
@@ -430,7 +412,7 @@ fn behind_prefix(line: &[u8], from: usize, p: &[u8], exact: bool, tab: usize, gl
     requires { Repeats 32 line.now 0 from × (length line.now ≤ most_large) × (1 ≤ tab) × (tab ≤ 100) }
     ensures { result ≡ class_at tab (length p.now) (glyphs glue line.now) (search exact p.now line.now 0 (glyphs glue line.now)) }
 {
-    let Found::At(place) = find(line, from, p, exact) else {
+    let Some(place) = find(line, from, p, exact) else {
         return Class::Plain;
     };
     let end = place + p.len();
@@ -450,28 +432,25 @@ fn behind_prefix(line: &[u8], from: usize, p: &[u8], exact: bool, tab: usize, gl
 
 // Whether a line begins with the skip prefix. One that is not given begins no line.
 // In the original: `FileLines::match_anti_prefix`.
-fn is_skipped(line: &[u8], from: usize, skip: Part, exact: bool, block: &[u8]) -> bool
+fn is_skipped(line: &[u8], from: usize, skip: Option<Part>, exact: bool, block: &[u8]) -> bool
     requires { Repeats 32 line.now 0 from × Lies block.now skip }
     ensures { (glue : Bool) → result ≡ somewhere (skip_found exact (text_of block.now skip) line.now (glyphs glue line.now)) }
 {
-    let Part::Given { start, end } = skip else {
+    let Some(Part { start, end }) = skip else {
         return false;
     };
-    match find(line, from, &block[start..end], exact) {
-        Found::At(_) => true,
-        Found::Nowhere => false,
-    }
+    find(line, from, &block[start..end], exact).is_some()
 }
 
 // Where a prefix stands in a line whose first spaces end at a place: at the line's start or, unless exact, at the first place with only
 // blanks before it. The first byte after the spaces tells of most lines that it is nowhere.
 // In the original: `FileLines::match_prefix_generic`.
-fn find(line: &[u8], from: usize, p: &[u8], exact: bool) -> Found
+fn find(line: &[u8], from: usize, p: &[u8], exact: bool) -> Option<usize>
     requires { Repeats 32 line.now 0 from }
     ensures { (glue : Bool) → result ≡ search exact p.now line.now 0 (glyphs glue line.now) }
 {
     if begins_otherwise(line, from, p) {
-        return Found::Nowhere;
+        return None;
     }
     look_for(line, p, exact)
 }
@@ -479,7 +458,7 @@ fn find(line: &[u8], from: usize, p: &[u8], exact: bool) -> Found
 // Whether the first byte after a line's first spaces shows that a prefix is nowhere: it is ink, and neither it nor a space begins the prefix.
 fn begins_otherwise(line: &[u8], from: usize, p: &[u8]) -> bool
     requires { Repeats 32 line.now 0 from }
-    ensures { result ≡ true → (exact glue : Bool) → search exact p.now line.now 0 (glyphs glue line.now) ≡ Nowhere }
+    ensures { result ≡ true → (exact glue : Bool) → search exact p.now line.now 0 (glyphs glue line.now) ≡ None }
 {
     if p.len() == 0 {
         return false;
@@ -494,30 +473,29 @@ fn begins_otherwise(line: &[u8], from: usize, p: &[u8]) -> bool
 fn is_plain(line: &[u8], at: usize) -> bool
     ensures { result ≡ true → (at < length line.now) × (33 ≤ get_or line.now at 0) × (get_or line.now at 0 < 128) }
 {
-    if line.len() <= at {
-        return false;
+    match line.get(at) {
+        Some(b) => (33 <= *b) & (*b < 128),
+        None => false,
     }
-    let b = line[at];
-    (33 <= b) & (b < 128)
 }
 
 // The same, place by place.
 // In the original: `FileLines::match_prefix_generic`.
-fn look_for(line: &[u8], p: &[u8], exact: bool) -> Found
+fn look_for(line: &[u8], p: &[u8], exact: bool) -> Option<usize>
     ensures { (glue : Bool) → result ≡ search exact p.now line.now 0 (glyphs glue line.now) }
 {
     let mut i = 0;
     while !begins(p, &line[i..]) {
         if exact {
-            return Found::Nowhere;
+            return None;
         }
         // Nothing but blanks may stand before it; at the line's end none does.
-        let Glyph::Blank { code: _, next } = text::glyph_at(line, i) else {
-            return Found::Nowhere;
+        let Glyph::Blank { next, .. } = text::glyph_at(line, i) else {
+            return None;
         };
         i = next;
     }
-    Found::At(i)
+    Some(i)
 }
 
 // On from the margin, which ends where the prefix does, over the blanks that stand there.
@@ -561,11 +539,11 @@ fn has_ink_before(line: &[u8], place: usize) -> bool
             i += 2;
         } else {
             match text::glyph_at(line, i) {
-                Glyph::Ink { code: _, next } => {
+                Glyph::Ink { next, .. } => {
                     i = next;
                     ink = true;
                 }
-                Glyph::Blank { code: _, next } => {
+                Glyph::Blank { next, .. } => {
                     i = next;
                     ink = false;
                 }
@@ -621,9 +599,10 @@ fn behind_tabs(line: &[u8], code: u32, next: usize) -> usize
     ensures { BehindTabs line.now code next result }
 {
     if code == 9 {
-        return run_end(line, 9, next);
+        run_end(line, 9, next)
+    } else {
+        next
     }
-    next
 }
 
 // The end of a byte that is at a place again and again.
@@ -631,14 +610,12 @@ fn run_end(line: &[u8], byte: u8, from: usize) -> usize
     requires { from ≤ length line.now }
     ensures { Repeats byte line.now from result }
 {
-    let mut i = from;
-    while i < line.len() {
+    for i in from..line.len() {
         if line[i] != byte {
             return i;
         }
-        i += 1;
     }
-    i
+    line.len()
 }
 
 // The spot after the characters that begin before a place.
@@ -666,10 +643,10 @@ fn behind(line: &[u8], spot: Spot, tab: usize) -> Spot
     if b < 0x80 {
         return Spot {
             at: at + 1,
-            column: column_behind(spot.column, text::wide(b), tab),
+            column: column_behind(spot.column, u32::from(b), tab),
         };
     }
-    let Char::Good { code, next } = text::decode_at(line, at) else {
+    let Some(Char { code, next }) = text::decode_at(line, at) else {
         return Spot {
             at: at + 1,
             column: spot.column + 1,

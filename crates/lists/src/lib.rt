@@ -1,22 +1,33 @@
-// Lists worked off from the front, leading runs and tables: definitions and laws that the crates above share; and what their functions share.
+// What the crates above share: an answer's number; definitions and laws of lists worked off from the front, leading runs and tables.
 #![tactic(auto)]
 
-ghost use Rattle.std.specs.Prelude.{◌≡◌, ◌^◌, ◌<◌, min};
+ghost use Rattle.std.specs.Prelude.{◌≡◌, ℕ, ◌+◌, ◌*◌, ◌^◌, ◌<◌};
+ghost use Rattle.lists.specs.Coded.{Coded, coded, numbered, result_coded};
 
-// How much of a text fits; and where a part of the output begins: at the written end or, where that lies past the output, at the output's
-// end, so that the part is empty.
-pub fn lesser(a: usize, b: usize) -> usize
-    ensures { result ≡ min a b }
+// An answer's number: its code is in the upper 32 bits, what it tells in the lower.
+pub fn number(code: u64, told: usize) -> u64
+    requires { code * 2 ^ 32 + told < 2 ^ 64 }
+    ensures { result ≡ numbered (coded code told) }
 {
-    if a < b {
-        return a;
-    }
-    b
+    code * 0x1_0000_0000 + told as u64
 }
 
-// A cast that needs no proof where it is used.
-pub fn wide(x: u32) -> usize
-    ensures { (result ≡ x) × (result < 2 ^ 32) }
+// Why a call is refused: each reason has a code and an N.
+pub trait Refusing {
+    ghost coded: { Self → Coded };
+
+    fn number(self) -> u64
+        requires { numbered (coded self) < 2 ^ 64 }
+        ensures { result ≡ numbered (coded self) };
+}
+
+// The number of an answer that is a length or why there is none.
+pub fn number_of<E: Refusing>(answer: Result<usize, E>) -> u64
+    requires { numbered (result_coded E.coded answer) < 2 ^ 64 }
+    ensures { result ≡ numbered (result_coded E.coded answer) }
 {
-    x as usize
+    match answer {
+        Ok(n) => n as u64,
+        Err(e) => e.number(),
+    }
 }

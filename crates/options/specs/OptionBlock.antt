@@ -1,17 +1,13 @@
 -- RULES 3: tagged fields, each a one-byte tag, a two-byte length and a value; the faults; width and goal.
--- A value that is given is kept as the places in the block between which it stands, `Given start end`: so the code hands it on. A number
+-- A value that is given is kept as the places in the block between which it stands, a `Part`: so the code hands it on. A number
 -- is read there by `number (drop start block)`, and a prefix's bytes by `meant` in Opts, whose options all later sections read.
-use Rattle.std.specs.Prelude.{Bool, true, false, cond, not, ◌&&◌, ◌||◌, List, [], ◌∷◌, ℕ, ◌+◌, ◌-◌, ◌*◌, ◌/◌, ◌%◌, ◌^◌, min, max, leb, ltb, eqb, length, get_or, take, drop}
+use Rattle.std.specs.Prelude.{Bool, true, false, cond, not, ◌&&◌, ◌||◌, List, [], ◌∷◌, ℕ, ◌+◌, ◌-◌, ◌*◌, ◌/◌, ◌%◌, ◌^◌, min, max, leb, ltb, eqb, length, get_or, take, drop, Option, Some, None, Ok, Err, Result}
 use Rattle.lists.specs.Walk.{Stride, walk}
 use Rattle.lists.specs.Runs.{every}
 use Rattle.text.specs.Characters.{characters, is_good}
-use Rattle.text.specs.declared.Found.{Found}
-use Rattle.text.specs.declared.Found.TheVariants.{At, Nowhere}
 use Rattle.options.specs.declared.Part.{Part}
-use Rattle.options.specs.declared.Part.TheVariants.{Absent, Given}
 use Rattle.options.specs.declared.Options.{Options}
-use Rattle.options.specs.declared.Block.{Block}
-use Rattle.options.specs.declared.Block.TheVariants.{Accepted, Fault}
+use Rattle.options.specs.declared.Fault.{Fault}
 
 -- numbers are two bytes, most significant byte first
 unfoldable pub number : List ℕ → ℕ
@@ -64,37 +60,40 @@ unfoldable pub well_formed : Field → Bool
 well_formed f = ltb f.previous (tag_of f) && leb (3 + size_of f) (length f.bytes) && allowed (tag_of f) (size_of f) (value_of f)
 
 -- the start of the first faulty field
-unfoldable pub first_fault : List Field → Found
-first_fault [] = Nowhere
-first_fault (f ∷ fs) = elim (well_formed f) [ true ↦ first_fault fs | false ↦ At f.place ]
+unfoldable pub first_fault : List Field → Option ℕ
+first_fault [] = None
+first_fault (f ∷ fs) = elim (well_formed f) [ true ↦ first_fault fs | false ↦ Some f.place ]
 
 -- the part of the block that is the value of a tag's field; a missing field means not given
-unfoldable pub part_of : ℕ → List Field → Part
-part_of tag [] = Absent
-part_of tag (f ∷ fs) = elim (eqb (tag_of f) tag) [ true ↦ Given (f.place + 3) (f.place + 3 + size_of f) | false ↦ part_of tag fs ]
+abbrev pub between : ℕ → ℕ → Option Part
+between start end = Some (record { start = start; end = end })
+
+unfoldable pub part_of : ℕ → List Field → Option Part
+part_of tag [] = None
+part_of tag (f ∷ fs) = elim (eqb (tag_of f) tag) [ true ↦ between (f.place + 3) (f.place + 3 + size_of f) | false ↦ part_of tag fs ]
 
 -- the number of a tag's field, or what stands for it where it is not given
-abbrev pub number_at : List ℕ → ℕ → Part → ℕ
-number_at block other Absent = other
-number_at block other (Given start end) = number (drop start block)
+abbrev pub number_at : List ℕ → ℕ → Option Part → ℕ
+number_at block other None = other
+number_at block other (Some part) = number (drop part.start block)
 
 -- width and goal, quotients rounded down
-abbrev pub width_from : List ℕ → Part → Part → ℕ
-width_from block Absent Absent = 79
-width_from block Absent (Given start end) = let g = number (drop start block) in max (g * 100 / 94) (g + 3)
-width_from block (Given start end) goal = number (drop start block)
+abbrev pub width_from : List ℕ → Option Part → Option Part → ℕ
+width_from block None None = 79
+width_from block None (Some goal) = let g = number (drop goal.start block) in max (g * 100 / 94) (g + 3)
+width_from block (Some width) goal = number (drop width.start block)
 
-abbrev pub goal_from : List ℕ → Part → Part → ℕ
-goal_from block Absent Absent = 74
-goal_from block (Given start end) Absent = let w = number (drop start block) in min (w * 94 / 100) (w - 3)
-goal_from block Absent (Given start end) = number (drop start block)
-goal_from block (Given s e) (Given start end) = number (drop start block)
+abbrev pub goal_from : List ℕ → Option Part → Option Part → ℕ
+goal_from block None None = 74
+goal_from block (Some width) None = let w = number (drop width.start block) in min (w * 94 / 100) (w - 3)
+goal_from block None (Some goal) = number (drop goal.start block)
+goal_from block (Some width) (Some goal) = number (drop goal.start block)
 
 -- the least width: width alone must be at least 6; else 1, which every width is
-abbrev pub least_width : Part → Part → ℕ
-least_width Absent goal = 1
-least_width (Given s e) Absent = 6
-least_width (Given s e) (Given start end) = 1
+abbrev pub least_width : Option Part → Option Part → ℕ
+least_width None goal = 1
+least_width (Some width) None = 6
+least_width (Some width) (Some goal) = 1
 
 -- the width and goal rule
 unfoldable pub fits : ℕ → ℕ → ℕ → Bool
@@ -129,12 +128,12 @@ options_of block fs =
     }
 
 -- a fault in a field goes before the width and goal rule
-abbrev pub judged : List ℕ → List Field → Found → Block
-judged block fs (At place) = Fault place
-judged block fs Nowhere =
+abbrev pub judged : List ℕ → List Field → Option ℕ → Result Options Fault
+judged block fs (Some place) = Err (record { at = place })
+judged block fs None =
     let o = options_of block fs in
-    cond (fits (least_width (part_of 2 fs) (part_of 3 fs)) o.width o.goal) (Accepted o) (Fault (length block))
+    cond (fits (least_width (part_of 2 fs) (part_of 3 fs)) o.width o.goal) (Ok o) (Err (record { at = length block }))
 
 -- the accepted options, or the fault's place: the first faulty field's start, or the block's length where the width and goal rule fails
-unfoldable pub read_block : List ℕ → Block
+unfoldable pub read_block : List ℕ → Result Options Fault
 read_block block = let fs = fields block in judged block fs (first_fault fs)

@@ -1,8 +1,7 @@
 -- What formatting is done with: the accepted options, the prefixes as bytes. All later sections read these.
-use Rattle.std.specs.Prelude.{Bool, List, ℕ}
+use Rattle.std.specs.Prelude.{Bool, List, ℕ, Option, Some, None}
 use Rattle.std.proofs.Math.Seq.{slice}
 use Rattle.options.specs.declared.Part.{Part}
-use Rattle.options.specs.declared.Part.TheVariants.{Absent, Given}
 use Rattle.options.specs.declared.Options.{Options}
 
 -- a prefix may be absent; present and empty differs from absent
@@ -30,9 +29,9 @@ pub record Opts : Type 0 where
   pub skip : Text
 
 -- the options as read (OptionBlock) hold the prefixes as places in the block; their bytes are what stands there
-abbrev pub text_of : List ℕ → Part → Text
-text_of block Absent = absent
-text_of block (Given start end) = given (slice start end block)
+abbrev pub text_of : List ℕ → Option Part → Text
+text_of block None = absent
+text_of block (Some part) = given (slice part.start part.end block)
 
 unfoldable pub meant : List ℕ → Options → Opts
 meant block o = record {

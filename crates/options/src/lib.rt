@@ -2,12 +2,8 @@
 #![tactic(auto)]
 
 ghost use Rattle.std.specs.Prelude.{◌≡◌, cond, not, ◌&&◌, ◌+◌, ◌-◌, ◌/◌, ◌%◌, ◌^◌, ◌≤◌, ◌<◌, min, max, eqb, length, get_or, drop};
-ghost use Rattle.text.specs.declared.Found.TheVariants.{Nowhere};
-ghost use Rattle.options.specs.OptionBlock.{number, fields, allowed, well_formed, number_at, width_from, goal_from, least_width, fits, bit, options_of, judged, read_block};
+ghost use Rattle.options.specs.OptionBlock.{between, number, fields, allowed, well_formed, number_at, width_from, goal_from, least_width, fits, bit, options_of, judged, read_block};
 ghost use Rattle.options.specs.Cited.Places.{field_at, PartsAre, number_text, prefix_text};
-ghost use Rattle.options.specs.declared.Part.TheVariants.{Given};
-
-use text::Found;
 
 // The tags of the fields.
 const FLAGS: usize = 1;
@@ -47,15 +43,15 @@ const CHARACTERS: usize = 1024;
 
 const ALL_FLAGS: usize = 2047;
 
-// A part of the block, from start up to end, or none.
-#[derive(Clone, Copy)]
-pub enum Part {
-    Absent,
-    Given { start: usize, end: usize },
+// A part of the block, from start up to end.
+#[derive(Clone, Copy, Debug, PartialEq, Eq)]
+pub struct Part {
+    pub start: usize,
+    pub end: usize,
 }
 
 // The options as accepted: flags after the clearing rules, width and goal settled, tab at least 1, the prefixes as parts of the block.
-#[derive(Clone, Copy)]
+#[derive(Clone, Copy, Debug, PartialEq, Eq)]
 pub struct Options {
     pub crown: bool,
     pub tagged: bool,
@@ -71,33 +67,33 @@ pub struct Options {
     pub width: usize,
     pub goal: usize,
     pub tab: usize,
-    pub prefix: Part,
-    pub skip: Part,
+    pub prefix: Option<Part>,
+    pub skip: Option<Part>,
 }
 
-#[derive(Clone, Copy)]
-pub enum Block {
-    Accepted(Options),
-    Fault(usize),
+// Why a block is refused: where its first faulty field begins, or its end where the width and goal rule fails.
+#[derive(Clone, Copy, Debug, PartialEq, Eq)]
+pub struct Fault {
+    pub at: usize,
 }
 
 // The accepted options, or the place of the first faulty field, or the block's length where the width and goal rule fails. Each field is
 // looked at once, and what it has is kept under its tag.
 // In the original: `uumain`.
-pub fn read_block(block: &[u8]) -> Block
+pub fn read_block(block: &[u8]) -> Result<Options, Fault>
     ensures { result ≡ read_block block.now }
 {
     let mut at = 0;
     let mut previous = 0;
-    let mut flags = Part::Absent;
-    let mut width = Part::Absent;
-    let mut goal = Part::Absent;
-    let mut tab = Part::Absent;
-    let mut prefix = Part::Absent;
-    let mut skip = Part::Absent;
+    let mut flags = None;
+    let mut width = None;
+    let mut goal = None;
+    let mut tab = None;
+    let mut prefix = None;
+    let mut skip = None;
     while at < block.len() {
         if !well_formed(block, at, previous) {
-            return Block::Fault(at);
+            return Err(Fault { at });
         }
         let tag = byte_at(block, at);
         let end = field_end(block, at);
@@ -114,14 +110,15 @@ pub fn read_block(block: &[u8]) -> Block
 }
 
 // The part of a tag after a field from at up to end: its value, if it is the tag's own.
-fn part_with(part: Part, own: usize, tag: usize, at: usize, end: usize) -> Part
+fn part_with(part: Option<Part>, own: usize, tag: usize, at: usize, end: usize) -> Option<Part>
     requires { at < 2 ^ 63 }
-    ensures { result ≡ cond (eqb tag own) (Given (at + 3) end) part }
+    ensures { result ≡ cond (eqb tag own) (between (at + 3) end) part }
 {
     if tag == own {
-        return Part::Given { start: at + 3, end };
+        Some(Part { start: at + 3, end })
+    } else {
+        part
     }
-    part
 }
 
 // Tags ascend, the block does not end inside a field, and the value is allowed.
@@ -131,13 +128,7 @@ fn well_formed(block: &[u8], at: usize, previous: usize) -> bool
 {
     let tag = byte_at(block, at);
     let end = field_end(block, at);
-    if tag <= previous {
-        return false;
-    }
-    if block.len() < end {
-        return false;
-    }
-    allowed(tag, &block[at + 3..end])
+    previous < tag && end <= block.len() && allowed(tag, &block[at + 3..end])
 }
 
 // Whether a tag's field may have this value. A tag that is not known may have none.
@@ -157,48 +148,36 @@ fn allowed(tag: usize, value: &[u8]) -> bool
 fn is_number(value: &[u8], least: usize, most: usize) -> bool
     ensures { result ≡ number_text least most value.now }
 {
-    if value.len() != 2 {
-        return false;
-    }
     let n = number_at(value, 0);
-    least <= n && n <= most
+    value.len() == 2 && least <= n && n <= most
 }
 
 // At most 255 bytes, none of them damaged.
 fn is_prefix(value: &[u8]) -> bool
     ensures { result ≡ prefix_text value.now }
 {
-    if 255 < value.len() {
-        return false;
-    }
-    let damage = text::first_damage(value);
-    match damage {
-        Found::At(_) => false,
-        Found::Nowhere => true,
-    }
+    value.len() <= 255 && text::first_damage(value).is_none()
 }
 
 // The options of a block whose fields are all well formed, if they keep the width and goal rule.
 fn settle(
     block: &[u8],
-    flags: Part,
-    width: Part,
-    goal: Part,
-    tab: Part,
-    prefix: Part,
-    skip: Part,
-) -> Block
+    flags: Option<Part>,
+    width: Option<Part>,
+    goal: Option<Part>,
+    tab: Option<Part>,
+    prefix: Option<Part>,
+    skip: Option<Part>,
+) -> Result<Options, Fault>
     requires { PartsAre block.now flags width goal tab prefix skip }
-    ensures { result ≡ judged block.now (fields block.now) Nowhere }
+    ensures { result ≡ judged block.now (fields block.now) None }
 {
     let least = least_width(width, goal);
     let o = options_of(block, flags, width, goal, tab, prefix, skip);
-    let columns = o.width;
-    let aim = o.goal;
-    if fits(least, columns, aim) {
-        Block::Accepted(o)
+    if fits(least, o.width, o.goal) {
+        Ok(o)
     } else {
-        Block::Fault(block.len())
+        Err(Fault { at: block.len() })
     }
 }
 
@@ -206,12 +185,12 @@ fn settle(
 // In the original: `uumain`.
 fn options_of(
     block: &[u8],
-    flag_part: Part,
-    width: Part,
-    goal: Part,
-    tab_part: Part,
-    prefix: Part,
-    skip: Part,
+    flag_part: Option<Part>,
+    width: Option<Part>,
+    goal: Option<Part>,
+    tab_part: Option<Part>,
+    prefix: Option<Part>,
+    skip: Option<Part>,
 ) -> Options
     requires { PartsAre block.now flag_part width goal tab_part prefix skip }
     ensures { result ≡ options_of block.now (fields block.now) }
@@ -232,7 +211,7 @@ fn options_of(
         by_characters: is_set(flags, CHARACTERS),
         width: width_of(block, width, goal),
         goal: goal_of(block, width, goal),
-        tab: larger(1, tab),
+        tab: tab.max(1),
         prefix,
         skip,
     }
@@ -262,42 +241,43 @@ fn is_set(flags: usize, weight: usize) -> bool
 
 // A goal without a width asks for some columns beyond it.
 // In the original: `uumain`.
-fn width_of(block: &[u8], width: Part, goal: Part) -> usize
+fn width_of(block: &[u8], width: Option<Part>, goal: Option<Part>) -> usize
     ensures { result ≡ width_from block.now width goal }
 {
-    if let Part::Given { start, end: _ } = width {
-        return number_at(block, start);
+    match (width, goal) {
+        (Some(part), _) => number_at(block, part.start),
+        (None, Some(part)) => {
+            let g = number_at(block, part.start);
+            (g * 100 / 94).max(g + 3)
+        }
+        (None, None) => 79,
     }
-    if let Part::Given { start, end: _ } = goal {
-        let g = number_at(block, start);
-        return larger(g * 100 / 94, g + 3);
-    }
-    79
 }
 
 // A width without a goal leaves some columns below it.
 // In the original: `uumain`.
-fn goal_of(block: &[u8], width: Part, goal: Part) -> usize
+fn goal_of(block: &[u8], width: Option<Part>, goal: Option<Part>) -> usize
     ensures { result ≡ goal_from block.now width goal }
 {
-    if let Part::Given { start, end: _ } = goal {
-        return number_at(block, start);
+    match (width, goal) {
+        (_, Some(part)) => number_at(block, part.start),
+        (Some(part), None) => {
+            let w = number_at(block, part.start);
+            (w * 94 / 100).min(w.saturating_sub(3))
+        }
+        (None, None) => 74,
     }
-    if let Part::Given { start, end: _ } = width {
-        let w = number_at(block, start);
-        return smaller(w * 94 / 100, less(w, 3));
-    }
-    74
 }
 
 // The least width that is accepted: a width without a goal must be at least 6.
-fn least_width(width: Part, goal: Part) -> usize
+fn least_width(width: Option<Part>, goal: Option<Part>) -> usize
     ensures { result ≡ least_width width goal }
 {
-    if let Part::Absent = width {
-        return 1;
+    if width.is_some() && goal.is_none() {
+        6
+    } else {
+        1
     }
-    if let Part::Absent = goal { 6 } else { 1 }
 }
 
 // The width and goal rule. What the width has beyond the goal is at most the goal again: twice the goal could overflow.
@@ -305,13 +285,7 @@ fn least_width(width: Part, goal: Part) -> usize
 fn fits(least: usize, width: usize, goal: usize) -> bool
     ensures { result ≡ fits least width goal }
 {
-    if width < least {
-        return false;
-    }
-    if width < goal {
-        return false;
-    }
-    width - goal <= goal && width <= 1000
+    least <= width && goal <= width && width - goal <= goal && width <= 1000
 }
 
 // Where the field at a place ends by the length that it gives, which may be past the block's end.
@@ -323,12 +297,12 @@ fn field_end(block: &[u8], at: usize) -> usize
 }
 
 // The number of a part, or what stands for it where it is not given.
-fn number_or(block: &[u8], part: Part, other: usize) -> usize
+fn number_or(block: &[u8], part: Option<Part>, other: usize) -> usize
     ensures { result ≡ number_at block.now other part }
 {
     match part {
-        Part::Given { start, end: _ } => number_at(block, start),
-        Part::Absent => other,
+        Some(part) => number_at(block, part.start),
+        None => other,
     }
 }
 
@@ -345,32 +319,9 @@ fn number_at(block: &[u8], at: usize) -> usize
 }
 
 // The byte at a place, and 0 past the end.
-fn byte_at(block: &[u8], at: usize) -> usize
+pub fn byte_at(block: &[u8], at: usize) -> usize
     ensures value { result ≡ get_or block.now at 0 }
     ensures bound { result ≤ 255 }
 {
-    if at < block.len() {
-        block[at] as usize
-    } else {
-        0
-    }
-}
-
-fn larger(a: usize, b: usize) -> usize
-    ensures { result ≡ max a b }
-{
-    if a < b { b } else { a }
-}
-
-fn smaller(a: usize, b: usize) -> usize
-    ensures { result ≡ min a b }
-{
-    if a < b { a } else { b }
-}
-
-// The difference, and 0 where there is none.
-fn less(a: usize, b: usize) -> usize
-    ensures { result ≡ a - b }
-{
-    if a < b { 0 } else { a - b }
+    usize::from(block.get(at).copied().unwrap_or(0))
 }

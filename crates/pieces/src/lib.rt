@@ -6,7 +6,7 @@ ghost use Rattle.lists.specs.Runs.{while};
 ghost use Rattle.options.specs.Opts.{meant};
 ghost use Rattle.lines.specs.Lines.{lines_of};
 ghost use Rattle.lines.specs.Cited.Places.{most_large, Usable, LinesSound};
-ghost use Rattle.pieces.specs.Pieces.{header_text, starts_mail, agrees, second_rule};
+ghost use Rattle.pieces.specs.Pieces.{header_text, starts_mail, second_rule};
 ghost use Rattle.pieces.specs.Cited.Bounds.{Bounded};
 ghost use Rattle.pieces.specs.Cited.Places.{passes_rule, header_name, margin_at, reach, second_at, paragraph_with, piece_at, PieceReady, Shaped, Cleared, LineIs, SecondSound};
 
@@ -14,7 +14,7 @@ use lines::{Class, Shape};
 use options::{Options, Part};
 
 // An indent: bytes of the notes from start up to end, then further spaces; and its columns.
-#[derive(Clone, Copy)]
+#[derive(Clone, Copy, Debug, PartialEq, Eq)]
 pub struct Margin {
     pub start: usize,
     pub end: usize,
@@ -24,7 +24,7 @@ pub struct Margin {
 
 // A paragraph: the place after it, whether it is mail, its first indent and its indent, and where the words of its first line and of
 // its other lines begin in their line.
-#[derive(Clone, Copy)]
+#[derive(Clone, Copy, Debug, PartialEq, Eq)]
 pub struct Paragraph {
     pub next: usize,
     pub mail: bool,
@@ -35,29 +35,30 @@ pub struct Paragraph {
 }
 
 // A piece of the notes, with the place after it; of a plain line also the end of its text.
-#[derive(Clone, Copy)]
+#[derive(Clone, Copy, Debug, PartialEq, Eq)]
 pub enum Piece {
     Blank { next: usize },
     Plain { end: usize, next: usize },
     Text(Paragraph),
 }
 
-// The rule by which further lines join a paragraph: those of mail continue it, others agree with a line before.
-#[derive(Clone, Copy)]
+// The rule by which further lines join a paragraph: those of mail continue it, others agree with a line before. No `Option`: mail's is a rule
+// too, and none that is absent.
+#[derive(Clone, Copy, Debug, PartialEq, Eq)]
 pub enum Rule {
     Mail,
     Like(Shape),
 }
 
-// The second line of a crown or tagged paragraph: where the line after it begins, and its shape; or the first line stands alone.
-#[derive(Clone, Copy)]
-pub enum Second {
-    Alone,
-    Joins { next: usize, shape: Shape },
+// The second line of a crown or tagged paragraph: where the line after it begins, and its shape.
+#[derive(Clone, Copy, Debug, PartialEq, Eq)]
+pub struct Second {
+    pub next: usize,
+    pub shape: Shape,
 }
 
 // A line by places, with its class.
-#[derive(Clone, Copy)]
+#[derive(Clone, Copy, Debug, PartialEq, Eq)]
 pub struct Classed {
     pub end: usize,
     pub next: usize,
@@ -77,10 +78,7 @@ pub fn next_piece(
     requires { (at < length notes.now) × (length notes.now ≤ most_large) × Usable block.now o × Cleared o × (sound ≡ true → LinesSound (lines_of (drop at notes.now))) }
     ensures { (result ≡ piece_at (meant block.now o) next_mail notes.now at) × Bounded o.glue notes.now at result }
 {
-    let line = line_at(notes, at, o, block, sound);
-    let end = line.end;
-    let next = line.next;
-    let class = line.class;
+    let Classed { end, next, class } = line_at(notes, at, o, block, sound);
     match class {
         Class::Blank => Piece::Blank { next },
         Class::Plain => Piece::Plain { end, next },
@@ -88,22 +86,13 @@ pub fn next_piece(
             if starts_mail(&notes[at..end], o.mail, next_mail, s) {
                 return Piece::Text(mail_paragraph(notes, at, next, s, o, block, sound));
             }
-            if is_hanging(o.crown, o.tagged) {
+            // Crown or tagged: the second line may have an indent of its own.
+            if o.crown || o.tagged {
                 return Piece::Text(hanging_paragraph(notes, at, next, s, o, block, sound));
             }
             Piece::Text(plain_paragraph(notes, at, next, s, o, block, sound))
         }
     }
-}
-
-// Crown or tagged: the second line may have an indent of its own.
-fn is_hanging(crown: bool, tagged: bool) -> bool
-    ensures { result ≡ (crown || tagged) }
-{
-    if crown {
-        return true;
-    }
-    tagged
 }
 
 // A mail paragraph: no first indent, then two spaces; it goes on with indented lines.
@@ -127,10 +116,9 @@ fn mail_paragraph(
         columns: 0,
     };
     let two = Margin {
-        start: at,
-        end: at,
         more: 2,
         columns: 2,
+        ..bare
     };
     Paragraph {
         next: further(notes, next, Rule::Mail, o, block, sound),
@@ -180,28 +168,31 @@ fn hanging_paragraph(
     requires { PieceReady notes.now block.now o next sound × Shaped notes.now at s × ((o.crown || o.tagged) ≡ true) × (o.split ≡ false) }
     ensures { result ≡ paragraph_with (meant block.now o) false at next s (lines_of (drop next notes.now)) }
 {
-    let Second::Joins {
-        next: behind,
-        shape,
-    } = second_line(notes, next, s, o, block, sound)
-    else {
-        let more = further_spaces(o.tagged);
-        return Paragraph {
+    let first = margin_at(at, 0, s);
+    match second_line(notes, next, s, o, block, sound) {
+        None => Paragraph {
             next,
             mail: false,
-            first: margin_at(at, 0, s),
-            indent: margin_at(at, more, s),
+            first,
+            indent: margin_at(at, further_spaces(o.tagged), s),
             start: s.indent_end,
             later: s.indent_end,
-        };
-    };
-    Paragraph {
-        next: follow(notes, behind, Rule::Like(shape), o, block, sound),
-        mail: false,
-        first: margin_at(at, 0, s),
-        indent: margin_at(next, 0, shape),
-        start: s.indent_end,
-        later: shape.indent_end,
+        },
+        Some(second) => Paragraph {
+            next: follow(
+                notes,
+                second.next,
+                Rule::Like(second.shape),
+                o,
+                block,
+                sound,
+            ),
+            mail: false,
+            first,
+            indent: margin_at(next, 0, second.shape),
+            start: s.indent_end,
+            later: second.shape.indent_end,
+        },
     }
 }
 
@@ -211,11 +202,10 @@ fn line_at(notes: &[u8], at: usize, o: Options, block: &[u8], sound: bool) -> Cl
     ensures { LineIs (meant block.now o) notes.now at result }
 {
     let line = lines::first_classed(&notes[at..], o, block, sound);
-    let class = line.class;
     Classed {
         end: at + line.extent.text,
         next: at + line.extent.whole,
-        class,
+        class: line.class,
     }
 }
 
@@ -223,32 +213,29 @@ fn line_at(notes: &[u8], at: usize, o: Options, block: &[u8], sound: bool) -> Cl
 fn further_spaces(tagged: bool) -> usize
     ensures { (result ≡ cond tagged 4 0) × (result ≤ 4) }
 {
-    if tagged {
-        return 4;
-    }
-    0
+    if tagged { 4 } else { 0 }
 }
 
 // The second line, if it is there and joins.
 // In the original: `ParagraphStream::next`.
-fn second_line(notes: &[u8], at: usize, s: Shape, o: Options, block: &[u8], sound: bool) -> Second
+fn second_line(
+    notes: &[u8],
+    at: usize,
+    s: Shape,
+    o: Options,
+    block: &[u8],
+    sound: bool,
+) -> Option<Second>
     requires { PieceReady notes.now block.now o at sound }
     ensures { (result ≡ second_at (meant block.now o) s notes.now at) × SecondSound notes.now at result }
 {
     if notes.len() <= at {
-        return Second::Alone;
+        return None;
     }
-    let line = line_at(notes, at, o, block, sound);
-    let class = line.class;
-    let Class::Formatted(shape) = class else {
-        return Second::Alone;
-    };
-    if !is_second(o.tagged, s, shape) {
-        return Second::Alone;
-    }
-    Second::Joins {
-        next: line.next,
-        shape,
+    let Classed { next, class, .. } = line_at(notes, at, o, block, sound);
+    match class {
+        Class::Formatted(shape) if is_second(o.tagged, s, shape) => Some(Second { next, shape }),
+        _ => None,
     }
 }
 
@@ -259,9 +246,10 @@ fn further(notes: &[u8], at: usize, rule: Rule, o: Options, block: &[u8], sound:
     ensures { (result ≡ cond o.split at (reach (meant block.now o) (passes_rule rule o.prefix) notes.now at)) × (result ≤ length notes.now) }
 {
     if o.split {
-        return at;
+        at
+    } else {
+        follow(notes, at, rule, o, block, sound)
     }
-    follow(notes, at, rule, o, block, sound)
 }
 
 // In the original: `ParagraphStream::next`.
@@ -269,18 +257,16 @@ fn follow(notes: &[u8], at: usize, rule: Rule, o: Options, block: &[u8], sound: 
     requires { PieceReady notes.now block.now o at sound }
     ensures { (result ≡ reach (meant block.now o) (passes_rule rule o.prefix) notes.now at) × (result ≤ length notes.now) }
 {
-    let prefix = o.prefix;
     let mut i = at;
     while i < notes.len() {
-        let line = line_at(notes, i, o, block, sound);
-        let class = line.class;
+        let Classed { next, class, .. } = line_at(notes, i, o, block, sound);
         let Class::Formatted(s) = class else {
             return i;
         };
-        if !passes(rule, prefix, s) {
+        if !passes(rule, o.prefix, s) {
             return i;
         }
-        i = line.next;
+        i = next;
     }
     i
 }
@@ -303,16 +289,7 @@ fn margin_at(at: usize, more: usize, s: Shape) -> Margin
 fn starts_mail(line: &[u8], mail: bool, next_mail: bool, s: Shape) -> bool
     ensures { result ≡ starts_mail mail next_mail s line.now }
 {
-    if !mail {
-        return false;
-    }
-    if !next_mail {
-        return false;
-    }
-    if s.indent_end != 0 {
-        return false;
-    }
-    is_header(line)
+    mail && next_mail && s.indent_end == 0 && is_header(line)
 }
 
 // The mail rule: `From `, or a name of printable bytes with its colon after it.
@@ -325,13 +302,7 @@ pub fn is_header(line: &[u8]) -> bool
         return true;
     }
     let n = name_end(line);
-    if n == 0 {
-        return false;
-    }
-    if line.len() <= n {
-        return false;
-    }
-    line[n] == b':'
+    0 < n && line.get(n) == Some(&b':')
 }
 
 // The first place whose byte is a colon or is not printable, or the end.
@@ -339,72 +310,30 @@ pub fn is_header(line: &[u8]) -> bool
 fn name_end(line: &[u8]) -> usize
     ensures { (result ≡ length (while header_name line.now)) × (result ≤ length line.now) }
 {
-    let mut i = 0;
-    while i < line.len() {
+    for i in 0..line.len() {
         let b = line[i];
-        if b < 33 {
+        if b < 33 || 126 < b || b == b':' {
             return i;
         }
-        if 126 < b {
-            return i;
-        }
-        if b == b':' {
-            return i;
-        }
-        i += 1;
     }
-    i
-}
-
-// Plain: further lines agree in indent end, prefix place, indent length and prefix length.
-fn agree(a: Shape, b: Shape) -> bool
-    ensures { result ≡ agrees a b }
-{
-    if a.indent_end != b.indent_end {
-        return false;
-    }
-    if a.prefix_place != b.prefix_place {
-        return false;
-    }
-    if a.indent_length != b.indent_length {
-        return false;
-    }
-    a.prefix_length == b.prefix_length
+    line.len()
 }
 
 // Crown: the second line agrees in prefix place and prefix length; tagged: and has another indent.
 fn is_second(tagged: bool, a: Shape, b: Shape) -> bool
     ensures { result ≡ second_rule tagged a b }
 {
-    if a.prefix_place != b.prefix_place {
-        return false;
-    }
-    if a.prefix_length != b.prefix_length {
-        return false;
-    }
-    if !tagged {
-        return true;
-    }
-    if a.indent_end != b.indent_end {
-        return true;
-    }
-    a.indent_length != b.indent_length
+    a.prefix_place == b.prefix_place
+        && a.prefix_length == b.prefix_length
+        && (!tagged || a.indent_end != b.indent_end || a.indent_length != b.indent_length)
 }
 
-// Whether a line of a shape joins by a rule.
-fn passes(rule: Rule, prefix: Part, s: Shape) -> bool
+// Whether a line of a shape joins by a rule. Plain: further lines agree in indent end, prefix place, indent length and prefix length.
+fn passes(rule: Rule, prefix: Option<Part>, s: Shape) -> bool
     ensures { result ≡ passes_rule rule prefix s }
 {
     match rule {
-        Rule::Like(a) => agree(a, s),
-        Rule::Mail => {
-            if s.indent_end == 0 {
-                return false;
-            }
-            let Part::Given { start: _, end: _ } = prefix else {
-                return true;
-            };
-            0 < s.prefix_place
-        }
+        Rule::Like(a) => a == s,
+        Rule::Mail => 0 < s.indent_end && (prefix.is_none() || 0 < s.prefix_place),
     }
 }

@@ -1,7 +1,7 @@
 // Quick: the greedy breaker.
 #![tactic(auto)]
 
-ghost use Rattle.std.specs.Prelude.{◌≡◌, cond, List, ℕ, ◌+◌, ◌-◌, ◌≤◌, ◌<◌, ◌^◌, get_or};
+ghost use Rattle.std.specs.Prelude.{◌≡◌, List, ℕ, ◌+◌, ◌≤◌, ◌<◌, ◌^◌, get_or};
 ghost use Rattle.records.specs.Cited.Table.{Holds, words_in, Small};
 ghost use Rattle.records.specs.Cited.Marks.{MarkedBy};
 ghost use Rattle.spacing.specs.Spacing.{gap_width, added_space};
@@ -21,18 +21,8 @@ pub fn reach(g: Setting, column: usize, punct: bool, w: Word) -> usize
     requires { Fair g × Small w × (column < 2 ^ 34) }
     ensures { (result ≡ column + gap_width g.tab column w.before w.after + added_space g.uniform w.first w.sentence punct + w.width) × (result < 2 ^ 36) }
 {
-    let before = w.before;
-    let gap = spacing::gap_width(g.tab, column, before, w.after);
+    let gap = spacing::gap_width(g.tab, column, w.before, w.after);
     column + gap + spacing::added_space(g.uniform, w.first, w.sentence, punct) + w.width
-}
-
-fn pick(first: bool, a: usize, b: usize) -> usize
-    ensures { result ≡ cond first a b }
-{
-    if first {
-        return a;
-    }
-    b
 }
 
 // Marks each word after the first that no longer fits its line: a new line starts with it.
@@ -45,41 +35,27 @@ pub fn quick_breaks(table: &mut [u32], n: usize, g: Setting)
     let mut column = g.first + head.width;
     // The first word's own punctuation does not count.
     let mut punct = false;
-    let mut i = 1;
-    while i < n {
+    for i in 1..n {
         let w = records::get(table, i);
         let reached = reach(g, column, punct, w);
         let fresh = reached > g.width;
         records::mark(table, i, fresh);
-        column = pick(fresh, g.indent + w.width, reached);
+        column = if fresh { g.indent + w.width } else { reached };
         punct = w.punct;
-        i += 1;
     }
 }
 
 // ---- why a line ends
-
-fn less(a: usize) -> usize
-    ensures { result ≡ a - 1 }
-{
-    if a == 0 {
-        return 0;
-    }
-    a - 1
-}
 
 // A line that ends at a column, since the word does not fit after it.
 fn full(g: Setting, column: usize, punct: bool, w: Word) -> Ending
     requires { Fair g × Small w × (column < 2 ^ 34) }
     ensures { result ≡ Full column (gap_width g.tab column w.before w.after) (added_space g.uniform w.first w.sentence punct) w.width }
 {
-    let before = w.before;
-    let gap = spacing::gap_width(g.tab, column, before, w.after);
-    let space = spacing::added_space(g.uniform, w.first, w.sentence, punct);
     Ending::Full {
         column,
-        gap,
-        space,
+        gap: spacing::gap_width(g.tab, column, w.before, w.after),
+        space: spacing::added_space(g.uniform, w.first, w.sentence, punct),
         word: w.width,
     }
 }
@@ -93,18 +69,19 @@ pub fn quick_ending(table: &[u32], n: usize, g: Setting, line: usize) -> Ending
     let mut column = g.first + head.width;
     let mut punct = false;
     let mut left = line;
-    let mut i = 1;
-    while i < n {
+    for i in 1..n {
         let w = records::get(table, i);
         let reached = reach(g, column, punct, w);
-        let fresh = reached > g.width;
-        if fresh & (left == 0) {
-            return full(g, column, punct, w);
+        if g.width < reached {
+            if left == 0 {
+                return full(g, column, punct, w);
+            }
+            left -= 1;
+            column = g.indent + w.width;
+        } else {
+            column = reached;
         }
-        left = pick(fresh, less(left), left);
-        column = pick(fresh, g.indent + w.width, reached);
         punct = w.punct;
-        i += 1;
     }
     Ending::Paragraph
 }

@@ -5,22 +5,15 @@ ghost use Rattle.std.specs.Prelude.{◌≡◌, cond, ◌*◌, ◌<◌, ◌≤◌
 ghost use Rattle.records.specs.Cited.Table.{number_in, before_number, before_of, with_word, stored, Room, Small, Got};
 ghost use Rattle.records.specs.Cited.Marks.{mark_in, with_mark};
 
-// The count of blanks before a gap's first tab, which may be absent.
-#[derive(Clone, Copy)]
-pub enum Before {
-    Absent,
-    Count(usize),
-}
-
-// A word of the notes: the blanks before it begin at from, its own bytes at start; width; the counts before and after the gap's first
-// tab; first of its line, ends in punctuation, starts a sentence.
-#[derive(Clone, Copy)]
+// A word of the notes: the blanks before it begin at from, its own bytes at start; width; the counts of blanks before the gap's first tab, if
+// there is one, and after it; first of its line, ends in punctuation, starts a sentence.
+#[derive(Clone, Copy, Debug, PartialEq, Eq)]
 pub struct Word {
     pub from: usize,
     pub start: usize,
     pub end: usize,
     pub width: usize,
-    pub before: Before,
+    pub before: Option<usize>,
     pub after: usize,
     pub first: bool,
     pub punct: bool,
@@ -32,28 +25,24 @@ fn read(t: &[u32], i: usize, j: usize) -> usize
     requires { Room i t.now × (j < 7) }
     ensures { (result ≡ number_in t.now i j) × (result < 2 ^ 32) }
 {
-    let k = i * 7 + j;
-    lists::wide(t[k])
+    t[i * 7 + j] as usize
 }
 
 // The count before a tab from its number in the table, and back.
-fn before_of(n: usize) -> Before
+fn before_of(n: usize) -> Option<usize>
     requires { n < 2 ^ 32 }
     ensures { (result ≡ before_of n) × (before_number result < 2 ^ 32) }
 {
-    if n == 0 {
-        return Before::Absent;
-    }
-    Before::Count(n - 1)
+    n.checked_sub(1)
 }
 
-fn number_of(b: Before) -> u32
-    requires { before_number b < 2 ^ 32 }
-    ensures { result ≡ before_number b }
+fn number_of(before: Option<usize>) -> u32
+    requires { before_number before < 2 ^ 32 }
+    ensures { result ≡ before_number before }
 {
-    match b {
-        Before::Absent => 0,
-        Before::Count(n) => (n + 1) as u32,
+    match before {
+        None => 0,
+        Some(n) => (n + 1) as u32,
     }
 }
 
@@ -61,10 +50,7 @@ fn number_of(b: Before) -> u32
 fn bit(mark: bool, value: u32) -> u32
     ensures { (result ≡ cond mark value 0) × (result ≤ value) }
 {
-    if mark {
-        return value;
-    }
-    0
+    if mark { value } else { 0 }
 }
 
 // The record at i, put together.
@@ -92,7 +78,6 @@ pub fn store(t: &mut [u32], i: usize, w: Word)
     requires { Room i t.old × Small w }
     ensures { t.new ≡ with_word t.old i w }
 {
-    let before = w.before;
     let marks = bit(w.first, 1) + bit(w.punct, 2) + bit(w.sentence, 4);
     put(
         t,
@@ -101,7 +86,7 @@ pub fn store(t: &mut [u32], i: usize, w: Word)
         w.start as u32,
         w.end as u32,
         w.width as u32,
-        number_of(before),
+        number_of(w.before),
         w.after as u32,
         marks,
     );
@@ -113,19 +98,13 @@ fn put(t: &mut [u32], i: usize, n0: u32, n1: u32, n2: u32, n3: u32, n4: u32, n5:
     ensures { t.new ≡ stored t.old (i * 7) n0 n1 n2 n3 n4 n5 n6 }
 {
     let k = i * 7;
-    let k1 = k + 1;
-    let k2 = k + 2;
-    let k3 = k + 3;
-    let k4 = k + 4;
-    let k5 = k + 5;
-    let k6 = k + 6;
     t[k] = n0;
-    t[k1] = n1;
-    t[k2] = n2;
-    t[k3] = n3;
-    t[k4] = n4;
-    t[k5] = n5;
-    t[k6] = n6;
+    t[k + 1] = n1;
+    t[k + 2] = n2;
+    t[k + 3] = n3;
+    t[k + 4] = n4;
+    t[k + 5] = n5;
+    t[k + 6] = n6;
 }
 
 // Whether a new line starts with the word of record i: a bit beside the word's own marks.

@@ -1,14 +1,12 @@
 -- RULES 6.4 and 6.5: gap width and added space.
-use Rattle.std.specs.Prelude.{Bool, cond, ◌&&◌, ◌||◌, ℕ, ◌+◌, ◌-◌}
+use Rattle.std.specs.Prelude.{Bool, cond, ◌&&◌, ◌||◌, ℕ, ◌+◌, ◌-◌, Option, Some, None}
 use Rattle.lines.specs.Classes.{next_stop}
 use Rattle.records.specs.Word.{Word}
-use Rattle.records.specs.declared.Before.{Before}
-use Rattle.records.specs.declared.Before.TheVariants.{Absent, Count}
 
 -- gap width at column p: no tab, the after count; else after + ((before + p)/tab + 1) × tab − p
-unfoldable pub gap_width : ℕ → ℕ → Before → ℕ → ℕ
-gap_width tab p Absent after = after
-gap_width tab p (Count before) after = after + next_stop tab (before + p) - p
+unfoldable pub gap_width : ℕ → ℕ → Option ℕ → ℕ → ℕ
+gap_width tab p None after = after
+gap_width tab p (Some before) after = after + next_stop tab (before + p) - p
 
 abbrev pub gap_at : ℕ → ℕ → Word → ℕ
 gap_at tab p w = gap_width tab p w.before w.after

@@ -1,15 +1,13 @@
 // Spacing: the width of a gap at a column, and added space.
 #![tactic(auto)]
 
-ghost use Rattle.std.specs.Prelude.{◌≡◌, cond, ◌+◌, ◌≤◌, ◌<◌, ◌^◌};
+ghost use Rattle.std.specs.Prelude.{◌≡◌, ◌+◌, ◌≤◌, ◌<◌, ◌^◌};
 ghost use Rattle.lines.specs.Classes.{next_stop};
 ghost use Rattle.records.specs.Cited.Table.{before_number};
 ghost use Rattle.spacing.specs.Cited.Bounds.{GapIs, AddedIs};
 
-use records::Before;
-
 // What a paragraph is broken with: width limit, goal, tab width, uniform spacing, and the columns of its first indent and its indent.
-#[derive(Clone, Copy)]
+#[derive(Clone, Copy, Debug, PartialEq, Eq)]
 pub struct Setting {
     pub width: usize,
     pub goal: usize,
@@ -29,13 +27,13 @@ fn next_stop(tab: usize, column: usize) -> usize
 
 // The width of a gap that begins at a column. A tab goes to the next stop after the blanks before it.
 // In the original: `BreakArgs::compute_width`.
-pub fn gap_width(tab: usize, column: usize, before: Before, after: usize) -> usize
+pub fn gap_width(tab: usize, column: usize, before: Option<usize>, after: usize) -> usize
     requires { (1 ≤ tab) × (tab ≤ 100) × (column < 2 ^ 40) × (before_number before < 2 ^ 32) × (after < 2 ^ 32) }
     ensures { GapIs tab column before after result }
 {
     match before {
-        Before::Absent => after,
-        Before::Count(n) => after + next_stop(tab, n + column) - column,
+        None => after,
+        Some(n) => after + next_stop(tab, n + column) - column,
     }
 }
 
@@ -46,19 +44,10 @@ pub fn added_space(uniform: bool, first: bool, sentence: bool, punct: bool) -> u
     ensures { AddedIs uniform first sentence punct result }
 {
     if first {
-        return one_or_two(sentence || punct);
+        1 + usize::from(sentence || punct)
+    } else if uniform {
+        1 + usize::from(sentence)
+    } else {
+        0
     }
-    if uniform {
-        return one_or_two(sentence);
-    }
-    0
-}
-
-fn one_or_two(two: bool) -> usize
-    ensures { (result ≡ cond two 2 1) × (result ≤ 2) }
-{
-    if two {
-        return 2;
-    }
-    1
 }

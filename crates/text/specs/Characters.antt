@@ -1,13 +1,11 @@
 -- RULES 4.1 to 4.4: characters, damaged places, blanks and widths; and which U+00A0
 -- are ordinary with glue on. A glyph is what is at a place of a line, with all that later sections ask of it; they look at glyphs alone.
-use Rattle.std.specs.Prelude.{Bool, true, false, cond, not, ◌&&◌, List, [], ◌∷◌, ℕ, ◌+◌, ◌-◌, eqb, length, take}
+use Rattle.std.specs.Prelude.{Bool, true, false, cond, not, ◌&&◌, List, [], ◌∷◌, ℕ, ◌+◌, ◌-◌, eqb, length, take, Option, Some, None}
 use Rattle.widths.specs.WhiteSpace.{white_space}
 use Rattle.widths.specs.Widths.{width_of}
 use Rattle.lists.specs.Walk.{each}
 use Rattle.lists.specs.Runs.{while, every}
 use Rattle.text.specs.Rfc3629.{Front, front, nothing, decode}
-use Rattle.text.specs.declared.Found.{Found}
-use Rattle.text.specs.declared.Found.TheVariants.{At, Nowhere}
 
 pub record Glyph : Type 0 where
   -- its bytes, as they are in the line
@@ -74,5 +72,5 @@ extent [] = 0
 extent (g ∷ gs) = length g.bytes + extent gs
 
 -- the damaged place of a text: the first byte at which no character begins
-unfoldable pub damage : List ℕ → Found
-damage xs = let gs = characters xs in cond (every is_good gs) Nowhere (At (extent (while is_good gs)))
+unfoldable pub damage : List ℕ → Option ℕ
+damage xs = let gs = characters xs in cond (every is_good gs) None (Some (extent (while is_good gs)))

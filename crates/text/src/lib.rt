@@ -8,22 +8,15 @@ ghost use Rattle.text.specs.Cited.Places.{read_as, glyph_of, seen_as, letter_at,
 ghost use Rattle.text.specs.Cited.Eights.{as_number, eight_at};
 ghost use Rattle.text.specs.Cited.Joins.{joins, joins_at, EachJoins, Joined, JoinedFrom};
 
-// A place, or none.
-#[derive(Clone, Copy)]
-pub enum Found {
-    At(usize),
-    Nowhere,
-}
-
-// What reading a character at a place finds: its number and the place after it, or none.
-#[derive(Clone, Copy)]
-pub enum Char {
-    Good { code: u32, next: usize },
-    Damaged,
+// A character: its number, and the place after it.
+#[derive(Clone, Copy, Debug, PartialEq, Eq)]
+pub struct Char {
+    pub code: u32,
+    pub next: usize,
 }
 
 // What is at a place of a line, for all that formatting asks of it.
-#[derive(Clone, Copy)]
+#[derive(Clone, Copy, Debug, PartialEq, Eq)]
 pub enum Glyph {
     Ink { code: u32, next: usize },
     Blank { code: u32, next: usize },
@@ -31,22 +24,22 @@ pub enum Glyph {
 }
 
 // The character at a place, by RFC 3629. A byte below 0x80 is one by itself.
-pub fn decode_at(s: &[u8], at: usize) -> Char
+pub fn decode_at(s: &[u8], at: usize) -> Option<Char>
     ensures { result ≡ read_as at (decode (drop at s.now)) }
 {
     if s.len() <= at {
-        return Char::Damaged;
+        return None;
     }
     let a = s[at];
     if a < 0x80 {
-        return Char::Good {
-            code: wide(a),
+        return Some(Char {
+            code: u32::from(a),
             next: at + 1,
-        };
+        });
     }
     // It continues a character, or begins two bytes for what one byte spells.
     if a < 0xC2 {
-        return Char::Damaged;
+        return None;
     }
     if a < 0xE0 {
         return two(s, at);
@@ -61,27 +54,27 @@ pub fn decode_at(s: &[u8], at: usize) -> Char
 // The longer forms. A byte that continues a character is 10xxxxxx: b / 64 is 2, and b % 64 has its free bits.
 
 // 110xxxxx 10xxxxxx
-fn two(s: &[u8], at: usize) -> Char
+fn two(s: &[u8], at: usize) -> Option<Char>
     requires { (at < length s.now) × (0xC2 ≤ get_or s.now at 0) × (get_or s.now at 0 < 0xE0) }
     ensures { result ≡ read_as at (decode (drop at s.now)) }
 {
     let last = at + 1;
     if s.len() <= last {
-        return Char::Damaged;
+        return None;
     }
-    let a = wide(s[at]);
-    let b = wide(s[last]);
+    let a = u32::from(s[at]);
+    let b = u32::from(s[last]);
     if b / 64 != 2 {
-        return Char::Damaged;
+        return None;
     }
-    Char::Good {
+    Some(Char {
         code: a % 32 * 64 + b % 64,
         next: at + 2,
-    }
+    })
 }
 
 // The character at a place where a byte from 0xE0 on stands: of three bytes, or of four.
-pub fn long_at(s: &[u8], at: usize) -> Char
+pub fn long_at(s: &[u8], at: usize) -> Option<Char>
     requires { (at < length s.now) × (0xE0 ≤ get_or s.now at 0) }
     ensures { result ≡ read_as at (decode (drop at s.now)) }
 {
@@ -93,38 +86,38 @@ pub fn long_at(s: &[u8], at: usize) -> Char
 }
 
 // 1110xxxx 10xxxxxx 10xxxxxx
-fn three(s: &[u8], at: usize) -> Char
+fn three(s: &[u8], at: usize) -> Option<Char>
     requires { (at < length s.now) × (0xE0 ≤ get_or s.now at 0) × (get_or s.now at 0 < 0xF0) }
     ensures { result ≡ read_as at (decode (drop at s.now)) }
 {
     let next = at + 1;
     let last = at + 2;
     if s.len() <= last {
-        return Char::Damaged;
+        return None;
     }
-    let a = wide(s[at]);
-    let b = wide(s[next]);
-    let c = wide(s[last]);
+    let a = u32::from(s[at]);
+    let b = u32::from(s[next]);
+    let c = u32::from(s[last]);
     if b / 64 != 2 {
-        return Char::Damaged;
+        return None;
     }
     if c / 64 != 2 {
-        return Char::Damaged;
+        return None;
     }
     // A surrogate, U+D800 to U+DFFF, is no character.
     if a == 0xED && 0xA0 <= b {
-        return Char::Damaged;
+        return None;
     }
     let code = a % 16 * 4096 + b % 64 * 64 + c % 64;
     // Two bytes would do.
     if code < 0x800 {
-        return Char::Damaged;
+        return None;
     }
-    Char::Good { code, next: at + 3 }
+    Some(Char { code, next: at + 3 })
 }
 
 // 11110xxx 10xxxxxx 10xxxxxx 10xxxxxx
-fn four(s: &[u8], at: usize) -> Char
+fn four(s: &[u8], at: usize) -> Option<Char>
     requires { (at < length s.now) × (0xF0 ≤ get_or s.now at 0) }
     ensures { result ≡ read_as at (decode (drop at s.now)) }
 {
@@ -132,41 +125,34 @@ fn four(s: &[u8], at: usize) -> Char
     let third = at + 2;
     let last = at + 3;
     if s.len() <= last {
-        return Char::Damaged;
+        return None;
     }
-    let a = wide(s[at]);
-    let b = wide(s[next]);
-    let c = wide(s[third]);
-    let d = wide(s[last]);
+    let a = u32::from(s[at]);
+    let b = u32::from(s[next]);
+    let c = u32::from(s[third]);
+    let d = u32::from(s[last]);
     // No character begins with more.
     if 0xF4 < a {
-        return Char::Damaged;
+        return None;
     }
     if b / 64 != 2 {
-        return Char::Damaged;
+        return None;
     }
     if c / 64 != 2 {
-        return Char::Damaged;
+        return None;
     }
     if d / 64 != 2 {
-        return Char::Damaged;
+        return None;
     }
     let code = a % 8 * 262144 + b % 64 * 4096 + c % 64 * 64 + d % 64;
     // Three bytes would do.
     if code < 0x10000 {
-        return Char::Damaged;
+        return None;
     }
     if 0x10FFFF < code {
-        return Char::Damaged;
+        return None;
     }
-    Char::Good { code, next: at + 4 }
-}
-
-// A cast that needs no proof where it is used.
-pub fn wide(b: u8) -> u32
-    ensures { result ≡ b }
-{
-    b as u32
+    Some(Char { code, next: at + 4 })
 }
 
 // The character at a place, for all that formatting asks of it; each U+00A0 is blank here.
@@ -179,9 +165,9 @@ pub fn glyph_at(s: &[u8], at: usize) -> Glyph
     // Most blanks are below 0x80, and need not be decoded.
     let a = s[at];
     if a < 0x80 {
-        return glyph_of(wide(a), at + 1);
+        return glyph_of(u32::from(a), at + 1);
     }
-    let Char::Good { code, next } = decode_at(s, at) else {
+    let Some(Char { code, next }) = decode_at(s, at) else {
         return Glyph::Damaged;
     };
     glyph_of(code, next)
@@ -245,10 +231,7 @@ fn is_ink(s: &[u8], at: usize) -> bool
     if s.len() <= at {
         return false;
     }
-    let Glyph::Blank { code: _, next: _ } = glyph_at(s, at) else {
-        return true;
-    };
-    false
+    !matches!(glyph_at(s, at), Glyph::Blank { .. })
 }
 
 // Whether a letter of two bytes is at a place, U+00C0 to U+02FF or U+0380 to U+047F, Latin, Greek or Cyrillic: each takes one
@@ -278,30 +261,30 @@ pub fn is_letter(s: &[u8], at: usize) -> bool
 }
 
 // The first place at which no character begins. Most texts are seen at once to have none.
-pub fn first_damage(s: &[u8]) -> Found
+pub fn first_damage(s: &[u8]) -> Option<usize>
     ensures { result ≡ damage s.now }
 {
     if ascii_end(s, 0) == s.len() {
-        return Found::Nowhere;
+        return None;
     }
     if are_joined(s) {
-        return Found::Nowhere;
+        return None;
     }
     damage_among(s)
 }
 
 // The same, read character by character.
-fn damage_among(s: &[u8]) -> Found
+fn damage_among(s: &[u8]) -> Option<usize>
     ensures { result ≡ damage s.now }
 {
     let mut i = 0;
     while i < s.len() {
-        let Char::Good { code: _, next } = decode_at(s, i) else {
-            return Found::At(i);
+        let Some(c) = decode_at(s, i) else {
+            return Some(i);
         };
-        i = next;
+        i = c.next;
     }
-    Found::Nowhere
+    None
 }
 
 // Whether each byte joins the three before it, so that every character is whole: one test for all scripts, without a branch. A text of fewer
@@ -346,10 +329,8 @@ fn sixteen_join(s: &[u8], i: usize) -> bool
     ensures { result ≡ true → EachJoins s.now i (i + 16) }
 {
     let mut all = true;
-    let mut k = 0;
-    while k < 16 {
-        all = all & joins_at(s, i + k);
-        k += 1;
+    for k in 0..16 {
+        all &= joins_at(s, i + k);
     }
     all
 }
@@ -360,10 +341,8 @@ fn few_join(s: &[u8]) -> bool
     ensures { result ≡ true → EachJoins s.now 3 (length s.now) }
 {
     let mut all = true;
-    let mut i = 3;
-    while i < s.len() {
-        all = all & joins_at(s, i);
-        i += 1;
+    for i in 3..s.len() {
+        all &= joins_at(s, i);
     }
     all
 }
@@ -452,11 +431,8 @@ fn are_ascii(s: &[u8], i: usize) -> bool
     ensures { result ≡ true → Ascii s.now i (i + 16) }
 {
     let mut all = true;
-    let mut k = 0;
-    while k < 16 {
-        let at = i + k;
-        all = all & (s[at] < 0x80);
-        k += 1;
+    for k in 0..16 {
+        all &= s[i + k] < 0x80;
     }
     all
 }
@@ -481,16 +457,9 @@ pub fn eight(s: &[u8], i: usize) -> u64
     requires { (i ≤ length s.now) × (8 ≤ length s.now - i) }
     ensures { result ≡ as_number (eight_at s.now i) }
 {
-    let b = i + 1;
-    let c = i + 2;
-    let d = i + 3;
-    let e = i + 4;
-    let f = i + 5;
-    let g = i + 6;
-    let h = i + 7;
-    let x = with_digit(s[g], with_digit(s[h], 0));
-    let y = with_digit(s[d], with_digit(s[e], with_digit(s[f], x)));
-    with_digit(s[i], with_digit(s[b], with_digit(s[c], y)))
+    let x = with_digit(s[i + 6], with_digit(s[i + 7], 0));
+    let y = with_digit(s[i + 3], with_digit(s[i + 4], with_digit(s[i + 5], x)));
+    with_digit(s[i], with_digit(s[i + 1], with_digit(s[i + 2], y)))
 }
 
 // A number with one digit more, its least: a byte.
@@ -498,11 +467,5 @@ fn with_digit(b: u8, digits: u64) -> u64
     requires { digits < 2 ^ 56 }
     ensures { (result ≡ b + 256 * digits) × (result < 256 * digits + 256) }
 {
-    digit(b) + 256 * digits
-}
-
-fn digit(b: u8) -> u64
-    ensures { (result ≡ b) × (result < 256) }
-{
-    b as u64
+    u64::from(b) + 256 * digits
 }

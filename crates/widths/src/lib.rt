@@ -63,9 +63,9 @@ fn search(from: usize, c: u32) -> usize
     }
 }
 
-// How many columns a character takes that is no white space, and 3 for one that is: a single look for both. The commonest letters are told
+// How many columns a character takes that is no white space: a single look for both questions. The commonest letters are told
 // before the table.
-pub fn ink_width(c: u32) -> usize
+pub fn ink_width(c: u32) -> Option<usize>
     ensures { result ≡ ink_width c }
 {
     if 0x3000 < c {
@@ -78,7 +78,7 @@ pub fn ink_width(c: u32) -> usize
 }
 
 // Before U+1680 white space is before U+0300.
-fn early(c: u32) -> usize
+fn early(c: u32) -> Option<usize>
     requires { c < 0x1680 }
     ensures { result ≡ ink_width c }
 {
@@ -87,103 +87,103 @@ fn early(c: u32) -> usize
     }
     // Letters of Devanagari, and of Thai with the vowels before them.
     if (0x903 <= c) & (c < 0x93A) {
-        return 1;
+        return Some(1);
     }
     if (0xE00 <= c) & (c < 0xE31) {
-        return 1;
+        return Some(1);
     }
     if (0xE3B <= c) & (c < 0xE47) {
-        return 1;
+        return Some(1);
     }
     // Signs of both.
     if (0x93D <= c) & (c < 0x941) {
-        return 1;
+        return Some(1);
     }
     if (0x941 <= c) & (c <= 0x948) {
-        return 0;
+        return Some(0);
     }
     if c == 0x94D {
-        return 0;
+        return Some(0);
     }
     if (0xE34 <= c) & (c <= 0xE3A) {
-        return 0;
+        return Some(0);
     }
     if (0xE47 <= c) & (c <= 0xE4E) {
-        return 0;
+        return Some(0);
     }
-    width(c)
+    Some(width(c))
 }
 
 // Each is a column wide.
-fn latin(c: u32) -> usize
+fn latin(c: u32) -> Option<usize>
     requires { c < 0x300 }
     ensures { result ≡ ink_width c }
 {
     if is_white_space(c) {
-        return 3;
+        return None;
     }
-    1
+    Some(1)
 }
 
 // From U+1680 to U+3000 stands the rest of white space.
-fn middle(c: u32) -> usize
+fn middle(c: u32) -> Option<usize>
     requires { (0x1680 ≤ c) × (c ≤ 0x3000) }
     ensures { result ≡ ink_width c }
 {
     // Dashes, quotation marks, the ellipsis.
     if (0x2010 <= c) & (c < 0x2028) {
-        return 1;
+        return Some(1);
     }
     if is_white_space(c) {
-        return 3;
+        return None;
     }
     // What joins emoji.
     if c == 0x200D {
-        return 0;
+        return Some(0);
     }
-    width(c)
+    Some(width(c))
 }
 
 // Behind U+3000 nothing is white space.
-fn late(c: u32) -> usize
+fn late(c: u32) -> Option<usize>
     requires { 0x3000 < c }
     ensures { result ≡ ink_width c }
 {
     // Ideographs.
     if (0x4E00 <= c) & (c < 0xA000) {
-        return 2;
+        return Some(2);
     }
     // Kana.
     if (0x3041 <= c) & (c <= 0x3096) {
-        return 2;
+        return Some(2);
     }
     if (0x309B <= c) & (c <= 0x30FF) {
-        return 2;
+        return Some(2);
     }
     // Hangul.
     if (0xAC00 <= c) & (c <= 0xD7A3) {
-        return 2;
+        return Some(2);
     }
     // Emoji: the longest ranges of them, and the selector of their form.
     if (0x1F3F8 <= c) & (c <= 0x1F43E) {
-        return 2;
+        return Some(2);
     }
     if (0x1F442 <= c) & (c <= 0x1F4FC) {
-        return 2;
+        return Some(2);
     }
     if (0x1F4FF <= c) & (c <= 0x1F53D) {
-        return 2;
+        return Some(2);
     }
     if (0x1F5FB <= c) & (c <= 0x1F64F) {
-        return 2;
+        return Some(2);
     }
     if (0x1F680 <= c) & (c <= 0x1F6C5) {
-        return 2;
+        return Some(2);
     }
     if c == 0xFE0F {
-        return 0;
+        return Some(0);
     }
-    width(c)
+    Some(width(c))
 }
 
 // Whether a character is white space.

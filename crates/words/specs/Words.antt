@@ -1,5 +1,5 @@
 -- RULES 6.1 to 6.3: the word records of a paragraph.
-use Rattle.std.specs.Prelude.{Bool, true, false, cond, not, ◌&&◌, ◌||◌, List, [], ◌∷◌, ℕ, ◌+◌, ◌-◌, ltb, eqb, length}
+use Rattle.std.specs.Prelude.{Bool, true, false, cond, not, ◌&&◌, ◌||◌, List, [], ◌∷◌, ℕ, ◌+◌, ◌-◌, ltb, eqb, length, Option, Some, None}
 use Rattle.lists.specs.Walk.{each}
 use Rattle.lists.specs.Runs.{while, behind, joined}
 use Rattle.text.specs.Characters.{Glyph, glyphs, is_blank, is_tab}
@@ -7,8 +7,6 @@ use Rattle.options.specs.Opts.{Opts}
 use Rattle.lines.specs.Classes.{glyphs_from, next_stop}
 use Rattle.pieces.specs.Pieces.{Row, Paragraph}
 use Rattle.records.specs.Word.{Word}
-use Rattle.records.specs.declared.Before.{Before}
-use Rattle.records.specs.declared.Before.TheVariants.{Absent, Count}
 
 -- ---- a line split at blanks
 
@@ -39,27 +37,27 @@ width_sum (g ∷ gs) = g.width + width_sum gs
 -- ---- the counts of a gap
 
 pub record Gap : Type 0 where
-  pub before : Before
+  pub before : Option ℕ
   pub after : ℕ
 
 -- blanks count 1; the first tab parts the counts; a second or later tab rounds the after count up to the next stop
-abbrev pub gap_tab : ℕ → Before → ℕ → Gap
-gap_tab tab Absent after = record { before = Count after; after = 0 }
-gap_tab tab (Count n) after = record { before = Count n; after = next_stop tab after }
+abbrev pub gap_tab : ℕ → Option ℕ → ℕ → Gap
+gap_tab tab None after = record { before = Some after; after = 0 }
+gap_tab tab (Some n) after = record { before = Some n; after = next_stop tab after }
 
 unfoldable pub gap_from : ℕ → Gap → List Glyph → Gap
 gap_from tab g [] = g
 gap_from tab g (b ∷ bs) = gap_from tab (cond (is_tab b) (gap_tab tab g.before g.after) (record { before = g.before; after = g.after + 1 })) bs
 
 abbrev pub no_gap : Gap
-no_gap = record { before = Absent; after = 0 }
+no_gap = record { before = None; after = 0 }
 
 unfoldable pub gap_of : ℕ → List Glyph → Gap
 gap_of tab bs = gap_from tab no_gap bs
 
-abbrev pub has_tab : Before → Bool
-has_tab Absent = false
-has_tab (Count n) = true
+abbrev pub has_tab : Option ℕ → Bool
+has_tab None = false
+has_tab (Some n) = true
 
 -- ---- the marks
 
@@ -108,7 +106,7 @@ mail_word r = record {
   blanks = [];
   text = bytes_of r.text;
   width = length (bytes_of r.text);
-  before = Absent;
+  before = None;
   after = 0;
   new_line = false;
   ends_punct = false;

@@ -1,7 +1,7 @@
 // Words: a paragraph's word records.
 #![tactic(auto)]
 
-ghost use Rattle.std.specs.Prelude.{◌≡◌, Bool, true, false, cond, not, ◌&&◌, ◌||◌, List, [], ◌++◌, ℕ, ◌+◌, ◌-◌, ◌*◌, ◌≤◌, ◌<◌, ltb, eqb, length, get_or, take, drop};
+ghost use Rattle.std.specs.Prelude.{◌≡◌, Bool, true, false, cond, not, ◌&&◌, ◌||◌, List, [], ◌++◌, ℕ, ◌+◌, ◌-◌, ◌*◌, ◌≤◌, ◌<◌, ltb, eqb, length, get_or, take, drop, IfSome};
 ghost use Rattle.std.proofs.Math.Seq.{slice};
 ghost use Rattle.lists.specs.Runs.{while};
 ghost use Rattle.text.specs.Characters.{characters, is_blank};
@@ -20,26 +20,23 @@ ghost use Rattle.words.specs.Cited.Taken.{TakenTo};
 ghost use Rattle.words.specs.Cited.Spaced.{OverSpaces, SpacesBefore, plain_ink, PlainWord, EndsAt, SpacedTo, one_blank, SpacedNext};
 
 use options::Options;
-use records::{Before, Word};
+use records::Word;
 use text::{Char, Glyph};
 
-// How many words a paragraph has, or that there are more than so many.
-#[derive(Clone, Copy)]
-pub enum Count {
-    Words(usize),
-    TooMany,
-}
+// Why words are not split: there are more than so many.
+#[derive(Clone, Copy, Debug, PartialEq, Eq)]
+pub struct TooMany;
 
 // Blanks at a place: where they end, and the counts before and after their first tab.
-#[derive(Clone, Copy)]
+#[derive(Clone, Copy, Debug, PartialEq, Eq)]
 struct Blanks {
     end: usize,
-    before: Before,
+    before: Option<usize>,
     after: usize,
 }
 
 // Ink at a place: where it ends, its width, and whether it ends in punctuation.
-#[derive(Clone, Copy)]
+#[derive(Clone, Copy, Debug, PartialEq, Eq)]
 struct Ink {
     end: usize,
     width: usize,
@@ -48,7 +45,7 @@ struct Ink {
 
 // Words spaces apart: how many the table has with them, where they end, whether the first word of the line is still to come, and if not,
 // the mark of the last.
-#[derive(Clone, Copy)]
+#[derive(Clone, Copy, Debug, PartialEq, Eq)]
 struct Spaced {
     count: usize,
     at: usize,
@@ -58,20 +55,13 @@ struct Spaced {
 
 // Words of a line, as many as there is room for: how many the table has with them, where they end, whether the first word of the line is
 // still to come, and if not, the mark of the last; and whether there is one more.
-#[derive(Clone, Copy)]
+#[derive(Clone, Copy, Debug, PartialEq, Eq)]
 pub struct Taken {
     pub count: usize,
     pub at: usize,
     pub first: bool,
     pub punct: bool,
     pub more: bool,
-}
-
-// The next word of a line, or the line's end.
-#[derive(Clone, Copy)]
-pub enum Next {
-    One(Word),
-    End,
 }
 
 // The words of a paragraph's lines, which are in the notes from at up to next, with their places: the words of the first line begin at
@@ -88,7 +78,7 @@ pub fn split_words(
     o: Options,
     most: usize,
     table: &mut [u32],
-) -> Count
+) -> Result<usize, TooMany>
     requires { (at ≤ next) × (next ≤ length notes.now) × (length notes.now ≤ most_large) × (1 ≤ o.tab) × (o.tab ≤ 100) × Holds most table.old × (mail ≡ false → AllBegin o.glue start later (lines_of (slice at next notes.now))) }
     ensures { (block : List ℕ) → Split most notes.now (words_at (meant block o) mail start later (lines_of (slice at next notes.now))) (places_at o.glue mail at start later (lines_of (slice at next notes.now))) table.new result }
 {
@@ -102,7 +92,7 @@ pub fn split_words(
         let run = spaced_words(notes, from, next, mail, o, n, most, table);
         let on = run.at;
         let line = lines::first_line(&part[on..]);
-        let Count::Words(m) = split_line(
+        n = split_line(
             notes,
             on,
             on + line.text,
@@ -113,14 +103,11 @@ pub fn split_words(
             run.count,
             most,
             table,
-        ) else {
-            return Count::TooMany;
-        };
-        n = m;
+        )?;
         i = on + line.whole;
         skip = later;
     }
-    Count::Words(n)
+    Ok(n)
 }
 
 // Where the words of a line begin, of which mail's is taken whole.
@@ -163,7 +150,7 @@ fn spaced_words(
         if most <= r.count {
             return r;
         }
-        let Next::One(w) = spaced_word(s, r.at, r.first, r.punct, o) else {
+        let Some(w) = spaced_word(s, r.at, r.first, r.punct, o) else {
             return r;
         };
         records::store(table, r.count, w);
@@ -177,51 +164,40 @@ fn spaced_words(
 }
 
 // The next word of a line, if it is plain and nothing but spaces is before it.
-fn spaced_word(s: &[u8], at: usize, first: bool, previous: bool, o: Options) -> Next
+fn spaced_word(s: &[u8], at: usize, first: bool, previous: bool, o: Options) -> Option<Word>
     requires { at ≤ length s.now }
     ensures { SpacedNext (meant [] o) first previous s.now at result }
 {
     if !first {
-        if s.len() <= at {
-            return Next::End;
-        }
-        if s[at] != 32 {
-            return Next::End;
+        if s.get(at) != Some(&32) {
+            return None;
         }
         // One space is between most words. That no other is behind it need not be asked: it is not plain.
-        let end = near_end(s, at);
-        if end != 0 {
-            return Next::One(near_word(s, o.uniform, at, end));
+        if let Some(end) = near_end(s, at) {
+            return Some(near_word(s, o.uniform, at, end));
         }
     }
     far_word(s, at, first, previous, o)
 }
 
-// The end of the plain word after the space at a place, if the next sixteen bytes show it: a space or a line feed stands there. 0 if not.
-fn near_end(s: &[u8], at: usize) -> usize
+// The end of the plain word after the space at a place, if the next sixteen bytes show it: a space or a line feed stands there.
+fn near_end(s: &[u8], at: usize) -> Option<usize>
     requires { at < length s.now }
-    ensures { 0 < result → PlainWord s.now (at + 1) result }
+    ensures { IfSome result (λ end. PlainWord s.now (at + 1) end) }
 {
     if s.len() - at < 17 {
-        return 0;
+        return None;
     }
     let start = at + 1;
     let n = plain_in_sixteen(s, start);
     if n == 0 {
-        return 0;
+        return None;
     }
     let end = start + n;
-    if s.len() <= end {
-        return 0;
+    match s.get(end) {
+        Some(32 | 10) => Some(end),
+        _ => None,
     }
-    let b = s[end];
-    if b == 32 {
-        return end;
-    }
-    if b == 10 {
-        return end;
-    }
-    0
 }
 
 // The record of a plain word after one space: it starts no sentence.
@@ -231,45 +207,37 @@ fn near_word(s: &[u8], uniform: bool, at: usize, end: usize) -> Word
 {
     let start = at + 1;
     let w = plain_ink(s, start, end);
-    if uniform {
-        return Word {
-            from: start,
-            start,
-            end,
-            width: w.width,
-            before: Before::Absent,
-            after: 0,
-            first: false,
-            punct: w.punct,
-            sentence: false,
-        };
-    }
-    Word {
+    let spaced = Word {
         from: at,
         start,
         end,
         width: w.width,
-        before: Before::Absent,
+        before: None,
         after: 1,
         first: false,
         punct: w.punct,
         sentence: false,
+    };
+    if uniform {
+        Word {
+            from: start,
+            after: 0,
+            ..spaced
+        }
+    } else {
+        spaced
     }
 }
 
 // A plain word after any spaces, or the first of a line.
-fn far_word(s: &[u8], at: usize, first: bool, previous: bool, o: Options) -> Next
+fn far_word(s: &[u8], at: usize, first: bool, previous: bool, o: Options) -> Option<Word>
     requires { at ≤ length s.now }
     ensures { SpacedNext (meant [] o) first previous s.now at result }
 {
     let b = spaces_before(s, at, first);
-    let start = b.end;
-    let end = plain_word_end(s, start);
-    if end == 0 {
-        return Next::End;
-    }
-    let w = plain_ink(s, start, end);
-    Next::One(word_of(o.uniform, o.by_characters, first, previous, at, b, w))
+    let end = plain_word_end(s, b.end)?;
+    let w = plain_ink(s, b.end, end);
+    Some(word_of(o.uniform, o.by_characters, first, previous, at, b, w))
 }
 
 // The spaces before a word at a place: none before the first of a line.
@@ -277,17 +245,10 @@ fn spaces_before(s: &[u8], at: usize, first: bool) -> Blanks
     requires { at ≤ length s.now }
     ensures { SpacesBefore s.now at first result }
 {
-    if first {
-        return Blanks {
-            end: at,
-            before: Before::Absent,
-            after: 0,
-        };
-    }
-    let end = over_spaces(s, at);
+    let end = if first { at } else { over_spaces(s, at) };
     Blanks {
         end,
-        before: Before::Absent,
+        before: None,
         after: end - at,
     }
 }
@@ -297,37 +258,28 @@ fn over_spaces(s: &[u8], at: usize) -> usize
     requires { at ≤ length s.now }
     ensures { OverSpaces s.now at result }
 {
-    let mut i = at;
-    while i < s.len() {
+    for i in at..s.len() {
         if s[i] != 32 {
             return i;
         }
-        i += 1;
     }
-    i
+    s.len()
 }
 
-// The end of the plain word that begins at a place: a space, a tab or a line feed stands there, or nothing. 0 if there is none, or if it goes
-// on with other characters.
-fn plain_word_end(s: &[u8], start: usize) -> usize
+// The end of the plain word that begins at a place: a space, a tab or a line feed stands there, or nothing. None if there is no such word, or
+// if it goes on with other characters.
+fn plain_word_end(s: &[u8], start: usize) -> Option<usize>
     requires { start ≤ length s.now }
-    ensures { 0 < result → PlainWord s.now start result }
+    ensures { IfSome result (λ end. PlainWord s.now start end) }
 {
     let end = plain_end(s, start);
     if end == start {
-        return 0;
+        return None;
     }
-    if end == s.len() {
-        return end;
+    match s.get(end) {
+        None | Some(32 | 9 | 10) => Some(end),
+        Some(_) => None,
     }
-    let b = s[end];
-    if ends_word(b) {
-        return end;
-    }
-    if b == 10 {
-        return end;
-    }
-    0
 }
 
 // The ink of a plain word: each of its characters takes one column.
@@ -335,11 +287,10 @@ fn plain_ink(s: &[u8], start: usize, end: usize) -> Ink
     requires { PlainWord s.now start end }
     ensures { result ≡ plain_ink s.now start end }
 {
-    let last = end - 1;
     Ink {
         end,
         width: end - start,
-        punct: is_punct(text::wide(s[last])),
+        punct: is_punct(u32::from(s[end - 1])),
     }
 }
 
@@ -357,19 +308,16 @@ fn split_line(
     n: usize,
     most: usize,
     table: &mut [u32],
-) -> Count
+) -> Result<usize, TooMany>
     requires { (start ≤ end) × (end ≤ length notes.now) × (length notes.now ≤ most_large) × (1 ≤ o.tab) × (o.tab ≤ 100) × Kept most (length notes.now) n table.old × (head ≡ true → while is_blank (ink_glyphs o.glue (slice start end notes.now)) ≡ []) }
     ensures { WordsFilled most notes.now (words_in notes.now n table.old ++ words_from (meant [] o) mail head punct (glyphs_behind o.glue head (slice start end notes.now))) (places_in n table.old ++ places_from start (runs (glyphs_behind o.glue head (slice start end notes.now)))) table.new result }
 {
     // Of most lines nothing is left.
     if end <= start {
-        return Count::Words(n);
+        return Ok(n);
     }
     let r = split_some(notes, start, end, mail, head, punct, o, n, most, table);
-    if r.more {
-        return Count::TooMany;
-    }
-    Count::Words(r.count)
+    if r.more { Err(TooMany) } else { Ok(r.count) }
 }
 
 // The words of a line from start up to end, as many as there is room for after the first n of the table. All words are read in this loop,
@@ -396,7 +344,7 @@ pub fn split_some(
     let mut first = head;
     let mut previous = punct;
     loop {
-        let Next::One(w) = next_word(s, at, mail, first, previous, o) else {
+        let Some(w) = next_word(s, at, mail, first, previous, o) else {
             return Taken {
                 count,
                 at,
@@ -509,20 +457,27 @@ fn count_line(
 
 // The next word from a place on; the first of a line begins at the place. Blanks at the end belong to no word.
 // In the original: `WordSplit::next`.
-pub fn next_word(s: &[u8], at: usize, mail: bool, first: bool, previous: bool, o: Options) -> Next
+pub fn next_word(
+    s: &[u8],
+    at: usize,
+    mail: bool,
+    first: bool,
+    previous: bool,
+    o: Options,
+) -> Option<Word>
     requires { (at ≤ length s.now) × (length s.now ≤ most_large) × (1 ≤ o.tab) × (o.tab ≤ 100) × (first ≡ true → while is_blank (ink_glyphs o.glue (drop at s.now)) ≡ []) }
     ensures { NextIs (meant [] o) mail first previous s.now at result }
 {
     let b = blanks_at(s, at, o.tab, first);
     let start = b.end;
     if s.len() <= start {
-        return Next::End;
+        return None;
     }
     let w = over_ink(s, start, o.glue);
     if mail {
-        return Next::One(mail_word(start, w.end));
+        return Some(mail_word(start, w.end));
     }
-    Next::One(word_of(o.uniform, o.by_characters, first, previous, at, b, w))
+    Some(word_of(o.uniform, o.by_characters, first, previous, at, b, w))
 }
 
 // The record of a word after blanks that begin at a place.
@@ -539,31 +494,26 @@ fn word_of(
     requires { at ≤ b.end }
     ensures { result ≡ word_at uniform characters first previous at b w }
 {
-    let sentence = starts_sentence(characters, previous, at, b);
-    if uniform {
-        return Word {
-            from: b.end,
-            start: b.end,
-            end: w.end,
-            width: w.width,
-            before: Before::Absent,
-            after: 0,
-            first,
-            punct: w.punct,
-            sentence,
-        };
-    }
-    let before = b.before;
-    Word {
+    let spaced = Word {
         from: at,
         start: b.end,
         end: w.end,
         width: w.width,
-        before,
+        before: b.before,
         after: b.after,
         first,
         punct: w.punct,
-        sentence,
+        sentence: starts_sentence(characters, previous, at, b),
+    };
+    if uniform {
+        Word {
+            from: b.end,
+            before: None,
+            after: 0,
+            ..spaced
+        }
+    } else {
+        spaced
     }
 }
 
@@ -574,14 +524,7 @@ fn starts_sentence(characters: bool, previous: bool, at: usize, b: Blanks) -> bo
     requires { at ≤ b.end }
     ensures { result ≡ (previous && (has_tab b.before || ltb 1 (cond characters b.after (b.end - at)))) }
 {
-    if previous {
-        let before = b.before;
-        let Before::Absent = before else {
-            return true;
-        };
-        return 1 < blank_count(characters, at, b);
-    }
-    false
+    previous && (b.before.is_some() || 1 < blank_count(characters, at, b))
 }
 
 // How many blanks there are, by characters or by bytes. Without a tab the after count has every one.
@@ -603,7 +546,7 @@ fn mail_word(start: usize, end: usize) -> Word
         start,
         end,
         width: end - start,
-        before: Before::Absent,
+        before: None,
         after: 0,
         first: false,
         punct: false,
@@ -620,7 +563,7 @@ fn blanks_at(s: &[u8], at: usize, tab: usize, first: bool) -> Blanks
     if first {
         return Blanks {
             end: at,
-            before: Before::Absent,
+            before: None,
             after: 0,
         };
     }
@@ -637,13 +580,13 @@ fn over_blanks(s: &[u8], at: usize, tab: usize) -> Blanks
     if is_one_space(s, at) {
         return Blanks {
             end: at + 1,
-            before: Before::Absent,
+            before: None,
             after: 1,
         };
     }
     let mut b = Blanks {
         end: at,
-        before: Before::Absent,
+        before: None,
         after: 0,
     };
     loop {
@@ -665,10 +608,7 @@ fn over_blanks(s: &[u8], at: usize, tab: usize) -> Blanks
 fn is_tab(s: &[u8], at: usize) -> bool
     ensures { result ≡ true → (at < length s.now) × (get_or s.now at 0 ≡ 9) }
 {
-    if s.len() <= at {
-        return false;
-    }
-    s[at] == 9
+    s.get(at) == Some(&9)
 }
 
 // Whether a space is at a place, and no blank after it.
@@ -718,24 +658,23 @@ fn behind_blank(b: Blanks, code: u32, next: usize, tab: usize) -> Blanks
     requires { (1 ≤ tab) × (tab ≤ 100) × (b.after ≤ most_columns) }
     ensures { (result.end ≡ next) × (gap_in result ≡ gap_behind tab code (gap_in b)) }
 {
-    let before = b.before;
     if code != 9 {
         return Blanks {
             end: next,
-            before,
             after: b.after + 1,
+            ..b
         };
     }
-    match before {
-        Before::Absent => Blanks {
+    match b.before {
+        None => Blanks {
             end: next,
-            before: Before::Count(b.after),
+            before: Some(b.after),
             after: 0,
         },
-        Before::Count(n) => Blanks {
+        Some(_) => Blanks {
             end: next,
-            before: Before::Count(n),
             after: (b.after / tab + 1) * tab,
+            ..b
         },
     }
 }
@@ -759,12 +698,11 @@ fn over_ink(s: &[u8], at: usize, glue: bool) -> Ink
         let a = s[from];
         if 0xE0 <= a {
             match text::long_at(s, from) {
-                Char::Good { code, next } => {
-                    let columns = widths::ink_width(code);
-                    // White space, and none of it is U+00A0, which has two bytes.
-                    if columns == 3 {
+                Some(Char { code, next }) => {
+                    // White space has none, and none of it is U+00A0 here, which has two bytes.
+                    let Some(columns) = widths::ink_width(code) else {
                         return w;
-                    }
+                    };
                     w = Ink {
                         end: next,
                         width: w.width + columns,
@@ -772,7 +710,7 @@ fn over_ink(s: &[u8], at: usize, glue: bool) -> Ink
                     };
                 }
                 // A damaged byte is one by itself, and as wide as a character.
-                Char::Damaged => {
+                None => {
                     w = Ink {
                         end: from + 1,
                         width: w.width + 1,
@@ -792,7 +730,7 @@ fn over_ink(s: &[u8], at: usize, glue: bool) -> Ink
             };
         } else {
             match text::glyph_at(s, from) {
-                Glyph::Blank { code: _, next: _ } => {
+                Glyph::Blank { .. } => {
                     let on = glued_end(s, from, glue);
                     if on == from {
                         return w;
@@ -844,11 +782,10 @@ fn over_plain(s: &[u8], w: Ink) -> Ink
 {
     let from = w.end;
     let end = plain_end(s, from + 1);
-    let last = end - 1;
     Ink {
         end,
         width: w.width + (end - from),
-        punct: is_punct(text::wide(s[last])),
+        punct: is_punct(u32::from(s[end - 1])),
     }
 }
 
@@ -856,11 +793,10 @@ fn over_plain(s: &[u8], w: Ink) -> Ink
 fn is_plain(s: &[u8], at: usize) -> bool
     ensures { result ≡ true → Plain s.now at (at + 1) }
 {
-    if s.len() <= at {
-        return false;
+    match s.get(at) {
+        Some(b) => (33 <= *b) & (*b < 128),
+        None => false,
     }
-    let b = s[at];
-    (33 <= b) & (b < 128)
 }
 
 // The end of the plain characters at a place.
@@ -868,18 +804,13 @@ fn plain_end(s: &[u8], from: usize) -> usize
     requires { from ≤ length s.now }
     ensures { Plain s.now from result }
 {
-    let mut i = plain_eights(s, from);
-    while i < s.len() {
+    for i in plain_eights(s, from)..s.len() {
         let b = s[i];
-        if b < 33 {
+        if b < 33 || 127 < b {
             return i;
         }
-        if 127 < b {
-            return i;
-        }
-        i += 1;
     }
-    i
+    s.len()
 }
 
 // On over plain characters, eight at a time, up to one that is not plain or the last eight.
@@ -904,10 +835,7 @@ fn plain_in_sixteen(s: &[u8], i: usize) -> usize
     ensures { (result ≤ 16) × Plain s.now i (i + result) }
 {
     let n = plain_among(s, i);
-    if n < 8 {
-        return n;
-    }
-    8 + plain_among(s, i + 8)
+    if n < 8 { n } else { 8 + plain_among(s, i + 8) }
 }
 
 // How many of the eight bytes at a place, from the first on, are plain; none if one of the eight is not ASCII. With 95 added, each byte from

@@ -1,14 +1,11 @@
 -- How the code's answers, which are places and counts, mean what the definitions say of bytes and glyphs.
-use Rattle.std.specs.Prelude.{◌≡◌, Bool, false, cond, ◌&&◌, List, ◌∷◌, ℕ, ◌+◌, ◌-◌, ◌*◌, ◌≤◌, ◌<◌, eqb, length, get_or, drop}
+use Rattle.std.specs.Prelude.{◌≡◌, Bool, false, cond, ◌&&◌, List, ◌∷◌, ℕ, ◌+◌, ◌-◌, ◌*◌, ◌≤◌, ◌<◌, eqb, length, get_or, drop, Option, Some, None}
 use Rattle.lists.specs.Runs.{while, every}
 use Rattle.lists.specs.Theorems.All.{All}
 use Rattle.text.specs.Characters.{Glyph, glyph, characters, ink_ahead, is_blank, extent, damage}
 use Rattle.text.specs.Cited.Places.{Ascii, settle, ink_after, no_break_at}
-use Rattle.text.specs.declared.Found.{Found}
-use Rattle.text.specs.declared.Found.TheVariants.{At, Nowhere}
 use Rattle.options.specs.Opts.{Opts}
 use Rattle.options.specs.declared.Part.{Part}
-use Rattle.options.specs.declared.Part.TheVariants.{Absent, Given}
 use Rattle.options.specs.declared.Options.{Options}
 use Rattle.lines.specs.Lines.{Line, body}
 use Rattle.lines.specs.Classes.{glyphs_before, glyphs_from, column_behind, columns_of, shape_at, classify}
@@ -44,7 +41,7 @@ pub record AsciiBody (s : List ℕ) (from to : ℕ) : Type 0 where
 
 -- no line's text has a damaged character
 abbrev pub LinesSound : List Line → Type 0
-LinesSound = All (λ (l : Line). damage l.text ≡ Nowhere)
+LinesSound = All (λ (l : Line). damage l.text ≡ None)
 
 -- one byte stands from a place up to another, again and again
 pub record Repeats (byte : ℕ) (s : List ℕ) (from to : ℕ) : Type 0 where
@@ -58,9 +55,9 @@ pub record BehindTabs (s : List ℕ) (code next r : ℕ) : Type 0 where
   pub only : (code ≡ 9 → ⊥) → r ≡ next
 
 -- a part given lies in the block
-abbrev pub Lies : List ℕ → Part → Type 0
-Lies block Absent = Unit {0}
-Lies block (Given start end) = (start ≤ end) × (end ≤ length block)
+abbrev pub Lies : List ℕ → Option Part → Type 0
+Lies block None = Unit {0}
+Lies block (Some part) = (part.start ≤ part.end) × (part.end ≤ length block)
 
 -- what classifying asks of the options: all that reading a block accepts
 pub record Usable (block : List ℕ) (o : Options) : Type 0 where
@@ -82,9 +79,9 @@ unfoldable pub behind_all : ℕ → Spot → List Glyph → Spot
 behind_all tab m gs = record { at = m.at + extent gs; column = columns_of tab m.column gs }
 
 -- the class of a line whose prefix, of so many bytes, was looked for; the skip prefix is left out of account
-abbrev pub class_at : ℕ → ℕ → List Glyph → Found → Class
-class_at tab size gs Nowhere = Plain
-class_at tab size gs (At place) = cond (every is_blank (glyphs_from (place + size) gs)) Plain (Formatted (shape_at tab size gs place))
+abbrev pub class_at : ℕ → ℕ → List Glyph → Option ℕ → Class
+class_at tab size gs None = Plain
+class_at tab size gs (Some place) = cond (every is_blank (glyphs_from (place + size) gs)) Plain (Formatted (shape_at tab size gs place))
 
 -- r is the spot after the character at m
 pub record Behind (tab : ℕ) (line : List ℕ) (m r : Spot) : Type 0 where

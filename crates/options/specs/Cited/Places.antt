@@ -1,6 +1,6 @@
 -- What the code's small functions answer: a field is a place of the block, with the tag of the field before it; a number within
 -- bounds, and a prefix, as values of a field.
-use Rattle.std.specs.Prelude.{◌≡◌, Bool, ◌&&◌, List, ℕ, leb, eqb, length, drop}
+use Rattle.std.specs.Prelude.{◌≡◌, Bool, ◌&&◌, List, ℕ, leb, eqb, length, drop, Option}
 use Rattle.lists.specs.Runs.{every}
 use Rattle.text.specs.Characters.{characters, is_good}
 use Rattle.options.specs.OptionBlock.{Field, number, fields, part_of}
@@ -16,7 +16,7 @@ unfoldable pub prefix_text : List ℕ → Bool
 prefix_text v = leb (length v) 255 && every is_good (characters v)
 
 -- these are the parts of the block's six fields
-pub record PartsAre (block : List ℕ) (flags width goal tab prefix skip : Part) : Type 0 where
+pub record PartsAre (block : List ℕ) (flags width goal tab prefix skip : Option Part) : Type 0 where
   pub is_flags : flags ≡ part_of 1 (fields block)
   pub is_width : width ≡ part_of 2 (fields block)
   pub is_goal : goal ≡ part_of 3 (fields block)

@@ -1,5 +1,5 @@
 -- The next piece as places in the notes: what the code answers. proofs/Meaning.antt shows that it means the next piece of the definition.
-use Rattle.std.specs.Prelude.{◌≡◌, Bool, true, false, cond, not, ◌||◌, ◌&&◌, List, [], ◌∷◌, ℕ, ◌+◌, ◌≤◌, ◌<◌, length, take, drop, ltb}
+use Rattle.std.specs.Prelude.{◌≡◌, Bool, true, false, cond, not, ◌||◌, ◌&&◌, List, [], ◌∷◌, ℕ, ◌+◌, ◌≤◌, ◌<◌, length, take, drop, ltb, None, Option, Some, is_some}
 use Rattle.std.proofs.Math.Seq.{slice}
 use Rattle.lists.specs.Runs.{joined}
 use Rattle.options.specs.Opts.{Opts}
@@ -12,11 +12,9 @@ use Rattle.lines.specs.declared.Class.{Class}
 use Rattle.lines.specs.declared.Class.TheVariants.{Blank, Plain, Formatted}
 use Rattle.pieces.specs.Pieces.{Second, alone, joins, starts_mail, further, second_of, follow, agrees, printable, no_colon}
 use Rattle.options.specs.declared.Part.{Part}
-use Rattle.options.specs.declared.Part.TheVariants.{Absent, Given}
 use Rattle.pieces.specs.declared.Rule.{Rule}
 use Rattle.pieces.specs.declared.Rule.TheVariants.{Mail, Like}
 use Rattle.pieces.specs.declared.Second.{Second as SecondAt}
-use Rattle.pieces.specs.declared.Second.TheVariants.{Alone, Joins}
 use Rattle.pieces.specs.declared.Classed.{Classed}
 use Rattle.pieces.specs.declared.Margin.{Margin}
 use Rattle.pieces.specs.declared.Paragraph.{Paragraph}
@@ -91,11 +89,14 @@ unfoldable pub reach : Opts → (Shape → Bool) → List ℕ → ℕ → ℕ
 reach o test notes i = let ls = lines_of (drop i notes) in i + taken (take (follow o test ls) ls)
 
 -- the second line and the place after it
-abbrev pub second_place : ℕ → Second → SecondAt
-second_place next alone = Alone
-second_place next (joins text t) = Joins next t
+abbrev pub joining : ℕ → Shape → Option SecondAt
+joining next shape = Some (record { next = next; shape = shape })
 
-unfoldable pub second_at : Opts → Shape → List ℕ → ℕ → SecondAt
+abbrev pub second_place : ℕ → Second → Option SecondAt
+second_place next alone = None
+second_place next (joins text t) = joining next t
+
+unfoldable pub second_at : Opts → Shape → List ℕ → ℕ → Option SecondAt
 second_at o s notes at = second_place (at + length (first_line (drop at notes)).raw) (second_of o s (lines_of (drop at notes)))
 
 -- what the functions ask: the notes are short, the options are those that a block gives, a place lies in the notes, and the lines from there
@@ -129,21 +130,17 @@ pub record Joined (notes : List ℕ) (at next : ℕ) (s : Shape) : Type 0 where
   pub first : lines_of (drop at notes) ≡ first_line (drop at notes) ∷ lines_of (drop next notes)
   pub count : next ≡ at + length (first_line (drop at notes)).raw
 
-abbrev pub SecondSound : List ℕ → ℕ → SecondAt → Type 0
-SecondSound notes at Alone = Unit {0}
-SecondSound notes at (Joins next s) = Joined notes at next s
+abbrev pub SecondSound : List ℕ → ℕ → Option SecondAt → Type 0
+SecondSound notes at None = Unit {0}
+SecondSound notes at (Some second) = Joined notes at second.next second.shape
 
 -- split clears crown and tagged
 abbrev pub Cleared : Options → Type 0
 Cleared o = o.split ≡ true → (o.crown || o.tagged) ≡ false
 
 -- the rule by which further lines join, of the code's options
-abbrev pub is_given : Part → Bool
-is_given Absent = false
-is_given (Given start end) = true
-
-unfoldable pub passes_rule : Rule → Part → Shape → Bool
-passes_rule Mail prefix s = ltb 0 s.indent_end && (not (is_given prefix) || ltb 0 s.prefix_place)
+unfoldable pub passes_rule : Rule → Option Part → Shape → Bool
+passes_rule Mail prefix s = ltb 0 s.indent_end && (not (is_some prefix) || ltb 0 s.prefix_place)
 passes_rule (Like a) prefix s = agrees a s
 
 -- a byte of a header's name: printable and no colon

@@ -1,18 +1,16 @@
 -- The word table: records of seven numbers each. What it holds as records, and as words of the notes.
-use Rattle.std.specs.Prelude.{cond, List, [], ◌∷◌, ◌++◌, map, ◌≡◌, ℕ, zero, suc, ◌+◌, ◌-◌, ◌*◌, ◌/◌, ◌%◌, ◌^◌, ◌≤◌, ◌<◌, eqb, length, get_or, set}
+use Rattle.std.specs.Prelude.{cond, List, [], ◌∷◌, ◌++◌, map, ◌≡◌, ℕ, zero, suc, ◌+◌, ◌-◌, ◌*◌, ◌/◌, ◌%◌, ◌^◌, ◌≤◌, ◌<◌, eqb, length, get_or, set, Option, Some, None}
 use Rattle.std.proofs.lemmas.List.Edits.{sets}
-use Rattle.records.specs.declared.Before.{Before}
-use Rattle.records.specs.declared.Before.TheVariants.{Absent, Count}
 use Rattle.records.specs.declared.Word.{Word as Record}
 use Rattle.records.specs.Word.{Word, meaning}
 
 -- the count before a tab as a number: 0 is absent
-abbrev pub before_number : Before → ℕ
-before_number Absent = 0
-before_number (Count n) = n + 1
+abbrev pub before_number : Option ℕ → ℕ
+before_number None = 0
+before_number (Some n) = n + 1
 
-abbrev pub before_of : ℕ → Before
-before_of n = cond (eqb n 0) Absent (Count (n - 1))
+abbrev pub before_of : ℕ → Option ℕ
+before_of n = cond (eqb n 0) None (Some (n - 1))
 
 -- the three marks as one number of three bits
 abbrev pub marks_of : Record → ℕ

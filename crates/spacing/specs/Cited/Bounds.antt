@@ -1,11 +1,10 @@
 -- What the code of gap width and added space answers: the definition's number, and a bound for the sums that it goes into; and settings to sum with.
-use Rattle.std.specs.Prelude.{Bool, ◌≡◌, ℕ, ◌+◌, ◌≤◌, ◌<◌, ◌^◌}
+use Rattle.std.specs.Prelude.{Bool, ◌≡◌, ℕ, ◌+◌, ◌≤◌, ◌<◌, ◌^◌, Option}
 use Rattle.records.specs.Cited.Table.{before_number}
-use Rattle.records.specs.declared.Before.{Before}
 use Rattle.spacing.specs.declared.Setting.{Setting}
 use Rattle.spacing.specs.Spacing.{gap_width, added_space}
 
-pub record GapIs (tab column : ℕ) (before : Before) (after r : ℕ) : Type 0 where
+pub record GapIs (tab column : ℕ) (before : Option ℕ) (after r : ℕ) : Type 0 where
   pub is : r ≡ gap_width tab column before after
   pub most : r ≤ after + before_number before + tab
 

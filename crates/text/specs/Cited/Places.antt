@@ -1,17 +1,19 @@
 -- How the code's answers at a place mean what is at the front of the text from there on.
-use Rattle.std.specs.Prelude.{◌≡◌, Bool, true, false, cond, not, ◌&&◌, List, [], ◌∷◌, ℕ, ◌+◌, ◌*◌, ◌/◌, ◌%◌, ◌≤◌, ◌<◌, ltb, leb, eqb, length, get_or, drop}
+use Rattle.std.specs.Prelude.{◌≡◌, Bool, true, false, cond, not, ◌&&◌, List, [], ◌∷◌, ℕ, ◌+◌, ◌*◌, ◌/◌, ◌%◌, ◌≤◌, ◌<◌, ltb, leb, eqb, length, get_or, drop, None, Option, Some}
 use Rattle.lists.specs.Runs.{while}
 use Rattle.widths.specs.WhiteSpace.{white_space}
 use Rattle.text.specs.Rfc3629.{Front, front, nothing}
 use Rattle.text.specs.Characters.{Glyph, characters, no_break, ink_ahead, glued, extent}
 use Rattle.text.specs.declared.Char.{Char}
-use Rattle.text.specs.declared.Char.TheVariants.{Good, Damaged}
 use Rattle.text.specs.declared.Glyph.{Glyph as Seen}
 use Rattle.text.specs.declared.Glyph.TheVariants.{Ink, Blank, Damaged as Broken}
 
-abbrev pub read_as : ℕ → Front → Char
-read_as at (front c n) = Good c (at + n)
-read_as at nothing = Damaged
+abbrev pub good : ℕ → ℕ → Option Char
+good code next = Some (record { code = code; next = next })
+
+abbrev pub read_as : ℕ → Front → Option Char
+read_as at (front c n) = good c (at + n)
+read_as at nothing = None
 
 -- a character, by its number and the place after it
 abbrev pub glyph_of : ℕ → ℕ → Seen

@@ -1,5 +1,5 @@
 -- The forms in which the code holds the widths. They serve contracts alone.
-use Rattle.std.specs.Prelude.{◌≡◌, cond, ℕ, ◌+◌, ◌*◌, drop}
+use Rattle.std.specs.Prelude.{◌≡◌, cond, ℕ, ◌+◌, ◌*◌, drop, Option, Some, None}
 use Rattle.widths.specs.Ranges.{Range, span, width_in}
 use Rattle.widths.specs.Table.{table}
 use Rattle.widths.specs.Widths.{width_of}
@@ -21,6 +21,6 @@ behind = 474
 abbrev pub LeftOut : ℕ → ℕ → Type 0
 LeftOut k c = width_in (drop k table) c ≡ width_of c
 
--- the width of a character, or 3 if it is white space
-unfoldable pub ink_width : ℕ → ℕ
-ink_width c = cond (white_space c) 3 (width_of c)
+-- the width of a character that is no white space
+unfoldable pub ink_width : ℕ → Option ℕ
+ink_width c = cond (white_space c) None (Some (width_of c))

@@ -1,5 +1,5 @@
 -- A paragraph's words and their places, of its lines and where their words begin; and the code's answer.
-use Rattle.std.specs.Prelude.{Bool, cond, List, [], ◌∷◌, ℕ, leb, length}
+use Rattle.std.specs.Prelude.{Bool, cond, List, [], ◌∷◌, ℕ, leb, length, Ok, Err, Result}
 use Rattle.lists.specs.Runs.{joined}
 use Rattle.options.specs.Opts.{Opts}
 use Rattle.lines.specs.Lines.{Line}
@@ -7,8 +7,7 @@ use Rattle.pieces.specs.Pieces.{Row}
 use Rattle.records.specs.Word.{Word}
 use Rattle.words.specs.Words.{row_words}
 use Rattle.words.specs.Places.{places_of}
-use Rattle.words.specs.declared.Count.{Count}
-use Rattle.words.specs.declared.Count.TheVariants.{Words, TooMany}
+use Rattle.words.specs.declared.TooMany.{TooMany}
 
 -- the words of the first line begin at start, those of the others at later
 unfoldable pub rows_at : ℕ → ℕ → List Line → List Row
@@ -23,5 +22,5 @@ unfoldable pub places_at : Bool → Bool → ℕ → ℕ → ℕ → List Line �
 places_at glue mail at start later ls = places_of glue mail at ls (rows_at start later ls)
 
 -- up to so many words are counted
-unfoldable pub counted : ℕ → List Word → Count
-counted most ws = cond (leb (length ws) most) (Words (length ws)) TooMany
+unfoldable pub counted : ℕ → List Word → Result ℕ TooMany
+counted most ws = cond (leb (length ws) most) (Ok (length ws)) (Err (record {}))

@@ -1,5 +1,5 @@
 -- How the code's answers at a place of a text mean what the definitions say of the glyphs from there on.
-use Rattle.std.specs.Prelude.{◌≡◌, Bool, true, false, cond, ◌&&◌, ◌||◌, List, [], ◌∷◌, ℕ, ◌+◌, ◌-◌, ◌*◌, ◌≤◌, ◌<◌, ltb, eqb, length, get_or, drop}
+use Rattle.std.specs.Prelude.{◌≡◌, Bool, true, false, cond, ◌&&◌, ◌||◌, List, [], ◌∷◌, ℕ, ◌+◌, ◌-◌, ◌*◌, ◌≤◌, ◌<◌, ltb, eqb, length, get_or, drop, Some, None, Option}
 use Rattle.lists.specs.Runs.{while, behind}
 use Rattle.text.specs.Characters.{Glyph, glyph, glyphs, is_blank, extent}
 use Rattle.text.specs.Cited.Places.{ink_glyphs, glued_extent}
@@ -7,13 +7,10 @@ use Rattle.options.specs.Opts.{Opts}
 use Rattle.records.specs.Word.{Word, meaning}
 use Rattle.records.specs.Cited.Table.{before_number, Within}
 use Rattle.records.specs.declared.Word.{Word as Record}
-use Rattle.records.specs.declared.Before.TheVariants.{Absent}
 use Rattle.words.specs.Words.{is_ink, runs, width_sum, Gap, gap_tab, gap_of, has_tab, punct_at_end, counting, line_words, mail_words}
 use Rattle.words.specs.Places.{places_from}
 use Rattle.words.specs.declared.Blanks.{Blanks}
 use Rattle.words.specs.declared.Ink.{Ink}
-use Rattle.words.specs.declared.Next.{Next}
-use Rattle.words.specs.declared.Next.TheVariants.{One, End}
 
 -- the glyphs of a line's rest, that is after ink or not
 abbrev pub glyphs_behind : Bool → Bool → List ℕ → List Glyph
@@ -30,7 +27,7 @@ gap_behind tab code g = cond (eqb code 9) (gap_tab tab g.before g.after) (record
 
 -- no blank is at a place
 abbrev pub no_blanks : ℕ → Blanks
-no_blanks at = record { end = at; before = Absent; after = 0 }
+no_blanks at = record { end = at; before = None; after = 0 }
 
 -- r is what stands of blanks at a place, after ink or not; after it a word may begin
 pub record OverBlanks (glue : Bool) (tab : ℕ) (ink : Bool) (s : List ℕ) (at : ℕ) (r : Blanks) : Type 0 where
@@ -88,7 +85,7 @@ word_at uniform characters first previous at b w = record {
   start = b.end;
   end = w.end;
   width = w.width;
-  before = cond uniform Absent b.before;
+  before = cond uniform None b.before;
   after = cond uniform 0 b.after;
   first = first;
   punct = w.punct;
@@ -97,7 +94,7 @@ word_at uniform characters first previous at b w = record {
 
 -- mail: the width in bytes, no blanks and no marks
 abbrev pub mail_at : ℕ → ℕ → Record
-mail_at start end = record { from = start; start = start; end = end; width = end - start; before = Absent; after = 0; first = false; punct = false; sentence = false }
+mail_at start end = record { from = start; start = start; end = end; width = end - start; before = None; after = 0; first = false; punct = false; sentence = false }
 
 -- the words of the glyphs that are left of a line: whether the next is its first, and whether the one before it ends in punctuation
 unfoldable pub words_from : Opts → Bool → Bool → Bool → List Glyph → List Word
@@ -114,7 +111,7 @@ pub record NextWord (o : Opts) (mail new_line previousPunct : Bool) (s : List �
   pub before : before_number w.before ≤ 100 * length s
   pub after : w.after ≤ 100 * length s
 
-abbrev pub NextIs : Opts → Bool → Bool → Bool → List ℕ → ℕ → Next → Type 0
-NextIs o mail new_line previousPunct s at End =
+abbrev pub NextIs : Opts → Bool → Bool → Bool → List ℕ → ℕ → Option Record → Type 0
+NextIs o mail new_line previousPunct s at None =
     (words_from o mail new_line previousPunct (glyphs_behind o.glue new_line (drop at s)) ≡ []) × (places_from at (runs (glyphs_behind o.glue new_line (drop at s))) ≡ [])
-NextIs o mail new_line previousPunct s at (One w) = NextWord o mail new_line previousPunct s at w
+NextIs o mail new_line previousPunct s at (Some w) = NextWord o mail new_line previousPunct s at w

@@ -1,12 +1,11 @@
 -- Words of plain characters, spaces apart, and where their line's text ends.
-use Rattle.std.specs.Prelude.{◌≡◌, Bool, true, false, not, ◌||◌, List, [], ◌++◌, ◌⊎◌, ℕ, ◌+◌, ◌-◌, ◌≤◌, ◌<◌, eqb, length, get_or}
+use Rattle.std.specs.Prelude.{◌≡◌, Bool, true, false, not, ◌||◌, List, [], ◌++◌, ◌⊎◌, ℕ, ◌+◌, ◌-◌, ◌≤◌, ◌<◌, eqb, length, get_or, Some, None, Option}
 use Rattle.std.proofs.Math.Seq.{slice}
 use Rattle.lists.specs.Runs.{while}
 use Rattle.text.specs.Characters.{is_blank}
 use Rattle.text.specs.Cited.Places.{ink_glyphs}
 use Rattle.options.specs.Opts.{Opts}
 use Rattle.records.specs.Cited.Table.{words_in}
-use Rattle.records.specs.declared.Before.TheVariants.{Absent}
 use Rattle.records.specs.declared.Word.{Word as Record}
 use Rattle.words.specs.Words.{runs}
 use Rattle.words.specs.Places.{places_from}
@@ -14,8 +13,6 @@ use Rattle.words.specs.Cited.Scan.{no_blanks, punct_code, Plain, glyphs_behind, 
 use Rattle.words.specs.Cited.Split.{places_in}
 use Rattle.words.specs.declared.Blanks.{Blanks}
 use Rattle.words.specs.declared.Ink.{Ink}
-use Rattle.words.specs.declared.Next.{Next}
-use Rattle.words.specs.declared.Next.TheVariants.{One, End}
 use Rattle.words.specs.declared.Spaced.{Spaced}
 
 -- r is after the spaces at a place
@@ -27,7 +24,7 @@ pub record OverSpaces (s : List ℕ) (at r : ℕ) : Type 0 where
 -- b are the spaces before a word at a place: none before the first of a line
 pub record SpacesBefore (s : List ℕ) (at : ℕ) (first : Bool) (b : Blanks) : Type 0 where
   pub over : OverSpaces s at b.end
-  pub counts : b ≡ record { end = b.end; before = Absent; after = b.end - at }
+  pub counts : b ≡ record { end = b.end; before = None; after = b.end - at }
   pub none : first ≡ true → b ≡ no_blanks at
 
 -- the ink of a plain word
@@ -47,7 +44,7 @@ pub record PlainBehind (s : List ℕ) (at : ℕ) (first : Bool) (b : Blanks) (en
 
 -- one space is at a place
 abbrev pub one_blank : ℕ → Blanks
-one_blank at = record { end = at + 1; before = Absent; after = 1 }
+one_blank at = record { end = at + 1; before = None; after = 1 }
 
 -- w is the record of such a word, after these spaces
 pub record PlainNext (o : Opts) (first previous : Bool) (s : List ℕ) (at : ℕ) (w : Record) : Type 0 where
@@ -57,9 +54,9 @@ pub record PlainNext (o : Opts) (first previous : Bool) (s : List ℕ) (at : ℕ
   pub is : w ≡ word_at o.uniform o.by_characters first previous at gap (plain_ink s gap.end stop)
 
 -- the next word, if there is such a one
-abbrev pub SpacedNext : Opts → Bool → Bool → List ℕ → ℕ → Next → Type 0
-SpacedNext o first previous s at End = Unit {0}
-SpacedNext o first previous s at (One w) = PlainNext o first previous s at w
+abbrev pub SpacedNext : Opts → Bool → Bool → List ℕ → ℕ → Option Record → Type 0
+SpacedNext o first previous s at None = Unit {0}
+SpacedNext o first previous s at (Some w) = PlainNext o first previous s at w
 
 -- the text of the line that a place is in ends at another: at the text's end, or at a line feed, with the carriage return before it
 pub record EndsAt (s : List ℕ) (from end : ℕ) : Type 0 where
