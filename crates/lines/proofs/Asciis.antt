@@ -1,4 +1,5 @@
 -- A line's front of bytes below 0x80: the run that the code goes over, and that a line of such bytes alone has no damaged character.
+use Rattle.std.proofs.Common.{None}
 use mathlib.Core.Path.{◌≡◌, refl, sym, ◌∙◌}
 use mathlib.Core.Bool.{true}
 use mathlib.Core.List.{List}
@@ -10,7 +11,6 @@ use lib.Seq.{get_or-take, length-take-le}
 use borrow.Author.Tests.{eqb-true}
 use Rattle.text.specs.Characters.{damage}
 use Rattle.text.specs.Cited.Places.{Ascii, Printable}
-use Rattle.text.specs.declared.Found.TheVariants.{Nowhere}
 use Rattle.text.proofs.Damage.{later_zero, damage_past}
 use Rattle.text.proofs.Asciis.{ascii_none, ascii_one, ascii_more, damage_run}
 use Rattle.lines.specs.Lines.{first_line}
@@ -59,5 +59,5 @@ ascii_text s e run end h a b q =
     let l : length (take e.text s) ≡ e.text = length-take-le e.text s (omega (arith, a.ascii.within)) in
     record { on = omega arith; within = omega arith; small = λ i x y. rw (get_or-take e.text s i 0 (omega arith)) (a.ascii.small i x (omega arith)) }
 
-pub ascii_sound : (line : List ℕ) → Ascii line 0 (length line) → damage line ≡ Nowhere
+pub ascii_sound : (line : List ℕ) → Ascii line 0 (length line) → damage line ≡ None
 ascii_sound line a = sym (later_zero _) ∙ damage_run line 0 (length line) a ∙ damage_past line (length line) (omega arith)

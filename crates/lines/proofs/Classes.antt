@@ -1,4 +1,5 @@
 -- The class of a line, test by test, from what the code finds.
+use Rattle.std.proofs.Common.{Option, Some, None}
 use mathlib.Core.Path.{◌≡◌, refl, sym, ap, ◌∙◌}
 use mathlib.Core.Bool.{Bool, true, false, or-true, or-false}
 use mathlib.Core.List.{List, ◌++◌}
@@ -10,8 +11,6 @@ use borrow.Author.Tests.{eq-eqb, ne_eqb}
 use Rattle.lists.specs.Runs.{while, every}
 use Rattle.text.specs.Characters.{Glyph, characters, glyphs, is_blank, is_good, extent}
 use Rattle.text.specs.Cited.Places.{settle}
-use Rattle.text.specs.declared.Found.{Found}
-use Rattle.text.specs.declared.Found.TheVariants.{At, Nowhere}
 use Rattle.text.proofs.Glue.{glyphs_settle}
 use Rattle.options.specs.Opts.{Opts, Text, absent, given}
 use Rattle.lines.specs.Lines.{body, without_return, first_line}
@@ -54,8 +53,8 @@ shape_bare tab gs r e = shape_is tab 0 gs 0 line_start r (rw up_to_zero (behind_
 -- ---- classes
 
 -- a prefix that is found, and the spots at its end and after the blanks there
-module _ (glue : Bool) (tab size place : ℕ) (line : List ℕ) (m r : Spot) (f : Found)
-    (found : f ≡ At place) (b : BehindPlace tab line (place + size) m) (w : BehindBlanks tab line (glyphs_behind glue line (place + size) m.at) m r) where
+module _ (glue : Bool) (tab size place : ℕ) (line : List ℕ) (m r : Spot) (f : Option ℕ)
+    (found : f ≡ Some place) (b : BehindPlace tab line (place + size) m) (w : BehindBlanks tab line (glyphs_behind glue line (place + size) m.at) m r) where
   -- the line's glyphs before the prefix's end, and from it on
   spot_before : m ≡ behind_all tab line_start (glyphs_before (place + size) (glyphs glue line))
   spot_before = b.spot ∙ sym (before_settle glue tab line_start (place + size) false (characters line)) ∙ ap (λ (gs : List Glyph). behind_all tab line_start (glyphs_before (place + size) gs)) (sym (glyphs_settle glue line))
@@ -91,18 +90,18 @@ module _ (o : Opts) (line : List ℕ) where
       unfolding classify
       class_skipped e = rw (ink, good) (pick (prefix_found o.exact_prefix o.prefix line (glyphs o.glue line)))
         where
-          pick : (f : Found) → Plain ≡ class_behind o line (glyphs o.glue line) f
-          pick Nowhere = refl
-          pick (At place) = rw (e, or-true (every is_blank (glyphs_from (place + prefix_size o.prefix) (glyphs o.glue line))))
+          pick : (f : Option ℕ) → Plain ≡ class_behind o line (glyphs o.glue line) f
+          pick None = refl
+          pick (Some place) = rw (e, or-true (every is_blank (glyphs_from (place + prefix_size o.prefix) (glyphs o.glue line))))
 
       module _ (unskipped : somewhere (skip_found o.exact_skip o.skip line (glyphs o.glue line)) ≡ false) where
         class_prefixed : class_at o.tab (prefix_size o.prefix) (glyphs o.glue line) (prefix_found o.exact_prefix o.prefix line (glyphs o.glue line)) ≡ classify o line
         unfolding classify
         class_prefixed = rw (ink, good) (pick (prefix_found o.exact_prefix o.prefix line (glyphs o.glue line)))
           where
-            pick : (f : Found) → class_at o.tab (prefix_size o.prefix) (glyphs o.glue line) f ≡ class_behind o line (glyphs o.glue line) f
-            pick Nowhere = refl
-            pick (At place) = rw (unskipped, or-false (every is_blank (glyphs_from (place + prefix_size o.prefix) (glyphs o.glue line))))
+            pick : (f : Option ℕ) → class_at o.tab (prefix_size o.prefix) (glyphs o.glue line) f ≡ class_behind o line (glyphs o.glue line) f
+            pick None = refl
+            pick (Some place) = rw (unskipped, or-false (every is_blank (glyphs_from (place + prefix_size o.prefix) (glyphs o.glue line))))
 
         class_with : (t : Text) → o.prefix ≡ t → class_at o.tab (prefix_size t) (glyphs o.glue line) (prefix_found o.exact_prefix t line (glyphs o.glue line)) ≡ classify o line
         class_with t h = ap (λ (u : Text). class_at o.tab (prefix_size u) (glyphs o.glue line) (prefix_found o.exact_prefix u line (glyphs o.glue line))) (sym h) ∙ class_prefixed

@@ -1,5 +1,6 @@
 -- Columns counted afresh from bytes: glyphs written one after the other take the columns that they take as glyphs. So does the indent of a
 -- formatted line, after which stands a character that is no blank.
+use Rattle.std.proofs.Common.{Option, Some, None}
 use mathlib.Core.Path.{◌≡◌, refl, sym, ap, ◌∙◌}
 use mathlib.Core.Bool.{Bool, true, false, cond, not, ◌||◌, and-eq-true_iff}
 use mathlib.Core.List.{List, [], ◌∷◌, ◌++◌, append_assoc}
@@ -15,8 +16,6 @@ use Rattle.lists.proofs.All.{all_front}
 use Rattle.lists.proofs.Runs.{while_end}
 use Rattle.lists.proofs.RunParts.{behind_fails}
 use Rattle.text.specs.Characters.{Glyph, characters, glyphs, is_blank, is_good, extent}
-use Rattle.text.specs.declared.Found.{Found}
-use Rattle.text.specs.declared.Found.TheVariants.{At, Nowhere}
 use Rattle.text.proofs.Extents.{glyphs_sound}
 use Rattle.text.proofs.Glyphs.{characters_past}
 use Rattle.text.proofs.Edges.{glyphs_joined}
@@ -111,11 +110,11 @@ module _ (o : Opts) (line : List ℕ) where
           let k : shape_at o.tab (prefix_size o.prefix) gs place ≡ s = cc in
           rw (← k) (shaped place g)
 
-      found : (f : Found) → every is_good gs ≡ true → class_behind o line gs f ≡ Formatted s → Indented o line s
-      found Nowhere g e = absurd (let z : ◌≡◌ {A = ℕ} 0 1 = cc in omega arith)
-      found (At place) g e = behind_prefix place (every is_blank (glyphs_from (place + prefix_size o.prefix) gs) || somewhere (skip_found o.exact_skip o.skip line gs)) g e
+      found : (f : Option ℕ) → every is_good gs ≡ true → class_behind o line gs f ≡ Formatted s → Indented o line s
+      found None g e = absurd (let z : ◌≡◌ {A = ℕ} 0 1 = cc in omega arith)
+      found (Some place) g e = behind_prefix place (every is_blank (glyphs_from (place + prefix_size o.prefix) gs) || somewhere (skip_found o.exact_skip o.skip line gs)) g e
 
-      blank : (b t : Bool) → every is_good gs ≡ t → (f : Found) → cond b Blank (cond t (class_behind o line gs f) Plain) ≡ Formatted s → Indented o line s
+      blank : (b t : Bool) → every is_good gs ≡ t → (f : Option ℕ) → cond b Blank (cond t (class_behind o line gs f) Plain) ≡ Formatted s → Indented o line s
       blank true t g f e = absurd (let z : ◌≡◌ {A = ℕ} 0 1 = cc in omega arith)
       blank false true g f e = found f g e
       blank false false g f e = absurd (let z : ◌≡◌ {A = ℕ} 0 1 = cc in omega arith)

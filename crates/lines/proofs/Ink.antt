@@ -1,4 +1,5 @@
 -- Where a line has ink: an empty line is blank, a damaged one plain, and a formatted one has a non-blank at or after its indent's end.
+use Rattle.std.proofs.Common.{Option, Some, None}
 use mathlib.Core.Path.{◌≡◌, refl, sym, ap, ◌∙◌}
 use mathlib.Core.Bool.{Bool, true, false, cond, ◌||◌}
 use mathlib.Core.List.{List, [], ◌∷◌, ◌++◌, append_assoc}
@@ -15,8 +16,6 @@ use Rattle.text.specs.Characters.{Glyph, glyphs, is_blank, is_good, extent}
 use Rattle.text.proofs.Extents.{Sound, glyphs_sound}
 use Rattle.text.proofs.Blanks.{damaged_ink}
 use Rattle.text.proofs.Edges.{glyphs_past}
-use Rattle.text.specs.declared.Found.{Found}
-use Rattle.text.specs.declared.Found.TheVariants.{At, Nowhere}
 use Rattle.options.specs.Opts.{Opts}
 use Rattle.lines.specs.Classes.{glyphs_before, glyphs_from, prefix_found, prefix_size, skip_found, somewhere, shape_at, class_behind, classify}
 use Rattle.lines.specs.declared.Shape.{Shape}
@@ -84,11 +83,11 @@ formatted_ink o line s e = blank (every is_blank gs) (every is_good gs) (prefix_
         let k : shape_at o.tab (prefix_size o.prefix) gs place ≡ s = cc in
         ap (λ (t : Shape). every is_blank (glyphs_from t.indent_end gs)) (sym k) ∙ ap (every is_blank) (from_indent o line place) ∙ every_behind is_blank (glyphs_from (place + prefix_size o.prefix) gs) ∙ h
 
-    found : (f : Found) → class_behind o line gs f ≡ Formatted s → every is_blank (glyphs_from s.indent_end gs) ≡ false
-    found Nowhere e = cc
-    found (At place) e = behind_prefix place _ (somewhere (skip_found o.exact_skip o.skip line gs)) refl e
+    found : (f : Option ℕ) → class_behind o line gs f ≡ Formatted s → every is_blank (glyphs_from s.indent_end gs) ≡ false
+    found None e = cc
+    found (Some place) e = behind_prefix place _ (somewhere (skip_found o.exact_skip o.skip line gs)) refl e
 
-    blank : (b g : Bool) (f : Found) → cond b Blank (cond g (class_behind o line gs f) Plain) ≡ Formatted s
+    blank : (b g : Bool) (f : Option ℕ) → cond b Blank (cond g (class_behind o line gs f) Plain) ≡ Formatted s
         → (b ≡ false) × (every is_blank (glyphs_from s.indent_end gs) ≡ false)
     blank true g f e = (cc, cc)
     blank false true f e = (refl, found f e)

@@ -1,5 +1,6 @@
 -- For callers: what is known of a formatted line. Its prefix and its indent lie in the line, its columns are small, and at the indent's
 -- end stands a character that is not blank.
+use Rattle.std.proofs.Common.{Option, Some, None}
 use mathlib.Core.Path.{◌≡◌, refl, sym, ap, ◌∙◌}
 use mathlib.Core.Bool.{Bool, true, false, cond, ◌||◌}
 use mathlib.Core.List.{List, [], ◌∷◌, ◌++◌, append_assoc}
@@ -16,8 +17,6 @@ use Rattle.lists.proofs.Runs.{while_end}
 use Rattle.lists.proofs.Parts.{while_behind}
 use Rattle.text.specs.Characters.{Glyph, characters, glyphs, is_blank, is_good, extent}
 use Rattle.text.specs.Cited.Places.{settle, ink_glyphs}
-use Rattle.text.specs.declared.Found.{Found}
-use Rattle.text.specs.declared.Found.TheVariants.{At, Nowhere}
 use Rattle.text.proofs.Glyphs.{characters_past}
 use Rattle.text.proofs.Glue.{settle_none}
 use Rattle.text.proofs.Extents.{Sound, glyphs_sound}
@@ -34,7 +33,7 @@ use Rattle.lines.proofs.Ink.{up_to_from, from_extent}
 record Formed (o : Opts) (line : List ℕ) (s : Shape) : Type 0 where
   at : ℕ
   good : every is_good (glyphs o.glue line) ≡ true
-  found : prefix_found o.exact_prefix o.prefix line (glyphs o.glue line) ≡ At at
+  found : prefix_found o.exact_prefix o.prefix line (glyphs o.glue line) ≡ Some at
   text : every is_blank (glyphs_from (at + prefix_size o.prefix) (glyphs o.glue line)) ≡ false
   shape : shape_at o.tab (prefix_size o.prefix) (glyphs o.glue line) at ≡ s
 
@@ -52,15 +51,15 @@ module _ (o : Opts) (line : List ℕ) (s : Shape) where
       gs : List Glyph
       gs = glyphs o.glue line
 
-      found : Found
+      found : Option ℕ
       found = prefix_found o.exact_prefix o.prefix line gs
 
       skipped : Bool
       skipped = somewhere (skip_found o.exact_skip o.skip line gs)
 
-      place : (f : Found) → every is_good gs ≡ true → found ≡ f → class_behind o line gs f ≡ Formatted s → Formed o line s
-      place Nowhere g e c = absurd (plain_formatted s c)
-      place (At at) g e c = end (every is_blank (glyphs_from (at + prefix_size o.prefix) gs)) skipped refl c
+      place : (f : Option ℕ) → every is_good gs ≡ true → found ≡ f → class_behind o line gs f ≡ Formatted s → Formed o line s
+      place None g e c = absurd (plain_formatted s c)
+      place (Some at) g e c = end (every is_blank (glyphs_from (at + prefix_size o.prefix) gs)) skipped refl c
         where
           end : (t u : Bool) → every is_blank (glyphs_from (at + prefix_size o.prefix) gs) ≡ t → cond (t || u) Plain (Formatted (shape_at o.tab (prefix_size o.prefix) gs at)) ≡ Formatted s → Formed o line s
           end true u b k = absurd (plain_formatted s k)
@@ -73,7 +72,7 @@ module _ (o : Opts) (line : List ℕ) (s : Shape) where
       pick false true b g c = place found g refl c
 
   -- the prefix that is found lies in the line
-  prefix_within : (t : Text) (at : ℕ) → prefix_found o.exact_prefix t line (glyphs o.glue line) ≡ At at → at + prefix_size t ≤ length line
+  prefix_within : (t : Text) (at : ℕ) → prefix_found o.exact_prefix t line (glyphs o.glue line) ≡ Some at → at + prefix_size t ≤ length line
   prefix_within absent at e = let z : 0 ≡ at = cc in omega arith
   prefix_within (given p) at e = omega (arith, search_within o.exact_prefix o.glue p line 0 at e)
 
@@ -99,7 +98,7 @@ pub record Known (o : Opts) (line : List ℕ) (s : Shape) : Type 0 where
 
 -- the same of the definition's shape
 module _ (o : Opts) (least : 1 ≤ o.tab) (most : o.tab ≤ 100) (line : List ℕ) (at : ℕ) (good : every is_good (glyphs o.glue line) ≡ true)
-    (found : prefix_found o.exact_prefix o.prefix line (glyphs o.glue line) ≡ At at)
+    (found : prefix_found o.exact_prefix o.prefix line (glyphs o.glue line) ≡ Some at)
     (text : every is_blank (glyphs_from (at + prefix_size o.prefix) (glyphs o.glue line)) ≡ false) where
   known_at : Known o line (shape_at o.tab (prefix_size o.prefix) (glyphs o.glue line) at)
   unfolding shape_at

@@ -1,4 +1,5 @@
 -- The spaces at the front of a line, passed at once: all that is asked of the line is asked of what is after them.
+use Rattle.std.proofs.Common.{None}
 use mathlib.Core.Path.{◌≡◌, refl, sym, ap, ◌∙◌}
 use mathlib.Core.Bool.{Bool, true, false}
 use mathlib.Core.List.{List}
@@ -9,7 +10,6 @@ use lib.Seq.{get_or-drop}
 use Rattle.lists.specs.Runs.{while, every, begins}
 use Rattle.widths.proofs.Laws.{one_before_300}
 use Rattle.text.specs.Characters.{glyph, glyphs, is_blank}
-use Rattle.text.specs.declared.Found.TheVariants.{Nowhere}
 use Rattle.text.proofs.Glyphs.{Here, ascii_here}
 use Rattle.text.proofs.Leads.{plain_ink}
 use Rattle.lines.specs.Classes.{search}
@@ -79,7 +79,7 @@ module _ (p line : List ℕ) (some : 0 < length p) where
           pick zero e = not_at 0 (rw e at unlike)
           pick (suc k) e = not_at 0 (λ z. bare (z ∙ r.each 0 (omega arith) (omega arith)))
 
-      pub search_nowhere : (exact glue : Bool) → search exact p line 0 (glyphs glue line) ≡ Nowhere
+      pub search_nowhere : (exact glue : Bool) → search exact p line 0 (glyphs glue line) ≡ None
       search_nowhere true glue = search_exact p line 0 true (glyphs glue line) not_first refl
       search_nowhere false glue =
           sym (search_spaces glue n r)

@@ -1,16 +1,17 @@
 -- For callers: options that a block was accepted as can be used.
+use Rattle.std.proofs.Common.{None}
 use mathlib.Core.Path.{◌≡◌, refl}
 use mathlib.Core.List.{List}
 use Prim.Native.Nat.{ℕ}
 use Rattle.options.specs.declared.Part.{Part}
-use Rattle.options.specs.declared.Part.TheVariants.{Absent, Given}
 use Rattle.options.specs.declared.Options.{Options}
 use Rattle.options.proofs.Accepted.{Prefix, Kept}
 use Rattle.lines.specs.Cited.Places.{Lies, Usable}
+use Rattle.options.specs.OptionBlock.{between}
 
-lies : (block : List ℕ) (p : Part) → ((start end : ℕ) → p ≡ Given start end → Prefix block start end) → Lies block p
-lies block Absent h = tt
-lies block (Given start end) h = let k = h start end refl in (k.ordered, k.inside)
+lies : (block : List ℕ) (p : Part) → ((start end : ℕ) → p ≡ between start end → Prefix block start end) → Lies block p
+lies block None h = tt
+lies block (between start end) h = let k = h start end refl in (k.ordered, k.inside)
 
 pub usable : (block : List ℕ) (o : Options) → Kept block o → Usable block o
 usable block o k = record {

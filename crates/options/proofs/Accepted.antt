@@ -1,4 +1,5 @@
 -- What accepted options keep to, and where a fault can lie.
+use Rattle.std.proofs.Common.{Option, Some, None, Ok, Err}
 use mathlib.Core.Path.{◌≡◌, refl, sym, ap, ◌∙◌}
 use mathlib.Core.Bool.{Bool, true, false, cond, not, ◌&&◌, ◌||◌, and-false, false≢true}
 use mathlib.Core.List.{List}
@@ -9,13 +10,9 @@ use lib.Seq.{slice, length-slice}
 use Rattle.lists.specs.Runs.{every}
 use Rattle.lists.proofs.Slices.{slice_is}
 use Rattle.text.specs.Characters.{characters, is_good}
-use Rattle.text.specs.declared.Found.{Found}
-use Rattle.text.specs.declared.Found.TheVariants.{At, Nowhere}
 use Rattle.options.specs.declared.Part.{Part}
-use Rattle.options.specs.declared.Part.TheVariants.{Absent, Given}
 use Rattle.options.specs.declared.Options.{Options}
-use Rattle.options.specs.declared.Block.TheVariants.{Accepted, Fault}
-use Rattle.options.specs.OptionBlock.{number, fields, first_fault, part_of, number_at, least_width, fits, bit, options_of, judged, read_block}
+use Rattle.options.specs.OptionBlock.{number, fields, first_fault, part_of, number_at, least_width, fits, bit, options_of, judged, read_block, between}
 use Rattle.options.proofs.Values.{number_two, text_true, prefix_true, allowed_tab, allowed_prefix}
 use Rattle.options.proofs.Given.{Value, part_value}
 use Rattle.options.proofs.Settled.{least_width_law, fits_true}
@@ -36,8 +33,8 @@ pub record Kept (block : List ℕ) (o : Options) : Type 0 where
   pub tab_least : 1 ≤ o.tab
   pub tab_most : o.tab ≤ 100
   pub split_clears : o.split ≡ true → (o.crown || o.tagged) ≡ false
-  pub prefix_given : (start end : ℕ) → o.prefix ≡ Given start end → Prefix block start end
-  pub skip_given : (start end : ℕ) → o.skip ≡ Given start end → Prefix block start end
+  pub prefix_given : (start end : ℕ) → o.prefix ≡ between start end → Prefix block start end
+  pub skip_given : (start end : ℕ) → o.skip ≡ between start end → Prefix block start end
 
 module _ (block : List ℕ) (start end : ℕ) where
   prefix_value : (tag : ℕ) → 5 ≤ tag → tag ≤ 6 → Value block tag start end → Prefix block start end
@@ -54,12 +51,12 @@ module _ (block : List ℕ) (start end : ℕ) where
       let s : slice start end block ≡ take 2 (drop start block) = sym (ap (λ (k : ℕ). slice start k block) e) ∙ slice_is start 2 block in
       rw (s, number_two) at n.2
 
-pub accepted_fault : (o : Options) (place : ℕ) → Accepted o ≡ Fault place → ⊥
+pub accepted_fault : (o : Options) (place : ℕ) → Ok o ≡ Err (record { at = place }) → ⊥
 accepted_fault o place e = let z : ◌≡◌ {A = ℕ} 0 1 = cc in omega arith
 
-tab_most_spec : (block : List ℕ) (p : Part) → ((start end : ℕ) → p ≡ Given start end → Value block 4 start end) → max 1 (number_at block 8 p) ≤ 100
-tab_most_spec block Absent v = omega arith
-tab_most_spec block (Given start end) v = let h = tab_value block start end (v start end refl) in omega arith
+tab_most_spec : (block : List ℕ) (p : Part) → ((start end : ℕ) → p ≡ between start end → Value block 4 start end) → max 1 (number_at block 8 p) ≤ 100
+tab_most_spec block None v = omega arith
+tab_most_spec block (between start end) v = let h = tab_value block start end (v start end refl) in omega arith
 
 split_clears_spec : (crown tagged split : Bool) → split ≡ true → (crown && not split || tagged && not crown && not split) ≡ false
 split_clears_spec crown tagged true e = rw (and-false, and-false)
@@ -73,7 +70,7 @@ keeps block =
     fits (least_width (part_of 2 fs) (part_of 3 fs)) o.width o.goal
 
 module _ (block : List ℕ) where
-  kept : first_fault (fields block) ≡ Nowhere → keeps block ≡ true → Kept block (options_of block (fields block))
+  kept : first_fault (fields block) ≡ None → keeps block ≡ true → Kept block (options_of block (fields block))
   unfolding options_of
   kept f e =
       let r = fits_true _ _ _ e in
@@ -91,14 +88,14 @@ module _ (block : List ℕ) where
         skip_given = λ start end p. prefix_value block start end 6 (omega arith) (omega arith) (part_value block 6 start end f p);
       }
 
-  pub accepted : (o : Options) → read_block block ≡ Accepted o → Kept block o
+  pub accepted : (o : Options) → read_block block ≡ Ok o → Kept block o
   unfolding read_block
   accepted o e = settle (first_fault (fields block)) refl e
     where
-      rule : (t : Bool) → keeps block ≡ t → first_fault (fields block) ≡ Nowhere → cond t (Accepted (options_of block (fields block))) (Fault (length block)) ≡ Accepted o → Kept block o
+      rule : (t : Bool) → keeps block ≡ t → first_fault (fields block) ≡ None → cond t (Ok (options_of block (fields block))) (Err (record { at = (length block) })) ≡ Ok o → Kept block o
       rule true q f a = let s : options_of block (fields block) ≡ o = cc in rw (← s) (kept f q)
       rule false q f a = absurd (accepted_fault o _ (sym a))
 
-      settle : (f : Found) → first_fault (fields block) ≡ f → judged block (fields block) f ≡ Accepted o → Kept block o
-      settle (At place) q a = absurd (accepted_fault o place (sym a))
-      settle Nowhere q a = rule (keeps block) refl q a
+      settle : (f : Option ℕ) → first_fault (fields block) ≡ f → judged block (fields block) f ≡ Ok o → Kept block o
+      settle (Some place) q a = absurd (accepted_fault o place (sym a))
+      settle None q a = rule (keeps block) refl q a

@@ -1,4 +1,5 @@
 -- The fields of a block as the code meets them: those from a place on, the first of them well formed or not, the first fault, a tag's part.
+use Rattle.std.proofs.Common.{Some, None}
 use mathlib.Core.Path.{◌≡◌, refl, sym, ap, ap₂, ◌∙◌}
 use mathlib.Core.Bool.{true, false}
 use mathlib.Core.List.{List, [], ◌∷◌}
@@ -10,14 +11,12 @@ use borrow.Author.Tests.{lt-ltb, le-ltb, le-leb, lt-leb, eq-eqb, ne_eqb}
 use Rattle.lists.specs.Walk.{walk}
 use Rattle.lists.proofs.Walk.{walk_nil, walk_at}
 use Rattle.lists.proofs.Views.{drop_none}
-use Rattle.text.specs.declared.Found.TheVariants.{At, Nowhere}
-use Rattle.options.specs.declared.Part.TheVariants.{Absent, Given}
-use Rattle.options.specs.OptionBlock.{number, Field, tag_of, size_of, value_of, next_field, fields, allowed, well_formed, first_fault, part_of}
+use Rattle.options.specs.OptionBlock.{number, Field, tag_of, size_of, value_of, next_field, fields, allowed, well_formed, first_fault, part_of, between}
 use Rattle.options.specs.Cited.Places.{field_at}
 
 -- the first of some fields decides, or the others do
 module _ (f : Field) (fs : List Field) where
-  fault_first : well_formed f ≡ false → first_fault (f ∷ fs) ≡ At f.place
+  fault_first : well_formed f ≡ false → first_fault (f ∷ fs) ≡ Some f.place
   unfolding first_fault
   fault_first e = rw (e, first_fault)
 
@@ -25,7 +24,7 @@ module _ (f : Field) (fs : List Field) where
   unfolding first_fault
   fault_others e = rw (e, first_fault)
 
-  part_first : (t : ℕ) → tag_of f ≡ t → part_of t (f ∷ fs) ≡ Given (f.place + 3) (f.place + 3 + size_of f)
+  part_first : (t : ℕ) → tag_of f ≡ t → part_of t (f ∷ fs) ≡ between (f.place + 3) (f.place + 3 + size_of f)
   unfolding part_of
   part_first t e = rw (eq-eqb (tag_of f) t e, part_of)
 
@@ -54,11 +53,11 @@ module _ (block : List ℕ) (at previous : ℕ) where
   unfolding rest
   rest_none h = rw (drop_none 0 block at h, walk_nil)
 
-  pub fault_none : length block ≤ at → first_fault (rest block at previous) ≡ Nowhere
+  pub fault_none : length block ≤ at → first_fault (rest block at previous) ≡ None
   unfolding first_fault
   fault_none h = rw (rest_none h)
 
-  pub part_none : (t : ℕ) → length block ≤ at → part_of t (rest block at previous) ≡ Absent
+  pub part_none : (t : ℕ) → length block ≤ at → part_of t (rest block at previous) ≡ None
   unfolding part_of
   part_none t h = rw (rest_none h)
 
@@ -93,16 +92,16 @@ module _ (block : List ℕ) (at previous : ℕ) where
         let l : length (take n (drop (at + 3) block)) ≡ n = rw length-take (omega arith) in
         rw (tag_is, ← tags, lt-ltb previous tag h, size_is, le-leb (3 + n) (length (drop at block)) (omega arith), m, l, drop-drop 3 at block)
 
-    pub fault_here : well_formed (field_at block at previous) ≡ false → first_fault (rest block at previous) ≡ At at
+    pub fault_here : well_formed (field_at block at previous) ≡ false → first_fault (rest block at previous) ≡ Some at
     fault_here e = rw rest_here (fault_first _ _ e)
 
     pub fault_later : well_formed (field_at block at previous) ≡ true → first_fault (rest block at previous) ≡ first_fault (rest block end tag)
     fault_later e = rw rest_here (fault_others _ _ e)
 
-    pub part_here : (t : ℕ) → tag ≡ t → part_of t (rest block at previous) ≡ Given (at + 3) end
+    pub part_here : (t : ℕ) → tag ≡ t → part_of t (rest block at previous) ≡ between (at + 3) end
     part_here t e =
         let s = size_is in
-        rw rest_here (part_first _ _ t (tag_is ∙ sym tags ∙ e) ∙ ap (λ (n : ℕ). Given (at + 3) n) (omega arith))
+        rw rest_here (part_first _ _ t (tag_is ∙ sym tags ∙ e) ∙ ap (λ (n : ℕ). between (at + 3) n) (omega arith))
 
     pub part_later : (t : ℕ) → (tag ≡ t → ⊥) → part_of t (rest block at previous) ≡ part_of t (rest block end tag)
     part_later t h = rw rest_here (part_others _ _ t (λ e. h (tags ∙ sym tag_is ∙ e)))

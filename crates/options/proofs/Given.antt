@@ -1,4 +1,5 @@
 -- Fields that are read: the value of a tag's field where none is faulty, and the place of the first fault.
+use Rattle.std.proofs.Common.{Some, None}
 use mathlib.Core.Path.{◌≡◌, refl, sym, ap, ◌∙◌}
 use mathlib.Core.Bool.{Bool, true, false, true≢false}
 use mathlib.Core.List.{List}
@@ -9,9 +10,7 @@ use lib.ListN.{length, get_or, take, drop}
 use lib.Seq.{slice}
 use borrow.Author.Tests.{ltb-true, ltb-false, eqb-true, eqb-false}
 use Rattle.lists.proofs.Slices.{slice_is}
-use Rattle.text.specs.declared.Found.TheVariants.{At, Nowhere}
-use Rattle.options.specs.declared.Part.TheVariants.{Absent, Given}
-use Rattle.options.specs.OptionBlock.{number, fields, allowed, well_formed, first_fault, part_of}
+use Rattle.options.specs.OptionBlock.{number, fields, allowed, well_formed, first_fault, part_of, between}
 use Rattle.options.specs.Cited.Places.{field_at}
 use Rattle.options.proofs.Fields.{rest, rest_all, well_order, well_cut, well_value, fault_here, fault_later, part_none, part_here, part_later}
 
@@ -53,10 +52,10 @@ data From (block : List ℕ) : ℕ → ℕ → Type 0 where
   more : {at previous : ℕ} → at < length block → well_formed (field_at block at previous) ≡ true
       → From block (at + 3 + number (drop (at + 1) block)) (get_or block at 0) → From block at previous
 
-pub at_nowhere : (place : ℕ) → At place ≡ Nowhere → ⊥
+pub at_nowhere : (place : ℕ) → Some place ≡ None → ⊥
 at_nowhere place e = let z : ◌≡◌ {A = ℕ} 0 1 = cc in omega arith
 
-given_absent : (start end : ℕ) → Given start end ≡ Absent → ⊥
+given_absent : (start end : ℕ) → between start end ≡ None → ⊥
 given_absent start end e = let z : ◌≡◌ {A = ℕ} 0 1 = cc in omega arith
 
 module _ (block : List ℕ) where
@@ -74,7 +73,7 @@ module _ (block : List ℕ) where
   all = from (length block) 0 0 (omega arith)
 
   -- where none is faulty, a tag's part is its field's value
-  part_from : {at previous : ℕ} (tag start end : ℕ) → From block at previous → first_fault (rest block at previous) ≡ Nowhere → part_of tag (rest block at previous) ≡ Given start end
+  part_from : {at previous : ℕ} (tag start end : ℕ) → From block at previous → first_fault (rest block at previous) ≡ None → part_of tag (rest block at previous) ≡ between start end
       → Value block tag start end
   part_from {at} {previous} tag start end (none h) f e = absurd (given_absent start end (sym e ∙ part_none block at previous tag h))
   part_from {at} {previous} tag start end (faulty h w) f e = absurd (at_nowhere at (sym (fault_here block at previous h _ _ refl refl w) ∙ f))
@@ -86,7 +85,7 @@ module _ (block : List ℕ) where
       behind : ℕ
       behind = at + 3 + number (drop (at + 1) block)
 
-      pick : (t : Bool) → eqb own tag ≡ t → (part_of tag (rest block behind own) ≡ Given start end → Value block tag start end) → Value block tag start end
+      pick : (t : Bool) → eqb own tag ≡ t → (part_of tag (rest block behind own) ≡ between start end → Value block tag start end) → Value block tag start end
       pick false q next = next (sym (part_later block at previous h own behind refl refl tag (eqb-false own tag q)) ∙ e)
       pick true q next =
           let g = part_here block at previous h own behind refl refl tag (eqb-true own tag q) in
@@ -94,5 +93,5 @@ module _ (block : List ℕ) where
           let y : behind ≡ end = cc in
           rw (← eqb-true own tag q, ← x, ← y) (value_of block at previous h own behind refl refl w)
 
-  pub part_value : (tag start end : ℕ) → first_fault (fields block) ≡ Nowhere → part_of tag (fields block) ≡ Given start end → Value block tag start end
+  pub part_value : (tag start end : ℕ) → first_fault (fields block) ≡ None → part_of tag (fields block) ≡ between start end → Value block tag start end
   part_value tag start end f e = part_from tag start end all (rw rest_all f) (rw rest_all e)

@@ -1,4 +1,5 @@
 -- Width and goal: a given goal is the goal; the rule, test by test.
+use Rattle.std.proofs.Common.{None}
 use mathlib.Core.Path.{◌≡◌}
 use mathlib.Core.Bool.{true, false, and-eq-true_iff}
 use Prim.Native.Nat.{ℕ, ◌*◌, ◌-◌, ◌≤◌, ◌<◌}
@@ -6,8 +7,7 @@ use native.Mathlib.Omega.{arith}
 use lib.Dec.{leb}
 use borrow.Author.Tests.{le-leb, lt-leb, leb-true}
 use Rattle.options.specs.declared.Part.{Part}
-use Rattle.options.specs.declared.Part.TheVariants.{Absent, Given}
-use Rattle.options.specs.OptionBlock.{least_width, fits}
+use Rattle.options.specs.OptionBlock.{least_width, fits, between}
 
 module _ (least width goal : ℕ) where
   pub fits_low : width < least → fits least width goal ≡ false
@@ -43,6 +43,6 @@ fits_true least width goal e =
     record { width_least = leb-true _ _ c.0; goal_most = leb-true _ _ c.1; width_twice = leb-true _ _ b.1; width_most = leb-true _ _ a.1 }
 
 pub least_width_law : (width goal : Part) → 1 ≤ least_width width goal
-least_width_law Absent goal = omega arith
-least_width_law (Given s e) Absent = omega arith
-least_width_law (Given s e) (Given start end) = omega arith
+least_width_law None goal = omega arith
+least_width_law (between s e) None = omega arith
+least_width_law (between s e) (between start end) = omega arith

@@ -1,4 +1,5 @@
 -- Values of fields, test by test: a number at a place, a number within bounds, a prefix, and what each tag allows.
+use Rattle.std.proofs.Common.{Some, None}
 use mathlib.Core.Path.{◌≡◌, refl}
 use mathlib.Core.Bool.{Bool, true, false, cond, ◌||◌, and-true, and-eq-true_iff}
 use mathlib.Core.List.{List}
@@ -10,7 +11,6 @@ use lib.Seq.{get_or-drop, get_or-take}
 use borrow.Author.Tests.{le-leb, lt-leb, eq-eqb, ne_eqb, leb-true, eqb-true, eqb-false}
 use Rattle.lists.specs.Runs.{every}
 use Rattle.text.specs.Characters.{characters, is_good, damage}
-use Rattle.text.specs.declared.Found.TheVariants.{At, Nowhere}
 use Rattle.options.specs.OptionBlock.{number, allowed}
 use Rattle.options.specs.Cited.Places.{number_text, prefix_text}
 
@@ -52,11 +52,11 @@ module _ (least most : ℕ) (v : List ℕ) where
       (eqb-true _ _ b.0, leb-true _ _ b.1, leb-true _ _ a.1)
 
 -- a prefix: short, and nowhere damaged
-sound_if : (t : Bool) (n : ℕ) → cond t Nowhere (At n) ≡ Nowhere → t ≡ true
+sound_if : (t : Bool) (n : ℕ) → cond t None (Some n) ≡ None → t ≡ true
 sound_if true n e = refl
 sound_if false n e = cc
 
-broken_if : (t : Bool) (n k : ℕ) → cond t Nowhere (At n) ≡ At k → t ≡ false
+broken_if : (t : Bool) (n k : ℕ) → cond t None (Some n) ≡ Some k → t ≡ false
 broken_if true n k e = cc
 broken_if false n k e = refl
 
@@ -66,11 +66,11 @@ module _ (v : List ℕ) where
   prefix_long h = rw (lt-leb (length v) 255 h)
 
   module _ (short : length v ≤ 255) where
-    pub prefix_sound : damage v ≡ Nowhere → prefix_text v ≡ true
+    pub prefix_sound : damage v ≡ None → prefix_text v ≡ true
     unfolding prefix_text damage
     prefix_sound e = rw (le-leb (length v) 255 short, sound_if (every is_good (characters v)) _ e)
 
-    pub prefix_broken : (k : ℕ) → damage v ≡ At k → prefix_text v ≡ false
+    pub prefix_broken : (k : ℕ) → damage v ≡ Some k → prefix_text v ≡ false
     unfolding prefix_text damage
     prefix_broken k e = rw (le-leb (length v) 255 short, broken_if (every is_good (characters v)) _ k e)
 

@@ -1,4 +1,5 @@
 -- A paragraph of each kind, from the place that its lines reach.
+use Rattle.std.proofs.Common.{None}
 use mathlib.Core.Path.{◌≡◌, refl, sym, ap, ◌∙◌, fun_ext}
 use mathlib.Core.Bool.{Bool, true, false, cond, not, ◌&&◌, ◌||◌}
 use mathlib.Core.List.{List, []}
@@ -8,7 +9,6 @@ use lib.Dec.{ltb}
 use lib.ListN.{length, take, drop}
 use Rattle.options.specs.Opts.{Opts, text_of, meant}
 use Rattle.options.specs.declared.Part.{Part}
-use Rattle.options.specs.declared.Part.TheVariants.{Absent, Given}
 use Rattle.options.specs.declared.Options.{Options}
 use Rattle.lines.specs.Lines.{Line, first_line, lines_of}
 use Rattle.lines.specs.Cited.Places.{most_large, Usable}
@@ -16,15 +16,15 @@ use Rattle.lines.specs.declared.Shape.{Shape}
 use Rattle.lines.specs.declared.Class.TheVariants.{Formatted}
 use Rattle.lines.proofs.Shapes.{known}
 use Rattle.pieces.specs.Pieces.{Second, alone, joins, continues, agrees, not_at_start, follow, follow_second, second_of, further}
-use Rattle.pieces.specs.Cited.Places.{taken, margin_at, spaces_at, later_at, later_start, indent_at, start_at, paragraph_with, reach, second_place, second_at, passes_rule, is_given, LineIs, Shaped, Joined}
+use Rattle.pieces.specs.Cited.Places.{taken, margin_at, spaces_at, later_at, later_start, indent_at, start_at, paragraph_with, reach, second_place, second_at, passes_rule, is_given, LineIs, Shaped, Joined, joining}
 use Rattle.pieces.specs.declared.Classed.{Classed}
 use Rattle.pieces.specs.declared.Paragraph.{Paragraph}
 use Rattle.pieces.specs.declared.Rule.TheVariants.{Mail, Like}
-use Rattle.pieces.specs.declared.Second.TheVariants.{Alone, Joins}
 use Rattle.pieces.proofs.Following.{taken_none, taken_more}
 use Rattle.pieces.proofs.Reach.{further_is}
 use Rattle.pieces.proofs.Shapes.{like_is}
 use Rattle.pieces.specs.declared.Margin.{Margin}
+use Rattle.options.specs.OptionBlock.{between}
 
 -- the code's rules are those of the definition
 pub mail_rule : (block : List ℕ) (o : Options) → passes_rule Mail o.prefix ≡ continues (meant block o)
@@ -32,8 +32,8 @@ unfolding passes_rule continues meant
 mail_rule block o = fun_ext (λ s. ap (λ (t : Bool). ltb 0 s.indent_end && t) (pick o.prefix s))
   where
     pick : (p : Part) (s : Shape) → not (is_given p) || ltb 0 s.prefix_place ≡ not_at_start (text_of block p) s
-    pick Absent s = refl
-    pick (Given start end) s = refl
+    pick None s = refl
+    pick (between start end) s = refl
 
 pub like_rule : (a : Shape) (p : Part) → passes_rule (Like a) p ≡ agrees a
 like_rule a p = fun_ext (λ s. sym (like_is a s p))
@@ -127,11 +127,11 @@ module _ (o : Opts) (notes : List ℕ) (at next : ℕ) (s : Shape) where
     hang_start : start_at o false s (lines_of (drop next notes)) ≡ later_start s (second_of o s (lines_of (drop next notes)))
     hang_start = start_two o s (lines_of (drop next notes)) true hangs
 
-    alone_is : (x : Second) (place : ℕ) → Alone ≡ second_place place x → x ≡ alone
+    alone_is : (x : Second) (place : ℕ) → None ≡ second_place place x → x ≡ alone
     alone_is alone place e = refl
     alone_is (joins text t) place e = absurd (let z : ◌≡◌ {A = ℕ} 0 1 = cc in omega arith)
 
-    pub hang_alone : (more : ℕ) → more ≡ cond o.tagged 4 0 → Alone ≡ second_at o s notes next
+    pub hang_alone : (more : ℕ) → more ≡ cond o.tagged 4 0 → None ≡ second_at o s notes next
         → ◌≡◌ {A = Paragraph} (record { next = next; mail = false; first = margin_at at 0 s; indent = margin_at at more s; start = s.indent_end; later = s.indent_end })
         (paragraph_with o false at next s (lines_of (drop next notes)))
     unfolding paragraph_with second_at
@@ -145,13 +145,13 @@ module _ (o : Opts) (notes : List ℕ) (at next : ℕ) (s : Shape) where
     unfolding reach
     hang_count behind text u h j = let c = j.count in rw (hang_further, h, j.first, taken_more) (omega arith)
 
-    pub hang_joins : (behind r : ℕ) (t : Shape) → Joins behind t ≡ second_at o s notes next → Joined notes next behind t → r ≡ reach o (agrees t) notes behind
+    pub hang_joins : (behind r : ℕ) (t : Shape) → joining behind t ≡ second_at o s notes next → Joined notes next behind t → r ≡ reach o (agrees t) notes behind
         → ◌≡◌ {A = Paragraph} (record { next = r; mail = false; first = margin_at at 0 s; indent = margin_at next 0 t; start = s.indent_end; later = t.indent_end })
         (paragraph_with o false at next s (lines_of (drop next notes)))
     unfolding paragraph_with second_at
     hang_joins behind r t e j q = go (second_of o s (lines_of (drop next notes))) refl e
       where
-        go : (x : Second) → second_of o s (lines_of (drop next notes)) ≡ x → Joins behind t ≡ second_place (next + length (first_line (drop next notes)).raw) x
+        go : (x : Second) → second_of o s (lines_of (drop next notes)) ≡ x → joining behind t ≡ second_place (next + length (first_line (drop next notes)).raw) x
             → ◌≡◌ {A = Paragraph} (record { next = r; mail = false; first = margin_at at 0 s; indent = margin_at next 0 t; start = s.indent_end; later = t.indent_end })
             (paragraph_with o false at next s (lines_of (drop next notes)))
         go alone h p = absurd (let z : ◌≡◌ {A = ℕ} 0 1 = cc in omega arith)
@@ -177,13 +177,13 @@ module _ (block notes : List ℕ) (o : Options) (at next : ℕ) (s : Shape) wher
   plain_from bare r e = plain_is (meant block o) notes at next s bare r (e ∙ ap (λ (f : Shape → Bool). cond o.split next (reach (meant block o) f notes next)) (like_rule s o.prefix))
 
   module _ (hangs : (o.crown || o.tagged) ≡ true) (whole : o.split ≡ false) where
-    pub alone_from : (more : ℕ) → more ≡ cond o.tagged 4 0 → Alone ≡ second_at (meant block o) s notes next
+    pub alone_from : (more : ℕ) → more ≡ cond o.tagged 4 0 → None ≡ second_at (meant block o) s notes next
         → ◌≡◌ {A = Paragraph} (record { next = next; mail = false; first = margin_at at 0 s; indent = margin_at at more s; start = s.indent_end; later = s.indent_end })
         (paragraph_with (meant block o) false at next s (lines_of (drop next notes)))
     unfolding meant
     alone_from = hang_alone (meant block o) notes at next s hangs whole
 
-    pub joins_from : (behind r : ℕ) (t : Shape) → Joins behind t ≡ second_at (meant block o) s notes next → Joined notes next behind t
+    pub joins_from : (behind r : ℕ) (t : Shape) → joining behind t ≡ second_at (meant block o) s notes next → Joined notes next behind t
         → r ≡ reach (meant block o) (passes_rule (Like t) o.prefix) notes behind
         → ◌≡◌ {A = Paragraph} (record { next = r; mail = false; first = margin_at at 0 s; indent = margin_at next 0 t; start = s.indent_end; later = t.indent_end })
         (paragraph_with (meant block o) false at next s (lines_of (drop next notes)))

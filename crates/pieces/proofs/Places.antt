@@ -1,5 +1,6 @@
 -- The line that begins at a place, from the answer of `first_classed` on a part of the notes; and where the lines from a place on are sound,
 -- so is the first, and so are those after it.
+use Rattle.std.proofs.Common.{None}
 use mathlib.Core.Path.{◌≡◌, refl, ap, ◌∙◌}
 use mathlib.Core.Bool.{Bool, true}
 use mathlib.Core.List.{List, ◌∷◌}
@@ -8,7 +9,6 @@ use native.Mathlib.Omega.{arith}
 use lib.ListN.{length, take, drop, length-drop}
 use lib.Seq.{take_all}
 use Rattle.text.specs.Characters.{damage}
-use Rattle.text.specs.declared.Found.TheVariants.{Nowhere}
 use Rattle.options.specs.Opts.{Opts}
 use Rattle.lines.specs.Lines.{first_line, lines_of}
 use Rattle.lines.specs.Cited.Places.{lengths_of, classed_of, LinesSound}
@@ -48,7 +48,7 @@ module _ (o : Opts) (notes : List ℕ) (at : ℕ) (r : ClassedExtent) (inside : 
 
 module _ (notes : List ℕ) (at : ℕ) (known : Bool) (sound : known ≡ true → LinesSound (lines_of (drop at notes))) where
   -- the first, on a part of the notes
-  pub part_sound : at < length notes → known ≡ true → damage (first_line (take (length notes - at) (drop at notes))).text ≡ Nowhere
+  pub part_sound : at < length notes → known ≡ true → damage (first_line (take (length notes - at) (drop at notes))).text ≡ None
   part_sound h k =
       let l = line_here notes at (lengths_of (first_line (drop at notes))) h refl in
       rw (take_all (length notes - at) (drop at notes) (omega (arith, length-drop at notes))) (rw l.first at (sound k)).0

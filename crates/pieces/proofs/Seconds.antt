@@ -1,4 +1,5 @@
 -- The second line of a crown or tagged paragraph, as the code finds it.
+use Rattle.std.proofs.Common.{None}
 use mathlib.Core.Path.{◌≡◌, refl, sym, ap, subst, ◌∙◌}
 use mathlib.Core.Bool.{Bool, true, false, cond, true≢false}
 use mathlib.Core.List.{List}
@@ -11,14 +12,13 @@ use Rattle.lines.specs.declared.Class.{Class}
 use Rattle.lines.specs.declared.Class.TheVariants.{Blank, Plain, Formatted}
 use Rattle.lines.proofs.Lines.{lines_past}
 use Rattle.pieces.specs.Pieces.{alone, joins, second_rule, second_as, second_of}
-use Rattle.pieces.specs.Cited.Places.{second_place, second_at, LineIs, Joined, SecondSound}
+use Rattle.pieces.specs.Cited.Places.{second_place, second_at, LineIs, Joined, SecondSound, joining}
 use Rattle.pieces.specs.declared.Second.{Second as SecondAt}
 use Rattle.pieces.specs.declared.Classed.{Classed}
-use Rattle.pieces.specs.declared.Second.TheVariants.{Alone, Joins}
 use Rattle.pieces.proofs.Following.{Other}
 
 module _ (o : Opts) (a : Shape) (notes : List ℕ) (at : ℕ) where
-  pub second_past : length notes ≤ at → Alone ≡ second_at o a notes at
+  pub second_past : length notes ≤ at → None ≡ second_at o a notes at
   unfolding second_at second_of
   second_past h = rw (lines_past notes at h)
 
@@ -30,10 +30,10 @@ module _ (o : Opts) (a : Shape) (notes : List ℕ) (at : ℕ) where
     unfolding second_at second_of place
     second_is = rw (here.first, here.class)
 
-    pub second_other : Other line.class → Alone ≡ second_at o a notes at
+    pub second_other : Other line.class → None ≡ second_at o a notes at
     second_other h = go line.class h refl
       where
-        go : (k : Class) → Other k → line.class ≡ k → Alone ≡ second_at o a notes at
+        go : (k : Class) → Other k → line.class ≡ k → None ≡ second_at o a notes at
         go Blank n e = ap (λ (k : Class). second_place place (second_as o a (first_line (drop at notes)).text k)) (sym e) ∙ second_is
         go Plain n e = ap (λ (k : Class). second_place place (second_as o a (first_line (drop at notes)).text k)) (sym e) ∙ second_is
         go (Formatted s) n e = absurd n
@@ -42,14 +42,14 @@ module _ (o : Opts) (a : Shape) (notes : List ℕ) (at : ℕ) where
       shaped : second_place place (cond (second_rule o.tagged a s) (joins (first_line (drop at notes)).text s) alone) ≡ second_at o a notes at
       shaped = ap (λ (k : Class). second_place place (second_as o a (first_line (drop at notes)).text k)) (sym shape) ∙ second_is
 
-      pub second_not : second_rule o.tagged a s ≡ false → Alone ≡ second_at o a notes at
+      pub second_not : second_rule o.tagged a s ≡ false → None ≡ second_at o a notes at
       second_not h = ap (λ (t : Bool). second_place place (cond t (joins (first_line (drop at notes)).text s) alone)) (sym h) ∙ shaped
 
-      pub second_joins : second_rule o.tagged a s ≡ true → Joins line.next s ≡ second_at o a notes at
+      pub second_joins : second_rule o.tagged a s ≡ true → joining line.next s ≡ second_at o a notes at
       unfolding place
-      second_joins h = ap (λ (n : ℕ). Joins n s) here.next ∙ ap (λ (t : Bool). second_place place (cond t (joins (first_line (drop at notes)).text s) alone)) (sym h) ∙ shaped
+      second_joins h = ap (λ (n : ℕ). joining n s) here.next ∙ ap (λ (t : Bool). second_place place (cond t (joins (first_line (drop at notes)).text s) alone)) (sym h) ∙ shaped
 
-pub joined_of : (notes : List ℕ) (at : ℕ) (r : SecondAt) {n : ℕ} {s : Shape} → SecondSound notes at r → r ≡ Joins n s → Joined notes at n s
+pub joined_of : (notes : List ℕ) (at : ℕ) (r : SecondAt) {n : ℕ} {s : Shape} → SecondSound notes at r → r ≡ joining n s → Joined notes at n s
 joined_of notes at r h e = subst (SecondSound notes at) e h
 
 -- a paragraph that hangs is not split

@@ -1,4 +1,5 @@
 -- The rules by which lines join, test by test as the code makes them.
+use Rattle.std.proofs.Common.{None}
 use mathlib.Core.Path.{◌≡◌, refl}
 use mathlib.Core.Bool.{Bool, true, false, not, true≢false, false≢true}
 use mathlib.Core.List.{List}
@@ -8,10 +9,10 @@ use borrow.Author.Tests.{eq-eqb, ne_eqb, lt-ltb, le-ltb}
 use native.Mathlib.Omega.{arith}
 use Rattle.lines.specs.declared.Shape.{Shape}
 use Rattle.options.specs.declared.Part.{Part}
-use Rattle.options.specs.declared.Part.TheVariants.{Absent, Given}
 use Rattle.pieces.specs.declared.Rule.TheVariants.{Mail, Like}
 use Rattle.pieces.specs.Pieces.{header_text, starts_mail, agrees, second_rule}
 use Rattle.pieces.specs.Cited.Places.{passes_rule}
+use Rattle.options.specs.OptionBlock.{between}
 
 module _ (a b : Shape) where
   pub agree_not : (a.indent_end ≡ b.indent_end → ⊥) → false ≡ agrees a b
@@ -63,11 +64,11 @@ module _ (s : Shape) where
   mail_not p h = rw (le-ltb 0 s.indent_end (omega arith))
 
   module _ (some : s.indent_end ≡ 0 → ⊥) where
-    pub mail_bare : true ≡ passes_rule Mail Absent s
+    pub mail_bare : true ≡ passes_rule Mail None s
     unfolding passes_rule
     mail_bare = rw (lt-ltb 0 s.indent_end (omega arith))
 
-    pub mail_prefix : (start end : ℕ) → ltb 0 s.prefix_place ≡ passes_rule Mail (Given start end) s
+    pub mail_prefix : (start end : ℕ) → ltb 0 s.prefix_place ≡ passes_rule Mail (between start end) s
     unfolding passes_rule
     mail_prefix start end = rw (lt-ltb 0 s.indent_end (omega arith))
 

@@ -1,4 +1,5 @@
 -- The word table's laws: a record that was stored is read back and the others are as they were; the first n records one by one.
+use Rattle.std.proofs.Common.{Option, Some, None}
 use mathlib.Core.Path.{◌≡◌, refl, ap, ◌∙◌}
 use mathlib.Core.Bool.{Bool, true, false, cond}
 use mathlib.Core.Logic.{⊎_elim}
@@ -14,17 +15,15 @@ use lib.Seq.{length-sets, get_or_at}
 use Rattle.lists.proofs.Stores.{sets_other, sets_within, sets_seven}
 use Rattle.lists.proofs.Views.{drop_here, drop_none}
 use Rattle.lists.proofs.Mapped.{drop_map}
-use Rattle.records.specs.declared.Before.{Before}
-use Rattle.records.specs.declared.Before.TheVariants.{Absent, Count}
 use Rattle.records.specs.declared.Word.{Word as Record}
 use Rattle.records.specs.Word.{meaning}
 use Rattle.records.specs.Cited.Table.{number_in, before_number, before_of, marks_of, word_numbers, stored, Room, word_in, with_word, records_of, words_in, Within, AllWithin}
 
 -- ---- a field, as a number and back
 
-before_back : (b : Before) → before_of (before_number b) ≡ b
-before_back Absent = refl
-before_back (Count n) =
+before_back : (b : Option ℕ) → before_of (before_number b) ≡ b
+before_back None = refl
+before_back (Some n) =
     let e : n + 1 - 1 ≡ n = omega arith in
     rw (ne_eqb (n + 1) 0 (λ z. omega arith), e)
 

@@ -1,4 +1,5 @@
 -- Laws of gap width, the next stop and added space: bounds, and the order of tests that the code has.
+use Rattle.std.proofs.Common.{Option, Some, None}
 use mathlib.Core.Bool.{Bool, true, false, cond, ◌&&◌, ◌||◌, or-false}
 use mathlib.Core.Path.{◌≡◌, refl}
 use Prim.Native.Nat.{ℕ, ◌+◌, ◌≤◌, ◌<◌}
@@ -6,8 +7,6 @@ use native.Mathlib.Nat.{div-add-mod', mod-lt, add-mul, one-mul}
 use native.Mathlib.Omega.{arith}
 use Rattle.lines.specs.Classes.{next_stop}
 use Rattle.records.specs.Cited.Table.{before_number}
-use Rattle.records.specs.declared.Before.{Before}
-use Rattle.records.specs.declared.Before.TheVariants.{Absent, Count}
 use Rattle.spacing.specs.Spacing.{gap_width, added_space}
 use Rattle.spacing.specs.Cited.Bounds.{GapIs, AddedIs}
 
@@ -27,12 +26,12 @@ module _ (tab column : ℕ) (some : 1 ≤ tab) where
       rw (add-mul, one-mul) (omega arith)
 
 -- a gap's width at a column, and its bound
-pub gap_most : (tab column : ℕ) (before : Before) (after : ℕ) → 1 ≤ tab → gap_width tab column before after ≤ after + before_number before + tab
+pub gap_most : (tab column : ℕ) (before : Option ℕ) (after : ℕ) → 1 ≤ tab → gap_width tab column before after ≤ after + before_number before + tab
 unfolding gap_width
-gap_most tab column Absent after h = omega arith
-gap_most tab column (Count n) after h = let s = stop_near tab (n + column) h in omega arith
+gap_most tab column None after h = omega arith
+gap_most tab column (Some n) after h = let s = stop_near tab (n + column) h in omega arith
 
-pub gap_is : (tab column : ℕ) (before : Before) (after r : ℕ) → 1 ≤ tab → r ≡ gap_width tab column before after → GapIs tab column before after r
+pub gap_is : (tab column : ℕ) (before : Option ℕ) (after r : ℕ) → 1 ≤ tab → r ≡ gap_width tab column before after → GapIs tab column before after r
 gap_is tab column before after r h e = record { is = e; most = rw e (gap_most tab column before after h) }
 
 -- added space, by the tests of the code: first of its line, uniform, neither

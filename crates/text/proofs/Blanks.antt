@@ -1,4 +1,5 @@
 -- Blank characters: none, spaces, and a text's blank glyphs where the text has no line feed. And a damaged text is not all blank.
+use Rattle.std.proofs.Common.{Some, None}
 use mathlib.Core.Path.{◌≡◌, refl, sym, ap, ◌∙◌}
 use mathlib.Core.Bool.{Bool, true, false, cond, not, ◌&&◌, false≢true, and-eq-true_iff}
 use mathlib.Core.List.{List, [], ◌∷◌, ◌++◌, map}
@@ -12,7 +13,6 @@ use Rattle.lists.proofs.Parts.{every_nil, every_cons, every_append, joined_nil, 
 use Rattle.text.specs.Rfc3629.{encode}
 use Rattle.widths.specs.WhiteSpace.{white_space}
 use Rattle.text.specs.Characters.{Glyph, characters, glyphs, is_blank, is_good, extent, damage}
-use Rattle.text.specs.declared.Found.TheVariants.{At, Nowhere}
 use Rattle.text.specs.Theorems.Blanks.{space_code, Blanks}
 use Rattle.text.proofs.Extents.{Sound}
 use Rattle.text.proofs.Glue.{every_good}
@@ -67,10 +67,10 @@ damaged_ink gs s e = go (every is_blank gs) refl
     go false b = refl
 
 -- a text with a damaged place has a damaged glyph
-pub damage_glyphs : (glue : Bool) (xs : List ℕ) (place : ℕ) → damage xs ≡ At place → every is_good (glyphs glue xs) ≡ false
+pub damage_glyphs : (glue : Bool) (xs : List ℕ) (place : ℕ) → damage xs ≡ Some place → every is_good (glyphs glue xs) ≡ false
 unfolding damage
 damage_glyphs glue xs place e = every_good glue xs ∙ go (every is_good (characters xs)) e
   where
-    go : (t : Bool) → cond t Nowhere (At (extent (while is_good (characters xs)))) ≡ At place → t ≡ false
+    go : (t : Bool) → cond t None (Some (extent (while is_good (characters xs)))) ≡ Some place → t ≡ false
     go true k = cc
     go false k = refl

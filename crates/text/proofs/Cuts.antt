@@ -1,5 +1,6 @@
 -- A text cut before a byte below 0x80, past which no character goes: the characters before the cut are those of their own bytes, and so are
 -- those after it. Where the text has no damaged character there is none before that byte, and none after it.
+use Rattle.std.proofs.Common.{Option, Some, None}
 use mathlib.Core.Path.{◌≡◌, refl, sym, ap, ◌∙◌}
 use mathlib.Core.Bool.{Bool, true, false}
 use mathlib.Core.List.{List, [], ◌∷◌, ◌++◌, append_assoc}
@@ -13,8 +14,6 @@ use Rattle.lists.specs.Theorems.All.{All}
 use Rattle.lists.proofs.Extents.{each_append}
 use Rattle.text.specs.Rfc3629.{Front, front, nothing, encode, decode}
 use Rattle.text.specs.Characters.{Glyph, glyph, characters, damage}
-use Rattle.text.specs.declared.Found.{Found}
-use Rattle.text.specs.declared.Found.TheVariants.{At, Nowhere}
 use Rattle.text.proofs.Decoder.{Row, row1, row2, row3, row4, row, sound, complete}
 use Rattle.text.proofs.Glyphs.{bytes_of_part}
 use Rattle.text.proofs.Damage.{later, or_later, damage_parts}
@@ -94,16 +93,16 @@ characters_before a x b small = each_append cut glyph (λ d. Unit {0}) (x ∷ b)
 
 -- ---- without a damaged character
 
-later_none : (n : ℕ) (f : Found) → later n f ≡ Nowhere → f ≡ Nowhere
-later_none n (At place) e = absurd (let z : ◌≡◌ {A = ℕ} 0 1 = cc in omega arith)
-later_none n Nowhere e = refl
+later_none : (n : ℕ) (f : Option ℕ) → later n f ≡ None → f ≡ None
+later_none n (Some place) e = absurd (let z : ◌≡◌ {A = ℕ} 0 1 = cc in omega arith)
+later_none n None e = refl
 
-pub none_around : (a : List ℕ) (x : ℕ) (b : List ℕ) → x < 0x80 → damage (a ++ x ∷ b) ≡ Nowhere → (damage a ≡ Nowhere) × (damage b ≡ Nowhere)
+pub none_around : (a : List ℕ) (x : ℕ) (b : List ℕ) → x < 0x80 → damage (a ++ x ∷ b) ≡ None → (damage a ≡ None) × (damage b ≡ None)
 none_around a x b small h = go (damage a) refl (sym (damage_parts a (x ∷ b) (characters_before a x b small)) ∙ h)
   where
-    behind : damage (x ∷ b) ≡ Nowhere → damage b ≡ Nowhere
+    behind : damage (x ∷ b) ≡ None → damage b ≡ None
     behind e = later_none 1 (damage b) (sym (damage_run (x ∷ b) 0 1 (ascii_one (omega arith) small)) ∙ ap (later 0) e)
 
-    go : (f : Found) → damage a ≡ f → or_later (length a) f (damage (x ∷ b)) ≡ Nowhere → (damage a ≡ Nowhere) × (damage b ≡ Nowhere)
-    go (At place) e k = absurd (let z : ◌≡◌ {A = ℕ} 0 1 = cc in omega arith)
-    go Nowhere e k = (e, behind (later_none (length a) (damage (x ∷ b)) k))
+    go : (f : Option ℕ) → damage a ≡ f → or_later (length a) f (damage (x ∷ b)) ≡ None → (damage a ≡ None) × (damage b ≡ None)
+    go (Some place) e k = absurd (let z : ◌≡◌ {A = ℕ} 0 1 = cc in omega arith)
+    go None e k = (e, behind (later_none (length a) (damage (x ∷ b)) k))

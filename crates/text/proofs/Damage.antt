@@ -1,4 +1,5 @@
 -- The damaged place of a text, from any place that it is read from, and of two texts end to end; and what it says of the text's glyphs.
+use Rattle.std.proofs.Common.{Option, Some, None}
 use mathlib.Core.Path.{◌≡◌, refl, sym, ap, ◌∙◌}
 use mathlib.Core.Bool.{Bool, true, false, cond}
 use mathlib.Core.List.{List, [], ◌∷◌, ◌++◌}
@@ -8,33 +9,31 @@ use lib.ListN.{length, drop, length-drop}
 use Rattle.lists.specs.Runs.{while, every}
 use Rattle.lists.proofs.Runs.{while_more, while_end, every_more, every_end}
 use Rattle.text.specs.Characters.{Glyph, glyph, characters, glyphs, is_good, extent, damage}
-use Rattle.text.specs.declared.Found.{Found}
-use Rattle.text.specs.declared.Found.TheVariants.{At, Nowhere}
 use Rattle.text.proofs.Glyphs.{Here, DamagedHere, Bytes, characters_past, characters_induct}
 use Rattle.text.proofs.Glue.{every_good}
 
 -- a place counted from i, counted from the front
-abbrev pub later : ℕ → Found → Found
-later i (At n) = At (i + n)
-later i Nowhere = Nowhere
+abbrev pub later : ℕ → Option ℕ → Option ℕ
+later i (Some n) = Some (i + n)
+later i None = None
 
-pub later_zero : (f : Found) → later 0 f ≡ f
-later_zero (At n) = ap At (omega arith)
-later_zero Nowhere = refl
+pub later_zero : (f : Option ℕ) → later 0 f ≡ f
+later_zero (Some n) = ap Some (omega arith)
+later_zero None = refl
 
-later_later : (i n : ℕ) (f : Found) → later i (later n f) ≡ later (i + n) f
-later_later i n (At k) = ap At (omega arith)
-later_later i n Nowhere = refl
+later_later : (i n : ℕ) (f : Option ℕ) → later i (later n f) ≡ later (i + n) f
+later_later i n (Some k) = ap Some (omega arith)
+later_later i n None = refl
 
 -- the damaged place by the glyphs
-damage_of : List Glyph → Found
-damage_of gs = cond (every is_good gs) Nowhere (At (extent (while is_good gs)))
+damage_of : List Glyph → Option ℕ
+damage_of gs = cond (every is_good gs) None (Some (extent (while is_good gs)))
 
-none_damaged : damage_of [] ≡ Nowhere
+none_damaged : damage_of [] ≡ None
 unfolding damage_of every
 none_damaged = refl
 
-first_damaged : (g : Glyph) (gs : List Glyph) → g.damaged ≡ true → damage_of (g ∷ gs) ≡ At 0
+first_damaged : (g : Glyph) (gs : List Glyph) → g.damaged ≡ true → damage_of (g ∷ gs) ≡ Some 0
 unfolding damage_of extent
 first_damaged g gs h = let e : is_good g ≡ false = rw h in rw (every_end is_good g gs e, while_end is_good g gs e)
 
@@ -42,7 +41,7 @@ first_good : (g : Glyph) (gs : List Glyph) → g.damaged ≡ false → damage_of
 unfolding damage_of extent
 first_good g gs h = let e : is_good g ≡ true = rw h in rw (every_more is_good g gs e, while_more is_good g gs e) (pick (every is_good gs))
   where
-    pick : (t : Bool) → cond t Nowhere (At (length g.bytes + extent (while is_good gs))) ≡ later (length g.bytes) (cond t Nowhere (At (extent (while is_good gs))))
+    pick : (t : Bool) → cond t None (Some (length g.bytes + extent (while is_good gs))) ≡ later (length g.bytes) (cond t None (Some (extent (while is_good gs))))
     pick true = refl
     pick false = refl
 
@@ -51,11 +50,11 @@ unfolding damage damage_of
 damage_characters xs = refl
 
 module _ (s : List ℕ) (at : ℕ) where
-  pub damage_past : length s ≤ at → later at (damage (drop at s)) ≡ Nowhere
+  pub damage_past : length s ≤ at → later at (damage (drop at s)) ≡ None
   damage_past h = rw (damage_characters (drop at s), characters_past s at h, none_damaged)
 
-  pub damage_here : DamagedHere s at → later at (damage (drop at s)) ≡ At at
-  damage_here b = rw (damage_characters (drop at s), b.first, first_damaged (glyph (drop at s)) (characters (drop (at + 1) s)) b.is_damaged) (ap At (omega arith))
+  pub damage_here : DamagedHere s at → later at (damage (drop at s)) ≡ Some at
+  damage_here b = rw (damage_characters (drop at s), b.first, first_damaged (glyph (drop at s)) (characters (drop (at + 1) s)) b.is_damaged) (ap Some (omega arith))
 
   pub damage_on : {t : Bool} {code next : ℕ} → Here t s at code next → later at (damage (drop at s)) ≡ later next (damage (drop next s))
   damage_on {t} {code} {next} g =
@@ -73,18 +72,18 @@ module _ (s : List ℕ) (at : ℕ) where
 -- ---- two texts end to end
 
 -- the first's place, or else the second's, counted from the first's front
-abbrev pub or_later : ℕ → Found → Found → Found
-or_later n (At place) f = At place
-or_later n Nowhere f = later n f
+abbrev pub or_later : ℕ → Option ℕ → Option ℕ → Option ℕ
+or_later n (Some place) f = Some place
+or_later n None f = later n f
 
 damage_both : (gs hs : List Glyph) → damage_of (gs ++ hs) ≡ or_later (extent gs) (damage_of gs) (damage_of hs)
 unfolding extent
 damage_both [] hs = rw none_damaged (sym (later_zero (damage_of hs)))
 damage_both (g ∷ gs) hs = go g.damaged refl (damage_both gs hs)
   where
-    moved : (f : Found) → later (length g.bytes) (or_later (extent gs) f (damage_of hs)) ≡ or_later (length g.bytes + extent gs) (later (length g.bytes) f) (damage_of hs)
-    moved (At place) = refl
-    moved Nowhere = later_later (length g.bytes) (extent gs) (damage_of hs)
+    moved : (f : Option ℕ) → later (length g.bytes) (or_later (extent gs) f (damage_of hs)) ≡ or_later (length g.bytes + extent gs) (later (length g.bytes) f) (damage_of hs)
+    moved (Some place) = refl
+    moved None = later_later (length g.bytes) (extent gs) (damage_of hs)
 
     go : (t : Bool) → g.damaged ≡ t → damage_of (gs ++ hs) ≡ or_later (extent gs) (damage_of gs) (damage_of hs)
         → damage_of (g ∷ gs ++ hs) ≡ or_later (length g.bytes + extent gs) (damage_of (g ∷ gs)) (damage_of hs)
@@ -104,11 +103,11 @@ damage_parts a b e =
 -- ---- what it says of the glyphs
 
 -- no damaged place: every glyph is good, with glue and without
-pub damage_none : (glue : Bool) (xs : List ℕ) → damage xs ≡ Nowhere → every is_good (glyphs glue xs) ≡ true
+pub damage_none : (glue : Bool) (xs : List ℕ) → damage xs ≡ None → every is_good (glyphs glue xs) ≡ true
 unfolding damage
 damage_none glue xs h = every_good glue xs ∙ pick (every is_good (characters xs)) h
   where
-    pick : (t : Bool) → cond t Nowhere (At (extent (while is_good (characters xs)))) ≡ Nowhere → t ≡ true
+    pick : (t : Bool) → cond t None (Some (extent (while is_good (characters xs)))) ≡ None → t ≡ true
     pick true e = refl
     pick false e = cc
 
@@ -126,10 +125,10 @@ good_before = characters_induct (λ ys gs. every is_good gs ≡ false → extent
         → every is_good (glyph ys ∷ characters (drop b.n ys)) ≡ false → extent (while is_good (glyph ys ∷ characters (drop b.n ys))) < length ys
     more ys b rest = pick (glyph ys) (characters (drop b.n ys)) b.n (length ys) _ refl b.some b.within b.count (λ e. rw length-drop at (rest e))
 
-pub damage_some : (glue : Bool) (xs : List ℕ) (n : ℕ) → damage xs ≡ At n → (every is_good (glyphs glue xs) ≡ false) × (n < length xs)
+pub damage_some : (glue : Bool) (xs : List ℕ) (n : ℕ) → damage xs ≡ Some n → (every is_good (glyphs glue xs) ≡ false) × (n < length xs)
 unfolding damage
 damage_some glue xs n h = let e = pick (every is_good (characters xs)) h in (every_good glue xs ∙ e.0, rw (← e.1) (good_before xs e.0))
   where
-    pick : (t : Bool) → cond t Nowhere (At (extent (while is_good (characters xs)))) ≡ At n → (t ≡ false) × (extent (while is_good (characters xs)) ≡ n)
+    pick : (t : Bool) → cond t None (Some (extent (while is_good (characters xs)))) ≡ Some n → (t ≡ false) × (extent (while is_good (characters xs)) ≡ n)
     pick true e = (cc, absurd (let z : ◌≡◌ {A = ℕ} 0 1 = cc in omega arith))
     pick false e = (refl, cc)

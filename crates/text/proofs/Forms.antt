@@ -1,4 +1,5 @@
 -- The forms of RFC 3629 as the code tests them: the octets a, b, c, d at the front of a list, 0 where it ends, and the number k.
+use Rattle.std.proofs.Common.{None}
 use mathlib.Core.Path.{◌≡◌, refl, sym, ◌∙◌}
 use mathlib.Core.List.{List, [], ◌∷◌, ◌++◌}
 use Prim.Native.Nat.{ℕ, ◌+◌, ◌-◌, ◌*◌, ◌/◌, ◌%◌, ◌≤◌, ◌<◌}
@@ -8,8 +9,7 @@ use lib.Seq.{take_all, get_or-drop}
 use borrow.Author.Tests.{lt-ltb, le-ltb}
 use Rattle.lists.proofs.Views.{drop_here, drop_none}
 use Rattle.text.specs.Rfc3629.{encode, Front, front, nothing, decode}
-use Rattle.text.specs.Cited.Places.{read_as}
-use Rattle.text.specs.declared.Char.TheVariants.{Good, Damaged}
+use Rattle.text.specs.Cited.Places.{read_as, good}
 use Rattle.text.proofs.Decoder.{Octets, one, two, three, four, octets_of, number_four, Scalar, scalar_plain, scalar_true, sound, complete}
 
 pub record Two (k a b : ℕ) : Type 0 where
@@ -74,7 +74,7 @@ missed xs never = pick (decode xs) refl
     pick (front k n) e = let s = (sound xs k n e).stands in absurd (never k (scalar_plain k s.is_scalar) (octets_of k xs (drop n xs) s))
 
 module _ (at : ℕ) (xs : List ℕ) (a : ℕ) (at0 : a ≡ get_or xs 0 0) where
-  pub stray : 0x80 ≤ a → a < 0xC2 → Damaged ≡ read_as at (decode xs)
+  pub stray : 0x80 ≤ a → a < 0xC2 → None ≡ read_as at (decode xs)
   stray lo hi = rw (missed xs pick)
     where
       pick : (k : ℕ) → Scalar k → Octets k xs → ⊥
@@ -85,7 +85,7 @@ module _ (at : ℕ) (xs : List ℕ) (a : ℕ) (at0 : a ≡ get_or xs 0 0) where
 
   module _ (b : ℕ) (at1 : b ≡ get_or xs 1 0) where
     module _ (lo : 0xC2 ≤ a) (hi : a < 0xE0) where
-      pub no_two : ((k : ℕ) → Two k a b → ⊥) → Damaged ≡ read_as at (decode xs)
+      pub no_two : ((k : ℕ) → Two k a b → ⊥) → None ≡ read_as at (decode xs)
       no_two never = rw (missed xs pick)
         where
           pick : (k : ℕ) → Scalar k → Octets k xs → ⊥
@@ -94,7 +94,7 @@ module _ (at : ℕ) (xs : List ℕ) (a : ℕ) (at0 : a ≡ get_or xs 0 0) where
           pick k s (three h l e f g) = omega arith
           pick k s (four h l e f g m) = omega arith
 
-      pub is_two : (k : ℕ) → Two k a b → Good k (at + 2) ≡ read_as at (decode xs)
+      pub is_two : (k : ℕ) → Two k a b → good k (at + 2) ≡ read_as at (decode xs)
       is_two k t = rw (pick xs at0 at1)
         where
           pick : (ys : List ℕ) → a ≡ get_or ys 0 0 → b ≡ get_or ys 1 0 → decode ys ≡ front k 2
@@ -104,7 +104,7 @@ module _ (at : ℕ) (xs : List ℕ) (a : ℕ) (at0 : a ≡ get_or xs 0 0) where
 
     module _ (c : ℕ) (at2 : c ≡ get_or xs 2 0) where
       module _ (lo : 0xE0 ≤ a) (hi : a < 0xF0) where
-        pub no_three : ((k : ℕ) → Three k a b c → ⊥) → Damaged ≡ read_as at (decode xs)
+        pub no_three : ((k : ℕ) → Three k a b c → ⊥) → None ≡ read_as at (decode xs)
         no_three never = rw (missed xs pick)
           where
             pick : (k : ℕ) → Scalar k → Octets k xs → ⊥
@@ -113,7 +113,7 @@ module _ (at : ℕ) (xs : List ℕ) (a : ℕ) (at0 : a ≡ get_or xs 0 0) where
             pick k s (three h l e f g) = never k (record { second = omega arith; third = omega arith; number = omega arith; long = h; is_scalar = s })
             pick k s (four h l e f g m) = omega arith
 
-        pub is_three : (k : ℕ) → Three k a b c → Good k (at + 3) ≡ read_as at (decode xs)
+        pub is_three : (k : ℕ) → Three k a b c → good k (at + 3) ≡ read_as at (decode xs)
         is_three k t = rw (pick xs at0 at1 at2)
           where
             pick : (ys : List ℕ) → a ≡ get_or ys 0 0 → b ≡ get_or ys 1 0 → c ≡ get_or ys 2 0 → decode ys ≡ front k 3
@@ -123,7 +123,7 @@ module _ (at : ℕ) (xs : List ℕ) (a : ℕ) (at0 : a ≡ get_or xs 0 0) where
             pick (x ∷ y ∷ z ∷ r) e f g = rw (← e, ← f, ← g) (found k (a ∷ b ∷ c ∷ []) r t.is_scalar (encode_three k a b c lo hi t))
 
       module _ (d : ℕ) (at3 : d ≡ get_or xs 3 0) (lo : 0xF0 ≤ a) where
-        pub no_four : ((k : ℕ) → Four k a b c d → ⊥) → Damaged ≡ read_as at (decode xs)
+        pub no_four : ((k : ℕ) → Four k a b c d → ⊥) → None ≡ read_as at (decode xs)
         no_four never = rw (missed xs pick)
           where
             pick : (k : ℕ) → Scalar k → Octets k xs → ⊥
@@ -134,7 +134,7 @@ module _ (at : ℕ) (xs : List ℕ) (a : ℕ) (at0 : a ≡ get_or xs 0 0) where
                 let number = sym (number_four k a b c d l (at0 ∙ e) (at1 ∙ f) (at2 ∙ g) (at3 ∙ m)) in
                 never k (record { lead = omega arith; second = omega arith; third = omega arith; fourth = omega arith; number = number; long = h; most = l })
 
-        pub is_four : (k : ℕ) → Four k a b c d → Good k (at + 4) ≡ read_as at (decode xs)
+        pub is_four : (k : ℕ) → Four k a b c d → good k (at + 4) ≡ read_as at (decode xs)
         is_four k t = rw (pick xs at0 at1 at2 at3)
           where
             pick : (ys : List ℕ) → a ≡ get_or ys 0 0 → b ≡ get_or ys 1 0 → c ≡ get_or ys 2 0 → d ≡ get_or ys 3 0 → decode ys ≡ front k 4
@@ -149,7 +149,7 @@ module _ (s : List ℕ) (at : ℕ) where
   pub rest_is : take (length s - at) (drop at s) ≡ drop at s
   rest_is = take_all (length s - at) (drop at s) (omega (arith, length-drop at s))
 
-  pub past : length s ≤ at → Damaged ≡ read_as at (decode (drop at s))
+  pub past : length s ≤ at → None ≡ read_as at (decode (drop at s))
   unfolding decode
   past h = rw (drop_none 0 s at h)
 
@@ -161,26 +161,26 @@ module _ (s : List ℕ) (at : ℕ) where
     pub lead : get_or s at 0 ≡ get_or (drop at s) 0 0
     lead = rw (drop_here 0 s at more)
 
-    pub ascii_at : get_or s at 0 < 0x80 → Good (get_or s at 0) (at + 1) ≡ read_as at (decode (drop at s))
+    pub ascii_at : get_or s at 0 < 0x80 → good (get_or s at 0) (at + 1) ≡ read_as at (decode (drop at s))
     ascii_at h = rw (drop_here 0 s at more, ascii (get_or s at 0) (drop (at + 1) s) h)
 
     module _ (a b : ℕ) (ea : a ≡ get_or s at 0) (eb : b ≡ get_or s (at + 1) 0) where
-      pub no_two_at : 0xC2 ≤ a → a < 0xE0 → ((k : ℕ) → Two k a b → ⊥) → Damaged ≡ read_as at (decode (drop at s))
+      pub no_two_at : 0xC2 ≤ a → a < 0xE0 → ((k : ℕ) → Two k a b → ⊥) → None ≡ read_as at (decode (drop at s))
       no_two_at = no_two at (drop at s) a (ea ∙ lead) b (eb ∙ sym (get_or-drop at s 1 0))
 
-      pub is_two_at : 0xC2 ≤ a → a < 0xE0 → (k : ℕ) → Two k a b → Good k (at + 2) ≡ read_as at (decode (drop at s))
+      pub is_two_at : 0xC2 ≤ a → a < 0xE0 → (k : ℕ) → Two k a b → good k (at + 2) ≡ read_as at (decode (drop at s))
       is_two_at = is_two at (drop at s) a (ea ∙ lead) b (eb ∙ sym (get_or-drop at s 1 0))
 
       module _ (c : ℕ) (ec : c ≡ get_or s (at + 2) 0) where
-        pub no_three_at : 0xE0 ≤ a → a < 0xF0 → ((k : ℕ) → Three k a b c → ⊥) → Damaged ≡ read_as at (decode (drop at s))
+        pub no_three_at : 0xE0 ≤ a → a < 0xF0 → ((k : ℕ) → Three k a b c → ⊥) → None ≡ read_as at (decode (drop at s))
         no_three_at = no_three at (drop at s) a (ea ∙ lead) b (eb ∙ sym (get_or-drop at s 1 0)) c (ec ∙ sym (get_or-drop at s 2 0))
 
-        pub is_three_at : 0xE0 ≤ a → a < 0xF0 → (k : ℕ) → Three k a b c → Good k (at + 3) ≡ read_as at (decode (drop at s))
+        pub is_three_at : 0xE0 ≤ a → a < 0xF0 → (k : ℕ) → Three k a b c → good k (at + 3) ≡ read_as at (decode (drop at s))
         is_three_at = is_three at (drop at s) a (ea ∙ lead) b (eb ∙ sym (get_or-drop at s 1 0)) c (ec ∙ sym (get_or-drop at s 2 0))
 
         module _ (d : ℕ) (ed : d ≡ get_or s (at + 3) 0) where
-          pub no_four_at : 0xF0 ≤ a → ((k : ℕ) → Four k a b c d → ⊥) → Damaged ≡ read_as at (decode (drop at s))
+          pub no_four_at : 0xF0 ≤ a → ((k : ℕ) → Four k a b c d → ⊥) → None ≡ read_as at (decode (drop at s))
           no_four_at = no_four at (drop at s) a (ea ∙ lead) b (eb ∙ sym (get_or-drop at s 1 0)) c (ec ∙ sym (get_or-drop at s 2 0)) d (ed ∙ sym (get_or-drop at s 3 0))
 
-          pub is_four_at : 0xF0 ≤ a → (k : ℕ) → Four k a b c d → Good k (at + 4) ≡ read_as at (decode (drop at s))
+          pub is_four_at : 0xF0 ≤ a → (k : ℕ) → Four k a b c d → good k (at + 4) ≡ read_as at (decode (drop at s))
           is_four_at = is_four at (drop at s) a (ea ∙ lead) b (eb ∙ sym (get_or-drop at s 1 0)) c (ec ∙ sym (get_or-drop at s 2 0)) d (ed ∙ sym (get_or-drop at s 3 0))

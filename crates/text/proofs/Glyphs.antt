@@ -1,4 +1,5 @@
 -- What is at a place of a text, as an answer of the code tells it; and the characters of a whole text.
+use Rattle.std.proofs.Common.{None}
 use mathlib.Core.Path.{◌≡◌, refl, sym, ap, ap₂, ◌∙◌}
 use mathlib.Core.Bool.{Bool, true, false, cond}
 use mathlib.Core.List.{List, [], ◌∷◌, ◌++◌}
@@ -19,8 +20,7 @@ use Rattle.widths.specs.Widths.{width_of}
 use Rattle.widths.specs.WhiteSpace.{white_space}
 use Rattle.widths.proofs.Laws.{at_most_two, at_most_one_before_1100}
 use Rattle.text.specs.Characters.{Glyph, glyph_as, glyph, characters}
-use Rattle.text.specs.Cited.Places.{read_as, seen_as}
-use Rattle.text.specs.declared.Char.TheVariants.{Good, Damaged}
+use Rattle.text.specs.Cited.Places.{read_as, seen_as, good}
 use Rattle.text.specs.declared.Glyph.{Glyph as Seen}
 use Rattle.text.specs.declared.Glyph.TheVariants.{Ink, Blank, Damaged as Broken}
 use Rattle.text.specs.contracts.Glyph.{the_type}
@@ -118,10 +118,10 @@ module _ (s : List ℕ) (at : ℕ) where
       }
 
   -- from the answer of decode_at
-  pub char_here : (code next : ℕ) → read_as at (decode (drop at s)) ≡ Good code next → Here (white_space code) s at code next
+  pub char_here : (code next : ℕ) → read_as at (decode (drop at s)) ≡ good code next → Here (white_space code) s at code next
   char_here code next h = let v = good_front at (decode (drop at s)) code next h in rw (← v.2) (front_here code v.0 v.1)
 
-  pub char_damaged_here : at < length s → read_as at (decode (drop at s)) ≡ Damaged → DamagedHere s at
+  pub char_damaged_here : at < length s → read_as at (decode (drop at s)) ≡ None → DamagedHere s at
   char_damaged_here h e =
       let g = glyph_is nothing (damaged_front at (decode (drop at s)) e) in
       let b : (glyph (drop at s)).bytes ≡ get_or s at 0 ∷ [] = rw g (sym (slice_is at 1 s) ∙ slice_one 0 s at h) in
@@ -139,7 +139,7 @@ module _ (s : List ℕ) (at : ℕ) where
   pub blank_here : (code next : ℕ) → seen_as at (glyph (drop at s)) ≡ Blank code next → Here true s at code next
   blank_here code next h = glyph_here true code next h
 
-  damaged_char_here : seen_as at (glyph (drop at s)) ≡ Broken → read_as at (decode (drop at s)) ≡ Damaged
+  damaged_char_here : seen_as at (glyph (drop at s)) ≡ Broken → read_as at (decode (drop at s)) ≡ None
   damaged_char_here e = damaged_char (read_as at (decode (drop at s))) (seen_char_spec at (drop at s) ∙ e)
 
   pub damaged_here : at < length s → seen_as at (glyph (drop at s)) ≡ Broken → DamagedHere s at

@@ -1,4 +1,5 @@
 -- Where each octet joins the three before it, no place is damaged: by the characters of a text, one after the other.
+use Rattle.std.proofs.Common.{None}
 use mathlib.Core.Path.{◌≡◌, refl, sym, ap, ◌∙◌}
 use mathlib.Core.Bool.{Bool, true, false, not, ◌&&◌, ◌||◌, and-eq-true_iff, or-true}
 use mathlib.Core.List.{List, [], ◌∷◌}
@@ -10,10 +11,8 @@ use borrow.Author.Tests.{ltb-true, ltb-false, leb-true, le-leb, lt-leb, eqb-true
 use Rattle.lists.proofs.Views.{drop_here}
 use Rattle.text.specs.Rfc3629.{decode}
 use Rattle.text.specs.Characters.{damage}
-use Rattle.text.specs.Cited.Places.{read_as}
+use Rattle.text.specs.Cited.Places.{read_as, good}
 use Rattle.text.specs.Cited.Joins.{asked, goes_on, joins, joins_at, EachJoins, Joined, JoinedFrom}
-use Rattle.text.specs.declared.Found.TheVariants.{Nowhere}
-use Rattle.text.specs.declared.Char.TheVariants.{Good}
 use Rattle.text.proofs.Forms.{ascii, is_two, is_three, is_four}
 use Rattle.text.proofs.Glyphs.{char_here}
 use Rattle.text.proofs.Damage.{later, later_zero, damage_past, damage_on}
@@ -85,24 +84,24 @@ by_third p q r h = rw (le-leb 0xF0 p h)
 
 -- ---- a text by its characters: the first, and what is after it
 
-one_more : (xs : List ℕ) (code n : ℕ) → read_as 0 (decode xs) ≡ Good code n → damage (drop n xs) ≡ Nowhere → damage xs ≡ Nowhere
+one_more : (xs : List ℕ) (code n : ℕ) → read_as 0 (decode xs) ≡ good code n → damage (drop n xs) ≡ None → damage xs ≡ None
 one_more xs code n e rest = sym (later_zero (damage xs)) ∙ damage_on xs 0 (char_here xs 0 code n e) ∙ ap (later n) rest
 
-one_octet : (a : ℕ) (xs : List ℕ) → a < 0x80 → damage xs ≡ Nowhere → damage (a ∷ xs) ≡ Nowhere
+one_octet : (a : ℕ) (xs : List ℕ) → a < 0x80 → damage xs ≡ None → damage (a ∷ xs) ≡ None
 one_octet a xs h rest = one_more (a ∷ xs) a 1 (ap (read_as 0) (ascii a xs h)) rest
 
 -- what is left behind a character: no octet of it asks for another
 abbrev Rest : ℕ → Type 0
-Rest n = (p q r : ℕ) (xs : List ℕ) → length xs < n → p < 0xF0 → q < 0xE0 → r < 0xC0 → Joined p q r xs → damage xs ≡ Nowhere
+Rest n = (p q r : ℕ) (xs : List ℕ) → length xs < n → p < 0xF0 → q < 0xE0 → r < 0xC0 → Joined p q r xs → damage xs ≡ None
 
-two_octets : (q r a : ℕ) (xs : List ℕ) → 0xC2 ≤ a → a < 0xE0 → r < 0xC0 → Joined q r a xs → Rest (suc (length xs)) → damage (a ∷ xs) ≡ Nowhere
+two_octets : (q r a : ℕ) (xs : List ℕ) → 0xC2 ≤ a → a < 0xE0 → r < 0xC0 → Joined q r a xs → Rest (suc (length xs)) → damage (a ∷ xs) ≡ None
 two_octets q r a [] lo hi hr j rest = absurd (omega (arith, j.2))
 two_octets q r a (b ∷ xs) lo hi hr j rest =
     let s = asked_by (joins_is q r a b j.0) (by_last q r a (omega arith)) in
     one_more (a ∷ b ∷ xs) (a % 32 * 64 + b % 64) 2 (sym (is_two 0 (a ∷ b ∷ xs) a refl b refl lo hi _ (record { second = s.1; number = refl })))
     (rest r a b xs (omega arith) (omega arith) hi s.0 j.1)
 
-three_octets : (q r a : ℕ) (xs : List ℕ) → 0xE0 ≤ a → a < 0xF0 → Joined q r a xs → Rest (suc (length xs)) → damage (a ∷ xs) ≡ Nowhere
+three_octets : (q r a : ℕ) (xs : List ℕ) → 0xE0 ≤ a → a < 0xF0 → Joined q r a xs → Rest (suc (length xs)) → damage (a ∷ xs) ≡ None
 three_octets q r a [] lo hi j rest = absurd (omega (arith, j.2))
 three_octets q r a (b ∷ []) lo hi j rest = absurd (omega (arith, j.1.1))
 three_octets q r a (b ∷ c ∷ xs) lo hi j rest =
@@ -127,7 +126,7 @@ three_octets q r a (b ∷ c ∷ xs) lo hi j rest =
     surrogate : Joins q r a b → b / 64 ≡ 2 → 0xD800 ≤ a % 16 * 4096 + b % 64 * 64 + c % 64 → a % 16 * 4096 + b % 64 * 64 + c % 64 ≤ 0xDFFF → ⊥
     surrogate k h l m = let e : a ≡ 0xED = omega arith in omega (arith, k.behind_ed e)
 
-four_octets : (q r a : ℕ) (xs : List ℕ) → 0xF0 ≤ a → a ≤ 0xF4 → Joined q r a xs → Rest (suc (length xs)) → damage (a ∷ xs) ≡ Nowhere
+four_octets : (q r a : ℕ) (xs : List ℕ) → 0xF0 ≤ a → a ≤ 0xF4 → Joined q r a xs → Rest (suc (length xs)) → damage (a ∷ xs) ≡ None
 four_octets q r a [] lo hi j rest = absurd (omega (arith, j.2))
 four_octets q r a (b ∷ []) lo hi j rest = absurd (omega (arith, j.1.1))
 four_octets q r a (b ∷ c ∷ []) lo hi j rest = absurd (omega (arith, j.1.1.0))
@@ -158,7 +157,7 @@ four_octets q r a (b ∷ c ∷ d ∷ xs) lo hi j rest =
     most false e k h = let n : a ≤ 0xF3 = let d = eqb-false a 0xF4 e in omega (arith, d) in omega arith
 
 -- a character, whichever it is, before what is left
-next : (p q r a : ℕ) (xs : List ℕ) → p < 0xF0 → q < 0xE0 → r < 0xC0 → Joined p q r (a ∷ xs) → Rest (suc (length xs)) → damage (a ∷ xs) ≡ Nowhere
+next : (p q r a : ℕ) (xs : List ℕ) → p < 0xF0 → q < 0xE0 → r < 0xC0 → Joined p q r (a ∷ xs) → Rest (suc (length xs)) → damage (a ∷ xs) ≡ None
 next p q r a xs hp hq hr j rest = pick (ltb a 0x80) (ltb a 0xE0) (ltb a 0xF0) refl refl refl
   where
     here : Joins p q r a
@@ -167,7 +166,7 @@ next p q r a xs hp hq hr j rest = pick (ltb a 0x80) (ltb a 0xE0) (ltb a 0xF0) re
     least : 0x80 ≤ a → 0xC2 ≤ a
     least h = omega (arith, here.not_c0, here.not_c1, fresh here hp hq hr)
 
-    pick : (t u v : Bool) → ltb a 0x80 ≡ t → ltb a 0xE0 ≡ u → ltb a 0xF0 ≡ v → damage (a ∷ xs) ≡ Nowhere
+    pick : (t u v : Bool) → ltb a 0x80 ≡ t → ltb a 0xE0 ≡ u → ltb a 0xF0 ≡ v → damage (a ∷ xs) ≡ None
     pick true u v e f g = let h = ltb-true a 0x80 e in one_octet a xs h (rest q r a xs (omega arith) (omega arith) (omega arith) (omega arith) j.1)
     pick false true v e f g = two_octets q r a xs (least (ltb-false a 0x80 e)) (ltb-true a 0xE0 f) hr j.1 rest
     pick false false true e f g = three_octets q r a xs (ltb-false a 0xE0 f) (ltb-true a 0xF0 g) j.1 rest
@@ -181,7 +180,7 @@ whole : (n : ℕ) → Rest n
 whole zero = λ p q r xs l. absurd (omega arith)
 whole (suc n) = step n (whole n)
 
-pub joined_whole : (xs : List ℕ) → Joined 0 0 0 xs → damage xs ≡ Nowhere
+pub joined_whole : (xs : List ℕ) → Joined 0 0 0 xs → damage xs ≡ None
 joined_whole xs j = whole (suc (length xs)) 0 0 0 xs (omega arith) (omega arith) (omega arith) (omega arith) j
 
 -- ---- as the code looks at a text, from the front

@@ -1,4 +1,5 @@
 -- What a character's first bytes say of it.
+use Rattle.std.proofs.Common.{}
 use mathlib.Core.Path.{◌≡◌, refl}
 use mathlib.Core.Bool.{Bool, true, false}
 use mathlib.Core.List.{List}
@@ -12,8 +13,7 @@ use Rattle.widths.specs.WhiteSpace.{white_space}
 use Rattle.widths.proofs.Inks.{ink_at, ink_behind}
 use Rattle.text.specs.Rfc3629.{Front, front, nothing, decode}
 use Rattle.text.specs.Characters.{glyph}
-use Rattle.text.specs.Cited.Places.{read_as}
-use Rattle.text.specs.declared.Char.TheVariants.{Good}
+use Rattle.text.specs.Cited.Places.{read_as, good}
 use Rattle.text.proofs.Decoder.{Octets, one, two, three, four, octets_of, sound}
 use Rattle.text.proofs.Forms.{lead}
 use Rattle.text.proofs.Letters.{ink_letter}
@@ -25,7 +25,7 @@ plain_ink c h k = ink_at c h (λ a b. omega arith) (λ a b. omega arith)
 
 module _ (s : List ℕ) (at : ℕ) (more : at < length s) where
   -- a character whose first byte is from E0 on has a number from U+0800 on
-  pub long_code : 0xE0 ≤ get_or s at 0 → (code next : ℕ) → read_as at (decode (drop at s)) ≡ Good code next → 0x800 ≤ code
+  pub long_code : 0xE0 ≤ get_or s at 0 → (code next : ℕ) → read_as at (decode (drop at s)) ≡ good code next → 0x800 ≤ code
   long_code h code next e =
       let v = good_front at (decode (drop at s)) code next e in
       pick (octets_of code (drop at s) (drop v.0 (drop at s)) (sound (drop at s) code v.0 v.1).stands)

@@ -1,4 +1,5 @@
 -- Characters of two bytes; and letters of two: what their test says, that none is blank and that each takes one column.
+use Rattle.std.proofs.Common.{}
 use mathlib.Core.Path.{◌≡◌, refl, sym}
 use mathlib.Core.Bool.{Bool, true, false, and-eq-true_iff}
 use mathlib.Core.List.{List}
@@ -15,8 +16,7 @@ use Rattle.widths.specs.WhiteSpace.{white_space}
 use Rattle.widths.proofs.Laws.{one_before_300}
 use Rattle.widths.proofs.Inks.{ink_at}
 use Rattle.text.specs.Rfc3629.{decode}
-use Rattle.text.specs.Cited.Places.{read_as, letter_at, pair_code, Pair}
-use Rattle.text.specs.declared.Char.TheVariants.{Good}
+use Rattle.text.specs.Cited.Places.{read_as, letter_at, pair_code, Pair, good}
 use Rattle.text.proofs.Forms.{lead, is_two}
 use Rattle.text.proofs.Glyphs.{Here, char_here}
 
@@ -59,7 +59,7 @@ module _ (s : List ℕ) (at : ℕ) where
   letter_by h k l n = rw (lt-ltb (at + 1) (length s) h, le-leb 0xC3 (get_or s at 0) k, le-leb (get_or s at 0) 0xD1 l, ne_eqb (get_or s at 0 / 2) 0x66 n)
 
   module _ (p : Pair s at) where
-    pair_char : read_as at (decode (drop at s)) ≡ Good (pair_code s at) (at + 2)
+    pair_char : read_as at (decode (drop at s)) ≡ good (pair_code s at) (at + 2)
     pair_char =
         let first : get_or s at 0 ≡ get_or (drop at s) 0 0 = lead s at (omega (arith, p.within)) in
         let second : get_or s (at + 1) 0 ≡ get_or (drop at s) 1 0 = sym (get_or-drop at s 1 0) in

@@ -1,4 +1,5 @@
 -- The code's answers at a place, each from the one below: a character from what is decoded, a glyph from the character.
+use Rattle.std.proofs.Common.{None}
 use mathlib.Core.Path.{◌≡◌, refl}
 use mathlib.Core.Bool.{Bool, true, false, cond}
 use mathlib.Core.List.{List}
@@ -8,16 +9,15 @@ use lib.Seq.{length-take-le}
 use Rattle.text.specs.Rfc3629.{Front, front, nothing, decode}
 use Rattle.widths.specs.WhiteSpace.{white_space}
 use Rattle.text.specs.Characters.{glyph_as, glyph}
-use Rattle.text.specs.Cited.Places.{read_as, glyph_of, seen_as}
+use Rattle.text.specs.Cited.Places.{read_as, glyph_of, seen_as, good}
 use Rattle.text.specs.declared.Char.{Char}
-use Rattle.text.specs.declared.Char.TheVariants.{Good, Damaged}
 use Rattle.text.specs.declared.Glyph.{Glyph as Seen}
 use Rattle.text.specs.declared.Glyph.TheVariants.{Ink, Blank, Damaged as Broken}
 use Rattle.text.proofs.Decoder.{sound}
 
-abbrev pub seen_char : Char → Seen
-seen_char (Good c next) = glyph_of c next
-seen_char Damaged = Broken
+abbrev pub seen_char : Option Char → Seen
+seen_char (Some c) = glyph_of c.code c.next
+seen_char None = Broken
 
 pub seen_char_spec : (at : ℕ) (xs : List ℕ) → seen_char (read_as at (decode xs)) ≡ seen_as at (glyph xs)
 unfolding glyph seen_as
@@ -28,30 +28,30 @@ seen_char_spec at xs = pick (decode xs) refl
     pick (front c n) e = rw (length-take-le n xs (sound xs c n e).within)
 
 -- the character that an answer was made from: a blank one (t true), an ordinary one, or none
-pub glyph_char : (r : Char) (t : Bool) (c next : ℕ) → seen_char r ≡ cond t (Blank c next) (Ink c next) → (r ≡ Good c next) × (white_space c ≡ t)
-glyph_char Damaged true c next h = absurd (let z : ◌≡◌ {A = ℕ} 0 1 = cc in omega arith)
-glyph_char Damaged false c next h = absurd (let z : ◌≡◌ {A = ℕ} 0 1 = cc in omega arith)
-glyph_char (Good c' next') t c next h = pick (white_space c') t refl h
+pub glyph_char : (r : Option Char) (t : Bool) (c next : ℕ) → seen_char r ≡ cond t (Blank c next) (Ink c next) → (r ≡ good c next) × (white_space c ≡ t)
+glyph_char None true c next h = absurd (let z : ◌≡◌ {A = ℕ} 0 1 = cc in omega arith)
+glyph_char None false c next h = absurd (let z : ◌≡◌ {A = ℕ} 0 1 = cc in omega arith)
+glyph_char (Some r) t c next h = pick (white_space r.code) t refl h
   where
-    pick : (u v : Bool) → white_space c' ≡ u → cond u (Blank c' next') (Ink c' next') ≡ cond v (Blank c next) (Ink c next) → (Good c' next' ≡ Good c next) × (white_space c ≡ v)
-    pick true true b e = (cc, let q : c' ≡ c = cc in rw (← q) b)
-    pick false false b e = (cc, let q : c' ≡ c = cc in rw (← q) b)
+    pick : (u v : Bool) → white_space r.code ≡ u → cond u (Blank r.code r.next) (Ink r.code r.next) ≡ cond v (Blank c next) (Ink c next) → (Some r ≡ good c next) × (white_space c ≡ v)
+    pick true true b e = (cc, let q : r.code ≡ c = cc in rw (← q) b)
+    pick false false b e = (cc, let q : r.code ≡ c = cc in rw (← q) b)
     pick true false b e = absurd (let z : ◌≡◌ {A = ℕ} 0 1 = cc in omega arith)
     pick false true b e = absurd (let z : ◌≡◌ {A = ℕ} 0 1 = cc in omega arith)
 
-pub damaged_char : (r : Char) → seen_char r ≡ Broken → r ≡ Damaged
-damaged_char Damaged h = refl
-damaged_char (Good c next) h = pick (white_space c) h
+pub damaged_char : (r : Option Char) → seen_char r ≡ Broken → r ≡ None
+damaged_char None h = refl
+damaged_char (Some c) h = pick (white_space c.code) h
   where
-    pick : (u : Bool) → cond u (Blank c next) (Ink c next) ≡ Broken → Good c next ≡ Damaged
+    pick : (u : Bool) → cond u (Blank c.code c.next) (Ink c.code c.next) ≡ Broken → Some c ≡ None
     pick true e = cc
     pick false e = cc
 
 -- the front that a character was read from
-pub good_front : (at : ℕ) (f : Front) (c next : ℕ) → read_as at f ≡ Good c next → (n : ℕ) × (f ≡ front c n) × (at + n ≡ next)
+pub good_front : (at : ℕ) (f : Front) (c next : ℕ) → read_as at f ≡ good c next → (n : ℕ) × (f ≡ front c n) × (at + n ≡ next)
 good_front at nothing c next h = absurd (let z : ◌≡◌ {A = ℕ} 0 1 = cc in omega arith)
 good_front at (front c' n) c next h = (n, cc, cc)
 
-pub damaged_front : (at : ℕ) (f : Front) → read_as at f ≡ Damaged → f ≡ nothing
+pub damaged_front : (at : ℕ) (f : Front) → read_as at f ≡ None → f ≡ nothing
 damaged_front at nothing h = refl
 damaged_front at (front c n) h = cc

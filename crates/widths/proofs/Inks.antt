@@ -1,4 +1,5 @@
--- Width and white space in one number: what it says of a character.
+-- Width and white space at once: what the answer says of a character.
+use Rattle.std.proofs.Common.{Option, Some, None}
 use mathlib.Core.Path.{◌≡◌, refl, sym, ◌∙◌}
 use mathlib.Core.Bool.{Bool, true, false, cond, ◌&&◌, false≢true}
 use Prim.Native.Nat.{ℕ, ◌≤◌, ◌<◌}
@@ -8,23 +9,22 @@ use borrow.Author.Tests.{leb-true, leb-false, ne_eqb}
 use Rattle.widths.specs.Widths.{width_of}
 use Rattle.widths.specs.WhiteSpace.{white_space}
 use Rattle.widths.specs.Cited.Forms.{ink_width}
-use Rattle.widths.proofs.Laws.{at_most_two}
 
-pub ink_blank : (c n : ℕ) → n ≡ ink_width c → n ≡ 3 → white_space c ≡ true
+pub ink_blank : (c : ℕ) → None ≡ ink_width c → white_space c ≡ true
 unfolding ink_width
-ink_blank c n e h = pick (white_space c) refl e
+ink_blank c e = pick (white_space c) refl e
   where
-    pick : (t : Bool) → white_space c ≡ t → n ≡ cond t 3 (width_of c) → white_space c ≡ true
+    pick : (t : Bool) → white_space c ≡ t → None ≡ cond t None (Some (width_of c)) → white_space c ≡ true
     pick true x q = x
-    pick false x q = let w = at_most_two c in absurd (omega arith)
+    pick false x q = cc
 
-pub ink_not_blank : (c n : ℕ) → n ≡ ink_width c → (n ≡ 3 → ⊥) → (white_space c ≡ false) × (n ≡ width_of c)
+pub ink_not_blank : (c n : ℕ) → Some n ≡ ink_width c → (white_space c ≡ false) × (n ≡ width_of c)
 unfolding ink_width
-ink_not_blank c n e h = pick (white_space c) refl e
+ink_not_blank c n e = pick (white_space c) refl e
   where
-    pick : (t : Bool) → white_space c ≡ t → n ≡ cond t 3 (width_of c) → (white_space c ≡ false) × (n ≡ width_of c)
-    pick true x q = absurd (h q)
-    pick false x q = (x, q)
+    pick : (t : Bool) → white_space c ≡ t → Some n ≡ cond t None (Some (width_of c)) → (white_space c ≡ false) × (n ≡ width_of c)
+    pick true x q = cc
+    pick false x q = (x, cc)
 
 no_range : (a b c : ℕ) → (a ≤ c → c ≤ b → ⊥) → (leb a c && leb c b) ≡ false
 no_range a b c h = pick (leb a c) (leb c b) refl refl
@@ -61,18 +61,18 @@ blank_most c h = pick (leb c 0x3000) refl
     pick true e = leb-true c 0x3000 e
     pick false e = absurd (false≢true (sym (ink_behind c (let l = leb-false c 0x3000 e in omega arith)) ∙ h))
 
-pub inked : (c n : ℕ) → white_space c ≡ false → n ≡ width_of c → n ≡ ink_width c
+pub inked : (c n : ℕ) → white_space c ≡ false → n ≡ width_of c → Some n ≡ ink_width c
 unfolding ink_width
-inked c n h e = rw h e
+inked c n h e = rw (h, e) refl
 
-pub blank : (c : ℕ) → white_space c ≡ true → 3 ≡ ink_width c
+pub blank : (c : ℕ) → white_space c ≡ true → None ≡ ink_width c
 unfolding ink_width
 blank c h = rw h refl
 
-pub far : (c n : ℕ) → 0x3000 < c → n ≡ width_of c → n ≡ ink_width c
+pub far : (c n : ℕ) → 0x3000 < c → n ≡ width_of c → Some n ≡ ink_width c
 far c n h e = inked c n (ink_behind c h) e
 
-pub near : (c n : ℕ) → 0x300 ≤ c → c < 0x1680 → n ≡ width_of c → n ≡ ink_width c
+pub near : (c n : ℕ) → 0x300 ≤ c → c < 0x1680 → n ≡ width_of c → Some n ≡ ink_width c
 near c n h k e = inked c n (ink_at c (omega arith) (λ a b. omega arith) (λ a b. omega arith)) e
 
 pub dash : (c : ℕ) → 0x2010 ≤ c → c < 0x2028 → white_space c ≡ false

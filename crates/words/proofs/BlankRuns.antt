@@ -1,4 +1,5 @@
 -- Blanks at a place, worked off one by one.
+use Rattle.std.proofs.Common.{Option, Some, None}
 use mathlib.Core.Path.{◌≡◌, refl, sym, ap, ◌∙◌}
 use mathlib.Core.Bool.{Bool, true, false, cond}
 use mathlib.Core.List.{List, [], ◌∷◌}
@@ -25,8 +26,6 @@ use Rattle.text.proofs.NoBreaks.{no_break_blank}
 use Rattle.text.proofs.Edges.{glyphs_past, ink_past, glyphs_first, ink_begins, blank_on}
 use Rattle.lines.specs.Classes.{next_stop}
 use Rattle.records.specs.Cited.Table.{before_number}
-use Rattle.records.specs.declared.Before.{Before}
-use Rattle.records.specs.declared.Before.TheVariants.{Absent, Count}
 use Rattle.words.specs.Words.{Gap, gap_tab, gap_from, gap_of}
 use Rattle.words.specs.Cited.Scan.{gap_in, gap_behind, no_blanks, OverBlanks, InkBegins, OneSpace}
 use Rattle.words.specs.declared.Blanks.{Blanks}
@@ -41,11 +40,11 @@ stop_near tab after =
 
 -- both counts grow by at most 100 with a blank
 module _ (tab m : ℕ) (few : tab ≤ 100) where
-  tab_few : (before : Before) (after : ℕ) → before_number before ≤ m → after ≤ m
+  tab_few : (before : Option ℕ) (after : ℕ) → before_number before ≤ m → after ≤ m
       → (before_number (gap_tab tab before after).before ≤ m + 100) × ((gap_tab tab before after).after ≤ m + 100)
   unfolding next_stop
-  tab_few Absent after h k = (omega arith, omega arith)
-  tab_few (Count n) after h k = let s = stop_near tab after in (omega arith, omega arith)
+  tab_few None after h k = (omega arith, omega arith)
+  tab_few (Some n) after h k = let s = stop_near tab after in (omega arith, omega arith)
 
   gap_few : (code : ℕ) (g : Gap) → before_number g.before ≤ m → g.after ≤ m
       → (before_number (gap_behind tab code g).before ≤ m + 100) × ((gap_behind tab code g).after ≤ m + 100)
@@ -58,11 +57,11 @@ module _ (tab m : ℕ) (few : tab ≤ 100) where
       pick false = (omega arith, omega arith)
 
 -- as the code counts
-module _ (tab code : ℕ) (before : Before) (after : ℕ) where
+module _ (tab code : ℕ) (before : Option ℕ) (after : ℕ) where
   pub gap_other : (code ≡ 9 → ⊥) → ◌≡◌ {A = Gap} (record { before = before; after = after + 1 }) (gap_behind tab code (record { before = before; after = after }))
   gap_other h = rw (ne_eqb code 9 h)
 
-  pub gap_later : code ≡ 9 → (n : ℕ) → before ≡ Count n → ◌≡◌ {A = Gap} (record { before = Count n; after = (after / tab + 1) * tab }) (gap_behind tab code (record { before = before; after = after }))
+  pub gap_later : code ≡ 9 → (n : ℕ) → before ≡ Some n → ◌≡◌ {A = Gap} (record { before = Some n; after = (after / tab + 1) * tab }) (gap_behind tab code (record { before = before; after = after }))
   unfolding next_stop
   gap_later h n e = rw (eq-eqb code 9 h, e)
 
@@ -114,7 +113,7 @@ module _ (glue : Bool) (s : List ℕ) (at : ℕ) where
       pick false k = no_blank_past (ltb-false at (length s) k)
 
 module _ {glue : Bool} {tab : ℕ} {s : List ℕ} {at : ℕ} where
-  pub blanks_first : at ≤ length s → BlanksLeft glue tab s at (record { end = at; before = Absent; after = 0 })
+  pub blanks_first : at ≤ length s → BlanksLeft glue tab s at (record { end = at; before = None; after = 0 })
   unfolding gap_of
   blanks_first h = record { end = refl; gap = refl; rest = refl; within = h; before = omega arith; after = omega arith }
 
@@ -151,19 +150,19 @@ unfolding white_space
 space_here s at h e = rw e at (ascii_here s at h (omega (arith, e)))
 
 module _ {glue : Bool} {tab : ℕ} {s : List ℕ} {at : ℕ} (few : tab ≤ 100) where
-  spaces_left : (k : ℕ) → at + k ≤ length s → ((i : ℕ) → at ≤ i → i < at + k → get_or s i 0 ≡ 32) → BlanksLeft glue tab s at (record { end = at + k; before = Absent; after = k })
+  spaces_left : (k : ℕ) → at + k ≤ length s → ((i : ℕ) → at ≤ i → i < at + k → get_or s i 0 ≡ 32) → BlanksLeft glue tab s at (record { end = at + k; before = None; after = k })
   spaces_left zero h each = rw (add-zero at) (blanks_first (omega arith))
   spaces_left (suc k) h each =
-      blanks_more (record { end = at + k; before = Absent; after = k }) (record { end = at + suc k; before = Absent; after = suc k }) (spaces_left k (omega arith) (λ i x y. each i x (omega arith))) few
-      (space_here s (at + k) (omega arith) (each (at + k) (omega arith) (omega arith))) (omega arith) (rw (← add-one k) (gap_other tab 32 Absent k (λ e. absurd (omega arith))))
+      blanks_more (record { end = at + k; before = None; after = k }) (record { end = at + suc k; before = None; after = suc k }) (spaces_left k (omega arith) (λ i x y. each i x (omega arith))) few
+      (space_here s (at + k) (omega arith) (each (at + k) (omega arith) (omega arith))) (omega arith) (rw (← add-one k) (gap_other tab 32 None k (λ e. absurd (omega arith))))
 
-pub blanks_spaces : {glue : Bool} {tab : ℕ} {s : List ℕ} {at : ℕ} (end : ℕ) → at ≤ end → ((i : ℕ) → at ≤ i → i < end → get_or s i 0 ≡ 32) → InkBegins s end → tab ≤ 100 → OverBlanks glue tab false s at (record { end = end; before = Absent; after = end - at })
+pub blanks_spaces : {glue : Bool} {tab : ℕ} {s : List ℕ} {at : ℕ} (end : ℕ) → at ≤ end → ((i : ℕ) → at ≤ i → i < end → get_or s i 0 ≡ 32) → InkBegins s end → tab ≤ 100 → OverBlanks glue tab false s at (record { end = end; before = None; after = end - at })
 blanks_spaces {glue} {tab} {s} {at} end on each ink few =
     let z : at + (end - at) ≡ end = omega arith in
-    blanks_done (record { end = end; before = Absent; after = end - at }) (rw z at (spaces_left {glue = glue} {s = s} {at = at} few (end - at) (rw z (omega (arith, ink.within))) (λ i x y. each i x (omega arith)))) (no_blank_begins glue s end ink)
+    blanks_done (record { end = end; before = None; after = end - at }) (rw z at (spaces_left {glue = glue} {s = s} {at = at} few (end - at) (rw z (omega (arith, ink.within))) (λ i x y. each i x (omega arith)))) (no_blank_begins glue s end ink)
 
 -- one of them
-pub blanks_one : {glue : Bool} {tab : ℕ} {s : List ℕ} {at : ℕ} → OneSpace s at → tab ≤ 100 → OverBlanks glue tab false s at (record { end = at + 1; before = Absent; after = 1 })
+pub blanks_one : {glue : Bool} {tab : ℕ} {s : List ℕ} {at : ℕ} → OneSpace s at → tab ≤ 100 → OverBlanks glue tab false s at (record { end = at + 1; before = None; after = 1 })
 blanks_one {glue} {tab} {s} {at} o few =
     let z : at + 1 - at ≡ 1 = omega arith in
     rw z at (blanks_spaces {glue = glue} {tab = tab} {s = s} {at = at} (at + 1) (omega arith) (λ i x y. let e : i ≡ at = omega arith in rw e o.space) o.behind few)

@@ -1,5 +1,6 @@
 -- The columns that a word and the blanks before it take are those that its record counts: a word's width, a gap's counts before and after
 -- its first tab.
+use Rattle.std.proofs.Common.{Option, Some, None}
 use mathlib.Core.Path.{◌≡◌, refl, sym, ap, ◌∙◌}
 use mathlib.Core.Bool.{Bool, true, false, cond, not, ◌||◌, and-eq-true_iff, true≢false, false≢true}
 use mathlib.Core.List.{List, [], ◌∷◌, ◌++◌}
@@ -22,8 +23,6 @@ use Rattle.lines.specs.declared.Class.TheVariants.{Formatted}
 use Rattle.lines.proofs.Columns.{columns_again, every_again, formatted_indented, from_indented}
 use Rattle.pieces.specs.Pieces.{Row}
 use Rattle.records.specs.Word.{Word}
-use Rattle.records.specs.declared.Before.{Before}
-use Rattle.records.specs.declared.Before.TheVariants.{Absent, Count}
 use Rattle.words.specs.Words.{Run, is_ink, runs, bytes_of, width_sum, Gap, gap_tab, gap_from, gap_of, no_gap, punct_at_end, counting, word_of, line_words, row_words}
 use Rattle.words.specs.Theorems.PlainGap.{plain_blank, plain_gap}
 use Rattle.words.proofs.Gaps.{from_lined}
@@ -63,21 +62,21 @@ stop_on tab stops column h =
     ap (λ (x : ℕ). (x + 1) * tab) d ∙ stops_apart stops (column / tab) tab
 
 -- the column after a gap that begins at a column
-unfoldable pub gap_end : ℕ → ℕ → Before → ℕ → ℕ
-gap_end tab column Absent after = column + after
-gap_end tab column (Count before) after = next_stop tab (before + column) + after
+unfoldable pub gap_end : ℕ → ℕ → Option ℕ → ℕ → ℕ
+gap_end tab column None after = column + after
+gap_end tab column (Some before) after = next_stop tab (before + column) + after
 
 -- one blank more
-tab_end : (tab column : ℕ) (before : Before) (after : ℕ) → 1 ≤ tab
+tab_end : (tab column : ℕ) (before : Option ℕ) (after : ℕ) → 1 ≤ tab
     → next_stop tab (gap_end tab column before after) ≡ gap_end tab column (gap_tab tab before after).before (gap_tab tab before after).after
 unfolding gap_end next_stop
-tab_end tab column Absent after h = let e : column + after ≡ after + column = omega arith in ap (next_stop tab) e ∙ omega arith
-tab_end tab column (Count n) after h = stop_on tab ((n + column) / tab + 1) after h
+tab_end tab column None after h = let e : column + after ≡ after + column = omega arith in ap (next_stop tab) e ∙ omega arith
+tab_end tab column (Some n) after h = stop_on tab ((n + column) / tab + 1) after h
 
-blank_end : (tab column : ℕ) (before : Before) (after : ℕ) → gap_end tab column before after + 1 ≡ gap_end tab column before (after + 1)
+blank_end : (tab column : ℕ) (before : Option ℕ) (after : ℕ) → gap_end tab column before after + 1 ≡ gap_end tab column before (after + 1)
 unfolding gap_end
-blank_end tab column Absent after = omega arith
-blank_end tab column (Count n) after = omega arith
+blank_end tab column None after = omega arith
+blank_end tab column (Some n) after = omega arith
 
 -- a blank that is no tab takes a column
 abbrev pub Narrow : Glyph → Type 0
@@ -117,7 +116,7 @@ all_narrow (b ∷ bs) e =
 pub record Counted (o : Opts) (w : Word) : Type 0 where
   pub text : (column : ℕ) (ys : List ℕ) → columns_of o.tab column (characters (w.text ++ ys)) ≡ columns_of o.tab (column + w.width) (characters ys)
   pub blanks : plain_gap w ≡ true → (column : ℕ) (ys : List ℕ) → columns_of o.tab column (characters (w.blanks ++ ys)) ≡ columns_of o.tab (gap_end o.tab column w.before w.after) (characters ys)
-  pub bare : (o.uniform || w.new_line) ≡ true → (w.blanks ≡ []) × (w.before ≡ Absent) × (w.after ≡ 0)
+  pub bare : (o.uniform || w.new_line) ≡ true → (w.blanks ≡ []) × (w.before ≡ None) × (w.after ≡ 0)
 
 module _ (count : List Glyph → ℕ) (o : Opts) (least : 1 ≤ o.tab) where
   word_counted : (new_line previousPunct : Bool) (r : Run) (gs rest : List Glyph) → First o.glue r gs rest → All Spells gs → (new_line ≡ true → while is_blank gs ≡ [])
@@ -141,7 +140,7 @@ module _ (count : List Glyph → ℕ) (o : Opts) (least : 1 ≤ o.tab) where
           ∙ ap (λ (c : ℕ). columns_of o.tab c (characters ys)) (gap_columns o.tab column r.blanks least (all_narrow r.blanks (sym (every_again plain_blank r.blanks sb) ∙ plain)))
 
       none : (u n : Bool) → (n ≡ true → while is_blank gs ≡ []) → (u || n) ≡ true
-          → (cond u [] (joined (λ (g : Glyph). g.bytes) r.blanks) ≡ []) × ((cond u no_gap (gap_of o.tab r.blanks)).before ≡ Absent) × ((cond u no_gap (gap_of o.tab r.blanks)).after ≡ 0)
+          → (cond u [] (joined (λ (g : Glyph). g.bytes) r.blanks) ≡ []) × ((cond u no_gap (gap_of o.tab r.blanks)).before ≡ None) × ((cond u no_gap (gap_of o.tab r.blanks)).after ≡ 0)
       none true n st e = (refl, refl, refl)
       none false true st e = let z : r.blanks ≡ [] = f.lead ∙ st refl in rw z (joined_nil (λ (g : Glyph). g.bytes), refl, refl)
       none false false st e = absurd (false≢true e)

@@ -1,4 +1,5 @@
 -- The table filled word by word.
+use Rattle.std.proofs.Common.{Ok, Err}
 use mathlib.Core.Path.{◌≡◌, refl, sym, ap, ◌∙◌}
 use mathlib.Core.Logic.{⊎_elim}
 use mathlib.Core.List.{List, [], ◌∷◌, ◌++◌, map, map-append, append_assoc, append-nil}
@@ -15,7 +16,6 @@ use Rattle.records.proofs.Table.{length_with, read_back, read_other, records_mor
 use Rattle.words.specs.Cited.Split.{Kept, places_in, WordsFilled, Split}
 use Rattle.words.specs.Cited.Places.{counted}
 use Rattle.words.specs.declared.Count.{Count}
-use Rattle.words.specs.declared.Count.TheVariants.{Words, TooMany}
 
 -- of the whole, the first n words are in the table and the rest is left
 pub record Filling (most : ℕ) (notes : List ℕ) (whole left : List Word) (ps qs : List ℕ) (n : ℕ) (t : List ℕ) : Type 0 where
@@ -49,7 +49,7 @@ places_more t n w room = ap (map (λ (w : Record). w.start)) (records_more t n w
 
 module _ {most : ℕ} {notes : List ℕ} {whole left : List Word} {ps qs : List ℕ} {n : ℕ} {t : List ℕ} where
   module _ (f : Filling most notes whole left ps qs n t) where
-    pub filling_done : left ≡ [] → qs ≡ [] → WordsFilled most notes whole ps t (Words n)
+    pub filling_done : left ≡ [] → qs ≡ [] → WordsFilled most notes whole ps t (Ok n)
     filling_done e q = (sym (append-nil (words_in notes n t)) ∙ rw e at f.words, sym (append-nil (places_in n t)) ∙ rw q at f.places, f.kept)
 
     pub filling_more : (end : ℕ) (w : Record) {rest : List Word} {gs : List ℕ} → left ≡ meaning (take end notes) w ∷ rest → qs ≡ w.start ∷ gs → n < most → Within (length (take end notes)) w → w.width ≤ length (take end notes)
@@ -82,7 +82,7 @@ module _ {most : ℕ} {notes : List ℕ} {whole left : List Word} {ps qs : List 
         places_together : (places_in n t ++ here) ++ later ≡ ps
         places_together = append_assoc (places_in n t) here later ∙ rw q at f.places
 
-        pub filling_line : (m : ℕ) → WordsFilled most notes (words_in notes n t ++ line) (places_in n t ++ here) t' (Words m) → Filling most notes whole rest ps later m t'
+        pub filling_line : (m : ℕ) → WordsFilled most notes (words_in notes n t ++ line) (places_in n t ++ here) t' (Ok m) → Filling most notes whole rest ps later m t'
         filling_line m l = record { words = rw l.0 together; places = rw l.1 places_together; kept = l.2 }
 
 -- no word is there yet
@@ -96,16 +96,16 @@ filling_none {most = most} {notes = notes} {t = t} h = record { words = refl; pl
 -- what the table holds at last
 pub filled_split : (most : ℕ) (notes : List ℕ) (ws : List Word) (ps : List ℕ) (t : List ℕ) (r : Count) → WordsFilled most notes ws ps t r → Split most notes ws ps t r
 unfolding counted
-filled_split most notes ws ps t (Words n) f =
+filled_split most notes ws ps t (Ok n) f =
     let l : length ws ≡ n = sym (ap length f.0) ∙ words_length notes n t in
-    let same : (m : ℕ) → Words n ≡ Words m → n ≡ m = λ m q. cc in
+    let same : (m : ℕ) → Ok n ≡ Ok m → n ≡ m = λ m q. cc in
     record {
       count = rw (l, le-leb n most f.2.few);
       words = λ m q. rw (same m q) at f.0;
       places = λ m q. rw (same m q) at f.1;
       kept = λ m q. rw (same m q) at f.2;
     }
-filled_split most notes ws ps t TooMany f = record {
+filled_split most notes ws ps t (Err (record { })) f = record {
   count = rw (lt-leb (length ws) most f);
   words = λ m q. absurd (let z : ◌≡◌ {A = ℕ} 0 1 = cc in omega arith);
   places = λ m q. absurd (let z : ◌≡◌ {A = ℕ} 0 1 = cc in omega arith);

@@ -1,4 +1,5 @@
 -- The next word at a place, from the blanks and the ink that the code found there.
+use Rattle.std.proofs.Common.{None}
 use mathlib.Core.Path.{◌≡◌, refl, sym, ap, ap₂, ◌∙◌}
 use mathlib.Core.Bool.{Bool, true, false, cond, ◌&&◌, ◌||◌}
 use mathlib.Core.List.{List, [], ◌∷◌}
@@ -20,7 +21,6 @@ use Rattle.lines.specs.Cited.Places.{most_large}
 use Rattle.records.specs.Word.{meaning}
 use Rattle.records.specs.Cited.Table.{before_number, Small, Within}
 use Rattle.records.specs.declared.Word.{Word as Record}
-use Rattle.records.specs.declared.Before.TheVariants.{Absent}
 use Rattle.words.specs.Words.{Run, is_ink, run_of, runs, bytes_of, width_sum, Gap, no_gap, gap_of, has_tab, punct_at_end, counting, wide_gap, word_of, mail_word}
 use Rattle.words.specs.Places.{places_from}
 use Rattle.words.specs.Cited.Scan.{glyphs_behind, gap_in, OverBlanks, OverInk, word_at, mail_at, words_from, NextWord}
@@ -175,7 +175,7 @@ module _ (o : Opts) (new_line : Bool) (s : List ℕ) (at : ℕ) (b : Blanks) (ov
         pick_within true = let e = ends in record { gap = omega arith; text = omega arith; end = ink.within }
         pick_within false = let e = ends in record { gap = omega (arith, over.end); text = omega arith; end = ink.within }
 
-        pick_before : (u : Bool) → before_number (cond u Absent b.before) ≤ 100 * length s
+        pick_before : (u : Bool) → before_number (cond u None b.before) ≤ 100 * length s
         pick_before true = omega arith
         pick_before false = over.before
 

@@ -1,4 +1,5 @@
 -- Words of plain characters, spaces apart: each is the next word of its line, wherever that ends.
+use Rattle.std.proofs.Common.{None}
 use mathlib.Core.Path.{◌≡◌, refl, ap}
 use mathlib.Core.Bool.{Bool, true, false, not, ◌||◌, true≢false, false≢true}
 use mathlib.Core.Logic.{⊎_elim}
@@ -18,7 +19,6 @@ use Rattle.lines.specs.Lines.{first_line}
 use Rattle.lines.specs.Cited.Places.{most_large, lengths_of}
 use Rattle.records.specs.Word.{Word}
 use Rattle.records.specs.Cited.Table.{Small, with_word, words_in}
-use Rattle.records.specs.declared.Before.TheVariants.{Absent}
 use Rattle.records.specs.declared.Word.{Word as Record}
 use Rattle.words.specs.Words.{runs}
 use Rattle.words.specs.Places.{places_from}
@@ -39,7 +39,7 @@ use Rattle.words.proofs.Filling.{Filling, filling_first, filling_more}
 here_moved : {t : List ℕ} {x y : ℕ} → x ≡ y → Here false t x (get_or t x 0) (x + 1) → Here false t y (get_or t y 0) (y + 1)
 here_moved e h = rw (← e) h
 
-as_counted : {glue : Bool} {tab : ℕ} {s : List ℕ} {at : ℕ} (b : Blanks) → b ≡ record { end = b.end; before = Absent; after = b.end - at } → OverBlanks glue tab false s at (record { end = b.end; before = Absent; after = b.end - at }) → OverBlanks glue tab false s at b
+as_counted : {glue : Bool} {tab : ℕ} {s : List ℕ} {at : ℕ} (b : Blanks) → b ≡ record { end = b.end; before = None; after = b.end - at } → OverBlanks glue tab false s at (record { end = b.end; before = None; after = b.end - at }) → OverBlanks glue tab false s at b
 as_counted b e o = rw e o
 
 as_none : {glue : Bool} {tab : ℕ} {s : List ℕ} {at : ℕ} {b : Blanks} → b ≡ no_blanks at → OverBlanks glue tab true s at (no_blanks at) → OverBlanks glue tab true s at b

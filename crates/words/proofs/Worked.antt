@@ -1,4 +1,5 @@
 -- Words that do not stand in the notes: what `Ascends`, `Stands` and `WordsStand` refuse.
+use Rattle.std.proofs.Common.{None}
 use mathlib.Core.Path.{◌≡◌}
 use mathlib.Core.Bool.{Bool, false}
 use mathlib.Core.List.{List, [], ◌∷◌, map}
@@ -9,13 +10,12 @@ use Rattle.lists.proofs.All.{all_at}
 use Rattle.options.specs.Opts.{Opts}
 use Rattle.lines.specs.Lines.{Line}
 use Rattle.pieces.specs.Pieces.{Paragraph}
-use Rattle.records.specs.declared.Before.TheVariants.{Absent}
 use Rattle.words.specs.Words.{words_of}
 use Rattle.words.specs.Places.{Standing, words_standing}
 use Rattle.words.specs.Theorems.Standing.{Ascends, Stands, WordsStand}
 
 abbrev letter_at : ℕ → Standing
-letter_at place = record { place = place; word = record { blanks = []; text = 97 ∷ []; width = 1; before = Absent; after = 0; new_line = false; ends_punct = false; sentence_start = false } }
+letter_at place = record { place = place; word = record { blanks = []; text = 97 ∷ []; width = 1; before = None; after = 0; new_line = false; ends_punct = false; sentence_start = false } }
 
 -- no words, past the end; a word before the place from which they stand
 ends_too_late : Ascends 5 [] 4 → ⊥

@@ -1,11 +1,11 @@
 -- `text::four` meets its contract: each of its tests is one that a character of four octets passes.
+use Rattle.std.proofs.Common.{None}
 use mathlib.Core.Path.{◌≡◌, refl}
 use Prim.Native.Nat.{ℕ, ◌+◌}
 use native.Mathlib.Omega.{arith}
 use lib.ListN.{drop, get_or}
 use Rattle.text.specs.Rfc3629.{decode}
 use Rattle.text.specs.Cited.Places.{read_as}
-use Rattle.text.specs.declared.Char.TheVariants.{Damaged}
 use Rattle.text.proofs.Forms.{Four, cut, no_four_at, is_four_at}
 use Rattle.text.proofs.four.Goals as goal
 
@@ -18,32 +18,32 @@ returns-then-s-last c =
 
 pub returns-then-a-gt244 : goal.returns-then-a-gt244
 returns-then-a-gt244 c =
-    let none : ((k : ℕ) → Four k c.wide-a.result c.wide-b.result c.wide-c.result c.wide-d.result → ⊥) → Damaged ≡ read_as c.args.at (decode (drop c.args.at c.args.s.now)) = no_four_at c.args.s.now _ c.requires.0 _ _ c.wide-a.ensures c.wide-b.ensures _ c.wide-c.ensures _ c.wide-d.ensures (omega (arith, c.wide-a.ensures, c.requires)) in
+    let none : ((k : ℕ) → Four k c.wide-a.result c.wide-b.result c.wide-c.result c.wide-d.result → ⊥) → None ≡ read_as c.args.at (decode (drop c.args.at c.args.s.now)) = no_four_at c.args.s.now _ c.requires.0 _ _ c.wide-a.ensures c.wide-b.ensures _ c.wide-c.ensures _ c.wide-d.ensures (omega (arith, c.wide-a.ensures, c.requires)) in
     none (λ k t. omega (arith, t.lead))
 
 pub returns-then-b-ne2 : goal.returns-then-b-ne2
 returns-then-b-ne2 c =
-    let none : ((k : ℕ) → Four k c.wide-a.result c.wide-b.result c.wide-c.result c.wide-d.result → ⊥) → Damaged ≡ read_as c.args.at (decode (drop c.args.at c.args.s.now)) = no_four_at c.args.s.now _ c.requires.0 _ _ c.wide-a.ensures c.wide-b.ensures _ c.wide-c.ensures _ c.wide-d.ensures (omega (arith, c.wide-a.ensures, c.requires)) in
+    let none : ((k : ℕ) → Four k c.wide-a.result c.wide-b.result c.wide-c.result c.wide-d.result → ⊥) → None ≡ read_as c.args.at (decode (drop c.args.at c.args.s.now)) = no_four_at c.args.s.now _ c.requires.0 _ _ c.wide-a.ensures c.wide-b.ensures _ c.wide-c.ensures _ c.wide-d.ensures (omega (arith, c.wide-a.ensures, c.requires)) in
     none (λ k t. omega (arith, t.second))
 
 pub returns-then-c-ne2 : goal.returns-then-c-ne2
 returns-then-c-ne2 c =
-    let none : ((k : ℕ) → Four k c.wide-a.result c.wide-b.result c.wide-c.result c.wide-d.result → ⊥) → Damaged ≡ read_as c.args.at (decode (drop c.args.at c.args.s.now)) = no_four_at c.args.s.now _ c.requires.0 _ _ c.wide-a.ensures c.wide-b.ensures _ c.wide-c.ensures _ c.wide-d.ensures (omega (arith, c.wide-a.ensures, c.requires)) in
+    let none : ((k : ℕ) → Four k c.wide-a.result c.wide-b.result c.wide-c.result c.wide-d.result → ⊥) → None ≡ read_as c.args.at (decode (drop c.args.at c.args.s.now)) = no_four_at c.args.s.now _ c.requires.0 _ _ c.wide-a.ensures c.wide-b.ensures _ c.wide-c.ensures _ c.wide-d.ensures (omega (arith, c.wide-a.ensures, c.requires)) in
     none (λ k t. omega (arith, t.third))
 
 pub returns-then-d-ne2 : goal.returns-then-d-ne2
 returns-then-d-ne2 c =
-    let none : ((k : ℕ) → Four k c.wide-a.result c.wide-b.result c.wide-c.result c.wide-d.result → ⊥) → Damaged ≡ read_as c.args.at (decode (drop c.args.at c.args.s.now)) = no_four_at c.args.s.now _ c.requires.0 _ _ c.wide-a.ensures c.wide-b.ensures _ c.wide-c.ensures _ c.wide-d.ensures (omega (arith, c.wide-a.ensures, c.requires)) in
+    let none : ((k : ℕ) → Four k c.wide-a.result c.wide-b.result c.wide-c.result c.wide-d.result → ⊥) → None ≡ read_as c.args.at (decode (drop c.args.at c.args.s.now)) = no_four_at c.args.s.now _ c.requires.0 _ _ c.wide-a.ensures c.wide-b.ensures _ c.wide-c.ensures _ c.wide-d.ensures (omega (arith, c.wide-a.ensures, c.requires)) in
     none (λ k t. omega (arith, t.fourth))
 
 pub returns-then-code-lt65536 : goal.returns-then-code-lt65536
 returns-then-code-lt65536 c =
-    let none : ((k : ℕ) → Four k c.wide-a.result c.wide-b.result c.wide-c.result c.wide-d.result → ⊥) → Damaged ≡ read_as c.args.at (decode (drop c.args.at c.args.s.now)) = no_four_at c.args.s.now _ c.requires.0 _ _ c.wide-a.ensures c.wide-b.ensures _ c.wide-c.ensures _ c.wide-d.ensures (omega (arith, c.wide-a.ensures, c.requires)) in
+    let none : ((k : ℕ) → Four k c.wide-a.result c.wide-b.result c.wide-c.result c.wide-d.result → ⊥) → None ≡ read_as c.args.at (decode (drop c.args.at c.args.s.now)) = no_four_at c.args.s.now _ c.requires.0 _ _ c.wide-a.ensures c.wide-b.ensures _ c.wide-c.ensures _ c.wide-d.ensures (omega (arith, c.wide-a.ensures, c.requires)) in
     none (λ k t. omega (arith, t.number, t.long))
 
 pub returns-then-code-gt1114111 : goal.returns-then-code-gt1114111
 returns-then-code-gt1114111 c =
-    let none : ((k : ℕ) → Four k c.wide-a.result c.wide-b.result c.wide-c.result c.wide-d.result → ⊥) → Damaged ≡ read_as c.args.at (decode (drop c.args.at c.args.s.now)) = no_four_at c.args.s.now _ c.requires.0 _ _ c.wide-a.ensures c.wide-b.ensures _ c.wide-c.ensures _ c.wide-d.ensures (omega (arith, c.wide-a.ensures, c.requires)) in
+    let none : ((k : ℕ) → Four k c.wide-a.result c.wide-b.result c.wide-c.result c.wide-d.result → ⊥) → None ≡ read_as c.args.at (decode (drop c.args.at c.args.s.now)) = no_four_at c.args.s.now _ c.requires.0 _ _ c.wide-a.ensures c.wide-b.ensures _ c.wide-c.ensures _ c.wide-d.ensures (omega (arith, c.wide-a.ensures, c.requires)) in
     none (λ k t. omega (arith, t.number, t.most))
 
 pub returns : goal.returns

@@ -1,4 +1,5 @@
 -- `text::three` meets its contract: each of its tests is one that a character of three octets passes.
+use Rattle.std.proofs.Common.{None}
 use mathlib.Core.Path.{◌≡◌, refl}
 use Prim.Native.Nat.{ℕ, ◌+◌}
 use mathlib.Core.Logic.{⊎_elim}
@@ -7,7 +8,6 @@ use lib.ListN.{drop, get_or}
 use borrow.Author.Tests.{leb-true, leb-false}
 use Rattle.text.specs.Rfc3629.{decode}
 use Rattle.text.specs.Cited.Places.{read_as}
-use Rattle.text.specs.declared.Char.TheVariants.{Damaged}
 use Rattle.text.proofs.Forms.{Three, cut, no_three_at, is_three_at}
 use Rattle.text.proofs.three.Goals as goal
 
@@ -20,22 +20,22 @@ returns-then-s-last c =
 
 pub returns-then-b-ne2 : goal.returns-then-b-ne2
 returns-then-b-ne2 c =
-    let none : ((k : ℕ) → Three k c.wide-a.result c.wide-b.result c.wide-c.result → ⊥) → Damaged ≡ read_as c.args.at (decode (drop c.args.at c.args.s.now)) = no_three_at c.args.s.now _ c.requires.0 _ _ c.wide-a.ensures c.wide-b.ensures _ c.wide-c.ensures (omega (arith, c.wide-a.ensures, c.requires)) (omega (arith, c.wide-a.ensures, c.requires)) in
+    let none : ((k : ℕ) → Three k c.wide-a.result c.wide-b.result c.wide-c.result → ⊥) → None ≡ read_as c.args.at (decode (drop c.args.at c.args.s.now)) = no_three_at c.args.s.now _ c.requires.0 _ _ c.wide-a.ensures c.wide-b.ensures _ c.wide-c.ensures (omega (arith, c.wide-a.ensures, c.requires)) (omega (arith, c.wide-a.ensures, c.requires)) in
     none (λ k t. omega (arith, t.second))
 
 pub returns-then-c-ne2 : goal.returns-then-c-ne2
 returns-then-c-ne2 c =
-    let none : ((k : ℕ) → Three k c.wide-a.result c.wide-b.result c.wide-c.result → ⊥) → Damaged ≡ read_as c.args.at (decode (drop c.args.at c.args.s.now)) = no_three_at c.args.s.now _ c.requires.0 _ _ c.wide-a.ensures c.wide-b.ensures _ c.wide-c.ensures (omega (arith, c.wide-a.ensures, c.requires)) (omega (arith, c.wide-a.ensures, c.requires)) in
+    let none : ((k : ℕ) → Three k c.wide-a.result c.wide-b.result c.wide-c.result → ⊥) → None ≡ read_as c.args.at (decode (drop c.args.at c.args.s.now)) = no_three_at c.args.s.now _ c.requires.0 _ _ c.wide-a.ensures c.wide-b.ensures _ c.wide-c.ensures (omega (arith, c.wide-a.ensures, c.requires)) (omega (arith, c.wide-a.ensures, c.requires)) in
     none (λ k t. omega (arith, t.third))
 
 pub returns-then-b-ge160 : goal.returns-then-b-ge160
 returns-then-b-ge160 c =
-    let none : ((k : ℕ) → Three k c.wide-a.result c.wide-b.result c.wide-c.result → ⊥) → Damaged ≡ read_as c.args.at (decode (drop c.args.at c.args.s.now)) = no_three_at c.args.s.now _ c.requires.0 _ _ c.wide-a.ensures c.wide-b.ensures _ c.wide-c.ensures (omega (arith, c.wide-a.ensures, c.requires)) (omega (arith, c.wide-a.ensures, c.requires)) in
+    let none : ((k : ℕ) → Three k c.wide-a.result c.wide-b.result c.wide-c.result → ⊥) → None ≡ read_as c.args.at (decode (drop c.args.at c.args.s.now)) = no_three_at c.args.s.now _ c.requires.0 _ _ c.wide-a.ensures c.wide-b.ensures _ c.wide-c.ensures (omega (arith, c.wide-a.ensures, c.requires)) (omega (arith, c.wide-a.ensures, c.requires)) in
     none (λ k t. t.is_scalar.no_surrogate (omega (arith, leb-true, t.number, t.second)) (omega (arith, leb-true, t.number, t.second)))
 
 pub returns-then-code-lt2048 : goal.returns-then-code-lt2048
 returns-then-code-lt2048 c =
-    let none : ((k : ℕ) → Three k c.wide-a.result c.wide-b.result c.wide-c.result → ⊥) → Damaged ≡ read_as c.args.at (decode (drop c.args.at c.args.s.now)) = no_three_at c.args.s.now _ c.requires.0 _ _ c.wide-a.ensures c.wide-b.ensures _ c.wide-c.ensures (omega (arith, c.wide-a.ensures, c.requires)) (omega (arith, c.wide-a.ensures, c.requires)) in
+    let none : ((k : ℕ) → Three k c.wide-a.result c.wide-b.result c.wide-c.result → ⊥) → None ≡ read_as c.args.at (decode (drop c.args.at c.args.s.now)) = no_three_at c.args.s.now _ c.requires.0 _ _ c.wide-a.ensures c.wide-b.ensures _ c.wide-c.ensures (omega (arith, c.wide-a.ensures, c.requires)) (omega (arith, c.wide-a.ensures, c.requires)) in
     none (λ k t. omega (arith, t.number, t.long))
 
 pub returns : goal.returns
