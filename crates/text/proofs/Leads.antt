@@ -1,5 +1,4 @@
 -- What a character's first bytes say of it.
-use Rattle.std.proofs.Common.{}
 use mathlib.Core.Path.{◌≡◌, refl}
 use mathlib.Core.Bool.{Bool, true, false}
 use mathlib.Core.List.{List}

@@ -1,5 +1,4 @@
 -- Characters of two bytes; and letters of two: what their test says, that none is blank and that each takes one column.
-use Rattle.std.proofs.Common.{}
 use mathlib.Core.Path.{◌≡◌, refl, sym}
 use mathlib.Core.Bool.{Bool, true, false, and-eq-true_iff}
 use mathlib.Core.List.{List}

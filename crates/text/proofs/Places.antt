@@ -1,6 +1,6 @@
 -- The code's answers at a place, each from the one below: a character from what is decoded, a glyph from the character.
-use Rattle.std.proofs.Common.{None}
-use mathlib.Core.Path.{◌≡◌, refl}
+use Rattle.std.proofs.Common.{Option, Some, None}
+use mathlib.Core.Path.{◌≡◌, refl, ap, ap₂}
 use mathlib.Core.Bool.{Bool, true, false, cond}
 use mathlib.Core.List.{List}
 use Prim.Native.Nat.{ℕ, ◌+◌}
@@ -13,6 +13,7 @@ use Rattle.text.specs.Cited.Places.{read_as, glyph_of, seen_as, good}
 use Rattle.text.specs.declared.Char.{Char}
 use Rattle.text.specs.declared.Glyph.{Glyph as Seen}
 use Rattle.text.specs.declared.Glyph.TheVariants.{Ink, Blank, Damaged as Broken}
+use Rattle.std.proofs.lemmas.Option.{same_Some}
 use Rattle.text.proofs.Decoder.{sound}
 
 abbrev pub seen_char : Option Char → Seen
@@ -34,8 +35,8 @@ glyph_char None false c next h = absurd (let z : ◌≡◌ {A = ℕ} 0 1 = cc in
 glyph_char (Some r) t c next h = pick (white_space r.code) t refl h
   where
     pick : (u v : Bool) → white_space r.code ≡ u → cond u (Blank r.code r.next) (Ink r.code r.next) ≡ cond v (Blank c next) (Ink c next) → (Some r ≡ good c next) × (white_space c ≡ v)
-    pick true true b e = (cc, let q : r.code ≡ c = cc in rw (← q) b)
-    pick false false b e = (cc, let q : r.code ≡ c = cc in rw (← q) b)
+    pick true true b e = let q : r.code ≡ c = cc in (ap₂ good q cc, rw (← q) b)
+    pick false false b e = let q : r.code ≡ c = cc in (ap₂ good q cc, rw (← q) b)
     pick true false b e = absurd (let z : ◌≡◌ {A = ℕ} 0 1 = cc in omega arith)
     pick false true b e = absurd (let z : ◌≡◌ {A = ℕ} 0 1 = cc in omega arith)
 
@@ -47,10 +48,14 @@ damaged_char (Some c) h = pick (white_space c.code) h
     pick true e = cc
     pick false e = cc
 
+-- one character is found by one number and one place
+pub good_same : (c next d after : ℕ) → good c next ≡ good d after → (c ≡ d) × (next ≡ after)
+good_same c next d after h = let e = same_Some _ _ h in (ap (λ (x : Char). x.code) e, ap (λ (x : Char). x.next) e)
+
 -- the front that a character was read from
 pub good_front : (at : ℕ) (f : Front) (c next : ℕ) → read_as at f ≡ good c next → (n : ℕ) × (f ≡ front c n) × (at + n ≡ next)
 good_front at nothing c next h = absurd (let z : ◌≡◌ {A = ℕ} 0 1 = cc in omega arith)
-good_front at (front c' n) c next h = (n, cc, cc)
+good_front at (front c' n) c next h = let e = good_same c' (at + n) c next h in (n, ap (λ (k : ℕ). front k n) e.0, e.1)
 
 pub damaged_front : (at : ℕ) (f : Front) → read_as at f ≡ None → f ≡ nothing
 damaged_front at nothing h = refl
