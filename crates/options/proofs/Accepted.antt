@@ -1,5 +1,5 @@
 -- What accepted options keep to, and where a fault can lie.
-use Rattle.std.proofs.Common.{Option, Some, None, Ok, Err}
+use Rattle.std.proofs.Common.{Option, Some, None, Result, Ok, Err}
 use mathlib.Core.Path.{◌≡◌, refl, sym, ap, ◌∙◌}
 use mathlib.Core.Bool.{Bool, true, false, cond, not, ◌&&◌, ◌||◌, and-false, false≢true}
 use mathlib.Core.List.{List}
@@ -12,6 +12,7 @@ use Rattle.lists.proofs.Slices.{slice_is}
 use Rattle.text.specs.Characters.{characters, is_good}
 use Rattle.options.specs.declared.Part.{Part}
 use Rattle.options.specs.declared.Options.{Options}
+use Rattle.options.specs.declared.Fault.{Fault}
 use Rattle.options.specs.OptionBlock.{number, fields, first_fault, part_of, number_at, least_width, fits, bit, options_of, judged, read_block, between}
 use Rattle.options.proofs.Values.{number_two, text_true, prefix_true, allowed_tab, allowed_prefix}
 use Rattle.options.proofs.Given.{Value, part_value}
@@ -51,12 +52,12 @@ module _ (block : List ℕ) (start end : ℕ) where
       let s : slice start end block ≡ take 2 (drop start block) = sym (ap (λ (k : ℕ). slice start k block) e) ∙ slice_is start 2 block in
       rw (s, number_two) at n.2
 
-pub accepted_fault : (o : Options) (place : ℕ) → Ok o ≡ Err (record { at = place }) → ⊥
-accepted_fault o place e = let z : ◌≡◌ {A = ℕ} 0 1 = cc in omega arith
+pub accepted_fault : (o : Options) (f : Fault) → Ok o ≡ Err f → ⊥
+accepted_fault o f e = let z : ◌≡◌ {A = ℕ} 0 1 = cc in omega arith
 
-tab_most_spec : (block : List ℕ) (p : Part) → ((start end : ℕ) → p ≡ between start end → Value block 4 start end) → max 1 (number_at block 8 p) ≤ 100
+tab_most_spec : (block : List ℕ) (p : Option Part) → ((start end : ℕ) → p ≡ between start end → Value block 4 start end) → max 1 (number_at block 8 p) ≤ 100
 tab_most_spec block None v = omega arith
-tab_most_spec block (between start end) v = let h = tab_value block start end (v start end refl) in omega arith
+tab_most_spec block (Some p) v = let h = tab_value block p.start p.end (v p.start p.end refl) in omega arith
 
 split_clears_spec : (crown tagged split : Bool) → split ≡ true → (crown && not split || tagged && not crown && not split) ≡ false
 split_clears_spec crown tagged true e = rw (and-false, and-false)
@@ -92,10 +93,10 @@ module _ (block : List ℕ) where
   unfolding read_block
   accepted o e = settle (first_fault (fields block)) refl e
     where
-      rule : (t : Bool) → keeps block ≡ t → first_fault (fields block) ≡ None → cond t (Ok (options_of block (fields block))) (Err (record { at = (length block) })) ≡ Ok o → Kept block o
+      rule : (t : Bool) → keeps block ≡ t → first_fault (fields block) ≡ None → cond {A = Result Options Fault} t (Ok (options_of block (fields block))) (Err (record { at = length block })) ≡ Ok o → Kept block o
       rule true q f a = let s : options_of block (fields block) ≡ o = cc in rw (← s) (kept f q)
       rule false q f a = absurd (accepted_fault o _ (sym a))
 
       settle : (f : Option ℕ) → first_fault (fields block) ≡ f → judged block (fields block) f ≡ Ok o → Kept block o
-      settle (Some place) q a = absurd (accepted_fault o place (sym a))
+      settle (Some place) q a = absurd (accepted_fault o _ (sym a))
       settle None q a = rule (keeps block) refl q a

@@ -1,5 +1,6 @@
 -- Fields that are read: the value of a tag's field where none is faulty, and the place of the first fault.
 use Rattle.std.proofs.Common.{Some, None}
+use Rattle.std.proofs.lemmas.Option.{none-some, same_Some}
 use mathlib.Core.Path.{◌≡◌, refl, sym, ap, ◌∙◌}
 use mathlib.Core.Bool.{Bool, true, false, true≢false}
 use mathlib.Core.List.{List}
@@ -10,6 +11,7 @@ use lib.ListN.{length, get_or, take, drop}
 use lib.Seq.{slice}
 use borrow.Author.Tests.{ltb-true, ltb-false, eqb-true, eqb-false}
 use Rattle.lists.proofs.Slices.{slice_is}
+use Rattle.options.specs.declared.Part.{Part}
 use Rattle.options.specs.OptionBlock.{number, fields, allowed, well_formed, first_fault, part_of, between}
 use Rattle.options.specs.Cited.Places.{field_at}
 use Rattle.options.proofs.Fields.{rest, rest_all, well_order, well_cut, well_value, fault_here, fault_later, part_none, part_here, part_later}
@@ -52,11 +54,9 @@ data From (block : List ℕ) : ℕ → ℕ → Type 0 where
   more : {at previous : ℕ} → at < length block → well_formed (field_at block at previous) ≡ true
       → From block (at + 3 + number (drop (at + 1) block)) (get_or block at 0) → From block at previous
 
-pub at_nowhere : (place : ℕ) → Some place ≡ None → ⊥
-at_nowhere place e = let z : ◌≡◌ {A = ℕ} 0 1 = cc in omega arith
-
-given_absent : (start end : ℕ) → between start end ≡ None → ⊥
-given_absent start end e = let z : ◌≡◌ {A = ℕ} 0 1 = cc in omega arith
+-- one part has one start and one end
+pub between_same : (start end from to : ℕ) → between start end ≡ between from to → (start ≡ from) × (end ≡ to)
+between_same start end from to h = let e = same_Some _ _ h in (ap (λ (p : Part). p.start) e, ap (λ (p : Part). p.end) e)
 
 module _ (block : List ℕ) where
   from : (k at previous : ℕ) → length block ≤ at + k → From block at previous
@@ -75,8 +75,8 @@ module _ (block : List ℕ) where
   -- where none is faulty, a tag's part is its field's value
   part_from : {at previous : ℕ} (tag start end : ℕ) → From block at previous → first_fault (rest block at previous) ≡ None → part_of tag (rest block at previous) ≡ between start end
       → Value block tag start end
-  part_from {at} {previous} tag start end (none h) f e = absurd (given_absent start end (sym e ∙ part_none block at previous tag h))
-  part_from {at} {previous} tag start end (faulty h w) f e = absurd (at_nowhere at (sym (fault_here block at previous h _ _ refl refl w) ∙ f))
+  part_from {at} {previous} tag start end (none h) f e = absurd (none-some _ (sym (part_none block at previous tag h) ∙ e))
+  part_from {at} {previous} tag start end (faulty h w) f e = absurd (none-some at (sym f ∙ fault_here block at previous h _ _ refl refl w))
   part_from {at} {previous} tag start end (more h w r) f e = pick (eqb own tag) refl (λ p. part_from tag start end r (sym (fault_later block at previous h own behind refl refl w) ∙ f) p)
     where
       own : ℕ
@@ -89,9 +89,8 @@ module _ (block : List ℕ) where
       pick false q next = next (sym (part_later block at previous h own behind refl refl tag (eqb-false own tag q)) ∙ e)
       pick true q next =
           let g = part_here block at previous h own behind refl refl tag (eqb-true own tag q) in
-          let x : at + 3 ≡ start = cc in
-          let y : behind ≡ end = cc in
-          rw (← eqb-true own tag q, ← x, ← y) (value_of block at previous h own behind refl refl w)
+          let s = between_same (at + 3) behind start end (sym g ∙ e) in
+          rw (← eqb-true own tag q, ← s.0, ← s.1) (value_of block at previous h own behind refl refl w)
 
   pub part_value : (tag start end : ℕ) → first_fault (fields block) ≡ None → part_of tag (fields block) ≡ between start end → Value block tag start end
   part_value tag start end f e = part_from tag start end all (rw rest_all f) (rw rest_all e)

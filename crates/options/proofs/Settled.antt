@@ -1,5 +1,5 @@
 -- Width and goal: a given goal is the goal; the rule, test by test.
-use Rattle.std.proofs.Common.{None}
+use Rattle.std.proofs.Common.{Option, Some, None}
 use mathlib.Core.Path.{◌≡◌}
 use mathlib.Core.Bool.{true, false, and-eq-true_iff}
 use Prim.Native.Nat.{ℕ, ◌*◌, ◌-◌, ◌≤◌, ◌<◌}
@@ -42,7 +42,7 @@ fits_true least width goal e =
     let c = (and-eq-true_iff _ _).0 b.0 in
     record { width_least = leb-true _ _ c.0; goal_most = leb-true _ _ c.1; width_twice = leb-true _ _ b.1; width_most = leb-true _ _ a.1 }
 
-pub least_width_law : (width goal : Part) → 1 ≤ least_width width goal
+pub least_width_law : (width goal : Option Part) → 1 ≤ least_width width goal
 least_width_law None goal = omega arith
-least_width_law (between s e) None = omega arith
-least_width_law (between s e) (between start end) = omega arith
+least_width_law (Some width) None = omega arith
+least_width_law (Some width) (Some goal) = omega arith
