@@ -1,17 +1,17 @@
 -- RULES 13: what the explaining call answers.
-use Rattle.std.specs.Prelude.{cond, List, ℕ, ltb, length, get_or}
+use Rattle.std.specs.Prelude.{cond, List, ℕ, ltb, length, get_or, Result, Ok, Err}
 use Rattle.lists.specs.Coded.{Coded, coded}
 use Rattle.options.specs.Opts.{meant}
 use Rattle.options.specs.OptionBlock.{read_block}
-use Rattle.options.specs.declared.Block.{Block}
-use Rattle.options.specs.declared.Block.TheVariants.{Accepted, Fault}
+use Rattle.options.specs.declared.Options.{Options}
+use Rattle.options.specs.declared.Fault.{Fault}
 use Rattle.endings.specs.declared.Ending.{Ending}
 use Rattle.endings.specs.declared.Ending.TheVariants.{Paragraph as OfParagraph}
 use Rattle.endings.specs.Endings.{numbers_of}
 use Rattle.formatter.specs.Answers.{refusal_coded}
 use Rattle.formatter.specs.Format.{Limits, Finding, found, stopped, finding}
 use Rattle.formatter.specs.declared.Refusal.{Refusal}
-use Rattle.formatter.specs.declared.Refusal.TheVariants.{Options}
+use Rattle.formatter.specs.declared.Refusal.TheVariants.{Options as Faulty}
 use Rattle.explain.specs.Reasons.{line_endings}
 
 pub data Explanation : Type 0 where
@@ -24,9 +24,9 @@ pub data Explanation : Type 0 where
 abbrev pub look_up : ℕ → List Ending → Explanation
 look_up line es = cond (ltb line (length es)) (because (get_or es line OfParagraph)) (no_line (length es))
 
-abbrev pub look_up_in : ℕ → List ℕ → List ℕ → Block → Explanation
-look_up_in line block notes (Fault place) = refused (Options place)
-look_up_in line block notes (Accepted o) = look_up line (line_endings (meant block o) notes)
+abbrev pub look_up_in : ℕ → List ℕ → List ℕ → Result Options Fault → Explanation
+look_up_in line block notes (Err f) = refused (Faulty f.at)
+look_up_in line block notes (Ok o) = look_up line (line_endings (meant block o) notes)
 
 -- the refusals of measuring, then 8
 abbrev pub after_measuring : Explanation → Finding → Explanation

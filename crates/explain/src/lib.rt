@@ -2,7 +2,7 @@
 // that has the line is broken once more, and this time what ended the line is kept: so formatting has nothing to carry for it.
 #![tactic(auto)]
 
-ghost use Rattle.std.specs.Prelude.{◌≡◌, true, false, List, [], ◌∷◌, ℕ, ◌^◌, ◌≤◌, ◌<◌, length};
+ghost use Rattle.std.specs.Prelude.{◌≡◌, List, [], ◌∷◌, ℕ, ◌^◌, ◌≤◌, ◌<◌, length};
 ghost use Rattle.lists.specs.Coded.{numbered};
 ghost use Rattle.options.specs.Opts.{meant};
 ghost use Rattle.records.specs.Cited.Table.{words_in};
@@ -14,145 +14,159 @@ ghost use Rattle.walk.specs.Cited.Course.{Admitted};
 ghost use Rattle.explain.specs.Reasons.{lines_by};
 ghost use Rattle.formatter.specs.Format.{own_room};
 ghost use Rattle.formatter.specs.Work.{lending};
+ghost use Rattle.formatter.specs.declared.Refusal.TheVariants.{Words};
 ghost use Rattle.explain.specs.Explain.{explaining};
 ghost use Rattle.explain.specs.declared.Asked.TheVariants.{Behind};
+ghost use Rattle.explain.specs.declared.Unexplained.TheVariants.{Refused};
 ghost use Rattle.explain.specs.Cited.Asking.{EndsSo, passed};
-ghost use Rattle.explain.specs.Cited.Seeking.{TextPassed, PiecePassed, Coursed, SoughtIs, lines_ahead, asking, told, explained_coded, told_reason, left_of};
+ghost use Rattle.explain.specs.Cited.Seeking.{TextPassed, PiecePassed, Coursed, SoughtIs, begin, lines_ahead, asking, told, explained_coded, unexplained_coded, told_reason, left_of};
 
 use endings::{Ending, Spot};
-use formatter::{Admission, Refusal};
+use formatter::Refusal;
+use lists::Refusing;
 use options::Options;
 use pieces::{Paragraph, Piece};
 use spacing::Setting;
-use words::Count;
+use walk::Stopped;
+use words::TooMany;
 
-// What the call replies: why the line ends; why the notes are refused; or how many lines there are, where there is no such line.
-#[derive(Clone, Copy)]
-pub enum Explained {
-    Because(Ending),
+// Why the call tells no reason: the notes are refused; or there is no such line, but so many.
+#[derive(Clone, Copy, Debug, PartialEq, Eq)]
+pub enum Unexplained {
     Refused(Refusal),
     NoLine(usize),
 }
 
-// The line asked for: it is known why it ends, or it stands so many lines after those that were passed.
-#[derive(Clone, Copy)]
+impl From<Refusal> for Unexplained {
+    ghost from_gives = { λ r e. e ≡ Refused r };
+
+    fn from(r: Refusal) -> Unexplained {
+        Unexplained::Refused(r)
+    }
+}
+
+impl From<Stopped> for Unexplained {
+    ghost from_gives = { λ s e. e ≡ Refused (Words s.at) };
+
+    fn from(s: Stopped) -> Unexplained {
+        Unexplained::Refused(Refusal::Words(s.at))
+    }
+}
+
+impl Refusing for Unexplained {
+    ghost coded = { unexplained_coded };
+
+    fn number(self) -> u64 {
+        match self {
+            Unexplained::Refused(r) => r.number(),
+            Unexplained::NoLine(lines) => lists::number(8, lines),
+        }
+    }
+}
+
+// The line asked for: it is known why it ends, or it stands so many lines after those that were passed. (No Result: neither is a failure,
+// and the search goes on with both.)
+#[derive(Clone, Copy, Debug, PartialEq, Eq)]
 pub enum Asked {
     Told(Ending),
     Behind(usize),
 }
 
 // Where the search stands: the place in the notes, next-mail, and the line.
-#[derive(Clone, Copy)]
+#[derive(Clone, Copy, Debug, PartialEq, Eq)]
 pub struct Seek {
     pub at: usize,
     pub mail: bool,
     pub asked: Asked,
 }
 
-// What came of a piece: the search goes on after it, or it is a paragraph of more words than there is room for.
-#[derive(Clone, Copy)]
-pub enum Passed {
-    On(Seek),
-    Over,
-}
-
-// How far the tables reach: to the end of the notes, or to a paragraph of more words than they have room for.
-#[derive(Clone, Copy)]
-enum Course {
-    End(Asked),
-    Short(Seek),
-}
-
-// What came of the notes, or the place of the first paragraph that has too many words.
-#[derive(Clone, Copy)]
-enum Sought {
-    All(Asked),
-    Stopped(usize),
+// The tables do not reach to the end of the notes: the search stands before a paragraph of more words than they have room for.
+#[derive(Clone, Copy, Debug, PartialEq, Eq)]
+struct Short {
+    seek: Seek,
 }
 
 // Why an output line ends, counted from 0: 1 to 4 are refused as measuring does, then 8.
-pub fn explain(block: &[u8], notes: &[u8], line: u64) -> Explained
+pub fn explain(block: &[u8], notes: &[u8], line: u64) -> Result<Ending, Unexplained>
     ensures { result ≡ told (explaining own_room block.now notes.now line) }
 {
-    match formatter::admit(block, notes) {
-        Admission::Refused(r) => Explained::Refused(r),
-        Admission::Passed(o) => explain_line(o, block, notes, line as usize),
-    }
+    let o = formatter::admit(block, notes)?;
+    explain_line(o, block, notes, line as usize)
 }
 
 // The same in working room that is lent: 12 in the place of 4.
-pub fn explain_large(block: &[u8], notes: &[u8], line: u64, work: &mut [u32]) -> Explained
+pub fn explain_large(
+    block: &[u8],
+    notes: &[u8],
+    line: u64,
+    work: &mut [u32],
+) -> Result<Ending, Unexplained>
     ensures { result ≡ told (explaining (lending (length work.old)) block.now notes.now line) }
 {
-    match formatter::admit_within(block, notes, formatter::MOST_LARGE) {
-        Admission::Refused(r) => Explained::Refused(r),
-        Admission::Passed(o) => explain_lent(o, block, notes, line as usize, work),
-    }
+    let o = formatter::admit_within(block, notes, formatter::MOST_LARGE)?;
+    explain_lent(o, block, notes, line as usize, work)
 }
 
-// The answer's code is in the upper 32 bits of its number, what it tells in the lower.
-const UPPER: u64 = 4294967296;
-
 // The reply's number, and the kind and its numbers; on a refusal they are left as they are.
-pub fn tell(x: Explained, reason: &mut [u64; 6]) -> u64
+pub fn tell(x: Result<Ending, Unexplained>, reason: &mut [u64; 6]) -> u64
     requires { numbered (explained_coded x) < 2 ^ 64 }
     ensures { (result ≡ numbered (explained_coded x)) × (reason.new ≡ told_reason x reason.old) }
 {
     match x {
-        Explained::Because(e) => {
+        Ok(e) => {
             endings::put(e, reason);
             0
         }
-        Explained::Refused(r) => formatter::refusal_number(r),
-        Explained::NoLine(lines) => 8 * UPPER + lines as u64,
+        Err(e) => e.number(),
     }
 }
 
 // The line sought from the start of the notes on.
-fn explain_line(o: Options, block: &[u8], notes: &[u8], line: usize) -> Explained
+fn explain_line(o: Options, block: &[u8], notes: &[u8], line: usize) -> Result<Ending, Unexplained>
     requires { Admitted block.now notes.now o }
     ensures { result ≡ told (left_of own_room (meant block.now o) notes.now line) }
 {
-    let start = Seek {
-        at: 0,
-        mail: true,
-        asked: Asked::Behind(line),
-    };
-    match seek_line(o, block, notes, start) {
-        Sought::Stopped(place) => Explained::Refused(Refusal::Words(place)),
-        Sought::All(a) => found(line, a),
-    }
+    let a = seek_line(o, block, notes, begin(line))?;
+    found(line, a)
 }
 
 // The line sought in the room that is lent. Nothing is written before it is found: only where the room does not reach is counted what would.
-fn explain_lent(o: Options, block: &[u8], notes: &[u8], line: usize, work: &mut [u32]) -> Explained
+fn explain_lent(
+    o: Options,
+    block: &[u8],
+    notes: &[u8],
+    line: usize,
+    work: &mut [u32],
+) -> Result<Ending, Unexplained>
     requires { Admitted block.now notes.now o }
     ensures { result ≡ told (left_of (lending (length work.old)) (meant block.now o) notes.now line) }
 {
-    let start = Seek {
+    let Ok(a) = seek_with(o, block, notes, begin(line), work) else {
+        let needed = walk::work_over(o, block, notes, work.len());
+        return Err(Unexplained::Refused(Refusal::Work(needed)));
+    };
+    found(line, a)
+}
+
+// Where the search for a line begins.
+fn begin(line: usize) -> Seek
+    ensures { result ≡ begin line }
+{
+    Seek {
         at: 0,
         mail: true,
         asked: Asked::Behind(line),
-    };
-    match seek_with(o, block, notes, start, work) {
-        Course::Short(_) => Explained::Refused(Refusal::Work(walk::work_over(
-            o,
-            block,
-            notes,
-            work.len(),
-        ))),
-        Course::End(a) => found(line, a),
     }
 }
 
 // What is told of the line at the end of the notes: lines that were passed are all there are.
-fn found(line: usize, a: Asked) -> Explained
+fn found(line: usize, a: Asked) -> Result<Ending, Unexplained>
     requires { lines_ahead a ≤ line }
     ensures { result ≡ told (asking line a) }
 {
     match a {
-        Asked::Told(e) => Explained::Because(e),
-        Asked::Behind(left) => Explained::NoLine(line - left),
+        Asked::Told(e) => Ok(e),
+        Asked::Behind(left) => Err(Unexplained::NoLine(line - left)),
     }
 }
 
@@ -165,101 +179,96 @@ const BEST_FEW: usize = 600;
 
 const BEST_MOST: usize = 15360;
 
-// All pieces from a place on. As in measuring, the working room is declared in the functions that follow, first for the words of a few
-// lines and then for the most words that a paragraph may have.
-fn seek_line(o: Options, block: &[u8], notes: &[u8], from: Seek) -> Sought
+// All pieces from a place on.
+fn seek_line(o: Options, block: &[u8], notes: &[u8], from: Seek) -> Result<Asked, Stopped>
     requires { Admitted block.now notes.now o × (from.at ≤ length notes.now) }
     ensures { SoughtIs most_words (meant block.now o) notes.now from result }
 {
     if o.quick {
-        return seek_quick(o, block, notes, from);
-    }
-    seek_best(o, block, notes, from)
-}
-
-// With quick: for the words of a few lines.
-fn seek_quick(o: Options, block: &[u8], notes: &[u8], from: Seek) -> Sought
-    requires { Admitted block.now notes.now o × (from.at ≤ length notes.now) × (o.quick ≡ true) }
-    ensures { SoughtIs most_words (meant block.now o) notes.now from result }
-{
-    let mut work = [0u32; QUICK_FEW];
-    match seek_with(o, block, notes, from, &mut work) {
-        Course::End(a) => Sought::All(a),
-        Course::Short(s) => seek_quick_long(o, block, notes, s),
+        seek_in_two::<QUICK_FEW, QUICK_MOST>(o, block, notes, from)
+    } else {
+        seek_in_two::<BEST_FEW, BEST_MOST>(o, block, notes, from)
     }
 }
 
-// For the most words.
-fn seek_quick_long(o: Options, block: &[u8], notes: &[u8], from: Seek) -> Sought
-    requires { Admitted block.now notes.now o × (from.at ≤ length notes.now) × (o.quick ≡ true) }
+// First in room for the words of a few lines, and from a paragraph on for which it is too small in room for the most words that a paragraph
+// may have.
+fn seek_in_two<const FEW: usize, const MOST: usize>(
+    o: Options,
+    block: &[u8],
+    notes: &[u8],
+    from: Seek,
+) -> Result<Asked, Stopped>
+    requires { Admitted block.now notes.now o × (from.at ≤ length notes.now) × (room_for o.quick FEW ≤ most_words) × (room_for o.quick MOST ≡ most_words) }
     ensures { SoughtIs most_words (meant block.now o) notes.now from result }
 {
-    let mut work = [0u32; QUICK_MOST];
-    match seek_with(o, block, notes, from, &mut work) {
-        Course::End(a) => Sought::All(a),
-        Course::Short(s) => Sought::Stopped(s.at),
+    match seek_in::<FEW>(o, block, notes, from) {
+        Ok(a) => Ok(a),
+        Err(s) => {
+            seek_in::<MOST>(o, block, notes, s.seek).map_err(|t| Stopped { at: t.seek.at })
+        }
     }
 }
 
-// With Knuth-Plass: for the words of a few lines.
-fn seek_best(o: Options, block: &[u8], notes: &[u8], from: Seek) -> Sought
-    requires { Admitted block.now notes.now o × (from.at ≤ length notes.now) × (o.quick ≡ false) }
-    ensures { SoughtIs most_words (meant block.now o) notes.now from result }
+// In room of N numbers. As in measuring, each room is declared in a function of its own, so that the larger one is no part of the frame in
+// which notes of small paragraphs are sought through.
+fn seek_in<const N: usize>(
+    o: Options,
+    block: &[u8],
+    notes: &[u8],
+    from: Seek,
+) -> Result<Asked, Short>
+    requires { Admitted block.now notes.now o × (from.at ≤ length notes.now) }
+    ensures { Coursed (room_for o.quick N) (meant block.now o) notes.now from result }
 {
-    let mut work = [0u32; BEST_FEW];
-    match seek_with(o, block, notes, from, &mut work) {
-        Course::End(a) => Sought::All(a),
-        Course::Short(s) => seek_best_long(o, block, notes, s),
-    }
-}
-
-// For the most words.
-fn seek_best_long(o: Options, block: &[u8], notes: &[u8], from: Seek) -> Sought
-    requires { Admitted block.now notes.now o × (from.at ≤ length notes.now) × (o.quick ≡ false) }
-    ensures { SoughtIs most_words (meant block.now o) notes.now from result }
-{
-    let mut work = [0u32; BEST_MOST];
-    match seek_with(o, block, notes, from, &mut work) {
-        Course::End(a) => Sought::All(a),
-        Course::Short(s) => Sought::Stopped(s.at),
-    }
+    let mut work = [0u32; N];
+    seek_with(o, block, notes, from, &mut work)
 }
 
 // Piece by piece, as far as the tables reach.
-fn seek_with(o: Options, block: &[u8], notes: &[u8], from: Seek, work: &mut [u32]) -> Course
+fn seek_with(
+    o: Options,
+    block: &[u8],
+    notes: &[u8],
+    from: Seek,
+    work: &mut [u32],
+) -> Result<Asked, Short>
     requires { Admitted block.now notes.now o × (from.at ≤ length notes.now) }
     ensures { Coursed (room_for o.quick (length work.old)) (meant block.now o) notes.now from result }
 {
     let mut s = from;
     while s.at < notes.len() {
-        let Passed::On(t) = pass_piece(o, block, notes, s, work) else {
-            return Course::Short(s);
+        let Ok(t) = pass_piece(o, block, notes, s, work) else {
+            return Err(Short { seek: s });
         };
         s = t;
     }
-    let asked = s.asked;
-    Course::End(asked)
+    Ok(s.asked)
 }
 
 // After the piece at a place.
-fn pass_piece(o: Options, block: &[u8], notes: &[u8], s: Seek, work: &mut [u32]) -> Passed
+fn pass_piece(
+    o: Options,
+    block: &[u8],
+    notes: &[u8],
+    s: Seek,
+    work: &mut [u32],
+) -> Result<Seek, TooMany>
     requires { Admitted block.now notes.now o × (s.at < length notes.now) }
     ensures { PiecePassed (room_for o.quick (length work.old)) (meant block.now o) notes.now s result }
 {
-    let at = s.at;
-    let asked = s.asked;
-    match pieces::next_piece(notes, at, o, block, s.mail, false) {
-        Piece::Blank { next } => Passed::On(Seek {
+    match pieces::next_piece(notes, s.at, o, block, s.mail, false) {
+        Piece::Blank { next } => Ok(Seek {
             at: next,
             mail: true,
-            asked: pass_line(asked, Ending::Blank),
+            asked: pass_line(s.asked, Ending::Blank),
         }),
-        Piece::Plain { end: _, next } => Passed::On(Seek {
+        Piece::Plain { end: _, next } => Ok(Seek {
             at: next,
             mail: false,
-            asked: pass_line(asked, Ending::Plain),
+            asked: pass_line(s.asked, Ending::Plain),
         }),
-        Piece::Text(p) => pass_paragraph(notes, at, o, p, asked, work),
+        Piece::Text(p) => pass_paragraph(notes, s.at, o, p, s.asked, work),
     }
 }
 
@@ -271,9 +280,10 @@ fn pass_line(a: Asked, e: Ending) -> Asked
         Asked::Told(x) => Asked::Told(x),
         Asked::Behind(left) => {
             if left == 0 {
-                return Asked::Told(e);
+                Asked::Told(e)
+            } else {
+                Asked::Behind(left - 1)
             }
-            Asked::Behind(left - 1)
         }
     }
 }
@@ -286,33 +296,26 @@ fn pass_paragraph(
     p: Paragraph,
     asked: Asked,
     work: &mut [u32],
-) -> Passed
+) -> Result<Seek, TooMany>
     requires { Placed notes.now at o p }
     ensures { (block : List ℕ) → TextPassed (room_for o.quick (length work.old)) notes.now at o p asked result block }
 {
     let most = paragraphs::room_for(o.quick, work.len());
-    let Count::Words(n) = words::split_words(
-        notes, at, p.next, p.mail, p.start, p.later, o, most, work,
-    ) else {
-        return Passed::Over;
-    };
-    let Asked::Behind(line) = asked else {
-        return Passed::On(Seek {
-            at: p.next,
-            mail: p.mail,
-            asked,
-        });
-    };
-    Passed::On(Seek {
-        at: p.next,
-        mail: p.mail,
-        asked: ask_lines(
+    let n = words::split_words(notes, at, p.next, p.mail, p.start, p.later, o, most, work)?;
+    let asked = match asked {
+        Asked::Told(e) => Asked::Told(e),
+        Asked::Behind(line) => ask_lines(
             o.quick | p.mail,
             paragraphs::setting_of(o, p),
             work,
             n,
             line,
         ),
+    };
+    Ok(Seek {
+        at: p.next,
+        mail: p.mail,
+        asked,
     })
 }
 
@@ -342,7 +345,8 @@ fn ending_before(
     ensures { (notes : List ℕ) → EndsSo fast g line e (words_in notes n work.old) result }
 {
     if fast {
-        return quick::quick_ending(work, n, g, line);
+        quick::quick_ending(work, n, g, line)
+    } else {
+        knuth_plass::best_ending(work, n, g, e)
     }
-    knuth_plass::best_ending(work, n, g, e)
 }

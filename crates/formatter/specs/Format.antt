@@ -1,12 +1,10 @@
 -- RULES 2.2: from option block, notes and output slice to the answer.
-use Rattle.std.specs.Prelude.{Bool, true, false, cond, List, ℕ, leb, ltb, length}
+use Rattle.std.specs.Prelude.{Bool, true, false, cond, List, ℕ, leb, ltb, length, Option, Some, None, Result, Ok, Err}
 use Rattle.text.specs.Characters.{damage}
-use Rattle.text.specs.declared.Found.{Found}
-use Rattle.text.specs.declared.Found.TheVariants.{At, Nowhere}
 use Rattle.options.specs.Opts.{Opts, meant}
 use Rattle.options.specs.OptionBlock.{read_block}
-use Rattle.options.specs.declared.Block.{Block}
-use Rattle.options.specs.declared.Block.TheVariants.{Accepted, Fault}
+use Rattle.options.specs.declared.Fault.{Fault}
+use Rattle.options.specs.declared.Options.{Options}
 use Rattle.pieces.specs.Pieces.{pieces}
 use Rattle.walk.specs.Digest.{most_words, digest, long_paragraph}
 use Rattle.formatter.specs.Answers.{Answer, done, refused, room}
@@ -41,9 +39,9 @@ pub data Finding : Type 0 where
   found : List ℕ → Finding
   stopped : Refusal → Finding
 
-abbrev pub with_words : Opts → List ℕ → Found → Finding
-with_words o notes (At place) = stopped (Many place)
-with_words o notes Nowhere = found (digest o notes)
+abbrev pub with_words : Opts → List ℕ → Option ℕ → Finding
+with_words o notes (Some place) = stopped (Many place)
+with_words o notes None = found (digest o notes)
 
 abbrev pub with_work : Opts → List ℕ → ℕ → ℕ → Finding
 with_work o notes lends needed = elim (ltb lends needed) [ true ↦ stopped (Work needed) | false ↦ found (digest o notes) ]
@@ -52,20 +50,20 @@ abbrev pub within : Words → Opts → List ℕ → Finding
 within (up_to most) o notes = with_words o notes (long_paragraph most o 0 (pieces o notes))
 within (lent lends need) o notes = with_work o notes lends (need o notes)
 
-abbrev pub with_text : Words → Opts → List ℕ → Found → Finding
-with_text w o notes (At place) = stopped (Text place)
-with_text w o notes Nowhere = within w o notes
+abbrev pub with_text : Words → Opts → List ℕ → Option ℕ → Finding
+with_text w o notes (Some place) = stopped (Text place)
+with_text w o notes None = within w o notes
 
 -- keep on: damaged lines are plain lines
-abbrev pub damage_in : Bool → List ℕ → Found
-damage_in keep notes = elim keep [ true ↦ Nowhere | false ↦ damage notes ]
+abbrev pub damage_in : Bool → List ℕ → Option ℕ
+damage_in keep notes = elim keep [ true ↦ None | false ↦ damage notes ]
 
 abbrev pub with_notes : Limits → Opts → List ℕ → Finding
 with_notes l o notes = elim (ltb l.bytes (length notes)) [ true ↦ stopped Long | false ↦ with_text l.words o notes (damage_in o.keep notes) ]
 
-abbrev pub with_block : Limits → List ℕ → List ℕ → Block → Finding
-with_block l block notes (Fault place) = stopped (Faulty place)
-with_block l block notes (Accepted o) = with_notes l (meant block o) notes
+abbrev pub with_block : Limits → List ℕ → List ℕ → Result Options Fault → Finding
+with_block l block notes (Err fault) = stopped (Faulty fault.at)
+with_block l block notes (Ok o) = with_notes l (meant block o) notes
 
 unfoldable pub finding : Limits → List ℕ → List ℕ → Finding
 finding l block notes = with_block l block notes (read_block block)

@@ -1,10 +1,10 @@
 -- RULES 12.2: what the writing call with an index answers. Measuring tells 1 to 4; then comes 6, given exactly when there are more
 -- pieces than records; then 5.
-use Rattle.std.specs.Prelude.{cond, List, [], ℕ, ◌+◌, ◌/◌, leb, length}
+use Rattle.std.specs.Prelude.{cond, List, [], ℕ, ◌+◌, ◌/◌, leb, length, Result, Ok, Err}
 use Rattle.options.specs.Opts.{Opts, meant}
 use Rattle.options.specs.OptionBlock.{read_block}
-use Rattle.options.specs.declared.Block.{Block}
-use Rattle.options.specs.declared.Block.TheVariants.{Accepted, Fault}
+use Rattle.options.specs.declared.Options.{Options}
+use Rattle.options.specs.declared.Fault.{Fault}
 use Rattle.walk.specs.Work.{work_for}
 use Rattle.formatter.specs.Format.{Words, lent, Limits, Finding, found, stopped, finding, most_told, is_told}
 use Rattle.formatter.specs.Work.{most_lent}
@@ -38,9 +38,9 @@ index_lending lends = record { bytes = most_lent; words = lent lends index_work 
 -- ---- the call
 
 -- the index under the options that a block means; of a faulty block none is asked
-abbrev pub index_under : List ℕ → List ℕ → Block → List Record
-index_under block notes (Fault place) = []
-index_under block notes (Accepted o) = index_of (meant block o) notes
+abbrev pub index_under : List ℕ → List ℕ → Result Options Fault → List Record
+index_under block notes (Err f) = []
+index_under block notes (Ok o) = index_of (meant block o) notes
 
 unfoldable pub indexing : Limits → List ℕ → List ℕ → ℕ → ℕ → Indexed
 indexing l block notes space records = in_index l.words space records (index_under block notes (read_block block)) (finding l block notes)

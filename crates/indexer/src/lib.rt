@@ -11,35 +11,74 @@ ghost use Rattle.lines.specs.Cited.Places.{most_large};
 ghost use Rattle.paragraphs.specs.Cited.Steps.{room_for};
 ghost use Rattle.walk.specs.Cited.Course.{Admitted, CursorIn};
 ghost use Rattle.formatter.specs.Format.{most_bytes, own_room};
+ghost use Rattle.formatter.specs.declared.Refusal.TheVariants.{Words};
 ghost use Rattle.indexer.specs.Indexing.{marks_for, index_lending, indexing};
-ghost use Rattle.indexer.specs.Cited.Noting.{PieceStepped, Parted, Spells, Spelt, Noted, Indexes, Marked, left_of, found_of, filled_coded, told_filled};
+ghost use Rattle.indexer.specs.Cited.Noting.{PieceStepped, Parted, Spells, Spelt, Noted, Indexes, Marked, left_of, found_of, unfilled_coded, filled_coded, told_filled, fitted};
+ghost use Rattle.indexer.specs.declared.Unfilled.TheVariants.{Refused};
 
-use formatter::{Admission, Refusal};
+use formatter::Refusal;
+use lists::Refusing;
 use options::Options;
-use paragraphs::{Cursor, Step};
+use paragraphs::Cursor;
 use pieces::Piece;
+use walk::Stopped;
+use words::TooMany;
 
 // What the call tells: its answer's number, and how many records the marks tell (none where it is refused).
-#[derive(Clone, Copy)]
+#[derive(Clone, Copy, Debug, PartialEq, Eq)]
 pub struct Told {
     pub answer: u64,
     pub records: usize,
 }
 
-// What the work comes to: the digest's length and the number of records; why there is no digest; or how many records or bytes it needs.
-#[derive(Clone, Copy)]
-enum Filled {
-    Done { written: usize, records: usize },
+// What the work comes to: the digest's length and the number of records.
+#[derive(Clone, Copy, Debug, PartialEq, Eq)]
+struct Filled {
+    written: usize,
+    records: usize,
+}
+
+// Why it comes to nothing: there is no digest, or there are more records or bytes than there is room for, which are told.
+#[derive(Clone, Copy, Debug, PartialEq, Eq)]
+enum Unfilled {
     Refused(Refusal),
     Full(usize),
     Room(usize),
 }
 
-// What came of the pieces: the digest's length and their number, or the place of the first paragraph that has too many words.
-#[derive(Clone, Copy)]
-enum Pieces {
-    All { written: usize, pieces: usize },
-    Stopped(usize),
+impl From<Refusal> for Unfilled {
+    ghost from_gives = { λ r e. e ≡ Refused r };
+
+    fn from(r: Refusal) -> Unfilled {
+        Unfilled::Refused(r)
+    }
+}
+
+impl From<Stopped> for Unfilled {
+    ghost from_gives = { λ s e. e ≡ Refused (Words s.at) };
+
+    fn from(s: Stopped) -> Unfilled {
+        Unfilled::Refused(Refusal::Words(s.at))
+    }
+}
+
+impl Refusing for Unfilled {
+    ghost coded = { unfilled_coded };
+
+    fn number(self) -> u64 {
+        match self {
+            Unfilled::Refused(r) => r.number(),
+            Unfilled::Full(pieces) => lists::number(6, pieces),
+            Unfilled::Room(needed) => lists::number(5, needed),
+        }
+    }
+}
+
+// What the pieces come to: the digest's length and their number.
+#[derive(Clone, Copy, Debug, PartialEq, Eq)]
+struct Pieces {
+    written: usize,
+    pieces: usize,
 }
 
 // Writes the digest, for which there are so many records, and marks what they tell.
@@ -72,16 +111,22 @@ pub fn write_marked_large(
 }
 
 // What is told, and the count of records as the host gets it.
-fn tell(r: Filled, filled: &mut u64) -> Told
+fn tell(r: Result<Filled, Unfilled>, filled: &mut u64) -> Told
     requires { numbered (filled_coded r) < 2 ^ 64 }
     ensures { (result.answer ≡ numbered (filled_coded r)) × (result.records ≡ told_filled r) × (filled.new ≡ told_filled r) }
 {
-    let n = records_in(r);
-    *filled = n;
-    Told {
-        answer: number_of(r),
-        records: n as usize,
-    }
+    let t = match r {
+        Ok(f) => Told {
+            answer: f.written as u64,
+            records: f.records,
+        },
+        Err(e) => Told {
+            answer: e.number(),
+            records: 0,
+        },
+    };
+    *filled = t.records as u64;
+    t
 }
 
 // 1, 2, 3, 4, 6 and 5 are the refusals, in this order.
@@ -91,14 +136,12 @@ fn write_pieces(
     out: &mut [u8],
     records: usize,
     work: &mut [u32],
-) -> Filled
+) -> Result<Filled, Unfilled>
     requires { length work.old ≡ 19456 }
     ensures { Indexes (indexing own_room block.now notes.now (length out.old) records) out.old result out.new work.new }
 {
-    match formatter::admit(block, notes) {
-        Admission::Refused(r) => Filled::Refused(r),
-        Admission::Passed(o) => index_notes(o, block, notes, out, records, work),
-    }
+    let o = formatter::admit(block, notes)?;
+    index_notes(o, block, notes, out, records, work)
 }
 
 // With lent room 12 is in the place of 4.
@@ -108,13 +151,11 @@ fn write_lent(
     out: &mut [u8],
     records: usize,
     work: &mut [u32],
-) -> Filled
+) -> Result<Filled, Unfilled>
     ensures { Indexes (indexing (index_lending (length work.old)) block.now notes.now (length out.old) records) out.old result out.new work.new }
 {
-    match formatter::admit_within(block, notes, formatter::MOST_LARGE) {
-        Admission::Refused(r) => Filled::Refused(r),
-        Admission::Passed(o) => index_lent(o, block, notes, out, records, work),
-    }
+    let o = formatter::admit_within(block, notes, formatter::MOST_LARGE)?;
+    index_lent(o, block, notes, out, records, work)
 }
 
 // A paragraph may have so many words.
@@ -136,7 +177,7 @@ fn index_notes(
     out: &mut [u8],
     records: usize,
     work: &mut [u32],
-) -> Filled
+) -> Result<Filled, Unfilled>
     requires { Admitted block.now notes.now o × (length notes.now ≤ most_bytes) × (length work.old ≡ 19456) }
     ensures { Indexes (left_of own_room (meant block.now o) notes.now (length out.old) records) out.old result out.new work.new }
 {
@@ -153,18 +194,18 @@ fn index_lent(
     out: &mut [u8],
     records: usize,
     work: &mut [u32],
-) -> Filled
+) -> Result<Filled, Unfilled>
     requires { Admitted block.now notes.now o }
     ensures { Indexes (left_of (index_lending (length work.old)) (meant block.now o) notes.now (length out.old) records) out.old result out.new work.new }
 {
     let marks = marks_for(notes.len());
-    if work.len() < marks {
-        return Filled::Refused(Refusal::Work(marks + walk::work_over(o, block, notes, 0)));
-    }
-    let rest = work.len() - marks;
+    let Some(rest) = work.len().checked_sub(marks) else {
+        let needed = walk::work_over(o, block, notes, 0);
+        return Err(Unfilled::Refused(Refusal::Work(marks + needed)));
+    };
     let needed = walk::work_over(o, block, notes, rest);
     if rest < needed {
-        return Filled::Refused(Refusal::Work(marks + needed));
+        return Err(Unfilled::Refused(Refusal::Work(marks + needed)));
     }
     let end = work.len();
     index_with(o, block, notes, out, records, work, marks, end)
@@ -184,34 +225,36 @@ fn index_with(
     work: &mut [u32],
     marks: usize,
     end: usize,
-) -> Filled
+) -> Result<Filled, Unfilled>
     requires { Admitted block.now notes.now o × Parted notes.now marks end work.old }
     ensures { Indexes (found_of (room_for o.quick (end - marks)) (meant block.now o) notes.now (length out.old) records) out.old result out.new work.new }
 {
-    match note_pieces(o, block, notes, out, work, marks, end) {
-        Pieces::Stopped(place) => {
-            walk::clear(out);
-            Filled::Refused(Refusal::Words(place))
-        }
-        Pieces::All { written, pieces } => {
-            if records < pieces {
-                walk::clear(out);
-                return Filled::Full(pieces);
-            }
-            if MOST_TOLD < written {
-                walk::clear(out);
-                return Filled::Room(MOST_TOLD);
-            }
-            if out.len() < written {
-                walk::clear(out);
-                return Filled::Room(written);
-            }
-            Filled::Done {
-                written,
-                records: pieces,
-            }
-        }
+    let noted = note_pieces(o, block, notes, out, work, marks, end);
+    let r = in_room(noted, records, out.len());
+    if r.is_err() {
+        out.fill(0);
     }
+    r
+}
+
+// What the pieces come to where there is room for so many records and bytes.
+fn in_room(noted: Result<Pieces, Stopped>, records: usize, space: usize) -> Result<Filled, Unfilled>
+    ensures { result ≡ fitted noted records space }
+{
+    let p = noted?;
+    if records < p.pieces {
+        return Err(Unfilled::Full(p.pieces));
+    }
+    if MOST_TOLD < p.written {
+        return Err(Unfilled::Room(MOST_TOLD));
+    }
+    if space < p.written {
+        return Err(Unfilled::Room(p.written));
+    }
+    Ok(Filled {
+        written: p.written,
+        records: p.pieces,
+    })
 }
 
 // Piece by piece: written, and its gaps spelled.
@@ -223,30 +266,30 @@ fn note_pieces(
     work: &mut [u32],
     marks: usize,
     end: usize,
-) -> Pieces
+) -> Result<Pieces, Stopped>
     requires { Admitted block.now notes.now o × Parted notes.now marks end work.old }
     ensures { Noted (room_for o.quick (end - marks)) (meant block.now o) notes.now out.old out.new work.new result }
 {
-    marks::clear(&mut work[..marks]);
+    work[..marks].fill(0);
     let mut c = Cursor {
         at: 0,
         written: 0,
         mail: true,
     };
-    let mut k = 0;
+    let mut pieces = 0;
     let mut line = 0;
     while c.at < notes.len() {
-        let Step::On(d) = put_piece(o, block, notes, c, out, &mut work[marks..end]) else {
-            return Pieces::Stopped(c.at);
+        let Ok(d) = put_piece(o, block, notes, c, out, &mut work[marks..end]) else {
+            return Err(Stopped { at: c.at });
         };
         line = spell(&mut work[..marks], out, c, d, line);
-        k += 1;
+        pieces += 1;
         c = d;
     }
-    Pieces::All {
+    Ok(Pieces {
         written: c.written,
-        pieces: k,
-    }
+        pieces,
+    })
 }
 
 // The gaps of the piece between two cursors, whose first output line is given: its length and its count of output lines. It tells the line
@@ -258,9 +301,7 @@ fn spell(gaps: &mut [u32], out: &[u8], c: Cursor, d: Cursor, line: usize) -> usi
     if out.len() < d.written {
         return line;
     }
-    let from = c.written;
-    let to = d.written;
-    let count = count_lines(&out[from..to]);
+    let count = count_lines(&out[c.written..d.written]);
     let behind = d.at + line;
     marks::mark(gaps, behind - 1);
     marks::mark(gaps, behind + count - 1);
@@ -275,18 +316,18 @@ fn put_piece(
     c: Cursor,
     out: &mut [u8],
     work: &mut [u32],
-) -> Step
+) -> Result<Cursor, TooMany>
     requires { Admitted block.now notes.now o × CursorIn notes.now c × (c.at < length notes.now) }
     ensures { PieceStepped (room_for o.quick (length work.old)) (meant block.now o) notes.now out.old c out.new result }
 {
     let at = c.at;
     match pieces::next_piece(notes, at, o, block, c.mail, !o.keep) {
-        Piece::Blank { next } => Step::On(Cursor {
+        Piece::Blank { next } => Ok(Cursor {
             at: next,
             written: output::emit_line(notes, at, at, out, c.written),
             mail: true,
         }),
-        Piece::Plain { end, next } => Step::On(Cursor {
+        Piece::Plain { end, next } => Ok(Cursor {
             at: next,
             written: output::emit_line(notes, at, end, out, c.written),
             mail: false,
@@ -310,38 +351,4 @@ fn count_lines(s: &[u8]) -> usize
         n += 1;
     }
     n
-}
-
-// The answer's code is in the upper 32 bits of its number, what it tells in the lower.
-const UPPER: u64 = 4294967296;
-
-// The reply's number.
-fn number_of(r: Filled) -> u64
-    requires { numbered (filled_coded r) < 2 ^ 64 }
-    ensures { result ≡ numbered (filled_coded r) }
-{
-    match r {
-        Filled::Done {
-            written,
-            records: _,
-        } => written as u64,
-        Filled::Refused(r) => formatter::refusal_number(r),
-        Filled::Full(pieces) => 6 * UPPER + pieces as u64,
-        Filled::Room(needed) => 5 * UPPER + needed as u64,
-    }
-}
-
-// The count of records that were filled: none where the call is refused.
-fn records_in(r: Filled) -> u64
-    ensures { result ≡ told_filled r }
-{
-    match r {
-        Filled::Done {
-            written: _,
-            records,
-        } => records as u64,
-        Filled::Refused(_) => 0,
-        Filled::Full(_) => 0,
-        Filled::Room(_) => 0,
-    }
 }

@@ -10,46 +10,71 @@ ghost use Rattle.checker.specs.Matching.{and_then, match_line, match_words};
 ghost use Rattle.checker.specs.Cited.Places.{matched, MatchedIn, Matches, MarginFits, Matchable};
 ghost use Rattle.formatter.specs.Format.{own_room};
 ghost use Rattle.formatter.specs.Work.{lending};
+ghost use Rattle.formatter.specs.declared.Refusal.TheVariants.{Words};
 ghost use Rattle.lists.specs.Coded.{numbered};
-ghost use Rattle.judge.specs.Answers.{check_coded};
+ghost use Rattle.judge.specs.Answers.{unaccepted_coded, check_coded};
 ghost use Rattle.judge.specs.Checking.{checking};
 ghost use Rattle.judge.specs.Cited.Judging.{begun, judged_by, left_of, Stepped, Walked};
+ghost use Rattle.judge.specs.declared.Unaccepted.TheVariants.{Refused, Line};
 
-use checker::{Matched, Spot};
-use formatter::{Admission, Refusal};
+use checker::{Fault, Spot};
+use formatter::Refusal;
+use lists::Refusing;
 use options::Options;
 use pieces::{Margin, Piece};
-use words::Count;
+use walk::Stopped;
+use words::TooMany;
 
-// What the call answers: the digest is accepted; the notes are refused; or the digest is, with the line that is named.
-#[derive(Clone, Copy)]
-pub enum Judgement {
-    Accepted,
+// Why a digest is not accepted: the notes are refused; or the digest is, with the line that is named.
+#[derive(Clone, Copy, Debug, PartialEq, Eq)]
+pub enum Unaccepted {
     Refused(Refusal),
     LongDigest,
     Line(usize),
 }
 
+impl From<Refusal> for Unaccepted {
+    ghost from_gives = { λ r e. e ≡ Refused r };
+
+    fn from(r: Refusal) -> Unaccepted {
+        Unaccepted::Refused(r)
+    }
+}
+
+impl From<Stopped> for Unaccepted {
+    ghost from_gives = { λ s e. e ≡ Refused (Words s.at) };
+
+    fn from(s: Stopped) -> Unaccepted {
+        Unaccepted::Refused(Refusal::Words(s.at))
+    }
+}
+
+impl From<Fault> for Unaccepted {
+    ghost from_gives = { λ f e. e ≡ Line f.line };
+
+    fn from(f: Fault) -> Unaccepted {
+        Unaccepted::Line(f.line)
+    }
+}
+
+impl Refusing for Unaccepted {
+    ghost coded = { unaccepted_coded };
+
+    fn number(self) -> u64 {
+        match self {
+            Unaccepted::Refused(r) => r.number(),
+            Unaccepted::LongDigest => lists::number(9, 0),
+            Unaccepted::Line(line) => lists::number(10, line),
+        }
+    }
+}
+
 // Where the work stands: the place in the notes and next-mail, and what the digest has come to.
-#[derive(Clone, Copy)]
+#[derive(Clone, Copy, Debug, PartialEq, Eq)]
 struct Stand {
     at: usize,
     mail: bool,
-    matched: Matched,
-}
-
-// What came of a piece: the work goes on after it, or it is a paragraph of too many words.
-#[derive(Clone, Copy)]
-enum Step {
-    On(Stand),
-    Over,
-}
-
-// What came of the notes: what the digest has come to after the last piece, or the place of the first paragraph that has too many words.
-#[derive(Clone, Copy)]
-enum Course {
-    Through(Matched),
-    Stopped(usize),
+    matched: Result<Spot, Fault>,
 }
 
 // Notes and digests are refused if they are longer.
@@ -61,96 +86,80 @@ const MOST_WORDS: usize = 1024;
 const MOST_NUMBERS: usize = 7168;
 
 // Checks a digest: 1, 2, 3, 4, 9 and 10 are the refusals, in this order.
-pub fn check(block: &[u8], notes: &[u8], digest: &[u8]) -> Judgement
+pub fn check(block: &[u8], notes: &[u8], digest: &[u8]) -> Result<(), Unaccepted>
     ensures { result ≡ checking own_room block.now notes.now digest.now }
 {
-    match formatter::admit(block, notes) {
-        Admission::Refused(r) => Judgement::Refused(r),
-        Admission::Passed(o) => check_notes(o, block, notes, digest),
-    }
+    let o = formatter::admit(block, notes)?;
+    check_notes(o, block, notes, digest)
 }
 
 // The same in working room that is lent: 12 in the place of 4.
-pub fn check_large(block: &[u8], notes: &[u8], digest: &[u8], work: &mut [u32]) -> Judgement
+pub fn check_large(
+    block: &[u8],
+    notes: &[u8],
+    digest: &[u8],
+    work: &mut [u32],
+) -> Result<(), Unaccepted>
     ensures { result ≡ checking (lending (length work.old)) block.now notes.now digest.now }
 {
-    match formatter::admit_within(block, notes, formatter::MOST_LARGE) {
-        Admission::Refused(r) => Judgement::Refused(r),
-        Admission::Passed(o) => check_lent(o, block, notes, digest, work),
-    }
+    let o = formatter::admit_within(block, notes, formatter::MOST_LARGE)?;
+    check_lent(o, block, notes, digest, work)
 }
 
 // 4, 9 and 10, with the options of an accepted block. The table of a paragraph's words is lent from here on.
-fn check_notes(o: Options, block: &[u8], notes: &[u8], digest: &[u8]) -> Judgement
+fn check_notes(o: Options, block: &[u8], notes: &[u8], digest: &[u8]) -> Result<(), Unaccepted>
     requires { Admitted block.now notes.now o }
     ensures { result ≡ left_of own_room (meant block.now o) notes.now digest.now }
 {
     let mut table = [0u32; MOST_NUMBERS];
-    match match_pieces(
-        o,
-        block,
-        notes,
-        digest,
-        begin(MOST_BYTES, digest.len()),
-        MOST_WORDS,
-        &mut table,
-    ) {
-        Course::Stopped(place) => Judgement::Refused(Refusal::Words(place)),
-        Course::Through(m) => judge(MOST_BYTES, digest.len(), m),
-    }
+    let first = begin(MOST_BYTES, digest.len());
+    let m = match_pieces(o, block, notes, digest, first, MOST_WORDS, &mut table)?;
+    judge(MOST_BYTES, digest.len(), m)
 }
 
 // In the room that is lent. Only where it does not reach is counted what would.
-fn check_lent(o: Options, block: &[u8], notes: &[u8], digest: &[u8], work: &mut [u32]) -> Judgement
+fn check_lent(
+    o: Options,
+    block: &[u8],
+    notes: &[u8],
+    digest: &[u8],
+    work: &mut [u32],
+) -> Result<(), Unaccepted>
     requires { Admitted block.now notes.now o }
     ensures { result ≡ left_of (lending (length work.old)) (meant block.now o) notes.now digest.now }
 {
     let most = paragraphs::room_for(o.quick, work.len());
-    match match_pieces(
-        o,
-        block,
-        notes,
-        digest,
-        begin(formatter::MOST_LARGE, digest.len()),
-        most,
-        work,
-    ) {
-        Course::Stopped(_) => Judgement::Refused(Refusal::Work(walk::work_over(
-            o,
-            block,
-            notes,
-            work.len(),
-        ))),
-        Course::Through(m) => judge(formatter::MOST_LARGE, digest.len(), m),
-    }
+    let first = begin(formatter::MOST_LARGE, digest.len());
+    let Ok(m) = match_pieces(o, block, notes, digest, first, most, work) else {
+        let needed = walk::work_over(o, block, notes, work.len());
+        return Err(Unaccepted::Refused(Refusal::Work(needed)));
+    };
+    judge(formatter::MOST_LARGE, digest.len(), m)
 }
 
 // A digest that is too long is not matched at all. 4 comes before 9, so the words of the notes are counted all the same.
-fn begin(bytes: usize, size: usize) -> Matched
+fn begin(bytes: usize, size: usize) -> Result<Spot, Fault>
     ensures { result ≡ begun bytes size }
 {
     if bytes < size {
-        return Matched::Fault(0);
+        Err(Fault { line: 0 })
+    } else {
+        Ok(Spot { at: 0, line: 0 })
     }
-    Matched::On(Spot { at: 0, line: 0 })
 }
 
 // What is told of a digest of so many bytes that has come to m after the last piece: nothing may be left of it.
-fn judge(bytes: usize, size: usize, m: Matched) -> Judgement
+fn judge(bytes: usize, size: usize, m: Result<Spot, Fault>) -> Result<(), Unaccepted>
     ensures { result ≡ judged_by bytes size m }
 {
     if bytes < size {
-        return Judgement::LongDigest;
+        return Err(Unaccepted::LongDigest);
     }
-    match m {
-        Matched::Fault(line) => Judgement::Line(line),
-        Matched::On(p) => {
-            if p.at < size {
-                return Judgement::Line(p.line);
-            }
-            Judgement::Accepted
-        }
+    let p = m?;
+    if p.at < size {
+        return Err(Unaccepted::Line(p.line));
     }
+    Ok(())
 }
 
 // Piece by piece. The walk goes on where the digest is no longer matched: too many words, found later, take precedence.
@@ -159,10 +168,10 @@ fn match_pieces(
     block: &[u8],
     notes: &[u8],
     digest: &[u8],
-    first: Matched,
+    first: Result<Spot, Fault>,
     most: usize,
     table: &mut [u32],
-) -> Course
+) -> Result<Result<Spot, Fault>, Stopped>
     requires { Admitted block.now notes.now o × MatchedIn digest.now first × Holds most table.old }
     ensures { Walked most (meant block.now o) notes.now digest.now first result }
 {
@@ -172,13 +181,12 @@ fn match_pieces(
         matched: first,
     };
     while c.at < notes.len() {
-        let Step::On(d) = match_piece(o, block, notes, digest, c, most, table) else {
-            return Course::Stopped(c.at);
+        let Ok(d) = match_piece(o, block, notes, digest, c, most, table) else {
+            return Err(Stopped { at: c.at });
         };
         c = d;
     }
-    let m = c.matched;
-    Course::Through(m)
+    Ok(c.matched)
 }
 
 // The piece at a place, unless it is a paragraph of too many words.
@@ -190,47 +198,43 @@ fn match_piece(
     c: Stand,
     most: usize,
     table: &mut [u32],
-) -> Step
+) -> Result<Stand, TooMany>
     requires { Admitted block.now notes.now o × MatchedIn digest.now c.matched × Holds most table.old × (c.at < length notes.now) × SoundFrom notes.now c.at }
     ensures { Stepped most (meant block.now o) notes.now digest.now c result }
 {
     let at = c.at;
-    let m = c.matched;
     match pieces::next_piece(notes, at, o, block, c.mail, !o.keep) {
-        Piece::Blank { next } => Step::On(Stand {
+        Piece::Blank { next } => Ok(Stand {
             at: next,
             mail: true,
-            matched: line_behind(&notes[at..at], digest, m),
+            matched: line_behind(&notes[at..at], digest, c.matched),
         }),
-        Piece::Plain { end, next } => Step::On(Stand {
+        Piece::Plain { end, next } => Ok(Stand {
             at: next,
             mail: false,
-            matched: line_behind(&notes[at..end], digest, m),
+            matched: line_behind(&notes[at..end], digest, c.matched),
         }),
         Piece::Text(p) => {
-            let Count::Words(n) = words::split_words(
+            let n = words::split_words(
                 notes, at, p.next, p.mail, p.start, p.later, o, most, table,
-            ) else {
-                return Step::Over;
-            };
-            Step::On(Stand {
+            )?;
+            Ok(Stand {
                 at: p.next,
                 mail: p.mail,
-                matched: words_behind(notes, table, n, p.first, p.indent, o.glue, digest, m),
+                matched: words_behind(
+                    notes, table, n, p.first, p.indent, o.glue, digest, c.matched,
+                ),
             })
         }
     }
 }
 
 // A line after what is matched, if all before it is.
-fn line_behind(text: &[u8], digest: &[u8], m: Matched) -> Matched
+fn line_behind(text: &[u8], digest: &[u8], m: Result<Spot, Fault>) -> Result<Spot, Fault>
     requires { MatchedIn digest.now m }
     ensures { Matches digest.now (and_then (matched digest.now m) (match_line text.now)) result }
 {
-    match m {
-        Matched::Fault(line) => Matched::Fault(line),
-        Matched::On(p) => checker::match_line(text, digest, p),
-    }
+    checker::match_line(text, digest, m?)
 }
 
 // A paragraph's words after what is matched, if all before them is.
@@ -242,29 +246,21 @@ fn words_behind(
     indent: Margin,
     glue: bool,
     digest: &[u8],
-    m: Matched,
-) -> Matched
+    m: Result<Spot, Fault>,
+) -> Result<Spot, Fault>
     requires { Matchable notes.now table.now n indent × MarginFits notes.now first × MatchedIn digest.now m }
     ensures { Matches digest.now (and_then (matched digest.now m) (match_words glue (margin_of notes.now first) (margin_of notes.now indent) (words_in notes.now n table.now))) result }
 {
-    match m {
-        Matched::Fault(line) => Matched::Fault(line),
-        Matched::On(p) => checker::match_words(notes, table, n, first, indent, glue, digest, p),
-    }
+    checker::match_words(notes, table, n, first, indent, glue, digest, m?)
 }
 
-// The answer's code is in the upper 32 bits of its number, what it tells in the lower.
-const UPPER: u64 = 4294967296;
-
 // The answer's number.
-pub fn number_of(a: Judgement) -> u64
+pub fn number_of(a: Result<(), Unaccepted>) -> u64
     requires { numbered (check_coded a) < 2 ^ 64 }
     ensures { result ≡ numbered (check_coded a) }
 {
     match a {
-        Judgement::Accepted => 0,
-        Judgement::Refused(r) => formatter::refusal_number(r),
-        Judgement::LongDigest => 9 * UPPER,
-        Judgement::Line(line) => 10 * UPPER + line as u64,
+        Ok(()) => 0,
+        Err(e) => e.number(),
     }
 }

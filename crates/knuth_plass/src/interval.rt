@@ -1,8 +1,7 @@
 // Knuth-Plass where no gap has a tab: the active breaks are an interval of the table, and a round changes none of its records. A record's
 // columns are its base: the column of one endless line at which its own line begins, less the indent.
-ghost use Rattle.std.specs.Prelude.{◌≡◌, cond, true, false, ◌+◌, ◌-◌, ◌*◌, ◌<◌, ◌≤◌, ◌^◌, length};
+ghost use Rattle.std.specs.Prelude.{◌≡◌, cond, true, ◌+◌, ◌-◌, ◌*◌, ◌<◌, ◌≤◌, ◌^◌, length};
 ghost use Rattle.std.proofs.Math.Dec as D;
-ghost use Rattle.records.specs.declared.Before.TheVariants.{Absent};
 ghost use Rattle.records.specs.Cited.Table.{Holds, Room};
 ghost use Rattle.spacing.specs.Cited.Bounds.{AddedIs};
 ghost use Rattle.demerits.specs.Cited.Bounds.{within};
@@ -11,13 +10,13 @@ ghost use Rattle.knuth_plass.specs.Cited.Round as R;
 ghost use Rattle.knuth_plass.specs.Cited.Interval as I;
 
 use super::store::{bits_of, get_break, lesser, number, store_break};
-use super::turns::{NOTHING, either, extended, offered, restarted, turn_of};
+use super::turns::{NO_OFFER, START, either, extended, offered, restarted, turn_of};
 use super::{Best, Break, Turn};
-use records::{Before, Word};
+use records::Word;
 use spacing::Setting;
 
 // Between rounds: the active breaks are the records from head up to size, and all words so far are on an endless line of so many columns.
-#[derive(Clone, Copy)]
+#[derive(Clone, Copy, Debug, PartialEq, Eq)]
 pub struct Interval {
     pub head: usize,
     pub size: usize,
@@ -25,7 +24,7 @@ pub struct Interval {
 }
 
 // The word that the skipped words end before, and the columns of the endless line with them.
-#[derive(Clone, Copy)]
+#[derive(Clone, Copy, Debug, PartialEq, Eq)]
 pub struct Skipped {
     pub word: usize,
     pub line: usize,
@@ -33,30 +32,18 @@ pub struct Skipped {
 
 // ---- where the breaks are an interval
 
-fn has_tab(w: Word) -> bool
-    ensures { result ≡ false → w.before ≡ Absent }
-{
-    let before = w.before;
-    match before {
-        Before::Absent => false,
-        Before::Count(_) => true,
-    }
-}
-
 // Whether no word after the first has a tab in its gap, and the whole paragraph on one line is short enough for a record.
 fn fits_one_line(work: &[u32], n: usize, first: usize) -> bool
     requires { (first < 2 ^ 31) × (n ≤ T.most_words) × Holds n work.now }
     ensures { result ≡ true → I.OneLine first n work.now }
 {
     let mut line = first;
-    let mut i = 0;
-    while i < n {
+    for i in 0..n {
         let w = records::get(work, i);
-        if has_tab(w) {
+        if w.before.is_some() {
             return false;
         }
         line += w.after + 2 + w.width;
-        i += 1;
     }
     line < 0x8000_0000
 }
@@ -66,10 +53,7 @@ fn stays_low(g: Setting) -> bool
     requires { R.Limits g }
     ensures { result ≡ true → I.Low g }
 {
-    if g.indent <= g.first {
-        return true;
-    }
-    g.indent <= g.goal - (g.width - g.goal)
+    g.indent <= g.first || g.indent <= g.goal - (g.width - g.goal)
 }
 
 // Whether the rounds of a paragraph go by an interval.
@@ -77,10 +61,7 @@ pub fn is_regular(work: &[u32], n: usize, g: Setting) -> bool
     requires { R.Limits g × (n ≤ T.most_words) × Holds n work.now }
     ensures { result ≡ true → I.Regular g n work.now }
 {
-    if stays_low(g) {
-        return fits_one_line(work, n, g.first);
-    }
-    false
+    stays_low(g) && fits_one_line(work, n, g.first)
 }
 
 // ---- a round
@@ -91,14 +72,12 @@ fn pass(breaks: &[u32], g: Setting, x: usize, head: usize, size: usize) -> usize
     ensures { I.PassIs g x head size (T.table_in breaks.now) result }
 {
     let end = x + g.indent;
-    let mut k = head;
-    while k < size {
+    for k in head..size {
         if end <= g.width + number(breaks, k, 6) {
             return k;
         }
-        k += 1;
     }
-    k
+    size
 }
 
 // The first break of least demerits.
@@ -107,10 +86,8 @@ fn first_least(breaks: &[u32], head: usize, size: usize) -> usize
     ensures { I.FirstLeast head size (T.table_in breaks.now) result }
 {
     let mut found = head;
-    let mut k = head + 1;
-    while k < size {
+    for k in head + 1..size {
         found = lesser(breaks, found, k);
-        k += 1;
     }
     found
 }
@@ -122,20 +99,14 @@ fn best_offer(breaks: &[u32], g: Setting, turn: Turn, x: usize, head: usize, siz
 {
     let minimum = g.goal - (g.width - g.goal);
     let end = x + g.indent;
-    let mut best = Best {
-        total: NOTHING,
-        previous: 0,
-        ratio: 0.0,
-    };
-    let mut k = head;
-    while k < size {
+    let mut best = NO_OFFER;
+    for k in head..size {
         let b = get_break(breaks, k);
         let t = end - b.columns;
         if t < minimum {
             return best;
         }
         best = offered(g, turn, k, b, t, best);
-        k += 1;
     }
     best
 }
@@ -145,23 +116,7 @@ fn is_fresh(i: usize, n: usize, b: Break) -> bool
     requires { b.word < T.most_words }
     ensures { result ≡ I.is_fresh i n b }
 {
-    if n == 0 {
-        return false;
-    }
-    if b.before {
-        return false;
-    }
-    b.word + 1 == i
-}
-
-// The columns from a base to the end of an endless line.
-fn columns_from(base: usize, end: usize) -> usize
-    ensures { result ≡ end - base }
-{
-    if end < base {
-        return 0;
-    }
-    end - base
+    n != 0 && !b.before && b.word + 1 == i
 }
 
 // Record n as an active break before the round of word i, when the endless line has p columns.
@@ -170,15 +125,11 @@ fn viewed(g: Setting, i: usize, p: usize, n: usize, b: Break) -> Break
     ensures { result ≡ I.view_of g i p n b }
 {
     let fresh = is_fresh(i, n, b);
-    let columns = either(fresh, g.indent, columns_from(b.columns, p + g.indent));
+    let columns = either(fresh, g.indent, (p + g.indent).saturating_sub(b.columns));
     Break {
-        previous: b.previous,
-        word: b.word,
-        before: b.before,
-        demerits: b.demerits,
-        ratio: b.ratio,
         columns,
         fresh,
+        ..b
     }
 }
 
@@ -187,10 +138,7 @@ fn base_of(before: bool, x: usize, width: usize, gap: usize) -> usize
     requires { (width ≤ x) × (x + gap < 2 ^ 32) }
     ensures { result ≡ cond before (x - width) (x + gap) }
 {
-    if before {
-        return x - width;
-    }
-    x + gap
+    if before { x - width } else { x + gap }
 }
 
 // Nothing stays: the break that begins again, from the first least one. On the endless line p columns were before the word.
@@ -278,11 +226,11 @@ fn gap_behind(work: &[u32], n: usize, i: usize) -> usize
     ensures { result ≡ I.gap_after n i work.now }
 {
     let next = i + 1;
-    if n <= next {
-        return 0;
+    if next < n {
+        records::get(work, next).after
+    } else {
+        0
     }
-    let w = records::get(work, next);
-    w.after
 }
 
 // The sentence mark of word i. In the round of the second word it is not read from the word, but false.
@@ -295,14 +243,7 @@ fn sentence_at(work: &[u32], i: usize) -> bool
         return false;
     }
     let w = records::get(work, i);
-    if w.sentence {
-        return true;
-    }
-    if w.first {
-        let v = records::get(work, i - 1);
-        return v.punct;
-    }
-    false
+    w.sentence || w.first && records::get(work, i - 1).punct
 }
 
 // The space added before word i, which is w. Few words are the first of their line: the marks of the others are not worked out.
@@ -311,9 +252,10 @@ fn space_at(work: &[u32], uniform: bool, i: usize, w: Word) -> usize
     ensures { AddedIs uniform w.first (I.sentence_at work.now i) false result }
 {
     if w.first || uniform {
-        return spacing::added_space(uniform, w.first, sentence_at(work, i), false);
+        spacing::added_space(uniform, w.first, sentence_at(work, i), false)
+    } else {
+        0
     }
-    0
 }
 
 // The least columns of the endless line at which the line of a break may end.
@@ -322,7 +264,7 @@ fn least_end(breaks: &[u32], g: Setting, head: usize) -> usize
     ensures { (result ≡ I.least_end g (T.table_in breaks.now) head) × (result < 2 ^ 33) }
 {
     let minimum = g.goal - (g.width - g.goal);
-    columns_from(g.indent, minimum + number(breaks, head, 6))
+    (minimum + number(breaks, head, 6)).saturating_sub(g.indent)
 }
 
 // The words from i on whose rounds change nothing but the endless line, which has p columns before them and less than low with them: the
@@ -336,17 +278,15 @@ fn skip(work: &[u32], n: usize, uniform: bool, low: usize, i: usize, p: usize) -
         return Skipped { word: i, line: p };
     }
     let mut line = p;
-    let mut k = i;
-    while k + 1 < n {
+    for k in i..n - 1 {
         let w = records::get(work, k);
         let end = line + w.after + space_at(work, uniform, k, w) + w.width;
         if low <= end {
             return Skipped { word: k, line };
         }
         line = end;
-        k += 1;
     }
-    Skipped { word: k, line }
+    Skipped { word: n - 1, line }
 }
 
 // A round for each word after the first that is not skipped.
@@ -359,13 +299,8 @@ fn rounds(g: Setting, work: &mut [u32], n: usize) -> Interval
     let end = n * 15;
     let w = records::get(work, 0);
     let first = Break {
-        previous: 0,
-        word: 0,
-        before: false,
-        demerits: 0,
-        ratio: 0,
         columns: g.indent,
-        fresh: false,
+        ..START
     };
     store_break(&mut work[base..end], 0, first);
     let mut s = Interval {
@@ -382,9 +317,8 @@ fn rounds(g: Setting, work: &mut [u32], n: usize) -> Interval
         let gap = gap_behind(work, n, k);
         let sentence = sentence_at(work, k);
         let here = Interval {
-            head: s.head,
-            size: s.size,
             line: over.line,
+            ..s
         };
         s = round(
             g,

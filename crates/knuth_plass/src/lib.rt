@@ -21,7 +21,7 @@ use spacing::Setting;
 
 // A break place: the number of the previous break, the word and whether it is before or after it; its demerits and the ratio of
 // the line that it ends, as bits; the columns of the line that it begins, and whether nothing but the indent stands on that line.
-#[derive(Clone, Copy)]
+#[derive(Clone, Copy, Debug, PartialEq, Eq)]
 pub struct Break {
     pub previous: usize,
     pub word: usize,
@@ -34,7 +34,7 @@ pub struct Break {
 
 // What a round goes by: its word and the word's number, the space that is added before it, what it weighs in the cost of a break after
 // it, and whether it is the last.
-#[derive(Clone, Copy)]
+#[derive(Clone, Copy, Debug, PartialEq, Eq)]
 pub struct Turn {
     pub word: Word,
     pub number: usize,
@@ -43,8 +43,9 @@ pub struct Turn {
     pub last: bool,
 }
 
-// The best offer so far: its total, or NOTHING; the break it goes on from, and its ratio.
-#[derive(Clone, Copy)]
+// The best offer so far: its total, or NOTHING; the break it goes on from, and its ratio. An Option would be no plainer: with NOTHING the
+// first offer is compared as all others are, and with an Option each would first be asked whether there is one before it.
+#[derive(Clone, Copy, Debug)]
 pub struct Best {
     pub total: u64,
     pub previous: usize,
@@ -52,7 +53,7 @@ pub struct Best {
 }
 
 // A round so far: how many breaks stay, the number and the demerits of the first least break, and the best offer.
-#[derive(Clone, Copy)]
+#[derive(Clone, Copy, Debug)]
 pub struct State {
     pub kept: usize,
     pub from: usize,
@@ -61,7 +62,7 @@ pub struct State {
 }
 
 // Between rounds: how many breaks are active, how many records the table has, and what each active break loses.
-#[derive(Clone, Copy)]
+#[derive(Clone, Copy, Debug, PartialEq, Eq)]
 pub struct Standing {
     pub count: usize,
     pub size: usize,
@@ -94,22 +95,15 @@ pub fn best_breaks(work: &mut [u32], n: usize, g: Setting)
     marking::mark_path(work, n, last);
 }
 
-// Whether a break that stays made the offer of a total, and with what.
-#[derive(Clone, Copy)]
-pub enum Tried {
-    Other,
-    Here(Ending),
-}
-
 // A round's end: between rounds, and what made the round's break.
-#[derive(Clone, Copy)]
+#[derive(Clone, Copy, Debug, PartialEq, Eq)]
 pub struct Told {
     pub st: Standing,
     pub ending: Ending,
 }
 
 // All rounds: between rounds, and what made the breaks of two words, one after the other.
-#[derive(Clone, Copy)]
+#[derive(Clone, Copy, Debug, PartialEq, Eq)]
 pub struct AllTold {
     pub st: Standing,
     pub first: Ending,
@@ -126,7 +120,9 @@ pub fn best_ending(work: &mut [u32], n: usize, g: Setting, e: usize) -> Ending
     let told = telling::all_told(g, work, n, e);
     let breaks = &work[base..end];
     let last = listed::least(breaks, told.st);
-    let first = told.first;
-    let second = told.second;
-    telling::take_ending(telling::stands_before(breaks, last, e), second, first)
+    if telling::stands_before(breaks, last, e) {
+        told.second
+    } else {
+        told.first
+    }
 }

@@ -6,7 +6,9 @@ ghost use Rattle.knuth_plass.specs.Cited.Table as T;
 ghost use Rattle.knuth_plass.specs.Cited.Round as R;
 
 use super::store::{bits_of, get_break, keep_break, lesser, number, store_break};
-use super::turns::{NOTHING, extended, offered, reach, restarted, sentence_behind, turn_of};
+use super::turns::{
+    NO_OFFER, NOTHING, START, extended, offered, reach, restarted, sentence_behind, turn_of,
+};
 use super::{Best, Break, Standing, State, Turn};
 use records::Word;
 use spacing::Setting;
@@ -28,26 +30,12 @@ fn put_active(breaks: &mut [u32], k: usize, n: usize)
     breaks[at] = n as u32;
 }
 
-fn less(a: u64, b: u64) -> u64
-    ensures { result ≡ a - b }
-{
-    if a < b {
-        return 0;
-    }
-    a - b
-}
-
 pub fn lessened(b: Break, reduction: u64) -> Break
     ensures { result ≡ R.lessened reduction b }
 {
     Break {
-        previous: b.previous,
-        word: b.word,
-        before: b.before,
-        demerits: less(b.demerits, reduction),
-        ratio: b.ratio,
-        columns: b.columns,
-        fresh: b.fresh,
+        demerits: b.demerits.saturating_sub(reduction),
+        ..b
     }
 }
 
@@ -55,16 +43,15 @@ pub fn lessened(b: Break, reduction: u64) -> Break
 fn noted(s: State, n: usize, demerits: u64) -> State
     ensures { result ≡ R.noted s n demerits }
 {
-    let best = s.best;
     if demerits < s.least {
-        return State {
-            kept: s.kept,
+        State {
             from: n,
             least: demerits,
-            best,
-        };
+            ..s
+        }
+    } else {
+        s
     }
-    s
 }
 
 // Break n, which is b, stays active with the word on its line of t columns.
@@ -77,9 +64,8 @@ fn keep(breaks: &mut [u32], n: usize, b: Break, t: usize, s: State, best: Best) 
     put_active(breaks, kept, n);
     State {
         kept: kept + 1,
-        from: s.from,
-        least: s.least,
         best,
+        ..s
     }
 }
 
@@ -93,16 +79,15 @@ fn visit(g: Setting, turn: Turn, st: Standing, breaks: &mut [u32], k: usize, s: 
     let n = active(breaks, k);
     let b = lessened(get_break(breaks, n), st.reduction);
     let t = reach(g, turn, b);
-    let best = s.best;
     let seen = noted(s, n, b.demerits);
     // Most lines are too short to end here, so that this is asked first.
     if t < g.goal - (g.width - g.goal) {
-        return keep(breaks, n, b, t, seen, best);
+        return keep(breaks, n, b, t, seen, s.best);
     }
     if g.width < t {
         return seen;
     }
-    let better = offered(g, turn, n, b, t, best);
+    let better = offered(g, turn, n, b, t, s.best);
     keep(breaks, n, b, t, seen, better)
 }
 
@@ -114,22 +99,14 @@ pub fn advance(g: Setting, turn: Turn, st: Standing, breaks: &mut [u32]) -> Stat
 {
     let first = active(breaks, 0);
     let b = lessened(get_break(breaks, first), st.reduction);
-    let best = Best {
-        total: NOTHING,
-        previous: 0,
-        ratio: 0.0,
-    };
     let mut s = State {
         kept: 0,
         from: first,
         least: b.demerits,
-        best,
+        best: NO_OFFER,
     };
-    let count = st.count;
-    let mut k = 0;
-    while k < count {
+    for k in 0..st.count {
         s = visit(g, turn, st, breaks, k, s);
-        k += 1;
     }
     s
 }
@@ -217,13 +194,8 @@ pub fn rounds(g: Setting, work: &mut [u32], n: usize) -> Standing
     let end = n * 15;
     let w = records::get(work, 0);
     let first = Break {
-        previous: 0,
-        word: 0,
-        before: false,
-        demerits: 0,
-        ratio: 0,
         columns: g.first + w.width,
-        fresh: false,
+        ..START
     };
     append(&mut work[base..end], 0, 0, first);
     let mut st = Standing {
@@ -232,12 +204,10 @@ pub fn rounds(g: Setting, work: &mut [u32], n: usize) -> Standing
         reduction: 0,
     };
     let mut sentence = false;
-    let mut i = 1;
-    while i < n {
+    for i in 1..n {
         let word = records::get(work, i);
         st = round(g, word, i, i + 1 == n, sentence, st, &mut work[base..end]);
         sentence = sentence_behind(work, n, i);
-        i += 1;
     }
     st
 }
@@ -249,11 +219,9 @@ pub fn least(breaks: &[u32], st: Standing) -> usize
     ensures { R.LeastIs st (T.table_in breaks.now) (T.active_in breaks.now) result }
 {
     let mut found = active(breaks, 0);
-    let mut k = 1;
-    while k < st.count {
+    for k in 1..st.count {
         let n = active(breaks, k);
         found = lesser(breaks, found, n);
-        k += 1;
     }
     found
 }

@@ -14,20 +14,15 @@ pub fn starts(b: Break) -> usize
     requires { b.word < T.most_words }
     ensures { result ≡ T.start_of b }
 {
-    if b.before {
-        return b.word;
-    }
-    b.word + 1
+    if b.before { b.word } else { b.word + 1 }
 }
 
 pub fn clear(work: &mut [u32], n: usize)
     requires { Holds n work.old }
     ensures { MarkedUpTo n work.old work.new (λ (j : ℕ). false) }
 {
-    let mut i = 0;
-    while i < n {
+    for i in 0..n {
         records::mark(work, i, false);
-        i += 1;
     }
 }
 

@@ -1,25 +1,10 @@
 // The break table: eight numbers a record, of which seven are the record's own.
-ghost use Rattle.std.specs.Prelude.{◌≡◌, cond, ◌+◌, ◌*◌, ◌<◌, ◌≤◌, ◌^◌, length};
+ghost use Rattle.std.specs.Prelude.{◌≡◌, ◌+◌, ◌*◌, ◌<◌, ◌≤◌, ◌^◌, length};
 ghost use Rattle.std.proofs.Math.Dec as D;
 ghost use Rattle.demerits.specs.Cited.Bounds.{within};
 ghost use Rattle.knuth_plass.specs.Cited.Table as T;
 
 use super::Break;
-
-fn bit(mark: bool) -> u32
-    ensures { result ≡ cond mark 1 0 }
-{
-    if mark {
-        return 1;
-    }
-    0
-}
-
-fn place(x: u32) -> usize
-    ensures { (result ≡ x) × (result < 2 ^ 32) }
-{
-    x as usize
-}
 
 // A ratio's bits, as they are in a record.
 pub fn bits_of(ratio: f32) -> u32
@@ -43,13 +28,7 @@ pub fn number(breaks: &[u32], i: usize, j: usize) -> usize
     ensures { (result ≡ T.break_number breaks.now i j) × (result < 2 ^ 32) }
 {
     let k = i * 8 + j;
-    place(breaks[k])
-}
-
-fn joined(high: u32, low: u32) -> u64
-    ensures { result ≡ high * 2 ^ 32 + low }
-{
-    high as u64 * 0x1_0000_0000 + low as u64
+    breaks[k] as usize
 }
 
 // The demerits of record i: a number of 64 bits in two places, the lower half first.
@@ -59,7 +38,7 @@ fn demerits_of(breaks: &[u32], i: usize) -> u64
 {
     let low = i * 8 + 4;
     let high = i * 8 + 5;
-    joined(breaks[high], breaks[low])
+    u64::from(breaks[high]) * 0x1_0000_0000 + u64::from(breaks[low])
 }
 
 // The record at i, put together. The word and whether the break is before it are one number.
@@ -88,7 +67,7 @@ fn put_place(breaks: &mut [u32], i: usize, b: Break)
     let k = i * 8;
     let k1 = k + 1;
     breaks[k] = b.previous as u32;
-    breaks[k1] = b.word as u32 * 2 + bit(b.before);
+    breaks[k1] = b.word as u32 * 2 + u32::from(b.before);
 }
 
 // The record of a break that stays active, taken apart again: of its numbers, its demerits and its line are new.
@@ -103,7 +82,7 @@ pub fn keep_break(breaks: &mut [u32], i: usize, b: Break)
     breaks[k] = (b.demerits % 0x1_0000_0000) as u32;
     breaks[k1] = (b.demerits / 0x1_0000_0000) as u32;
     breaks[k2] = b.columns as u32;
-    breaks[k3] = bit(b.fresh);
+    breaks[k3] = u32::from(b.fresh);
 }
 
 // The record taken apart into the table at i.
@@ -124,8 +103,5 @@ pub fn lesser(breaks: &[u32], m: usize, n: usize) -> usize
 {
     let a = get_break(breaks, m);
     let b = get_break(breaks, n);
-    if b.demerits < a.demerits {
-        return n;
-    }
-    m
+    if b.demerits < a.demerits { n } else { m }
 }

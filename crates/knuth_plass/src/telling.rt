@@ -1,5 +1,5 @@
 // Why a line ends: the rounds over the list once more, and what made the break of a word.
-ghost use Rattle.std.specs.Prelude.{◌≡◌, cond, ◌<◌, ◌≤◌, ◌^◌, length};
+ghost use Rattle.std.specs.Prelude.{◌≡◌, ◌<◌, ◌≤◌, ◌^◌, length};
 ghost use Rattle.records.specs.Cited.Table.{Small};
 ghost use Rattle.knuth_plass.specs.Cited.Table as T;
 ghost use Rattle.knuth_plass.specs.Cited.Round as R;
@@ -8,46 +8,34 @@ ghost use Rattle.knuth_plass.specs.Cited.Makers as W;
 use super::listed::{active, advance, append, lessened, settle};
 use super::marking::starts;
 use super::store::{get_break, ratio_of};
-use super::turns::{NOTHING, restarted, sentence_behind, turn_of};
-use super::{AllTold, Break, Standing, State, Told, Tried, Turn};
+use super::turns::{NOTHING, START, either, restarted, sentence_behind, turn_of};
+use super::{AllTold, Break, Standing, State, Told, Turn};
 use endings::Ending;
-use records::{Before, Word};
+use records::Word;
 use spacing::Setting;
 
-pub fn take_ending(first: bool, a: Ending, b: Ending) -> Ending
-    ensures { result ≡ cond first a b }
-{
-    if first {
-        return a;
-    }
-    b
-}
-
-// What a break that stays offers, with a word of this weight at the end of its line.
-fn try_break(g: Setting, weight: u16, b: Break, total: u64) -> Tried
+// What a break that stays offers, with a word of this weight at the end of its line, if the offer has the total.
+fn try_break(g: Setting, weight: u16, b: Break, total: u64) -> Option<Ending>
     requires { R.Limits g × W.Stays weight b }
     ensures { result ≡ W.tried_of g weight total b.columns (T.ratio_of b.ratio) b.demerits }
 {
     let stretch = g.width - g.goal;
-    if b.columns < g.goal - stretch {
-        return Tried::Other;
-    }
-    if g.width < b.columns {
-        return Tried::Other;
+    if b.columns < g.goal - stretch || g.width < b.columns {
+        return None;
     }
     let ratio = demerits::ratio(g.goal, b.columns, stretch);
     let old = ratio_of(b.ratio);
     let cost = demerits::cost(ratio, old, weight);
-    if cost + b.demerits == total {
-        return Tried::Here(Ending::Chosen {
-            columns: b.columns,
-            line_term: demerits::line_term(ratio),
-            word_term: weight,
-            ratio_term: demerits::ratio_term(ratio, old),
-            cost,
-        });
+    if cost + b.demerits != total {
+        return None;
     }
-    Tried::Other
+    Some(Ending::Chosen {
+        columns: b.columns,
+        line_term: demerits::line_term(ratio),
+        word_term: weight,
+        ratio_term: demerits::ratio_term(ratio, old),
+        cost,
+    })
 }
 
 // The first of the breaks that stay whose offer has the least total: its offer became the break.
@@ -55,16 +43,10 @@ fn chosen(g: Setting, weight: u16, breaks: &[u32], kept: usize, total: u64) -> E
     requires { R.Limits g × W.Kept weight kept (T.table_in breaks.now) (T.active_in breaks.now) }
     ensures { result ≡ W.chosen_in g weight total (R.breaks_listed kept (T.table_in breaks.now) (T.active_in breaks.now)) }
 {
-    let mut k = 0;
-    while k < kept {
-        let n = active(breaks, k);
-        let b = get_break(breaks, n);
-        k += 1;
-        match try_break(g, weight, b, total) {
-            Tried::Here(e) => {
-                return e;
-            }
-            Tried::Other => {}
+    for k in 0..kept {
+        let b = get_break(breaks, active(breaks, k));
+        if let Some(e) = try_break(g, weight, b, total) {
+            return e;
         }
     }
     Ending::Paragraph
@@ -78,9 +60,10 @@ fn forced(g: Setting, turn: Turn, st: Standing, breaks: &[u32], from: usize) -> 
     let least = lessened(get_break(breaks, from), st.reduction);
     let b = restarted(g, turn, from, least);
     if b.before {
-        return Ending::Before;
+        Ending::Before
+    } else {
+        Ending::After
     }
-    Ending::After
 }
 
 // What makes the break of a round, when all active breaks have the word on their lines.
@@ -88,17 +71,17 @@ fn maker(g: Setting, turn: Turn, st: Standing, breaks: &[u32], s: State) -> Endi
     requires { R.Limits g × R.Turns g turn × R.Fit turn st st.count (T.table_in breaks.now) (T.active_in breaks.now) s }
     ensures { W.MakerIs g turn st (T.table_in breaks.now) (T.active_in breaks.now) s result }
 {
-    let best = s.best;
-    if best.total < NOTHING {
+    if s.best.total < NOTHING {
         if turn.last {
-            return Ending::Paragraph;
+            Ending::Paragraph
+        } else {
+            chosen(g, turn.weight, breaks, s.kept, s.best.total)
         }
-        return chosen(g, turn.weight, breaks, s.kept, best.total);
+    } else if 0 < s.kept {
+        Ending::Paragraph
+    } else {
+        forced(g, turn, st, breaks, s.from)
     }
-    if 0 < s.kept {
-        return Ending::Paragraph;
-    }
-    forced(g, turn, st, breaks, s.from)
 }
 
 // The round of word i, and what makes its break.
@@ -133,13 +116,8 @@ pub fn all_told(g: Setting, work: &mut [u32], n: usize, e: usize) -> AllTold
     let end = n * 15;
     let w = records::get(work, 0);
     let start = Break {
-        previous: 0,
-        word: 0,
-        before: false,
-        demerits: 0,
-        ratio: 0,
         columns: g.first + w.width,
-        fresh: false,
+        ..START
     };
     append(&mut work[base..end], 0, 0, start);
     let mut st = Standing {
@@ -150,16 +128,13 @@ pub fn all_told(g: Setting, work: &mut [u32], n: usize, e: usize) -> AllTold
     let mut sentence = false;
     let mut first = Ending::Paragraph;
     let mut second = Ending::Paragraph;
-    let mut i = 1;
-    while i < n {
+    for i in 1..n {
         let word = records::get(work, i);
         let told = told_round(g, word, i, i + 1 == n, sentence, st, &mut work[base..end]);
-        let ending = told.ending;
         st = told.st;
-        first = take_ending(i + 1 == e, ending, first);
-        second = take_ending(i == e, ending, second);
+        first = either(i + 1 == e, told.ending, first);
+        second = either(i == e, told.ending, second);
         sentence = sentence_behind(work, n, i);
-        i += 1;
     }
     AllTold { st, first, second }
 }

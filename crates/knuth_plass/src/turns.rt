@@ -9,7 +9,7 @@ ghost use Rattle.knuth_plass.specs.Cited.Round as R;
 
 use super::store::ratio_of;
 use super::{Best, Break, Turn};
-use records::{Before, Word};
+use records::Word;
 use spacing::Setting;
 
 // A ratio of 1, and of -1, as bits.
@@ -34,47 +34,40 @@ pub fn turn_of(g: Setting, word: Word, number: usize, space: usize, last: bool) 
 // A total that no offer reaches.
 pub const NOTHING: u64 = 0x4000_0000_0000_0000;
 
+// The best offer before the first.
+pub const NO_OFFER: Best = Best {
+    total: NOTHING,
+    previous: 0,
+    ratio: 0.0,
+};
+
+// The first break, but for the columns of its line.
+pub const START: Break = Break {
+    previous: 0,
+    word: 0,
+    demerits: 0,
+    columns: 0,
+    ratio: 0,
+    before: false,
+    fresh: false,
+};
+
 // A break with the word on its line, which has t columns now and is not fresh.
 pub fn extended(b: Break, t: usize) -> Break
     ensures { result ≡ R.extended t b }
 {
     Break {
-        previous: b.previous,
-        word: b.word,
-        before: b.before,
-        demerits: b.demerits,
-        ratio: b.ratio,
         columns: t,
         fresh: false,
+        ..b
     }
 }
 
-// One of two numbers. With a choice for each number the machine has no branch to foresee where two offers are compared.
-pub fn either(first: bool, a: usize, b: usize) -> usize
+// One of two values. With a choice for each number the machine has no branch to foresee where two offers are compared.
+pub fn either<T: Copy>(first: bool, a: T, b: T) -> T
     ensures { result ≡ cond first a b }
 {
-    if first {
-        return a;
-    }
-    b
-}
-
-fn either_total(first: bool, a: u64, b: u64) -> u64
-    ensures { result ≡ cond first a b }
-{
-    if first {
-        return a;
-    }
-    b
-}
-
-fn either_ratio(first: bool, a: f32, b: f32) -> f32
-    ensures { result ≡ cond first a b }
-{
-    if first {
-        return a;
-    }
-    b
+    if first { a } else { b }
 }
 
 // The lesser of the best offer so far and another, the first where they are equal.
@@ -83,9 +76,9 @@ fn better(best: Best, previous: usize, total: u64, ratio: f32) -> Best
 {
     let stays = best.total <= total;
     Best {
-        total: either_total(stays, best.total, total),
+        total: either(stays, best.total, total),
         previous: either(stays, best.previous, previous),
-        ratio: either_ratio(stays, best.ratio, ratio),
+        ratio: either(stays, best.ratio, ratio),
     }
 }
 
@@ -95,11 +88,10 @@ fn reach_by_tab(g: Setting, turn: Turn, b: Break) -> usize
     ensures { (result ≡ R.line_at g turn b) × (result < 2 ^ 36) }
 {
     let w = turn.word;
-    let before = w.before;
     if b.fresh {
         return b.columns + turn.space + w.width;
     }
-    let gap = spacing::gap_width(g.tab, b.columns, before, w.after);
+    let gap = spacing::gap_width(g.tab, b.columns, w.before, w.after);
     b.columns + gap + turn.space + w.width
 }
 
@@ -109,14 +101,11 @@ pub fn reach(g: Setting, turn: Turn, b: Break) -> usize
     ensures { (result ≡ R.line_at g turn b) × (result < 2 ^ 36) }
 {
     let w = turn.word;
-    let before = w.before;
-    match before {
-        Before::Absent => {
-            let bare = turn.space + w.width;
-            b.columns + either(b.fresh, bare, w.after + bare)
-        }
-        Before::Count(_) => reach_by_tab(g, turn, b),
+    if w.before.is_some() {
+        return reach_by_tab(g, turn, b);
     }
+    let bare = turn.space + w.width;
+    b.columns + either(b.fresh, bare, w.after + bare)
 }
 
 // What a break after a word of this weight costs at the least: what the word alone weighs. With a small stretch few breaks offer, and
@@ -128,7 +117,7 @@ fn floor(stretch: usize, weight: u16) -> u64
     if stretch < 4 {
         return 0;
     }
-    let sum = 1 + weight as u64;
+    let sum = 1 + u64::from(weight);
     sum * sum
 }
 
@@ -173,20 +162,15 @@ pub fn restarted(g: Setting, turn: Turn, n: usize, least: Break) -> Break
         columns: g.indent,
         fresh: true,
     };
-    if least.fresh {
-        return after;
-    }
-    if t + least.columns <= minimum + g.width {
+    if least.fresh || t + least.columns <= minimum + g.width {
         return after;
     }
     Break {
-        previous: n,
-        word: turn.number,
         before: true,
-        demerits: 0,
         ratio: RATIO_ONE,
         columns: g.indent + w.width,
         fresh: false,
+        ..after
     }
 }
 
@@ -200,13 +184,6 @@ pub fn sentence_behind(table: &[u32], n: usize, i: usize) -> bool
     if n <= next {
         return true;
     }
-    let v = records::get(table, i);
     let w = records::get(table, next);
-    if w.sentence {
-        return true;
-    }
-    if w.first {
-        return v.punct;
-    }
-    false
+    w.sentence || w.first && records::get(table, i).punct
 }

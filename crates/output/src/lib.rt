@@ -9,49 +9,27 @@ ghost use Rattle.records.specs.Cited.Table.{Within};
 ghost use Rattle.output.specs.Cited.Bound.{most_emitted};
 ghost use Rattle.output.specs.Emission.{line_feed};
 ghost use Rattle.output.specs.Cited.Sink.{Wrote};
-ghost use Rattle.output.specs.Cited.Writers.{four_of, sixteen_of, margin_of, MarginIn, placed, Laid, emitted, emitted_from};
+ghost use Rattle.output.specs.Cited.Writers.{margin_of, MarginIn, placed, Laid, emitted, emitted_from};
 ghost use Rattle.output.specs.Cited.Runs.{Joins, Runs};
 
 use pieces::Margin;
 use records::Word;
 
 // How a paragraph is laid out: uniform spacing, and its two indents.
-#[derive(Clone, Copy)]
+#[derive(Clone, Copy, Debug, PartialEq, Eq)]
 pub struct Layout {
     pub uniform: bool,
     pub first: Margin,
     pub indent: Margin,
 }
 
-// Four bytes that move as one: all are read before the first is stored.
-#[derive(Clone, Copy)]
-struct Four {
-    b0: u8,
-    b1: u8,
-    b2: u8,
-    b3: u8,
-}
-
-fn four_at(text: &[u8], at: usize) -> Four
-    requires { at + 4 ≤ length text.now }
-    ensures { four_of result ≡ slice at (at + 4) text.now }
+// So many bytes of a text from a place on, to the same place. Their number is known to the compiler, which moves them as one: all are read
+// before the first is stored.
+fn copy_block<const N: usize>(text: &[u8], at: usize, rest: &mut [u8])
+    requires { (at + N ≤ length text.now) × (at + N ≤ length rest.old) }
+    ensures { Wrote rest.old at (slice at (at + N) text.now) rest.new (at + N) }
 {
-    Four {
-        b0: text[at],
-        b1: text[at + 1],
-        b2: text[at + 2],
-        b3: text[at + 3],
-    }
-}
-
-fn put_four(four: Four, at: usize, rest: &mut [u8])
-    requires { at + 4 ≤ length rest.old }
-    ensures { Wrote rest.old at (four_of four) rest.new (at + 4) }
-{
-    rest[at] = four.b0;
-    rest[at + 1] = four.b1;
-    rest[at + 2] = four.b2;
-    rest[at + 3] = four.b3;
+    rest[at..at + N].copy_from_slice(&text[at..at + N]);
 }
 
 // A text of at most three bytes: its first, middle and last byte, which of a shorter one are partly the same.
@@ -59,7 +37,7 @@ fn copy_few(text: &[u8], rest: &mut [u8])
     requires { (length text.now ≤ 3) × (length text.now ≤ length rest.old) }
     ensures { Wrote rest.old 0 text.now rest.new (length text.now) }
 {
-    if text.len() == 0 {
+    if text.is_empty() {
         return;
     }
     let middle = text.len() / 2;
@@ -69,14 +47,6 @@ fn copy_few(text: &[u8], rest: &mut [u8])
     rest[last] = text[last];
 }
 
-// Four bytes of a text from a place on, to the same place.
-fn copy_four(text: &[u8], at: usize, rest: &mut [u8])
-    requires { (at + 4 ≤ length text.now) × (at + 4 ≤ length rest.old) }
-    ensures { Wrote rest.old at (slice at (at + 4) text.now) rest.new (at + 4) }
-{
-    put_four(four_at(text, at), at, rest);
-}
-
 // A text of four to fifteen bytes: four blocks, the last of which ends with it. Where they overlap, they have the same bytes, so that no
 // branch asks how long a word is.
 fn copy_short(text: &[u8], rest: &mut [u8])
@@ -84,72 +54,14 @@ fn copy_short(text: &[u8], rest: &mut [u8])
     ensures { Wrote rest.old 0 text.now rest.new (length text.now) }
 {
     let last = text.len() - 4;
-    let second = lists::lesser(4, last);
-    let third = lists::lesser(8, last);
-    copy_four(text, 0, rest);
-    copy_four(text, second, rest);
-    copy_four(text, third, rest);
-    copy_four(text, last, rest);
+    copy_block::<4>(text, 0, rest);
+    copy_block::<4>(text, last.min(4), rest);
+    copy_block::<4>(text, last.min(8), rest);
+    copy_block::<4>(text, last, rest);
 }
 
-// Sixteen bytes, likewise.
-#[derive(Clone, Copy)]
-struct Sixteen {
-    a: Four,
-    b: Four,
-    c: Four,
-    d: Four,
-}
-
-fn sixteen_at(text: &[u8], at: usize) -> Sixteen
-    requires { at + 16 ≤ length text.now }
-    ensures { sixteen_of result ≡ slice at (at + 16) text.now }
-{
-    let second = at + 4;
-    let third = at + 8;
-    let fourth = at + 12;
-    Sixteen {
-        a: four_at(text, at),
-        b: four_at(text, second),
-        c: four_at(text, third),
-        d: four_at(text, fourth),
-    }
-}
-
-fn put_sixteen(s: Sixteen, at: usize, rest: &mut [u8])
-    requires { at + 16 ≤ length rest.old }
-    ensures { Wrote rest.old at (sixteen_of s) rest.new (at + 16) }
-{
-    let second = at + 4;
-    let third = at + 8;
-    let fourth = at + 12;
-    put_four(s.a, at, rest);
-    put_four(s.b, second, rest);
-    put_four(s.c, third, rest);
-    put_four(s.d, fourth, rest);
-}
-
-fn copy_sixteen(text: &[u8], at: usize, rest: &mut [u8])
-    requires { (at + 16 ≤ length text.now) × (at + 16 ≤ length rest.old) }
-    ensures { Wrote rest.old at (slice at (at + 16) text.now) rest.new (at + 16) }
-{
-    put_sixteen(sixteen_at(text, at), at, rest);
-}
-
-// Two such blocks, both read before the first is stored.
-fn copy_two(text: &[u8], at: usize, rest: &mut [u8])
-    requires { (at + 32 ≤ length text.now) × (at + 32 ≤ length rest.old) }
-    ensures { Wrote rest.old at (slice at (at + 32) text.now) rest.new (at + 32) }
-{
-    let second = at + 16;
-    let a = sixteen_at(text, at);
-    let b = sixteen_at(text, second);
-    put_sixteen(a, at, rest);
-    put_sixteen(b, second, rest);
-}
-
-// A text of sixteen bytes or more: four blocks a turn as long as more is left than four; then three, and one that ends with the text,
-// which of a shorter rest are partly the same.
+// A text of sixteen bytes or more: 64 a turn as long as more than that is left; then three blocks of sixteen, and one that ends with the
+// text, which of a shorter rest are partly the same.
 fn copy_long(text: &[u8], rest: &mut [u8])
     requires { (16 ≤ length text.now) × (length text.now ≤ length rest.old) }
     ensures { Wrote rest.old 0 text.now rest.new (length text.now) }
@@ -157,15 +69,13 @@ fn copy_long(text: &[u8], rest: &mut [u8])
     let last = text.len() - 16;
     let mut k = 0;
     while k + 48 < last {
-        let second = k + 32;
-        copy_two(text, k, rest);
-        copy_two(text, second, rest);
-        k = second + 32;
+        copy_block::<64>(text, k, rest);
+        k += 64;
     }
-    copy_sixteen(text, lists::lesser(k, last), rest);
-    copy_sixteen(text, lists::lesser(k + 16, last), rest);
-    copy_sixteen(text, lists::lesser(k + 32, last), rest);
-    copy_sixteen(text, last, rest);
+    copy_block::<16>(text, last.min(k), rest);
+    copy_block::<16>(text, last.min(k + 16), rest);
+    copy_block::<16>(text, last.min(k + 32), rest);
+    copy_block::<16>(text, last, rest);
 }
 
 // A text, to where there is room for it.
@@ -175,13 +85,11 @@ fn copy(text: &[u8], rest: &mut [u8])
 {
     if text.len() < 4 {
         copy_few(text, rest);
-        return;
-    }
-    if text.len() < 16 {
+    } else if text.len() < 16 {
         copy_short(text, rest);
-        return;
+    } else {
+        copy_long(text, rest);
     }
-    copy_long(text, rest);
 }
 
 // Bytes of the notes: words, with the blanks before them or bare, or the bytes of an indent.
@@ -191,7 +99,7 @@ pub fn put_text(notes: &[u8], from: usize, to: usize, rest: &mut [u8]) -> usize
     ensures { Wrote rest.old 0 (slice from to notes.now) rest.new result }
 {
     let size = to - from;
-    let end = from + lists::lesser(size, rest.len());
+    let end = from + size.min(rest.len());
     copy(&notes[from..end], rest);
     size
 }
@@ -199,12 +107,8 @@ pub fn put_text(notes: &[u8], from: usize, to: usize, rest: &mut [u8]) -> usize
 pub fn put_spaces(count: usize, rest: &mut [u8]) -> usize
     ensures { Wrote rest.old 0 (replicate count 32) rest.new result }
 {
-    let fits = lists::lesser(count, rest.len());
-    let mut k = 0;
-    while k < fits {
-        rest[k] = 32;
-        k += 1;
-    }
+    let fits = count.min(rest.len());
+    rest[..fits].fill(32);
     count
 }
 
@@ -214,25 +118,22 @@ pub fn put_added(count: usize, rest: &mut [u8]) -> usize
     requires { count ≤ 2 }
     ensures { Wrote rest.old 0 (replicate count 32) rest.new result }
 {
-    let room = lists::lesser(count, rest.len());
-    if room == 0 {
-        return count;
+    let room = count.min(rest.len());
+    if 0 < room {
+        rest[0] = 32;
     }
-    rest[0] = 32;
-    if room == 1 {
-        return count;
+    if 1 < room {
+        rest[1] = 32;
     }
-    rest[1] = 32;
     count
 }
 
 pub fn put_feed(rest: &mut [u8]) -> usize
     ensures { Wrote rest.old 0 line_feed rest.new result }
 {
-    if rest.len() == 0 {
-        return 1;
+    if !rest.is_empty() {
+        rest[0] = 10;
     }
-    rest[0] = 10;
     1
 }
 
@@ -242,7 +143,7 @@ pub fn put_margin(notes: &[u8], m: Margin, rest: &mut [u8]) -> usize
     ensures { Wrote rest.old 0 (margin_of notes.now m) rest.new result }
 {
     let k = put_text(notes, m.start, m.end, rest);
-    let place = lists::lesser(k, rest.len());
+    let place = k.min(rest.len());
     k + put_spaces(m.more, &mut rest[place..])
 }
 
@@ -253,7 +154,7 @@ pub fn put_break(notes: &[u8], indent: Margin, rest: &mut [u8]) -> usize
     ensures { Wrote rest.old 0 (line_feed ++ margin_of notes.now indent) rest.new result }
 {
     let k = put_feed(rest);
-    let place = lists::lesser(k, rest.len());
+    let place = k.min(rest.len());
     k + put_margin(notes, indent, &mut rest[place..])
 }
 
@@ -274,12 +175,13 @@ pub fn put_word(
 {
     if fresh {
         let k = put_break(notes, indent, rest);
-        let place = lists::lesser(k, rest.len());
-        return k + put_text(notes, w.start, end, &mut rest[place..]);
+        let place = k.min(rest.len());
+        k + put_text(notes, w.start, end, &mut rest[place..])
+    } else {
+        let k = put_added(added, rest);
+        let place = k.min(rest.len());
+        k + put_text(notes, w.from, end, &mut rest[place..])
     }
-    let k = put_added(added, rest);
-    let place = lists::lesser(k, rest.len());
-    k + put_text(notes, w.from, end, &mut rest[place..])
 }
 
 // The first word and the notes after it, bare after the first indent.
@@ -289,13 +191,13 @@ pub fn put_first(notes: &[u8], from: usize, to: usize, first: Margin, rest: &mut
     ensures { Wrote rest.old 0 (margin_of notes.now first ++ slice from to notes.now) rest.new result }
 {
     let k = put_margin(notes, first, rest);
-    let place = lists::lesser(k, rest.len());
+    let place = k.min(rest.len());
     k + put_text(notes, from, to, &mut rest[place..])
 }
 
 // Words that are in the notes just as they are to be written, so that they are written as one piece: the number of the word after
 // them, where they end in the notes, and the mark of the last of them.
-#[derive(Clone, Copy)]
+#[derive(Clone, Copy, Debug, PartialEq, Eq)]
 struct Run {
     next: usize,
     end: usize,
@@ -307,16 +209,7 @@ fn all_spaces(notes: &[u8], at: usize, count: usize) -> bool
     requires { (count ≤ 2) × (at + count ≤ length notes.now) }
     ensures { result ≡ true → slice at (at + count) notes.now ≡ replicate count 32 }
 {
-    if count == 0 {
-        return true;
-    }
-    if notes[at] != 32 {
-        return false;
-    }
-    if count == 1 {
-        return true;
-    }
-    notes[at + 1] == 32
+    count == 0 || notes[at] == 32 && (count == 1 || notes[at + 1] == 32)
 }
 
 // Whether the bytes of a word that stays on its line, with what goes before it, do not stand in the notes from end on.
@@ -324,10 +217,7 @@ fn apart(notes: &[u8], w: Word, added: usize, end: usize) -> bool
     requires { Within (length notes.now) w × (end ≤ length notes.now) × (length notes.now < 2 ^ 32) × (added ≤ 2) }
     ensures { result ≡ false → Joins notes.now w false added end }
 {
-    if end + added != w.from {
-        return true;
-    }
-    !all_spaces(notes, end, added)
+    end + added != w.from || !all_spaces(notes, end, added)
 }
 
 // The run that word i continues, which reaches up to end so far: punct is the mark of its last word.
@@ -348,8 +238,7 @@ fn run_from(
         end,
         punct,
     };
-    while r.next < n {
-        let j = r.next;
+    for j in i..n {
         if records::starts_line(table, j) {
             return r;
         }
@@ -381,7 +270,6 @@ fn emit_rest(
     requires { Laid notes.now table.now n l × (first.next ≤ n) × (at < 2 ^ 63) }
     ensures { Wrote out.old at (emitted_from notes.now table.now n l first.punct first.next) out.new result }
 {
-    let indent = l.indent;
     let mut k = at;
     let mut r = first;
     while r.next < n {
@@ -390,10 +278,10 @@ fn emit_rest(
         let added = spacing::added_space(l.uniform, w.first, w.sentence, r.punct);
         let fresh = records::starts_line(table, i);
         r = run_from(notes, table, n, l, w.end, w.punct, i + 1);
-        let place = lists::lesser(k, out.len());
-        k += put_word(notes, w, r.end, fresh, added, indent, &mut out[place..]);
+        let place = k.min(out.len());
+        k += put_word(notes, w, r.end, fresh, added, l.indent, &mut out[place..]);
     }
-    let place = lists::lesser(k, out.len());
+    let place = k.min(out.len());
     k + put_feed(&mut out[place..])
 }
 
@@ -411,9 +299,10 @@ fn placed_size(w: Word, fresh: bool, added: usize, indent: usize) -> usize
     ensures { (result ≡ cond fresh (1 + indent + (w.end - w.start)) (added + (w.end - w.from))) × (result < 2 ^ 34) }
 {
     if fresh {
-        return 1 + indent + (w.end - w.start);
+        1 + indent + (w.end - w.start)
+    } else {
+        added + (w.end - w.from)
     }
-    added + (w.end - w.from)
 }
 
 // The bytes of a paragraph, where none of them is to be written: counted from the table, without a look at the notes.
@@ -422,18 +311,15 @@ fn emitted_size(notes: &[u8], table: &[u32], n: usize, l: Layout) -> usize
     ensures { (result ≡ length (emitted notes.now table.now n l)) × (result < 2 ^ 62) }
 {
     let head = records::get(table, 0);
-    let first = l.first;
     let indent = margin_size(l.indent);
-    let mut k = margin_size(first) + (head.end - head.start);
+    let mut k = margin_size(l.first) + (head.end - head.start);
     // The first word's own punctuation does not count.
     let mut punct = false;
-    let mut i = 1;
-    while i < n {
+    for i in 1..n {
         let w = records::get(table, i);
         let added = spacing::added_space(l.uniform, w.first, w.sentence, punct);
         k += placed_size(w, records::starts_line(table, i), added, indent);
         punct = w.punct;
-        i += 1;
     }
     k + 1
 }
@@ -448,11 +334,10 @@ pub fn emit(notes: &[u8], table: &[u32], n: usize, l: Layout, out: &mut [u8], at
         return at + emitted_size(notes, table, n, l);
     }
     let w = records::get(table, 0);
-    let first = l.first;
     // The first word's own punctuation does not count.
     let run = run_from(notes, table, n, l, w.end, false, 1);
-    let place = lists::lesser(at, out.len());
-    let k = at + put_first(notes, w.start, run.end, first, &mut out[place..]);
+    let place = at.min(out.len());
+    let k = at + put_first(notes, w.start, run.end, l.first, &mut out[place..]);
     emit_rest(notes, table, n, l, run, out, k)
 }
 
@@ -462,8 +347,8 @@ pub fn emit_line(notes: &[u8], from: usize, to: usize, out: &mut [u8], at: usize
     requires { (from ≤ to) × (to ≤ length notes.now) × (length notes.now < 2 ^ 32) × (at < 2 ^ 62) }
     ensures { Wrote out.old at (slice from to notes.now ++ line_feed) out.new result × (result ≤ at + (to - from) + 1) }
 {
-    let place = lists::lesser(at, out.len());
+    let place = at.min(out.len());
     let k = at + put_text(notes, from, to, &mut out[place..]);
-    let behind = lists::lesser(k, out.len());
+    let behind = k.min(out.len());
     k + put_feed(&mut out[behind..])
 }

@@ -10,21 +10,14 @@ use options::Options;
 use output::Layout;
 use pieces::Paragraph;
 use spacing::Setting;
-use words::Count;
+use words::TooMany;
 
 // Where the work stands: the place in the notes, the length of the digest up to there, and next-mail.
-#[derive(Clone, Copy)]
+#[derive(Clone, Copy, Debug, PartialEq, Eq)]
 pub struct Cursor {
     pub at: usize,
     pub written: usize,
     pub mail: bool,
-}
-
-// What came of a paragraph: the work goes on after it, or there is no room for its words.
-#[derive(Clone, Copy)]
-pub enum Step {
-    On(Cursor),
-    Over,
 }
 
 // The numbers that a word takes of the room: its record and, with Knuth-Plass, that of the break after it.
@@ -36,10 +29,7 @@ const BEST: usize = 15;
 pub fn room_for(quick: bool, size: usize) -> usize
     ensures { result ≡ room_for quick size }
 {
-    if quick {
-        return size / QUICK;
-    }
-    size / BEST
+    if quick { size / QUICK } else { size / BEST }
 }
 
 // How many numbers so many words take.
@@ -47,14 +37,11 @@ pub fn numbers_for(quick: bool, words: usize) -> usize
     requires { words ≤ most_large }
     ensures { result ≡ cond quick 7 15 * words }
 {
-    if quick {
-        return QUICK * words;
-    }
-    BEST * words
+    if quick { QUICK * words } else { BEST * words }
 }
 
 // Writes a paragraph as it is read, if it is broken quick and its bytes show that it has no more than so many words; else by a table of its
-// words, if there is room for them.
+// words, if there is room for them. The work goes on after it.
 // In the original: `break_lines`.
 pub fn put_paragraph(
     notes: &[u8],
@@ -65,15 +52,13 @@ pub fn put_paragraph(
     written: usize,
     most: usize,
     work: &mut [u32],
-) -> Step
+) -> Result<Cursor, TooMany>
     requires { Placed notes.now at o p × (written < 2 ^ 62) }
     ensures { (block : List ℕ) → TextStepped (takes o.quick (p.next - at) most (room_for o.quick (length work.old)) (length (words_for block notes.now at o p))) notes.now at o p out.old written out.new result block }
 {
     if !is_streamed(o.quick, p.next - at, most) {
         return put_by_table(notes, at, o, p, out, written, work);
     }
-    let first = p.first;
-    let indent = p.indent;
     let end = regular::put_quick(
         notes,
         at,
@@ -83,12 +68,12 @@ pub fn put_paragraph(
         p.later,
         o,
         setting_of(o, p),
-        first,
-        indent,
+        p.first,
+        p.indent,
         out,
         written,
     );
-    Step::On(Cursor {
+    Ok(Cursor {
         at: p.next,
         written: end,
         mail: p.mail,
@@ -100,10 +85,7 @@ fn is_streamed(quick: bool, size: usize, most: usize) -> bool
     requires { size < 2 ^ 32 }
     ensures { result ≡ (quick && leb ((size + 1) / 2) most) }
 {
-    if !quick {
-        return false;
-    }
-    (size + 1) / 2 <= most
+    quick && (size + 1) / 2 <= most
 }
 
 // The same by a table of its words.
@@ -116,18 +98,14 @@ fn put_by_table(
     out: &mut [u8],
     written: usize,
     work: &mut [u32],
-) -> Step
+) -> Result<Cursor, TooMany>
     requires { Placed notes.now at o p × (written < 2 ^ 62) }
     ensures { (block : List ℕ) → TextStepped (leb (length (words_for block notes.now at o p)) (room_for o.quick (length work.old))) notes.now at o p out.old written out.new result block }
 {
     let most = room_for(o.quick, work.len());
-    let Count::Words(n) = words::split_words(
-        notes, at, p.next, p.mail, p.start, p.later, o, most, work,
-    ) else {
-        return Step::Over;
-    };
-    mark_breaks(either(o.quick, p.mail), setting_of(o, p), work, n);
-    Step::On(Cursor {
+    let n = words::split_words(notes, at, p.next, p.mail, p.start, p.later, o, most, work)?;
+    mark_breaks(o.quick || p.mail, setting_of(o, p), work, n);
+    Ok(Cursor {
         at: p.next,
         written: output::emit(notes, work, n, layout_of(o, p), out, written),
         mail: p.mail,
@@ -142,9 +120,9 @@ pub fn mark_breaks(fast: bool, g: Setting, work: &mut [u32], n: usize)
 {
     if fast {
         quick::quick_breaks(work, n, g);
-        return;
+    } else {
+        knuth_plass::best_breaks(work, n, g);
     }
-    knuth_plass::best_breaks(work, n, g);
 }
 
 // What a paragraph is broken with. Mail always counts as uniform.
@@ -152,15 +130,13 @@ pub fn mark_breaks(fast: bool, g: Setting, work: &mut [u32], n: usize)
 pub fn setting_of(o: Options, p: Paragraph) -> Setting
     ensures { (block : List ℕ) → result ≡ setting_for block o p }
 {
-    let first = p.first;
-    let indent = p.indent;
     Setting {
         width: o.width,
         goal: o.goal,
         tab: o.tab,
-        uniform: either(o.uniform, p.mail),
-        first: first.columns,
-        indent: indent.columns,
+        uniform: o.uniform || p.mail,
+        first: p.first.columns,
+        indent: p.indent.columns,
     }
 }
 
@@ -168,20 +144,9 @@ pub fn setting_of(o: Options, p: Paragraph) -> Setting
 fn layout_of(o: Options, p: Paragraph) -> Layout
     ensures { (result.uniform ≡ (o.uniform || p.mail)) × (result.first ≡ p.first) × (result.indent ≡ p.indent) }
 {
-    let first = p.first;
-    let indent = p.indent;
     Layout {
-        uniform: either(o.uniform, p.mail),
-        first,
-        indent,
+        uniform: o.uniform || p.mail,
+        first: p.first,
+        indent: p.indent,
     }
-}
-
-fn either(a: bool, b: bool) -> bool
-    ensures { result ≡ (a || b) }
-{
-    if a {
-        return true;
-    }
-    b
 }

@@ -1,7 +1,7 @@
 // Word records: a struct by value, kept in a table of numbers, seven for each record.
 #![tactic(auto)]
 
-ghost use Rattle.std.specs.Prelude.{◌≡◌, cond, ◌*◌, ◌<◌, ◌≤◌, ◌^◌};
+ghost use Rattle.std.specs.Prelude.{◌≡◌, ◌*◌, ◌<◌, ◌≤◌, ◌^◌};
 ghost use Rattle.records.specs.Cited.Table.{number_in, before_number, before_of, with_word, stored, Room, Small, Got};
 ghost use Rattle.records.specs.Cited.Marks.{mark_in, with_mark};
 
@@ -46,13 +46,6 @@ fn number_of(before: Option<usize>) -> u32
     }
 }
 
-// A mark as a bit of the marks' number.
-fn bit(mark: bool, value: u32) -> u32
-    ensures { (result ≡ cond mark value 0) × (result ≤ value) }
-{
-    if mark { value } else { 0 }
-}
-
 // The record at i, put together.
 // In the original: `ParaWords::words`.
 pub fn get(t: &[u32], i: usize) -> Word
@@ -78,7 +71,8 @@ pub fn store(t: &mut [u32], i: usize, w: Word)
     requires { Room i t.old × Small w }
     ensures { t.new ≡ with_word t.old i w }
 {
-    let marks = bit(w.first, 1) + bit(w.punct, 2) + bit(w.sentence, 4);
+    // The marks are the bits of one number.
+    let marks = u32::from(w.first) + u32::from(w.punct) * 2 + u32::from(w.sentence) * 4;
     put(
         t,
         i,
@@ -121,5 +115,5 @@ pub fn mark(t: &mut [u32], i: usize, starts: bool)
     ensures { t.new ≡ with_mark t.old i starts }
 {
     let k = i * 7 + 6;
-    t[k] = t[k] % 8 + bit(starts, 8);
+    t[k] = t[k] % 8 + u32::from(starts) * 8;
 }

@@ -2,7 +2,7 @@
 // words that stay are those that end by one place, and the last space up to it is looked for; any other line goes word by word.
 #![tactic(auto)]
 
-ghost use Rattle.std.specs.Prelude.{◌≡◌, true, false, ◌||◌, List, [], ◌++◌, ℕ, ◌+◌, ◌-◌, ◌≤◌, ◌<◌, ◌^◌, length, get_or, replicate};
+ghost use Rattle.std.specs.Prelude.{◌≡◌, true, false, ◌||◌, List, [], ◌++◌, ℕ, ◌+◌, ◌-◌, ◌≤◌, ◌<◌, ◌^◌, length, get_or, replicate, IfSome};
 ghost use Rattle.std.proofs.Math.Seq.{slice};
 ghost use Rattle.options.specs.Opts.{meant};
 ghost use Rattle.lines.specs.Lines.{lines_of};
@@ -18,46 +18,38 @@ ghost use Rattle.output.specs.Emission.{line_feed};
 ghost use Rattle.output.specs.Cited.Sink.{Wrote};
 ghost use Rattle.output.specs.Cited.Writers.{margin_of, MarginIn};
 ghost use Rattle.regular.specs.Cited.Regular.{column_of, is_even, evenly, fresh_punct, added};
-ghost use Rattle.regular.specs.Cited.Places.{Spaceless, LastSpace, FirstSpace, OverSpaces, BeforeSpaces, Inked, Even, columns_in, Reaches, OverIs, CutIs, Filled, Joined, EachRegular, RegularTo, SpelledTo, RowIs, Went, Stands, standing, GapIn, WordPut, Listed, Worded, RowPut, Rowed, PutIs};
+ghost use Rattle.regular.specs.Cited.Places.{Spaceless, LastSpace, FirstSpace, OverSpaces, BeforeSpaces, Inked, Even, columns_in, Reaches, OverIs, CutIs, Filled, Joined, EachRegular, RegularTo, SpelledTo, RowIs, Went, Stands, GapIn, WordPut, Listed, Worded, RowPut, Rowed, PutIs};
 
 use options::Options;
 use pieces::Margin;
 use records::Word;
 use spacing::Setting;
 
-// A paragraph's work so far: the written end, and the column.
-#[derive(Clone, Copy)]
-struct State {
-    written: usize,
-    column: usize,
-}
-
-// The stretch of a line's words with its columns, and the line after it, if its bytes are regular or letters of two.
-#[derive(Clone, Copy)]
+// The stretch of a line's words with its columns, and the line after it.
+#[derive(Clone, Copy, Debug, PartialEq, Eq)]
 struct Row {
     from: usize,
     end: usize,
     columns: usize,
     next: usize,
-    regular: bool,
 }
 
 // A place, and how many columns are left to take from it on.
-#[derive(Clone, Copy)]
+#[derive(Clone, Copy, Debug, PartialEq, Eq)]
 struct Over {
     at: usize,
     left: usize,
 }
 
 // Where regular bytes and letters of two end, and how many letters there are.
-#[derive(Clone, Copy)]
+#[derive(Clone, Copy, Debug, PartialEq, Eq)]
 struct Letters {
     end: usize,
     count: usize,
 }
 
 // Where a paragraph stands: the written end, the column, the mark of the last word, and whether its first word is still to come.
-#[derive(Clone, Copy)]
+#[derive(Clone, Copy, Debug, PartialEq, Eq)]
 struct Reached {
     written: usize,
     column: usize,
@@ -66,28 +58,22 @@ struct Reached {
 }
 
 // The same after words of which the last wait to be written: they are in the notes as they are to be.
-#[derive(Clone, Copy)]
+#[derive(Clone, Copy, Debug, PartialEq, Eq)]
 struct Waiting {
     from: usize,
     to: usize,
-    written: usize,
-    column: usize,
-    punct: bool,
-    begins: bool,
+    reached: Reached,
 }
 
 // The same after a line: where the next one is.
-#[derive(Clone, Copy)]
+#[derive(Clone, Copy, Debug, PartialEq, Eq)]
 struct Progress {
     at: usize,
-    written: usize,
-    column: usize,
-    punct: bool,
-    begins: bool,
+    reached: Reached,
 }
 
 // Where a line of output ends in the notes, and where the next word begins.
-#[derive(Clone, Copy)]
+#[derive(Clone, Copy, Debug, PartialEq, Eq)]
 struct Cut {
     end: usize,
     next: usize,
@@ -196,10 +182,7 @@ fn before_spaces(s: &[u8], from: usize, to: usize) -> usize
 fn column_of(b: u8) -> usize
     ensures { (result ≡ column_of b) × (result ≤ 1) }
 {
-    if b / 64 == 2 {
-        return 0;
-    }
-    1
+    usize::from(b / 64 != 2)
 }
 
 // The columns of eight bytes at a place.
@@ -207,21 +190,11 @@ fn columns_of_eight(s: &[u8], i: usize) -> usize
     requires { (i ≤ length s.now) × (8 ≤ length s.now - i) }
     ensures { (result ≡ columns_in s.now i (i + 8)) × (result ≤ 8) }
 {
-    let b = i + 1;
-    let c = i + 2;
-    let d = i + 3;
-    let e = i + 4;
-    let f = i + 5;
-    let g = i + 6;
-    let h = i + 7;
-    column_of(s[i])
-        + column_of(s[b])
-        + column_of(s[c])
-        + column_of(s[d])
-        + column_of(s[e])
-        + column_of(s[f])
-        + column_of(s[g])
-        + column_of(s[h])
+    let mut n = 0;
+    for k in i..i + 8 {
+        n += column_of(s[k]);
+    }
+    n
 }
 
 // The columns between two places.
@@ -229,11 +202,9 @@ fn columns_between(s: &[u8], from: usize, to: usize) -> usize
     requires { (from ≤ to) × (to ≤ length s.now) × (length s.now ≤ 2 ^ 20) }
     ensures { result ≡ columns_in s.now from to }
 {
-    let mut i = from;
     let mut n = 0;
-    while i < to {
+    for i in from..to {
         n += column_of(s[i]);
-        i += 1;
     }
     n
 }
@@ -252,7 +223,7 @@ fn over_eights(s: &[u8], p: usize, e: usize, room: usize) -> Over
     Over { at: i, left }
 }
 
-// Where a stretch has taken so many columns, and a character begins.
+// Where a stretch has taken so many columns, and a character begins. A `for` would be no plainer: it needs an end, which is never reached.
 fn place_after(s: &[u8], p: usize, e: usize, room: usize) -> usize
     requires { (p ≤ e) × (e ≤ length s.now) × (room < columns_in s.now p e) }
     ensures { Reaches s.now p e room result }
@@ -276,9 +247,10 @@ fn place_of(s: &[u8], p: usize, e: usize, columns: usize, room: usize) -> usize
     ensures { Reaches s.now p e room result }
 {
     if columns == e - p {
-        return p + room;
+        p + room
+    } else {
+        place_after(s, p, e, room)
     }
-    place_after(s, p, e, room)
 }
 
 // The columns before a stretch's next word, where it has taken so many at a place near it.
@@ -295,12 +267,12 @@ fn columns_before(
     ensures { result ≡ columns_in s.now p next }
 {
     if columns == e - p {
-        return next - p;
+        next - p
+    } else if next <= at {
+        room - columns_between(s, next, at)
+    } else {
+        room + columns_between(s, at, next)
     }
-    if next <= at {
-        return room - columns_between(s, next, at);
-    }
-    room + columns_between(s, at, next)
 }
 
 // The words of a stretch that go on a fresh line and end by a place, where not all of them do.
@@ -326,22 +298,12 @@ fn cut_line(s: &[u8], p: usize, e: usize, at: usize) -> Cut
     }
 }
 
-// The columns that are left, if any.
-fn room_of(width: usize, column: usize) -> usize
-    ensures { result ≡ width - column }
-{
-    if column < width {
-        return width - column;
-    }
-    0
-}
-
 // Bytes of the notes, written after k bytes.
 fn put_at(s: &[u8], from: usize, to: usize, out: &mut [u8], k: usize) -> usize
     requires { (from ≤ to) × (to ≤ length s.now) × (length s.now ≤ 2 ^ 20) × (k < 2 ^ 63) }
     ensures { Wrote out.old k (slice from to s.now) out.new result }
 {
-    let place = lists::lesser(k, out.len());
+    let place = k.min(out.len());
     k + output::put_text(s, from, to, &mut out[place..])
 }
 
@@ -350,7 +312,7 @@ fn break_at(s: &[u8], indent: Margin, out: &mut [u8], k: usize) -> usize
     requires { MarginIn (length s.now) indent × (length s.now ≤ 2 ^ 20) × (k < 2 ^ 63) }
     ensures { Wrote out.old k (line_feed ++ margin_of s.now indent) out.new result × (result ≤ k + 2 ^ 33) }
 {
-    let place = lists::lesser(k, out.len());
+    let place = k.min(out.len());
     k + output::put_break(s, indent, &mut out[place..])
 }
 
@@ -372,26 +334,23 @@ fn fill(
     counts: bool,
     g: Setting,
     indent: Margin,
-    st: State,
+    t: Reached,
     out: &mut [u8],
-) -> State
-    requires { Inked s.now from e × (columns ≡ columns_in s.now from e) × Even g.uniform s.now from e × MarginIn (length s.now) indent × (length s.now ≤ 2 ^ 20) × (st.written < 2 ^ 62 + 2 ^ 60) × (st.column < 2 ^ 61) × (g.indent < 2 ^ 61) }
-    ensures { Filled s.now from e counts g (margin_of s.now indent) st.column out.old st.written out.new result }
+) -> Reached
+    requires { Inked s.now from e × (columns ≡ columns_in s.now from e) × Even g.uniform s.now from e × MarginIn (length s.now) indent × (length s.now ≤ 2 ^ 20) × (t.written < 2 ^ 62 + 2 ^ 60) × (t.column < 2 ^ 61) × (g.indent < 2 ^ 61) }
+    ensures { Filled s.now from e counts g (margin_of s.now indent) t.column out.old t.written out.new result }
 {
     let mut p = from;
-    let mut k = st.written;
-    let mut column = st.column;
+    let mut k = t.written;
+    let mut column = t.column;
     let mut counting = counts;
     let mut left = columns;
     while g.width < column + left {
-        let room = room_of(g.width, column);
+        let room = g.width.saturating_sub(column);
         let at = place_of(s, p, e, left, room);
         let cut = cut_line(s, p, e, at);
         if cut.next == e {
-            return State {
-                written: put_at(s, p, e, out, k),
-                column: column + left,
-            };
+            break;
         }
         k = put_line(s, p, cut.end, indent, out, k);
         left -= columns_before(s, p, e, left, at, room, cut.next);
@@ -399,9 +358,10 @@ fn fill(
         column = g.indent;
         counting = true;
     }
-    State {
+    Reached {
         written: put_at(s, p, e, out, k),
         column: column + left,
+        ..t
     }
 }
 
@@ -409,10 +369,7 @@ fn fill(
 fn added_of(punct: bool) -> usize
     ensures { (result ≡ added punct) × (result ≤ 2) }
 {
-    if punct {
-        return 2;
-    }
-    1
+    if punct { 2 } else { 1 }
 }
 
 // Added spaces, after k bytes.
@@ -420,36 +377,36 @@ fn spaces_at(count: usize, out: &mut [u8], k: usize) -> usize
     requires { (count ≤ 2) × (k < 2 ^ 63) }
     ensures { Wrote out.old k (replicate count 32) out.new result × (result ≤ k + 2) }
 {
-    let place = lists::lesser(k, out.len());
+    let place = k.min(out.len());
     k + output::put_added(count, &mut out[place..])
 }
 
-// The next line's stretch of so many columns, after a line of output that has begun: punct is the mark of the word before.
+// The next line's stretch of so many columns, after a line of output that has begun.
 fn join(
     s: &[u8],
     p: usize,
     e: usize,
     columns: usize,
-    punct: bool,
     g: Setting,
     indent: Margin,
-    st: State,
+    t: Reached,
     out: &mut [u8],
-) -> State
-    requires { Inked s.now p e × (columns ≡ columns_in s.now p e) × Even g.uniform s.now p e × MarginIn (length s.now) indent × (length s.now ≤ 2 ^ 20) × (st.written < 2 ^ 62 + 2 ^ 59) × (st.column < 2 ^ 60) × (g.indent < 2 ^ 60) × (g.width < 2 ^ 60) }
-    ensures { Joined s.now p e punct g (margin_of s.now indent) st.column out.old st.written out.new result }
+) -> Reached
+    requires { Inked s.now p e × (columns ≡ columns_in s.now p e) × Even g.uniform s.now p e × MarginIn (length s.now) indent × (length s.now ≤ 2 ^ 20) × (t.written < 2 ^ 62 + 2 ^ 59) × (t.column < 2 ^ 60) × (g.indent < 2 ^ 60) × (g.width < 2 ^ 60) }
+    ensures { Joined s.now p e t.punct g (margin_of s.now indent) t.column out.old t.written out.new result }
 {
-    let extra = added_of(punct);
-    let begin = st.column + extra;
-    let k = st.written;
+    let extra = added_of(t.punct);
+    let begin = t.column + extra;
+    let k = t.written;
     if begin + columns <= g.width {
         let j = spaces_at(extra, out, k);
-        return State {
+        return Reached {
             written: put_at(s, p, e, out, j),
             column: begin + columns,
+            ..t
         };
     }
-    let room = room_of(g.width, begin);
+    let room = g.width.saturating_sub(begin);
     let at = place_of(s, p, e, columns, room);
     let q = last_space(s, p, at);
     if p < q {
@@ -458,36 +415,19 @@ fn join(
         let left = columns - columns_before(s, p, e, columns, at, room, next);
         let i = spaces_at(extra, out, k);
         let j = put_line(s, p, end, indent, out, i);
-        return fill(
-            s,
-            next,
-            e,
-            left,
-            true,
-            g,
-            indent,
-            State {
-                written: j,
-                column: g.indent,
-            },
-            out,
-        );
-    }
-    let j = break_at(s, indent, out, k);
-    fill(
-        s,
-        p,
-        e,
-        columns,
-        true,
-        g,
-        indent,
-        State {
+        let fresh = Reached {
             written: j,
             column: g.indent,
-        },
-        out,
-    )
+            ..t
+        };
+        return fill(s, next, e, left, true, g, indent, fresh, out);
+    }
+    let fresh = Reached {
+        written: break_at(s, indent, out, k),
+        column: g.indent,
+        ..t
+    };
+    fill(s, p, e, columns, true, g, indent, fresh, out)
 }
 
 // The end of the regular bytes at a place, at the latest another place.
@@ -561,10 +501,7 @@ fn ends_line(s: &[u8], at: usize, next: usize) -> bool
     requires { (at ≤ next) × (next ≤ length s.now) }
     ensures { result ≡ true → at < next → get_or s.now at 0 ≡ 10 }
 {
-    if at == next {
-        return true;
-    }
-    s[at] == 10
+    at == next || s[at] == 10
 }
 
 // The place after a line that ends at a place: after its line feed, unless the paragraph ends there.
@@ -572,10 +509,7 @@ fn behind_line(end: usize, next: usize) -> usize
     requires { next < 2 ^ 32 }
     ensures { (end < next → result ≡ end + 1) × (next ≤ end → result ≡ end) }
 {
-    if end < next {
-        return end + 1;
-    }
-    end
+    if end < next { end + 1 } else { end }
 }
 
 // The end of the regular bytes and letters of two bytes at a place, at the latest another place.
@@ -606,27 +540,30 @@ fn letters_after(s: &[u8], at: usize, next: usize) -> Letters
     ensures { SpelledTo s.now at next result }
 {
     if ends_line(s, at, next) {
-        return Letters { end: at, count: 0 };
+        Letters { end: at, count: 0 }
+    } else {
+        letters_end(s, at, next)
     }
-    letters_end(s, at, next)
 }
 
 // The line at a place of a paragraph, if it is of regular bytes and letters of two, and its gaps are written as they are.
-fn row_at(s: &[u8], i: usize, next: usize, skip: usize, later: usize, o: Options) -> Row
+fn row_at(s: &[u8], i: usize, next: usize, skip: usize, later: usize, o: Options) -> Option<Row>
     requires { (i < next) × (next ≤ length s.now) × (length s.now ≤ 2 ^ 20) × AllBegin o.glue skip later (lines_of (slice i next s.now)) }
-    ensures { result.regular ≡ true → (block : List ℕ) → RowIs (meant block o) skip later s.now next i result }
+    ensures { IfSome result (λ r. (block : List ℕ) → RowIs (meant block o) skip later s.now next i r) }
 {
     let from = i + skip;
     let at = regular_end(s, from, next);
     let letters = letters_after(s, at, next);
     let end = before_spaces(s, from, letters.end);
-    Row {
+    if !ends_line(s, letters.end, next) || !are_as_written(s, from, end, o.uniform) {
+        return None;
+    }
+    Some(Row {
         from,
         end,
         columns: end - from - letters.count,
         next: behind_line(letters.end, next),
-        regular: ends_line(s, letters.end, next) & are_as_written(s, from, end, o.uniform),
-    }
+    })
 }
 
 // Whether the gaps between two places are written as they are.
@@ -634,10 +571,7 @@ fn are_as_written(s: &[u8], from: usize, end: usize, uniform: bool) -> bool
     requires { (from ≤ end) × (end ≤ length s.now) }
     ensures { result ≡ true → Even uniform s.now from end }
 {
-    if uniform {
-        return are_even(s, from, end);
-    }
-    true
+    !uniform || are_even(s, from, end)
 }
 
 // Whether they are as uniform has them: one space, or two after the end of a sentence.
@@ -645,17 +579,15 @@ fn are_even(s: &[u8], from: usize, end: usize) -> bool
     requires { (from ≤ end) × (end ≤ length s.now) }
     ensures { result ≡ true → evenly 0 0 (slice from end s.now) ≡ true }
 {
-    let mut i = from;
     let mut p = 0u8;
     let mut q = 0u8;
-    while i < end {
+    for i in from..end {
         let b = s[i];
         if !is_even(p, q, b) {
             return false;
         }
         p = q;
         q = b;
-        i += 1;
     }
     true
 }
@@ -664,19 +596,13 @@ fn are_even(s: &[u8], from: usize, end: usize) -> bool
 fn is_even(p: u8, q: u8, b: u8) -> bool
     ensures { result ≡ is_even p q b }
 {
-    if (q == 32) & (b == 32) {
-        return is_punct(p);
-    }
-    true
+    !((q == 32) & (b == 32)) || is_punct(p)
 }
 
 fn is_punct(b: u8) -> bool
     ensures { result ≡ punct_code b }
 {
-    match b {
-        33 | 46 | 63 => true,
-        _ => false,
-    }
+    matches!(b, 33 | 46 | 63)
 }
 
 // The stretch of a paragraph's next line, if it has a word.
@@ -699,26 +625,12 @@ fn next_row(
     if t.begins {
         return head_row(s, from, e, columns, g, indent, t, out);
     }
-    let st = join(
-        s,
-        from,
-        e,
-        columns,
-        t.punct,
-        g,
-        indent,
-        State {
-            written: t.written,
-            column: t.column,
-        },
-        out,
-    );
+    let r = join(s, from, e, columns, g, indent, t, out);
     let last = e - 1;
     Reached {
-        written: st.written,
-        column: st.column,
         punct: is_punct(s[last]),
         begins: false,
+        ..r
     }
 }
 
@@ -736,25 +648,11 @@ fn head_row(
     requires { Inked s.now from e × (columns ≡ columns_in s.now from e) × Even g.uniform s.now from e × MarginIn (length s.now) indent × (length s.now ≤ 2 ^ 20) × (t.written < 2 ^ 62 + 2 ^ 59) × (t.begins ≡ true) × (t.column < 2 ^ 31) × (g.indent < 2 ^ 31) }
     ensures { Went s.now from e g (margin_of s.now indent) out.old t out.new result }
 {
-    let st = fill(
-        s,
-        from,
-        e,
-        columns,
-        false,
-        g,
-        indent,
-        State {
-            written: t.written,
-            column: t.column,
-        },
-        out,
-    );
+    let r = fill(s, from, e, columns, false, g, indent, t, out);
     Reached {
-        written: st.written,
-        column: st.column,
         punct: head_punct(s, from, e),
         begins: false,
+        ..r
     }
 }
 
@@ -764,10 +662,7 @@ fn head_punct(s: &[u8], from: usize, e: usize) -> bool
     ensures { result ≡ fresh_punct false (slice from e s.now) }
 {
     let last = e - 1;
-    if first_space(s, from, e) == e {
-        return false;
-    }
-    is_punct(s[last])
+    first_space(s, from, e) != e && is_punct(s[last])
 }
 
 // Whether the notes have so many spaces between two places, and nothing else; of two spaces nothing is said.
@@ -776,66 +671,65 @@ fn is_gap(s: &[u8], to: usize, from: usize, count: usize) -> bool
     ensures { result ≡ true → GapIn s.now to from count }
 {
     if from == to {
-        return count == 0;
+        count == 0
+    } else {
+        count == 1 && from == to + 1 && s[to] == 32
     }
-    if count != 1 {
-        return false;
-    }
-    if from != to + 1 {
-        return false;
-    }
-    s[to] == 32
 }
 
 // A word of any kind. Words wait for those after them, so that a line of output is copied at once.
 // In the original: `accum_words_simple`.
 fn put_word(s: &[u8], w: Word, g: Setting, indent: Margin, t: Waiting, out: &mut [u8]) -> Waiting
-    requires { Within (length s.now) w × Small w × (w.width ≤ length s.now) × Fair g × MarginIn (length s.now) indent × (length s.now ≤ 2 ^ 20) × (t.from ≤ t.to) × (t.to ≤ length s.now) × (t.written < 2 ^ 62 + 2 ^ 59) × Stands (standing t) × (g.indent < 2 ^ 31) × (g.width < 2 ^ 31) }
+    requires { Within (length s.now) w × Small w × (w.width ≤ length s.now) × Fair g × MarginIn (length s.now) indent × (length s.now ≤ 2 ^ 20) × (t.from ≤ t.to) × (t.to ≤ length s.now) × (t.reached.written < 2 ^ 62 + 2 ^ 59) × Stands t.reached × (g.indent < 2 ^ 31) × (g.width < 2 ^ 31) }
     ensures { WordPut s.now w g (margin_of s.now indent) out.old t out.new result }
 {
-    if t.begins {
-        let j = put_at(s, t.from, t.to, out, t.written);
+    let r = t.reached;
+    if r.begins {
+        let j = put_at(s, t.from, t.to, out, r.written);
         return Waiting {
             from: w.start,
             to: w.end,
-            written: j,
-            column: t.column + w.width,
-            punct: false,
-            begins: false,
+            reached: Reached {
+                written: j,
+                column: r.column + w.width,
+                punct: false,
+                begins: false,
+            },
         };
     }
-    let reached = quick::reach(g, t.column, t.punct, w);
-    if g.width < reached {
-        let j = put_line(s, t.from, t.to, indent, out, t.written);
+    let column = quick::reach(g, r.column, r.punct, w);
+    if g.width < column {
+        let j = put_line(s, t.from, t.to, indent, out, r.written);
         return Waiting {
             from: w.start,
             to: w.end,
-            written: j,
-            column: g.indent + w.width,
-            punct: w.punct,
-            begins: false,
+            reached: Reached {
+                written: j,
+                column: g.indent + w.width,
+                punct: w.punct,
+                begins: false,
+            },
         };
     }
-    let added = spacing::added_space(g.uniform, w.first, w.sentence, t.punct);
+    let here = Reached {
+        column,
+        punct: w.punct,
+        ..r
+    };
+    let added = spacing::added_space(g.uniform, w.first, w.sentence, r.punct);
     if is_gap(s, t.to, w.from, added) {
         return Waiting {
             from: t.from,
             to: w.end,
-            written: t.written,
-            column: reached,
-            punct: w.punct,
-            begins: false,
+            reached: here,
         };
     }
-    let i = put_at(s, t.from, t.to, out, t.written);
+    let i = put_at(s, t.from, t.to, out, r.written);
     let j = spaces_at(added, out, i);
     Waiting {
         from: w.from,
         to: w.end,
-        written: j,
-        column: reached,
-        punct: w.punct,
-        begins: false,
+        reached: Reached { written: j, ..here },
     }
 }
 
@@ -850,14 +744,12 @@ fn put_listed(
     t: Waiting,
     out: &mut [u8],
 ) -> Waiting
-    requires { Kept n (length s.now) n table.now × (n ≤ 2 ^ 20) × Fair g × MarginIn (length s.now) indent × (length s.now ≤ 2 ^ 20) × (t.from ≤ t.to) × (t.to ≤ length s.now) × (t.written < 2 ^ 62 + 2 ^ 58) × Stands (standing t) × (g.indent < 2 ^ 31) × (g.width < 2 ^ 31) }
+    requires { Kept n (length s.now) n table.now × (n ≤ 2 ^ 20) × Fair g × MarginIn (length s.now) indent × (length s.now ≤ 2 ^ 20) × (t.from ≤ t.to) × (t.to ≤ length s.now) × (t.reached.written < 2 ^ 62 + 2 ^ 58) × Stands t.reached × (g.indent < 2 ^ 31) × (g.width < 2 ^ 31) }
     ensures { Listed s.now table.now n g (margin_of s.now indent) out.old t out.new n result }
 {
-    let mut j = 0;
     let mut v = t;
-    while j < n {
+    for j in 0..n {
         v = put_word(s, records::get(table, j), g, indent, v, out);
-        j += 1;
     }
     v
 }
@@ -908,20 +800,15 @@ fn put_through(
     let mut v = Waiting {
         from: start,
         to: start,
-        written: t.written,
-        column: t.column,
-        punct: t.punct,
-        begins: t.begins,
+        reached: t,
     };
     loop {
         let r = words::split_some(s, at, end, mail, first, punct, o, 0, IN_WINDOW, table);
         v = put_listed(s, table, r.count, g, indent, v, out);
         if !r.more {
             return Reached {
-                written: put_at(s, v.from, v.to, out, v.written),
-                column: v.column,
-                punct: v.punct,
-                begins: v.begins,
+                written: put_at(s, v.from, v.to, out, v.reached.written),
+                ..v.reached
             };
         }
         at = r.at;
@@ -949,23 +836,11 @@ fn put_other(
 {
     let part = &s[..next];
     let line = lines::first_line(&part[i..]);
-    let v = put_words(
-        s,
-        words::begin(mail, i, skip),
-        i + line.text,
-        mail,
-        o,
-        g,
-        indent,
-        t,
-        out,
-    );
+    let start = words::begin(mail, i, skip);
+    let end = i + line.text;
     Progress {
         at: i + line.whole,
-        written: v.written,
-        column: v.column,
-        punct: v.punct,
-        begins: v.begins,
+        reached: put_words(s, start, end, mail, o, g, indent, t, out),
     }
 }
 
@@ -986,21 +861,13 @@ fn put_row(
     requires { (i < next) × (next ≤ length s.now) × (length s.now ≤ 2 ^ 20) × (1 ≤ o.tab) × (o.tab ≤ 100) × (mail ≡ false → AllBegin o.glue skip later (lines_of (slice i next s.now))) × (g.uniform ≡ (o.uniform || mail)) × Fair g × MarginIn (length s.now) indent × (t.written < 2 ^ 62 + 2 ^ 57) × Stands t × (g.indent < 2 ^ 31) × (g.width < 2 ^ 31) }
     ensures { RowPut s.now i next mail skip later o g (margin_of s.now indent) out.old t out.new result }
 {
-    if mail {
-        return put_other(s, i, next, mail, skip, later, o, g, indent, t, out);
+    if !mail && let Some(row) = row_at(s, i, next, skip, later, o) {
+        return Progress {
+            at: row.next,
+            reached: next_row(s, row.from, row.end, row.columns, g, indent, t, out),
+        };
     }
-    let row = row_at(s, i, next, skip, later, o);
-    if !row.regular {
-        return put_other(s, i, next, mail, skip, later, o, g, indent, t, out);
-    }
-    let v = next_row(s, row.from, row.end, row.columns, g, indent, t, out);
-    Progress {
-        at: row.next,
-        written: v.written,
-        column: v.column,
-        punct: v.punct,
-        begins: v.begins,
-    }
+    put_other(s, i, next, mail, skip, later, o, g, indent, t, out)
 }
 
 // A paragraph's lines.
@@ -1025,12 +892,7 @@ fn put_rows(
     let mut v = t;
     while i < next {
         let r = put_row(s, i, next, mail, skip, later, o, g, indent, v, out);
-        v = Reached {
-            written: r.written,
-            column: r.column,
-            punct: r.punct,
-            begins: r.begins,
-        };
+        v = r.reached;
         i = r.at;
         skip = later;
     }
@@ -1042,7 +904,7 @@ fn margin_at(s: &[u8], m: Margin, out: &mut [u8], k: usize) -> usize
     requires { MarginIn (length s.now) m × (length s.now ≤ 2 ^ 20) × (k < 2 ^ 63) }
     ensures { Wrote out.old k (margin_of s.now m) out.new result × (result ≤ k + 2 ^ 33) }
 {
-    let place = lists::lesser(k, out.len());
+    let place = k.min(out.len());
     k + output::put_margin(s, m, &mut out[place..])
 }
 
@@ -1051,7 +913,7 @@ fn feed_at(out: &mut [u8], k: usize) -> usize
     requires { k < 2 ^ 63 }
     ensures { Wrote out.old k line_feed out.new result }
 {
-    let place = lists::lesser(k, out.len());
+    let place = k.min(out.len());
     k + output::put_feed(&mut out[place..])
 }
 

@@ -1,8 +1,6 @@
 -- RULES 9: the defined output. The digest is the pieces' outputs, joined.
-use Rattle.std.specs.Prelude.{Bool, true, false, ◌||◌, List, [], ◌∷◌, ◌++◌, ℕ, ◌+◌, ltb, length}
+use Rattle.std.specs.Prelude.{Bool, true, false, ◌||◌, List, [], ◌∷◌, ◌++◌, ℕ, ◌+◌, ltb, length, Option, Some, None}
 use Rattle.lists.specs.Runs.{joined}
-use Rattle.text.specs.declared.Found.{Found}
-use Rattle.text.specs.declared.Found.TheVariants.{At, Nowhere}
 use Rattle.options.specs.Opts.{Opts}
 use Rattle.lines.specs.Lines.{Line}
 use Rattle.pieces.specs.Pieces.{Piece, Kind, blank_line, plain_line, paragraph, Paragraph, pieces}
@@ -44,6 +42,6 @@ too_many most o (plain_line line) = false
 too_many most o (paragraph p) = ltb most (length (words_of o p))
 
 -- the start of the first such paragraph's first line
-unfoldable pub long_paragraph : ℕ → Opts → ℕ → List Piece → Found
-long_paragraph most o place [] = Nowhere
-long_paragraph most o place (q ∷ qs) = elim (too_many most o q.kind) [ true ↦ At place | false ↦ long_paragraph most o (place + length (extent_of q)) qs ]
+unfoldable pub long_paragraph : ℕ → Opts → ℕ → List Piece → Option ℕ
+long_paragraph most o place [] = None
+long_paragraph most o place (q ∷ qs) = elim (too_many most o q.kind) [ true ↦ Some place | false ↦ long_paragraph most o (place + length (extent_of q)) qs ]

@@ -1,9 +1,8 @@
 // The walk over the notes: their pieces, written one after the other as far as there is room, and counted.
 #![tactic(auto)]
 
-ghost use Rattle.std.specs.Prelude.{◌≡◌, true, false, cond, List, [], ℕ, ◌+◌, ◌-◌, ◌*◌, ◌≤◌, max, length, replicate};
+ghost use Rattle.std.specs.Prelude.{◌≡◌, true, false, cond, List, [], ℕ, ◌+◌, ◌-◌, ◌*◌, ◌≤◌, max, length, None};
 ghost use Rattle.std.proofs.Math.Seq.{slice};
-ghost use Rattle.text.specs.declared.Found.TheVariants.{Nowhere};
 ghost use Rattle.options.specs.Opts.{meant};
 ghost use Rattle.lines.specs.Lines.{lines_of};
 ghost use Rattle.lines.specs.Cited.Places.{most_large, Usable};
@@ -13,53 +12,49 @@ ghost use Rattle.output.specs.Cited.Sink.{Wrote};
 ghost use Rattle.paragraphs.specs.Cited.Steps.{room_for, words_for};
 ghost use Rattle.walk.specs.Digest.{most_words, digest};
 ghost use Rattle.walk.specs.Work.{work_for};
-ghost use Rattle.walk.specs.Cited.Course.{CursorIn, TextAhead, Reached, Admitted, output_from, long_from, Coursed, start, Finished, FinishedFrom, ClearedFrom};
+ghost use Rattle.walk.specs.Cited.Course.{CursorIn, TextAhead, Reached, Admitted, output_from, long_from, Coursed, Finished, FinishedFrom, ClearedFrom};
 
 use options::Options;
-use paragraphs::{Cursor, Step};
+use paragraphs::Cursor;
 use pieces::{Paragraph, Piece};
 
-// What follows the lines after a place: a paragraph, where the cursor stands, or the end of the notes.
-#[derive(Clone, Copy)]
+// What follows the lines after a place: a paragraph, where the cursor stands, or the end of the notes, with the digest's length. Neither is an
+// absence or a failure: an Option would drop the length, and a Result call one of them an error.
+#[derive(Clone, Copy, Debug, PartialEq, Eq)]
 enum Ahead {
     Text { c: Cursor, p: Paragraph },
     End(usize),
 }
 
-// How far the tables reach: to the end of the digest, of so many bytes, or to a paragraph of more words than they have room for.
-#[derive(Clone, Copy)]
-enum Course {
-    End(usize),
-    Short { c: Cursor, p: Paragraph },
+// The tables do not reach to the end of the digest: where the cursor stands, and a paragraph of more words than they have room for.
+#[derive(Clone, Copy, Debug, PartialEq, Eq)]
+struct Short {
+    c: Cursor,
+    p: Paragraph,
 }
 
-// What came of the notes: the digest's length, or the place of the first paragraph that has too many words.
-#[derive(Clone, Copy)]
-pub enum Ended {
-    All(usize),
-    Stopped(usize),
+// There is no digest: the place of the first paragraph that has too many words.
+#[derive(Clone, Copy, Debug, PartialEq, Eq)]
+pub struct Stopped {
+    pub at: usize,
 }
 
 // Where the notes begin.
-fn front() -> Cursor
-    ensures { result ≡ start }
-{
-    Cursor {
-        at: 0,
-        written: 0,
-        mail: true,
-    }
-}
+const FRONT: Cursor = Cursor {
+    at: 0,
+    written: 0,
+    mail: true,
+};
 
-// Writes what fits of all pieces, and counts what is needed; or tells the first paragraph of too many words, and clears the output. The work
+// Writes what fits of all pieces, and answers the digest's length; or tells the first paragraph of too many words, and clears the output. The work
 // goes on when no room is left: too many words, found later, take precedence.
 // In the original: `ParagraphStream::new` and `uumain`.
-pub fn put_all(o: Options, block: &[u8], notes: &[u8], out: &mut [u8]) -> Ended
+pub fn put_all(o: Options, block: &[u8], notes: &[u8], out: &mut [u8]) -> Result<usize, Stopped>
     requires { Admitted block.now notes.now o }
     ensures { Finished most_words (meant block.now o) notes.now out.old out.new result }
 {
-    match put_lines(o, block, notes, front(), out) {
-        Ahead::End(needed) => Ended::All(needed),
+    match put_lines(o, block, notes, FRONT, out) {
+        Ahead::End(needed) => Ok(needed),
         Ahead::Text { c, p } => put_or_clear(o, block, notes, c, p, out),
     }
 }
@@ -72,17 +67,15 @@ fn put_or_clear(
     c: Cursor,
     p: Paragraph,
     out: &mut [u8],
-) -> Ended
+) -> Result<usize, Stopped>
     requires { Admitted block.now notes.now o × CursorIn notes.now c × TextAhead block.now o notes.now c p }
     ensures { ClearedFrom most_words (meant block.now o) notes.now c out.old out.new result }
 {
-    match put_from(o, block, notes, c, p, out) {
-        Ended::All(needed) => Ended::All(needed),
-        Ended::Stopped(place) => {
-            clear(out);
-            Ended::Stopped(place)
-        }
+    let ended = put_from(o, block, notes, c, p, out);
+    if ended.is_err() {
+        out.fill(0);
     }
+    ended
 }
 
 // Everything from the first paragraph on, written.
@@ -93,39 +86,24 @@ fn put_from(
     c: Cursor,
     p: Paragraph,
     out: &mut [u8],
-) -> Ended
+) -> Result<usize, Stopped>
     requires { Admitted block.now notes.now o × CursorIn notes.now c × TextAhead block.now o notes.now c p }
     ensures { FinishedFrom most_words (meant block.now o) notes.now c out.old out.new result }
 {
     if o.quick {
-        return put_quick(o, block, notes, c, p, out);
+        put_quick(o, block, notes, c, p, out)
+    } else {
+        put_best(o, block, notes, c, p, out)
     }
-    put_best(o, block, notes, c, p, out)
 }
 
-// What `put_all` would count. With a caller more Knuth-Plass's rooms are no part of the frame that notes without a paragraph, or with quick,
-// are put in.
-pub fn measure_all(o: Options, block: &[u8], notes: &[u8]) -> Ended
+// What `put_all` would count.
+pub fn measure_all(o: Options, block: &[u8], notes: &[u8]) -> Result<usize, Stopped>
     requires { Admitted block.now notes.now o }
     ensures { Finished most_words (meant block.now o) notes.now [] [] result }
 {
     let mut none = [0u8; 0];
-    match put_lines(o, block, notes, front(), &mut none) {
-        Ahead::End(needed) => Ended::All(needed),
-        Ahead::Text { c, p } => measure_from(o, block, notes, c, p),
-    }
-}
-
-// The same of everything from the first paragraph on.
-fn measure_from(o: Options, block: &[u8], notes: &[u8], c: Cursor, p: Paragraph) -> Ended
-    requires { Admitted block.now notes.now o × CursorIn notes.now c × TextAhead block.now o notes.now c p }
-    ensures { FinishedFrom most_words (meant block.now o) notes.now c [] [] result }
-{
-    let mut none = [0u8; 0];
-    if o.quick {
-        return put_quick(o, block, notes, c, p, &mut none);
-    }
-    put_best(o, block, notes, c, p, &mut none)
+    put_all(o, block, notes, &mut none)
 }
 
 // The same in room that is lent, of which there is enough for every paragraph.
@@ -139,7 +117,7 @@ pub fn put_all_lent(
     requires { Admitted block.now notes.now o × (work_for (meant block.now o) notes.now ≤ length work.old) }
     ensures { Wrote out.old 0 (digest (meant block.now o) notes.now) out.new result }
 {
-    match put_lines(o, block, notes, front(), out) {
+    match put_lines(o, block, notes, FRONT, out) {
         Ahead::End(needed) => needed,
         Ahead::Text { c, p } => put_lent(o, block, notes, c, p, out, work),
     }
@@ -155,15 +133,12 @@ fn put_lent(
     out: &mut [u8],
     work: &mut [u32],
 ) -> usize
-    requires { Admitted block.now notes.now o × CursorIn notes.now c × TextAhead block.now o notes.now c p × (long_from (room_for o.quick (length work.old)) (meant block.now o) c.mail notes.now c.at ≡ Nowhere) }
+    requires { Admitted block.now notes.now o × CursorIn notes.now c × TextAhead block.now o notes.now c p × (long_from (room_for o.quick (length work.old)) (meant block.now o) c.mail notes.now c.at ≡ None) }
     ensures { Wrote out.old c.written (output_from (meant block.now o) c.mail notes.now c.at) out.new result }
 {
     let limit = paragraphs::room_for(o.quick, work.len());
-    match put_texts(o, block, notes, c, p, out, limit, work) {
-        Course::End(needed) => needed,
-        // There is room for every paragraph, so none is left.
-        Course::Short { c: d, p: _ } => d.written,
-    }
+    // There is room for every paragraph, so none is left.
+    put_texts(o, block, notes, c, p, out, limit, work).unwrap()
 }
 
 // The room that the notes need, if it is more than so much. Their bytes may show that it is not: between two words stands a blank.
@@ -191,7 +166,7 @@ pub fn work_with(o: Options, block: &[u8], notes: &[u8], lent: usize) -> usize
                 at = next;
                 mail = true;
             }
-            Piece::Plain { end: _, next } => {
+            Piece::Plain { next, .. } => {
                 at = next;
                 mail = false;
             }
@@ -214,11 +189,7 @@ fn with_paragraph(o: Options, notes: &[u8], at: usize, p: Paragraph, most: usize
         return most;
     }
     let words = words::count_words(notes, at, p.next, p.mail, p.start, p.later, o);
-    let needed = paragraphs::numbers_for(o.quick, words);
-    if needed <= most {
-        return most;
-    }
-    needed
+    most.max(paragraphs::numbers_for(o.quick, words))
 }
 
 // Writes the lines from a place on, blank and plain ones, up to the next paragraph.
@@ -272,7 +243,26 @@ const MORE_BYTES: usize = 960;
 // A paragraph of so many bytes has no more words than it may: every second byte at most begins one.
 const SURE_BYTES: usize = 2048;
 
-// Quick. The first paragraph is not read for nothing where its words have to be counted.
+// As far as a room of N numbers reaches. The room is declared here and lent from here on: N has an instance of this function to itself, which
+// is never made part of its caller, so that a call has no more room cleared than its paragraphs ask for.
+#[inline(never)]
+fn put_in<const N: usize>(
+    o: Options,
+    block: &[u8],
+    notes: &[u8],
+    c: Cursor,
+    p: Paragraph,
+    out: &mut [u8],
+) -> Result<usize, Short>
+    requires { Admitted block.now notes.now o × CursorIn notes.now c × TextAhead block.now o notes.now c p × (room_for o.quick N ≤ most_words) }
+    ensures { Coursed most_words (room_for o.quick N) block.now o notes.now c out.old out.new result }
+{
+    let mut work = [0u32; N];
+    put_texts(o, block, notes, c, p, out, MOST_WORDS, &mut work)
+}
+
+// Quick. Paragraphs whose bytes show that they have no more words than they may need no room; the words of longer ones have to be counted.
+// The first paragraph is not read for nothing where it is longer.
 fn put_quick(
     o: Options,
     block: &[u8],
@@ -280,56 +270,24 @@ fn put_quick(
     c: Cursor,
     p: Paragraph,
     out: &mut [u8],
-) -> Ended
+) -> Result<usize, Stopped>
     requires { Admitted block.now notes.now o × CursorIn notes.now c × TextAhead block.now o notes.now c p × (o.quick ≡ true) }
     ensures { FinishedFrom most_words (meant block.now o) notes.now c out.old out.new result }
 {
+    let mut rest = Short { c, p };
     if p.next - c.at <= SURE_BYTES {
-        return put_quick_sure(o, block, notes, c, p, out);
+        match put_in::<0>(o, block, notes, rest.c, rest.p, out) {
+            Ok(needed) => return Ok(needed),
+            Err(short) => rest = short,
+        }
     }
-    put_quick_long(o, block, notes, c, p, out)
+    put_in::<QUICK_MOST>(o, block, notes, rest.c, rest.p, out).map_err(|short| Stopped {
+        at: short.c.at,
+    })
 }
 
-// For paragraphs whose bytes show that they have no more words than they may: these need no room.
-fn put_quick_sure(
-    o: Options,
-    block: &[u8],
-    notes: &[u8],
-    c: Cursor,
-    p: Paragraph,
-    out: &mut [u8],
-) -> Ended
-    requires { Admitted block.now notes.now o × CursorIn notes.now c × TextAhead block.now o notes.now c p × (o.quick ≡ true) }
-    ensures { FinishedFrom most_words (meant block.now o) notes.now c out.old out.new result }
-{
-    let mut none = [0u32; 0];
-    match put_texts(o, block, notes, c, p, out, MOST_WORDS, &mut none) {
-        Course::End(needed) => Ended::All(needed),
-        Course::Short { c: d, p: q } => put_quick_long(o, block, notes, d, q, out),
-    }
-}
-
-// For longer ones, whose words have to be counted.
-fn put_quick_long(
-    o: Options,
-    block: &[u8],
-    notes: &[u8],
-    c: Cursor,
-    p: Paragraph,
-    out: &mut [u8],
-) -> Ended
-    requires { Admitted block.now notes.now o × CursorIn notes.now c × TextAhead block.now o notes.now c p × (o.quick ≡ true) }
-    ensures { FinishedFrom most_words (meant block.now o) notes.now c out.old out.new result }
-{
-    let mut work = [0u32; QUICK_MOST];
-    match put_texts(o, block, notes, c, p, out, MOST_WORDS, &mut work) {
-        Course::End(needed) => Ended::All(needed),
-        Course::Short { c: d, p: _ } => Ended::Stopped(d.at),
-    }
-}
-
-// Knuth-Plass. Its working room is declared in the functions that follow, each for longer paragraphs than the one before it, and lent from
-// there on: a call has no more of it cleared than its paragraphs ask for. The first paragraph is not split for a room that it outgrows.
+// Knuth-Plass, in three rooms, each for longer paragraphs than the one before it: for the words of a few lines, for those of 1 KiB of prose, and
+// for the most that a paragraph may have. The first paragraph is not split for a room that it outgrows.
 fn put_best(
     o: Options,
     block: &[u8],
@@ -337,75 +295,27 @@ fn put_best(
     c: Cursor,
     p: Paragraph,
     out: &mut [u8],
-) -> Ended
+) -> Result<usize, Stopped>
     requires { Admitted block.now notes.now o × CursorIn notes.now c × TextAhead block.now o notes.now c p × (o.quick ≡ false) }
     ensures { FinishedFrom most_words (meant block.now o) notes.now c out.old out.new result }
 {
     let size = p.next - c.at;
+    let mut rest = Short { c, p };
     if size <= FEW_BYTES {
-        return put_best_few(o, block, notes, c, p, out);
+        match put_in::<BEST_FEW>(o, block, notes, rest.c, rest.p, out) {
+            Ok(needed) => return Ok(needed),
+            Err(short) => rest = short,
+        }
     }
     if size <= MORE_BYTES {
-        return put_best_more(o, block, notes, c, p, out);
+        match put_in::<BEST_MORE>(o, block, notes, rest.c, rest.p, out) {
+            Ok(needed) => return Ok(needed),
+            Err(short) => rest = short,
+        }
     }
-    put_best_long(o, block, notes, c, p, out)
-}
-
-// For the words of a few lines.
-fn put_best_few(
-    o: Options,
-    block: &[u8],
-    notes: &[u8],
-    c: Cursor,
-    p: Paragraph,
-    out: &mut [u8],
-) -> Ended
-    requires { Admitted block.now notes.now o × CursorIn notes.now c × TextAhead block.now o notes.now c p × (o.quick ≡ false) }
-    ensures { FinishedFrom most_words (meant block.now o) notes.now c out.old out.new result }
-{
-    let mut work = [0u32; BEST_FEW];
-    match put_texts(o, block, notes, c, p, out, MOST_WORDS, &mut work) {
-        Course::End(needed) => Ended::All(needed),
-        Course::Short { c: d, p: q } => put_best_more(o, block, notes, d, q, out),
-    }
-}
-
-// For the words of 1 KiB of prose.
-fn put_best_more(
-    o: Options,
-    block: &[u8],
-    notes: &[u8],
-    c: Cursor,
-    p: Paragraph,
-    out: &mut [u8],
-) -> Ended
-    requires { Admitted block.now notes.now o × CursorIn notes.now c × TextAhead block.now o notes.now c p × (o.quick ≡ false) }
-    ensures { FinishedFrom most_words (meant block.now o) notes.now c out.old out.new result }
-{
-    let mut work = [0u32; BEST_MORE];
-    match put_texts(o, block, notes, c, p, out, MOST_WORDS, &mut work) {
-        Course::End(needed) => Ended::All(needed),
-        Course::Short { c: d, p: q } => put_best_long(o, block, notes, d, q, out),
-    }
-}
-
-// For the most words that a paragraph may have.
-fn put_best_long(
-    o: Options,
-    block: &[u8],
-    notes: &[u8],
-    c: Cursor,
-    p: Paragraph,
-    out: &mut [u8],
-) -> Ended
-    requires { Admitted block.now notes.now o × CursorIn notes.now c × TextAhead block.now o notes.now c p × (o.quick ≡ false) }
-    ensures { FinishedFrom most_words (meant block.now o) notes.now c out.old out.new result }
-{
-    let mut work = [0u32; BEST_MOST];
-    match put_texts(o, block, notes, c, p, out, MOST_WORDS, &mut work) {
-        Course::End(needed) => Ended::All(needed),
-        Course::Short { c: d, p: _ } => Ended::Stopped(d.at),
-    }
+    put_in::<BEST_MOST>(o, block, notes, rest.c, rest.p, out).map_err(|short| Stopped {
+        at: short.c.at,
+    })
 }
 
 // Paragraph by paragraph, each with the lines after it, as far as the room reaches; quick needs none where a paragraph's bytes show that it
@@ -420,37 +330,25 @@ fn put_texts(
     out: &mut [u8],
     limit: usize,
     work: &mut [u32],
-) -> Course
+) -> Result<usize, Short>
     requires { Admitted block.now notes.now o × CursorIn notes.now first × TextAhead block.now o notes.now first head × (room_for o.quick (length work.old) ≤ limit) }
     ensures { (most : ℕ) → limit ≤ most → Coursed most (room_for o.quick (length work.old)) block.now o notes.now first out.old out.new result }
 {
     let mut c = first;
     let mut p = head;
     loop {
-        let Step::On(behind) = paragraphs::put_paragraph(
-            notes, c.at, o, p, out, c.written, limit, work,
-        ) else {
-            return Course::Short { c, p };
+        let Ok(behind) = paragraphs::put_paragraph(notes, c.at, o, p, out, c.written, limit, work)
+        else {
+            return Err(Short { c, p });
         };
         match put_lines(o, block, notes, behind, out) {
             Ahead::End(needed) => {
-                return Course::End(needed);
+                return Ok(needed);
             }
             Ahead::Text { c: d, p: q } => {
                 c = d;
                 p = q;
             }
         }
-    }
-}
-
-// No byte of a digest stays where there is none.
-pub fn clear(out: &mut [u8])
-    ensures { out.new ≡ replicate (length out.old) 0 }
-{
-    let mut i = 0;
-    while i < out.len() {
-        out[i] = 0;
-        i += 1;
     }
 }

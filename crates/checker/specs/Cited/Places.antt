@@ -1,12 +1,11 @@
 -- How the code's places in a digest mean a match.
-use Rattle.std.specs.Prelude.{◌≡◌, Bool, List, ℕ, ◌+◌, ◌≤◌, length, drop}
+use Rattle.std.specs.Prelude.{◌≡◌, Bool, List, ℕ, ◌+◌, ◌≤◌, length, drop, Result, Ok, Err}
 use Rattle.text.specs.Characters.{extent}
 use Rattle.pieces.specs.declared.Margin.{Margin}
 use Rattle.records.specs.Cited.Table.{Holds, AllWithin}
 use Rattle.checker.specs.Matching.{Match, on, fault, spaces, parting}
 use Rattle.checker.specs.declared.Spot.{Spot}
-use Rattle.checker.specs.declared.Matched.{Matched}
-use Rattle.checker.specs.declared.Matched.TheVariants.{On, Fault}
+use Rattle.checker.specs.declared.Fault.{Fault}
 use Rattle.checker.specs.declared.Gap.{Gap}
 
 -- a place in a digest, before which no more lines end than bytes stand
@@ -14,16 +13,16 @@ pub record SpotIn (digest : List ℕ) (p : Spot) : Type 0 where
   pub within : p.at ≤ length digest
   pub line : p.line ≤ p.at
 
-abbrev pub matched : List ℕ → Matched → Match
-matched digest (On p) = on (drop p.at digest) p.line
-matched digest (Fault line) = fault line
+abbrev pub matched : List ℕ → Result Spot Fault → Match
+matched digest (Ok p) = on (drop p.at digest) p.line
+matched digest (Err f) = fault f.line
 
-abbrev pub MatchedIn : List ℕ → Matched → Type 0
-MatchedIn digest (On p) = SpotIn digest p
-MatchedIn digest (Fault line) = line ≤ length digest
+abbrev pub MatchedIn : List ℕ → Result Spot Fault → Type 0
+MatchedIn digest (Ok p) = SpotIn digest p
+MatchedIn digest (Err f) = f.line ≤ length digest
 
 -- what a matching function answers
-pub record Matches (digest : List ℕ) (m : Match) (r : Matched) : Type 0 where
+pub record Matches (digest : List ℕ) (m : Match) (r : Result Spot Fault) : Type 0 where
   pub is : matched digest r ≡ m
   pub inside : MatchedIn digest r
 

@@ -1,32 +1,27 @@
 -- What the functions of the search answer for: the lines of the pieces from a place of the notes on, and the line that is asked for.
-use Rattle.std.specs.Prelude.{◌≡◌, Bool, true, false, ◌||◌, List, ℕ, ◌-◌, ◌≤◌, ◌<◌, length}
+use Rattle.std.specs.Prelude.{◌≡◌, Bool, true, false, ◌||◌, List, ℕ, ◌-◌, ◌≤◌, ◌<◌, length, Option, Some, None, Result, Ok, Err}
 use Rattle.lists.specs.Runs.{joined}
 use Rattle.lists.specs.Coded.{Coded, coded}
-use Rattle.text.specs.declared.Found.{Found}
-use Rattle.text.specs.declared.Found.TheVariants.{At, Nowhere}
 use Rattle.options.specs.Opts.{Opts}
 use Rattle.options.specs.declared.Options.{Options}
 use Rattle.pieces.specs.Pieces.{Kind, Paragraph, paragraph}
 use Rattle.pieces.specs.declared.Paragraph.{Paragraph as ParagraphAt}
 use Rattle.words.specs.Words.{words_of}
+use Rattle.words.specs.declared.TooMany.{TooMany}
 use Rattle.endings.specs.declared.Ending.{Ending}
 use Rattle.endings.specs.Endings.{numbers_of, endings}
 use Rattle.paragraphs.specs.Cited.Steps.{setting_for, words_for}
 use Rattle.walk.specs.Digest.{too_many, long_paragraph}
 use Rattle.walk.specs.Cited.Course.{pieces_from, FirstPiece}
+use Rattle.walk.specs.declared.Stopped.{Stopped}
 use Rattle.formatter.specs.Answers.{refusal_coded}
 use Rattle.formatter.specs.Format.{Limits, within}
 use Rattle.explain.specs.declared.Asked.{Asked}
 use Rattle.explain.specs.declared.Asked.TheVariants.{Told, Behind as Ahead}
 use Rattle.explain.specs.declared.Seek.{Seek}
-use Rattle.explain.specs.declared.Passed.{Passed}
-use Rattle.explain.specs.declared.Passed.TheVariants.{On, Over}
-use Rattle.explain.specs.declared.Course.{Course}
-use Rattle.explain.specs.declared.Course.TheVariants.{End, Short}
-use Rattle.explain.specs.declared.Sought.{Sought}
-use Rattle.explain.specs.declared.Sought.TheVariants.{All, Stopped}
-use Rattle.explain.specs.declared.Explained.{Explained}
-use Rattle.explain.specs.declared.Explained.TheVariants.{Because, Refused, NoLine}
+use Rattle.explain.specs.declared.Short.{Short}
+use Rattle.explain.specs.declared.Unexplained.{Unexplained}
+use Rattle.explain.specs.declared.Unexplained.TheVariants.{Refused, NoLine}
 use Rattle.explain.specs.Reasons.{lines_by, piece_endings, endings_of, line_endings}
 use Rattle.explain.specs.Explain.{Explanation, because, refused, no_line, look_up, after_measuring}
 use Rattle.explain.specs.Cited.Asking.{passed}
@@ -41,9 +36,9 @@ pub record TextBehind (room : ℕ) (notes : List ℕ) (at : ℕ) (o : Options) (
   pub asked : s.asked ≡ passed (endings (lines_by (o.quick || p.mail) (setting_for block o p) (words_for block notes at o p))) a
 
 -- or it has more words than there is room for
-abbrev pub TextPassed : ℕ → List ℕ → ℕ → Options → ParagraphAt → Asked → Passed → List ℕ → Type 0
-TextPassed room notes at o p a (On s) block = TextBehind room notes at o p a s block
-TextPassed room notes at o p a Over block = room < length (words_for block notes at o p)
+abbrev pub TextPassed : ℕ → List ℕ → ℕ → Options → ParagraphAt → Asked → Result Seek TooMany → List ℕ → Type 0
+TextPassed room notes at o p a (Ok s) block = TextBehind room notes at o p a s block
+TextPassed room notes at o p a (Err t) block = room < length (words_for block notes at o p)
 
 -- ---- a piece
 
@@ -62,9 +57,9 @@ pub record NoRoom (room : ℕ) (o : Opts) (notes : List ℕ) (s : Seek) : Type 0
   pub goes : FirstPiece o s.mail notes s.at (paragraph text) state next
   pub many : room < length (words_of o text)
 
-abbrev pub PiecePassed : ℕ → Opts → List ℕ → Seek → Passed → Type 0
-PiecePassed room o notes s (On t) = PieceBehind room o notes s t
-PiecePassed room o notes s Over = NoRoom room o notes s
+abbrev pub PiecePassed : ℕ → Opts → List ℕ → Seek → Result Seek TooMany → Type 0
+PiecePassed room o notes s (Ok t) = PieceBehind room o notes s t
+PiecePassed room o notes s (Err t) = NoRoom room o notes s
 
 -- ---- the notes
 
@@ -81,7 +76,7 @@ abbrev pub passed_all : Opts → List ℕ → Seek → Asked
 passed_all o notes s = passed (endings_from o s.mail notes s.at) s.asked
 
 -- the first paragraph of over so many words from there on
-abbrev pub long_behind : ℕ → Opts → List ℕ → Seek → Found
+abbrev pub long_behind : ℕ → Opts → List ℕ → Seek → Option ℕ
 long_behind most o notes s = long_paragraph most o s.at (pieces_from o s.mail notes s.at)
 
 -- the search has gone on from s to t
@@ -90,16 +85,16 @@ pub record Seeking (most : ℕ) (o : Opts) (notes : List ℕ) (s t : Seek) : Typ
   pub asked : passed_all o notes t ≡ passed_all o notes s
   pub long : long_behind most o notes t ≡ long_behind most o notes s
 
-abbrev pub SoughtIs : ℕ → Opts → List ℕ → Seek → Sought → Type 0
-SoughtIs most o notes s (All a) = (long_behind most o notes s ≡ Nowhere) × (a ≡ passed_all o notes s)
-SoughtIs most o notes s (Stopped place) = long_behind most o notes s ≡ At place
+abbrev pub SoughtIs : ℕ → Opts → List ℕ → Seek → Result Asked Stopped → Type 0
+SoughtIs most o notes s (Ok a) = (long_behind most o notes s ≡ None) × (a ≡ passed_all o notes s)
+SoughtIs most o notes s (Err t) = long_behind most o notes s ≡ Some t.at
 
 -- so far as the room reaches; what counts as too many words is no less
-abbrev pub CoursedUnder : ℕ → ℕ → Opts → List ℕ → Seek → Course → Type 0
-CoursedUnder most room o notes s (End a) = SoughtIs most o notes s (All a)
-CoursedUnder most room o notes s (Short t) = Seeking most o notes s t × NoRoom room o notes t
+abbrev pub CoursedUnder : ℕ → ℕ → Opts → List ℕ → Seek → Result Asked Short → Type 0
+CoursedUnder most room o notes s (Ok a) = SoughtIs most o notes s (Ok a)
+CoursedUnder most room o notes s (Err t) = Seeking most o notes s t.seek × NoRoom room o notes t.seek
 
-abbrev pub Coursed : ℕ → Opts → List ℕ → Seek → Course → Type 0
+abbrev pub Coursed : ℕ → Opts → List ℕ → Seek → Result Asked Short → Type 0
 Coursed room o notes s r = (most : ℕ) → room ≤ most → CoursedUnder most room o notes s r
 
 -- ---- the answer in code
@@ -113,21 +108,23 @@ abbrev pub asking : ℕ → Asked → Explanation
 asking line (Told e) = because e
 asking line (Ahead left) = no_line (line - left)
 
-abbrev pub told : Explanation → Explained
-told (because e) = Because e
-told (refused r) = Refused r
-told (no_line lines) = NoLine lines
+abbrev pub told : Explanation → Result Ending Unexplained
+told (because e) = Ok e
+told (refused r) = Err (Refused r)
+told (no_line lines) = Err (NoLine lines)
 
 -- its code and N, and the reason that it leaves
-abbrev pub explained_coded : Explained → Coded
-explained_coded (Because e) = coded 0 0
-explained_coded (Refused r) = refusal_coded r
-explained_coded (NoLine lines) = coded 8 lines
+abbrev pub unexplained_coded : Unexplained → Coded
+unexplained_coded (Refused r) = refusal_coded r
+unexplained_coded (NoLine lines) = coded 8 lines
 
-abbrev pub told_reason : Explained → List ℕ → List ℕ
-told_reason (Because e) reason = numbers_of e
-told_reason (Refused r) reason = reason
-told_reason (NoLine lines) reason = reason
+abbrev pub explained_coded : Result Ending Unexplained → Coded
+explained_coded (Ok e) = coded 0 0
+explained_coded (Err u) = unexplained_coded u
+
+abbrev pub told_reason : Result Ending Unexplained → List ℕ → List ℕ
+told_reason (Ok e) reason = numbers_of e
+told_reason (Err u) reason = reason
 
 -- what is left to be told after codes 1 to 3
 abbrev pub left_of : Limits → Opts → List ℕ → ℕ → Explanation

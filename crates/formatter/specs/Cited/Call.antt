@@ -1,8 +1,7 @@
 -- What the functions of the calls answer for: the code's answer, and what is told before any piece is looked at.
-use Rattle.std.specs.Prelude.{◌≡◌, false, List, ℕ, ◌≤◌, length}
+use Rattle.std.specs.Prelude.{◌≡◌, false, List, ℕ, ◌≤◌, length, None, Result, Ok, Err}
 use Rattle.lists.specs.Coded.{Coded, coded}
 use Rattle.text.specs.Characters.{damage}
-use Rattle.text.specs.declared.Found.TheVariants.{Nowhere}
 use Rattle.options.specs.Opts.{Opts, meant}
 use Rattle.options.specs.OptionBlock.{read_block}
 use Rattle.options.specs.declared.Options.{Options}
@@ -13,26 +12,23 @@ use Rattle.formatter.specs.Work.{lending}
 use Rattle.walk.specs.Cited.Course.{Admitted}
 use Rattle.formatter.specs.Answers.{Answer, done, refused, room, refusal_coded, output_refused, output_after}
 use Rattle.formatter.specs.declared.Refusal.{Refusal}
-use Rattle.formatter.specs.declared.Reply.{Reply}
-use Rattle.formatter.specs.declared.Reply.TheVariants.{Done, Refused as Declined, Room}
-use Rattle.formatter.specs.declared.Admission.{Admission}
-use Rattle.formatter.specs.declared.Admission.TheVariants.{Refused, Passed}
+use Rattle.formatter.specs.declared.Unwritten.{Unwritten}
+use Rattle.formatter.specs.declared.Unwritten.TheVariants.{Refused, Room}
 
 -- ---- the answer in code: without the digest's bytes, which are in the output
 
-abbrev pub told : Answer → Reply
-told (done digest) = Done (length digest)
-told (refused r) = Declined r
-told (room needed) = Room needed
+abbrev pub told : Answer → Result ℕ Unwritten
+told (done digest) = Ok (length digest)
+told (refused r) = Err (Refused r)
+told (room needed) = Err (Room needed)
 
--- its code and N
-abbrev pub reply_coded : Reply → Coded
-reply_coded (Done n) = coded 0 n
-reply_coded (Declined r) = refusal_coded r
-reply_coded (Room needed) = coded 5 needed
+-- code and N, where it is no digest's length
+abbrev pub unwritten_coded : Unwritten → Coded
+unwritten_coded (Refused r) = refusal_coded r
+unwritten_coded (Room needed) = coded 5 needed
 
 -- what a function that gives the answer leaves after: the answer as told, and the output after it
-pub record Answers (a : Answer) (out : List ℕ) (r : Reply) (out' : List ℕ) : Type 0 where
+pub record Answers (a : Answer) (out : List ℕ) (r : Result ℕ Unwritten) (out' : List ℕ) : Type 0 where
   pub is : r ≡ told a
   pub output : out' ≡ output_after a out
 
@@ -48,25 +44,25 @@ pub record Refuses (most : ℕ) (whole : Finding) (r : Refusal) : Type 0 where
 abbrev pub left_of : Limits → Opts → List ℕ → (List ℕ → Answer) → Answer
 left_of l o notes then = answering then (within l.words o notes)
 
-abbrev pub AdmitsNotes : Limits → List ℕ → Options → List ℕ → Admission → Type 0
-AdmitsNotes l block o notes (Refused r) = Refuses 3 (with_notes l (meant block o) notes) r
-AdmitsNotes l block o notes (Passed p) = (p ≡ o) × (length notes ≤ l.bytes) × (with_notes l (meant block o) notes ≡ within l.words (meant block o) notes) × (o.keep ≡ false → damage notes ≡ Nowhere)
+abbrev pub AdmitsNotes : Limits → List ℕ → Options → List ℕ → Result Options Refusal → Type 0
+AdmitsNotes l block o notes (Err r) = Refuses 3 (with_notes l (meant block o) notes) r
+AdmitsNotes l block o notes (Ok p) = (p ≡ o) × (length notes ≤ l.bytes) × (with_notes l (meant block o) notes ≡ within l.words (meant block o) notes) × (o.keep ≡ false → damage notes ≡ None)
 
-abbrev pub Admits : Limits → List ℕ → List ℕ → Admission → Type 0
-Admits l block notes (Refused r) = Refuses 3 (with_block l block notes (read_block block)) r
-Admits l block notes (Passed o) = Admitted block notes o × (with_block l block notes (read_block block) ≡ within l.words (meant block o) notes) × (length notes ≤ l.bytes)
+abbrev pub Admits : Limits → List ℕ → List ℕ → Result Options Refusal → Type 0
+Admits l block notes (Err r) = Refuses 3 (with_block l block notes (read_block block)) r
+Admits l block notes (Ok o) = Admitted block notes o × (with_block l block notes (read_block block) ≡ within l.words (meant block o) notes) × (length notes ≤ l.bytes)
 
 -- however many words a paragraph may have
-abbrev pub AdmitsWithin : ℕ → List ℕ → List ℕ → Admission → Type 0
+abbrev pub AdmitsWithin : ℕ → List ℕ → List ℕ → Result Options Refusal → Type 0
 AdmitsWithin bytes block notes r = (w : Words) → Admits (record { bytes = bytes; words = w }) block notes r
 
 -- ---- the same with code 12, where so many numbers are lent: with none of them due there is room for every paragraph
 
-abbrev pub AdmitsWork : ℕ → Opts → List ℕ → Options → Admission → Type 0
-AdmitsWork lends o notes p (Refused r) = Refuses 12 (within (lending lends).words o notes) r
-AdmitsWork lends o notes p (Passed q) = (q ≡ p) × (work_for o notes ≤ lends)
+abbrev pub AdmitsWork : ℕ → Opts → List ℕ → Options → Result Options Refusal → Type 0
+AdmitsWork lends o notes p (Err r) = Refuses 12 (within (lending lends).words o notes) r
+AdmitsWork lends o notes p (Ok q) = (q ≡ p) × (work_for o notes ≤ lends)
 
-abbrev pub AdmitsLent : ℕ → List ℕ → List ℕ → Admission → Type 0
-AdmitsLent lends block notes (Refused r) = Refuses 12 (with_block (lending lends) block notes (read_block block)) r
-AdmitsLent lends block notes (Passed o) =
+abbrev pub AdmitsLent : ℕ → List ℕ → List ℕ → Result Options Refusal → Type 0
+AdmitsLent lends block notes (Err r) = Refuses 12 (with_block (lending lends) block notes (read_block block)) r
+AdmitsLent lends block notes (Ok o) =
     Admitted block notes o × (with_block (lending lends) block notes (read_block block) ≡ found (digest (meant block o) notes)) × (work_for (meant block o) notes ≤ lends)

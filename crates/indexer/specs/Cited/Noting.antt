@@ -1,20 +1,20 @@
 -- What the functions of the indexed call answer for: what is spelled of the pieces, the records that are read from it, and the code's
 -- answer.
-use Rattle.std.specs.Prelude.{◌≡◌, true, false, List, [], ◌∷◌, ℕ, ◌+◌, ◌-◌, ◌*◌, ◌≤◌, ◌<◌, length, take, drop, get_or, set}
+use Rattle.std.specs.Prelude.{◌≡◌, true, false, cond, List, [], ◌∷◌, ℕ, ◌+◌, ◌-◌, ◌*◌, ◌≤◌, ◌<◌, ltb, length, take, drop, get_or, set, Some, None, Result, Ok, Err}
 use Rattle.lists.specs.Coded.{Coded, coded, numbered}
-use Rattle.text.specs.declared.Found.TheVariants.{At, Nowhere}
 use Rattle.options.specs.Opts.{Opts}
 use Rattle.lines.specs.Lines.{lines_of}
 use Rattle.lines.specs.Cited.Places.{most_large}
 use Rattle.pieces.specs.Pieces.{Piece, pieces}
+use Rattle.words.specs.declared.TooMany.{TooMany}
 use Rattle.output.specs.Cited.Sink.{Wrote}
 use Rattle.paragraphs.specs.declared.Cursor.{Cursor}
-use Rattle.paragraphs.specs.declared.Step.{Step}
-use Rattle.paragraphs.specs.declared.Step.TheVariants.{On, Over}
 use Rattle.walk.specs.Digest.{digest, extent_of, long_paragraph}
 use Rattle.walk.specs.Cited.Course.{long_from, Put}
+use Rattle.walk.specs.declared.Stopped.{Stopped}
 use Rattle.formatter.specs.Answers.{refusal_coded}
-use Rattle.formatter.specs.Format.{Words as WordLimit, lent, Limits, with_words, within}
+use Rattle.formatter.specs.Format.{Words as WordLimit, lent, Limits, with_words, within, most_told}
+use Rattle.formatter.specs.declared.Refusal.TheVariants.{Words}
 use Rattle.marks.specs.Cited.Marks.{marks_in}
 use Rattle.index.specs.declared.Record.{Record}
 use Rattle.index.specs.Cited.Lists.{no_record}
@@ -24,15 +24,15 @@ use Rattle.indexer.specs.Answers.{Indexed, done, refused, full, room, index_code
 use Rattle.indexer.specs.Indexing.{in_index}
 use Rattle.indexer.specs.declared.Told.{Told}
 use Rattle.indexer.specs.declared.Filled.{Filled}
-use Rattle.indexer.specs.declared.Filled.TheVariants.{Done, Refused, Full, Room}
+use Rattle.indexer.specs.declared.Unfilled.{Unfilled}
+use Rattle.indexer.specs.declared.Unfilled.TheVariants.{Refused, Full, Room}
 use Rattle.indexer.specs.declared.Pieces.{Pieces}
-use Rattle.indexer.specs.declared.Pieces.TheVariants.{All, Stopped}
 
 -- ---- a piece: written, or a paragraph of too many words, and then the output is as it was
 
-abbrev pub PieceStepped : ℕ → Opts → List ℕ → List ℕ → Cursor → List ℕ → Step → Type 0
-PieceStepped most o notes out c out' (On d) = Put most o notes out c d out'
-PieceStepped most o notes out c out' Over = (long_from most o c.mail notes c.at ≡ At c.at) × (out' ≡ out)
+abbrev pub PieceStepped : ℕ → Opts → List ℕ → List ℕ → Cursor → List ℕ → Result Cursor TooMany → Type 0
+PieceStepped most o notes out c out' (Ok d) = Put most o notes out c d out'
+PieceStepped most o notes out c out' (Err t) = (long_from most o c.mail notes c.at ≡ Some c.at) × (out' ≡ out)
 
 -- ---- the gaps that are spelled: of each piece its length in the notes and its count of output lines
 
@@ -68,32 +68,41 @@ pub record Spelt (gaps out : List ℕ) (c d : Cursor) (line : ℕ) (gaps' : List
   pub marked : d.written ≤ length out → marks_in gaps' ≡ set (set (marks_in gaps) (d.at + line - 1) true) (d.at + line + lines_put out c d - 1) true
 
 -- all pieces were written, and if they fit, the gaps tell their records; or the work stopped at a paragraph of too many words
-abbrev pub Noted : ℕ → Opts → List ℕ → List ℕ → List ℕ → List ℕ → Pieces → Type 0
-Noted most o notes out out' work' (All n k) =
-    (long_paragraph most o 0 (pieces o notes) ≡ Nowhere) × Wrote out 0 (digest o notes) out' n × (k ≡ length (index_of o notes))
-    × (n ≤ length out → read_from (marks_in (front work')) k no_record ≡ index_of o notes)
-Noted most o notes out out' work' (Stopped place) = (long_paragraph most o 0 (pieces o notes) ≡ At place) × (length out' ≡ length out)
+abbrev pub Noted : ℕ → Opts → List ℕ → List ℕ → List ℕ → List ℕ → Result Pieces Stopped → Type 0
+Noted most o notes out out' work' (Ok p) =
+    (long_paragraph most o 0 (pieces o notes) ≡ None) × Wrote out 0 (digest o notes) out' p.written × (p.pieces ≡ length (index_of o notes))
+    × (p.written ≤ length out → read_from (marks_in (front work')) p.pieces no_record ≡ index_of o notes)
+Noted most o notes out out' work' (Err s) = (long_paragraph most o 0 (pieces o notes) ≡ Some s.at) × (length out' ≡ length out)
 
 -- ---- the answer in code: without the digest's bytes, which are in the output, and the records, which the gaps tell
 
-abbrev pub told : Indexed → Filled
-told (done digest index) = Done (length digest) (length index)
-told (refused r) = Refused r
-told (full pieces) = Full pieces
-told (room needed) = Room needed
+abbrev pub told : Indexed → Result Filled Unfilled
+told (done digest index) = Ok (record { written = length digest; records = length index })
+told (refused r) = Err (Refused r)
+told (full pieces) = Err (Full pieces)
+told (room needed) = Err (Room needed)
+
+-- what the pieces come to where there is room for so many records and bytes
+abbrev pub fitted : Result Pieces Stopped → ℕ → ℕ → Result Filled Unfilled
+fitted (Err s) records space = Err (Refused (Words s.at))
+fitted (Ok p) records space =
+    cond (ltb records p.pieces) (Err (Full p.pieces))
+    (cond (ltb most_told p.written) (Err (Room most_told))
+    (cond (ltb space p.written) (Err (Room p.written)) (Ok (record { written = p.written; records = p.pieces }))))
 
 -- its code and N, and its count of filled records
-abbrev pub filled_coded : Filled → Coded
-filled_coded (Done n k) = coded 0 n
-filled_coded (Refused r) = refusal_coded r
-filled_coded (Full pieces) = coded 6 pieces
-filled_coded (Room needed) = coded 5 needed
+abbrev pub unfilled_coded : Unfilled → Coded
+unfilled_coded (Refused r) = refusal_coded r
+unfilled_coded (Full pieces) = coded 6 pieces
+unfilled_coded (Room needed) = coded 5 needed
 
-abbrev pub told_filled : Filled → ℕ
-told_filled (Done n k) = k
-told_filled (Refused r) = 0
-told_filled (Full pieces) = 0
-told_filled (Room needed) = 0
+abbrev pub filled_coded : Result Filled Unfilled → Coded
+filled_coded (Ok f) = coded 0 f.written
+filled_coded (Err u) = unfilled_coded u
+
+abbrev pub told_filled : Result Filled Unfilled → ℕ
+told_filled (Ok f) = f.records
+told_filled (Err u) = 0
 
 -- the records of an answer: none on a refusal
 abbrev pub records_of : Indexed → List Record
@@ -103,7 +112,7 @@ records_of (full pieces) = []
 records_of (room needed) = []
 
 -- what a function that gives the answer leaves after
-pub record Indexes (a : Indexed) (out : List ℕ) (r : Filled) (out' work' : List ℕ) : Type 0 where
+pub record Indexes (a : Indexed) (out : List ℕ) (r : Result Filled Unfilled) (out' work' : List ℕ) : Type 0 where
   pub is : r ≡ told a
   pub output : out' ≡ index_output_after a out
   pub read : read_from (marks_in (front work')) (filled_after a) no_record ≡ records_of a

@@ -2,12 +2,11 @@
 -- is: the column of one endless line at which its own line begins, less the indent. Its line is x + indent - base columns long, where x are
 -- the columns of the endless line so far. Bases ascend, so that breaks leave at the head alone and the active breaks are an interval of the
 -- table. Demerits stay as they were made.
-use Rattle.std.specs.Prelude.{Bool, true, false, cond, not, ◌&&◌, ◌||◌, List, [], ◌∷◌, ◌⊎◌, ◌≡◌, ℕ, zero, suc, ◌+◌, ◌-◌, ◌^◌, ◌≤◌, ◌<◌, leb, ltb, eqb, pos, Float, length}
+use Rattle.std.specs.Prelude.{Bool, true, false, cond, not, ◌&&◌, ◌||◌, List, [], ◌∷◌, ◌⊎◌, ◌≡◌, ℕ, zero, suc, ◌+◌, ◌-◌, ◌^◌, ◌≤◌, ◌<◌, leb, ltb, eqb, pos, Float, length, None}
 use Rattle.std.specs.Float.{fin}
 use Rattle.lists.specs.Theorems.All.{All}
 use Rattle.records.specs.Word.{Word, meaning}
 use Rattle.records.specs.Cited.Table.{Small, word_in, words_in}
-use Rattle.records.specs.declared.Before.TheVariants.{Absent}
 use Rattle.records.specs.declared.Word.{Word as WordRecord}
 use Rattle.spacing.specs.Spacing.{added_space}
 use Rattle.spacing.specs.declared.Setting.{Setting}
@@ -192,7 +191,7 @@ pub record Between (g : Setting) (i gap : ℕ) (s : Interval) (t : Tables) : Typ
 -- the same in a round that nothing stays in: x columns of the endless line, and gap is that after the word
 pub record Leaves (g : Setting) (turn : Turn) (x gap : ℕ) (s : Interval) (t : Tables) : Type 0 where
   pub between : Between g turn.number turn.word.after s t
-  pub tabless : turn.word.before ≡ Absent
+  pub tabless : turn.word.before ≡ None
   pub holds : turn.number < length t
   pub line : x ≡ s.line + turn.word.after + turn.space + turn.word.width
   pub short : x + gap < 2 ^ 31
@@ -212,7 +211,7 @@ pub record MadeIs (best : Best) (i base : ℕ) (r : Record) : Type 0 where
 pub record Plain (w : WordRecord) : Type 0 where
   pub small : Small w
   pub narrow : w.width < 2 ^ 31
-  pub tabless : w.before ≡ Absent
+  pub tabless : w.before ≡ None
 
 -- after the round of word i
 pub record IntervalIs (g : Setting) (last sentence : Bool) (i gap : ℕ) (w : WordRecord) (s : Interval) (t t₁ : Tables) (r : Interval) : Type 0 where
@@ -263,7 +262,7 @@ line_room table (suc n) = line_room table n + ((word_in table n).after + 2 + (wo
 
 -- no gap has a tab, and all words fit one line that a record can count
 pub record OneLine (first n : ℕ) (table : List ℕ) : Type 0 where
-  pub tabless : (i : ℕ) → i < n → (word_in table i).before ≡ Absent
+  pub tabless : (i : ℕ) → i < n → (word_in table i).before ≡ None
   pub short : first + line_room table n < 2 ^ 31
 
 -- The first base is the indent, and no base is below it: the first line is as long already, or none may end before it is.

@@ -1,5 +1,5 @@
 -- What is kept of a round to tell what made its break.
-use Rattle.std.specs.Prelude.{Bool, false, cond, ◌&&◌, List, [], ◌∷◌, ◌≡◌, ℕ, ◌+◌, ◌-◌, ◌*◌, ◌≤◌, ◌<◌, T, leb, eqb, Float, length, get_or}
+use Rattle.std.specs.Prelude.{Bool, false, cond, ◌&&◌, List, [], ◌∷◌, ◌≡◌, ℕ, ◌+◌, ◌-◌, ◌*◌, ◌≤◌, ◌<◌, T, leb, eqb, Float, length, get_or, Option, Some, None}
 use Rattle.records.specs.Word.{Word, meaning}
 use Rattle.records.specs.Cited.Table.{words_in}
 use Rattle.records.specs.declared.Word.{Word as WordRecord}
@@ -12,8 +12,6 @@ use Rattle.knuth_plass.specs.declared.Break.{Break as Record}
 use Rattle.knuth_plass.specs.declared.State.{State}
 use Rattle.knuth_plass.specs.declared.Standing.{Standing}
 use Rattle.knuth_plass.specs.declared.Turn.{Turn}
-use Rattle.knuth_plass.specs.declared.Tried.{Tried}
-use Rattle.knuth_plass.specs.declared.Tried.TheVariants.{Other, Here}
 use Rattle.knuth_plass.specs.declared.Told.{Told}
 use Rattle.knuth_plass.specs.declared.AllTold.{AllTold}
 use Rattle.knuth_plass.specs.KnuthPlass.{Place, Break, stretch_of, minimum_of, staying, best_offer, restart, path_of}
@@ -30,16 +28,16 @@ pub record Stays (weight : ℕ) (b : Record) : Type 0 where
   pub light : weight ≤ most_word
 
 -- an offer of a total from a line of so many columns, with its terms
-unfoldable pub tried_of : Setting → ℕ → ℕ → ℕ → Float → ℕ → Tried
+unfoldable pub tried_of : Setting → ℕ → ℕ → ℕ → Float → ℕ → Option Ending
 tried_of g weight total columns old demerits =
     let r = ratio g.goal columns (stretch_of g) in
     cond (leb (minimum_of g) columns && leb columns g.width && eqb (cost_with r old weight + demerits) total)
-    (Here (Chosen columns (line_term r) weight (ratio_term r old) (cost_with r old weight)))
-    Other
+    (Some (Chosen columns (line_term r) weight (ratio_term r old) (cost_with r old weight)))
+    None
 
-abbrev pub found : Tried → Ending → Ending
-found Other e = e
-found (Here e) f = e
+abbrev pub found : Option Ending → Ending → Ending
+found None e = e
+found (Some e) f = e
 
 unfoldable pub chosen_in : Setting → ℕ → ℕ → List Break → Ending
 chosen_in g weight total [] = Paragraph

@@ -1,21 +1,12 @@
 -- What the writers write: an indent's bytes, and a word with what is before it.
-use Rattle.std.specs.Prelude.{Bool, true, false, List, [], ◌∷◌, ◌++◌, ℕ, ◌≤◌, ◌<◌, ◌^◌, length, drop, replicate}
+use Rattle.std.specs.Prelude.{Bool, true, false, List, ◌++◌, ℕ, ◌≤◌, ◌<◌, ◌^◌, length, drop, replicate}
 use Rattle.std.proofs.Math.Seq.{slice}
 use Rattle.pieces.specs.declared.Margin.{Margin}
 use Rattle.records.specs.Word.{Word}
 use Rattle.records.specs.Cited.Table.{Holds, words_in, AllWithin}
 use Rattle.records.specs.Cited.Marks.{marks_in, breaks_of}
-use Rattle.output.specs.declared.Four.{Four}
-use Rattle.output.specs.declared.Sixteen.{Sixteen}
 use Rattle.output.specs.declared.Layout.{Layout}
 use Rattle.output.specs.Emission.{line_feed, emit_rest, emit}
-
--- four bytes, in order
-abbrev pub four_of : Four → List ℕ
-four_of f = f.b0 ∷ f.b1 ∷ f.b2 ∷ f.b3 ∷ []
-
-abbrev pub sixteen_of : Sixteen → List ℕ
-sixteen_of s = four_of s.a ++ (four_of s.b ++ (four_of s.c ++ four_of s.d))
 
 -- an indent: bytes of the notes, then spaces
 abbrev pub margin_of : List ℕ → Margin → List ℕ

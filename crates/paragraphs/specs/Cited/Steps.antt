@@ -1,5 +1,5 @@
 -- What the functions of a paragraph's work answer for: the storage lent to them, and a paragraph that was written or has too many words.
-use Rattle.std.specs.Prelude.{◌≡◌, Bool, true, false, cond, ◌&&◌, ◌||◌, List, ℕ, ◌+◌, ◌*◌, ◌/◌, ◌^◌, ◌≤◌, ◌<◌, leb, length}
+use Rattle.std.specs.Prelude.{◌≡◌, Bool, true, false, cond, ◌&&◌, ◌||◌, List, ℕ, ◌+◌, ◌*◌, ◌/◌, ◌^◌, ◌≤◌, ◌<◌, leb, length, Result, Ok, Err}
 use Rattle.std.proofs.Math.Seq.{slice}
 use Rattle.options.specs.Opts.{meant}
 use Rattle.options.specs.declared.Options.{Options}
@@ -11,6 +11,7 @@ use Rattle.records.specs.Word.{Word}
 use Rattle.records.specs.Cited.Table.{Holds, word_in, words_in}
 use Rattle.records.specs.Cited.Marks.{breaks_of}
 use Rattle.words.specs.Cited.Places.{words_at}
+use Rattle.words.specs.declared.TooMany.{TooMany}
 use Rattle.spacing.specs.declared.Setting.{Setting}
 use Rattle.output.specs.Cited.Bound.{longest}
 use Rattle.output.specs.Emission.{emit}
@@ -18,8 +19,6 @@ use Rattle.output.specs.Cited.Sink.{Wrote}
 use Rattle.output.specs.Cited.Writers.{margin_of, MarginIn}
 use Rattle.paragraphs.specs.Breaks.{setting_of, breaks_by}
 use Rattle.paragraphs.specs.declared.Cursor.{Cursor}
-use Rattle.paragraphs.specs.declared.Step.{Step}
-use Rattle.paragraphs.specs.declared.Step.TheVariants.{On, Over}
 
 -- ---- working room
 
@@ -81,6 +80,6 @@ abbrev pub takes : Bool → ℕ → ℕ → ℕ → ℕ → Bool
 takes quick bytes most room words = quick && leb ((bytes + 1) / 2) most || leb words room
 
 -- it is written if it is taken, and else nothing is
-abbrev pub TextStepped : Bool → List ℕ → ℕ → Options → Paragraph → List ℕ → ℕ → List ℕ → Step → List ℕ → Type 0
-TextStepped taken notes at o p out written out' (On d) block = (taken ≡ true) × TextPut notes at o p out written out' d block
-TextStepped taken notes at o p out written out' Over block = (taken ≡ false) × (out' ≡ out)
+abbrev pub TextStepped : Bool → List ℕ → ℕ → Options → Paragraph → List ℕ → ℕ → List ℕ → Result Cursor TooMany → List ℕ → Type 0
+TextStepped taken notes at o p out written out' (Ok d) block = (taken ≡ true) × TextPut notes at o p out written out' d block
+TextStepped taken notes at o p out written out' (Err e) block = (taken ≡ false) × (out' ≡ out)

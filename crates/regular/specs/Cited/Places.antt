@@ -10,7 +10,6 @@ use Rattle.output.specs.Cited.Sink.{Left}
 use Rattle.text.specs.Cited.Joins.{goes_on}
 use Rattle.regular.specs.Cited.Regular.{is_regular, spelled, columns, evenly, stretch_words, fresh_punct, lastly, quick_rest, quick_fresh, quick_on}
 use Rattle.regular.specs.declared.Cut.{Cut}
-use Rattle.regular.specs.declared.State.{State}
 use Rattle.regular.specs.declared.Row.{Row}
 use Rattle.regular.specs.declared.Letters.{Letters}
 use Rattle.regular.specs.declared.Over.{Over}
@@ -119,7 +118,7 @@ pub record Along (s : List ℕ) (from e : ℕ) (counts : Bool) (g : Setting) (in
       out' k' (quick_fresh g indent counts' column' (stretch_words o false false (slice p e s) ++ more))
 
 -- It is written: what is left is the output of the words that follow.
-pub record Filled (s : List ℕ) (p e : ℕ) (counts : Bool) (g : Setting) (indent : List ℕ) (column : ℕ) (out : List ℕ) (k : ℕ) (out' : List ℕ) (r : State) : Type 0 where
+pub record Filled (s : List ℕ) (p e : ℕ) (counts : Bool) (g : Setting) (indent : List ℕ) (column : ℕ) (out : List ℕ) (k : ℕ) (out' : List ℕ) (r : Reached) : Type 0 where
   pub left : (o : Opts) (new_line previous : Bool) (more : List Word) → o.uniform ≡ g.uniform
       → Left out k (quick_fresh g indent counts column (stretch_words o new_line previous (slice p e s) ++ more))
       out' r.written (quick_rest g indent r.column (fresh_punct counts (slice p e s)) more)
@@ -127,7 +126,7 @@ pub record Filled (s : List ℕ) (p e : ℕ) (counts : Bool) (g : Setting) (inde
   pub reach : r.column ≤ column + g.indent + (e - p)
 
 -- The same of the next line's stretch, after a line of output that is at a column.
-pub record Joined (s : List ℕ) (p e : ℕ) (punct : Bool) (g : Setting) (indent : List ℕ) (column : ℕ) (out : List ℕ) (k : ℕ) (out' : List ℕ) (r : State) : Type 0 where
+pub record Joined (s : List ℕ) (p e : ℕ) (punct : Bool) (g : Setting) (indent : List ℕ) (column : ℕ) (out : List ℕ) (k : ℕ) (out' : List ℕ) (r : Reached) : Type 0 where
   pub left : (o : Opts) (more : List Word) → o.uniform ≡ g.uniform
       → Left out k (quick_rest g indent column punct (stretch_words o true false (slice p e s) ++ more))
       out' r.written (quick_rest g indent r.column (lastly false (slice p e s)) more)
@@ -177,12 +176,6 @@ ahead g indent t ws = quick_on g indent t.begins t.column t.punct ws
 abbrev pub Stands : Reached → Type 0
 Stands t = (t.column ≤ 2 ^ 33) × (t.begins ≡ true → t.column < 2 ^ 31)
 
-abbrev pub reached_of : Progress → Reached
-reached_of r = record { written = r.written; column = r.column; punct = r.punct; begins = r.begins }
-
-abbrev pub standing : Waiting → Reached
-standing t = record { written = t.written; column = t.column; punct = t.punct; begins = t.begins }
-
 -- A stretch, that may be empty, is written.
 pub record Went (s : List ℕ) (from e : ℕ) (g : Setting) (indent : List ℕ) (out : List ℕ) (t : Reached) (out' : List ℕ) (r : Reached) : Type 0 where
   pub left : (o : Opts) (more : List Word) → o.uniform ≡ g.uniform
@@ -198,21 +191,21 @@ pub record GapIn (s : List ℕ) (to from count : ℕ) : Type 0 where
 -- A word of any kind is written, but for bytes of the notes that wait.
 pub record WordPut (s : List ℕ) (w : Record) (g : Setting) (indent : List ℕ) (out : List ℕ) (t : Waiting) (out' : List ℕ) (r : Waiting) : Type 0 where
   pub left : (more : List Word)
-      → Left out t.written (slice t.from t.to s ++ ahead g indent (standing t) (meaning s w ∷ more)) out' r.written (slice r.from r.to s ++ ahead g indent (standing r) more)
+      → Left out t.reached.written (slice t.from t.to s ++ ahead g indent t.reached (meaning s w ∷ more)) out' r.reached.written (slice r.from r.to s ++ ahead g indent r.reached more)
   pub order : r.from ≤ r.to
   pub within : r.to ≤ length s
-  pub most : r.written ≤ t.written + 2 ^ 34
-  pub stands : Stands (standing r)
+  pub most : r.reached.written ≤ t.reached.written + 2 ^ 34
+  pub stands : Stands r.reached
 
 -- So are the words of a table up to the j-th.
 pub record Listed (s table : List ℕ) (n : ℕ) (g : Setting) (indent : List ℕ) (out : List ℕ) (t : Waiting) (out' : List ℕ) (j : ℕ) (r : Waiting) : Type 0 where
   pub few : j ≤ n
   pub left : (more : List Word)
-      → Left out t.written (slice t.from t.to s ++ ahead g indent (standing t) (words_in s n table ++ more)) out' r.written (slice r.from r.to s ++ ahead g indent (standing r) (drop j (words_in s n table) ++ more))
+      → Left out t.reached.written (slice t.from t.to s ++ ahead g indent t.reached (words_in s n table ++ more)) out' r.reached.written (slice r.from r.to s ++ ahead g indent r.reached (drop j (words_in s n table) ++ more))
   pub order : r.from ≤ r.to
   pub within : r.to ≤ length s
-  pub most : r.written ≤ t.written + j * 2 ^ 34
-  pub stands : Stands (standing r)
+  pub most : r.reached.written ≤ t.reached.written + j * 2 ^ 34
+  pub stands : Stands r.reached
 
 -- So are the words of a line.
 pub record Worded (s : List ℕ) (start end : ℕ) (mail : Bool) (o : Options) (g : Setting) (indent : List ℕ) (out : List ℕ) (t : Reached) (out' : List ℕ) (r : Reached) : Type 0 where
@@ -238,7 +231,7 @@ pub record Gone (s : List ℕ) (at next : ℕ) (mail : Bool) (start later : ℕ)
 -- One line is.
 pub record RowPut (s : List ℕ) (i next : ℕ) (mail : Bool) (skip later : ℕ) (o : Options) (g : Setting) (indent : List ℕ) (out : List ℕ) (t : Reached) (out' : List ℕ) (r : Progress) : Type 0 where
   pub more : i < r.at
-  pub gone : Gone s i next mail skip later o g indent out t out' r.at later (reached_of r)
+  pub gone : Gone s i next mail skip later o g indent out t out' r.at later r.reached
 
 -- All are: a line feed is left.
 pub record Rowed (s : List ℕ) (at next : ℕ) (mail : Bool) (start later : ℕ) (o : Options) (g : Setting) (indent : List ℕ) (out : List ℕ) (t : Reached) (out' : List ℕ) (r : Reached) : Type 0 where

@@ -1,12 +1,11 @@
 -- Regular bytes: ASCII from the space on; and letters of two bytes, each of one column. On a line of them the columns are the bytes that
 -- begin a character.
-use Rattle.std.specs.Prelude.{Bool, true, false, cond, not, ◌&&◌, ◌||◌, List, [], ◌∷◌, ◌++◌, ℕ, ◌+◌, ◌-◌, ◌*◌, ◌/◌, ltb, leb, eqb, length}
+use Rattle.std.specs.Prelude.{Bool, true, false, cond, not, ◌&&◌, ◌||◌, List, [], ◌∷◌, ◌++◌, ℕ, ◌+◌, ◌-◌, ◌*◌, ◌/◌, ltb, leb, eqb, length, None}
 use Rattle.lists.specs.Runs.{every}
 use Rattle.text.specs.Characters.{Glyph}
 use Rattle.text.specs.Cited.Joins.{goes_on}
 use Rattle.options.specs.Opts.{Opts}
 use Rattle.records.specs.Word.{Word}
-use Rattle.records.specs.declared.Before.TheVariants.{Absent}
 use Rattle.spacing.specs.declared.Setting.{Setting}
 use Rattle.words.specs.Words.{runs, counting, line_words}
 use Rattle.words.specs.Cited.Scan.{punct_code}
@@ -100,7 +99,7 @@ plain_word uniform new_line previous spaces ink = record {
   blanks = cond uniform [] spaces;
   text = ink;
   width = columns ink;
-  before = Absent;
+  before = None;
   after = cond uniform 0 (length spaces);
   new_line = new_line;
   ends_punct = lastly false ink;

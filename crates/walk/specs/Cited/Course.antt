@@ -1,14 +1,11 @@
 -- What the functions of the walk answer for: the pieces from a place of the notes on, and what has become of them and of the output.
-use Rattle.std.specs.Prelude.{◌≡◌, Bool, true, false, List, ◌∷◌, ℕ, ◌+◌, ◌*◌, ◌≤◌, ◌<◌, length, drop, replicate}
+use Rattle.std.specs.Prelude.{◌≡◌, Bool, true, false, List, ◌∷◌, ℕ, ◌+◌, ◌*◌, ◌≤◌, ◌<◌, length, drop, replicate, Option, Some, None, Result, Ok, Err}
 use Rattle.lists.specs.Runs.{joined}
 use Rattle.lists.specs.Walk.{walk}
 use Rattle.text.specs.Characters.{damage}
-use Rattle.text.specs.declared.Found.{Found}
-use Rattle.text.specs.declared.Found.TheVariants.{At, Nowhere}
 use Rattle.options.specs.Opts.{Opts, meant}
 use Rattle.options.specs.OptionBlock.{read_block}
 use Rattle.options.specs.declared.Options.{Options}
-use Rattle.options.specs.declared.Block.TheVariants.{Accepted}
 use Rattle.lines.specs.Lines.{lines_of}
 use Rattle.lines.specs.Cited.Places.{most_large, LinesSound}
 use Rattle.pieces.specs.Pieces.{Piece, Kind, next_piece, pieces}
@@ -22,16 +19,14 @@ use Rattle.paragraphs.specs.declared.Cursor.{Cursor}
 use Rattle.walk.specs.Digest.{output_of, piece_output, digest, extent_of, too_many, long_paragraph}
 use Rattle.walk.specs.declared.Ahead.{Ahead}
 use Rattle.walk.specs.declared.Ahead.TheVariants.{Text as AheadText, End}
-use Rattle.walk.specs.declared.Course.{Course}
-use Rattle.walk.specs.declared.Course.TheVariants.{End as CourseEnd, Short}
-use Rattle.walk.specs.declared.Ended.{Ended}
-use Rattle.walk.specs.declared.Ended.TheVariants.{All, Stopped}
+use Rattle.walk.specs.declared.Short.{Short}
+use Rattle.walk.specs.declared.Stopped.{Stopped}
 
 -- the options of an accepted block, and notes within the limit, without a damaged character unless such are kept
 pub record Admitted (block notes : List ℕ) (o : Options) : Type 0 where
-  pub accepted : read_block block ≡ Accepted o
+  pub accepted : read_block block ≡ Ok o
   pub short : length notes ≤ most_large
-  pub sound : o.keep ≡ false → damage notes ≡ Nowhere
+  pub sound : o.keep ≡ false → damage notes ≡ None
 
 -- ---- pieces
 
@@ -43,7 +38,7 @@ pieces_from o nextMail notes at = walk (next_piece o) nextMail (lines_of (drop a
 unfoldable pub output_from : Opts → Bool → List ℕ → ℕ → List ℕ
 output_from o nextMail notes at = joined (piece_output o) (pieces_from o nextMail notes at)
 
-unfoldable pub long_from : ℕ → Opts → Bool → List ℕ → ℕ → Found
+unfoldable pub long_from : ℕ → Opts → Bool → List ℕ → ℕ → Option ℕ
 long_from most o nextMail notes at = long_paragraph most o at (pieces_from o nextMail notes at)
 
 -- the first of them is of a kind and stands from at up to next; the others stand after it
@@ -81,7 +76,7 @@ pub record TooLong (most : ℕ) (o : Opts) (notes out : List ℕ) (c : Cursor) (
 
 -- a line begins there: where the notes have no damaged character, the lines from there on have none
 abbrev pub SoundFrom : List ℕ → ℕ → Type 0
-SoundFrom notes at = damage notes ≡ Nowhere → LinesSound (lines_of (drop at notes))
+SoundFrom notes at = damage notes ≡ None → LinesSound (lines_of (drop at notes))
 
 -- a place within the notes, and what was written up to there
 pub record CursorIn (notes : List ℕ) (c : Cursor) : Type 0 where
@@ -102,30 +97,30 @@ pub record Going (most : ℕ) (o : Opts) (notes : List ℕ) (c₀ : Cursor) (out
   pub long : long_from most o c.mail notes c.at ≡ long_from most o c₀.mail notes c₀.at
 
 -- all pieces from a place on were written; or the work stopped at a paragraph of too many words
-abbrev pub FinishedFrom : ℕ → Opts → List ℕ → Cursor → List ℕ → List ℕ → Ended → Type 0
-FinishedFrom most o notes c out out' (All n) = (long_from most o c.mail notes c.at ≡ Nowhere) × Wrote out c.written (output_from o c.mail notes c.at) out' n
-FinishedFrom most o notes c out out' (Stopped place) = (long_from most o c.mail notes c.at ≡ At place) × (length out' ≡ length out)
+abbrev pub FinishedFrom : ℕ → Opts → List ℕ → Cursor → List ℕ → List ℕ → Result ℕ Stopped → Type 0
+FinishedFrom most o notes c out out' (Ok n) = (long_from most o c.mail notes c.at ≡ None) × Wrote out c.written (output_from o c.mail notes c.at) out' n
+FinishedFrom most o notes c out out' (Err stopped) = (long_from most o c.mail notes c.at ≡ Some stopped.at) × (length out' ≡ length out)
 
 -- the same, and where a paragraph has too many words no byte of a digest is left
-abbrev pub ClearedFrom : ℕ → Opts → List ℕ → Cursor → List ℕ → List ℕ → Ended → Type 0
-ClearedFrom most o notes c out out' (All n) = FinishedFrom most o notes c out out' (All n)
-ClearedFrom most o notes c out out' (Stopped place) = (long_from most o c.mail notes c.at ≡ At place) × (out' ≡ replicate (length out) 0)
+abbrev pub ClearedFrom : ℕ → Opts → List ℕ → Cursor → List ℕ → List ℕ → Result ℕ Stopped → Type 0
+ClearedFrom most o notes c out out' (Ok n) = FinishedFrom most o notes c out out' (Ok n)
+ClearedFrom most o notes c out out' (Err stopped) = (long_from most o c.mail notes c.at ≡ Some stopped.at) × (out' ≡ replicate (length out) 0)
 
 -- so far as the room reaches, which is for so many words: to the end, or to a paragraph of more words
-abbrev pub Coursed : ℕ → ℕ → List ℕ → Options → List ℕ → Cursor → List ℕ → List ℕ → Course → Type 0
-Coursed most room block o notes c₀ out₀ out (CourseEnd n) = FinishedFrom most (meant block o) notes c₀ out₀ out (All n)
-Coursed most room block o notes c₀ out₀ out (Short c p) =
-    Going most (meant block o) notes c₀ out₀ c out × TextAhead block o notes c p × (room < length (words_for block notes c.at o p))
+abbrev pub Coursed : ℕ → ℕ → List ℕ → Options → List ℕ → Cursor → List ℕ → List ℕ → Result ℕ Short → Type 0
+Coursed most room block o notes c₀ out₀ out (Ok n) = FinishedFrom most (meant block o) notes c₀ out₀ out (Ok n)
+Coursed most room block o notes c₀ out₀ out (Err short) =
+    Going most (meant block o) notes c₀ out₀ short.c out × TextAhead block o notes short.c short.p × (room < length (words_for block notes short.c.at o short.p))
 
 -- the lines from a place on were written, up to a paragraph or to the end
 abbrev pub Reached : ℕ → List ℕ → Options → List ℕ → Cursor → List ℕ → List ℕ → Ahead → Type 0
 Reached most block o notes c₀ out₀ out (AheadText c p) = Going most (meant block o) notes c₀ out₀ c out × TextAhead block o notes c p × (c₀.at ≤ c.at)
-Reached most block o notes c₀ out₀ out (End n) = FinishedFrom most (meant block o) notes c₀ out₀ out (All n)
+Reached most block o notes c₀ out₀ out (End n) = FinishedFrom most (meant block o) notes c₀ out₀ out (Ok n)
 
 -- all of them, from the first place on; where a paragraph has too many words no byte of a digest is left
 abbrev pub start : Cursor
 start = record { at = 0; written = 0; mail = true }
 
-abbrev pub Finished : ℕ → Opts → List ℕ → List ℕ → List ℕ → Ended → Type 0
-Finished most o notes out out' (All n) = (long_paragraph most o 0 (pieces o notes) ≡ Nowhere) × Wrote out 0 (digest o notes) out' n
-Finished most o notes out out' (Stopped place) = (long_paragraph most o 0 (pieces o notes) ≡ At place) × (out' ≡ replicate (length out) 0)
+abbrev pub Finished : ℕ → Opts → List ℕ → List ℕ → List ℕ → Result ℕ Stopped → Type 0
+Finished most o notes out out' (Ok n) = (long_paragraph most o 0 (pieces o notes) ≡ None) × Wrote out 0 (digest o notes) out' n
+Finished most o notes out out' (Err stopped) = (long_paragraph most o 0 (pieces o notes) ≡ Some stopped.at) × (out' ≡ replicate (length out) 0)
