@@ -1,4 +1,5 @@
 -- The words of a table, matched one after the other.
+use Rattle.std.proofs.Common.{Ok, Err}
 use mathlib.Core.Path.{◌≡◌, sym, ap, ◌∙◌}
 use mathlib.Core.Bool.{Bool}
 use mathlib.Core.List.{List, ◌++◌}
@@ -13,7 +14,6 @@ use Rattle.checker.specs.Matching.{Match, and_then, match_text, match_feed, matc
 use Rattle.checker.specs.Cited.Places.{SpotIn, Matches}
 use Rattle.checker.specs.declared.Spot.{Spot}
 use Rattle.checker.specs.declared.Matched.{Matched}
-use Rattle.checker.specs.declared.Matched.TheVariants.{On, Fault}
 use Rattle.checker.proofs.Spots.{on_in, on_is, then_fault, then_on, matches_same, part_slice}
 
 -- a word of the table lies in the notes
@@ -38,10 +38,10 @@ module _ (glue : Bool) (indent notes table : List ℕ) (n : ℕ) (digest : List 
 
   module _ (from : Spot) (i : ℕ) (p : Spot) (l : RestLeft from i p) where
     module _ (w : Record) (g : Got table i w) (h : i < n) (k : w.start ≤ w.end) {r : Matched} (a : Matches digest (match_next glue indent (take (w.end - w.start) (drop w.start notes)) (drop p.at digest) p.line) r) where
-      pub rest_fault : {line : ℕ} → r ≡ Fault line → Matches digest (rest_from 1 from) (Fault line)
+      pub rest_fault : {line : ℕ} → r ≡ Err (record { line = line }) → Matches digest (rest_from 1 from) (Err (record { line = line }))
       rest_fault e = matches_same (sym (rest_next i p w g h k) ∙ l.is) (then_fault a (match_rest glue indent (drop (i + 1) (words_in notes n table))) e)
 
-      pub rest_more : {q : Spot} → r ≡ On q → RestLeft from (i + 1) q
+      pub rest_more : {q : Spot} → r ≡ Ok q → RestLeft from (i + 1) q
       rest_more {q} e = record {
         inside = on_in a e;
         is = sym (ap (λ (m : Match). and_then m (match_rest glue indent (drop (i + 1) (words_in notes n table)))) (on_is a e)) ∙ sym (rest_next i p w g h k) ∙ l.is;
@@ -60,8 +60,8 @@ module _ (glue : Bool) (indent notes table : List ℕ) (n : ℕ) (digest : List 
   words_first first p w g h k = rw (words_drop notes n table 0 h, ← g.is, ← part_slice w.start w.end notes k)
 
   module _ (first : List ℕ) (p : Spot) (w : Record) (g : Got table 0 w) (h : 0 < n) (k : w.start ≤ w.end) {r : Matched} (a : Matches digest (match_text (first ++ take (w.end - w.start) (drop w.start notes)) (drop p.at digest) p.line) r) where
-    pub words_fault : {line : ℕ} → r ≡ Fault line → Matches digest (match_words glue first indent (words_in notes n table) (drop p.at digest) p.line) (Fault line)
+    pub words_fault : {line : ℕ} → r ≡ Err (record { line = line }) → Matches digest (match_words glue first indent (words_in notes n table) (drop p.at digest) p.line) (Err (record { line = line }))
     words_fault e = matches_same (sym (words_first first p w g h k)) (then_fault a (match_rest glue indent (drop 1 (words_in notes n table))) e)
 
-    pub words_rest : {q : Spot} {r' : Matched} → r ≡ On q → Matches digest (rest_from 1 q) r' → Matches digest (match_words glue first indent (words_in notes n table) (drop p.at digest) p.line) r'
+    pub words_rest : {q : Spot} {r' : Matched} → r ≡ Ok q → Matches digest (rest_from 1 q) r' → Matches digest (match_words glue first indent (words_in notes n table) (drop p.at digest) p.line) r'
     words_rest e b = matches_same (sym (words_first first p w g h k)) (then_on a (match_rest glue indent (drop 1 (words_in notes n table))) e b)

@@ -1,4 +1,5 @@
 -- Matching by places: what a step of the code comes to in the digest from a place on.
+use Rattle.std.proofs.Common.{Ok, Err}
 use mathlib.Core.Path.{◌≡◌, refl, sym, ap, ◌∙◌}
 use mathlib.Core.Bool.{Bool, true, false, cond, ◌&&◌}
 use mathlib.Core.List.{List, [], ◌∷◌, ◌++◌}
@@ -19,28 +20,27 @@ use Rattle.checker.specs.Matching.{Match, on, fault, and_then, match_text, match
 use Rattle.checker.specs.Cited.Places.{SpotIn, matched, Matches, GapAt}
 use Rattle.checker.specs.declared.Spot.{Spot}
 use Rattle.checker.specs.declared.Matched.{Matched}
-use Rattle.checker.specs.declared.Matched.TheVariants.{On, Fault}
 use Rattle.checker.specs.declared.Gap.{Gap}
 
 -- ---- one after the other
 
 module _ {digest : List ℕ} {m : Match} {r : Matched} (a : Matches digest m r) where
-  pub fault_is : {line : ℕ} → r ≡ Fault line → m ≡ fault line
+  pub fault_is : {line : ℕ} → r ≡ Err (record { line = line }) → m ≡ fault line
   fault_is e = sym a.is ∙ ap (matched digest) e
 
-  pub fault_line : {line : ℕ} → r ≡ Fault line → line ≤ length digest
+  pub fault_line : {line : ℕ} → r ≡ Err (record { line = line }) → line ≤ length digest
   fault_line e = rw e at a.inside
 
-  pub on_is : {q : Spot} → r ≡ On q → m ≡ on (drop q.at digest) q.line
+  pub on_is : {q : Spot} → r ≡ Ok q → m ≡ on (drop q.at digest) q.line
   on_is e = sym a.is ∙ ap (matched digest) e
 
-  pub on_in : {q : Spot} → r ≡ On q → SpotIn digest q
+  pub on_in : {q : Spot} → r ≡ Ok q → SpotIn digest q
   on_in e = rw e at a.inside
 
-  pub then_fault : (f : List ℕ → ℕ → Match) {line : ℕ} → r ≡ Fault line → Matches digest (and_then m f) (Fault line)
+  pub then_fault : (f : List ℕ → ℕ → Match) {line : ℕ} → r ≡ Err (record { line = line }) → Matches digest (and_then m f) (Err (record { line = line }))
   then_fault f e = record { is = sym (ap (λ (x : Match). and_then x f) (fault_is e)); inside = fault_line e }
 
-  pub then_on : (f : List ℕ → ℕ → Match) {q : Spot} {r' : Matched} → r ≡ On q → Matches digest (f (drop q.at digest) q.line) r' → Matches digest (and_then m f) r'
+  pub then_on : (f : List ℕ → ℕ → Match) {q : Spot} {r' : Matched} → r ≡ Ok q → Matches digest (f (drop q.at digest) q.line) r' → Matches digest (and_then m f) r'
   then_on f e b = record { is = b.is ∙ sym (ap (λ (x : Match). and_then x f) (on_is e)); inside = b.inside }
 
 pub matches_same : {digest : List ℕ} {m m' : Match} {r : Matched} → m ≡ m' → Matches digest m r → Matches digest m' r
@@ -49,14 +49,14 @@ matches_same e a = record { is = a.is ∙ e; inside = a.inside }
 -- ---- bytes that have to stand there
 
 module _ (text digest : List ℕ) (p : Spot) (s : SpotIn digest p) where
-  pub text_on : begins text (drop p.at digest) ≡ true → Matches digest (match_text text (drop p.at digest) p.line) (On (record { at = p.at + length text; line = p.line }))
+  pub text_on : begins text (drop p.at digest) ≡ true → Matches digest (match_text text (drop p.at digest) p.line) (Ok (record { at = p.at + length text; line = p.line }))
   unfolding match_text
   text_on b =
       let l = length-drop p.at digest in
       let w = begins_within text (drop p.at digest) b in
       record { is = rw (b, drop-drop (length text) p.at digest); inside = record { within = omega (arith, s.within); line = omega (arith, s.line) } }
 
-  pub text_off : begins text (drop p.at digest) ≡ false → Matches digest (match_text text (drop p.at digest) p.line) (Fault p.line)
+  pub text_off : begins text (drop p.at digest) ≡ false → Matches digest (match_text text (drop p.at digest) p.line) (Err (record { line = p.line }))
   unfolding match_text
   text_off b = record { is = rw b; inside = omega (arith, s.within, s.line) }
 
@@ -81,10 +81,10 @@ text_append a b xs n = go (begins a xs) refl
     go false e = rw (e, begins_parts a b xs, e)
 
 module _ (a b digest : List ℕ) (p : Spot) {r : Matched} (m : Matches digest (match_text a (drop p.at digest) p.line) r) where
-  pub append_fault : {line : ℕ} → r ≡ Fault line → Matches digest (match_text (a ++ b) (drop p.at digest) p.line) (Fault line)
+  pub append_fault : {line : ℕ} → r ≡ Err (record { line = line }) → Matches digest (match_text (a ++ b) (drop p.at digest) p.line) (Err (record { line = line }))
   append_fault e = matches_same (text_append a b (drop p.at digest) p.line) (then_fault m (match_text b) e)
 
-  pub append_on : {q : Spot} {r' : Matched} → r ≡ On q → Matches digest (match_text b (drop q.at digest) q.line) r' → Matches digest (match_text (a ++ b) (drop p.at digest) p.line) r'
+  pub append_on : {q : Spot} {r' : Matched} → r ≡ Ok q → Matches digest (match_text b (drop q.at digest) q.line) r' → Matches digest (match_text (a ++ b) (drop p.at digest) p.line) r'
   append_on e n = matches_same (text_append a b (drop p.at digest) p.line) (then_on m (match_text b) e n)
 
 -- what the code lends of the notes
@@ -97,15 +97,15 @@ part_text a b s digest p h m = matches_same (ap (λ (t : List ℕ). match_text t
 -- ---- a line feed
 
 module _ (digest : List ℕ) (p : Spot) (s : SpotIn digest p) where
-  pub feed_past : length digest ≤ p.at → Matches digest (match_feed (drop p.at digest) p.line) (Fault p.line)
+  pub feed_past : length digest ≤ p.at → Matches digest (match_feed (drop p.at digest) p.line) (Err (record { line = p.line }))
   unfolding match_feed begins
   feed_past h = record { is = rw (drop_none 0 digest p.at h); inside = omega (arith, s.within, s.line) }
 
-  pub feed_other : p.at < length digest → (get_or digest p.at 0 ≡ 10 → ⊥) → Matches digest (match_feed (drop p.at digest) p.line) (Fault p.line)
+  pub feed_other : p.at < length digest → (get_or digest p.at 0 ≡ 10 → ⊥) → Matches digest (match_feed (drop p.at digest) p.line) (Err (record { line = p.line }))
   unfolding match_feed begins
   feed_other h k = record { is = rw (drop_here 0 digest p.at h, ne_eqb 10 (get_or digest p.at 0) (λ e. k (sym e)), begins); inside = omega (arith, s.within, s.line) }
 
-  pub feed_on : p.at < length digest → get_or digest p.at 0 ≡ 10 → Matches digest (match_feed (drop p.at digest) p.line) (On (record { at = p.at + 1; line = p.line + 1 }))
+  pub feed_on : p.at < length digest → get_or digest p.at 0 ≡ 10 → Matches digest (match_feed (drop p.at digest) p.line) (Ok (record { at = p.at + 1; line = p.line + 1 }))
   unfolding match_feed begins
   feed_on h k =
       let z : p.line + 1 ≡ suc p.line = omega arith in
@@ -115,12 +115,12 @@ module _ (digest : List ℕ) (p : Spot) (s : SpotIn digest p) where
 
 module _ (glue : Bool) (w digest : List ℕ) (p : Spot) (s : SpotIn digest p) (g : Gap) (a : GapAt glue digest p.at g) where
   -- too few blanks
-  pub spaced_short : g.hard ≤ p.at → Matches digest (match_spaced glue w (drop p.at digest) p.line) (Fault p.line)
+  pub spaced_short : g.hard ≤ p.at → Matches digest (match_spaced glue w (drop p.at digest) p.line) (Err (record { line = p.line }))
   unfolding match_spaced
   spaced_short h = record { is = rw (le-ltb 0 (parting glue (spaces (drop p.at digest))) (omega (arith, a.hard))); inside = omega (arith, s.within, s.line) }
 
   module _ (own : ℕ) (o : own ≡ lead w) (h : p.at < g.hard) where
-    pub spaced_few : g.end - g.hard < own → Matches digest (match_spaced glue w (drop p.at digest) p.line) (Fault p.line)
+    pub spaced_few : g.end - g.hard < own → Matches digest (match_spaced glue w (drop p.at digest) p.line) (Err (record { line = p.line }))
     unfolding match_spaced
     spaced_few k = record {
       is = rw (lt-ltb 0 (parting glue (spaces (drop p.at digest))) (omega (arith, a.hard)), lt-leb (parting glue (spaces (drop p.at digest)) + lead w) (extent (spaces (drop p.at digest))) (omega (arith, a.hard, a.end, a.order)));
@@ -137,7 +137,7 @@ module _ (glue : Bool) (w digest : List ℕ) (p : Spot) (s : SpotIn digest p) (g
 -- ---- the next word
 
 module _ (glue : Bool) (indent w digest : List ℕ) (p : Spot) {r : Matched} (a : Matches digest (match_feed (drop p.at digest) p.line) r) where
-  pub next_fresh : {q : Spot} {r' : Matched} → r ≡ On q → Matches digest (match_text (indent ++ w) (drop q.at digest) q.line) r' → Matches digest (match_next glue indent w (drop p.at digest) p.line) r'
+  pub next_fresh : {q : Spot} {r' : Matched} → r ≡ Ok q → Matches digest (match_text (indent ++ w) (drop q.at digest) q.line) r' → Matches digest (match_next glue indent w (drop p.at digest) p.line) r'
   unfolding match_next match_feed
   next_fresh {q} {r'} e b = go (begins line_feed (drop p.at digest)) refl (on_is a e)
     where
@@ -146,7 +146,7 @@ module _ (glue : Bool) (indent w digest : List ℕ) (p : Spot) {r : Matched} (a 
       go true t k = matches_same (rw t (sym (ap (λ (m : Match). and_then m (match_text (indent ++ w))) (rw t at k)))) b
       go false t k = absurd (let q : fault p.line ≡ on (drop q.at digest) q.line = rw t at k in let z : ◌≡◌ {A = ℕ} 0 1 = cc in omega arith)
 
-  pub next_spaced : {line : ℕ} {r' : Matched} → r ≡ Fault line → Matches digest (match_spaced glue w (drop p.at digest) p.line) r' → Matches digest (match_next glue indent w (drop p.at digest) p.line) r'
+  pub next_spaced : {line : ℕ} {r' : Matched} → r ≡ Err (record { line = line }) → Matches digest (match_spaced glue w (drop p.at digest) p.line) r' → Matches digest (match_next glue indent w (drop p.at digest) p.line) r'
   unfolding match_next match_feed
   next_spaced {line} {r'} e b = go (begins line_feed (drop p.at digest)) refl (fault_is a e)
     where

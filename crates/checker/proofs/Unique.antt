@@ -1,4 +1,5 @@
 -- Two results that keep a matching function's promise are equal.
+use Rattle.std.proofs.Common.{Ok, Err}
 use mathlib.Core.Path.{◌≡◌, sym, ap, ap₂, ◌∙◌}
 use mathlib.Core.List.{List}
 use Prim.Native.Nat.{ℕ}
@@ -8,7 +9,6 @@ use Rattle.checker.specs.Matching.{Match, on}
 use Rattle.checker.specs.Cited.Places.{SpotIn, Matches}
 use Rattle.checker.specs.declared.Spot.{Spot}
 use Rattle.checker.specs.declared.Matched.{Matched}
-use Rattle.checker.specs.declared.Matched.TheVariants.{On, Fault}
 use Rattle.checker.proofs.Decides.{on_fault}
 
 spot_unique : (digest : List ℕ) (p q : Spot) → SpotIn digest p → SpotIn digest q → on (drop p.at digest) p.line ≡ on (drop q.at digest) q.line → p ≡ q
@@ -19,7 +19,7 @@ spot_unique digest p q a b e =
     ap₂ (λ (x y : ℕ). record { at = x; line = y }) k l
 
 pub matches_unique : (digest : List ℕ) (m : Match) (r s : Matched) → Matches digest m r → Matches digest m s → r ≡ s
-matches_unique digest m (On p) (On q) a b = ap On (spot_unique digest p q a.inside b.inside (a.is ∙ sym b.is))
-matches_unique digest m (On p) (Fault line) a b = on_fault (a.is ∙ sym b.is)
-matches_unique digest m (Fault line) (On q) a b = on_fault (b.is ∙ sym a.is)
-matches_unique digest m (Fault line) (Fault other) a b = ap Fault (let e = a.is ∙ sym b.is in cc)
+matches_unique digest m (Ok p) (Ok q) a b = ap Ok (spot_unique digest p q a.inside b.inside (a.is ∙ sym b.is))
+matches_unique digest m (Ok p) (Err (record { line = line })) a b = on_fault (a.is ∙ sym b.is)
+matches_unique digest m (Err (record { line = line })) (Ok q) a b = on_fault (b.is ∙ sym a.is)
+matches_unique digest m (Err (record { line = line })) (Err (record { line = other })) a b = ap Err (record { line = (let e = a.is ∙ sym b.is in cc) })

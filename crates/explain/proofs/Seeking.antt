@@ -1,4 +1,5 @@
 -- The search over the pieces: what is left of the lines from a place on, and the line that is asked for.
+use Rattle.std.proofs.Common.{Option, Some, None, Ok, Err}
 use mathlib.Core.Path.{◌≡◌, refl, sym, ap, ◌∙◌}
 use mathlib.Core.Bool.{Bool, true, false, cond, ◌||◌}
 use mathlib.Core.List.{List, [], ◌∷◌, ◌++◌}
@@ -10,8 +11,6 @@ use lib.ListN.{length, get_or, length-append, get_or-append}
 use lib.Seq.{get_or-append-add}
 use Rattle.lists.specs.Runs.{joined}
 use Rattle.lists.proofs.Parts.{joined_nil, joined_cons}
-use Rattle.text.specs.declared.Found.{Found}
-use Rattle.text.specs.declared.Found.TheVariants.{At, Nowhere}
 use Rattle.options.specs.Opts.{Opts, meant}
 use Rattle.options.specs.declared.Options.{Options}
 use Rattle.pieces.specs.Pieces.{Kind, blank_line, plain_line, paragraph, pieces}
@@ -32,11 +31,8 @@ use Rattle.explain.specs.declared.Asked.{Asked}
 use Rattle.explain.specs.declared.Asked.TheVariants.{Told, Behind}
 use Rattle.explain.specs.declared.Seek.{Seek}
 use Rattle.explain.specs.declared.Passed.{Passed}
-use Rattle.explain.specs.declared.Passed.TheVariants.{On, Over}
 use Rattle.explain.specs.declared.Course.{Course}
-use Rattle.explain.specs.declared.Course.TheVariants.{End, Short}
 use Rattle.explain.specs.declared.Sought.{Sought}
-use Rattle.explain.specs.declared.Sought.TheVariants.{All, Stopped}
 use Rattle.explain.specs.Reasons.{lines_by, paragraph_endings, endings_of, piece_endings, line_endings}
 use Rattle.explain.specs.Cited.Asking.{passed}
 use Rattle.explain.specs.Cited.Seeking.{TextPassed, PieceBehind, NoRoom, PiecePassed, endings_from, long_behind, Seeking, SoughtIs, Coursed}
@@ -122,17 +118,17 @@ kind_fewer room most o (plain_line line) h e = refl
 kind_fewer room most o (paragraph p) h e = le-ltb most (length (words_of o p)) (let f = ltb-false room (length (words_of o p)) e in omega arith)
 
 module _ (most : ℕ) (o : Opts) (notes : List ℕ) where
-  long_none : (s : Seek) → length notes ≤ s.at → long_behind most o notes s ≡ Nowhere
+  long_none : (s : Seek) → length notes ≤ s.at → long_behind most o notes s ≡ None
   unfolding long_paragraph
   long_none s h = ap (long_paragraph most o s.at) (none_left o s.mail notes s.at h)
 
   module _ (s : Seek) {kind : Kind} {state : Bool} {next : ℕ} (g : FirstPiece o s.mail notes s.at kind state next) where
-    long_as : (b : Bool) → too_many most o kind ≡ b → long_behind most o notes s ≡ elim b as (λ x. Found) [ true ↦ At s.at | false ↦ long_paragraph most o next (pieces_from o state notes next) ]
+    long_as : (b : Bool) → too_many most o kind ≡ b → long_behind most o notes s ≡ elim b as (λ x. (Option ℕ)) [ true ↦ Some s.at | false ↦ long_paragraph most o next (pieces_from o state notes next) ]
     unfolding long_paragraph
     long_as b e =
         ap (long_paragraph most o s.at) g.pieces
-        ∙ ap (λ (n : ℕ). elim (too_many most o g.piece.kind) as (λ x. Found) [ true ↦ At s.at | false ↦ long_paragraph most o n (pieces_from o state notes next) ]) g.extent
-        ∙ ap (λ (x : Bool). elim x as (λ y. Found) [ true ↦ At s.at | false ↦ long_paragraph most o next (pieces_from o state notes next) ]) (ap (too_many most o) g.is ∙ e)
+        ∙ ap (λ (n : ℕ). elim (too_many most o g.piece.kind) as (λ x. (Option ℕ)) [ true ↦ Some s.at | false ↦ long_paragraph most o n (pieces_from o state notes next) ]) g.extent
+        ∙ ap (λ (x : Bool). elim x as (λ y. (Option ℕ)) [ true ↦ Some s.at | false ↦ long_paragraph most o next (pieces_from o state notes next) ]) (ap (too_many most o) g.is ∙ e)
 
 -- ---- the search
 
@@ -149,7 +145,7 @@ module _ (most : ℕ) (o : Opts) (notes : List ℕ) where
       long = sym (long_as most o notes t p.goes false (kind_fewer room most o p.kind fewer p.few)) ∙ g.long;
     }
 
-    pub seeking_last : length notes ≤ t.at → SoughtIs most o notes s (All t.asked)
+    pub seeking_last : length notes ≤ t.at → SoughtIs most o notes s (Ok t.asked)
     seeking_last h = (
       sym g.long ∙ long_none most o notes t h,
       sym (passed_none t.asked) ∙ ap (λ (es : List Ending). passed es t.asked) (sym (endings_none o t.mail notes t.at h)) ∙ g.asked,
@@ -157,24 +153,24 @@ module _ (most : ℕ) (o : Opts) (notes : List ℕ) where
 
     -- where it began does not matter
     pub seeking_sought : (r : Sought) → SoughtIs most o notes t r → SoughtIs most o notes s r
-    seeking_sought (All a) k = (sym g.long ∙ k.0, k.1 ∙ g.asked)
-    seeking_sought (Stopped place) k = sym g.long ∙ k
+    seeking_sought (Ok a) k = (sym g.long ∙ k.0, k.1 ∙ g.asked)
+    seeking_sought (Err (record { at = place })) k = sym g.long ∙ k
 
     -- at last there is room for as many words as a paragraph may have
-    pub seeking_stopped : {room : ℕ} (n : NoRoom room o notes t) → most < length (words_of o n.text) → SoughtIs most o notes s (Stopped t.at)
+    pub seeking_stopped : {room : ℕ} (n : NoRoom room o notes t) → most < length (words_of o n.text) → SoughtIs most o notes s (Err (record { at = t.at }))
     seeking_stopped n many = sym g.long ∙ long_as most o notes t n.goes true (lt-ltb most (length (words_of o n.text)) many)
 
 -- by how far the room reached
 module _ (most room : ℕ) (o : Opts) (notes : List ℕ) (s : Seek) (r : Course) (few : room ≤ most) (c : Coursed room o notes s r) where
-  pub course_end : {a : Asked} → r ≡ End a → SoughtIs most o notes s (All a)
+  pub course_end : {a : Asked} → r ≡ Ok a → SoughtIs most o notes s (Ok a)
   course_end e = rw e at (c most few)
 
-  pub course_short : {t : Seek} → r ≡ Short t → Seeking most o notes s t × NoRoom room o notes t
+  pub course_short : {t : Seek} → r ≡ Err (record { seek = t }) → Seeking most o notes s t × NoRoom room o notes t
   course_short e = rw e at (c most few)
 
 -- by what came of a piece
 module _ (room : ℕ) (o : Opts) (notes : List ℕ) (s : Seek) (r : Passed) (p : PiecePassed room o notes s r) where
-  pub piece_on : {t : Seek} → r ≡ On t → PieceBehind room o notes s t
+  pub piece_on : {t : Seek} → r ≡ Ok t → PieceBehind room o notes s t
   piece_on e = rw e at p
 
 -- ---- a piece
@@ -200,13 +196,13 @@ module _ (room : ℕ) (block notes : List ℕ) (o : Options) (s : Seek) (p : Par
 
   pub text_passed : (r : Passed) → TextPassed room notes s.at o p s.asked r block → PiecePassed room (meant block o) notes s r
   unfolding meant
-  text_passed (On t) h = record {
+  text_passed (Ok t) h = record {
     kind = paragraph g.paragraph_is;
     goes = rw (h.next, h.mail) g.goes;
     few = rw words_are (le-ltb room (length (words_for block notes s.at o p)) h.few);
     asked = rw endings_are h.asked;
   }
-  text_passed Over h = record {
+  text_passed (Err (record { })) h = record {
     text = g.paragraph_is;
     state = p.mail;
     next = p.next;

@@ -10,7 +10,6 @@ ghost use Rattle.endings.specs.Endings.{endings};
 ghost use Rattle.knuth_plass.specs.Cited.Round.{Limits, AllNarrow};
 ghost use Rattle.paragraphs.specs.Cited.Steps.{room_for, Roomy, Placed};
 ghost use Rattle.walk.specs.Digest.{most_words};
-ghost use Rattle.walk.specs.Cited.Course.{Admitted};
 ghost use Rattle.explain.specs.Reasons.{lines_by};
 ghost use Rattle.formatter.specs.Format.{own_room};
 ghost use Rattle.formatter.specs.Work.{lending};
@@ -28,6 +27,7 @@ use options::Options;
 use pieces::{Paragraph, Piece};
 use spacing::Setting;
 use walk::Stopped;
+use walk::notes::Notes;
 use words::TooMany;
 
 // Why the call tells no reason: the notes are refused; or there is no such line, but so many.
@@ -90,8 +90,8 @@ struct Short {
 pub fn explain(block: &[u8], notes: &[u8], line: u64) -> Result<Ending, Unexplained>
     ensures { result ≡ told (explaining own_room block.now notes.now line) }
 {
-    let o = formatter::admit(block, notes)?;
-    explain_line(o, block, notes, line as usize)
+    let admitted = formatter::admit(block, notes)?;
+    explain_line(admitted, line as usize)
 }
 
 // The same in working room that is lent: 12 in the place of 4.
@@ -103,8 +103,8 @@ pub fn explain_large(
 ) -> Result<Ending, Unexplained>
     ensures { result ≡ told (explaining (lending (length work.old)) block.now notes.now line) }
 {
-    let o = formatter::admit_within(block, notes, formatter::MOST_LARGE)?;
-    explain_lent(o, block, notes, line as usize, work)
+    let admitted = formatter::admit_within(block, notes, formatter::MOST_LARGE)?;
+    explain_lent(admitted, line as usize, work)
 }
 
 // The reply's number, and the kind and its numbers; on a refusal they are left as they are.
@@ -122,27 +122,19 @@ pub fn tell(x: Result<Ending, Unexplained>, reason: &mut [u64; 6]) -> u64
 }
 
 // The line sought from the start of the notes on.
-fn explain_line(o: Options, block: &[u8], notes: &[u8], line: usize) -> Result<Ending, Unexplained>
-    requires { Admitted block.now notes.now o }
-    ensures { result ≡ told (left_of own_room (meant block.now o) notes.now line) }
+fn explain_line(notes: Notes, line: usize) -> Result<Ending, Unexplained>
+    ensures { result ≡ told (left_of own_room (meant notes.entry.block.now notes.entry.options) notes.entry.bytes.now line) }
 {
-    let a = seek_line(o, block, notes, begin(line))?;
+    let a = seek_line(notes, begin(line))?;
     found(line, a)
 }
 
 // The line sought in the room that is lent. Nothing is written before it is found: only where the room does not reach is counted what would.
-fn explain_lent(
-    o: Options,
-    block: &[u8],
-    notes: &[u8],
-    line: usize,
-    work: &mut [u32],
-) -> Result<Ending, Unexplained>
-    requires { Admitted block.now notes.now o }
-    ensures { result ≡ told (left_of (lending (length work.old)) (meant block.now o) notes.now line) }
+fn explain_lent(notes: Notes, line: usize, work: &mut [u32]) -> Result<Ending, Unexplained>
+    ensures { result ≡ told (left_of (lending (length work.old)) (meant notes.entry.block.now notes.entry.options) notes.entry.bytes.now line) }
 {
-    let Ok(a) = seek_with(o, block, notes, begin(line), work) else {
-        let needed = walk::work_over(o, block, notes, work.len());
+    let Ok(a) = seek_with(notes, begin(line), work) else {
+        let needed = walk::work_over(notes, work.len());
         return Err(Unexplained::Refused(Refusal::Work(needed)));
     };
     found(line, a)
@@ -180,65 +172,50 @@ const BEST_FEW: usize = 600;
 const BEST_MOST: usize = 15360;
 
 // All pieces from a place on.
-fn seek_line(o: Options, block: &[u8], notes: &[u8], from: Seek) -> Result<Asked, Stopped>
-    requires { Admitted block.now notes.now o × (from.at ≤ length notes.now) }
-    ensures { SoughtIs most_words (meant block.now o) notes.now from result }
+fn seek_line(notes: Notes, from: Seek) -> Result<Asked, Stopped>
+    requires { from.at ≤ length notes.bytes.now }
+    ensures { SoughtIs most_words (meant notes.entry.block.now notes.entry.options) notes.entry.bytes.now from result }
 {
-    if o.quick {
-        seek_in_two::<QUICK_FEW, QUICK_MOST>(o, block, notes, from)
+    if notes.options.quick {
+        seek_in_two::<QUICK_FEW, QUICK_MOST>(notes, from)
     } else {
-        seek_in_two::<BEST_FEW, BEST_MOST>(o, block, notes, from)
+        seek_in_two::<BEST_FEW, BEST_MOST>(notes, from)
     }
 }
 
 // First in room for the words of a few lines, and from a paragraph on for which it is too small in room for the most words that a paragraph
 // may have.
 fn seek_in_two<const FEW: usize, const MOST: usize>(
-    o: Options,
-    block: &[u8],
-    notes: &[u8],
+    notes: Notes,
     from: Seek,
 ) -> Result<Asked, Stopped>
-    requires { Admitted block.now notes.now o × (from.at ≤ length notes.now) × (room_for o.quick FEW ≤ most_words) × (room_for o.quick MOST ≡ most_words) }
-    ensures { SoughtIs most_words (meant block.now o) notes.now from result }
+    requires { (from.at ≤ length notes.bytes.now) × (room_for notes.options.quick FEW ≤ most_words) × (room_for notes.options.quick MOST ≡ most_words) }
+    ensures { SoughtIs most_words (meant notes.entry.block.now notes.entry.options) notes.entry.bytes.now from result }
 {
-    match seek_in::<FEW>(o, block, notes, from) {
+    match seek_in::<FEW>(notes, from) {
         Ok(a) => Ok(a),
-        Err(s) => {
-            seek_in::<MOST>(o, block, notes, s.seek).map_err(|t| Stopped { at: t.seek.at })
-        }
+        Err(s) => { seek_in::<MOST>(notes, s.seek).map_err(|t| Stopped { at: t.seek.at }) }
     }
 }
 
 // In room of N numbers. As in measuring, each room is declared in a function of its own, so that the larger one is no part of the frame in
 // which notes of small paragraphs are sought through.
-fn seek_in<const N: usize>(
-    o: Options,
-    block: &[u8],
-    notes: &[u8],
-    from: Seek,
-) -> Result<Asked, Short>
-    requires { Admitted block.now notes.now o × (from.at ≤ length notes.now) }
-    ensures { Coursed (room_for o.quick N) (meant block.now o) notes.now from result }
+fn seek_in<const N: usize>(notes: Notes, from: Seek) -> Result<Asked, Short>
+    requires { from.at ≤ length notes.bytes.now }
+    ensures { Coursed (room_for notes.entry.options.quick N) (meant notes.entry.block.now notes.entry.options) notes.entry.bytes.now from result }
 {
     let mut work = [0u32; N];
-    seek_with(o, block, notes, from, &mut work)
+    seek_with(notes, from, &mut work)
 }
 
 // Piece by piece, as far as the tables reach.
-fn seek_with(
-    o: Options,
-    block: &[u8],
-    notes: &[u8],
-    from: Seek,
-    work: &mut [u32],
-) -> Result<Asked, Short>
-    requires { Admitted block.now notes.now o × (from.at ≤ length notes.now) }
-    ensures { Coursed (room_for o.quick (length work.old)) (meant block.now o) notes.now from result }
+fn seek_with(notes: Notes, from: Seek, work: &mut [u32]) -> Result<Asked, Short>
+    requires { from.at ≤ length notes.bytes.now }
+    ensures { Coursed (room_for notes.entry.options.quick (length work.old)) (meant notes.entry.block.now notes.entry.options) notes.entry.bytes.now from result }
 {
     let mut s = from;
-    while s.at < notes.len() {
-        let Ok(t) = pass_piece(o, block, notes, s, work) else {
+    while s.at < notes.bytes.len() {
+        let Ok(t) = pass_piece(notes, s, work) else {
             return Err(Short { seek: s });
         };
         s = t;
@@ -247,17 +224,11 @@ fn seek_with(
 }
 
 // After the piece at a place.
-fn pass_piece(
-    o: Options,
-    block: &[u8],
-    notes: &[u8],
-    s: Seek,
-    work: &mut [u32],
-) -> Result<Seek, TooMany>
-    requires { Admitted block.now notes.now o × (s.at < length notes.now) }
-    ensures { PiecePassed (room_for o.quick (length work.old)) (meant block.now o) notes.now s result }
+fn pass_piece(notes: Notes, s: Seek, work: &mut [u32]) -> Result<Seek, TooMany>
+    requires { s.at < length notes.bytes.now }
+    ensures { PiecePassed (room_for notes.entry.options.quick (length work.old)) (meant notes.entry.block.now notes.entry.options) notes.entry.bytes.now s result }
 {
-    match pieces::next_piece(notes, s.at, o, block, s.mail, false) {
+    match pieces::next_piece(notes.bytes, s.at, notes.options, notes.block, s.mail, false) {
         Piece::Blank { next } => Ok(Seek {
             at: next,
             mail: true,
@@ -268,7 +239,7 @@ fn pass_piece(
             mail: false,
             asked: pass_line(s.asked, Ending::Plain),
         }),
-        Piece::Text(p) => pass_paragraph(notes, s.at, o, p, s.asked, work),
+        Piece::Text(p) => pass_paragraph(notes.bytes, s.at, notes.options, p, s.asked, work),
     }
 }
 

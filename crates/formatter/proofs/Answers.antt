@@ -1,4 +1,5 @@
 -- What measuring says that is done has found, and when it says so; and a call that is done.
+use Rattle.std.proofs.Common.{Option, Some, None, Ok}
 use mathlib.Core.Path.{◌≡◌, refl, ap, ◌∙◌}
 use mathlib.Core.Bool.{Bool, true, false, cond}
 use mathlib.Core.List.{List}
@@ -7,12 +8,9 @@ use native.Mathlib.Omega.{arith}
 use lib.Dec.{ltb}
 use lib.ListN.{length}
 use borrow.Author.Tests.{le-ltb, ltb-false}
-use Rattle.text.specs.declared.Found.{Found}
-use Rattle.text.specs.declared.Found.TheVariants.{At, Nowhere}
 use Rattle.options.specs.Opts.{Opts, meant}
 use Rattle.options.specs.OptionBlock.{read_block}
 use Rattle.options.specs.declared.Options.{Options}
-use Rattle.options.specs.declared.Block.TheVariants.{Accepted}
 use Rattle.pieces.specs.Pieces.{pieces}
 use Rattle.formatter.specs.Answers.{Answer, done, room, answer_coded}
 use Rattle.formatter.specs.declared.Refusal.TheVariants.{Long, Work}
@@ -22,12 +20,12 @@ use Rattle.formatter.proofs.Together.{together_they_do_what_the_old_call_did, wh
 
 -- no paragraph has too many words; or so much room is lent as is needed
 abbrev pub Enough : Words → Opts → List ℕ → Type 0
-Enough (up_to most) o notes = long_paragraph most o 0 (pieces o notes) ≡ Nowhere
+Enough (up_to most) o notes = long_paragraph most o 0 (pieces o notes) ≡ None
 Enough (lent lends need) o notes = need o notes ≤ lends
 
 -- nothing is refused as damaged, no paragraph is too long, and the bytes are the digest
 pub record Done (l : Limits) (o : Opts) (notes bytes : List ℕ) : Type 0 where
-  pub sound : damage_in o.keep notes ≡ Nowhere
+  pub sound : damage_in o.keep notes ≡ None
   pub enough : Enough l.words o notes
   pub bytes_are : bytes ≡ digest o notes
 
@@ -35,9 +33,9 @@ module _ (l : Limits) (o : Opts) (notes bytes : List ℕ) where
   notes_done : with_notes l o notes ≡ found bytes → Done l o notes bytes
   notes_done e = size (ltb l.bytes (length notes)) e
     where
-      count : (f : Found) → with_words o notes f ≡ found bytes → (f ≡ Nowhere) × (bytes ≡ digest o notes)
-      count (At place) h = (cc, cc)
-      count Nowhere h = (refl, cc)
+      count : (f : Option ℕ) → with_words o notes f ≡ found bytes → (f ≡ None) × (bytes ≡ digest o notes)
+      count (Some place) h = (cc, cc)
+      count None h = (refl, cc)
 
       lends : (b : Bool) (needed : ℕ) → elim b as (λ t. Finding) [ true ↦ stopped (Work needed) | false ↦ found (digest o notes) ] ≡ found bytes → (b ≡ false) × (bytes ≡ digest o notes)
       lends true needed h = (cc, cc)
@@ -47,9 +45,9 @@ module _ (l : Limits) (o : Opts) (notes bytes : List ℕ) where
       enough (up_to most) h = count (long_paragraph most o 0 (pieces o notes)) h
       enough (lent n need) h = let k = lends (ltb n (need o notes)) (need o notes) h in (ltb-false n (need o notes) k.0, k.1)
 
-      damaged : (f : Found) → damage_in o.keep notes ≡ f → with_text l.words o notes f ≡ found bytes → Done l o notes bytes
-      damaged (At place) d h = absurd (let z : ◌≡◌ {A = ℕ} 0 1 = cc in omega arith)
-      damaged Nowhere d h = let k = enough l.words h in record { sound = d; enough = k.0; bytes_are = k.1 }
+      damaged : (f : Option ℕ) → damage_in o.keep notes ≡ f → with_text l.words o notes f ≡ found bytes → Done l o notes bytes
+      damaged (Some place) d h = absurd (let z : ◌≡◌ {A = ℕ} 0 1 = cc in omega arith)
+      damaged None d h = let k = enough l.words h in record { sound = d; enough = k.0; bytes_are = k.1 }
 
       size : (b : Bool) → elim b as (λ t. Finding) [ true ↦ stopped Long | false ↦ with_text l.words o notes (damage_in o.keep notes) ] ≡ found bytes → Done l o notes bytes
       size true h = absurd (let z : ◌≡◌ {A = ℕ} 0 1 = cc in omega arith)
@@ -64,7 +62,7 @@ told_done w bytes (found d) h = go (is_told w (length d)) h
     go false k = absurd (let z = ap (λ (a : Answer). (answer_coded a).code) k in omega (arith, z))
 told_done w bytes (stopped r) h = absurd (let z : ◌≡◌ {A = ℕ} 0 1 = cc in omega arith)
 
-module _ (l : Limits) (block notes : List ℕ) (o : Options) (bytes : List ℕ) (accepts : read_block block ≡ Accepted o) where
+module _ (l : Limits) (block notes : List ℕ) (o : Options) (bytes : List ℕ) (accepts : read_block block ≡ Ok o) where
   pub found_done : finding l block notes ≡ found bytes → Done l (meant block o) notes bytes
   unfolding finding
   found_done e = notes_done l (meant block o) notes bytes (rw accepts at e)

@@ -1,4 +1,5 @@
 -- A fault's place is small, however long the block: tags ascend up to 6, and a well-formed field has at most 258 bytes.
+use Rattle.std.proofs.Common.{Option, Some, None, Ok, Err}
 use mathlib.Core.Path.{◌≡◌, refl, sym, ap, ◌∙◌}
 use mathlib.Core.Bool.{Bool, true, false, cond, ◌&&◌, ◌||◌, and-eq-true_iff, false≢true}
 use mathlib.Core.List.{List, [], ◌∷◌}
@@ -11,11 +12,8 @@ use Rattle.lists.specs.Walk.{walk}
 use Rattle.lists.specs.Runs.{every}
 use Rattle.lists.proofs.Walk.{walk_nil, walk_step}
 use Rattle.text.specs.Characters.{characters, is_good}
-use Rattle.text.specs.declared.Found.{Found}
-use Rattle.text.specs.declared.Found.TheVariants.{At, Nowhere}
 use Rattle.options.specs.OptionBlock.{number, Field, tag_of, size_of, value_of, Start, next_field, fields, flag_bits, allowed, well_formed, first_fault, least_width, part_of, options_of, fits, judged, read_block}
 use Rattle.options.specs.declared.Options.{Options}
-use Rattle.options.specs.declared.Block.TheVariants.{Accepted, Fault}
 
 -- an allowed value is short, and its tag is one of six
 allowed_small : (tag size : ℕ) (v : List ℕ) → allowed tag size v ≡ true → (tag ≤ 6) × (size ≤ 255)
@@ -70,13 +68,13 @@ well f h =
 
 -- from a start that is small: the first fault's place is small, and without one all that is left is
 record Small (s : Start) (xs : List ℕ) : Type 0 where
-  place : (n : ℕ) → first_fault (walk next_field s xs) ≡ At n → n ≤ 1548
-  whole : first_fault (walk next_field s xs) ≡ Nowhere → s.place + length xs ≤ 1548
+  place : (n : ℕ) → first_fault (walk next_field s xs) ≡ Some n → n ≤ 1548
+  whole : first_fault (walk next_field s xs) ≡ None → s.place + length xs ≤ 1548
 
 none : (s : Start) → s.place ≤ 258 * s.previous → s.previous ≤ 6 → Small s []
 unfolding first_fault
 none s h k =
-    let e : first_fault (walk next_field s []) ≡ Nowhere = ap first_fault (walk_nil next_field s) in
+    let e : first_fault (walk next_field s []) ≡ None = ap first_fault (walk_nil next_field s) in
     record { place = λ n p. absurd (let z : ◌≡◌ {A = ℕ} 0 1 = cc in omega arith); whole = λ p. omega arith }
 
 small : (k : ℕ) (s : Start) (xs : List ℕ) → length xs ≤ k → s.place ≤ 258 * s.previous → s.previous ≤ 6 → Small s xs
@@ -92,8 +90,8 @@ small (suc k) s (x ∷ xs) l h p = go (well_formed f) refl (small k)
     then : Start
     then = record { place = s.place + 3 + size_of f; previous = tag_of f }
 
-    first : (t : Bool) → well_formed f ≡ t → first_fault (walk next_field s (x ∷ xs)) ≡ elim t as (λ y. Found) [ true ↦ first_fault (walk next_field then (drop (suc (2 + size_of f)) (x ∷ xs))) | false ↦ At s.place ]
-    first t e = ap first_fault (walk_step next_field s (x ∷ xs) (omega arith)) ∙ ap (λ (b : Bool). elim b as (λ y. Found) [ true ↦ first_fault (walk next_field then (drop (suc (2 + size_of f)) (x ∷ xs))) | false ↦ At s.place ]) e
+    first : (t : Bool) → well_formed f ≡ t → first_fault (walk next_field s (x ∷ xs)) ≡ elim t as (λ y. (Option ℕ)) [ true ↦ first_fault (walk next_field then (drop (suc (2 + size_of f)) (x ∷ xs))) | false ↦ Some s.place ]
+    first t e = ap first_fault (walk_step next_field s (x ∷ xs) (omega arith)) ∙ ap (λ (b : Bool). elim b as (λ y. (Option ℕ)) [ true ↦ first_fault (walk next_field then (drop (suc (2 + size_of f)) (x ∷ xs))) | false ↦ Some s.place ]) e
 
     go : (t : Bool) → well_formed f ≡ t → ((r : Start) (ys : List ℕ) → length ys ≤ k → r.place ≤ 258 * r.previous → r.previous ≤ 6 → Small r ys) → Small s (x ∷ xs)
     go false e rest = let q = first false e in record {
@@ -113,25 +111,25 @@ small (suc k) s (x ∷ xs) l h p = go (well_formed f) refl (small k)
 all_small : (block : List ℕ) → Small (record { place = 0; previous = 0 }) block
 all_small block = small (length block) (record { place = 0; previous = 0 }) block (omega arith) (omega arith) (omega arith)
 
-pub fault_small : (block : List ℕ) (place : ℕ) → read_block block ≡ Fault place → place ≤ 1548
+pub fault_small : (block : List ℕ) (place : ℕ) → read_block block ≡ Err (record { at = place }) → place ≤ 1548
 unfolding read_block fields
 fault_small block place e = settle (first_fault (walk next_field (record { place = 0; previous = 0 }) block)) refl e
   where
-    rule : (t : Bool) (o : Options) → length block ≤ 1548 → cond t (Accepted o) (Fault (length block)) ≡ Fault place → place ≤ 1548
+    rule : (t : Bool) (o : Options) → length block ≤ 1548 → cond t (Ok o) (Err (record { at = (length block) })) ≡ Err (record { at = place }) → place ≤ 1548
     rule true o l a = absurd (let z : ◌≡◌ {A = ℕ} 0 1 = cc in omega arith)
     rule false o l a = let z : length block ≡ place = cc in omega arith
 
-    settle : (f : Found) → first_fault (walk next_field (record { place = 0; previous = 0 }) block) ≡ f → judged block (fields block) f ≡ Fault place → place ≤ 1548
-    settle (At n) q a = let z : n ≡ place = cc in omega (arith, (all_small block).place n q)
-    settle Nowhere q a =
+    settle : (f : Option ℕ) → first_fault (walk next_field (record { place = 0; previous = 0 }) block) ≡ f → judged block (fields block) f ≡ Err (record { at = place }) → place ≤ 1548
+    settle (Some n) q a = let z : n ≡ place = cc in omega (arith, (all_small block).place n q)
+    settle None q a =
         let o = options_of block (fields block) in
         rule (fits (least_width (part_of 2 (fields block)) (part_of 3 (fields block))) o.width o.goal) o (omega (arith, (all_small block).whole q)) a
 
 -- nor is a block without one long
-pub accepted_small : (block : List ℕ) (o : Options) → read_block block ≡ Accepted o → length block ≤ 1548
+pub accepted_small : (block : List ℕ) (o : Options) → read_block block ≡ Ok o → length block ≤ 1548
 unfolding read_block fields
 accepted_small block o e = settle (first_fault (walk next_field (record { place = 0; previous = 0 }) block)) refl e
   where
-    settle : (f : Found) → first_fault (walk next_field (record { place = 0; previous = 0 }) block) ≡ f → judged block (fields block) f ≡ Accepted o → length block ≤ 1548
-    settle (At n) q a = absurd (let z : ◌≡◌ {A = ℕ} 0 1 = cc in omega arith)
-    settle Nowhere q a = omega (arith, (all_small block).whole q)
+    settle : (f : Option ℕ) → first_fault (walk next_field (record { place = 0; previous = 0 }) block) ≡ f → judged block (fields block) f ≡ Ok o → length block ≤ 1548
+    settle (Some n) q a = absurd (let z : ◌≡◌ {A = ℕ} 0 1 = cc in omega arith)
+    settle None q a = omega (arith, (all_small block).whole q)

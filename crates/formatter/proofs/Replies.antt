@@ -1,17 +1,15 @@
 -- The replies, case by case: what each refusal and a digest leave after, and what measuring tells.
+use Rattle.std.proofs.Common.{Option, Some, None, Ok, Err}
 use mathlib.Core.Path.{◌≡◌, refl, sym, ap, ◌∙◌}
 use mathlib.Core.List.{List}
 use Prim.Native.Nat.{ℕ, ◌≤◌, ◌<◌, max}
 use native.Mathlib.Omega.{arith}
 use lib.ListN.{length, replicate}
 use borrow.Author.Tests.{lt-ltb, le-ltb, le-leb, lt-leb}
-use Rattle.text.specs.declared.Found.{Found}
-use Rattle.text.specs.declared.Found.TheVariants.{At, Nowhere}
 use Rattle.options.specs.Opts.{Opts, meant}
 use Rattle.options.specs.OptionBlock.{read_block}
 use Rattle.options.specs.declared.Options.{Options}
 use Rattle.options.specs.declared.Block.{Block}
-use Rattle.options.specs.declared.Block.TheVariants.{Accepted, Fault}
 use Rattle.lines.specs.Cited.Places.{most_large}
 use Rattle.pieces.specs.Pieces.{pieces}
 use Rattle.output.specs.Cited.Sink.{Wrote}
@@ -24,49 +22,47 @@ use Rattle.walk.specs.Work.{work_for}
 use Rattle.walk.specs.Cited.Course.{Finished}
 use Rattle.formatter.specs.Cited.Call.{told, Answers, Refuses, left_of, AdmitsNotes, Admits, AdmitsWithin, AdmitsWork, AdmitsLent}
 use Rattle.formatter.specs.declared.Reply.{Reply}
-use Rattle.formatter.specs.declared.Reply.TheVariants.{Done, Refused as Declined, Room}
 use Rattle.formatter.specs.declared.Refusal.{Refusal}
 use Rattle.formatter.specs.declared.Refusal.TheVariants.{Options as Faulty, Long, Text, Words as Many, Work}
 use Rattle.formatter.specs.declared.Admission.{Admission}
-use Rattle.formatter.specs.declared.Admission.TheVariants.{Refused, Passed}
 use Rattle.walk.specs.declared.Ended.{Ended}
-use Rattle.walk.specs.declared.Ended.TheVariants.{All, Stopped}
 use Rattle.formatter.proofs.Together.{written_at_once}
+use Rattle.formatter.specs.declared.Unwritten.TheVariants.{Refused as Declined, Room}
 
 -- ---- with the options and notes that are to be formatted
 
 module _ (o : Opts) (notes out out' : List ℕ) (r : Ended) (f : Finished most_words o notes out out' r) where
-  all_of : {n : ℕ} → r ≡ All n → (long_paragraph most_words o 0 (pieces o notes) ≡ Nowhere) × Wrote out 0 (digest o notes) out' n
+  all_of : {n : ℕ} → r ≡ Ok n → (long_paragraph most_words o 0 (pieces o notes) ≡ None) × Wrote out 0 (digest o notes) out' n
   all_of e = rw e at f
 
-  stopped_of : {place : ℕ} → r ≡ Stopped place → (long_paragraph most_words o 0 (pieces o notes) ≡ At place) × (out' ≡ replicate (length out) 0)
+  stopped_of : {place : ℕ} → r ≡ Err (record { at = place }) → (long_paragraph most_words o 0 (pieces o notes) ≡ Some place) × (out' ≡ replicate (length out) 0)
   stopped_of e = rw e at f
 
   -- too many words: all zero
-  pub words_answer : {place : ℕ} → r ≡ Stopped place → Answers (left_of own_room o notes (with_digest (length out))) out (Declined (Many place)) out'
+  pub words_answer : {place : ℕ} → r ≡ Err (record { at = place }) → Answers (left_of own_room o notes (with_digest (length out))) out (Err (Declined (Many place))) out'
   unfolding output_after
   words_answer e = let s = stopped_of e in rw s.0 (record { is = refl; output = s.1 })
 
   -- the digest fits
-  pub done_answer : {n : ℕ} → r ≡ All n → n ≤ length out' → Answers (left_of own_room o notes (with_digest (length out))) out (Done n) out'
+  pub done_answer : {n : ℕ} → r ≡ Ok n → n ≤ length out' → Answers (left_of own_room o notes (with_digest (length out))) out (Ok n) out'
   unfolding output_after
   done_answer {n} e h =
       let w = all_of e in
       let l = wrote_length w.1 in
       let c : n ≡ length (digest o notes) = omega (arith, w.1.count) in
       let fits : length (digest o notes) ≤ length out = omega arith in
-      rw (w.0, le-leb (length (digest o notes)) (length out) fits) (record { is = ap Done c; output = w.1.bytes ∙ written_fits 0 out (digest o notes) (omega arith) })
+      rw (w.0, le-leb (length (digest o notes)) (length out) fits) (record { is = ap Ok c; output = w.1.bytes ∙ written_fits 0 out (digest o notes) (omega arith) })
 
   -- it does not: all zero
-  pub room_answer : {n : ℕ} {clear : List ℕ} → r ≡ All n → length out' < n → clear ≡ replicate (length out') 0
-      → Answers (left_of own_room o notes (with_digest (length out))) out (Room n) clear
+  pub room_answer : {n : ℕ} {clear : List ℕ} → r ≡ Ok n → length out' < n → clear ≡ replicate (length out') 0
+      → Answers (left_of own_room o notes (with_digest (length out))) out (Err (Room n)) clear
   unfolding output_after
   room_answer {n} e h z =
       let w = all_of e in
       let l = wrote_length w.1 in
       let c : n ≡ length (digest o notes) = omega (arith, w.1.count) in
       let over : length out < length (digest o notes) = omega arith in
-      rw (w.0, lt-leb (length (digest o notes)) (length out) over) (record { is = ap Room c; output = z ∙ ap (λ (k : ℕ). replicate k 0) l })
+      rw (w.0, lt-leb (length (digest o notes)) (length out) over) (record { is = ap Err (Room c); output = z ∙ ap (λ (k : ℕ). replicate k 0) l })
 
 -- ---- with the options of an accepted block
 
@@ -75,28 +71,28 @@ abbrev pub limits : ℕ → Words → Limits
 limits bytes w = record { bytes = bytes; words = w }
 
 module _ (l : Limits) (block notes : List ℕ) (o : Options) where
-  notes_are : (f : Found) → length notes ≤ l.bytes → f ≡ damage_in o.keep notes → with_notes l (meant block o) notes ≡ with_text l.words (meant block o) notes f
+  notes_are : (f : Option ℕ) → length notes ≤ l.bytes → f ≡ damage_in o.keep notes → with_notes l (meant block o) notes ≡ with_text l.words (meant block o) notes f
   unfolding meant
   notes_are f h e = rw (with_notes, le-ltb l.bytes (length notes) h, e)
 
-  pub long_refused : l.bytes < length notes → AdmitsNotes l block o notes (Refused Long)
+  pub long_refused : l.bytes < length notes → AdmitsNotes l block o notes (Err Long)
   long_refused h = record { whole_is = rw (with_notes, lt-ltb l.bytes (length notes) h); untouched = λ out. refl; early = omega arith }
 
-  pub text_refused : {f : Found} {place : ℕ} → length notes ≤ l.bytes → f ≡ damage_in o.keep notes → f ≡ At place → AdmitsNotes l block o notes (Refused (Text place))
-  text_refused {f} {place} h e a = record { whole_is = notes_are (At place) h (sym a ∙ e); untouched = λ out. refl; early = omega arith }
+  pub text_refused : {f : (Option ℕ)} {place : ℕ} → length notes ≤ l.bytes → f ≡ damage_in o.keep notes → f ≡ Some place → AdmitsNotes l block o notes (Err (Text place))
+  text_refused {f} {place} h e a = record { whole_is = notes_are (Some place) h (sym a ∙ e); untouched = λ out. refl; early = omega arith }
 
-  pub notes_passed : {f : Found} → length notes ≤ l.bytes → f ≡ damage_in o.keep notes → f ≡ Nowhere → AdmitsNotes l block o notes (Passed o)
-  notes_passed h e a = (refl, h, notes_are Nowhere h (sym a ∙ e), λ k. rw k at (sym e ∙ a))
+  pub notes_passed : {f : (Option ℕ)} → length notes ≤ l.bytes → f ≡ damage_in o.keep notes → f ≡ None → AdmitsNotes l block o notes (Ok o)
+  notes_passed h e a = (refl, h, notes_are None h (sym a ∙ e), λ k. rw k at (sym e ∙ a))
 
 -- ---- with any block, and limits that the code is proved for
 
 module _ (l : Limits) (block notes : List ℕ) (b : Block) (read : b ≡ read_block block) where
-  pub fault_refused : {place : ℕ} → b ≡ Fault place → Admits l block notes (Refused (Faulty place))
+  pub fault_refused : {place : ℕ} → b ≡ Err (record { at = place }) → Admits l block notes (Err (Faulty place))
   fault_refused {place} e = record { whole_is = rw (sym read ∙ e); untouched = λ out. refl; early = omega arith }
 
-  pub block_admits : {o : Options} (r : Admission) → l.bytes ≤ most_large → b ≡ Accepted o → AdmitsNotes l block o notes r → Admits l block notes r
-  block_admits (Refused r) m e n = record { whole_is = rw (sym read ∙ e) n.whole_is; untouched = n.untouched; early = n.early }
-  block_admits {o} (Passed p) m e n = (record { accepted = sym read ∙ e ∙ ap Accepted (sym n.0); short = omega (arith, n.1, m); sound = λ k. n.3 (ap (λ (x : Options). x.keep) (sym n.0) ∙ k) }, rw (sym read ∙ e, n.0) n.2, n.1)
+  pub block_admits : {o : Options} (r : Admission) → l.bytes ≤ most_large → b ≡ Ok o → AdmitsNotes l block o notes r → Admits l block notes r
+  block_admits (Err r) m e n = record { whole_is = rw (sym read ∙ e) n.whole_is; untouched = n.untouched; early = n.early }
+  block_admits {o} (Ok p) m e n = (record { accepted = sym read ∙ e ∙ ap Ok (sym n.0); short = omega (arith, n.1, m); sound = λ k. n.3 (ap (λ (x : Options). x.keep) (sym n.0) ∙ k) }, rw (sym read ∙ e, n.0) n.2, n.1)
 
 -- ---- what is replied to it
 
@@ -114,62 +110,62 @@ module _ (l : Limits) (block notes : List ℕ) where
   as_written out f e h = rw (written_at_once l block notes (length out) ∙ ap (answering (in_output l out)) e) h
 
   module _ {most : ℕ} {r : Refusal} (f : Refuses most (with_block l block notes (read_block block)) r) where
-    pub refusal_measured : Declined r ≡ told (measuring l block notes)
+    pub refusal_measured : Err (Declined r) ≡ told (measuring l block notes)
     refusal_measured = as_measured (stopped r) f.whole_is refl
 
-    refusal_written : (out : List ℕ) → Answers (writing l block notes (length out)) out (Declined r) out
+    refusal_written : (out : List ℕ) → Answers (writing l block notes (length out)) out (Err (Declined r)) out
     unfolding output_after
     refusal_written out = as_written out (stopped r) f.whole_is (record { is = refl; output = sym (f.untouched out) })
 
 module _ (l : Limits) (block notes : List ℕ) (a : Admission) (admits : Admits l block notes a) where
-  pub refused_of : {r : Refusal} → a ≡ Refused r → Admits l block notes (Refused r)
+  pub refused_of : {r : Refusal} → a ≡ Err r → Admits l block notes (Err r)
   refused_of e = rw e at admits
 
-  pub passed_of : {o : Options} → a ≡ Passed o → Admits l block notes (Passed o)
+  pub passed_of : {o : Options} → a ≡ Ok o → Admits l block notes (Ok o)
   passed_of e = rw e at admits
 
-  pub refused_measured : {r : Refusal} → a ≡ Refused r → Declined r ≡ told (measuring l block notes)
+  pub refused_measured : {r : Refusal} → a ≡ Err r → Err (Declined r) ≡ told (measuring l block notes)
   refused_measured e = refusal_measured l block notes (refused_of e)
 
-  pub passed_measured : {o : Options} {r : Reply} → a ≡ Passed o → r ≡ told (left_of l (meant block o) notes (measured l.words)) → r ≡ told (measuring l block notes)
+  pub passed_measured : {o : Options} {r : Reply} → a ≡ Ok o → r ≡ told (left_of l (meant block o) notes (measured l.words)) → r ≡ told (measuring l block notes)
   passed_measured {o} e h = as_measured l block notes (within l.words (meant block o) notes) (passed_of e).1 h
 
-  pub refused_written : (out : List ℕ) {r : Refusal} → a ≡ Refused r → Answers (writing l block notes (length out)) out (Declined r) out
+  pub refused_written : (out : List ℕ) {r : Refusal} → a ≡ Err r → Answers (writing l block notes (length out)) out (Err (Declined r)) out
   refused_written out e = refusal_written l block notes (refused_of e) out
 
-  pub passed_written : (out : List ℕ) {o : Options} {r : Reply} {out' : List ℕ} → a ≡ Passed o → Answers (left_of l (meant block o) notes (in_output l out)) out r out' → Answers (writing l block notes (length out)) out r out'
+  pub passed_written : (out : List ℕ) {o : Options} {r : Reply} {out' : List ℕ} → a ≡ Ok o → Answers (left_of l (meant block o) notes (in_output l out)) out r out' → Answers (writing l block notes (length out)) out r out'
   passed_written out {o} e h = as_written l block notes out (within l.words (meant block o) notes) (passed_of e).1 h
 
 -- ---- where working room is lent
 
 module _ (lends : ℕ) (block notes : List ℕ) where
-  pub within_refused : {a : Admission} {r : Refusal} → AdmitsWithin most_lent block notes a → a ≡ Refused r → AdmitsLent lends block notes (Refused r)
-  within_refused s e = let f : Admits (lending lends) block notes (Refused _) = rw e at (s (lending lends).words) in
+  pub within_refused : {a : Admission} {r : Refusal} → AdmitsWithin most_lent block notes a → a ≡ Err r → AdmitsLent lends block notes (Err r)
+  within_refused s e = let f : Admits (lending lends) block notes (Err _) = rw e at (s (lending lends).words) in
       record { whole_is = f.whole_is; untouched = f.untouched; early = omega (arith, f.early) }
 
   -- code 12 is due exactly where less is lent than is needed
-  pub work_refused : (o : Opts) (p : Options) (needed : ℕ) → needed ≡ max lends (work_for o notes) → lends < needed → AdmitsWork lends o notes p (Refused (Work needed))
+  pub work_refused : (o : Opts) (p : Options) (needed : ℕ) → needed ≡ max lends (work_for o notes) → lends < needed → AdmitsWork lends o notes p (Err (Work needed))
   work_refused o p needed e h =
       let n : needed ≡ work_for o notes = omega arith in
       record { whole_is = rw (within, with_work, lt-ltb lends (work_for o notes) (omega arith), n); untouched = λ out. refl; early = omega arith }
 
   module _ (a : Admission) (admits : AdmitsLent lends block notes a) where
-    pub lent_passed : {o : Options} → a ≡ Passed o → AdmitsLent lends block notes (Passed o)
+    pub lent_passed : {o : Options} → a ≡ Ok o → AdmitsLent lends block notes (Ok o)
     lent_passed e = rw e at admits
 
-    lent_refused : {r : Refusal} → a ≡ Refused r → AdmitsLent lends block notes (Refused r)
+    lent_refused : {r : Refusal} → a ≡ Err r → AdmitsLent lends block notes (Err r)
     lent_refused e = rw e at admits
 
-    pub lent_refused_measured : {r : Refusal} → a ≡ Refused r → Declined r ≡ told (measuring (lending lends) block notes)
+    pub lent_refused_measured : {r : Refusal} → a ≡ Err r → Err (Declined r) ≡ told (measuring (lending lends) block notes)
     lent_refused_measured e = refusal_measured (lending lends) block notes (lent_refused e)
 
-    pub lent_passed_measured : {o : Options} {r : Reply} → a ≡ Passed o → r ≡ told (measured (lending lends).words (digest (meant block o) notes)) → r ≡ told (measuring (lending lends) block notes)
+    pub lent_passed_measured : {o : Options} {r : Reply} → a ≡ Ok o → r ≡ told (measured (lending lends).words (digest (meant block o) notes)) → r ≡ told (measuring (lending lends) block notes)
     lent_passed_measured {o} e h = as_measured (lending lends) block notes (found (digest (meant block o) notes)) (lent_passed e).1 h
 
-    pub lent_refused_written : (out : List ℕ) {r : Refusal} → a ≡ Refused r → Answers (writing (lending lends) block notes (length out)) out (Declined r) out
+    pub lent_refused_written : (out : List ℕ) {r : Refusal} → a ≡ Err r → Answers (writing (lending lends) block notes (length out)) out (Err (Declined r)) out
     lent_refused_written out e = refusal_written (lending lends) block notes (lent_refused e) out
 
-    pub lent_passed_written : (out : List ℕ) {o : Options} {r : Reply} {out' : List ℕ} → a ≡ Passed o → Answers (in_output (lending lends) out (digest (meant block o) notes)) out r out' → Answers (writing (lending lends) block notes (length out)) out r out'
+    pub lent_passed_written : (out : List ℕ) {o : Options} {r : Reply} {out' : List ℕ} → a ≡ Ok o → Answers (in_output (lending lends) out (digest (meant block o) notes)) out r out' → Answers (writing (lending lends) block notes (length out)) out r out'
     lent_passed_written out {o} e h = as_written (lending lends) block notes out (found (digest (meant block o) notes)) (lent_passed e).1 h
 
 -- what is measured, and what is written, of a digest that was put into an output as far as it fits
@@ -183,18 +179,18 @@ module _ (lends : ℕ) (d out out' : List ℕ) (n : ℕ) (w : Wrote out 0 d out'
   untold_is : most_told < n → measured (lending lends).words d ≡ room most_told
   untold_is h = rw (lt-leb (length d) most_told (omega (arith, counted)))
 
-  pub untold_written : {clear : List ℕ} → most_told < n → clear ≡ replicate (length out') 0 → Answers (in_room (length out) (measured (lending lends).words d)) out (Room most_told) clear
+  pub untold_written : {clear : List ℕ} → most_told < n → clear ≡ replicate (length out') 0 → Answers (in_room (length out) (measured (lending lends).words d)) out (Err (Room most_told)) clear
   unfolding output_after
   untold_written h z = rw (untold_is h) (record { is = refl; output = z ∙ ap (λ (k : ℕ). replicate k 0) (wrote_length w) })
 
-  pub done_written : n ≤ most_told → n ≤ length out' → Answers (in_room (length out) (measured (lending lends).words d)) out (Done n) out'
+  pub done_written : n ≤ most_told → n ≤ length out' → Answers (in_room (length out) (measured (lending lends).words d)) out (Ok n) out'
   unfolding output_after
   done_written h k =
       let l = wrote_length w in
-      rw (told_is h, le-leb (length d) (length out) (omega (arith, counted, l))) (record { is = ap Done counted; output = w.bytes ∙ written_fits 0 out d (omega (arith, counted, l)) })
+      rw (told_is h, le-leb (length d) (length out) (omega (arith, counted, l))) (record { is = ap Ok counted; output = w.bytes ∙ written_fits 0 out d (omega (arith, counted, l)) })
 
-  pub room_written : {clear : List ℕ} → n ≤ most_told → length out' < n → clear ≡ replicate (length out') 0 → Answers (in_room (length out) (measured (lending lends).words d)) out (Room n) clear
+  pub room_written : {clear : List ℕ} → n ≤ most_told → length out' < n → clear ≡ replicate (length out') 0 → Answers (in_room (length out) (measured (lending lends).words d)) out (Err (Room n)) clear
   unfolding output_after
   room_written h k z =
       let l = wrote_length w in
-      rw (told_is h, lt-leb (length d) (length out) (omega (arith, counted, l))) (record { is = ap Room counted; output = z ∙ ap (λ (k : ℕ). replicate k 0) l })
+      rw (told_is h, lt-leb (length d) (length out) (omega (arith, counted, l))) (record { is = ap Err (Room counted); output = z ∙ ap (λ (k : ℕ). replicate k 0) l })

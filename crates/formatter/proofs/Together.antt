@@ -1,4 +1,5 @@
 -- Measuring and writing: together they are the call; measuring's N is the room that suffices, and the least.
+use Rattle.std.proofs.Common.{Option, Some, None, Ok, Err}
 use mathlib.Core.Path.{◌≡◌, refl, ap}
 use mathlib.Core.Bool.{Bool, true, false, cond}
 use mathlib.Core.List.{List}
@@ -7,12 +8,9 @@ use native.Mathlib.Omega.{arith}
 use lib.Dec.{leb, ltb}
 use lib.ListN.{length}
 use borrow.Author.Tests.{le-leb, lt-leb, leb-true}
-use Rattle.text.specs.declared.Found.{Found}
-use Rattle.text.specs.declared.Found.TheVariants.{At, Nowhere}
 use Rattle.options.specs.Opts.{Opts, meant}
 use Rattle.options.specs.OptionBlock.{read_block}
 use Rattle.options.specs.declared.Block.{Block}
-use Rattle.options.specs.declared.Block.TheVariants.{Accepted, Fault}
 use Rattle.pieces.specs.Pieces.{pieces}
 use Rattle.formatter.specs.Answers.{Answer, done, refused, room, answer_coded}
 use Rattle.formatter.specs.declared.Refusal.{Refusal}
@@ -79,13 +77,13 @@ module _ (bytes most : ℕ) where
   notes_measured : (o : Opts) (notes : List ℕ) → (answer_coded (answering done (with_notes (limited bytes most) o notes))).code ≤ 4
   notes_measured o notes = size (ltb bytes (length notes))
     where
-      count : (f : Found) → (answer_coded (answering done (with_words o notes f))).code ≤ 4
-      count (At place) = omega arith
-      count Nowhere = omega arith
+      count : (f : Option ℕ) → (answer_coded (answering done (with_words o notes f))).code ≤ 4
+      count (Some place) = omega arith
+      count None = omega arith
 
-      damaged : (f : Found) → (answer_coded (answering done (with_text (up_to most) o notes f))).code ≤ 4
-      damaged (At place) = omega arith
-      damaged Nowhere = count (long_paragraph most o 0 (pieces o notes))
+      damaged : (f : Option ℕ) → (answer_coded (answering done (with_text (up_to most) o notes f))).code ≤ 4
+      damaged (Some place) = omega arith
+      damaged None = count (long_paragraph most o 0 (pieces o notes))
 
       size : (b : Bool) → (answer_coded (answering done (elim b as (λ t. Finding) [ true ↦ stopped Long | false ↦ with_text (up_to most) o notes (damage_in o.keep notes) ]))).code ≤ 4
       size true = omega arith
@@ -96,8 +94,8 @@ module _ (bytes most : ℕ) where
   measuring_never_answers_five block notes = go (read_block block)
     where
       go : (b : Block) → (answer_coded (answering done (with_block (limited bytes most) block notes b))).code ≤ 4
-      go (Fault place) = omega arith
-      go (Accepted o) = notes_measured (meant block o) notes
+      go (Err (record { at = place })) = omega arith
+      go (Ok o) = notes_measured (meant block o) notes
 
 -- ---- for callers
 

@@ -1,15 +1,13 @@
 -- What `admit`, `admit_within` and `admit_lent` promise determines their answer.
+use Rattle.std.proofs.Common.{Option, Some, None, Ok, Err}
 use mathlib.Core.Path.{◌≡◌, sym, ap, ◌∙◌}
 use mathlib.Core.Bool.{Bool, true, false}
 use mathlib.Core.List.{List}
 use Prim.Native.Nat.{ℕ, ◌≤◌}
 use native.Mathlib.Omega.{arith}
 use lib.Dec.{ltb}
-use Rattle.text.specs.declared.Found.{Found}
-use Rattle.text.specs.declared.Found.TheVariants.{At, Nowhere}
 use Rattle.options.specs.Opts.{Opts, meant}
 use Rattle.options.specs.declared.Options.{Options}
-use Rattle.options.specs.declared.Block.TheVariants.{Accepted}
 use Rattle.pieces.specs.Pieces.{pieces}
 use Rattle.walk.specs.Digest.{digest, long_paragraph}
 use Rattle.formatter.specs.Answers.{refusal_coded}
@@ -18,7 +16,6 @@ use Rattle.formatter.specs.Cited.Call.{Admits, AdmitsWithin, AdmitsLent}
 use Rattle.formatter.specs.declared.Refusal.{Refusal}
 use Rattle.formatter.specs.declared.Refusal.TheVariants.{Work}
 use Rattle.formatter.specs.declared.Admission.{Admission}
-use Rattle.formatter.specs.declared.Admission.TheVariants.{Refused, Passed}
 
 pub same_refusal : {q r : Refusal} → stopped q ≡ stopped r → q ≡ r
 same_refusal e = cc
@@ -27,9 +24,9 @@ same_refusal e = cc
 pub later : (w : Words) (o : Opts) (notes : List ℕ) {r : Refusal} → within w o notes ≡ stopped r → 4 ≤ (refusal_coded r).code
 later (up_to most) o notes {r} e = go (long_paragraph most o 0 (pieces o notes)) e
   where
-    go : (f : Found) → with_words o notes f ≡ stopped r → 4 ≤ (refusal_coded r).code
-    go (At place) k = rw (← same_refusal k) (omega arith)
-    go Nowhere k = absurd (let z : ◌≡◌ {A = ℕ} 0 1 = cc in omega arith)
+    go : (f : Option ℕ) → with_words o notes f ≡ stopped r → 4 ≤ (refusal_coded r).code
+    go (Some place) k = rw (← same_refusal k) (omega arith)
+    go None k = absurd (let z : ◌≡◌ {A = ℕ} 0 1 = cc in omega arith)
 later (lent lends need) o notes {r} e = go (ltb lends (need o notes)) e
   where
     go : (b : Bool) → elim b as (λ t. Finding) [ true ↦ stopped (Work (need o notes)) | false ↦ found (digest o notes) ] ≡ stopped r → 4 ≤ (refusal_coded r).code
@@ -37,16 +34,16 @@ later (lent lends need) o notes {r} e = go (ltb lends (need o notes)) e
     go false k = absurd (let z : ◌≡◌ {A = ℕ} 0 1 = cc in omega arith)
 
 -- so where one of them is due, the notes are not passed
-pub not_both : (l : Limits) (block notes : List ℕ) {r : Refusal} {o : Options} → Admits l block notes (Refused r) → Admits l block notes (Passed o) → {A : Type 0} → A
+pub not_both : (l : Limits) (block notes : List ℕ) {r : Refusal} {o : Options} → Admits l block notes (Err r) → Admits l block notes (Ok o) → {A : Type 0} → A
 not_both l block notes {r} {o} h k = absurd (let z = later l.words (meant block o) notes (sym k.1 ∙ h.whole_is) in omega (arith, z, h.early))
 
 pub admission_unique : (l : Limits) (block notes : List ℕ) (a b : Admission) → Admits l block notes a → Admits l block notes b → a ≡ b
-admission_unique l block notes (Refused r) (Refused s) h k = ap Refused (same_refusal (sym h.whole_is ∙ k.whole_is))
-admission_unique l block notes (Refused r) (Passed o) h k = not_both l block notes h k
-admission_unique l block notes (Passed o) (Refused s) h k = not_both l block notes k h
-admission_unique l block notes (Passed o) (Passed p) h k =
-    let e : Accepted o ≡ Accepted p = sym h.0.accepted ∙ k.0.accepted in
-    let q : o ≡ p = cc in ap Passed q
+admission_unique l block notes (Err r) (Err s) h k = ap Err (same_refusal (sym h.whole_is ∙ k.whole_is))
+admission_unique l block notes (Err r) (Ok o) h k = not_both l block notes h k
+admission_unique l block notes (Ok o) (Err s) h k = not_both l block notes k h
+admission_unique l block notes (Ok o) (Ok p) h k =
+    let e : Ok o ≡ Ok p = sym h.0.accepted ∙ k.0.accepted in
+    let q : o ≡ p = cc in ap Ok q
 
 pub admission_within_unique : (bytes : ℕ) (block notes : List ℕ) (a b : Admission) → AdmitsWithin bytes block notes a → AdmitsWithin bytes block notes b → a ≡ b
 admission_within_unique bytes block notes a b h k = admission_unique (record { bytes = bytes; words = up_to 0 }) block notes a b (h (up_to 0)) (k (up_to 0))
@@ -55,9 +52,9 @@ found_or_stopped : {d : List ℕ} {r : Refusal} → found d ≡ stopped r → {A
 found_or_stopped e = absurd (let z : ◌≡◌ {A = ℕ} 0 1 = cc in omega arith)
 
 pub admission_lent_unique : (lends : ℕ) (block notes : List ℕ) (a b : Admission) → AdmitsLent lends block notes a → AdmitsLent lends block notes b → a ≡ b
-admission_lent_unique lends block notes (Refused r) (Refused s) h k = ap Refused (same_refusal (sym h.whole_is ∙ k.whole_is))
-admission_lent_unique lends block notes (Refused r) (Passed o) h k = found_or_stopped (sym k.1 ∙ h.whole_is)
-admission_lent_unique lends block notes (Passed o) (Refused s) h k = found_or_stopped (sym h.1 ∙ k.whole_is)
-admission_lent_unique lends block notes (Passed o) (Passed p) h k =
-    let e : Accepted o ≡ Accepted p = sym h.0.accepted ∙ k.0.accepted in
-    let q : o ≡ p = cc in ap Passed q
+admission_lent_unique lends block notes (Err r) (Err s) h k = ap Err (same_refusal (sym h.whole_is ∙ k.whole_is))
+admission_lent_unique lends block notes (Err r) (Ok o) h k = found_or_stopped (sym k.1 ∙ h.whole_is)
+admission_lent_unique lends block notes (Ok o) (Err s) h k = found_or_stopped (sym h.1 ∙ k.whole_is)
+admission_lent_unique lends block notes (Ok o) (Ok p) h k =
+    let e : Ok o ≡ Ok p = sym h.0.accepted ∙ k.0.accepted in
+    let q : o ≡ p = cc in ap Ok q

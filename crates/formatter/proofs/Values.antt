@@ -1,6 +1,7 @@
 -- What an answer tells has no more than 32 bits: a fault's place is small, other places lie in the notes, and a digest has at most 1,040 bytes
 -- for each byte of the notes, if no paragraph has more words than RULES 2.2 allows; if working room is lent for more, a longer digest
 -- is refused. So code and value can be read back from the number.
+use Rattle.std.proofs.Common.{Option, Some, None, Ok, Err}
 use mathlib.Core.Path.{◌≡◌, refl, sym, ap, ◌∙◌}
 use mathlib.Core.Bool.{Bool, true, false, cond, ◌||◌}
 use mathlib.Core.List.{List, [], ◌∷◌}
@@ -12,13 +13,10 @@ use lib.Seq.{slice, length-slice}
 use borrow.Author.Tests.{leb-true, le-ltb, ltb-true, ltb-false}
 use Rattle.lists.specs.Runs.{joined}
 use Rattle.lists.proofs.Parts.{joined_cons}
-use Rattle.text.specs.declared.Found.{Found}
-use Rattle.text.specs.declared.Found.TheVariants.{At, Nowhere}
 use Rattle.text.proofs.Damage.{damage_some}
 use Rattle.options.specs.Opts.{Opts, meant}
 use Rattle.options.specs.OptionBlock.{read_block}
 use Rattle.options.specs.declared.Block.{Block}
-use Rattle.options.specs.declared.Block.TheVariants.{Accepted, Fault}
 use Rattle.options.proofs.Accepted.{accepted}
 use Rattle.lines.specs.Cited.Places.{most_large}
 use Rattle.pieces.specs.Pieces.{Piece, Kind, blank_line, plain_line, paragraph, pieces}
@@ -74,7 +72,7 @@ next_of o nextMail notes at (Text p) t = record {
 module _ (o : Opts) (notes : List ℕ) (least : 1 ≤ o.tab) (most : o.tab ≤ 100) (short : length notes ≤ most_large) (cleared : o.split ≡ true → (o.crown || o.tagged) ≡ false) where
   -- from a place on: the output's length
   abbrev Small : (nextMail : Bool) (at : ℕ) → Type 0
-  Small nextMail at = long_from most_words o nextMail notes at ≡ Nowhere → length (output_from o nextMail notes at) + 1040 * at ≤ 1040 * length notes
+  Small nextMail at = long_from most_words o nextMail notes at ≡ None → length (output_from o nextMail notes at) + 1040 * at ≤ 1040 * length notes
 
   small_past : (nextMail : Bool) (at : ℕ) → at ≤ length notes → length notes ≤ at → Small nextMail at
   small_past nextMail at h k e = rw (output_none o nextMail notes at k) (omega arith)
@@ -99,27 +97,27 @@ module _ (o : Opts) (notes : List ℕ) (least : 1 ≤ o.tab) (most : o.tab ≤ 1
           small_more nextMail at i n (rest n.state n.next n.goes.within (omega (arith, n.goes.on)))
 
   -- without a paragraph of too many words, the digest has at most so many bytes for each byte of the notes
-  pub digest_most : long_paragraph most_words o 0 (pieces o notes) ≡ Nowhere → length (digest o notes) ≤ 1040 * length notes
+  pub digest_most : long_paragraph most_words o 0 (pieces o notes) ≡ None → length (digest o notes) ≤ 1040 * length notes
   digest_most e = let s = small (length notes) true 0 (omega arith) (omega arith) (all_long most_words o notes ∙ e) in omega (arith, ap length (all_output o notes))
 
 -- ---- a paragraph of too many words
 
 -- it lies in the notes
-long_place : (most : ℕ) (o : Opts) (place : ℕ) (qs : List Piece) (n : ℕ) → long_paragraph most o place qs ≡ At n → n ≤ place + length (joined extent_of qs)
+long_place : (most : ℕ) (o : Opts) (place : ℕ) (qs : List Piece) (n : ℕ) → long_paragraph most o place qs ≡ Some n → n ≤ place + length (joined extent_of qs)
 unfolding long_paragraph
 long_place most o place [] n e = absurd (let z : ◌≡◌ {A = ℕ} 0 1 = cc in omega arith)
 long_place most o place (q ∷ qs) n e = go (too_many most o q.kind) e (long_place most o (place + length (extent_of q)) qs n)
   where
-    go : (t : Bool) → elim t as (λ x. Found) [ true ↦ At place | false ↦ long_paragraph most o (place + length (extent_of q)) qs ] ≡ At n
-        → (long_paragraph most o (place + length (extent_of q)) qs ≡ At n → n ≤ place + length (extent_of q) + length (joined extent_of qs)) → n ≤ place + length (joined extent_of (q ∷ qs))
+    go : (t : Bool) → elim t as (λ x. (Option ℕ)) [ true ↦ Some place | false ↦ long_paragraph most o (place + length (extent_of q)) qs ] ≡ Some n
+        → (long_paragraph most o (place + length (extent_of q)) qs ≡ Some n → n ≤ place + length (extent_of q) + length (joined extent_of qs)) → n ≤ place + length (joined extent_of (q ∷ qs))
     go true k rest = let z : place ≡ n = cc in omega arith
     go false k rest = let r = rest k in rw (joined_cons extent_of q qs, length-append) (omega (arith, r))
 
-pub long_within : (most : ℕ) (o : Opts) (notes : List ℕ) (n : ℕ) → long_paragraph most o 0 (pieces o notes) ≡ At n → n ≤ length notes
+pub long_within : (most : ℕ) (o : Opts) (notes : List ℕ) (n : ℕ) → long_paragraph most o 0 (pieces o notes) ≡ Some n → n ≤ length notes
 long_within most o notes n e = let p = long_place most o 0 (pieces o notes) n e in omega (arith, p, ap length (extents_are_notes o notes))
 
 -- where none has more than so many words, none has more than a greater number
-pub long_fewer : (most more : ℕ) (o : Opts) (place : ℕ) (qs : List Piece) → most ≤ more → long_paragraph most o place qs ≡ Nowhere → long_paragraph more o place qs ≡ Nowhere
+pub long_fewer : (most more : ℕ) (o : Opts) (place : ℕ) (qs : List Piece) → most ≤ more → long_paragraph most o place qs ≡ None → long_paragraph more o place qs ≡ None
 unfolding long_paragraph
 long_fewer most more o place [] h e = refl
 long_fewer most more o place (q ∷ qs) h e = go (too_many most o q.kind) refl e (long_fewer most more o (place + length (extent_of q)) qs h)
@@ -129,8 +127,8 @@ long_fewer most more o place (q ∷ qs) h e = go (too_many most o q.kind) refl e
     fewer (plain_line line) t = refl
     fewer (paragraph p) t = le-ltb more (length (words_of o p)) (let f = ltb-false most (length (words_of o p)) t in omega arith)
 
-    go : (t : Bool) → too_many most o q.kind ≡ t → elim t as (λ x. Found) [ true ↦ At place | false ↦ long_paragraph most o (place + length (extent_of q)) qs ] ≡ Nowhere
-        → (long_paragraph most o (place + length (extent_of q)) qs ≡ Nowhere → long_paragraph more o (place + length (extent_of q)) qs ≡ Nowhere) → long_paragraph more o place (q ∷ qs) ≡ Nowhere
+    go : (t : Bool) → too_many most o q.kind ≡ t → elim t as (λ x. (Option ℕ)) [ true ↦ Some place | false ↦ long_paragraph most o (place + length (extent_of q)) qs ] ≡ None
+        → (long_paragraph most o (place + length (extent_of q)) qs ≡ None → long_paragraph more o (place + length (extent_of q)) qs ≡ None) → long_paragraph more o place (q ∷ qs) ≡ None
     go true t k rest = absurd (let z : ◌≡◌ {A = ℕ} 0 1 = cc in omega arith)
     go false t k rest = rw (long_paragraph, fewer q.kind t) (rest k)
 
@@ -153,9 +151,9 @@ own_room_sound = record { short = omega arith; modest = omega arith }
 
 module _ (l : Limits) (sound : Sound l) where
   module _ (o : Opts) (notes : List ℕ) (short : length notes ≤ l.bytes) (then : List ℕ → Answer) (fits : Enough l.words o notes → (answer_coded (then (digest o notes))).value ≤ most_told) where
-    words_value : (most : ℕ) (f : Found) → long_paragraph most o 0 (pieces o notes) ≡ f → (f ≡ Nowhere → (answer_coded (then (digest o notes))).value ≤ most_told) → (answer_coded (answering then (with_words o notes f))).value ≤ most_told
-    words_value most (At n) e h = omega (arith, long_within most o notes n e, short, sound.short)
-    words_value most Nowhere e h = h refl
+    words_value : (most : ℕ) (f : Option ℕ) → long_paragraph most o 0 (pieces o notes) ≡ f → (f ≡ None → (answer_coded (then (digest o notes))).value ≤ most_told) → (answer_coded (answering then (with_words o notes f))).value ≤ most_told
+    words_value most (Some n) e h = omega (arith, long_within most o notes n e, short, sound.short)
+    words_value most None e h = h refl
 
     work_value : (lends needed : ℕ) → needed ≤ most_told → (b : Bool) → ltb lends needed ≡ b → (needed ≤ lends → (answer_coded (then (digest o notes))).value ≤ most_told)
         → (answer_coded (answering then (elim b as (λ t. Finding) [ true ↦ stopped (Work needed) | false ↦ found (digest o notes) ]))).value ≤ most_told
@@ -166,10 +164,10 @@ module _ (l : Limits) (sound : Sound l) where
     within_value (up_to most) m h = words_value most (long_paragraph most o 0 (pieces o notes)) refl h
     within_value (lent lends need) m h = work_value lends (need o notes) (m o notes short) (ltb lends (need o notes)) refl h
 
-    text_value : (keep : Bool) (f : Found) → damage_in keep notes ≡ f → (answer_coded (answering then (with_text l.words o notes f))).value ≤ most_told
-    text_value keep Nowhere e = within_value l.words sound.modest fits
-    text_value true (At n) e = absurd (let z : ◌≡◌ {A = ℕ} 0 1 = cc in omega arith)
-    text_value false (At n) e = omega (arith, (damage_some false notes n e).1, short, sound.short)
+    text_value : (keep : Bool) (f : Option ℕ) → damage_in keep notes ≡ f → (answer_coded (answering then (with_text l.words o notes f))).value ≤ most_told
+    text_value keep None e = within_value l.words sound.modest fits
+    text_value true (Some n) e = absurd (let z : ◌≡◌ {A = ℕ} 0 1 = cc in omega arith)
+    text_value false (Some n) e = omega (arith, (damage_some false notes n e).1, short, sound.short)
 
   -- notes within the limit or beyond it
   pub notes_value : (o : Opts) (notes : List ℕ) (then : List ℕ → Answer) → (length notes ≤ l.bytes → Enough l.words o notes → (answer_coded (then (digest o notes))).value ≤ most_told) → (answer_coded (answering then (with_notes l o notes))).value ≤ most_told
@@ -198,8 +196,8 @@ module _ (l : Limits) (sound : Sound l) where
     measured_value = go (read_block block) refl
       where
         go : (b : Block) → read_block block ≡ b → (answer_coded (answering (measured l.words) (with_block l block notes b))).value ≤ most_told
-        go (Fault place) e = omega (arith, fault_small block place e)
-        go (Accepted o) e =
+        go (Err (record { at = place })) e = omega (arith, fault_small block place e)
+        go (Ok o) e =
             let k = accepted block o e in
             notes_value (meant block o) notes (measured l.words) (λ short enough. digest_value (meant block o) notes k.tab_least k.tab_most short k.split_clears l.words sound.modest enough)
 

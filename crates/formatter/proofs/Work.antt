@@ -1,5 +1,6 @@
 -- Lent working room: N of code 12 can be told; a call is refused so exactly when less is lent than is needed; and with the room that was told
 -- it is not refused so again.
+use Rattle.std.proofs.Common.{Option, Some, None, Ok, Err}
 use mathlib.Core.Path.{◌≡◌, refl, sym, ap}
 use mathlib.Core.Bool.{Bool, true, false, cond}
 use mathlib.Core.List.{List}
@@ -8,13 +9,10 @@ use native.Mathlib.Omega.{arith}
 use lib.Dec.{leb, ltb}
 use lib.ListN.{length}
 use borrow.Author.Tests.{ltb-true}
-use Rattle.text.specs.declared.Found.{Found}
-use Rattle.text.specs.declared.Found.TheVariants.{At, Nowhere}
 use Rattle.options.specs.Opts.{Opts, meant}
 use Rattle.options.specs.OptionBlock.{read_block}
 use Rattle.options.specs.declared.Options.{Options}
 use Rattle.options.specs.declared.Block.{Block}
-use Rattle.options.specs.declared.Block.TheVariants.{Accepted, Fault}
 use Rattle.walk.specs.Digest.{digest}
 use Rattle.walk.specs.Work.{work_for}
 use Rattle.walk.proofs.Work.{work_most}
@@ -39,9 +37,9 @@ module _ (need : Opts → List ℕ → ℕ) (notes : List ℕ) (lends : ℕ) (o 
   work_asked true n t e = let z : need o notes ≡ n = cc in (sym z, rw (← z) (ltb-true lends (need o notes) t))
   work_asked false n t e = absurd (let z : ◌≡◌ {A = ℕ} 0 1 = cc in omega arith)
 
-  asked_text : (f : Found) (n : ℕ) → with_text (lent lends need) o notes f ≡ stopped (Work n) → (n ≡ need o notes) × (lends < n)
-  asked_text (At place) n e = absurd (let z : ◌≡◌ {A = ℕ} 0 1 = cc in omega arith)
-  asked_text Nowhere n e = work_asked (ltb lends (need o notes)) n refl e
+  asked_text : (f : Option ℕ) (n : ℕ) → with_text (lent lends need) o notes f ≡ stopped (Work n) → (n ≡ need o notes) × (lends < n)
+  asked_text (Some place) n e = absurd (let z : ◌≡◌ {A = ℕ} 0 1 = cc in omega arith)
+  asked_text None n e = work_asked (ltb lends (need o notes)) n refl e
 
   pub asked_notes : (n : ℕ) → with_notes (lent_for need lends) o notes ≡ stopped (Work n) → (n ≡ need o notes) × (lends < n)
   asked_notes n e = go (ltb most_lent (length notes)) e
@@ -52,7 +50,7 @@ module _ (need : Opts → List ℕ → ℕ) (notes : List ℕ) (lends : ℕ) (o 
 
 module _ (block notes : List ℕ) where
   module _ (need : Opts → List ℕ → ℕ) where
-    pub asked_is_needed : (lends needed : ℕ) (o : Options) → read_block block ≡ Accepted o → finding (lent_for need lends) block notes ≡ stopped (Work needed) → (needed ≡ need (meant block o) notes) × (lends < needed)
+    pub asked_is_needed : (lends needed : ℕ) (o : Options) → read_block block ≡ Ok o → finding (lent_for need lends) block notes ≡ stopped (Work needed) → (needed ≡ need (meant block o) notes) × (lends < needed)
     unfolding finding
     asked_is_needed lends needed o b e = asked_notes need notes lends (meant block o) needed (rw b at e)
 
@@ -62,13 +60,13 @@ module _ (block notes : List ℕ) where
     asked_suffices lends needed more e h n f = go (read_block block) refl
       where
         go : (b : Block) → read_block block ≡ b → ⊥
-        go (Fault place) q = let z : stopped (Faulty place) ≡ stopped (Work needed) = rw q at e in let c : ◌≡◌ {A = ℕ} 0 1 = cc in omega arith
-        go (Accepted o) q =
+        go (Err (record { at = place })) q = let z : stopped (Faulty place) ≡ stopped (Work needed) = rw q at e in let c : ◌≡◌ {A = ℕ} 0 1 = cc in omega arith
+        go (Ok o) q =
             let a = asked_is_needed lends needed o q e in
             let b = asked_is_needed more n o q f in
             omega (arith, a.0, b.0, b.1, h)
 
-  pub the_room_asked_for_is_the_room_needed : (lends needed : ℕ) (o : Options) → read_block block ≡ Accepted o → finding (lending lends) block notes ≡ stopped (Work needed)
+  pub the_room_asked_for_is_the_room_needed : (lends needed : ℕ) (o : Options) → read_block block ≡ Ok o → finding (lending lends) block notes ≡ stopped (Work needed)
       → (needed ≡ work_for (meant block o) notes) × (lends < needed)
   the_room_asked_for_is_the_room_needed = asked_is_needed work_for
 
@@ -81,8 +79,8 @@ module _ (block notes : List ℕ) where
   no_more_is_asked_for lends needed e = go (read_block block) refl
     where
       go : (b : Block) → read_block block ≡ b → needed ≤ 8 * (length notes + 1)
-      go (Fault place) q = absurd (let z : stopped (Faulty place) ≡ stopped (Work needed) = rw q at e in let c : ◌≡◌ {A = ℕ} 0 1 = cc in omega arith)
-      go (Accepted o) q = let a = the_room_asked_for_is_the_room_needed lends needed o q e in let m = work_most (meant block o) notes in omega (arith, a.0, m)
+      go (Err (record { at = place })) q = absurd (let z : stopped (Faulty place) ≡ stopped (Work needed) = rw q at e in let c : ◌≡◌ {A = ℕ} 0 1 = cc in omega arith)
+      go (Ok o) q = let a = the_room_asked_for_is_the_room_needed lends needed o q e in let m = work_most (meant block o) notes in omega (arith, a.0, m)
 
   -- So of measuring and of writing, which ask for room where it is found to lack.
   measured_found : (lends n : ℕ) → measuring (lending lends) block notes ≡ refused (Work n) → finding (lending lends) block notes ≡ stopped (Work n)

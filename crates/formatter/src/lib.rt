@@ -6,17 +6,17 @@ ghost use Rattle.options.specs.Opts.{meant};
 ghost use Rattle.lines.specs.Cited.Places.{most_large};
 ghost use Rattle.walk.specs.Digest.{digest};
 ghost use Rattle.walk.specs.Work.{work_for};
-ghost use Rattle.walk.specs.Cited.Course.{Admitted};
 ghost use Rattle.formatter.specs.Answers.{done, refusal_coded};
 ghost use Rattle.formatter.specs.Format.{Words, own_room, damage_in, with_digest, measured, measuring, in_room, writing};
 ghost use Rattle.formatter.specs.Work.{lending};
 ghost use Rattle.formatter.specs.declared.Refusal.TheVariants.{Options as Faulty, Words as Many};
 ghost use Rattle.formatter.specs.declared.Unwritten.TheVariants.{Refused};
-ghost use Rattle.formatter.specs.Cited.Call.{told, unwritten_coded, Answers, left_of, AdmitsNotes, Admits, AdmitsWithin, AdmitsWork, AdmitsLent};
+ghost use Rattle.formatter.specs.Cited.Call.{told, unwritten_coded, Answers, left_of, AdmitsNotes, Admits, AdmitsWithin, AdmitsLent};
 
 use lists::Refusing;
 use options::{Fault, Options};
 use walk::Stopped;
+use walk::notes::Notes;
 
 // Why there is no digest, with what is told of it: `Words` with the calls' own room, `Work` where room is lent.
 #[derive(Clone, Copy, Debug, PartialEq, Eq)]
@@ -97,20 +97,20 @@ impl Refusing for Unwritten {
 pub fn measure(block: &[u8], notes: &[u8]) -> Result<usize, Unwritten>
     ensures { result ≡ told (measuring own_room block.now notes.now) }
 {
-    let o = admit(block, notes)?;
-    measure_notes(o, block, notes)
+    let admitted = admit(block, notes)?;
+    measure_notes(admitted)
 }
 
 // What writing replies, likewise.
 pub fn write(block: &[u8], notes: &[u8], out: &mut [u8]) -> Result<usize, Unwritten>
     ensures { Answers (writing own_room block.now notes.now (length out.old)) out.old result out.new }
 {
-    let o = admit(block, notes)?;
-    write_notes(o, block, notes, out)
+    let admitted = admit(block, notes)?;
+    write_notes(admitted, out)
 }
 
-// Codes 1 to 3, or the options with which the notes are to be formatted.
-pub fn admit(block: &[u8], notes: &[u8]) -> Result<Options, Refusal>
+// Codes 1 to 3, or the notes with the options with which they are to be formatted.
+pub fn admit<'a>(block: &'a [u8], notes: &'a [u8]) -> Result<Notes<'a>, Refusal>
     ensures { Admits own_room block.now notes.now result }
 {
     admit_within(block, notes, MOST_BYTES)
@@ -122,16 +122,21 @@ const MOST_BYTES: usize = 65536;
 pub const MOST_LARGE: usize = 1048576;
 
 // The same with notes of up to so many bytes.
-pub fn admit_within(block: &[u8], notes: &[u8], most: usize) -> Result<Options, Refusal>
+pub fn admit_within<'a>(block: &'a [u8], notes: &'a [u8], most: usize) -> Result<Notes<'a>, Refusal>
     requires { most ≤ most_large }
     ensures { AdmitsWithin most block.now notes.now result }
 {
-    let o = options::read_block(block)?;
-    admit_notes(o, notes, most)
+    let options = options::read_block(block)?;
+    refuse_notes(options, notes, most)?;
+    Ok(Notes {
+        options,
+        block,
+        bytes: notes,
+    })
 }
 
 // The same with the options of an accepted block: codes 2 and 3.
-fn admit_notes(o: Options, notes: &[u8], most: usize) -> Result<Options, Refusal>
+fn refuse_notes(o: Options, notes: &[u8], most: usize) -> Result<(), Refusal>
     ensures { (w : Words) (block : List ℕ) → AdmitsNotes (record { bytes = most; words = w }) block o notes.now result }
 {
     if most < notes.len() {
@@ -139,7 +144,7 @@ fn admit_notes(o: Options, notes: &[u8], most: usize) -> Result<Options, Refusal
     }
     match damage_in(o.keep, notes) {
         Some(place) => Err(Refusal::Text(place)),
-        None => Ok(o),
+        None => Ok(()),
     }
 }
 
@@ -155,19 +160,17 @@ fn damage_in(keep: bool, notes: &[u8]) -> Option<usize>
 }
 
 // Measures the notes.
-fn measure_notes(o: Options, block: &[u8], notes: &[u8]) -> Result<usize, Unwritten>
-    requires { Admitted block.now notes.now o }
-    ensures { result ≡ told (left_of own_room (meant block.now o) notes.now done) }
+fn measure_notes(notes: Notes) -> Result<usize, Unwritten>
+    ensures { result ≡ told (left_of own_room (meant notes.entry.block.now notes.entry.options) notes.entry.bytes.now done) }
 {
-    Ok(walk::measure_all(o, block, notes)?)
+    Ok(walk::measure_all(notes)?)
 }
 
 // Writes the notes' digest.
-fn write_notes(o: Options, block: &[u8], notes: &[u8], out: &mut [u8]) -> Result<usize, Unwritten>
-    requires { Admitted block.now notes.now o }
-    ensures { Answers (left_of own_room (meant block.now o) notes.now (with_digest (length out.old))) out.old result out.new }
+fn write_notes(notes: Notes, out: &mut [u8]) -> Result<usize, Unwritten>
+    ensures { Answers (left_of own_room (meant notes.entry.block.now notes.entry.options) notes.entry.bytes.now (with_digest (length out.old))) out.old result out.new }
 {
-    let needed = walk::put_all(o, block, notes, out)?;
+    let needed = walk::put_all(notes, out)?;
     if out.len() < needed {
         out.fill(0);
         return Err(Unwritten::Room(needed));
@@ -184,8 +187,8 @@ const MOST_TOLD: usize = 4294967295;
 pub fn measure_lent(block: &[u8], notes: &[u8], work: &mut [u32]) -> Result<usize, Unwritten>
     ensures { result ≡ told (measuring (lending (length work.old)) block.now notes.now) }
 {
-    let o = admit_lent(block, notes, work.len())?;
-    measure_large(o, block, notes, work)
+    let admitted = admit_lent(block, notes, work.len())?;
+    measure_large(admitted, work)
 }
 
 // What writing replies.
@@ -197,42 +200,29 @@ pub fn write_lent(
 ) -> Result<usize, Unwritten>
     ensures { Answers (writing (lending (length work.old)) block.now notes.now (length out.old)) out.old result out.new }
 {
-    let o = admit_lent(block, notes, work.len())?;
-    write_large(o, block, notes, out, work)
+    let admitted = admit_lent(block, notes, work.len())?;
+    write_large(admitted, out, work)
 }
 
-// Codes 1 to 3 and 12, or the options with which the notes are to be formatted, in so many numbers. All of it before a byte is written.
-pub fn admit_lent(block: &[u8], notes: &[u8], lends: usize) -> Result<Options, Refusal>
+// Codes 1 to 3 and 12, or the notes with the options with which they are to be formatted, in so many numbers. All of it before a byte is written.
+pub fn admit_lent<'a>(block: &'a [u8], notes: &'a [u8], lends: usize) -> Result<Notes<'a>, Refusal>
     ensures { AdmitsLent lends block.now notes.now result }
 {
-    let o = admit_within(block, notes, MOST_LARGE)?;
-    admit_work(o, block, notes, lends)
-}
-
-// Code 12.
-fn admit_work(o: Options, block: &[u8], notes: &[u8], lends: usize) -> Result<Options, Refusal>
-    requires { Admitted block.now notes.now o }
-    ensures { AdmitsWork lends (meant block.now o) notes.now o result }
-{
-    let needed = walk::work_over(o, block, notes, lends);
+    let admitted = admit_within(block, notes, MOST_LARGE)?;
+    let needed = walk::work_over(admitted, lends);
     if lends < needed {
         return Err(Refusal::Work(needed));
     }
-    Ok(o)
+    Ok(admitted)
 }
 
 // Measures the notes in room that is enough.
-fn measure_large(
-    o: Options,
-    block: &[u8],
-    notes: &[u8],
-    work: &mut [u32],
-) -> Result<usize, Unwritten>
-    requires { Admitted block.now notes.now o × (work_for (meant block.now o) notes.now ≤ length work.old) }
-    ensures { result ≡ told (measured (lending (length work.old)).words (digest (meant block.now o) notes.now)) }
+fn measure_large(notes: Notes, work: &mut [u32]) -> Result<usize, Unwritten>
+    requires { work_for (meant notes.block.now notes.options) notes.bytes.now ≤ length work.old }
+    ensures { result ≡ told (measured (lending (length work.old)).words (digest (meant notes.entry.block.now notes.entry.options) notes.entry.bytes.now)) }
 {
     let mut none = [0u8; 0];
-    let needed = walk::put_all_lent(o, block, notes, &mut none, work);
+    let needed = walk::put_all_lent(notes, &mut none, work);
     if MOST_TOLD < needed {
         return Err(Unwritten::Room(MOST_TOLD));
     }
@@ -240,17 +230,11 @@ fn measure_large(
 }
 
 // Writes their digest.
-fn write_large(
-    o: Options,
-    block: &[u8],
-    notes: &[u8],
-    out: &mut [u8],
-    work: &mut [u32],
-) -> Result<usize, Unwritten>
-    requires { Admitted block.now notes.now o × (work_for (meant block.now o) notes.now ≤ length work.old) }
-    ensures { Answers (in_room (length out.old) (measured (lending (length work.old)).words (digest (meant block.now o) notes.now))) out.old result out.new }
+fn write_large(notes: Notes, out: &mut [u8], work: &mut [u32]) -> Result<usize, Unwritten>
+    requires { work_for (meant notes.block.now notes.options) notes.bytes.now ≤ length work.old }
+    ensures { Answers (in_room (length out.old) (measured (lending (length work.old)).words (digest (meant notes.entry.block.now notes.entry.options) notes.entry.bytes.now))) out.old result out.new }
 {
-    let needed = walk::put_all_lent(o, block, notes, out, work);
+    let needed = walk::put_all_lent(notes, out, work);
     if MOST_TOLD < needed || out.len() < needed {
         out.fill(0);
         return Err(Unwritten::Room(needed.min(MOST_TOLD)));

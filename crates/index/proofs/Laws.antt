@@ -1,4 +1,5 @@
 -- The search for the record that holds a line: what it has come to after so many records.
+use Rattle.std.proofs.Common.{None}
 use mathlib.Core.Path.{◌≡◌, refl}
 use mathlib.Core.Bool.{Bool, true, false, cond}
 use mathlib.Core.List.{List, [], ◌∷◌}
@@ -10,7 +11,6 @@ use lib.ListN.{length, take, drop}
 use borrow.Author.Tests.{ltb-true, ltb-false, leb-true, lt-ltb, le-ltb, le-leb, lt-leb}
 use Rattle.index.specs.declared.Record.{Record}
 use Rattle.index.specs.declared.Part.{Part}
-use Rattle.index.specs.declared.Part.TheVariants.{Nowhere, At}
 use Rattle.index.specs.Lookup.{holds, part_in, part_under, lookup}
 use Rattle.index.specs.Cited.Lists.{no_record, record_at, part_if}
 
@@ -35,15 +35,15 @@ unfolding holds
 none_holds line = rw (le-leb 0 line (omega arith), le-ltb line 0 (omega arith))
 
 module _ (r : Record) (size : ℕ) where
-  pub part_past : size < r.place → Nowhere ≡ part_in size r
+  pub part_past : size < r.place → None ≡ part_in size r
   unfolding part_in
   part_past h = rw (lt-leb (r.place + r.length) size (omega (arith, h)))
 
-  pub part_long : r.place ≤ size → size - r.place < r.length → Nowhere ≡ part_in size r
+  pub part_long : r.place ≤ size → size - r.place < r.length → None ≡ part_in size r
   unfolding part_in
   part_long h l = rw (lt-leb (r.place + r.length) size (omega (arith, h, l)))
 
-  pub part_within : r.place ≤ size → r.length ≤ size - r.place → At r.place r.length ≡ part_in size r
+  pub part_within : r.place ≤ size → r.length ≤ size - r.place → part r.place r.length ≡ part_in size r
   unfolding part_in
   part_within h l = rw (le-leb (r.place + r.length) size (omega (arith, h, l)))
 
@@ -52,7 +52,7 @@ module _ (size line : ℕ) (r : Record) where
   unfolding part_if
   part_held e = rw e
 
-  pub part_not : holds line r ≡ false → part_if size line r ≡ Nowhere
+  pub part_not : holds line r ≡ false → part_if size line r ≡ None
   unfolding part_if
   part_not e = rw e
 
@@ -63,7 +63,7 @@ pub lookup_within : (index : List Record) (filled size line n : ℕ) → n ≡ c
 unfolding lookup part_under
 lookup_within index filled size line n e = rw e (go (leb filled (length index)))
   where
-    go : (b : Bool) → cond b (part_under size line (take filled index)) Nowhere ≡ part_under size line (take (cond b filled 0) index)
+    go : (b : Bool) → cond b (part_under size line (take filled index)) None ≡ part_under size line (take (cond b filled 0) index)
     go true = refl
     go false = refl
 
@@ -94,7 +94,7 @@ rest_none (r ∷ index) (suc n) zero l = absurd (not-suc-le-zero l)
 rest_none (r ∷ index) (suc n) (suc i) l = rest_none index n i (le_of_suc-le-suc l)
 
 module _ (size line : ℕ) (index : List Record) (n : ℕ) where
-  pub rest_last : (i : ℕ) → n ≤ i → rest_from size line index n i ≡ Nowhere
+  pub rest_last : (i : ℕ) → n ≤ i → rest_from size line index n i ≡ None
   unfolding part_under
   rest_last i l = rw (rest_none index n i l)
 

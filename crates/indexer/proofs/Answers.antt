@@ -1,4 +1,5 @@
 -- What the call answers, where the pieces came to an end or did not.
+use Rattle.std.proofs.Common.{Option, Some, None, Ok, Err}
 use mathlib.Core.Path.{◌≡◌, refl, sym, ap, subst, ◌∙◌}
 use mathlib.Core.Bool.{Bool, true, false, cond}
 use mathlib.Core.List.{List}
@@ -7,8 +8,6 @@ use native.Mathlib.Omega.{arith}
 use lib.ListN.{length, replicate}
 use lib.Dec.{leb}
 use borrow.Author.Tests.{le-leb, lt-leb, le-ltb, lt-ltb}
-use Rattle.text.specs.declared.Found.{Found}
-use Rattle.text.specs.declared.Found.TheVariants.{At, Nowhere}
 use Rattle.options.specs.Opts.{Opts, meant}
 use Rattle.options.specs.OptionBlock.{read_block}
 use Rattle.options.specs.declared.Options.{Options}
@@ -28,7 +27,6 @@ use Rattle.walk.proofs.Steps.{ready_kept}
 use Rattle.paragraphs.specs.Cited.Steps.{room_for}
 use Rattle.formatter.specs.Format.{Limits, most_bytes, own_room, Finding, found, stopped, with_words, with_block, finding, most_told}
 use Rattle.formatter.specs.Cited.Call.{Admits}
-use Rattle.formatter.specs.declared.Admission.TheVariants.{Refused as Barred, Passed}
 use Rattle.formatter.proofs.Values.{digest_most}
 use Rattle.marks.specs.Cited.Marks.{marks_in}
 use Rattle.index.specs.Cited.Lists.{no_record}
@@ -38,15 +36,14 @@ use Rattle.indexer.specs.Answers.{done, refused, full, room, index_output_after}
 use Rattle.indexer.specs.Indexing.{with_index, in_index, marks_for, index_work, index_lending, index_under, indexing}
 use Rattle.indexer.specs.declared.Filled.{Filled}
 use Rattle.indexer.specs.Cited.Noting.{Noted, Indexes, left_of, numbering, found_of}
-use Rattle.indexer.specs.declared.Filled.TheVariants.{Done, Refused, Full, Room}
 use Rattle.indexer.specs.declared.Pieces.{Pieces}
-use Rattle.indexer.specs.declared.Pieces.TheVariants.{All}
+use Rattle.indexer.specs.declared.Unfilled.TheVariants.{Refused, Full, Room}
 
 -- ---- from what the pieces came to
 
 module _ (most : ℕ) (o : Opts) (notes out : List ℕ) where
-  pub words_answer : (records place size : ℕ) (out'' work' : List ℕ) → long_paragraph most o 0 (pieces o notes) ≡ At place → size ≡ length out → out'' ≡ replicate size 0
-      → Indexes (found_of most o notes (length out) records) out (Refused (Words place)) out'' work'
+  pub words_answer : (records place size : ℕ) (out'' work' : List ℕ) → long_paragraph most o 0 (pieces o notes) ≡ Some place → size ≡ length out → out'' ≡ replicate size 0
+      → Indexes (found_of most o notes (length out) records) out (Err (Refused (Words place))) out'' work'
   unfolding index_output_after read_from
   words_answer records place size out'' work' e l z = record { is = rw e; output = rw e (z ∙ ap (λ (k : ℕ). replicate k 0) l); read = rw e }
 
@@ -54,7 +51,7 @@ module _ (most : ℕ) (o : Opts) (notes out : List ℕ) where
     pub noted_as : {r s : Pieces} → Noted most o notes out out' work' r → r ≡ s → Noted most o notes out out' work' s
     noted_as n e = rw e at n
 
-    module _ (records n k : ℕ) (noted : Noted most o notes out out' work' (All n k)) where
+    module _ (records n k : ℕ) (noted : Noted most o notes out out' work' (all_pieces n k)) where
       count_is : k ≡ length (index_of o notes)
       count_is = noted.2
 
@@ -67,14 +64,14 @@ module _ (most : ℕ) (o : Opts) (notes out : List ℕ) where
       left_is : found_of most o notes (length out) records ≡ with_index numbering (length out) records (index_of o notes) (digest o notes)
       left_is = rw noted.0
 
-      pub full_answer : (out'' : List ℕ) → records < k → out'' ≡ replicate (length out') 0 → Indexes (found_of most o notes (length out) records) out (Full k) out'' work'
+      pub full_answer : (out'' : List ℕ) → records < k → out'' ≡ replicate (length out') 0 → Indexes (found_of most o notes (length out) records) out (Err (Full k)) out'' work'
       unfolding index_output_after read_from
       full_answer out'' h z =
           let a : found_of most o notes (length out) records ≡ full (length (index_of o notes)) = left_is ∙ rw (lt-leb (length (index_of o notes)) records (omega (arith, h, count_is))) in
           record { is = rw (a, count_is); output = rw a (z ∙ ap (λ (m : ℕ). replicate m 0) same_out); read = rw a }
 
       -- the digest's length is more than N can tell
-      pub untold_answer : (out'' : List ℕ) → k ≤ records → most_told < n → out'' ≡ replicate (length out') 0 → Indexes (found_of most o notes (length out) records) out (Room most_told) out'' work'
+      pub untold_answer : (out'' : List ℕ) → k ≤ records → most_told < n → out'' ≡ replicate (length out') 0 → Indexes (found_of most o notes (length out) records) out (Err (Room most_told)) out'' work'
       unfolding index_output_after read_from
       untold_answer out'' h g z =
           let a : found_of most o notes (length out) records ≡ room most_told =
@@ -85,13 +82,13 @@ module _ (most : ℕ) (o : Opts) (notes out : List ℕ) where
         told_is : found_of most o notes (length out) records ≡ cond (leb (length (digest o notes)) (length out)) (done (digest o notes) (index_of o notes)) (room (length (digest o notes)))
         told_is = left_is ∙ rw (le-leb (length (index_of o notes)) records (omega (arith, few, count_is)), le-leb (length (digest o notes)) most_told (omega (arith, short, length_is)))
 
-        pub room_answer : (out'' : List ℕ) → length out < n → out'' ≡ replicate (length out') 0 → Indexes (found_of most o notes (length out) records) out (Room n) out'' work'
+        pub room_answer : (out'' : List ℕ) → length out < n → out'' ≡ replicate (length out') 0 → Indexes (found_of most o notes (length out) records) out (Err (Room n)) out'' work'
         unfolding index_output_after read_from
         room_answer out'' g z =
             let a : found_of most o notes (length out) records ≡ room (length (digest o notes)) = told_is ∙ rw (lt-leb (length (digest o notes)) (length out) (omega (arith, g, length_is))) in
             record { is = rw (a, length_is); output = rw a (z ∙ ap (λ (m : ℕ). replicate m 0) same_out); read = rw a }
 
-        pub done_answer : n ≤ length out → Indexes (found_of most o notes (length out) records) out (Done n k) out' work'
+        pub done_answer : n ≤ length out → Indexes (found_of most o notes (length out) records) out (filled n k) out' work'
         unfolding index_output_after
         done_answer g =
             let a : found_of most o notes (length out) records ≡ done (digest o notes) (index_of o notes) = told_is ∙ rw (le-leb (length (digest o notes)) (length out) (omega (arith, g, length_is))) in
@@ -105,7 +102,7 @@ module _ (most : ℕ) (o : Opts) (notes out : List ℕ) where
 
 -- with the limits of RULES 2.2 no digest is longer than N can tell
 module _ (block notes : List ℕ) (o : Options) (ready : Admitted block notes o) (short : length notes ≤ most_bytes) (space records : ℕ) where
-  digest_told : long_paragraph most_words (meant block o) 0 (pieces (meant block o) notes) ≡ Nowhere → length (digest (meant block o) notes) ≤ most_told
+  digest_told : long_paragraph most_words (meant block o) 0 (pieces (meant block o) notes) ≡ None → length (digest (meant block o) notes) ≤ most_told
   unfolding meant
   digest_told e =
       let k = ready_kept block notes o ready in
@@ -115,19 +112,19 @@ module _ (block notes : List ℕ) (o : Options) (ready : Admitted block notes o)
   pub found_own_room : found_of most_words (meant block o) notes space records ≡ left_of own_room (meant block o) notes space records
   found_own_room = go (long_paragraph most_words (meant block o) 0 (pieces (meant block o) notes)) refl
     where
-      go : (f : Found) → long_paragraph most_words (meant block o) 0 (pieces (meant block o) notes) ≡ f
+      go : (f : Option ℕ) → long_paragraph most_words (meant block o) 0 (pieces (meant block o) notes) ≡ f
           → in_index numbering space records (index_of (meant block o) notes) (with_words (meant block o) notes f) ≡ in_index own_room.words space records (index_of (meant block o) notes) (with_words (meant block o) notes f)
-      go (At place) e = refl
-      go Nowhere e = rw (le-leb (length (digest (meant block o) notes)) most_told (digest_told e))
+      go (Some place) e = refl
+      go None e = rw (le-leb (length (digest (meant block o) notes)) most_told (digest_told e))
 
 -- where room is lent there is enough for every paragraph, or the call is refused
 module _ (o : Opts) (notes : List ℕ) (space records lends : ℕ) where
-  pub found_lent : (most : ℕ) → long_paragraph most o 0 (pieces o notes) ≡ Nowhere → index_work o notes ≤ lends → found_of most o notes space records ≡ left_of (index_lending lends) o notes space records
+  pub found_lent : (most : ℕ) → long_paragraph most o 0 (pieces o notes) ≡ None → index_work o notes ≤ lends → found_of most o notes space records ≡ left_of (index_lending lends) o notes space records
   found_lent most e h =
-      ap (λ (f : Found). in_index numbering space records (index_of o notes) (with_words o notes f)) e
+      ap (λ (f : Option ℕ). in_index numbering space records (index_of o notes) (with_words o notes f)) e
       ∙ ap (λ (b : Bool). in_index (index_lending lends).words space records (index_of o notes) (elim b as (λ t. Finding) [ true ↦ stopped (Work (index_work o notes)) | false ↦ found (digest o notes) ])) (sym (le-ltb lends (index_work o notes) h))
 
-  pub work_answer : (out table : List ℕ) (needed : ℕ) → needed ≡ index_work o notes → lends < needed → Indexes (left_of (index_lending lends) o notes space records) out (Refused (Work needed)) out table
+  pub work_answer : (out table : List ℕ) (needed : ℕ) → needed ≡ index_work o notes → lends < needed → Indexes (left_of (index_lending lends) o notes space records) out (Err (Refused (Work needed))) out table
   unfolding index_output_after read_from
   work_answer out table needed e h =
       let a : left_of (index_lending lends) o notes space records ≡ refused (Work needed) =
@@ -154,7 +151,7 @@ lent_fits o notes is need h = let w = work_most o notes in omega (arith, is, nee
 
 -- what is lent: so many numbers are for marks, and what is left of it is for words
 module _ (o : Opts) (notes : List ℕ) (space records lends marks n : ℕ) (is : marks ≡ marks_for (length notes)) where
-  pub lent_refused : (out table : List ℕ) → n ≡ work_for o notes → lends < marks + n → Indexes (left_of (index_lending lends) o notes space records) out (Refused (Work (marks + n))) out table
+  pub lent_refused : (out table : List ℕ) → n ≡ work_for o notes → lends < marks + n → Indexes (left_of (index_lending lends) o notes space records) out (Err (Refused (Work (marks + n)))) out table
   unfolding index_work
   lent_refused out table need h = work_answer o notes space records lends out table (marks + n) (omega (arith, is, need)) h
 
@@ -167,14 +164,14 @@ module _ (o : Opts) (notes : List ℕ) (space records lends marks n : ℕ) (is :
 -- ---- what is told before
 
 module _ (l : Limits) (block notes : List ℕ) where
-  pub indexing_left : (o : Options) (space records : ℕ) → Admits l block notes (Passed o) → indexing l block notes space records ≡ left_of l (meant block o) notes space records
+  pub indexing_left : (o : Options) (space records : ℕ) → Admits l block notes (Ok o) → indexing l block notes space records ≡ left_of l (meant block o) notes space records
   unfolding indexing finding
   indexing_left o space records s =
       ap (λ (b : Block). in_index l.words space records (index_under block notes b) (with_block l block notes (read_block block))) s.0.accepted
       ∙ ap (in_index l.words space records (index_of (meant block o) notes)) s.1
 
-  pub refused_answer : (r : Refusal) (space records : ℕ) (out table : List ℕ) → Admits l block notes (Barred r) → Indexes (indexing l block notes space records) out (Refused r) out table
+  pub refused_answer : (r : Refusal) (space records : ℕ) (out table : List ℕ) → Admits l block notes (Err r) → Indexes (indexing l block notes space records) out (Err (Refused r)) out table
   unfolding indexing finding index_output_after read_from
   refused_answer r space records out table s =
-      subst (λ (f : Finding). Indexes (in_index l.words space records (index_under block notes (read_block block)) f) out (Refused r) out table) (sym s.whole_is)
+      subst (λ (f : Finding). Indexes (in_index l.words space records (index_under block notes (read_block block)) f) out (Err (Refused r)) out table) (sym s.whole_is)
       (record { is = refl; output = sym (s.untouched out); read = refl })

@@ -1,4 +1,5 @@
 -- What is spelled as the pieces are written: after the gaps of the pieces so far come those of the next.
+use Rattle.std.proofs.Common.{Some}
 use mathlib.Core.Path.{◌≡◌, refl, sym, ap, ◌∙◌}
 use mathlib.Core.Bool.{Bool, true, false}
 use mathlib.Core.List.{List, [], ◌∷◌, ◌++◌, append_assoc, append-nil}
@@ -9,7 +10,6 @@ use lib.ListN.{length, take, drop, get_or, set, replicate, length-append, length
 use lib.Seq.{take_at, take-take, drop_at, length-take-le}
 use borrow.Author.Tests.{leb-true, leb-false}
 use borrow.Rule.Slice.PartMut.{mid_of, put_mid, mid_len, take_put}
-use Rattle.text.specs.declared.Found.TheVariants.{At}
 use Rattle.options.specs.Opts.{Opts}
 use Rattle.lines.specs.Lines.{lines_of}
 use Rattle.pieces.specs.Pieces.{Piece, Kind, pieces}
@@ -27,7 +27,6 @@ use Rattle.index.specs.Cited.Lists.{no_record}
 use Rattle.index.specs.Cited.Reading.{front, read_from}
 use Rattle.indexer.specs.Index.{line_count, records_from, index_of}
 use Rattle.indexer.specs.Cited.Noting.{gaps_of, lines_put, Spells, Spelt, Noted}
-use Rattle.indexer.specs.declared.Pieces.TheVariants.{All}
 use Rattle.indexer.proofs.Laws.{length_records}
 use Rattle.indexer.proofs.Counts.{piece_lines}
 use Rattle.indexer.proofs.Reading.{records_read}
@@ -209,7 +208,7 @@ front_marks marks work few =
     ∙ marks_append (take marks work) (drop marks (front work))
 
 module _ (most : ℕ) (o : Opts) (notes out₀ : List ℕ) {c : Cursor} {out : List ℕ} (w : Going most o notes start out₀ c out) where
-  pub noted_all : {marks k line : ℕ} (work : List ℕ) → marks ≤ 65536 → Marking o notes (length out₀) marks c k line (take marks work) → length notes ≤ c.at → Noted most o notes out₀ out work (All c.written k)
+  pub noted_all : {marks k line : ℕ} (work : List ℕ) → marks ≤ 65536 → Marking o notes (length out₀) marks c k line (take marks work) → length notes ≤ c.at → Noted most o notes out₀ out work (all_pieces c.written k)
   noted_all {marks} {k} {line} work few m h =
       let f = going_last most o notes w h in (
         sym (all_long most o notes) ∙ f.0,
@@ -218,7 +217,7 @@ module _ (most : ℕ) (o : Opts) (notes out₀ : List ℕ) {c : Cursor} {out : L
         λ g. ap (λ (ms : List Bool). read_from ms k no_record) (front_marks marks work few) ∙ read_all o notes (length out₀) marks m (marks_in (drop marks (front work))) h g,
       )
 
-  pub noted_stopped : {out' : List ℕ} → (long_from most o c.mail notes c.at ≡ At c.at) × (out' ≡ out) → (long_paragraph most o 0 (pieces o notes) ≡ At c.at) × (length out' ≡ length out₀)
+  pub noted_stopped : {out' : List ℕ} → (long_from most o c.mail notes c.at ≡ Some c.at) × (out' ≡ out) → (long_paragraph most o 0 (pieces o notes) ≡ Some c.at) × (length out' ≡ length out₀)
   noted_stopped t = (sym (all_long most o notes) ∙ sym w.long ∙ t.0, ap length t.1 ∙ going_length most o notes w)
 
 -- ---- the room, of which a part is lent and comes home

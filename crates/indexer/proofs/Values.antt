@@ -1,4 +1,5 @@
 -- The number and the count of records that a reply tells, and that the number fits.
+use Rattle.std.proofs.Common.{Ok, Err}
 use mathlib.Core.Path.{◌≡◌, refl, ap, ◌∙◌}
 use mathlib.Core.Bool.{Bool, true, false, cond}
 use mathlib.Core.List.{List}
@@ -10,7 +11,6 @@ use borrow.Author.Tests.{leb-true, ltb-false}
 use Rattle.options.specs.Opts.{Opts, meant}
 use Rattle.options.specs.OptionBlock.{read_block}
 use Rattle.options.specs.declared.Block.{Block}
-use Rattle.options.specs.declared.Block.TheVariants.{Accepted, Fault}
 use Rattle.lists.specs.Coded.{numbered}
 use Rattle.formatter.specs.Answers.{done as written, room as noRoom, answer_coded}
 use Rattle.formatter.specs.Format.{Words, Limits, Finding, found, stopped, damage_in, with_text, with_block, finding, most_told, is_told, measured}
@@ -83,8 +83,8 @@ module _ (l : Limits) (sound : Sound l) (block notes : List ℕ) where
   notes_few d o false h k = let f = ltb-false l.bytes (length notes) h in omega (arith, f, sound.short)
 
   records_few : (d : List ℕ) (b : Block) → with_block l block notes b ≡ found d → length (index_under block notes b) ≤ most_told
-  records_few d (Fault place) e = omega arith
-  records_few d (Accepted o) e = let n = notes_few d (meant block o) (ltb l.bytes (length notes)) refl e in let f = few_records (meant block o) notes in omega (arith, n, f)
+  records_few d (Err (record { at = place })) e = omega arith
+  records_few d (Ok o) e = let n = notes_few d (meant block o) (ltb l.bytes (length notes)) refl e in let f = few_records (meant block o) notes in omega (arith, n, f)
 
   pub indexed_value : (space records : ℕ) → (index_coded (indexing l block notes space records)).value ≤ most_told
   unfolding indexing finding

@@ -9,7 +9,7 @@ ghost use Rattle.options.specs.Opts.{meant};
 ghost use Rattle.lines.specs.Lines.{lines_of};
 ghost use Rattle.lines.specs.Cited.Places.{most_large};
 ghost use Rattle.paragraphs.specs.Cited.Steps.{room_for};
-ghost use Rattle.walk.specs.Cited.Course.{Admitted, CursorIn};
+ghost use Rattle.walk.specs.Cited.Course.{CursorIn};
 ghost use Rattle.formatter.specs.Format.{most_bytes, own_room};
 ghost use Rattle.formatter.specs.declared.Refusal.TheVariants.{Words};
 ghost use Rattle.indexer.specs.Indexing.{marks_for, index_lending, indexing};
@@ -18,10 +18,10 @@ ghost use Rattle.indexer.specs.declared.Unfilled.TheVariants.{Refused};
 
 use formatter::Refusal;
 use lists::Refusing;
-use options::Options;
 use paragraphs::Cursor;
 use pieces::Piece;
 use walk::Stopped;
+use walk::notes::Notes;
 use words::TooMany;
 
 // What the call tells: its answer's number, and how many records the marks tell (none where it is refused).
@@ -140,8 +140,8 @@ fn write_pieces(
     requires { length work.old ≡ 19456 }
     ensures { Indexes (indexing own_room block.now notes.now (length out.old) records) out.old result out.new work.new }
 {
-    let o = formatter::admit(block, notes)?;
-    index_notes(o, block, notes, out, records, work)
+    let admitted = formatter::admit(block, notes)?;
+    index_notes(admitted, out, records, work)
 }
 
 // With lent room 12 is in the place of 4.
@@ -154,8 +154,8 @@ fn write_lent(
 ) -> Result<Filled, Unfilled>
     ensures { Indexes (indexing (index_lending (length work.old)) block.now notes.now (length out.old) records) out.old result out.new work.new }
 {
-    let o = formatter::admit_within(block, notes, formatter::MOST_LARGE)?;
-    index_lent(o, block, notes, out, records, work)
+    let admitted = formatter::admit_within(block, notes, formatter::MOST_LARGE)?;
+    index_lent(admitted, out, records, work)
 }
 
 // A paragraph may have so many words.
@@ -171,44 +171,39 @@ fn marks_for(size: usize) -> usize
 
 // In room for the marks of the longest notes and for the most words that a paragraph may have.
 fn index_notes(
-    o: Options,
-    block: &[u8],
-    notes: &[u8],
+    notes: Notes,
     out: &mut [u8],
     records: usize,
     work: &mut [u32],
 ) -> Result<Filled, Unfilled>
-    requires { Admitted block.now notes.now o × (length notes.now ≤ most_bytes) × (length work.old ≡ 19456) }
-    ensures { Indexes (left_of own_room (meant block.now o) notes.now (length out.old) records) out.old result out.new work.new }
+    requires { (length notes.bytes.now ≤ most_bytes) × (length work.old ≡ 19456) }
+    ensures { Indexes (left_of own_room (meant notes.entry.block.now notes.entry.options) notes.entry.bytes.now (length out.old) records) out.old result out.new work.new }
 {
-    let marks = marks_for(notes.len());
-    let end = marks + paragraphs::numbers_for(o.quick, MOST_WORDS);
-    index_with(o, block, notes, out, records, work, marks, end)
+    let marks = marks_for(notes.bytes.len());
+    let end = marks + paragraphs::numbers_for(notes.options.quick, MOST_WORDS);
+    index_with(notes, out, records, work, marks, end)
 }
 
 // In the room that is lent, if it is enough. The room is told before anything is written, since the output stays as it was.
 fn index_lent(
-    o: Options,
-    block: &[u8],
-    notes: &[u8],
+    notes: Notes,
     out: &mut [u8],
     records: usize,
     work: &mut [u32],
 ) -> Result<Filled, Unfilled>
-    requires { Admitted block.now notes.now o }
-    ensures { Indexes (left_of (index_lending (length work.old)) (meant block.now o) notes.now (length out.old) records) out.old result out.new work.new }
+    ensures { Indexes (left_of (index_lending (length work.old)) (meant notes.entry.block.now notes.entry.options) notes.entry.bytes.now (length out.old) records) out.old result out.new work.new }
 {
-    let marks = marks_for(notes.len());
+    let marks = marks_for(notes.bytes.len());
     let Some(rest) = work.len().checked_sub(marks) else {
-        let needed = walk::work_over(o, block, notes, 0);
+        let needed = walk::work_over(notes, 0);
         return Err(Unfilled::Refused(Refusal::Work(marks + needed)));
     };
-    let needed = walk::work_over(o, block, notes, rest);
+    let needed = walk::work_over(notes, rest);
     if rest < needed {
         return Err(Unfilled::Refused(Refusal::Work(marks + needed)));
     }
     let end = work.len();
-    index_with(o, block, notes, out, records, work, marks, end)
+    index_with(notes, out, records, work, marks, end)
 }
 
 // N has room for no more.
@@ -217,19 +212,17 @@ const MOST_TOLD: usize = 4294967295;
 // Writes the digest, and tells whether there is room for its records and for itself. The first numbers of the room are for marks, those
 // after them for words.
 fn index_with(
-    o: Options,
-    block: &[u8],
-    notes: &[u8],
+    notes: Notes,
     out: &mut [u8],
     records: usize,
     work: &mut [u32],
     marks: usize,
     end: usize,
 ) -> Result<Filled, Unfilled>
-    requires { Admitted block.now notes.now o × Parted notes.now marks end work.old }
-    ensures { Indexes (found_of (room_for o.quick (end - marks)) (meant block.now o) notes.now (length out.old) records) out.old result out.new work.new }
+    requires { Parted notes.bytes.now marks end work.old }
+    ensures { Indexes (found_of (room_for notes.entry.options.quick (end - marks)) (meant notes.entry.block.now notes.entry.options) notes.entry.bytes.now (length out.old) records) out.old result out.new work.new }
 {
-    let noted = note_pieces(o, block, notes, out, work, marks, end);
+    let noted = note_pieces(notes, out, work, marks, end);
     let r = in_room(noted, records, out.len());
     if r.is_err() {
         out.fill(0);
@@ -259,16 +252,14 @@ fn in_room(noted: Result<Pieces, Stopped>, records: usize, space: usize) -> Resu
 
 // Piece by piece: written, and its gaps spelled.
 fn note_pieces(
-    o: Options,
-    block: &[u8],
-    notes: &[u8],
+    notes: Notes,
     out: &mut [u8],
     work: &mut [u32],
     marks: usize,
     end: usize,
 ) -> Result<Pieces, Stopped>
-    requires { Admitted block.now notes.now o × Parted notes.now marks end work.old }
-    ensures { Noted (room_for o.quick (end - marks)) (meant block.now o) notes.now out.old out.new work.new result }
+    requires { Parted notes.bytes.now marks end work.old }
+    ensures { Noted (room_for notes.entry.options.quick (end - marks)) (meant notes.entry.block.now notes.entry.options) notes.entry.bytes.now out.old out.new work.new result }
 {
     work[..marks].fill(0);
     let mut c = Cursor {
@@ -278,8 +269,8 @@ fn note_pieces(
     };
     let mut pieces = 0;
     let mut line = 0;
-    while c.at < notes.len() {
-        let Ok(d) = put_piece(o, block, notes, c, out, &mut work[marks..end]) else {
+    while c.at < notes.bytes.len() {
+        let Ok(d) = put_piece(notes, c, out, &mut work[marks..end]) else {
             return Err(Stopped { at: c.at });
         };
         line = spell(&mut work[..marks], out, c, d, line);
@@ -309,32 +300,41 @@ fn spell(gaps: &mut [u32], out: &[u8], c: Cursor, d: Cursor, line: usize) -> usi
 }
 
 // Writes the piece at a place, unless it is a paragraph of too many words.
-fn put_piece(
-    o: Options,
-    block: &[u8],
-    notes: &[u8],
-    c: Cursor,
-    out: &mut [u8],
-    work: &mut [u32],
-) -> Result<Cursor, TooMany>
-    requires { Admitted block.now notes.now o × CursorIn notes.now c × (c.at < length notes.now) }
-    ensures { PieceStepped (room_for o.quick (length work.old)) (meant block.now o) notes.now out.old c out.new result }
+fn put_piece(notes: Notes, c: Cursor, out: &mut [u8], work: &mut [u32]) -> Result<Cursor, TooMany>
+    requires { CursorIn notes.bytes.now c × (c.at < length notes.bytes.now) }
+    ensures { PieceStepped (room_for notes.entry.options.quick (length work.old)) (meant notes.entry.block.now notes.entry.options) notes.entry.bytes.now out.old c out.new result }
 {
     let at = c.at;
-    match pieces::next_piece(notes, at, o, block, c.mail, !o.keep) {
+    match pieces::next_piece(
+        notes.bytes,
+        at,
+        notes.options,
+        notes.block,
+        c.mail,
+        !notes.options.keep,
+    ) {
         Piece::Blank { next } => Ok(Cursor {
             at: next,
-            written: output::emit_line(notes, at, at, out, c.written),
+            written: output::emit_line(notes.bytes, at, at, out, c.written),
             mail: true,
         }),
         Piece::Plain { end, next } => Ok(Cursor {
             at: next,
-            written: output::emit_line(notes, at, end, out, c.written),
+            written: output::emit_line(notes.bytes, at, end, out, c.written),
             mail: false,
         }),
         Piece::Text(p) => {
-            let most = paragraphs::room_for(o.quick, work.len());
-            paragraphs::put_paragraph(notes, at, o, p, out, c.written, most, work)
+            let most = paragraphs::room_for(notes.options.quick, work.len());
+            paragraphs::put_paragraph(
+                notes.bytes,
+                at,
+                notes.options,
+                p,
+                out,
+                c.written,
+                most,
+                work,
+            )
         }
     }
 }

@@ -1,4 +1,5 @@
 -- Piece by piece: what is left to be matched, and of the search for a paragraph of too many words.
+use Rattle.std.proofs.Common.{Option, Some, None, Ok, Err}
 use mathlib.Core.Path.{◌≡◌, refl, sym, ap, ◌∙◌}
 use mathlib.Core.Bool.{Bool, true, false}
 use mathlib.Core.List.{List, [], ◌∷◌}
@@ -7,8 +8,6 @@ use native.Mathlib.Omega.{arith}
 use lib.ListN.{length, take, drop}
 use lib.Seq.{slice}
 use borrow.Author.Tests.{le-ltb, lt-ltb}
-use Rattle.text.specs.declared.Found.{Found}
-use Rattle.text.specs.declared.Found.TheVariants.{At, Nowhere}
 use Rattle.options.specs.Opts.{Opts, meant}
 use Rattle.options.specs.declared.Options.{Options}
 use Rattle.lines.specs.Lines.{lines_of}
@@ -27,7 +26,6 @@ use Rattle.words.specs.Words.{words_of}
 use Rattle.words.specs.Cited.Places.{words_at}
 use Rattle.words.specs.Cited.Split.{Split}
 use Rattle.words.specs.declared.Count.{Count}
-use Rattle.words.specs.declared.Count.TheVariants.{Words, TooMany}
 use Rattle.words.proofs.Order.{paragraph_some}
 use Rattle.output.specs.Cited.Writers.{margin_of}
 use Rattle.paragraphs.proofs.Breaking.{split_many, split_few}
@@ -44,23 +42,21 @@ use Rattle.checker.proofs.Spots.{matches_same, part_slice}
 use Rattle.judge.specs.Cited.Judging.{Took, long_behind, Stepped, Walked}
 use Rattle.judge.specs.declared.Stand.{Stand}
 use Rattle.judge.specs.declared.Step.{Step}
-use Rattle.judge.specs.declared.Step.TheVariants.{On}
-use Rattle.judge.specs.declared.Course.TheVariants.{Through}
 
 -- ---- the first paragraph of over so many words
 
 module _ (most : ℕ) (o : Opts) (notes : List ℕ) (c : Stand) where
-  long_none : length notes ≤ c.at → long_behind most o notes c ≡ Nowhere
+  long_none : length notes ≤ c.at → long_behind most o notes c ≡ None
   unfolding long_paragraph
   long_none h = ap (long_paragraph most o c.at) (none_left o c.mail notes c.at h)
 
   module _ {kind : Kind} {state : Bool} {next : ℕ} (g : FirstPiece o c.mail notes c.at kind state next) where
-    long_as : (b : Bool) → too_many most o kind ≡ b → long_behind most o notes c ≡ elim b as (λ x. Found) [ true ↦ At c.at | false ↦ long_paragraph most o next (pieces_from o state notes next) ]
+    long_as : (b : Bool) → too_many most o kind ≡ b → long_behind most o notes c ≡ elim b as (λ x. (Option ℕ)) [ true ↦ Some c.at | false ↦ long_paragraph most o next (pieces_from o state notes next) ]
     unfolding long_paragraph
     long_as b e =
         ap (long_paragraph most o c.at) g.pieces
-        ∙ ap (λ (n : ℕ). elim (too_many most o g.piece.kind) as (λ x. Found) [ true ↦ At c.at | false ↦ long_paragraph most o n (pieces_from o state notes next) ]) g.extent
-        ∙ ap (λ (x : Bool). elim x as (λ y. Found) [ true ↦ At c.at | false ↦ long_paragraph most o next (pieces_from o state notes next) ]) (ap (too_many most o) g.is ∙ e)
+        ∙ ap (λ (n : ℕ). elim (too_many most o g.piece.kind) as (λ x. (Option ℕ)) [ true ↦ Some c.at | false ↦ long_paragraph most o n (pieces_from o state notes next) ]) g.extent
+        ∙ ap (λ (x : Bool). elim x as (λ y. (Option ℕ)) [ true ↦ Some c.at | false ↦ long_paragraph most o next (pieces_from o state notes next) ]) (ap (too_many most o) g.is ∙ e)
 
 -- ---- after what is matched
 
@@ -111,10 +107,10 @@ module _ (block notes : List ℕ) (o : Options) (c : Stand) (p : Paragraph) (rea
       (omega (arith, b.on), b.within, ready.short, k.tab_least, k.tab_most, b.begins)
 
   module _ {most : ℕ} {table : List ℕ} {k : Count} {es : List ℕ} (s : Split most notes words es table k) where
-    pub text_over : k ≡ TooMany → long_behind most (meant block o) notes c ≡ At c.at
+    pub text_over : k ≡ (Err (record { })) → long_behind most (meant block o) notes c ≡ Some c.at
     text_over e = long_as most (meant block o) notes c goes.goes true (lt-ltb most (length (words_of (meant block o) goes.paragraph_is)) (omega (arith, split_many s e, ap length words_are)))
 
-    module _ (n : ℕ) (e : k ≡ Words n) where
+    module _ (n : ℕ) (e : k ≡ Ok n) where
       pub text_matchable : Matchable notes table n p.indent × MarginFits notes p.first
       text_matchable =
           let w = s.kept n e in
@@ -134,7 +130,7 @@ module _ (block notes : List ℕ) (o : Options) (c : Stand) (p : Paragraph) (rea
       }
 
 module _ (most : ℕ) (o : Opts) (notes digest : List ℕ) (c : Stand) {r : Step} (s : Stepped most o notes digest c r) where
-  pub stepped_on : {d : Stand} → r ≡ On d → Took most o notes digest c d
+  pub stepped_on : {d : Stand} → r ≡ Ok d → Took most o notes digest c d
   stepped_on e = rw e at s
 
 -- ---- the pieces from a place on
@@ -180,7 +176,7 @@ module _ (most : ℕ) (o : Opts) (notes digest : List ℕ) (first : Matched) whe
           long = sym (long_as most o notes c t.goes false t.few) ∙ g.long;
         }
 
-    pub going_through : length notes ≤ c.at → Walked most o notes digest first (Through c.matched)
+    pub going_through : length notes ≤ c.at → Walked most o notes digest first (Ok c.matched)
     going_through h = (
       sym g.long ∙ long_none most o notes c h,
       record {

@@ -1,5 +1,6 @@
 -- What an answer tells is small: places of the notes and the block are, and a digest that is matched has no more lines than bytes. So code and
 -- value can be read back from the number.
+use Rattle.std.proofs.Common.{Ok, Err}
 use mathlib.Core.Path.{◌≡◌, refl, ap}
 use mathlib.Core.Bool.{Bool, true, false, cond}
 use mathlib.Core.List.{List, [], ◌∷◌}
@@ -11,7 +12,6 @@ use borrow.Author.Tests.{ltb-false}
 use Rattle.options.specs.Opts.{meant}
 use Rattle.options.specs.OptionBlock.{read_block}
 use Rattle.options.specs.declared.Block.{Block}
-use Rattle.options.specs.declared.Block.TheVariants.{Accepted as BlockAccepted, Fault}
 use Rattle.lists.specs.Coded.{numbered}
 use Rattle.formatter.specs.Format.{Limits, Finding, found, stopped, finding, most_told}
 use Rattle.formatter.specs.declared.Refusal.TheVariants.{Work}
@@ -25,7 +25,7 @@ use Rattle.checker.proofs.Theorems.{the_line_told_is_the_line_named}
 use Rattle.judge.specs.Answers.{check_coded}
 use Rattle.judge.specs.Checking.{with_verdict, digest_within, after_notes, verdict_under, checking}
 use Rattle.judge.specs.declared.Judgement.{Judgement}
-use Rattle.judge.specs.declared.Judgement.TheVariants.{Accepted, Refused, LongDigest, Line}
+use Rattle.judge.specs.declared.Unaccepted.TheVariants.{Refused, LongDigest, Line}
 
 -- ---- the line named
 
@@ -44,8 +44,8 @@ named_few Good digest zero h = omega arith
 named_few Good digest (suc n) h = let e = (h.before n (omega arith)).ended in let f = few_feeds digest in omega (arith, e, f)
 
 verdict_few : (block notes digest : List ℕ) (b : Block) → (check_coded (with_verdict (verdict_under block notes digest b))).value ≤ length digest
-verdict_few block notes digest (Fault place) = omega arith
-verdict_few block notes digest (BlockAccepted o) = go (verdict (meant block o) notes digest) refl
+verdict_few block notes digest (Err (record { at = place })) = omega arith
+verdict_few block notes digest (Ok o) = go (verdict (meant block o) notes digest) refl
   where
     go : (v : Verdict) → verdict (meant block o) notes digest ≡ v → (check_coded (with_verdict v)).value ≤ length digest
     go accepted e = omega arith
@@ -55,7 +55,7 @@ module _ (l : Limits) (sound : Sound l) (block notes digest : List ℕ) where
   digest_small : (b : Block) → (check_coded (digest_within l.bytes (length digest) (verdict_under block notes digest b))).value ≤ most_told
   digest_small b = go (ltb l.bytes (length digest)) refl
     where
-      go : (t : Bool) → ltb l.bytes (length digest) ≡ t → (check_coded (cond t LongDigest (with_verdict (verdict_under block notes digest b)))).value ≤ most_told
+      go : (t : Bool) → ltb l.bytes (length digest) ≡ t → (check_coded (cond t (Err LongDigest) (with_verdict (verdict_under block notes digest b)))).value ≤ most_told
       go true e = omega arith
       go false e = let f = verdict_few block notes digest b in omega (arith, f, ltb-false l.bytes (length digest) e, sound.short)
 
@@ -70,10 +70,10 @@ module _ (l : Limits) (sound : Sound l) (block notes digest : List ℕ) where
       go (stopped r) e = found_value l sound block notes r e
 
 code_most : (a : Judgement) → (check_coded a).code ≤ 12
-code_most Accepted = omega arith
-code_most (Refused r) = refusal_most r
-code_most LongDigest = omega arith
-code_most (Line line) = omega arith
+code_most (Ok tt) = omega arith
+code_most (Err (Refused r)) = refusal_most r
+code_most (Err LongDigest) = omega arith
+code_most (Err (Line line)) = omega arith
 
 pub number_fits : (l : Limits) → Sound l → (block notes digest : List ℕ) → numbered (check_coded (checking l block notes digest)) < 2 ^ 64
 unfolding numbered
@@ -88,21 +88,21 @@ checking_tells_code_and_value l sound block notes digest = reads_back (check_cod
 
 -- what is refused for want of room is found so
 module _ (l : Limits) (block notes digest : List ℕ) (n : ℕ) where
-  never_so : (b : Bool) (v : Verdict) → cond b LongDigest (with_verdict v) ≡ Refused (Work n) → ⊥
+  never_so : (b : Bool) (v : Verdict) → cond b (Err LongDigest) (with_verdict v) ≡ Err (Refused (Work n)) → ⊥
   never_so true v e = let z : ◌≡◌ {A = ℕ} 0 1 = cc in omega arith
   never_so false accepted e = let z : ◌≡◌ {A = ℕ} 0 1 = cc in omega arith
   never_so false (at line) e = let z : ◌≡◌ {A = ℕ} 0 1 = cc in omega arith
 
-  found_so : checking l block notes digest ≡ Refused (Work n) → finding l block notes ≡ stopped (Work n)
+  found_so : checking l block notes digest ≡ Err (Refused (Work n)) → finding l block notes ≡ stopped (Work n)
   unfolding checking
   found_so e = go (finding l block notes) e
     where
-      go : (f : Finding) → after_notes (digest_within l.bytes (length digest) (verdict_under block notes digest (read_block block))) f ≡ Refused (Work n) → f ≡ stopped (Work n)
+      go : (f : Finding) → after_notes (digest_within l.bytes (length digest) (verdict_under block notes digest (read_block block))) f ≡ Err (Refused (Work n)) → f ≡ stopped (Work n)
       go (found d) k = absurd (never_so (ltb l.bytes (length digest)) (verdict_under block notes digest (read_block block)) k)
       go (stopped r) k = let q : r ≡ Work n = cc in ap stopped q
 
 -- With the room that the call asks for it is not refused so again, whatever the digest.
-pub the_room_asked_for_suffices_to_check : (block notes digest other : List ℕ) (lends needed more : ℕ) → checking (lending lends) block notes digest ≡ Refused (Work needed) → needed ≤ more
-    → (n : ℕ) → checking (lending more) block notes other ≡ Refused (Work n) → ⊥
+pub the_room_asked_for_suffices_to_check : (block notes digest other : List ℕ) (lends needed more : ℕ) → checking (lending lends) block notes digest ≡ Err (Refused (Work needed)) → needed ≤ more
+    → (n : ℕ) → checking (lending more) block notes other ≡ Err (Refused (Work n)) → ⊥
 the_room_asked_for_suffices_to_check block notes digest other lends needed more e h n f =
     the_room_asked_for_suffices block notes lends needed more (found_so (lending lends) block notes digest needed e) h n (found_so (lending more) block notes other n f)

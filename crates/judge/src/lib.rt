@@ -5,7 +5,7 @@ ghost use Rattle.std.specs.Prelude.{◌≡◌, ◌^◌, ◌<◌, length};
 ghost use Rattle.options.specs.Opts.{meant};
 ghost use Rattle.records.specs.Cited.Table.{Holds, words_in};
 ghost use Rattle.output.specs.Cited.Writers.{margin_of};
-ghost use Rattle.walk.specs.Cited.Course.{Admitted, SoundFrom};
+ghost use Rattle.walk.specs.Cited.Course.{SoundFrom};
 ghost use Rattle.checker.specs.Matching.{and_then, match_line, match_words};
 ghost use Rattle.checker.specs.Cited.Places.{matched, MatchedIn, Matches, MarginFits, Matchable};
 ghost use Rattle.formatter.specs.Format.{own_room};
@@ -20,9 +20,9 @@ ghost use Rattle.judge.specs.declared.Unaccepted.TheVariants.{Refused, Line};
 use checker::{Fault, Spot};
 use formatter::Refusal;
 use lists::Refusing;
-use options::Options;
 use pieces::{Margin, Piece};
 use walk::Stopped;
+use walk::notes::Notes;
 use words::TooMany;
 
 // Why a digest is not accepted: the notes are refused; or the digest is, with the line that is named.
@@ -89,8 +89,8 @@ const MOST_NUMBERS: usize = 7168;
 pub fn check(block: &[u8], notes: &[u8], digest: &[u8]) -> Result<(), Unaccepted>
     ensures { result ≡ checking own_room block.now notes.now digest.now }
 {
-    let o = formatter::admit(block, notes)?;
-    check_notes(o, block, notes, digest)
+    let admitted = formatter::admit(block, notes)?;
+    check_notes(admitted, digest)
 }
 
 // The same in working room that is lent: 12 in the place of 4.
@@ -102,36 +102,28 @@ pub fn check_large(
 ) -> Result<(), Unaccepted>
     ensures { result ≡ checking (lending (length work.old)) block.now notes.now digest.now }
 {
-    let o = formatter::admit_within(block, notes, formatter::MOST_LARGE)?;
-    check_lent(o, block, notes, digest, work)
+    let admitted = formatter::admit_within(block, notes, formatter::MOST_LARGE)?;
+    check_lent(admitted, digest, work)
 }
 
 // 4, 9 and 10, with the options of an accepted block. The table of a paragraph's words is lent from here on.
-fn check_notes(o: Options, block: &[u8], notes: &[u8], digest: &[u8]) -> Result<(), Unaccepted>
-    requires { Admitted block.now notes.now o }
-    ensures { result ≡ left_of own_room (meant block.now o) notes.now digest.now }
+fn check_notes(notes: Notes, digest: &[u8]) -> Result<(), Unaccepted>
+    ensures { result ≡ left_of own_room (meant notes.entry.block.now notes.entry.options) notes.entry.bytes.now digest.now }
 {
     let mut table = [0u32; MOST_NUMBERS];
     let first = begin(MOST_BYTES, digest.len());
-    let m = match_pieces(o, block, notes, digest, first, MOST_WORDS, &mut table)?;
+    let m = match_pieces(notes, digest, first, MOST_WORDS, &mut table)?;
     judge(MOST_BYTES, digest.len(), m)
 }
 
 // In the room that is lent. Only where it does not reach is counted what would.
-fn check_lent(
-    o: Options,
-    block: &[u8],
-    notes: &[u8],
-    digest: &[u8],
-    work: &mut [u32],
-) -> Result<(), Unaccepted>
-    requires { Admitted block.now notes.now o }
-    ensures { result ≡ left_of (lending (length work.old)) (meant block.now o) notes.now digest.now }
+fn check_lent(notes: Notes, digest: &[u8], work: &mut [u32]) -> Result<(), Unaccepted>
+    ensures { result ≡ left_of (lending (length work.old)) (meant notes.entry.block.now notes.entry.options) notes.entry.bytes.now digest.now }
 {
-    let most = paragraphs::room_for(o.quick, work.len());
+    let most = paragraphs::room_for(notes.options.quick, work.len());
     let first = begin(formatter::MOST_LARGE, digest.len());
-    let Ok(m) = match_pieces(o, block, notes, digest, first, most, work) else {
-        let needed = walk::work_over(o, block, notes, work.len());
+    let Ok(m) = match_pieces(notes, digest, first, most, work) else {
+        let needed = walk::work_over(notes, work.len());
         return Err(Unaccepted::Refused(Refusal::Work(needed)));
     };
     judge(formatter::MOST_LARGE, digest.len(), m)
@@ -164,24 +156,22 @@ fn judge(bytes: usize, size: usize, m: Result<Spot, Fault>) -> Result<(), Unacce
 
 // Piece by piece. The walk goes on where the digest is no longer matched: too many words, found later, take precedence.
 fn match_pieces(
-    o: Options,
-    block: &[u8],
-    notes: &[u8],
+    notes: Notes,
     digest: &[u8],
     first: Result<Spot, Fault>,
     most: usize,
     table: &mut [u32],
 ) -> Result<Result<Spot, Fault>, Stopped>
-    requires { Admitted block.now notes.now o × MatchedIn digest.now first × Holds most table.old }
-    ensures { Walked most (meant block.now o) notes.now digest.now first result }
+    requires { MatchedIn digest.now first × Holds most table.old }
+    ensures { Walked most (meant notes.entry.block.now notes.entry.options) notes.entry.bytes.now digest.now first result }
 {
     let mut c = Stand {
         at: 0,
         mail: true,
         matched: first,
     };
-    while c.at < notes.len() {
-        let Ok(d) = match_piece(o, block, notes, digest, c, most, table) else {
+    while c.at < notes.bytes.len() {
+        let Ok(d) = match_piece(notes, digest, c, most, table) else {
             return Err(Stopped { at: c.at });
         };
         c = d;
@@ -191,38 +181,58 @@ fn match_pieces(
 
 // The piece at a place, unless it is a paragraph of too many words.
 fn match_piece(
-    o: Options,
-    block: &[u8],
-    notes: &[u8],
+    notes: Notes,
     digest: &[u8],
     c: Stand,
     most: usize,
     table: &mut [u32],
 ) -> Result<Stand, TooMany>
-    requires { Admitted block.now notes.now o × MatchedIn digest.now c.matched × Holds most table.old × (c.at < length notes.now) × SoundFrom notes.now c.at }
-    ensures { Stepped most (meant block.now o) notes.now digest.now c result }
+    requires { MatchedIn digest.now c.matched × Holds most table.old × (c.at < length notes.bytes.now) × SoundFrom notes.bytes.now c.at }
+    ensures { Stepped most (meant notes.entry.block.now notes.entry.options) notes.entry.bytes.now digest.now c result }
 {
     let at = c.at;
-    match pieces::next_piece(notes, at, o, block, c.mail, !o.keep) {
+    match pieces::next_piece(
+        notes.bytes,
+        at,
+        notes.options,
+        notes.block,
+        c.mail,
+        !notes.options.keep,
+    ) {
         Piece::Blank { next } => Ok(Stand {
             at: next,
             mail: true,
-            matched: line_behind(&notes[at..at], digest, c.matched),
+            matched: line_behind(&notes.bytes[at..at], digest, c.matched),
         }),
         Piece::Plain { end, next } => Ok(Stand {
             at: next,
             mail: false,
-            matched: line_behind(&notes[at..end], digest, c.matched),
+            matched: line_behind(&notes.bytes[at..end], digest, c.matched),
         }),
         Piece::Text(p) => {
             let n = words::split_words(
-                notes, at, p.next, p.mail, p.start, p.later, o, most, table,
+                notes.bytes,
+                at,
+                p.next,
+                p.mail,
+                p.start,
+                p.later,
+                notes.options,
+                most,
+                table,
             )?;
             Ok(Stand {
                 at: p.next,
                 mail: p.mail,
                 matched: words_behind(
-                    notes, table, n, p.first, p.indent, o.glue, digest, c.matched,
+                    notes.bytes,
+                    table,
+                    n,
+                    p.first,
+                    p.indent,
+                    notes.options.glue,
+                    digest,
+                    c.matched,
                 ),
             })
         }

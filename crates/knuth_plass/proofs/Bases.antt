@@ -1,4 +1,5 @@
 -- Where no gap has a tab, an active break is a base and nothing of it changes from round to round; bases ascend, so breaks leave at the head alone.
+use Rattle.std.proofs.Common.{None}
 use mathlib.Core.Path.{◌≡◌, refl, sym, ◌∙◌, ap}
 use mathlib.Core.Bool.{Bool, true, false, cond, not, ◌&&◌}
 use mathlib.Core.List.{List, [], ◌∷◌, ◌++◌, map, map-append}
@@ -11,7 +12,6 @@ use lib.Ieee.{Float, fin}
 use Rattle.lists.specs.Theorems.All.{All}
 use Rattle.lists.proofs.All.{all_append, all_weaken}
 use Rattle.records.specs.Word.{Word}
-use Rattle.records.specs.declared.Before.TheVariants.{Absent}
 use Rattle.spacing.specs.Spacing.{added_space, gap_width}
 use Rattle.spacing.specs.declared.Setting.{Setting}
 use Rattle.demerits.specs.Demerits.{no_ratio}
@@ -30,7 +30,7 @@ cond_same : (g : Setting) (p gap s width base : ℕ) (f : Bool) → BaseIs g p g
 cond_same g p gap s width base true h = omega arith
 cond_same g p gap s width base false h = omega arith
 
-module _ (g : Setting) (i p s : ℕ) (w : Word) (plain : w.before ≡ Absent) where
+module _ (g : Setting) (i p s : ℕ) (w : Word) (plain : w.before ≡ None) where
   pub reached_view : (e : Break) → Good g i p w.after e → reached g s w (view g i p e) ≡ reach_of g (line_to p s w) e
   unfolding reached view gap_width
   reached_view e h = rw plain (cond_same g p w.after s w.width e.columns (fresh_at i e.places) h.base)
@@ -43,7 +43,7 @@ old_not_fresh : (i : ℕ) (ks : List Place) → MadeBelow i ks → fresh_at (suc
 old_not_fresh i [] h = refl
 old_not_fresh i (k ∷ ks) h = rw (ne_eqb (suc k.word) (suc i) (λ e. absurd (omega arith))) (and_false (not k.before))
 
-module _ (g : Setting) (i p s : ℕ) (w : Word) (plain : w.before ≡ Absent) where
+module _ (g : Setting) (i p s : ℕ) (w : Word) (plain : w.before ≡ None) where
   abbrev x : ℕ
   x = line_to p s w
 
@@ -113,7 +113,7 @@ module _ (g : Setting) (i p : ℕ) where
   with_view bs none = refl
   with_view bs (offer b) = sym (map-append (view g i p) bs (b ∷ []))
 
-module _ (g : Setting) (i p s gap : ℕ) (w : Word) (plain : w.before ≡ Absent) where
+module _ (g : Setting) (i p s gap : ℕ) (w : Word) (plain : w.before ≡ None) where
   abbrev to : ℕ
   to = line_to p s w
 
@@ -214,7 +214,7 @@ pops_all P g x (e ∷ es) h = by (leb (reach_of g x e) g.width) (pops_all P g x 
   by true k = h
   by false k = k
 
-module _ (g : Setting) (i p gap : ℕ) (w : Word) (sentence : Bool) (plain : w.before ≡ Absent) (es : List Break) (some : Some es) (good : All (Good g i p w.after) es) (rising : Rising es) where
+module _ (g : Setting) (i p gap : ℕ) (w : Word) (sentence : Bool) (plain : w.before ≡ None) (es : List Break) (some : Some es) (good : All (Good g i p w.after) es) (rising : Rising es) where
   abbrev space : ℕ
   space = added_space g.uniform w.new_line sentence false
 
@@ -338,7 +338,7 @@ module _ (g : Setting) (i p s gap : ℕ) (w : Word) where
 -- ---- all rounds
 
 abbrev pub Tabless : Word → Type 0
-Tabless w = w.before ≡ Absent
+Tabless w = w.before ≡ None
 
 unfoldable pub interval_from : Setting → Bool → ℕ → ℕ → List Break → List Word → List Break
 interval_from g sentence i p es [] = es

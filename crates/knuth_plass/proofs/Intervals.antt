@@ -1,4 +1,5 @@
 -- A paragraph's rounds on the interval: one after the other, from the paragraph's start to the path.
+use Rattle.std.proofs.Common.{None}
 use mathlib.Core.Path.{◌≡◌, refl, sym, subst, ◌∙◌, ap}
 use mathlib.Core.Bool.{Bool, true, false, cond}
 use mathlib.Core.List.{List, [], ◌∷◌}
@@ -13,7 +14,6 @@ use Rattle.lists.specs.Theorems.All.{All}
 use Rattle.lists.proofs.All.{all_append, all_drop, all_map}
 use Rattle.records.specs.Word.{Word, meaning}
 use Rattle.records.specs.Cited.Table.{records_of, word_in, words_in}
-use Rattle.records.specs.declared.Before.TheVariants.{Absent}
 use Rattle.records.specs.declared.Word.{Word as WordRecord}
 use Rattle.records.proofs.Table.{words_drop, words_end}
 use Rattle.spacing.specs.Spacing.{added_space}
@@ -109,11 +109,11 @@ module _ (notes : List ℕ) (n : ℕ) (table : List ℕ) where
   unfolding meaning
   gap_here i h = rw (words_drop notes n table i h)
 
-  module _ (tabless : (i : ℕ) → i < n → (word_in table i).before ≡ Absent) where
-    records_plain : (k : ℕ) → k ≤ n → All (λ (w : WordRecord). w.before ≡ Absent) (records_of k table)
+  module _ (tabless : (i : ℕ) → i < n → (word_in table i).before ≡ None) where
+    records_plain : (k : ℕ) → k ≤ n → All (λ (w : WordRecord). w.before ≡ None) (records_of k table)
     unfolding records_of
     records_plain zero h = tt
-    records_plain (suc k) h = all_append (λ (w : WordRecord). w.before ≡ Absent) (records_of k table) (word_in table k ∷ []) (records_plain k (omega arith)) (tabless k (omega arith), tt)
+    records_plain (suc k) h = all_append (λ (w : WordRecord). w.before ≡ None) (records_of k table) (word_in table k ∷ []) (records_plain k (omega arith)) (tabless k (omega arith), tt)
 
     words_plain : All Tabless (words_in notes n table)
     unfolding words_in meaning

@@ -1,4 +1,5 @@
 -- A break's line with the word on it: its columns, and what the break offers after the word.
+use Rattle.std.proofs.Common.{None}
 use mathlib.Core.Path.{◌≡◌, refl, sym, subst}
 use mathlib.Core.Bool.{Bool, true, false, cond}
 use mathlib.Core.List.{List}
@@ -16,7 +17,6 @@ use Rattle.demerits.specs.Cited.Bounds.{within, most_cost}
 use Rattle.demerits.proofs.Terms.{line_le, ratio_le, cost_with_law, square_le_most}
 use Rattle.knuth_plass.specs.declared.Break.{Break as Record}
 use Rattle.knuth_plass.specs.declared.Best.{Best}
-use Rattle.records.specs.declared.Before.TheVariants.{Absent}
 use Rattle.knuth_plass.specs.declared.Turn.{Turn}
 use Rattle.knuth_plass.specs.KnuthPlass.{Place, Offer, none, stretch_of, minimum_of, reached, lesser, offer_of}
 use Rattle.knuth_plass.specs.Cited.Table.{most_words, ratio_of, Tables, path_to, seen}
@@ -43,7 +43,7 @@ module _ (g : Setting) (turn : Turn) (b : Record) where
   line_gap gap e f = sym (rw (e, f))
 
   -- without a tab
-  pub line_plain : (r : ℕ) → turn.word.before ≡ Absent → r ≡ cond b.fresh (turn.space + turn.word.width) (turn.word.after + (turn.space + turn.word.width))
+  pub line_plain : (r : ℕ) → turn.word.before ≡ None → r ≡ cond b.fresh (turn.space + turn.word.width) (turn.word.after + (turn.space + turn.word.width))
       → b.columns + r ≡ line_at g turn b
   unfolding line_at gap_width
   line_plain r e f = rw (f, e) (by b.fresh) where

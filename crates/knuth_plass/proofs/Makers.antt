@@ -1,4 +1,5 @@
 -- What made the break of a round: the first break that stays whose offer has the least total, or the one that is begun again with.
+use Rattle.std.proofs.Common.{Some, None}
 use mathlib.Core.Path.{◌≡◌, refl, sym, ap, ◌∙◌}
 use mathlib.Core.Bool.{Bool, true, false, cond}
 use mathlib.Core.List.{List, [], ◌∷◌, map}
@@ -22,7 +23,6 @@ use Rattle.knuth_plass.specs.declared.Turn.{Turn}
 use Rattle.knuth_plass.specs.declared.State.{State}
 use Rattle.knuth_plass.specs.declared.Standing.{Standing}
 use Rattle.knuth_plass.specs.declared.Tried.{Tried}
-use Rattle.knuth_plass.specs.declared.Tried.TheVariants.{Other, Here}
 use Rattle.knuth_plass.specs.KnuthPlass.{Break, none, stretch_of, minimum_of, reduced, reached, staying, offer_of, best_offer, restart}
 use Rattle.knuth_plass.specs.BestLines.{offering, chosen_of, forced, maker_of, maker}
 use Rattle.knuth_plass.specs.Cited.Table.{ratio_of, Tables, break_in, path_to, seen, break_meant}
@@ -37,21 +37,21 @@ use Rattle.knuth_plass.proofs.Settling.{kept_room, breaks_length}
 -- ---- an offer of a total
 
 module _ (g : Setting) (weight total columns : ℕ) (old : Float) (demerits : ℕ) where
-  pub tried_short : columns < minimum_of g → Other ≡ tried_of g weight total columns old demerits
+  pub tried_short : columns < minimum_of g → None ≡ tried_of g weight total columns old demerits
   unfolding tried_of
   tried_short h = sym (rw (lt-leb (minimum_of g) columns h))
 
   module _ (long : minimum_of g ≤ columns) where
-    pub tried_long : g.width < columns → Other ≡ tried_of g weight total columns old demerits
+    pub tried_long : g.width < columns → None ≡ tried_of g weight total columns old demerits
     unfolding tried_of
     tried_long h = sym (rw (le-leb (minimum_of g) columns long, lt-leb columns g.width h))
 
     module _ (fits : columns ≤ g.width) (r : Float) (d : ℕ) (is : r ≡ ratio g.goal columns (stretch_of g)) (costs : d ≡ cost_with r old weight) where
-      pub tried_other : (d + demerits ≡ total → ⊥) → Other ≡ tried_of g weight total columns old demerits
+      pub tried_other : (d + demerits ≡ total → ⊥) → None ≡ tried_of g weight total columns old demerits
       unfolding tried_of
       tried_other h = sym (rw (le-leb (minimum_of g) columns long, le-leb columns g.width fits, ← is, ← costs, ne_eqb (d + demerits) total h))
 
-      pub tried_here : (l q : ℕ) → d + demerits ≡ total → l ≡ line_term r → q ≡ ratio_term r old → Here (Chosen columns l weight q d) ≡ tried_of g weight total columns old demerits
+      pub tried_here : (l q : ℕ) → d + demerits ≡ total → l ≡ line_term r → q ≡ ratio_term r old → Some (Chosen columns l weight q d) ≡ tried_of g weight total columns old demerits
       unfolding tried_of
       tried_here l q h e f = sym (rw (le-leb (minimum_of g) columns long, le-leb columns g.width fits, ← is, ← costs, eq-eqb (d + demerits) total h, ← e, ← f))
 

@@ -1,4 +1,5 @@
 -- Bytes that are not the words in order, each once: what `InOrder` refuses.
+use Rattle.std.proofs.Common.{None}
 use mathlib.Core.Path.{◌≡◌, ap}
 use mathlib.Core.Bool.{false}
 use mathlib.Core.List.{List, [], ◌∷◌}
@@ -7,11 +8,10 @@ use native.Mathlib.Omega.{arith}
 use lib.ListN.{length}
 use Rattle.lists.specs.Theorems.All.{All}
 use Rattle.records.specs.Word.{Word}
-use Rattle.records.specs.declared.Before.TheVariants.{Absent}
 use Rattle.output.specs.Theorems.Order.{laid_out, InOrder}
 
 abbrev letter : ℕ → Word
-letter c = record { blanks = []; text = c ∷ []; width = 1; before = Absent; after = 0; new_line = false; ends_punct = false; sentence_start = false }
+letter c = record { blanks = []; text = c ∷ []; width = 1; before = None; after = 0; new_line = false; ends_punct = false; sentence_start = false }
 
 -- they begin otherwise
 another_front : (S : List ℕ → Type 0) → InOrder S (62 ∷ []) (letter 97 ∷ []) (97 ∷ 10 ∷ []) → ⊥

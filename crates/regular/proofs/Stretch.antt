@@ -1,4 +1,5 @@
 -- The words of a stretch, one at a time.
+use Rattle.std.proofs.Common.{None}
 use mathlib.Core.Path.{◌≡◌, refl, sym, ap, ◌∙◌}
 use mathlib.Core.Bool.{Bool, true, false, cond, not, ◌&&◌, false≢true}
 use mathlib.Core.List.{List, [], ◌∷◌, ◌++◌, append_assoc}
@@ -15,7 +16,6 @@ use Rattle.lists.proofs.Walk.{each_step}
 use Rattle.text.specs.Characters.{Glyph, is_blank}
 use Rattle.options.specs.Opts.{Opts}
 use Rattle.records.specs.Word.{Word}
-use Rattle.records.specs.declared.Before.TheVariants.{Absent}
 use Rattle.words.specs.Words.{Run, is_ink, is_punct, run_of, runs, bytes_of, width_sum, gap_from, gap_of, no_gap, punct_at_end, counting, wide_gap, word_of, line_words}
 use Rattle.words.specs.Cited.Scan.{punct_code}
 use Rattle.text.specs.Cited.Joins.{goes_on}
@@ -168,7 +168,7 @@ spaces_length (x ∷ sp) h =
     let t = and_true _ _ (sym (every_cons is_space x sp) ∙ h) in
     rw (space_first x sp t.0) (ap suc (spaces_length sp t.1))
 
-spaces_gap : (tab n : ℕ) (sp : List ℕ) → every is_space sp ≡ true → gap_from tab (record { before = Absent; after = n }) (spelling sp) ≡ record { before = Absent; after = n + length sp }
+spaces_gap : (tab n : ℕ) (sp : List ℕ) → every is_space sp ≡ true → gap_from tab (record { before = None; after = n }) (spelling sp) ≡ record { before = None; after = n + length sp }
 unfolding gap_from spelling
 spaces_gap tab n [] h = let e : n + 0 ≡ n = omega arith in rw e
 spaces_gap tab n (x ∷ sp) h =
@@ -283,8 +283,8 @@ module _ (sp ink rest : List ℕ) (spaces : every is_space sp ≡ true) (inked :
             blanks = cond u [] sp;
             text = ink;
             width = columns ink;
-            before = (cond u no_gap (record { before = Absent; after = length sp })).before;
-            after = (cond u no_gap (record { before = Absent; after = length sp })).after;
+            before = (cond u no_gap (record { before = None; after = length sp })).before;
+            after = (cond u no_gap (record { before = None; after = length sp })).after;
             new_line = new_line;
             ends_punct = lastly false ink;
             sentence_start = previous && ltb 1 (length sp);

@@ -1,4 +1,5 @@
 -- The pieces' extents, joined, are the notes; no piece's output is empty; and a damaged line is a piece of its own between the pieces of the lines before and after it.
+use Rattle.std.proofs.Common.{Some}
 use mathlib.Core.Path.{◌≡◌, sym, ap, ◌∙◌}
 use mathlib.Core.Bool.{Bool, true, false}
 use mathlib.Core.List.{List, [], ◌∷◌, ◌++◌, append_assoc}
@@ -10,7 +11,6 @@ use Rattle.lists.specs.Runs.{joined}
 use Rattle.lists.specs.Theorems.All.{All}
 use Rattle.lists.proofs.Parts.{joined_joined, joined_append, joined_cons}
 use Rattle.text.specs.Characters.{damage}
-use Rattle.text.specs.declared.Found.TheVariants.{At}
 use Rattle.text.proofs.Blanks.{damage_glyphs}
 use Rattle.options.specs.Opts.{Opts}
 use Rattle.lines.specs.Lines.{Line, lines_of}
@@ -59,7 +59,7 @@ output_some o q = go q.kind
 
 -- a damaged line: the pieces of the lines before it, itself as a plain line, and the pieces of the lines after it
 pub damaged_pieces : (o : Opts) (notes : List ℕ) (before : List Line) (l : Line) (after : List Line) (place : ℕ)
-    → lines_of notes ≡ before ++ l ∷ after → damage l.text ≡ At place
+    → lines_of notes ≡ before ++ l ∷ after → damage l.text ≡ Some place
     → pieces o notes ≡ walk (next_piece o) true before ++ record { kind = plain_line l.text; lines = l ∷ [] } ∷ walk (next_piece o) false after
 damaged_pieces o notes before l after place h d = plain_stands o notes before l after (damaged_plain o l.text (damage_glyphs o.glue l.text place d)) h
 

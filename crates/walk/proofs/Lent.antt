@@ -1,5 +1,6 @@
 -- The walk in lent room: where it is as much as the notes need, no paragraph has more words than there is room for; and the greatest need, found
 -- piece by piece.
+use Rattle.std.proofs.Common.{None}
 use mathlib.Core.Path.{◌≡◌, refl, sym, ap, ◌∙◌}
 use mathlib.Core.Bool.{Bool, true, false, cond}
 use mathlib.Core.List.{List, [], ◌∷◌}
@@ -8,7 +9,6 @@ use native.Mathlib.Omega.{arith}
 use lib.ListN.{length}
 use lib.Seq.{slice, length-slice}
 use borrow.Author.Tests.{le-ltb}
-use Rattle.text.specs.declared.Found.TheVariants.{Nowhere}
 use Rattle.options.specs.Opts.{Opts, meant}
 use Rattle.options.specs.declared.Options.{Options}
 use Rattle.lines.specs.Lines.{lines_of}
@@ -41,7 +41,7 @@ module _ (o : Opts) (size : ℕ) where
   kind_few (plain_line line) h = refl
   kind_few (paragraph p) h = le-ltb (room_for o.quick size) (length (words_of o p)) (words_room o.quick size (length (words_of o p)) h)
 
-  none_long : (place : ℕ) (qs : List Piece) → most_work o qs ≤ size → long_paragraph (room_for o.quick size) o place qs ≡ Nowhere
+  none_long : (place : ℕ) (qs : List Piece) → most_work o qs ≤ size → long_paragraph (room_for o.quick size) o place qs ≡ None
   unfolding long_paragraph most_work
   none_long place [] h = refl
   none_long place (q ∷ qs) h =
@@ -49,7 +49,7 @@ module _ (o : Opts) (size : ℕ) where
       (none_long (place + length (extent_of q)) qs (let m : max (work_of o q.kind) (most_work o qs) ≤ size = h in omega arith))
 
   -- where there is as much room as the notes need, there is room for every paragraph
-  pub enough : (notes : List ℕ) → work_for o notes ≤ size → long_from (room_for o.quick size) o true notes 0 ≡ Nowhere
+  pub enough : (notes : List ℕ) → work_for o notes ≤ size → long_from (room_for o.quick size) o true notes 0 ≡ None
   unfolding work_for
   enough notes h = all_long (room_for o.quick size) o notes ∙ none_long 0 (pieces o notes) h
 

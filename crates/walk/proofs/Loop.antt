@@ -1,4 +1,5 @@
 -- The loop over the pieces: what is left of the digest, and of the search for a paragraph of too many words; and that a line begins after each.
+use Rattle.std.proofs.Common.{Option, Some, None, Ok, Err}
 use mathlib.Core.Path.{◌≡◌, refl, sym, ap, ◌∙◌}
 use mathlib.Core.Bool.{Bool, true, false}
 use mathlib.Core.List.{List, [], ◌∷◌, ◌++◌}
@@ -9,8 +10,6 @@ use Rattle.lists.specs.Runs.{joined}
 use Rattle.lists.proofs.Walk.{walk_nil}
 use Rattle.lists.proofs.Parts.{joined_nil, joined_cons}
 use Rattle.lists.proofs.All.{all_back}
-use Rattle.text.specs.declared.Found.{Found}
-use Rattle.text.specs.declared.Found.TheVariants.{At, Nowhere}
 use Rattle.options.specs.Opts.{Opts}
 use Rattle.options.specs.declared.Options.{Options}
 use Rattle.lines.specs.Lines.{Line, lines_of}
@@ -26,9 +25,7 @@ use Rattle.paragraphs.specs.declared.Cursor.{Cursor}
 use Rattle.walk.specs.declared.Ahead.{Ahead}
 use Rattle.walk.specs.declared.Ahead.TheVariants.{Text, End}
 use Rattle.walk.specs.declared.Ended.{Ended}
-use Rattle.walk.specs.declared.Ended.TheVariants.{All, Stopped}
 use Rattle.walk.specs.declared.Course.{Course}
-use Rattle.walk.specs.declared.Course.TheVariants.{Short}
 
 -- ---- the pieces from a place on
 
@@ -72,22 +69,22 @@ module _ (most : ℕ) (o : Opts) where
   unfolding long_from pieces_from pieces
   all_long notes = refl
 
-  pub long_none : (nextMail : Bool) (notes : List ℕ) (at : ℕ) → length notes ≤ at → long_from most o nextMail notes at ≡ Nowhere
+  pub long_none : (nextMail : Bool) (notes : List ℕ) (at : ℕ) → length notes ≤ at → long_from most o nextMail notes at ≡ None
   unfolding long_from long_paragraph
   long_none nextMail notes at h = ap (long_paragraph most o at) (none_left o nextMail notes at h)
 
   module _ {nextMail : Bool} {notes : List ℕ} {at : ℕ} {kind : Kind} {state : Bool} {next : ℕ} (g : FirstPiece o nextMail notes at kind state next) where
-    long_as : (t : Bool) → too_many most o kind ≡ t → long_from most o nextMail notes at ≡ elim t as (λ x. Found) [ true ↦ At at | false ↦ long_from most o state notes next ]
+    long_as : (t : Bool) → too_many most o kind ≡ t → long_from most o nextMail notes at ≡ elim t as (λ x. (Option ℕ)) [ true ↦ Some at | false ↦ long_from most o state notes next ]
     unfolding long_from long_paragraph
     long_as t e =
         ap (long_paragraph most o at) g.pieces
-        ∙ ap (λ (n : ℕ). elim (too_many most o g.piece.kind) as (λ x. Found) [ true ↦ At at | false ↦ long_paragraph most o n (pieces_from o state notes next) ]) g.extent
-        ∙ ap (λ (b : Bool). elim b as (λ x. Found) [ true ↦ At at | false ↦ long_from most o state notes next ]) (ap (too_many most o) g.is ∙ e)
+        ∙ ap (λ (n : ℕ). elim (too_many most o g.piece.kind) as (λ x. (Option ℕ)) [ true ↦ Some at | false ↦ long_paragraph most o n (pieces_from o state notes next) ]) g.extent
+        ∙ ap (λ (b : Bool). elim b as (λ x. (Option ℕ)) [ true ↦ Some at | false ↦ long_from most o state notes next ]) (ap (too_many most o) g.is ∙ e)
 
     pub long_more : too_many most o kind ≡ false → long_from most o nextMail notes at ≡ long_from most o state notes next
     long_more e = long_as false e
 
-    pub long_here : too_many most o kind ≡ true → long_from most o nextMail notes at ≡ At at
+    pub long_here : too_many most o kind ≡ true → long_from most o nextMail notes at ≡ Some at
     long_here e = long_as true e
 
 -- ---- the work from a place on
@@ -115,17 +112,17 @@ module _ (most : ℕ) (o : Opts) (notes : List ℕ) where
     }
 
     pub going_finished : (out' : List ℕ) (r : Ended) → FinishedFrom most o notes c out out' r → FinishedFrom most o notes c₀ out₀ out' r
-    going_finished out' (All n) f = (sym g.long ∙ f.0, left_last g.left f.1)
-    going_finished out' (Stopped place) f = (sym g.long ∙ f.0, f.1 ∙ going_length)
+    going_finished out' (Ok n) f = (sym g.long ∙ f.0, left_last g.left f.1)
+    going_finished out' (Err (record { at = place })) f = (sym g.long ∙ f.0, f.1 ∙ going_length)
 
     pub going_cleared : (out' : List ℕ) (r : Ended) → ClearedFrom most o notes c out out' r → ClearedFrom most o notes c₀ out₀ out' r
-    going_cleared out' (All n) f = going_finished out' (All n) f
-    going_cleared out' (Stopped place) f = (sym g.long ∙ f.0, f.1 ∙ ap (λ (n : ℕ). replicate n 0) going_length)
+    going_cleared out' (Ok n) f = going_finished out' (Ok n) f
+    going_cleared out' (Err (record { at = place })) f = (sym g.long ∙ f.0, f.1 ∙ ap (λ (n : ℕ). replicate n 0) going_length)
 
-    pub going_over : {out' : List ℕ} → TooLong most o notes out c out' → FinishedFrom most o notes c₀ out₀ out' (Stopped c.at)
+    pub going_over : {out' : List ℕ} → TooLong most o notes out c out' → FinishedFrom most o notes c₀ out₀ out' (Err (record { at = c.at }))
     going_over t = (sym g.long ∙ long_here most o t.goes t.many, ap length t.same ∙ going_length)
 
-    pub going_last : length notes ≤ c.at → FinishedFrom most o notes c₀ out₀ out (All c.written)
+    pub going_last : length notes ≤ c.at → FinishedFrom most o notes c₀ out₀ out (Ok c.written)
     going_last h = (sym g.long ∙ long_none most o c.mail notes c.at h, left_last (rw (output_none o c.mail notes c.at h) at g.left) (wrote_nil out c.written))
 
 none_longer : (xs : List ℕ) → length xs ≡ 0 → xs ≡ []
@@ -138,17 +135,17 @@ stands_first notes = record { within = omega arith; bounded = omega arith; sound
 
 module _ (most : ℕ) (o : Opts) (notes : List ℕ) where
   pub all_finished : (c : Cursor) (out out' : List ℕ) (r : Ended) → c ≡ start → ClearedFrom most o notes c out out' r → Finished most o notes out out' r
-  all_finished c out out' (All n) e f = let g : ClearedFrom most o notes start out out' (All n) = rw e at f in (sym (all_long most o notes) ∙ g.0, rw (all_output o notes) at g.1)
-  all_finished c out out' (Stopped place) e f = let g : ClearedFrom most o notes start out out' (Stopped place) = rw e at f in (sym (all_long most o notes) ∙ g.0, g.1)
+  all_finished c out out' (Ok n) e f = let g : ClearedFrom most o notes start out out' (Ok n) = rw e at f in (sym (all_long most o notes) ∙ g.0, rw (all_output o notes) at g.1)
+  all_finished c out out' (Err (record { at = place })) e f = let g : ClearedFrom most o notes start out out' (Err (record { at = place })) = rw e at f in (sym (all_long most o notes) ∙ g.0, g.1)
 
   -- where there is no room nothing is written, and nothing is to be cleared
   pub none_measured : (c : Cursor) (out' : List ℕ) (r : Ended) → FinishedFrom most o notes c [] out' r → FinishedFrom most o notes c [] [] r
-  none_measured c out' (All n) f = rw (none_longer out' (wrote_length f.1)) at f
-  none_measured c out' (Stopped place) f = (f.0, refl)
+  none_measured c out' (Ok n) f = rw (none_longer out' (wrote_length f.1)) at f
+  none_measured c out' (Err (record { at = place })) f = (f.0, refl)
 
   pub none_finished : (c : Cursor) (out' : List ℕ) (r : Ended) → c ≡ start → FinishedFrom most o notes c [] out' r → Finished most o notes [] [] r
-  none_finished c out' (All n) e f = all_finished c [] [] (All n) e (none_measured c out' (All n) f)
-  none_finished c out' (Stopped place) e f = all_finished c [] [] (Stopped place) e (f.0, refl)
+  none_finished c out' (Ok n) e f = all_finished c [] [] (Ok n) e (none_measured c out' (Ok n) f)
+  none_finished c out' (Err (record { at = place })) e f = all_finished c [] [] (Err (record { at = place })) e (f.0, refl)
 
   pub none_left_out : {c₀ c : Cursor} {out : List ℕ} → Going most o notes c₀ [] c out → Going most o notes c₀ [] c []
   none_left_out {out = out} g = rw (none_longer out (going_length most o notes g)) at g
@@ -163,5 +160,5 @@ module _ (most : ℕ) (block : List ℕ) (o : Options) (notes out₀ out : List 
 
 -- by how far the room reached
 module _ (most room : ℕ) (block : List ℕ) (o : Options) (notes out₀ out : List ℕ) (c₀ : Cursor) (r : Course) (s : Coursed most room block o notes c₀ out₀ out r) where
-  pub course_short : {c : Cursor} {p : Paragraph} → r ≡ Short c p → Coursed most room block o notes c₀ out₀ out (Short c p)
+  pub course_short : {c : Cursor} {p : Paragraph} → r ≡ shorter c p → Coursed most room block o notes c₀ out₀ out (shorter c p)
   course_short e = rw e at s

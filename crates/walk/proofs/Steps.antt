@@ -1,4 +1,5 @@
 -- What a piece's writers have done, as the definition says it of the piece; and what they could ask.
+use Rattle.std.proofs.Common.{None, Ok, Err}
 use mathlib.Core.Path.{◌≡◌, refl, sym, ap, ◌∙◌}
 use mathlib.Core.Bool.{Bool, true, false, not, ◌||◌}
 use mathlib.Core.List.{List, [], ◌++◌}
@@ -9,7 +10,6 @@ use lib.Seq.{slice}
 use borrow.Author.Tests.{le-ltb, lt-ltb, not-true}
 use Rattle.lists.proofs.Slices.{slice_is}
 use Rattle.text.specs.Characters.{damage}
-use Rattle.text.specs.declared.Found.TheVariants.{Nowhere}
 use Rattle.options.specs.Opts.{Opts, meant}
 use Rattle.options.specs.declared.Options.{Options}
 use Rattle.options.proofs.Accepted.{Kept, accepted}
@@ -34,9 +34,7 @@ use Rattle.walk.specs.Digest.{formatted, most_words, output_of}
 use Rattle.paragraphs.specs.Cited.Steps.{room_for, setting_for, words_for, Placed, TextPut, takes, TextStepped}
 use Rattle.walk.specs.Cited.Course.{FirstPiece, Put, TooLong, Admitted, TextAhead, Going, FinishedFrom}
 use Rattle.paragraphs.specs.declared.Cursor.{Cursor}
-use Rattle.walk.specs.declared.Ended.TheVariants.{Stopped}
 use Rattle.paragraphs.specs.declared.Step.{Step}
-use Rattle.paragraphs.specs.declared.Step.TheVariants.{On, Over}
 use Rattle.paragraphs.proofs.Streaming.{takes_few, takes_many, half}
 use Rattle.walk.proofs.Rows.{text_words}
 use Rattle.walk.proofs.Meaning.{TextGoes, PieceGoes, piece_goes}
@@ -99,7 +97,7 @@ module _ (block notes : List ℕ) (o : Options) (ready : Admitted block notes o)
   ready_cleared = ready_kept.split_clears
 
   -- where damaged characters are not kept there are none
-  pub ready_sound : not o.keep ≡ true → damage notes ≡ Nowhere
+  pub ready_sound : not o.keep ≡ true → damage notes ≡ None
   ready_sound k = ready.sound (not-true o.keep k)
 
   pub found_goes : (nextMail : Bool) (at : ℕ) (r s : PieceAt) → at < length notes → (r ≡ piece_at (meant block o) nextMail notes at) × Bounded o.glue notes at r → r ≡ s → PieceGoes (meant block o) nextMail notes at s
@@ -171,23 +169,23 @@ module _ (block notes : List ℕ) (o : Options) (c : Cursor) (p : ParagraphAt) (
   pub begins_placed : Placed notes c.at o p
   begins_placed = let g = begins_goes in text_found block notes o (ready_kept block notes o ready) ready.short c.mail c.at p g.paragraph_is g.text g.bounds
 
-  pub begins_stepped : (most limit room : ℕ) (out out' : List ℕ) (r : Step) (d : Cursor) → limit ≤ most → room ≤ limit → TextStepped (takes o.quick (p.next - c.at) limit room (length (words_for block notes c.at o p))) notes c.at o p out c.written out' r block → r ≡ On d
+  pub begins_stepped : (most limit room : ℕ) (out out' : List ℕ) (r : Step) (d : Cursor) → limit ≤ most → room ≤ limit → TextStepped (takes o.quick (p.next - c.at) limit room (length (words_for block notes c.at o p))) notes c.at o p out c.written out' r block → r ≡ Ok d
       → Put most (meant block o) notes out c d out'
   begins_stepped most limit room out out' r d few small w e =
       let g = begins_goes in
-      let v : TextStepped (takes o.quick (p.next - c.at) limit room (length (words_for block notes c.at o p))) notes c.at o p out c.written out' (On d) block = rw e at w in
+      let v : TextStepped (takes o.quick (p.next - c.at) limit room (length (words_for block notes c.at o p))) notes c.at o p out c.written out' (Ok d) block = rw e at w in
       let n = takes_few o.quick (p.next - c.at) limit room (length (words_for block notes c.at o p)) (half notes c.at o p begins_placed block) small v.0 in
       text_put block notes o ready c.mail c.at p g.paragraph_is g.goes g.text g.bounds most out c d out' refl refl (omega (arith, n, few)) v.1
 
-  pub begins_over : (limit room : ℕ) (out out' : List ℕ) (r : Step) → TextStepped (takes o.quick (p.next - c.at) limit room (length (words_for block notes c.at o p))) notes c.at o p out c.written out' r block → r ≡ Over
+  pub begins_over : (limit room : ℕ) (out out' : List ℕ) (r : Step) → TextStepped (takes o.quick (p.next - c.at) limit room (length (words_for block notes c.at o p))) notes c.at o p out c.written out' r block → r ≡ (Err (record { }))
       → (room < length (words_for block notes c.at o p)) × (out' ≡ out)
   begins_over limit room out out' r w e =
-      let v : TextStepped (takes o.quick (p.next - c.at) limit room (length (words_for block notes c.at o p))) notes c.at o p out c.written out' Over block = rw e at w in
+      let v : TextStepped (takes o.quick (p.next - c.at) limit room (length (words_for block notes c.at o p))) notes c.at o p out c.written out' (Err (record { })) block = rw e at w in
       (takes_many o.quick (p.next - c.at) limit room (length (words_for block notes c.at o p)) v.0, v.1)
 
   -- it has more words than any may have
   pub begins_long : (most : ℕ) (c₀ : Cursor) (out₀ out : List ℕ) → Going most (meant block o) notes c₀ out₀ c out → most < length (words_for block notes c.at o p)
-      → FinishedFrom most (meant block o) notes c₀ out₀ out (Stopped c.at)
+      → FinishedFrom most (meant block o) notes c₀ out₀ out (Err (record { at = c.at }))
   begins_long most c₀ out₀ out going h =
       let g = begins_goes in
       going_over most (meant block o) notes going (text_long block notes o ready c.mail c.at p g.paragraph_is g.goes g.text g.bounds most out c refl refl h)

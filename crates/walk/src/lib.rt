@@ -1,6 +1,8 @@
 // The walk over the notes: their pieces, written one after the other as far as there is room, and counted.
 #![tactic(auto)]
 
+pub mod notes;
+
 ghost use Rattle.std.specs.Prelude.{◌≡◌, true, false, cond, List, [], ℕ, ◌+◌, ◌-◌, ◌*◌, ◌≤◌, max, length, None};
 ghost use Rattle.std.proofs.Math.Seq.{slice};
 ghost use Rattle.options.specs.Opts.{meant};
@@ -12,8 +14,9 @@ ghost use Rattle.output.specs.Cited.Sink.{Wrote};
 ghost use Rattle.paragraphs.specs.Cited.Steps.{room_for, words_for};
 ghost use Rattle.walk.specs.Digest.{most_words, digest};
 ghost use Rattle.walk.specs.Work.{work_for};
-ghost use Rattle.walk.specs.Cited.Course.{CursorIn, TextAhead, Reached, Admitted, output_from, long_from, Coursed, Finished, FinishedFrom, ClearedFrom};
+ghost use Rattle.walk.specs.Cited.Course.{CursorIn, TextAhead, Reached, output_from, long_from, Coursed, Finished, FinishedFrom, ClearedFrom};
 
+use notes::Notes;
 use options::Options;
 use paragraphs::Cursor;
 use pieces::{Paragraph, Piece};
@@ -49,29 +52,21 @@ const FRONT: Cursor = Cursor {
 // Writes what fits of all pieces, and answers the digest's length; or tells the first paragraph of too many words, and clears the output. The work
 // goes on when no room is left: too many words, found later, take precedence.
 // In the original: `ParagraphStream::new` and `uumain`.
-pub fn put_all(o: Options, block: &[u8], notes: &[u8], out: &mut [u8]) -> Result<usize, Stopped>
-    requires { Admitted block.now notes.now o }
-    ensures { Finished most_words (meant block.now o) notes.now out.old out.new result }
+pub fn put_all(notes: Notes, out: &mut [u8]) -> Result<usize, Stopped>
+    ensures { Finished most_words (meant notes.entry.block.now notes.entry.options) notes.entry.bytes.now out.old out.new result }
 {
-    match put_lines(o, block, notes, FRONT, out) {
+    match put_lines(notes, FRONT, out) {
         Ahead::End(needed) => Ok(needed),
-        Ahead::Text { c, p } => put_or_clear(o, block, notes, c, p, out),
+        Ahead::Text { c, p } => put_or_clear(notes, c, p, out),
     }
 }
 
 // Everything from the first paragraph on, or nothing.
-fn put_or_clear(
-    o: Options,
-    block: &[u8],
-    notes: &[u8],
-    c: Cursor,
-    p: Paragraph,
-    out: &mut [u8],
-) -> Result<usize, Stopped>
-    requires { Admitted block.now notes.now o × CursorIn notes.now c × TextAhead block.now o notes.now c p }
-    ensures { ClearedFrom most_words (meant block.now o) notes.now c out.old out.new result }
+fn put_or_clear(notes: Notes, c: Cursor, p: Paragraph, out: &mut [u8]) -> Result<usize, Stopped>
+    requires { CursorIn notes.bytes.now c × TextAhead notes.block.now notes.options notes.bytes.now c p }
+    ensures { ClearedFrom most_words (meant notes.entry.block.now notes.entry.options) notes.entry.bytes.now c out.old out.new result }
 {
-    let ended = put_from(o, block, notes, c, p, out);
+    let ended = put_from(notes, c, p, out);
     if ended.is_err() {
         out.fill(0);
     }
@@ -79,74 +74,51 @@ fn put_or_clear(
 }
 
 // Everything from the first paragraph on, written.
-fn put_from(
-    o: Options,
-    block: &[u8],
-    notes: &[u8],
-    c: Cursor,
-    p: Paragraph,
-    out: &mut [u8],
-) -> Result<usize, Stopped>
-    requires { Admitted block.now notes.now o × CursorIn notes.now c × TextAhead block.now o notes.now c p }
-    ensures { FinishedFrom most_words (meant block.now o) notes.now c out.old out.new result }
+fn put_from(notes: Notes, c: Cursor, p: Paragraph, out: &mut [u8]) -> Result<usize, Stopped>
+    requires { CursorIn notes.bytes.now c × TextAhead notes.block.now notes.options notes.bytes.now c p }
+    ensures { FinishedFrom most_words (meant notes.entry.block.now notes.entry.options) notes.entry.bytes.now c out.old out.new result }
 {
-    if o.quick {
-        put_quick(o, block, notes, c, p, out)
+    if notes.options.quick {
+        put_quick(notes, c, p, out)
     } else {
-        put_best(o, block, notes, c, p, out)
+        put_best(notes, c, p, out)
     }
 }
 
 // What `put_all` would count.
-pub fn measure_all(o: Options, block: &[u8], notes: &[u8]) -> Result<usize, Stopped>
-    requires { Admitted block.now notes.now o }
-    ensures { Finished most_words (meant block.now o) notes.now [] [] result }
+pub fn measure_all(notes: Notes) -> Result<usize, Stopped>
+    ensures { Finished most_words (meant notes.entry.block.now notes.entry.options) notes.entry.bytes.now [] [] result }
 {
     let mut none = [0u8; 0];
-    put_all(o, block, notes, &mut none)
+    put_all(notes, &mut none)
 }
 
 // The same in room that is lent, of which there is enough for every paragraph.
-pub fn put_all_lent(
-    o: Options,
-    block: &[u8],
-    notes: &[u8],
-    out: &mut [u8],
-    work: &mut [u32],
-) -> usize
-    requires { Admitted block.now notes.now o × (work_for (meant block.now o) notes.now ≤ length work.old) }
-    ensures { Wrote out.old 0 (digest (meant block.now o) notes.now) out.new result }
+pub fn put_all_lent(notes: Notes, out: &mut [u8], work: &mut [u32]) -> usize
+    requires { work_for (meant notes.block.now notes.options) notes.bytes.now ≤ length work.old }
+    ensures { Wrote out.old 0 (digest (meant notes.entry.block.now notes.entry.options) notes.entry.bytes.now) out.new result }
 {
-    match put_lines(o, block, notes, FRONT, out) {
+    match put_lines(notes, FRONT, out) {
         Ahead::End(needed) => needed,
-        Ahead::Text { c, p } => put_lent(o, block, notes, c, p, out, work),
+        Ahead::Text { c, p } => put_lent(notes, c, p, out, work),
     }
 }
 
 // Everything from the first paragraph on.
-fn put_lent(
-    o: Options,
-    block: &[u8],
-    notes: &[u8],
-    c: Cursor,
-    p: Paragraph,
-    out: &mut [u8],
-    work: &mut [u32],
-) -> usize
-    requires { Admitted block.now notes.now o × CursorIn notes.now c × TextAhead block.now o notes.now c p × (long_from (room_for o.quick (length work.old)) (meant block.now o) c.mail notes.now c.at ≡ None) }
-    ensures { Wrote out.old c.written (output_from (meant block.now o) c.mail notes.now c.at) out.new result }
+fn put_lent(notes: Notes, c: Cursor, p: Paragraph, out: &mut [u8], work: &mut [u32]) -> usize
+    requires { CursorIn notes.bytes.now c × TextAhead notes.block.now notes.options notes.bytes.now c p × (long_from (room_for notes.options.quick (length work.old)) (meant notes.block.now notes.options) c.mail notes.bytes.now c.at ≡ None) }
+    ensures { Wrote out.old c.written (output_from (meant notes.entry.block.now notes.entry.options) c.mail notes.entry.bytes.now c.at) out.new result }
 {
-    let limit = paragraphs::room_for(o.quick, work.len());
+    let limit = paragraphs::room_for(notes.options.quick, work.len());
     // There is room for every paragraph, so none is left.
-    put_texts(o, block, notes, c, p, out, limit, work).unwrap()
+    put_texts(notes, c, p, out, limit, work).unwrap()
 }
 
 // The room that the notes need, if it is more than so much. Their bytes may show that it is not: between two words stands a blank.
-pub fn work_over(o: Options, block: &[u8], notes: &[u8], lent: usize) -> usize
-    requires { Admitted block.now notes.now o }
-    ensures { result ≡ max lent (work_for (meant block.now o) notes.now) }
+pub fn work_over(notes: Notes, lent: usize) -> usize
+    ensures { result ≡ max lent (work_for (meant notes.entry.block.now notes.entry.options) notes.entry.bytes.now) }
 {
-    work_with(o, block, notes, lent)
+    work_with(notes.options, notes.block, notes.bytes, lent)
 }
 
 // The same with options of which some may have been turned on since the block was read.
@@ -193,25 +165,32 @@ fn with_paragraph(o: Options, notes: &[u8], at: usize, p: Paragraph, most: usize
 }
 
 // Writes the lines from a place on, blank and plain ones, up to the next paragraph.
-fn put_lines(o: Options, block: &[u8], notes: &[u8], from: Cursor, out: &mut [u8]) -> Ahead
-    requires { Admitted block.now notes.now o × CursorIn notes.now from }
-    ensures { (most : ℕ) → Reached most block.now o notes.now from out.old out.new result }
+fn put_lines(notes: Notes, from: Cursor, out: &mut [u8]) -> Ahead
+    requires { CursorIn notes.bytes.now from }
+    ensures { (most : ℕ) → Reached most notes.entry.block.now notes.entry.options notes.entry.bytes.now from out.old out.new result }
 {
     let mut c = from;
-    while c.at < notes.len() {
+    while c.at < notes.bytes.len() {
         let at = c.at;
-        match pieces::next_piece(notes, at, o, block, c.mail, !o.keep) {
+        match pieces::next_piece(
+            notes.bytes,
+            at,
+            notes.options,
+            notes.block,
+            c.mail,
+            !notes.options.keep,
+        ) {
             Piece::Blank { next } => {
                 c = Cursor {
                     at: next,
-                    written: output::emit_line(notes, at, at, out, c.written),
+                    written: output::emit_line(notes.bytes, at, at, out, c.written),
                     mail: true,
                 };
             }
             Piece::Plain { end, next } => {
                 c = Cursor {
                     at: next,
-                    written: output::emit_line(notes, at, end, out, c.written),
+                    written: output::emit_line(notes.bytes, at, end, out, c.written),
                     mail: false,
                 };
             }
@@ -247,101 +226,87 @@ const SURE_BYTES: usize = 2048;
 // is never made part of its caller, so that a call has no more room cleared than its paragraphs ask for.
 #[inline(never)]
 fn put_in<const N: usize>(
-    o: Options,
-    block: &[u8],
-    notes: &[u8],
+    notes: Notes,
     c: Cursor,
     p: Paragraph,
     out: &mut [u8],
 ) -> Result<usize, Short>
-    requires { Admitted block.now notes.now o × CursorIn notes.now c × TextAhead block.now o notes.now c p × (room_for o.quick N ≤ most_words) }
-    ensures { Coursed most_words (room_for o.quick N) block.now o notes.now c out.old out.new result }
+    requires { CursorIn notes.bytes.now c × TextAhead notes.block.now notes.options notes.bytes.now c p × (room_for notes.options.quick N ≤ most_words) }
+    ensures { Coursed most_words (room_for notes.entry.options.quick N) notes.entry.block.now notes.entry.options notes.entry.bytes.now c out.old out.new result }
 {
     let mut work = [0u32; N];
-    put_texts(o, block, notes, c, p, out, MOST_WORDS, &mut work)
+    put_texts(notes, c, p, out, MOST_WORDS, &mut work)
 }
 
 // Quick. Paragraphs whose bytes show that they have no more words than they may need no room; the words of longer ones have to be counted.
 // The first paragraph is not read for nothing where it is longer.
-fn put_quick(
-    o: Options,
-    block: &[u8],
-    notes: &[u8],
-    c: Cursor,
-    p: Paragraph,
-    out: &mut [u8],
-) -> Result<usize, Stopped>
-    requires { Admitted block.now notes.now o × CursorIn notes.now c × TextAhead block.now o notes.now c p × (o.quick ≡ true) }
-    ensures { FinishedFrom most_words (meant block.now o) notes.now c out.old out.new result }
+fn put_quick(notes: Notes, c: Cursor, p: Paragraph, out: &mut [u8]) -> Result<usize, Stopped>
+    requires { CursorIn notes.bytes.now c × TextAhead notes.block.now notes.options notes.bytes.now c p × (notes.options.quick ≡ true) }
+    ensures { FinishedFrom most_words (meant notes.entry.block.now notes.entry.options) notes.entry.bytes.now c out.old out.new result }
 {
     let mut rest = Short { c, p };
     if p.next - c.at <= SURE_BYTES {
-        match put_in::<0>(o, block, notes, rest.c, rest.p, out) {
+        match put_in::<0>(notes, rest.c, rest.p, out) {
             Ok(needed) => return Ok(needed),
             Err(short) => rest = short,
         }
     }
-    put_in::<QUICK_MOST>(o, block, notes, rest.c, rest.p, out).map_err(|short| Stopped {
-        at: short.c.at,
-    })
+    put_in::<QUICK_MOST>(notes, rest.c, rest.p, out).map_err(|short| Stopped { at: short.c.at })
 }
 
 // Knuth-Plass, in three rooms, each for longer paragraphs than the one before it: for the words of a few lines, for those of 1 KiB of prose, and
 // for the most that a paragraph may have. The first paragraph is not split for a room that it outgrows.
-fn put_best(
-    o: Options,
-    block: &[u8],
-    notes: &[u8],
-    c: Cursor,
-    p: Paragraph,
-    out: &mut [u8],
-) -> Result<usize, Stopped>
-    requires { Admitted block.now notes.now o × CursorIn notes.now c × TextAhead block.now o notes.now c p × (o.quick ≡ false) }
-    ensures { FinishedFrom most_words (meant block.now o) notes.now c out.old out.new result }
+fn put_best(notes: Notes, c: Cursor, p: Paragraph, out: &mut [u8]) -> Result<usize, Stopped>
+    requires { CursorIn notes.bytes.now c × TextAhead notes.block.now notes.options notes.bytes.now c p × (notes.options.quick ≡ false) }
+    ensures { FinishedFrom most_words (meant notes.entry.block.now notes.entry.options) notes.entry.bytes.now c out.old out.new result }
 {
     let size = p.next - c.at;
     let mut rest = Short { c, p };
     if size <= FEW_BYTES {
-        match put_in::<BEST_FEW>(o, block, notes, rest.c, rest.p, out) {
+        match put_in::<BEST_FEW>(notes, rest.c, rest.p, out) {
             Ok(needed) => return Ok(needed),
             Err(short) => rest = short,
         }
     }
     if size <= MORE_BYTES {
-        match put_in::<BEST_MORE>(o, block, notes, rest.c, rest.p, out) {
+        match put_in::<BEST_MORE>(notes, rest.c, rest.p, out) {
             Ok(needed) => return Ok(needed),
             Err(short) => rest = short,
         }
     }
-    put_in::<BEST_MOST>(o, block, notes, rest.c, rest.p, out).map_err(|short| Stopped {
-        at: short.c.at,
-    })
+    put_in::<BEST_MOST>(notes, rest.c, rest.p, out).map_err(|short| Stopped { at: short.c.at })
 }
 
 // Paragraph by paragraph, each with the lines after it, as far as the room reaches; quick needs none where a paragraph's bytes show that it
 // has no more than so many words.
 // In the original: `uumain`.
 fn put_texts(
-    o: Options,
-    block: &[u8],
-    notes: &[u8],
+    notes: Notes,
     first: Cursor,
     head: Paragraph,
     out: &mut [u8],
     limit: usize,
     work: &mut [u32],
 ) -> Result<usize, Short>
-    requires { Admitted block.now notes.now o × CursorIn notes.now first × TextAhead block.now o notes.now first head × (room_for o.quick (length work.old) ≤ limit) }
-    ensures { (most : ℕ) → limit ≤ most → Coursed most (room_for o.quick (length work.old)) block.now o notes.now first out.old out.new result }
+    requires { CursorIn notes.bytes.now first × TextAhead notes.block.now notes.options notes.bytes.now first head × (room_for notes.options.quick (length work.old) ≤ limit) }
+    ensures { (most : ℕ) → limit ≤ most → Coursed most (room_for notes.entry.options.quick (length work.old)) notes.entry.block.now notes.entry.options notes.entry.bytes.now first out.old out.new result }
 {
     let mut c = first;
     let mut p = head;
     loop {
-        let Ok(behind) = paragraphs::put_paragraph(notes, c.at, o, p, out, c.written, limit, work)
-        else {
+        let Ok(behind) = paragraphs::put_paragraph(
+            notes.bytes,
+            c.at,
+            notes.options,
+            p,
+            out,
+            c.written,
+            limit,
+            work,
+        ) else {
             return Err(Short { c, p });
         };
-        match put_lines(o, block, notes, behind, out) {
+        match put_lines(notes, behind, out) {
             Ahead::End(needed) => {
                 return Ok(needed);
             }

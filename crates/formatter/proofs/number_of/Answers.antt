@@ -1,11 +1,11 @@
 -- `formatter::number_of` meets its contract.
+use Rattle.std.proofs.Common.{Ok}
 use mathlib.Core.Path.{◌≡◌, sym, ap}
 use Prim.Native.Nat.{ℕ, ◌<◌, ◌^◌}
 use native.Mathlib.Omega.{arith}
 use Rattle.lists.specs.Coded.{numbered}
 use Rattle.formatter.specs.Cited.Call.{reply_coded}
 use Rattle.formatter.specs.declared.Reply.{Reply}
-use Rattle.formatter.specs.declared.Reply.TheVariants.{Done}
 use Rattle.formatter.proofs.number_of.Goals as goal
 
 abbrev number : Reply → ℕ
@@ -14,7 +14,7 @@ number a = numbered (reply_coded a)
 fits : {a b : Reply} → a ≡ b → number a < 2 ^ 64 → number b < 2 ^ 64
 fits e h = rw (← e) h
 
-done-number : {a : Reply} {n : ℕ} → a ≡ Done n → n ≡ number a
+done-number : {a : Reply} {n : ℕ} → a ≡ Ok n → n ≡ number a
 unfolding numbered
 done-number e = rw e (omega arith)
 

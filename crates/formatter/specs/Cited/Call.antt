@@ -9,7 +9,7 @@ use Rattle.walk.specs.Digest.{digest}
 use Rattle.walk.specs.Work.{work_for}
 use Rattle.formatter.specs.Format.{Words, Limits, Finding, found, stopped, within, with_notes, with_block, answering}
 use Rattle.formatter.specs.Work.{lending}
-use Rattle.walk.specs.Cited.Course.{Admitted}
+use Rattle.walk.specs.declared.notes.Notes.{Notes}
 use Rattle.formatter.specs.Answers.{Answer, done, refused, room, refusal_coded, output_refused, output_after}
 use Rattle.formatter.specs.declared.Refusal.{Refusal}
 use Rattle.formatter.specs.declared.Unwritten.{Unwritten}
@@ -44,25 +44,25 @@ pub record Refuses (most : ℕ) (whole : Finding) (r : Refusal) : Type 0 where
 abbrev pub left_of : Limits → Opts → List ℕ → (List ℕ → Answer) → Answer
 left_of l o notes then = answering then (within l.words o notes)
 
-abbrev pub AdmitsNotes : Limits → List ℕ → Options → List ℕ → Result Options Refusal → Type 0
+abbrev pub AdmitsNotes : Limits → List ℕ → Options → List ℕ → Result (Unit {0}) Refusal → Type 0
 AdmitsNotes l block o notes (Err r) = Refuses 3 (with_notes l (meant block o) notes) r
-AdmitsNotes l block o notes (Ok p) = (p ≡ o) × (length notes ≤ l.bytes) × (with_notes l (meant block o) notes ≡ within l.words (meant block o) notes) × (o.keep ≡ false → damage notes ≡ None)
+AdmitsNotes l block o notes (Ok t) = (length notes ≤ l.bytes) × (with_notes l (meant block o) notes ≡ within l.words (meant block o) notes) × (o.keep ≡ false → damage notes ≡ None)
 
-abbrev pub Admits : Limits → List ℕ → List ℕ → Result Options Refusal → Type 0
+-- these are the block and the notes that were given
+abbrev pub Of : List ℕ → List ℕ → Notes → Type 0
+Of block notes n = (n.block.now ≡ block) × (n.bytes.now ≡ notes)
+
+abbrev pub Admits : Limits → List ℕ → List ℕ → Result Notes Refusal → Type 0
 Admits l block notes (Err r) = Refuses 3 (with_block l block notes (read_block block)) r
-Admits l block notes (Ok o) = Admitted block notes o × (with_block l block notes (read_block block) ≡ within l.words (meant block o) notes) × (length notes ≤ l.bytes)
+Admits l block notes (Ok n) = Of block notes n × (with_block l block notes (read_block block) ≡ within l.words (meant block n.options) notes) × (length notes ≤ l.bytes)
 
 -- however many words a paragraph may have
-abbrev pub AdmitsWithin : ℕ → List ℕ → List ℕ → Result Options Refusal → Type 0
+abbrev pub AdmitsWithin : ℕ → List ℕ → List ℕ → Result Notes Refusal → Type 0
 AdmitsWithin bytes block notes r = (w : Words) → Admits (record { bytes = bytes; words = w }) block notes r
 
 -- ---- the same with code 12, where so many numbers are lent: with none of them due there is room for every paragraph
 
-abbrev pub AdmitsWork : ℕ → Opts → List ℕ → Options → Result Options Refusal → Type 0
-AdmitsWork lends o notes p (Err r) = Refuses 12 (within (lending lends).words o notes) r
-AdmitsWork lends o notes p (Ok q) = (q ≡ p) × (work_for o notes ≤ lends)
-
-abbrev pub AdmitsLent : ℕ → List ℕ → List ℕ → Result Options Refusal → Type 0
+abbrev pub AdmitsLent : ℕ → List ℕ → List ℕ → Result Notes Refusal → Type 0
 AdmitsLent lends block notes (Err r) = Refuses 12 (with_block (lending lends) block notes (read_block block)) r
-AdmitsLent lends block notes (Ok o) =
-    Admitted block notes o × (with_block (lending lends) block notes (read_block block) ≡ found (digest (meant block o) notes)) × (work_for (meant block o) notes ≤ lends)
+AdmitsLent lends block notes (Ok n) =
+    Of block notes n × (with_block (lending lends) block notes (read_block block) ≡ found (digest (meant block n.options) notes)) × (work_for (meant block n.options) notes ≤ lends)

@@ -1,11 +1,11 @@
 -- `indexer::number_of` meets its contract.
+use Rattle.std.proofs.Common.{}
 use mathlib.Core.Path.{◌≡◌, sym, ap}
 use Prim.Native.Nat.{ℕ, ◌<◌, ◌^◌}
 use native.Mathlib.Omega.{arith}
 use Rattle.lists.specs.Coded.{numbered}
 use Rattle.indexer.specs.Cited.Noting.{filled_coded}
 use Rattle.indexer.specs.declared.Filled.{Filled}
-use Rattle.indexer.specs.declared.Filled.TheVariants.{Done}
 use Rattle.indexer.proofs.number_of.Goals as goal
 
 abbrev number : Filled → ℕ
@@ -14,7 +14,7 @@ number a = numbered (filled_coded a)
 fits : {a b : Filled} → a ≡ b → number a < 2 ^ 64 → number b < 2 ^ 64
 fits e h = rw (← e) h
 
-done-number : {a : Filled} {n k : ℕ} → a ≡ Done n k → n ≡ number a
+done-number : {a : Filled} {n k : ℕ} → a ≡ filled n k → n ≡ number a
 unfolding numbered
 done-number e = rw e (omega arith)
 

@@ -1,6 +1,6 @@
 -- `walk::measure_all` meets its contract.
+use Rattle.std.proofs.Common.{Ok}
 use Rattle.walk.specs.Digest.{most_words}
-use Rattle.walk.specs.declared.Ended.TheVariants.{All}
 use Rattle.walk.proofs.Loop.{stands_first, going_finished, none_finished, none_left_out, reached_text, reached_end}
 use Rattle.walk.proofs.measure_all.Goals as goal
 
@@ -15,7 +15,7 @@ measure_from-requires c =
 pub returns-in-End : goal.returns-in-End
 returns-in-End c =
     let e = reached_end _ _ _ _ _ _ _ c.put_lines.result (c.put_lines.ensures most_words) c.in-End.is in
-    none_finished _ _ _ _ _ (All c.in-End.needed) c.front.ensures e
+    none_finished _ _ _ _ _ (Ok c.in-End.needed) c.front.ensures e
 
 pub returns-in-Text : goal.returns-in-Text
 returns-in-Text c =

@@ -1,8 +1,8 @@
 -- `walk::put_texts` meets its contract. Invariant: what is left of the work from the first paragraph on, the paragraph ahead, and the
 -- storage, which keeps its lengths.
+use Rattle.std.proofs.Common.{Ok}
 use mathlib.Core.Path.{◌∙◌}
 use native.Mathlib.Omega.{arith}
-use Rattle.walk.specs.declared.Ended.TheVariants.{All}
 use Rattle.walk.proofs.Loop.{going_on, going_further, going_finished, reached_text, reached_end}
 use Rattle.walk.proofs.Steps.{begins_placed, begins_stepped}
 use Rattle.walk.proofs.put_texts.Goals as goal
@@ -25,7 +25,7 @@ returns-in-End c =
     let i = c.loop-behind.invariant in
     λ most few.
     let s = begins_stepped _ _ _ _ _ c.requires.0 i.1 most _ _ _ _ c.put_paragraph.result _ few (rw i.2 c.requires.3) (c.put_paragraph.ensures c.args.block.now) c.in-On.is in
-    going_finished _ _ _ (going_on _ _ _ (i.0 most few) s) _ (All _) (reached_end _ _ _ _ _ _ _ c.put_lines.result (c.put_lines.ensures most) c.in-End.is)
+    going_finished _ _ _ (going_on _ _ _ (i.0 most few) s) _ (Ok _) (reached_end _ _ _ _ _ _ _ c.put_lines.result (c.put_lines.ensures most) c.in-End.is)
 
 pub loop-behind-smaller : goal.loop-behind-smaller
 loop-behind-smaller c =

@@ -1,9 +1,9 @@
 -- `knuth_plass::interval::fits_one_line` meets its contract. Invariant: the words so far have no tab, and take so much of the line.
+use Rattle.std.proofs.Common.{None}
 use mathlib.Core.Path.{◌≡◌}
 use Prim.Native.Nat.{ℕ}
 use native.Mathlib.Omega.{arith}
 use Rattle.records.specs.Cited.Table.{word_in}
-use Rattle.records.specs.declared.Before.TheVariants.{Absent}
 use Rattle.knuth_plass.proofs.Intervals.{room_none, room_more, below_next}
 use Rattle.knuth_plass.proofs.interval.fits_one_line.Goals as goal
 
@@ -21,9 +21,9 @@ loop-i-preserved c =
     let a = got.small.after in
     let w = got.small.width in
     let table = c.args.work.now in
-    let plain : (word_in table l.i).before ≡ Absent = rw (← got.is) (c.has_tab.ensures c.if-has_tab.false) in (
+    let plain : (word_in table l.i).before ≡ None = rw (← got.is) (c.has_tab.ensures c.if-has_tab.false) in (
       omega arith,
       omega arith,
       rw (sum, got.is, room_more table l.i) (omega arith),
-      below_next (λ (j : ℕ). (word_in table j).before ≡ Absent) l.i v.3 plain,
+      below_next (λ (j : ℕ). (word_in table j).before ≡ None) l.i v.3 plain,
     )

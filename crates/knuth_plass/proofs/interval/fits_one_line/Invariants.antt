@@ -1,7 +1,7 @@
+use Rattle.std.proofs.Common.{None}
 use mathlib.Core.Path.{◌≡◌}
 use Prim.Native.Nat.{ℕ, ◌+◌, ◌-◌, ◌*◌, ◌^◌, ◌≤◌, ◌<◌}
 use Rattle.records.specs.Cited.Table.{word_in}
-use Rattle.records.specs.declared.Before.TheVariants.{Absent}
 use Rattle.knuth_plass.specs.Cited.Interval.{line_room}
 use Rattle.knuth_plass.proofs.interval.fits_one_line.Given as goal
 
@@ -10,7 +10,7 @@ invariant-loop-i l =
     (l.i ≤ l.n)
     × (l.line ≤ 2 ^ 31 + l.i * 2 ^ 34)
     × (l.line ≡ l.first + line_room l.work l.i)
-    × ((j : ℕ) → j < l.i → (word_in l.work j).before ≡ Absent)
+    × ((j : ℕ) → j < l.i → (word_in l.work j).before ≡ None)
 
 abbrev pub decreases-loop-i : goal.decreases-loop-i
 decreases-loop-i l = l.n - l.i
