@@ -12,11 +12,7 @@ use std::io::{Read, Write};
 fn counted(n: u64, output: &[u8]) -> usize
     ensures { result ≤ length output.now }
 {
-    if n <= output.len() as u64 {
-        n as usize
-    } else {
-        output.len()
-    }
+    n.min(output.len() as u64) as usize
 }
 
 // Measures, and writes with as much room as is needed, if it is there. What measuring refuses, writing refuses with any room.

@@ -1,4 +1,5 @@
 -- How long what is sent gets: at most 3,120 bytes for each byte of the notes, if no paragraph has more than 1,024 words.
+use Rattle.std.proofs.Common.{None}
 use mathlib.Core.Path.{◌≡◌, refl, sym, ap, ◌∙◌}
 use mathlib.Core.Bool.{Bool, true, false, ◌||◌}
 use mathlib.Core.List.{List, [], ◌++◌}
@@ -9,7 +10,6 @@ use lib.ListN.{length, length-append}
 use lib.Seq.{slice, length-slice}
 use borrow.Author.Tests.{ltb-true, ltb-false}
 use Rattle.lists.specs.Runs.{joined}
-use Rattle.text.specs.declared.Found.TheVariants.{Nowhere}
 use Rattle.options.specs.Opts.{Opts}
 use Rattle.lines.specs.Cited.Places.{most_large}
 use Rattle.pieces.specs.Pieces.{Kind, blank_line, plain_line, paragraph, pieces}
@@ -81,13 +81,13 @@ module _ (o : Opts) (notes : List ℕ) (least : 1 ≤ o.tab) (most : o.tab ≤ 1
   past_most : (nextMail : Bool) (at : ℕ) → at ≤ length notes → length notes ≤ at → length (flowed_from o nextMail notes at) + 3120 * at ≤ 3120 * length notes
   past_most nextMail at h k = rw (sent_none o notes nextMail at k) (omega arith)
 
-  from_most : (k : ℕ) (nextMail : Bool) (at : ℕ) → at ≤ length notes → length notes ≤ at + k → long_from most_words o nextMail notes at ≡ Nowhere
+  from_most : (k : ℕ) (nextMail : Bool) (at : ℕ) → at ≤ length notes → length notes ≤ at + k → long_from most_words o nextMail notes at ≡ None
       → length (flowed_from o nextMail notes at) + 3120 * at ≤ 3120 * length notes
   from_most zero nextMail at h k e = past_most nextMail at h (omega arith)
   from_most (suc k) nextMail at h g e = go (ltb at (length notes)) refl (from_most k)
     where
       go : (t : Bool) → ltb at (length notes) ≡ t
-          → ((m : Bool) (i : ℕ) → i ≤ length notes → length notes ≤ i + k → long_from most_words o m notes i ≡ Nowhere → length (flowed_from o m notes i) + 3120 * i ≤ 3120 * length notes)
+          → ((m : Bool) (i : ℕ) → i ≤ length notes → length notes ≤ i + k → long_from most_words o m notes i ≡ None → length (flowed_from o m notes i) + 3120 * i ≤ 3120 * length notes)
           → length (flowed_from o nextMail notes at) + 3120 * at ≤ 3120 * length notes
       go false t rest = past_most nextMail at h (ltb-false at (length notes) t)
       go true t rest = step (too_many most_words o n.kind) refl
@@ -109,5 +109,5 @@ module _ (o : Opts) (notes : List ℕ) (least : 1 ≤ o.tab) (most : o.tab ≤ 1
               omega (arith, l, s, n.most b)
 
   -- a host that lends so much room never gets code 5
-  pub flowed_most : long_paragraph most_words o 0 (pieces o notes) ≡ Nowhere → length (flowed o notes) ≤ 3120 * length notes
+  pub flowed_most : long_paragraph most_words o 0 (pieces o notes) ≡ None → length (flowed o notes) ≤ 3120 * length notes
   flowed_most e = let s = from_most (length notes) true 0 (omega arith) (omega arith) (all_long most_words o notes ∙ e) in omega (arith, s, ap length (all_sent o notes))

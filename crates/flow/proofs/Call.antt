@@ -1,4 +1,5 @@
 -- What the writing call has written comes back: its answers lead to the statements about what is sent.
+use Rattle.std.proofs.Common.{Ok, Err}
 use mathlib.Core.Path.{◌≡◌, refl, sym, ap, ◌∙◌}
 use mathlib.Core.Bool.{Bool, true, false, cond}
 use mathlib.Core.List.{List, ◌++◌, map}
@@ -12,7 +13,6 @@ use Rattle.options.specs.Opts.{Opts, meant}
 use Rattle.options.specs.OptionBlock.{read_block}
 use Rattle.options.specs.declared.Options.{Options}
 use Rattle.options.specs.declared.Block.{Block}
-use Rattle.options.specs.declared.Block.TheVariants.{Accepted, Fault}
 use Rattle.pieces.specs.Pieces.{Piece, Paragraph, paragraph, pieces}
 use Rattle.words.specs.Words.{words_of}
 use Rattle.output.specs.Emission.{line_feed}
@@ -48,7 +48,7 @@ uniform_on o = refl
 
 -- ---- the count of `--` lines
 
-dashes_done : (l : Limits) (block notes : List ℕ) (space : ℕ) (bytes : List ℕ) (o : Options) → flow l block notes space ≡ done bytes → read_block block ≡ Accepted o
+dashes_done : (l : Limits) (block notes : List ℕ) (space : ℕ) (bytes : List ℕ) (o : Options) → flow l block notes space ≡ done bytes → read_block block ≡ Ok o
     → dashes_of l block notes space ≡ dashes_in (mailed (meant block o)) (pieces (mailed (meant block o)) notes)
 unfolding dashes_of
 dashes_done l block notes space bytes o h e = ap (λ (a : Answer). counted_by a block notes (read_block block)) h ∙ ap (counted_by (done bytes) block notes) e
@@ -63,7 +63,7 @@ InOrder o p =
 -- What the writer has written, when it answers that it is done, and how it comes back.
 pub record ComesBack (l : Limits) (block notes : List ℕ) (space : ℕ) (bytes : List ℕ) : Type 0 where
   pub options : Options
-  pub accepted : read_block block ≡ Accepted options
+  pub accepted : read_block block ≡ Ok options
   pub sent : bytes ≡ flowed (mailed (meant block options)) notes
   pub back : let o = mailed (meant block options) in paragraphs (mail_lines bytes) ≡ map unquoted (joined (λ (q : Piece). came_back o q.kind) (pieces o notes))
   pub words : (q : Piece) (p : Paragraph) → q ∈ pieces (mailed (meant block options)) notes → q.kind ≡ paragraph p → InOrder (mailed (meant block options)) p
@@ -74,7 +74,7 @@ pub what_the_call_wrote_comes_back : (l : Limits) (block notes : List ℕ) (spac
 unfolding flow
 what_the_call_wrote_comes_back l block notes space bytes h = read (read_block block) refl h
   where
-    fit : (o : Options) → read_block block ≡ Accepted o → (b : Bool) → unfit block ≡ b
+    fit : (o : Options) → read_block block ≡ Ok o → (b : Bool) → unfit block ≡ b
         → elim b as (λ z. Answer) [ true ↦ refused (Faulty (length block)) | false ↦ sent_notes l space (mailed (meant block o)) notes ] ≡ done bytes → ComesBack l block notes space bytes
     fit o e true u k = absurd (let z : ◌≡◌ {A = ℕ} 0 1 = cc in omega arith)
     fit o e false u k =
@@ -91,5 +91,5 @@ what_the_call_wrote_comes_back l block notes space bytes h = read (read_block bl
         }
 
     read : (b : Block) → read_block block ≡ b → sent_block l space block notes b ≡ done bytes → ComesBack l block notes space bytes
-    read (Fault place) e k = absurd (let z : ◌≡◌ {A = ℕ} 0 1 = cc in omega arith)
-    read (Accepted o) e k = fit o e (unfit block) refl k
+    read (Err (record { at = place })) e k = absurd (let z : ◌≡◌ {A = ℕ} 0 1 = cc in omega arith)
+    read (Ok o) e k = fit o e (unfit block) refl k

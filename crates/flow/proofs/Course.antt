@@ -1,4 +1,5 @@
 -- Piece by piece: what was sent of each, and what is left of the work.
+use Rattle.std.proofs.Common.{None, Ok, Err}
 use mathlib.Core.Path.{◌≡◌, refl, sym, ap, ◌∙◌}
 use mathlib.Core.Bool.{Bool, true, false, not}
 use mathlib.Core.List.{List, [], ◌∷◌, ◌++◌, append-nil}
@@ -12,7 +13,6 @@ use Rattle.lists.specs.Runs.{joined, begins}
 use Rattle.lists.proofs.Parts.{joined_nil, joined_cons}
 use Rattle.lists.proofs.Walk.{walk_nil}
 use Rattle.text.specs.Characters.{damage}
-use Rattle.text.specs.declared.Found.TheVariants.{Nowhere}
 use Rattle.options.specs.Opts.{Opts, meant}
 use Rattle.options.specs.declared.Options.{Options}
 use Rattle.options.proofs.Accepted.{Kept, accepted}
@@ -54,8 +54,6 @@ use Rattle.flow.specs.Cited.Words.{most_sent}
 use Rattle.flow.specs.Cited.Sending.{Ready, ParagraphSent, TextSent, TextStepped, flowed_from, dashes_for, CursorIn, Put, PieceStepped, Finished}
 use Rattle.flow.specs.declared.Cursor.{Cursor}
 use Rattle.flow.specs.declared.Step.{Step}
-use Rattle.flow.specs.declared.Step.TheVariants.{On, Over}
-use Rattle.flow.specs.declared.Ended.TheVariants.{All}
 use Rattle.flow.specs.declared.Turn.{Turn}
 use Rattle.flow.proofs.Words.{words_sent_law, words_dashes_law, sent_most, words_dashes_few}
 
@@ -85,7 +83,7 @@ module _ (block notes : List ℕ) (o : Options) (ready : Ready block notes o) wh
   ready_cleared = ready_kept.split_clears
 
   -- where damaged characters are not kept there are none
-  pub ready_sound : not o.keep ≡ true → damage notes ≡ Nowhere
+  pub ready_sound : not o.keep ≡ true → damage notes ≡ None
   ready_sound k = ready.admitted.sound (ap (λ (m : Options). m.keep) (sym ready.is) ∙ not-true o.keep k)
 
   pub ready_uniform : o.uniform ≡ true
@@ -226,8 +224,8 @@ module _ (block notes : List ℕ) (o : Options) (ready : Ready block notes o) (c
   text_placed = placed block notes o ready c.mail c.at p g.paragraph_is g.goes g.text g.bounds
 
   pub text_stepped : (room : ℕ) (out out' : List ℕ) (r : Step) → TextStepped room notes c o p out out' r block → PieceStepped room (meant block o) notes out c out' r
-  text_stepped room out out' (On d) w = put block notes o ready c.mail c.at p g.paragraph_is g.goes g.text g.bounds room out c d out' refl refl w
-  text_stepped room out out' Over w = (long_here room (meant block o) g.goes (many block notes o ready c.mail c.at p g.paragraph_is g.goes g.text g.bounds room w.0), w.1)
+  text_stepped room out out' (Ok d) w = put block notes o ready c.mail c.at p g.paragraph_is g.goes g.text g.bounds room out c d out' refl refl w
+  text_stepped room out out' (Err (record { })) w = (long_here room (meant block o) g.goes (many block notes o ready c.mail c.at p g.paragraph_is g.goes g.text g.bounds room w.0), w.1)
 
 -- ---- the loop over the pieces
 
@@ -288,7 +286,7 @@ module _ (o : Opts) (notes : List ℕ) where
       long = sym (long_more room o p.goes p.few) ∙ g.long;
     }
 
-    pub going_last : length notes ≤ c.at → Finished room o notes out₀ out (All c.written c.dashes)
+    pub going_last : length notes ≤ c.at → Finished room o notes out₀ out (all_sent c.written c.dashes)
     going_last h = (
       sym g.long ∙ long_none room o c.mail notes c.at h,
       left_last (rw (sent_none c.mail c.at h) at g.left) (wrote_nil out c.written),
@@ -299,5 +297,5 @@ module _ (o : Opts) (notes : List ℕ) where
 -- ---- by what came of a piece
 
 module _ (room : ℕ) (o : Opts) (notes out out' : List ℕ) (c : Cursor) {r : Step} (s : PieceStepped room o notes out c out' r) where
-  pub stepped_on : {d : Cursor} → r ≡ On d → Put room o notes out c d out'
+  pub stepped_on : {d : Cursor} → r ≡ Ok d → Put room o notes out c d out'
   stepped_on e = rw e at s

@@ -1,4 +1,5 @@
 -- What the writer's answer tells has no more than 32 bits, so code and value can be read back from its number.
+use Rattle.std.proofs.Common.{Ok, Err}
 use mathlib.Core.Path.{◌≡◌, refl, sym, ap, ◌∙◌}
 use mathlib.Core.Bool.{Bool, true, false, cond, ◌||◌}
 use mathlib.Core.List.{List}
@@ -11,7 +12,6 @@ use Rattle.options.specs.Opts.{Opts, meant}
 use Rattle.options.specs.OptionBlock.{read_block}
 use Rattle.options.specs.declared.Options.{Options}
 use Rattle.options.specs.declared.Block.{Block}
-use Rattle.options.specs.declared.Block.TheVariants.{Accepted, Fault}
 use Rattle.options.proofs.Accepted.{accepted}
 use Rattle.pieces.specs.Pieces.{pieces}
 use Rattle.walk.specs.Digest.{most_words}
@@ -49,7 +49,7 @@ module _ (l : Limits) (sound : Sound l) (block notes : List ℕ) (space : ℕ) w
   unfolding flow mailed meant
   flow_value = go (read_block block) refl
     where
-      fit : (o : Options) → read_block block ≡ Accepted o → (b : Bool) → (answer_coded (elim b as (λ t. Answer) [ true ↦ refused (Faulty (length block)) | false ↦ sent_notes l space (mailed (meant block o)) notes ])).value ≤ most_told
+      fit : (o : Options) → read_block block ≡ Ok o → (b : Bool) → (answer_coded (elim b as (λ t. Answer) [ true ↦ refused (Faulty (length block)) | false ↦ sent_notes l space (mailed (meant block o)) notes ])).value ≤ most_told
       fit o e true = omega (arith, accepted_small block o e)
       fit o e false =
           let k = accepted block o e in
@@ -57,8 +57,8 @@ module _ (l : Limits) (sound : Sound l) (block notes : List ℕ) (space : ℕ) w
           (λ short enough. sent_value (mailed (meant block o)) k.tab_least k.tab_most k.split_clears short l.words sound.modest enough)
 
       go : (b : Block) → read_block block ≡ b → (answer_coded (sent_block l space block notes b)).value ≤ most_told
-      go (Fault place) e = omega (arith, fault_small block place e)
-      go (Accepted o) e = fit o e (unfit block)
+      go (Err (record { at = place })) e = omega (arith, fault_small block place e)
+      go (Ok o) e = fit o e (unfit block)
 
 -- Code and value can be read back from the number, whatever the limits, the block, the notes and the room.
 pub flow_tells_code_and_value : (l : Limits) → Sound l → (block notes : List ℕ) (space : ℕ)
@@ -83,8 +83,8 @@ asked_sent lends space o notes n e = asked_notes work_for notes lends o n (go (w
 
 module _ (block notes : List ℕ) where
   asked_block : (lends space : ℕ) (b : Block) (n : ℕ) → sent_block (lending lends) space block notes b ≡ refused (Work n) → (needed : ℕ) (more other : ℕ) → sent_block (lending more) other block notes b ≡ refused (Work needed) → (n ≡ needed) × (more < needed)
-  asked_block lends space (Fault place) n e needed more other f = absurd (let z : ◌≡◌ {A = ℕ} 0 1 = cc in omega arith)
-  asked_block lends space (Accepted o) n e needed more other f = go (unfit block) e f
+  asked_block lends space (Err (record { at = place })) n e needed more other f = absurd (let z : ◌≡◌ {A = ℕ} 0 1 = cc in omega arith)
+  asked_block lends space (Ok o) n e needed more other f = go (unfit block) e f
     where
       m : Opts
       m = mailed (meant block o)

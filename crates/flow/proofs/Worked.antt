@@ -1,4 +1,5 @@
 -- Texts that do not carry words, and bytes that do not stand between two: what `Carry`, `Spells` and `Between` refuse.
+use Rattle.std.proofs.Common.{None}
 use mathlib.Core.Path.{◌≡◌, sym, ap, ◌∙◌}
 use mathlib.Core.Bool.{Bool, true, false, cond, true≢false}
 use mathlib.Core.List.{List, [], ◌∷◌, ◌++◌, append-nil}
@@ -13,11 +14,11 @@ use Rattle.lists.specs.Theorems.All.{All}
 use Rattle.text.specs.Rfc3629.{encode}
 use Rattle.text.specs.Theorems.Blanks.{space_code}
 use Rattle.records.specs.Word.{Word}
-use Rattle.records.specs.declared.Before.TheVariants.{Absent}
 use Rattle.flow.specs.Theorems.ReadBack.{spelt, Between, Spells, Carry}
+use Rattle.options.specs.OptionBlock.{between}
 
 abbrev word : List ℕ → Word
-word text = record { blanks = []; text = text; width = 0; before = Absent; after = 0; new_line = false; ends_punct = false; sentence_start = false }
+word text = record { blanks = []; text = text; width = 0; before = None; after = 0; new_line = false; ends_punct = false; sentence_start = false }
 
 -- ---- between two words
 

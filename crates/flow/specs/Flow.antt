@@ -12,24 +12,7 @@ use Rattle.unflow.specs.Flowed.{space, cr_lf, stuffing, is_dashes}
 
 -- quick and uniform are on
 unfoldable pub mailed : Opts → Opts
-mailed o = record {
-  crown = o.crown;
-  tagged = o.tagged;
-  mail = o.mail;
-  split = o.split;
-  uniform = true;
-  quick = true;
-  exact_prefix = o.exact_prefix;
-  exact_skip = o.exact_skip;
-  keep = o.keep;
-  glue = o.glue;
-  by_characters = o.by_characters;
-  width = o.width;
-  goal = o.goal;
-  tab = o.tab;
-  prefix = o.prefix;
-  skip = o.skip;
-}
+mailed o = record o { uniform = true; quick = true }
 
 -- ---- a paragraph's lines, without line ends: words after an indent, and a new line where the breaks say so
 

@@ -1,15 +1,14 @@
 // Digests by mail: the notes' pieces written as format=flowed (RFC 3676, DelSp=no), and the lines `--` counted that this makes.
 #![tactic(auto)]
 
-ghost use Rattle.std.specs.Prelude.{◌≡◌, true, cond, List, ◌++◌, ℕ, ◌+◌, ◌-◌, ◌^◌, ◌≤◌, ◌<◌, length, get_or, take, replicate};
+ghost use Rattle.std.specs.Prelude.{◌≡◌, true, cond, List, ◌++◌, ℕ, ◌+◌, ◌-◌, ◌^◌, ◌≤◌, ◌<◌, length, take, replicate, None};
 ghost use Rattle.std.proofs.Math.Seq.{slice};
-ghost use Rattle.text.specs.declared.Found.TheVariants.{Nowhere};
 ghost use Rattle.options.specs.Opts.{meant};
 ghost use Rattle.options.specs.OptionBlock.{fields, first_fault};
 ghost use Rattle.records.specs.Cited.Table.{Within};
 ghost use Rattle.output.specs.Cited.Sink.{Wrote};
 ghost use Rattle.output.specs.Cited.Writers.{margin_of, MarginIn, Laid};
-ghost use Rattle.paragraphs.specs.Cited.Steps.{room_for, setting_for, Placed};
+ghost use Rattle.paragraphs.specs.Cited.Steps.{room_for, Placed};
 ghost use Rattle.unflow.specs.Flowed.{stuffing, is_dashes};
 ghost use Rattle.walk.specs.Work.{work_for};
 ghost use Rattle.formatter.specs.Format.{own_room};
@@ -19,23 +18,23 @@ ghost use Rattle.flow.specs.Answers.{flags_of};
 ghost use Rattle.flow.specs.Cited.Words.{line_end};
 ghost use Rattle.flow.specs.Cited.Sending.{switched, Ready, refused_for, shaped, Opens, Turned, RestSent, ParagraphSent, TextStepped, CursorIn, PieceStepped, Finished, Flows, FlowsLeft, FlowsAll};
 
-use formatter::{Admission, Refusal, Reply};
-use options::{Block, Options, Part};
+use formatter::{Refusal, Unwritten};
+use options::{Options, Part};
 use output::Layout;
 use pieces::{Margin, Paragraph, Piece};
 use records::Word;
-use spacing::Setting;
-use words::Count;
+use walk::Stopped;
+use words::TooMany;
 
-// What the writer answers: the reply of a writing call, and the count of lines `--`.
-#[derive(Clone, Copy)]
-pub struct Outcome {
-    pub reply: Reply,
+// What was sent: its length, and the count of lines `--`.
+#[derive(Clone, Copy, Debug, PartialEq, Eq)]
+pub struct Sent {
+    pub written: usize,
     pub dashes: usize,
 }
 
 // Where the work stands: the place in the notes, the length of what is sent up to there, next-mail, and the lines `--` made.
-#[derive(Clone, Copy)]
+#[derive(Clone, Copy, Debug, PartialEq, Eq)]
 struct Cursor {
     at: usize,
     written: usize,
@@ -43,29 +42,15 @@ struct Cursor {
     dashes: usize,
 }
 
-// What came of a piece: the work goes on after it, or it is a paragraph of too many words.
-#[derive(Clone, Copy)]
-enum Step {
-    On(Cursor),
-    Over,
-}
-
-// What came of the notes: the length of what is sent and its lines `--`, or the place of the first paragraph that has too many words.
-#[derive(Clone, Copy)]
-enum Ended {
-    All { written: usize, dashes: usize },
-    Stopped(usize),
-}
-
 // How a line begins: the spaces that it is stuffed with, and whether it is `--` so far.
-#[derive(Clone, Copy)]
+#[derive(Clone, Copy, Debug, PartialEq, Eq)]
 struct Opening {
     spaces: usize,
     dashed: bool,
 }
 
 // Where a paragraph stands: the written end, whether the line is `--` so far, and how many such lines were ended.
-#[derive(Clone, Copy)]
+#[derive(Clone, Copy, Debug, PartialEq, Eq)]
 struct Turn {
     at: usize,
     dashed: bool,
@@ -73,82 +58,56 @@ struct Turn {
 }
 
 // Writes the notes as mail. A block that the writer does not take is refused before the notes are looked at.
-pub fn flow(block: &[u8], notes: &[u8], out: &mut [u8]) -> Outcome
+pub fn flow(block: &[u8], notes: &[u8], out: &mut [u8]) -> Result<Sent, Unwritten>
     ensures { Flows own_room block.now notes.now out.old result out.new }
 {
     if is_unfit(block) {
-        return Outcome {
-            reply: Reply::Refused(Refusal::Options(block.len())),
-            dashes: 0,
-        };
+        return Err(Unwritten::Refused(Refusal::Options(block.len())));
     }
-    match formatter::admit(block, notes) {
-        Admission::Refused(r) => Outcome {
-            reply: Reply::Refused(r),
-            dashes: 0,
-        },
-        Admission::Passed(o) => send_notes(mailed(o), block, notes, out),
-    }
+    let admitted = formatter::admit(block, notes)?;
+    send_notes(mailed(admitted.options), block, notes, out)
 }
 
 // The same with working room that is lent.
-pub fn flow_lent(block: &[u8], notes: &[u8], out: &mut [u8], work: &mut [u32]) -> Outcome
+pub fn flow_lent(
+    block: &[u8],
+    notes: &[u8],
+    out: &mut [u8],
+    work: &mut [u32],
+) -> Result<Sent, Unwritten>
     ensures { Flows (lending (length work.old)) block.now notes.now out.old result out.new }
 {
     if is_unfit(block) {
-        return Outcome {
-            reply: Reply::Refused(Refusal::Options(block.len())),
-            dashes: 0,
-        };
+        return Err(Unwritten::Refused(Refusal::Options(block.len())));
     }
-    match formatter::admit_within(block, notes, formatter::MOST_LARGE) {
-        Admission::Refused(r) => Outcome {
-            reply: Reply::Refused(r),
-            dashes: 0,
-        },
-        Admission::Passed(o) => send_large(mailed(o), block, notes, out, work),
-    }
+    let admitted = formatter::admit_within(block, notes, formatter::MOST_LARGE)?;
+    send_large(mailed(admitted.options), block, notes, out, work)
 }
 
 // Whether a block is well formed, and asks for what mail cannot have.
 fn is_unfit(block: &[u8]) -> bool
     ensures { result ≡ refused_for block.now }
 {
-    let Block::Accepted(o) = options::read_block(block) else {
+    let Ok(o) = options::read_block(block) else {
         return false;
     };
-    let prefix = o.prefix;
-    has_shape(prefix, flags_of(block))
+    has_shape(o.prefix, flags_of(block))
 }
 
 // A prefix, or one of the bits crown, tagged and mail.
-fn has_shape(prefix: Part, flags: usize) -> bool
+fn has_shape(prefix: Option<Part>, flags: usize) -> bool
     ensures { result ≡ shaped flags prefix }
 {
-    match prefix {
-        Part::Given { start: _, end: _ } => true,
-        Part::Absent => (flags % 2 == 1) | (flags / 2 % 2 == 1) | (flags / 4 % 2 == 1),
-    }
+    (flags % 2 == 1) | (flags / 2 % 2 == 1) | (flags / 4 % 2 == 1) | prefix.is_some()
 }
 
 // The flags of a well-formed block as they stand there, before one clears another: tags ascend, so that theirs is the first field.
 fn flags_of(block: &[u8]) -> usize
-    requires { first_fault (fields block.now) ≡ Nowhere }
+    requires { first_fault (fields block.now) ≡ None }
     ensures { result ≡ flags_of block.now }
 {
-    if byte_at(block, 0) == 1 {
-        return byte_at(block, 3) * 256 + byte_at(block, 4);
-    }
-    0
-}
-
-// The byte at a place, and 0 past the end.
-fn byte_at(block: &[u8], at: usize) -> usize
-    ensures value { result ≡ get_or block.now at 0 }
-    ensures bound { result ≤ 255 }
-{
-    if at < block.len() {
-        block[at] as usize
+    if options::byte_at(block, 0) == 1 {
+        options::byte_at(block, 3) * 256 + options::byte_at(block, 4)
     } else {
         0
     }
@@ -158,25 +117,10 @@ fn byte_at(block: &[u8], at: usize) -> usize
 fn mailed(o: Options) -> Options
     ensures { result ≡ switched o }
 {
-    let prefix = o.prefix;
-    let skip = o.skip;
     Options {
-        crown: o.crown,
-        tagged: o.tagged,
-        mail: o.mail,
-        split: o.split,
         uniform: true,
         quick: true,
-        exact_prefix: o.exact_prefix,
-        exact_skip: o.exact_skip,
-        keep: o.keep,
-        glue: o.glue,
-        by_characters: o.by_characters,
-        width: o.width,
-        goal: o.goal,
-        tab: o.tab,
-        prefix,
-        skip,
+        ..o
     }
 }
 
@@ -184,47 +128,41 @@ fn mailed(o: Options) -> Options
 const QUICK_MOST: usize = 7168;
 
 // Writes what fits of the notes, and counts what is needed.
-fn send_notes(o: Options, block: &[u8], notes: &[u8], out: &mut [u8]) -> Outcome
+fn send_notes(o: Options, block: &[u8], notes: &[u8], out: &mut [u8]) -> Result<Sent, Unwritten>
     requires { Ready block.now notes.now o }
     ensures { FlowsLeft own_room (meant block.now o) notes.now out.old result out.new }
 {
     let mut work = [0u32; QUICK_MOST];
-    match send_pieces(o, block, notes, out, &mut work) {
-        Ended::Stopped(place) => {
-            walk::clear(out);
-            Outcome {
-                reply: Reply::Refused(Refusal::Words(place)),
-                dashes: 0,
-            }
+    let sent = match send_pieces(o, block, notes, out, &mut work) {
+        Ok(sent) => sent,
+        Err(stopped) => {
+            out.fill(0);
+            return Err(stopped.into());
         }
-        Ended::All { written, dashes } => {
-            if written <= out.len() {
-                return Outcome {
-                    reply: Reply::Done(written),
-                    dashes,
-                };
-            }
-            walk::clear(out);
-            Outcome {
-                reply: Reply::Room(written),
-                dashes: 0,
-            }
-        }
+    };
+    if sent.written <= out.len() {
+        Ok(sent)
+    } else {
+        out.fill(0);
+        Err(Unwritten::Room(sent.written))
     }
 }
 
 // The same with lent room. The need is counted before a byte is written.
-fn send_large(o: Options, block: &[u8], notes: &[u8], out: &mut [u8], work: &mut [u32]) -> Outcome
+fn send_large(
+    o: Options,
+    block: &[u8],
+    notes: &[u8],
+    out: &mut [u8],
+    work: &mut [u32],
+) -> Result<Sent, Unwritten>
     requires { Ready block.now notes.now o }
     ensures { FlowsLeft (lending (length work.old)) (meant block.now o) notes.now out.old result out.new }
 {
     let lends = work.len();
     let needed = walk::work_with(o, block, notes, lends);
     if lends < needed {
-        return Outcome {
-            reply: Reply::Refused(Refusal::Work(needed)),
-            dashes: 0,
-        };
+        return Err(Unwritten::Refused(Refusal::Work(needed)));
     }
     send_enough(o, block, notes, out, work)
 }
@@ -233,41 +171,34 @@ fn send_large(o: Options, block: &[u8], notes: &[u8], out: &mut [u8], work: &mut
 const MOST_TOLD: usize = 4294967295;
 
 // With room for every paragraph.
-fn send_enough(o: Options, block: &[u8], notes: &[u8], out: &mut [u8], work: &mut [u32]) -> Outcome
+fn send_enough(
+    o: Options,
+    block: &[u8],
+    notes: &[u8],
+    out: &mut [u8],
+    work: &mut [u32],
+) -> Result<Sent, Unwritten>
     requires { Ready block.now notes.now o × (work_for (meant block.now o) notes.now ≤ length work.old) }
     ensures { FlowsAll (lending (length work.old)) (meant block.now o) notes.now out.old result out.new }
 {
-    match send_pieces(o, block, notes, out, work) {
-        // There is room for every paragraph, so the work does not stop.
-        Ended::Stopped(place) => Outcome {
-            reply: Reply::Refused(Refusal::Words(place)),
-            dashes: 0,
-        },
-        Ended::All { written, dashes } => {
-            if MOST_TOLD < written {
-                walk::clear(out);
-                return Outcome {
-                    reply: Reply::Room(MOST_TOLD),
-                    dashes: 0,
-                };
-            }
-            if written <= out.len() {
-                return Outcome {
-                    reply: Reply::Done(written),
-                    dashes,
-                };
-            }
-            walk::clear(out);
-            Outcome {
-                reply: Reply::Room(written),
-                dashes: 0,
-            }
-        }
+    // There is room for every paragraph, so the work does not stop.
+    let sent = send_pieces(o, block, notes, out, work)?;
+    if sent.written <= out.len().min(MOST_TOLD) {
+        Ok(sent)
+    } else {
+        out.fill(0);
+        Err(Unwritten::Room(sent.written.min(MOST_TOLD)))
     }
 }
 
 // Piece by piece. The work goes on when no room is left: too many words, found later, take precedence.
-fn send_pieces(o: Options, block: &[u8], notes: &[u8], out: &mut [u8], work: &mut [u32]) -> Ended
+fn send_pieces(
+    o: Options,
+    block: &[u8],
+    notes: &[u8],
+    out: &mut [u8],
+    work: &mut [u32],
+) -> Result<Sent, Stopped>
     requires { Ready block.now notes.now o }
     ensures { Finished (room_for true (length work.old)) (meant block.now o) notes.now out.old out.new result }
 {
@@ -278,15 +209,15 @@ fn send_pieces(o: Options, block: &[u8], notes: &[u8], out: &mut [u8], work: &mu
         dashes: 0,
     };
     while c.at < notes.len() {
-        let Step::On(d) = send_piece(o, block, notes, c, out, work) else {
-            return Ended::Stopped(c.at);
+        let Ok(d) = send_piece(o, block, notes, c, out, work) else {
+            return Err(Stopped { at: c.at });
         };
         c = d;
     }
-    Ended::All {
+    Ok(Sent {
         written: c.written,
         dashes: c.dashes,
-    }
+    })
 }
 
 // Writes the piece at a place, unless it is a paragraph of too many words.
@@ -297,23 +228,23 @@ fn send_piece(
     c: Cursor,
     out: &mut [u8],
     work: &mut [u32],
-) -> Step
+) -> Result<Cursor, TooMany>
     requires { Ready block.now notes.now o × CursorIn notes.now c × (c.at < length notes.now) }
     ensures { PieceStepped (room_for true (length work.old)) (meant block.now o) notes.now out.old c out.new result }
 {
     let at = c.at;
     match pieces::next_piece(notes, at, o, block, c.mail, !o.keep) {
-        Piece::Blank { next } => Step::On(Cursor {
+        Piece::Blank { next } => Ok(Cursor {
             at: next,
             written: send_line(notes, at, at, out, c.written),
             mail: true,
-            dashes: c.dashes,
+            ..c
         }),
-        Piece::Plain { end, next } => Step::On(Cursor {
+        Piece::Plain { end, next } => Ok(Cursor {
             at: next,
             written: send_line(notes, at, end, out, c.written),
             mail: false,
-            dashes: c.dashes,
+            ..c
         }),
         Piece::Text(p) => send_text(notes, c, o, p, out, work),
     }
@@ -327,51 +258,25 @@ fn send_text(
     p: Paragraph,
     out: &mut [u8],
     work: &mut [u32],
-) -> Step
+) -> Result<Cursor, TooMany>
     requires { Placed notes.now c.at o p × (c.written < 2 ^ 62) × (c.dashes < 2 ^ 62) × (o.uniform ≡ true) }
     ensures { (block : List ℕ) → TextStepped (room_for true (length work.old)) notes.now c o p out.old out.new result block }
 {
     let most = paragraphs::room_for(true, work.len());
-    let Count::Words(n) = words::split_words(
-        notes, c.at, p.next, p.mail, p.start, p.later, o, most, work,
-    ) else {
-        return Step::Over;
+    let n = words::split_words(notes, c.at, p.next, p.mail, p.start, p.later, o, most, work)?;
+    quick::quick_breaks(work, n, paragraphs::setting_of(o, p));
+    let l = Layout {
+        uniform: true,
+        first: p.first,
+        indent: p.indent,
     };
-    let first = p.first;
-    let indent = p.indent;
-    quick::quick_breaks(work, n, setting_of(o, first, indent));
-    let t = emit(notes, work, n, layout_of(first, indent), out, c.written);
-    Step::On(Cursor {
+    let t = emit(notes, work, n, l, out, c.written);
+    Ok(Cursor {
         at: p.next,
         written: t.at,
         mail: p.mail,
         dashes: c.dashes + t.dashes,
     })
-}
-
-// What a paragraph is broken with.
-fn setting_of(o: Options, first: Margin, indent: Margin) -> Setting
-    ensures { (block : List ℕ) (p : Paragraph) → o.uniform ≡ true → p.first ≡ first → p.indent ≡ indent → result ≡ setting_for block o p }
-{
-    Setting {
-        width: o.width,
-        goal: o.goal,
-        tab: o.tab,
-        uniform: true,
-        first: first.columns,
-        indent: indent.columns,
-    }
-}
-
-// How it is laid out.
-fn layout_of(first: Margin, indent: Margin) -> Layout
-    ensures { (result.first ≡ first) × (result.indent ≡ indent) }
-{
-    Layout {
-        uniform: true,
-        first,
-        indent,
-    }
 }
 
 // A paragraph of n words, broken where the marks say, written after at bytes.
@@ -382,7 +287,7 @@ fn emit(notes: &[u8], table: &[u32], n: usize, l: Layout, out: &mut [u8], at: us
     let w = records::get(table, 0);
     let first = l.first;
     let o = opening_of(notes, first, w.start, w.end, 1 < n);
-    let place = lists::lesser(at, out.len());
+    let place = at.min(out.len());
     let k = at + put_opened(notes, first, w.start, w.end, o.spaces, &mut out[place..]);
     let t = Turn {
         at: k,
@@ -401,16 +306,14 @@ fn emit_rest(notes: &[u8], table: &[u32], n: usize, l: Layout, head: Turn, out: 
     // The first word's own punctuation does not count.
     let mut punct = false;
     let mut t = head;
-    let mut i = 1;
-    while i < n {
+    for i in 1..n {
         let w = records::get(table, i);
         let added = spacing::added_space(true, w.first, w.sentence, punct);
         let fresh = records::starts_line(table, i);
-        i += 1;
-        t = put_next(notes, w, fresh, added, indent, i < n, t, out);
+        t = put_next(notes, w, fresh, added, indent, i + 1 < n, t, out);
         punct = w.punct;
     }
-    let place = lists::lesser(t.at, out.len());
+    let place = t.at.min(out.len());
     Turn {
         at: t.at + unflow::put_end(true, &mut out[place..]),
         dashed: false,
@@ -432,7 +335,7 @@ fn put_next(
     requires { Within (length notes.now) w × MarginIn (length notes.now) indent × (length notes.now < 2 ^ 32) × (added ≤ 2) × (t.at < 2 ^ 63 + 2 ^ 62) × (t.dashes < 2 ^ 32) }
     ensures { Turned notes.now w fresh added indent more t out.old out.new result }
 {
-    let place = lists::lesser(t.at, out.len());
+    let place = t.at.min(out.len());
     if !fresh {
         return Turn {
             at: t.at + output::put_word(notes, w, w.end, false, added, indent, &mut out[place..]),
@@ -444,17 +347,8 @@ fn put_next(
     Turn {
         at: t.at + put_break(notes, w, t.dashed, o.spaces, indent, &mut out[place..]),
         dashed: o.dashed,
-        dashes: t.dashes + one_if(t.dashed),
+        dashes: t.dashes + usize::from(t.dashed),
     }
-}
-
-fn one_if(b: bool) -> usize
-    ensures { (result ≡ cond b 1 0) × (result ≤ 1) }
-{
-    if b {
-        return 1;
-    }
-    0
 }
 
 // The end of a line, and the next one's beginning: a line `--` is fixed, any other soft.
@@ -470,15 +364,15 @@ fn put_break(
     ensures { Wrote rest.old 0 (line_end dashed ++ (replicate spaces 32 ++ (margin_of notes.now indent ++ slice w.start w.end notes.now))) rest.new result × (result ≤ 2 ^ 34) }
 {
     let k = put_line_end(dashed, rest);
-    let place = lists::lesser(k, rest.len());
+    let place = k.min(rest.len());
     k + put_opened(notes, indent, w.start, w.end, spaces, &mut rest[place..])
 }
 
 fn put_line_end(dashed: bool, rest: &mut [u8]) -> usize
     ensures { Wrote rest.old 0 (line_end dashed) rest.new result × (result ≤ 3) }
 {
-    let k = output::put_added(1 - one_if(dashed), rest);
-    let place = lists::lesser(k, rest.len());
+    let k = output::put_added(usize::from(!dashed), rest);
+    let place = k.min(rest.len());
     k + unflow::put_end(true, &mut rest[place..])
 }
 
@@ -495,7 +389,7 @@ fn put_opened(
     ensures { Wrote rest.old 0 (replicate spaces 32 ++ (margin_of notes.now m ++ slice from to notes.now)) rest.new result × (result ≤ 2 ^ 33 + 2 ^ 32) }
 {
     let k = output::put_added(spaces, rest);
-    let place = lists::lesser(k, rest.len());
+    let place = k.min(rest.len());
     k + output::put_first(notes, from, to, m, &mut rest[place..])
 }
 
@@ -505,7 +399,7 @@ fn opening_of(notes: &[u8], m: Margin, from: usize, to: usize, more: bool) -> Op
     ensures { Opens more (margin_of notes.now m ++ slice from to notes.now) result }
 {
     let mut front = [0u8; 6];
-    let n = lists::lesser(output::put_first(notes, from, to, m, &mut front), 5);
+    let n = output::put_first(notes, from, to, m, &mut front).min(5);
     front[n] = b' ';
     judged(&front, n, more)
 }
@@ -515,7 +409,7 @@ fn judged(front: &[u8], n: usize, more: bool) -> Opening
     requires { n < length front.now }
     ensures { (replicate result.spaces 32 ≡ stuffing (take (n + cond more 1 0) front.now)) × (result.spaces ≤ 1) × (result.dashed ≡ is_dashes (take (n + 1) front.now)) }
 {
-    let end = n + one_if(more);
+    let end = n + usize::from(more);
     let behind = n + 1;
     Opening {
         spaces: unflow::stuffing_of(&front[..end]),
@@ -536,9 +430,9 @@ fn send_line(notes: &[u8], from: usize, to: usize, out: &mut [u8], at: usize) ->
         more: 0,
         columns: 0,
     };
-    let place = lists::lesser(at, out.len());
+    let place = at.min(out.len());
     let k = at + put_opened(notes, none, from, end, spaces, &mut out[place..]);
-    let behind = lists::lesser(k, out.len());
+    let behind = k.min(out.len());
     k + unflow::put_end(true, &mut out[behind..])
 }
 
@@ -548,22 +442,20 @@ fn sent_end(notes: &[u8], from: usize, to: usize) -> usize
     ensures { (slice from result notes.now ≡ plain_sent (slice from to notes.now)) × (from ≤ result) × (result ≤ to) }
 {
     if unflow::is_dashes(&notes[from..to]) {
-        return to;
+        to
+    } else {
+        trimmed_end(notes, from, to)
     }
-    trimmed_end(notes, from, to)
 }
 
 fn trimmed_end(notes: &[u8], from: usize, to: usize) -> usize
     requires { (from ≤ to) × (to ≤ length notes.now) }
     ensures { (slice from result notes.now ≡ trimmed (slice from to notes.now)) × (from ≤ result) × (result ≤ to) }
 {
-    let mut end = to;
-    while from < end {
-        let last = end - 1;
+    for last in (from..to).rev() {
         if notes[last] != b' ' {
-            return end;
+            return last + 1;
         }
-        end = last;
     }
-    end
+    from
 }

@@ -1,69 +1,61 @@
 // Folding, for the wall: a line feed is put before each character that would end past the columns, so that all of a text can be shown.
 #![tactic(auto)]
 
-ghost use Rattle.std.specs.Prelude.{◌≡◌, true, cond, ◌∷◌, ◌++◌, ◌+◌, ◌-◌, ◌*◌, ◌^◌, ◌≤◌, ◌<◌, eqb, length, take, drop, replicate};
+ghost use Rattle.std.specs.Prelude.{◌≡◌, true, cond, ◌∷◌, ◌++◌, ◌+◌, ◌-◌, ◌*◌, ◌≤◌, ◌<◌, eqb, length, take, drop};
 ghost use Rattle.std.proofs.Math.Seq.{slice};
 ghost use Rattle.widths.specs.Widths.{width_of};
 ghost use Rattle.text.specs.Characters.{characters};
 ghost use Rattle.lines.specs.Classes.{next_stop};
 ghost use Rattle.output.specs.Cited.Sink.{Wrote};
 ghost use Rattle.fold.specs.Fold.{fold as fold_of, rows_of, feed, in_rows, folded};
-ghost use Rattle.fold.specs.Cited.Steps.{Folds, number_of, Plain, plain_byte, Behind, stay_end, row_end};
+ghost use Rattle.fold.specs.Cited.Steps.{Folds, unfolded_coded, Plain, plain_byte, Behind, stay_end, row_end};
 
-use text::Char;
+use lists::Refusing;
 
-// What folding answers: the length of what was written, or a refusal with what is told of it.
-#[derive(Clone, Copy)]
-pub enum Folding {
-    Done(usize),
+// Why a text is not folded: the tab width or the columns are refused, it is too long, or there is no room for so many bytes.
+#[derive(Clone, Copy, Debug, PartialEq, Eq)]
+pub enum Unfolded {
     Options,
     Long,
     Room(usize),
 }
 
+impl Refusing for Unfolded {
+    ghost coded = { unfolded_coded };
+
+    fn number(self) -> u64 {
+        match self {
+            Unfolded::Options => lists::number(1, 0),
+            Unfolded::Long => lists::number(2, 0),
+            Unfolded::Room(needed) => lists::number(5, needed),
+        }
+    }
+}
+
 // A place of a line, and the column that it is at on its row.
-#[derive(Clone, Copy)]
+#[derive(Clone, Copy, Debug, PartialEq, Eq)]
 struct Spot {
     at: usize,
     column: usize,
 }
 
-// A text folded into `out`. One pass writes what fits and counts what is needed.
-pub fn fold(text: &[u8], tab: u64, columns: u64, out: &mut [u8]) -> Folding
+// A text folded into `out`: the length of what was written. One pass writes what fits and counts what is needed.
+pub fn fold(text: &[u8], tab: u64, columns: u64, out: &mut [u8]) -> Result<usize, Unfolded>
     ensures { Folds (fold_of text.now tab columns (length out.old)) out.old result out.new }
 {
-    if 100 < tab {
-        return Folding::Options;
-    }
-    if columns == 0 {
-        return Folding::Options;
-    }
-    if 1000 < columns {
-        return Folding::Options;
+    if (100 < tab) | (columns == 0) | (1000 < columns) {
+        return Err(Unfolded::Options);
     }
     if 1073741824 < text.len() {
-        return Folding::Long;
+        return Err(Unfolded::Long);
     }
     let needed = put_lines(text, panel::stop_width(tab), columns as usize, out);
     if needed <= out.len() {
-        return Folding::Done(needed);
-    }
-    clear(out);
-    Folding::Room(needed)
-}
-
-// The answer's code is in the upper 32 bits of its number, what it tells in the lower.
-const UPPER: u64 = 4294967296;
-
-pub fn folding_number(a: Folding) -> u64
-    requires { number_of a < 2 ^ 64 }
-    ensures { result ≡ number_of a }
-{
-    match a {
-        Folding::Done(n) => n as u64,
-        Folding::Options => UPPER,
-        Folding::Long => 2 * UPPER,
-        Folding::Room(needed) => 5 * UPPER + needed as u64,
+        Ok(needed)
+    } else {
+        // No byte stays where there is no room for all.
+        out.fill(0);
+        Err(Unfolded::Room(needed))
     }
 }
 
@@ -77,7 +69,7 @@ fn put_lines(text: &[u8], tab: usize, columns: usize, out: &mut [u8]) -> usize
     while at < text.len() {
         let extent = lines::first_line(&text[at..]);
         let end = at + extent.whole;
-        let place = lists::lesser(k, out.len());
+        let place = k.min(out.len());
         k += put_line(&text[at..end], extent.text, tab, columns, &mut out[place..]);
         at = end;
     }
@@ -90,7 +82,7 @@ fn put_line(raw: &[u8], size: usize, tab: usize, columns: usize, rest: &mut [u8]
     ensures { Wrote rest.old 0 (in_rows (rows_of tab columns (characters (take size raw.now))) ++ drop size raw.now) rest.new result × (result ≤ 2 * length raw.now) }
 {
     let k = put_rows(&raw[..size], tab, columns, rest);
-    let place = lists::lesser(k, rest.len());
+    let place = k.min(rest.len());
     k + output::put_text(raw, size, raw.len(), &mut rest[place..])
 }
 
@@ -103,7 +95,7 @@ fn put_rows(line: &[u8], tab: usize, columns: usize, rest: &mut [u8]) -> usize
     let mut k = output::put_text(line, 0, at, rest);
     while at < line.len() {
         let end = row_end(line, at, tab, columns);
-        let place = lists::lesser(k, rest.len());
+        let place = k.min(rest.len());
         k += put_fed(line, at, end, &mut rest[place..]);
         at = end;
     }
@@ -116,7 +108,7 @@ fn put_fed(line: &[u8], at: usize, end: usize, rest: &mut [u8]) -> usize
     ensures { Wrote rest.old 0 (feed ∷ slice at end line.now) rest.new result }
 {
     let k = output::put_feed(rest);
-    let place = lists::lesser(k, rest.len());
+    let place = k.min(rest.len());
     k + output::put_text(line, at, end, &mut rest[place..])
 }
 
@@ -140,7 +132,7 @@ fn stay_end(line: &[u8], from: usize, start: usize, tab: usize, columns: usize) 
     let mut at = from;
     let mut column = start;
     while at < line.len() {
-        let plain = plain_end(line, at, room(column, columns));
+        let plain = plain_end(line, at, columns.saturating_sub(column));
         let reached = column + (plain - at);
         if plain == line.len() {
             return plain;
@@ -155,31 +147,18 @@ fn stay_end(line: &[u8], from: usize, start: usize, tab: usize, columns: usize) 
     at
 }
 
-// How many columns are left.
-fn room(column: usize, columns: usize) -> usize
-    ensures { result ≡ columns - column }
-{
-    if column < columns {
-        return columns - column;
-    }
-    0
-}
-
 // The end of the bytes from 0x20 to 0x7E at a place, but at most so many on: each is a character of one column.
 fn plain_end(line: &[u8], from: usize, most: usize) -> usize
     requires { from ≤ length line.now }
     ensures { Plain line.now from result × (result ≤ from + most) }
 {
-    let end = from + lists::lesser(most, line.len() - from);
-    let mut i = plain_eights(line, from, end);
-    while i < end {
-        if is_plain(line[i]) {
-            i += 1;
-        } else {
+    let end = from + most.min(line.len() - from);
+    for i in plain_eights(line, from, end)..end {
+        if !is_plain(line[i]) {
             return i;
         }
     }
-    i
+    end
 }
 
 // Passes such bytes eight at a time, up to an end: eight tests without a branch between them are as quick as one.
@@ -230,15 +209,15 @@ fn behind(line: &[u8], at: usize, column: usize, tab: usize) -> Spot
     requires { (at < length line.now) × (column ≤ 1000) × (1 ≤ tab) × (tab ≤ 100) }
     ensures { Behind tab line.now at column result }
 {
-    let Char::Good { code, next } = text::decode_at(line, at) else {
-        return Spot {
+    match text::decode_at(line, at) {
+        Some(c) => Spot {
+            at: c.next,
+            column: column_behind(column, c.code, tab),
+        },
+        None => Spot {
             at: at + 1,
             column: column + 1,
-        };
-    };
-    Spot {
-        at: next,
-        column: column_behind(column, code, tab),
+        },
     }
 }
 
@@ -251,16 +230,5 @@ fn column_behind(column: usize, code: u32, tab: usize) -> usize
         (column / tab + 1) * tab
     } else {
         column + widths::width(code)
-    }
-}
-
-// No byte stays where there is no room for all.
-fn clear(out: &mut [u8])
-    ensures { out.new ≡ replicate (length out.old) 0 }
-{
-    let mut i = 0;
-    while i < out.len() {
-        out[i] = 0;
-        i += 1;
     }
 }

@@ -1,4 +1,5 @@
 -- Drawing the panel, row by row: the rows drawn and those of the lines left are the panel's, and what is left of the cells is blank.
+use Rattle.std.proofs.Common.{Ok, Err}
 use mathlib.Core.Path.{◌≡◌, refl, sym, ap, ◌∙◌}
 use mathlib.Core.Bool.{Bool, true, false}
 use mathlib.Core.List.{List, [], ◌∷◌, ◌++◌, append_assoc, append-nil}
@@ -16,7 +17,6 @@ use Rattle.lines.proofs.Lines.{LineHere, lines_past}
 use Rattle.lines.specs.declared.Extent.{Extent}
 use Rattle.panel.specs.Panel.{blank, blank_row, draw, finished, row_cells, stop_width, newest, texts_of, shown, panel_of, panel_answer, cells_after}
 use Rattle.panel.specs.Cited.Places.{Newest}
-use Rattle.panel.specs.declared.Answer.TheVariants.{Done, Options}
 use Rattle.panel.specs.declared.Tail.{Tail}
 use Rattle.panel.proofs.Turns.{signs_nil, row_length}
 
@@ -120,10 +120,10 @@ stop_bounds tab w h e = pick (eqb tab 0) refl
     pick true f = rw (e, f) (omega arith, omega arith)
     pick false f = let n = eqb-false tab 0 f in rw (e, f) (omega (arith, n), h)
 
-pub refused : (tab : ℕ) (digest : List ℕ) → 100 < tab → (Options ≡ panel_answer tab) × (replicate 1920 blank ≡ cells_after tab digest)
+pub refused : (tab : ℕ) (digest : List ℕ) → 100 < tab → ((Err (record { })) ≡ panel_answer tab) × (replicate 1920 blank ≡ cells_after tab digest)
 unfolding panel_answer cells_after
 refused tab digest h = rw (lt-leb tab 100 h) (refl, refl)
 
-pub done : (tab w : ℕ) (digest cells : List ℕ) → tab ≤ 100 → w ≡ stop_width tab → cells ≡ joined (row_cells w) (shown digest) → (Done ≡ panel_answer tab) × (cells ≡ cells_after tab digest)
+pub done : (tab w : ℕ) (digest cells : List ℕ) → tab ≤ 100 → w ≡ stop_width tab → cells ≡ joined (row_cells w) (shown digest) → ((Ok tt) ≡ panel_answer tab) × (cells ≡ cells_after tab digest)
 unfolding panel_answer cells_after panel_of
 done tab w digest cells h e r = rw (le-leb tab 100 h, ← e) (refl, r)

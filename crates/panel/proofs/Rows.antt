@@ -1,4 +1,5 @@
 -- A row while it is drawn: after the row's end nothing is marked any more, so that only whether a cell is asked for counts.
+use Rattle.std.proofs.Common.{Some, None}
 use mathlib.Core.Path.{◌≡◌, refl, sym, ap, ◌∙◌}
 use mathlib.Core.Bool.{Bool, true, false, cond, not, ◌||◌, or-false, or_assoc}
 use mathlib.Core.List.{List, [], ◌∷◌}
@@ -12,7 +13,6 @@ use Rattle.panel.specs.Panel.{PanelRow, taken, drawn, draw, marked, finished}
 use Rattle.panel.specs.Cited.Places.{row_at, step_of}
 use Rattle.panel.specs.declared.Sign.{Sign}
 use Rattle.panel.specs.declared.Sign.TheVariants.{Tab, Dropped, One, Two}
-use Rattle.panel.specs.declared.Step.TheVariants.{At, Over}
 
 -- whether a sign takes a cell, and one of several does
 abbrev takes : Sign → Bool
@@ -38,19 +38,19 @@ past end e = go (leb end 80) refl e
     go false f g = let h = leb-false end 80 f in omega arith
 
 -- what an answer of the code tells of the row
-over_told : (d : PanelRow) → Over ≡ step_of d → d.over ≡ true
+over_told : (d : PanelRow) → None ≡ step_of d → d.over ≡ true
 unfolding step_of
 over_told d e = go d.over refl e
   where
-    go : (t : Bool) → d.over ≡ t → Over ≡ cond t Over (At (min 80 d.column)) → d.over ≡ true
+    go : (t : Bool) → d.over ≡ t → None ≡ cond t None (Some (min 80 d.column)) → d.over ≡ true
     go true f g = f
     go false f g = absurd (let z : ◌≡◌ {A = ℕ} 0 1 = cc in omega arith)
 
-pub on_told : (d : PanelRow) (k : ℕ) → At k ≡ step_of d → (d.over ≡ false) × (k ≡ min 80 d.column)
+pub on_told : (d : PanelRow) (k : ℕ) → Some k ≡ step_of d → (d.over ≡ false) × (k ≡ min 80 d.column)
 unfolding step_of
 on_told d k e = go d.over refl e
   where
-    go : (t : Bool) → d.over ≡ t → At k ≡ cond t Over (At (min 80 d.column)) → (d.over ≡ false) × (k ≡ min 80 d.column)
+    go : (t : Bool) → d.over ≡ t → Some k ≡ cond t None (Some (min 80 d.column)) → (d.over ≡ false) × (k ≡ min 80 d.column)
     go true f g = absurd (let z : ◌≡◌ {A = ℕ} 0 1 = cc in omega arith)
     go false f g = (f, cc)
 
@@ -93,7 +93,7 @@ module _ (tab : ℕ) (some : 1 ≤ tab) where
   runs_over column cells (One c) e = past (column + 1) e
   runs_over column cells (Two c) e = past (column + 2) e
 
-  pub step_over : (column : ℕ) (cells : List ℕ) (s : Sign) (ss : List Sign) → Over ≡ step_of (drawn tab (row_at column cells) s)
+  pub step_over : (column : ℕ) (cells : List ℕ) (s : Sign) (ss : List Sign) → None ≡ step_of (drawn tab (row_at column cells) s)
       → marked (drawn tab (row_at column cells) s).cells ≡ finished (draw tab (row_at column cells) (s ∷ ss))
   unfolding draw
   step_over column cells s ss e =
@@ -113,7 +113,7 @@ module _ (tab : ℕ) (some : 1 ≤ tab) where
           let h = leb-false d.column 80 f in
           far d.cells false k d.column ss (omega arith) (omega arith) ∙ rw same
 
-  pub step_on : (column : ℕ) (cells : List ℕ) (s : Sign) (ss : List Sign) (k : ℕ) → At k ≡ step_of (drawn tab (row_at column cells) s)
+  pub step_on : (column : ℕ) (cells : List ℕ) (s : Sign) (ss : List Sign) (k : ℕ) → Some k ≡ step_of (drawn tab (row_at column cells) s)
       → finished (draw tab (row_at k (drawn tab (row_at column cells) s).cells) ss) ≡ finished (draw tab (row_at column cells) (s ∷ ss))
   unfolding draw
   step_on column cells s ss k e =

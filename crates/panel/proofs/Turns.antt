@@ -1,4 +1,5 @@
 -- Drawing a row, turn by turn: what is left to draw gives the row that the whole line gives.
+use Rattle.std.proofs.Common.{Some, None}
 use mathlib.Core.Path.{◌≡◌, refl, ap, ◌∙◌}
 use mathlib.Core.Bool.{Bool, true, false, cond}
 use mathlib.Core.List.{List, [], ◌∷◌}
@@ -16,7 +17,6 @@ use Rattle.panel.specs.Cited.Places.{seen_at, row_at, step_of}
 use Rattle.panel.specs.declared.Seen.{Seen}
 use Rattle.panel.specs.declared.Sign.{Sign}
 use Rattle.panel.specs.declared.Sign.TheVariants.{Tab, Dropped, One, Two}
-use Rattle.panel.specs.declared.Step.TheVariants.{At, Over}
 use Rattle.panel.proofs.Rows.{on_told, step_on, step_over}
 
 -- ---- the signs of a line
@@ -124,7 +124,7 @@ module _ (line : List ℕ) (tab : ℕ) (row : List ℕ) (at column : ℕ) (some 
   pub after_size : length after ≡ 80
   after_size = ap length stored ∙ drawn_length tab (row_at column row) seen.sign ∙ d.size
 
-  pub drawing_next : (k : ℕ) → At k ≡ step_of (drawn tab (row_at column row) seen.sign) → Drawing line tab after seen.next k
+  pub drawing_next : (k : ℕ) → Some k ≡ step_of (drawn tab (row_at column row) seen.sign) → Drawing line tab after seen.next k
   drawing_next k e =
       let o = on_told (drawn tab (row_at column row) seen.sign) k e in
       let m = o.1 in
@@ -135,5 +135,5 @@ module _ (line : List ℕ) (tab : ℕ) (row : List ℕ) (at column : ℕ) (some 
         left = rw stored (step_on tab some column row seen.sign (signs (drop seen.next line)) k e ∙ rw here.first at d.left);
       }
 
-  pub drawing_over : Over ≡ step_of (drawn tab (row_at column row) seen.sign) → marked after ≡ row_cells tab line
+  pub drawing_over : None ≡ step_of (drawn tab (row_at column row) seen.sign) → marked after ≡ row_cells tab line
   drawing_over e = rw stored (step_over tab some column row seen.sign (signs (drop seen.next line)) e ∙ rw here.first at d.left)

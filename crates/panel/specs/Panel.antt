@@ -1,5 +1,5 @@
 -- RULES 15: the wall panel, 24 rows of 80 cells, each a code point. A row is a function of its digest line and the tab width.
-use Rattle.std.specs.Prelude.{Bool, false, cond, not, ◌&&◌, ◌||◌, List, [], ◌∷◌, ◌++◌, map, ℕ, ◌+◌, ◌-◌, ltb, leb, eqb, length, get_or, drop, set, replicate}
+use Rattle.std.specs.Prelude.{Bool, false, cond, not, ◌&&◌, ◌||◌, List, [], ◌∷◌, ◌++◌, map, ℕ, ◌+◌, ◌-◌, ltb, leb, eqb, length, get_or, drop, set, replicate, Result, Ok, Err}
 use Rattle.std.proofs.lemmas.List.Edits.{sets}
 use Rattle.lists.specs.Walk.{each}
 use Rattle.lists.specs.Runs.{joined}
@@ -10,8 +10,7 @@ use Rattle.lines.specs.Lines.{Line, lines_of}
 use Rattle.lines.specs.Classes.{next_stop}
 use Rattle.panel.specs.declared.Sign.{Sign}
 use Rattle.panel.specs.declared.Sign.TheVariants.{Tab, Dropped, One, Two}
-use Rattle.panel.specs.declared.Answer.{Answer}
-use Rattle.panel.specs.declared.Answer.TheVariants.{Done, Options}
+use Rattle.panel.specs.declared.Refused.{Refused}
 
 -- ---- the characters of a line
 
@@ -107,13 +106,13 @@ panel_of tab digest = joined (row_cells (stop_width tab)) (shown digest)
 -- ---- the answers
 
 -- refused for a tab width over 100 alone, with all cells left as blanks
-unfoldable pub panel_answer : ℕ → Answer
-panel_answer tab = cond (leb tab 100) Done Options
+unfoldable pub panel_answer : ℕ → Result (Unit {0}) Refused
+panel_answer tab = cond (leb tab 100) (Ok tt) (Err (record {}))
 
 unfoldable pub cells_after : ℕ → List ℕ → List ℕ
 cells_after tab digest = cond (leb tab 100) (panel_of tab digest) (replicate 1920 blank)
 
 -- the table: code and N
-abbrev pub panel_coded : Answer → Coded
-panel_coded Done = coded 0 0
-panel_coded Options = coded 1 0
+abbrev pub panel_coded : Result (Unit {0}) Refused → Coded
+panel_coded (Ok u) = coded 0 0
+panel_coded (Err r) = coded 1 0

@@ -1,7 +1,7 @@
 // The wall panel: the last 24 lines of a digest as 24 rows of 80 cells.
 #![tactic(auto)]
 
-ghost use Rattle.std.specs.Prelude.{◌≡◌, ◌+◌, ◌-◌, ◌≤◌, ◌<◌, min, length, drop, replicate};
+ghost use Rattle.std.specs.Prelude.{◌≡◌, ◌+◌, ◌≤◌, ◌<◌, min, length, drop, replicate};
 ghost use Rattle.lists.specs.Runs.{joined};
 ghost use Rattle.lines.specs.Lines.{lines_of};
 ghost use Rattle.lines.specs.Classes.{next_stop};
@@ -9,17 +9,12 @@ ghost use Rattle.lists.specs.Coded.{numbered};
 ghost use Rattle.panel.specs.Panel.{blank, control, sign_of, drawn, marked, row_cells, stop_width, shown, panel_answer, cells_after, panel_coded};
 ghost use Rattle.panel.specs.Cited.Places.{seen_at, row_at, step_of, Newest};
 
-use text::Char;
-
-// What the call answers: the panel is drawn, or the tab width is refused.
-#[derive(Clone, Copy)]
-pub enum Answer {
-    Done,
-    Options,
-}
+// The tab width is refused.
+#[derive(Clone, Copy, Debug, PartialEq, Eq)]
+pub struct Refused;
 
 // What a character asks of its row: a tab, nothing, a cell, or its cell and a filler cell.
-#[derive(Clone, Copy)]
+#[derive(Clone, Copy, Debug, PartialEq, Eq)]
 pub enum Sign {
     Tab,
     Dropped,
@@ -28,46 +23,39 @@ pub enum Sign {
 }
 
 // A sign of a line, and the place after it.
-#[derive(Clone, Copy)]
+#[derive(Clone, Copy, Debug, PartialEq, Eq)]
 struct Seen {
     sign: Sign,
     next: usize,
 }
 
-// Where drawing a row goes on: at a column, or no more, since the line runs past the last.
-#[derive(Clone, Copy)]
-enum Step {
-    At(usize),
-    Over,
-}
-
 // The end of a text: where it begins, and how many lines it has.
-#[derive(Clone, Copy)]
+#[derive(Clone, Copy, Debug, PartialEq, Eq)]
 struct Tail {
     at: usize,
     count: usize,
 }
 
 // Draws the panel of a digest. What the cells held before is gone.
-pub fn draw(digest: &[u8], tab: u64, cells: &mut [u32; 1920]) -> Answer
+pub fn draw(digest: &[u8], tab: u64, cells: &mut [u32; 1920]) -> Result<(), Refused>
     ensures { (result ≡ panel_answer tab) × (cells.new ≡ cells_after tab digest.now) }
 {
     // All cells are made as blanks before any line is drawn.
     *cells = [0x20; 1920];
     if 100 < tab {
-        return Answer::Options;
+        return Err(Refused);
     }
     draw_newest(digest, stop_width(tab), cells);
-    Answer::Done
+    Ok(())
 }
 
-// The answer's number: its code is in the upper 32 bits.
-pub fn number_of(a: Answer) -> u64
+// The answer's number.
+pub fn number_of(a: Result<(), Refused>) -> u64
     ensures { result ≡ numbered (panel_coded a) }
 {
     match a {
-        Answer::Done => 0,
-        Answer::Options => 4294967296,
+        Ok(()) => lists::number(0, 0),
+        Err(Refused) => lists::number(1, 0),
     }
 }
 
@@ -75,7 +63,7 @@ pub fn number_of(a: Answer) -> u64
 pub fn stop_width(tab: u64) -> usize
     ensures { result ≡ stop_width tab }
 {
-    if tab == 0 { 1 } else { tab as usize }
+    tab.max(1) as usize
 }
 
 // Draws the newest lines into rows of blanks, the last at the bottom.
@@ -100,29 +88,26 @@ fn draw_newest(digest: &[u8], tab: usize, cells: &mut [u32])
 fn newest_lines(s: &[u8]) -> Tail
     ensures { Newest s.now result }
 {
-    let mut at = s.len();
     let mut count = 0;
-    while 0 < at {
-        let more = line_ends(s, at);
+    for last in (0..s.len()).rev() {
+        let more = line_ends(s, last);
         if 24 < count + more {
-            return Tail { at, count };
+            return Tail {
+                at: last + 1,
+                count,
+            };
         }
         count += more;
-        at -= 1;
     }
-    Tail { at, count }
+    Tail { at: 0, count }
 }
 
-// How many more lines a text has from the byte before a place on: 1 if that byte is a line feed or the text's last, else 0.
-fn line_ends(s: &[u8], at: usize) -> usize
-    requires { (0 < at) × (at ≤ length s.now) }
-    ensures { (result ≤ 1) × (result + length (lines_of (drop at s.now)) ≡ length (lines_of (drop (at - 1) s.now))) }
+// How many more lines a text has from a byte on than from the one after it: 1 if that byte is a line feed or the text's last, else 0.
+fn line_ends(s: &[u8], last: usize) -> usize
+    requires { last < length s.now }
+    ensures { (result ≤ 1) × (result + length (lines_of (drop (last + 1) s.now)) ≡ length (lines_of (drop last s.now))) }
 {
-    if at == s.len() {
-        return 1;
-    }
-    let last = at - 1;
-    if s[last] == 10 { 1 } else { 0 }
+    usize::from((last + 1 == s.len()) | (s[last] == 10))
 }
 
 // Draws a line's text into its row of blanks.
@@ -134,8 +119,7 @@ fn draw_row(line: &[u8], tab: usize, row: &mut [u32])
     let mut column = 0;
     while at < line.len() {
         let seen = sign_at(line, at);
-        let sign = seen.sign;
-        let Step::At(behind) = draw_sign(sign, tab, column, row) else {
+        let Some(behind) = draw_sign(seen.sign, tab, column, row) else {
             mark_over(row);
             return;
         };
@@ -149,14 +133,16 @@ fn sign_at(line: &[u8], at: usize) -> Seen
     requires { at < length line.now }
     ensures { result ≡ seen_at at line.now }
 {
-    let Char::Good { code, next } = text::decode_at(line, at) else {
-        return Seen {
+    match text::decode_at(line, at) {
+        Some(c) => Seen {
+            sign: sign_of(c.code),
+            next: c.next,
+        },
+        None => Seen {
             sign: Sign::One(0xFFFD),
             next: at + 1,
-        };
-    };
-    let sign = sign_of(code);
-    Seen { sign, next }
+        },
+    }
 }
 
 // What a character shows.
@@ -164,19 +150,16 @@ fn sign_of(c: u32) -> Sign
     ensures { result ≡ sign_of c }
 {
     if c == 9 {
-        return Sign::Tab;
+        Sign::Tab
+    } else if is_control(c) {
+        Sign::One(0x20)
+    } else {
+        match widths::width(c) {
+            0 => Sign::Dropped,
+            2 => Sign::Two(c),
+            _ => Sign::One(c),
+        }
     }
-    if is_control(c) {
-        return Sign::One(0x20);
-    }
-    let w = widths::width(c);
-    if w == 0 {
-        return Sign::Dropped;
-    }
-    if w == 2 {
-        return Sign::Two(c);
-    }
-    Sign::One(c)
 }
 
 // U+0000 to U+001F and U+007F to U+009F.
@@ -186,29 +169,28 @@ fn is_control(c: u32) -> bool
     (c < 0x20) | (0x7F <= c) & (c <= 0x9F)
 }
 
-// Draws a sign at a column. What does not fit is dropped.
-fn draw_sign(sign: Sign, tab: usize, column: usize, row: &mut [u32]) -> Step
+// Draws a sign at a column, and answers where drawing goes on, if it does. What does not fit is dropped.
+fn draw_sign(sign: Sign, tab: usize, column: usize, row: &mut [u32]) -> Option<usize>
     requires { (1 ≤ tab) × (tab ≤ 100) × (column ≤ 80) × (length row.old ≡ 80) }
     ensures { (result ≡ step_of (drawn tab (row_at column row.old) sign)) × (row.new ≡ (drawn tab (row_at column row.old) sign).cells) }
 {
     match sign {
-        Sign::Tab => Step::At(next_stop(tab, column)),
-        Sign::Dropped => Step::At(column),
+        Sign::Tab => Some(next_stop(tab, column)),
+        Sign::Dropped => Some(column),
         Sign::One(c) => {
             if 80 <= column {
-                return Step::Over;
+                return None;
             }
             row[column] = c;
-            Step::At(column + 1)
+            Some(column + 1)
         }
         Sign::Two(c) => {
             if 79 <= column {
-                return Step::Over;
+                return None;
             }
             row[column] = c;
-            let behind = column + 1;
-            row[behind] = 0;
-            Step::At(column + 2)
+            row[column + 1] = 0;
+            Some(column + 2)
         }
     }
 }
@@ -218,8 +200,7 @@ fn next_stop(tab: usize, column: usize) -> usize
     requires { (1 ≤ tab) × (tab ≤ 100) × (column ≤ 80) }
     ensures { result ≡ min 80 (next_stop tab column) }
 {
-    let stop = (column / tab + 1) * tab;
-    if stop < 80 { stop } else { 80 }
+    ((column / tab + 1) * tab).min(80)
 }
 
 // The last cell of a line that runs over shows `+`; no filler is left without its character.
@@ -229,8 +210,6 @@ fn mark_over(row: &mut [u32])
 {
     if row[79] == 0 {
         row[78] = 0x20;
-        row[79] = 0x2B;
-    } else {
-        row[79] = 0x2B;
     }
+    row[79] = 0x2B;
 }

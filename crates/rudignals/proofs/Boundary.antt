@@ -1,4 +1,5 @@
 -- A blank line is a full boundary: of the pieces, of the digest, of what is refused, and of measuring.
+use Rattle.std.proofs.Common.{Option, Some, None, Ok}
 use mathlib.Core.Path.{◌≡◌, refl, sym, ap, ◌∙◌}
 use mathlib.Core.Bool.{Bool, true, false}
 use mathlib.Core.List.{List, [], ◌∷◌, ◌++◌}
@@ -10,12 +11,9 @@ use Rattle.lists.specs.Theorems.All.{All}
 use Rattle.lists.proofs.All.{all_append}
 use Rattle.lists.proofs.Parts.{joined_append, joined_cons}
 use Rattle.text.specs.Characters.{damage}
-use Rattle.text.specs.declared.Found.{Found}
-use Rattle.text.specs.declared.Found.TheVariants.{At, Nowhere}
 use Rattle.options.specs.Opts.{Opts, meant}
 use Rattle.options.specs.OptionBlock.{read_block}
 use Rattle.options.specs.declared.Options.{Options}
-use Rattle.options.specs.declared.Block.TheVariants.{Accepted}
 use Rattle.lines.specs.Lines.{Line, no_feed, lines_of}
 use Rattle.lines.specs.Classes.{classify}
 use Rattle.lines.specs.declared.Class.TheVariants.{Blank}
@@ -32,23 +30,24 @@ use Rattle.formatter.specs.Work.{lending}
 use Rattle.formatter.proofs.Answers.{Enough, Done, measured_done, found_done, done_found, done_measured}
 use Rattle.rudignals.proofs.LineEnds.{line_of_bytes}
 use Rattle.rudignals.proofs.Undamaged.{damage_append, blank_sound, feed_sound, return_feed_sound}
+use Rattle.pieces.specs.Cited.Places.{joining}
 
 -- ---- long paragraphs
 
 abbrev Short : ℕ → Opts → Piece → Type 0
 Short most o q = too_many most o q.kind ≡ false
 
-long_short : (most : ℕ) (o : Opts) (place : ℕ) (qs : List Piece) → long_paragraph most o place qs ≡ Nowhere → All (Short most o) qs
+long_short : (most : ℕ) (o : Opts) (place : ℕ) (qs : List Piece) → long_paragraph most o place qs ≡ None → All (Short most o) qs
 unfolding long_paragraph
 long_short most o place [] h = tt
 long_short most o place (q ∷ qs) h = go (too_many most o q.kind) refl h (long_short most o (place + length (extent_of q)) qs)
   where
-    go : (b : Bool) → too_many most o q.kind ≡ b → elim b as (λ t. Found) [ true ↦ At place | false ↦ long_paragraph most o (place + length (extent_of q)) qs ] ≡ Nowhere
-        → (long_paragraph most o (place + length (extent_of q)) qs ≡ Nowhere → All (Short most o) qs) → All (Short most o) (q ∷ qs)
+    go : (b : Bool) → too_many most o q.kind ≡ b → elim b as (λ t. (Option ℕ)) [ true ↦ Some place | false ↦ long_paragraph most o (place + length (extent_of q)) qs ] ≡ None
+        → (long_paragraph most o (place + length (extent_of q)) qs ≡ None → All (Short most o) qs) → All (Short most o) (q ∷ qs)
     go true e h ih = (cc, absurd (let z : ◌≡◌ {A = ℕ} 0 1 = cc in omega arith))
     go false e h ih = (e, ih h)
 
-short_long : (most : ℕ) (o : Opts) (place : ℕ) (qs : List Piece) → All (Short most o) qs → long_paragraph most o place qs ≡ Nowhere
+short_long : (most : ℕ) (o : Opts) (place : ℕ) (qs : List Piece) → All (Short most o) qs → long_paragraph most o place qs ≡ None
 unfolding long_paragraph
 short_long most o place [] a = refl
 short_long most o place (q ∷ qs) a = rw (long_paragraph, a.0) (short_long most o (place + length (extent_of q)) qs a.1)
@@ -93,22 +92,22 @@ module _ (o : Opts) (a line end b : List ℕ) (closed : Closed a) (feedless : ev
       (short_long most o 0 _ (all_append (Short most o) (pieces o a) (blank_piece the_line ∷ pieces o b) (long_short most o 0 (pieces o a) h) (refl, long_short most o 0 (pieces o b) g)))
   enough_boundary (lent lends need) j h g = j o a b whole the_line pieces_boundary h g
 
-  end_sound : LineEnd line end → damage end ≡ Nowhere
+  end_sound : LineEnd line end → damage end ≡ None
   end_sound (feed e n) = rw e feed_sound
   end_sound (return_and_feed e) = rw e return_feed_sound
 
   -- nothing damaged that is refused above it, and nothing below it: nothing in the notes
-  sound_boundary : damage_in o.keep a ≡ Nowhere → damage_in o.keep b ≡ Nowhere → damage_in o.keep whole ≡ Nowhere
+  sound_boundary : damage_in o.keep a ≡ None → damage_in o.keep b ≡ None → damage_in o.keep whole ≡ None
   sound_boundary h g = go o.keep h g
     where
-      go : (keep : Bool) → damage_in keep a ≡ Nowhere → damage_in keep b ≡ Nowhere → damage_in keep whole ≡ Nowhere
+      go : (keep : Bool) → damage_in keep a ≡ None → damage_in keep b ≡ None → damage_in keep whole ≡ None
       go true h g = refl
       go false h g = damage_append a (line ++ (end ++ b)) h (damage_append line (end ++ b) (blank_sound o line blank) (damage_append end b (end_sound ends) g))
 
 -- ---- measuring
 
 module _ (l : Limits) (joining : Joining l.words) (block first line end second : List ℕ) (o : Options) (digest₁ digest₂ : List ℕ)
-    (b : read_block block ≡ Accepted o) (c : Closed first) (f : every no_feed line ≡ true) (e : LineEnd line end) (k : classify (meant block o) line ≡ Blank)
+    (b : read_block block ≡ Ok o) (c : Closed first) (f : every no_feed line ≡ true) (e : LineEnd line end) (k : classify (meant block o) line ≡ Blank)
     (n : length (first ++ (line ++ (end ++ second))) ≤ l.bytes) where
   done_boundary : Done l (meant block o) first digest₁ → Done l (meant block o) second digest₂ → Done l (meant block o) (first ++ (line ++ (end ++ second))) (digest₁ ++ 10 ∷ digest₂)
   done_boundary a₁ a₂ = let m = meant block o in record {

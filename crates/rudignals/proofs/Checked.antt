@@ -1,4 +1,5 @@
 -- What the formatter writes, the checker accepts: from the order of its words (Order). So does the call, within 65,536 bytes.
+use Rattle.std.proofs.Common.{Ok, Err}
 use mathlib.Core.Path.{◌≡◌, refl}
 use mathlib.Core.List.{List, [], ◌∷◌}
 use Prim.Native.Nat.{ℕ, ◌≤◌}
@@ -10,7 +11,6 @@ use Rattle.lists.proofs.Parts.{joined_nil, joined_cons}
 use Rattle.options.specs.Opts.{Opts, meant}
 use Rattle.options.specs.OptionBlock.{read_block}
 use Rattle.options.specs.declared.Block.{Block}
-use Rattle.options.specs.declared.Block.TheVariants.{Accepted as BlockAccepted, Fault}
 use Rattle.pieces.specs.Pieces.{Kind, Piece, blank_line, plain_line, paragraph, pieces}
 use Rattle.words.specs.Words.{words_of}
 use Rattle.walk.specs.Digest.{formatted, output_of, piece_output, digest}
@@ -21,7 +21,6 @@ use Rattle.checker.specs.Matching.{accepted, verdict}
 use Rattle.checker.proofs.Lines.{order_carried}
 use Rattle.checker.proofs.Theorems.{what_is_acceptable_is_accepted}
 use Rattle.judge.specs.Checking.{checking}
-use Rattle.judge.specs.declared.Judgement.TheVariants.{Accepted}
 use Rattle.judge.proofs.Theorems.{what_is_acceptable_the_call_accepts}
 use Rattle.rudignals.proofs.Order.{members_all, paragraph_order}
 
@@ -46,13 +45,13 @@ pub what_is_written_is_accepted : (o : Opts) (notes : List ℕ) → verdict o no
 what_is_written_is_accepted o notes = what_is_acceptable_is_accepted o notes (digest o notes) (what_is_written_is_acceptable o notes)
 
 -- All that our formatter writes within the limit, 65,536 bytes in RULES 2.2, is accepted with the notes it was written for.
-pub what_is_written_the_call_accepts : (l : Limits) (block notes bytes : List ℕ) → finding l block notes ≡ found bytes → length bytes ≤ l.bytes → checking l block notes bytes ≡ Accepted
+pub what_is_written_the_call_accepts : (l : Limits) (block notes bytes : List ℕ) → finding l block notes ≡ found bytes → length bytes ≤ l.bytes → checking l block notes bytes ≡ (Ok tt)
 unfolding finding
 what_is_written_the_call_accepts l block notes bytes e h = go (read_block block) refl e
   where
-    go : (b : Block) → read_block block ≡ b → with_block l block notes b ≡ found bytes → checking l block notes bytes ≡ Accepted
-    go (Fault place) q k = absurd (let z : ◌≡◌ {A = ℕ} 0 1 = cc in omega arith)
-    go (BlockAccepted o) q k = what_is_acceptable_the_call_accepts l block notes bytes (record {
+    go : (b : Block) → read_block block ≡ b → with_block l block notes b ≡ found bytes → checking l block notes bytes ≡ (Ok tt)
+    go (Err (record { at = place })) q k = absurd (let z : ◌≡◌ {A = ℕ} 0 1 = cc in omega arith)
+    go (Ok o) q k = what_is_acceptable_the_call_accepts l block notes bytes (record {
       options = o;
       accepted = q;
       bytes = bytes;

@@ -1,5 +1,6 @@
 -- The digest has as many line feeds as there are reasons (RULES 13), since no line of it has one inside; and up to the end of a line it ends
 -- where that line's reason says.
+use Rattle.std.proofs.Common.{Ok}
 use mathlib.Core.Path.{◌≡◌, refl, sym, ap, ◌∙◌}
 use mathlib.Core.Bool.{Bool, true, false, cond, ◌||◌}
 use mathlib.Core.List.{List, [], ◌∷◌, ◌++◌, append_assoc}
@@ -15,7 +16,6 @@ use Rattle.lists.proofs.Parts.{every_nil, joined_nil, joined_cons}
 use Rattle.options.specs.Opts.{Opts, meant}
 use Rattle.options.specs.OptionBlock.{read_block}
 use Rattle.options.specs.declared.Options.{Options}
-use Rattle.options.specs.declared.Block.TheVariants.{Accepted}
 use Rattle.lines.specs.Lines.{Line, no_feed}
 use Rattle.pieces.specs.Pieces.{Piece, Kind, blank_line, plain_line, paragraph, pieces}
 use Rattle.pieces.proofs.Columns.{feedless_append}
@@ -116,7 +116,7 @@ the_digest_ends_where_the_reason_says o notes i h = rw (the_digest_is_its_lines 
 
 -- So it does for the call: what it tells of a line is where that line ends.
 pub a_line_ends_where_the_call_says : (l : Limits) (block notes : List ℕ) (o : Options) (i : ℕ) (e : Ending)
-    → read_block block ≡ Accepted o
+    → read_block block ≡ Ok o
     → explaining l block notes i ≡ because e
     → EndsThere (meant block o) (pieces (meant block o) notes) e (first_lines (suc i) (digest (meant block o) notes))
 unfolding explaining

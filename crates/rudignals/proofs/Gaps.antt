@@ -1,4 +1,5 @@
 -- Where it stands on an output line, what parts two words is blank by the rule of RULES 4.4.
+use Rattle.std.proofs.Common.{None}
 use mathlib.Core.Path.{◌≡◌, refl, sym, ap, ap₂, ◌∙◌}
 use mathlib.Core.Bool.{Bool, true, false, cond, not, ◌&&◌, and-eq-true_iff, true≢false}
 use mathlib.Core.List.{List, [], ◌∷◌, ◌++◌, map}
@@ -11,9 +12,8 @@ use Rattle.lists.proofs.Parts.{every_nil, every_cons, joined_nil, joined_cons}
 use Rattle.text.specs.Rfc3629.{encode}
 use Rattle.widths.specs.WhiteSpace.{white_space}
 use Rattle.text.specs.Characters.{Glyph, characters, no_break, ordinary, ink_ahead, glyphs, is_blank, is_good, damage}
-use Rattle.text.specs.Cited.Places.{settle, ink_behind, ink_after}
+use Rattle.text.specs.Cited.Places.{settle, ink_behind, ink_after, good}
 use Rattle.text.specs.Theorems.Blanks.{space_code, Gap}
-use Rattle.text.specs.declared.Found.TheVariants.{Nowhere}
 use Rattle.text.proofs.Glyphs.{characters_past, characters_joined}
 use Rattle.text.proofs.Glue.{glyphs_settle, ahead_run, ahead_other, settle_first, settle_blank, settle_end}
 use Rattle.checker.proofs.Codes.{glyph_of, glyphs_here, space_character}
@@ -107,7 +107,7 @@ pub record BlankThere (glue : Bool) (before gap after : List ℕ) : Type 0 where
   pub gap_is : joined (λ (g : Glyph). g.bytes) middle ≡ gap
   pub blank : every is_blank middle ≡ true
 
-pub gap_stands : (glue : Bool) (before gap after : List ℕ) → damage before ≡ Nowhere → Gap glue gap → BlankThere glue before gap after
+pub gap_stands : (glue : Bool) (before gap after : List ℕ) → damage before ≡ None → Gap glue gap → BlankThere glue before gap after
 gap_stands glue xs gap after d g =
     let a = rw (← g.blanks.octets) at (again g.codes g.blanks.blank) in
     let b = parted glue false (characters xs) (characters gap ++ characters after) in

@@ -1,4 +1,5 @@
 -- RULES 12: what the indexed call answers for two parts with a blank line between them, and the index of the three.
+use Rattle.std.proofs.Common.{Ok}
 use mathlib.Core.Path.{◌≡◌, refl, sym, ap, ◌∙◌}
 use mathlib.Core.Bool.{Bool, true, false, cond}
 use mathlib.Core.List.{List, [], ◌∷◌, ◌++◌, map, append-nil}
@@ -13,7 +14,6 @@ use Rattle.options.specs.Opts.{Opts, meant}
 use Rattle.options.specs.OptionBlock.{read_block}
 use Rattle.options.specs.declared.Options.{Options}
 use Rattle.options.specs.declared.Block.{Block}
-use Rattle.options.specs.declared.Block.TheVariants.{Accepted}
 use Rattle.lines.specs.Lines.{Line, no_feed, body, without_return, first_line, lines_of}
 use Rattle.lines.specs.Classes.{classify}
 use Rattle.lines.specs.declared.Class.TheVariants.{Blank}
@@ -29,6 +29,7 @@ use Rattle.indexer.specs.Theorems.Follows.{shifted}
 use Rattle.indexer.proofs.Follows.{index_between}
 use Rattle.rudignals.specs.Theorems.LineEnds.{LineEnd}
 use Rattle.rudignals.proofs.Boundary.{pieces_boundary, Joining, finding_boundary}
+use Rattle.pieces.specs.Cited.Places.{joining}
 
 -- ---- the index of two parts and a blank line between them
 
@@ -87,13 +88,13 @@ in_done w space records rs (found e) d i h = go (leb (length rs) records) (is_to
     go false t b k = absurd (let z : ◌≡◌ {A = ℕ} 0 1 = cc in omega arith)
 in_done w space records rs (stopped r) d i h = absurd (let z : ◌≡◌ {A = ℕ} 0 1 = cc in omega arith)
 
-pub indexed_done : (l : Limits) (block notes : List ℕ) (o : Options) (space records : ℕ) (d : List ℕ) (i : List Record) → read_block block ≡ Accepted o → indexing l block notes space records ≡ done d i
+pub indexed_done : (l : Limits) (block notes : List ℕ) (o : Options) (space records : ℕ) (d : List ℕ) (i : List Record) → read_block block ≡ Ok o → indexing l block notes space records ≡ done d i
     → IsDone (index_of (meant block o) notes) (finding l block notes) d i
 unfolding indexing
 indexed_done l block notes o space records d i b h =
     in_done l.words space records (index_of (meant block o) notes) (finding l block notes) d i (ap (λ (x : Block). in_index l.words space records (index_under block notes x) (finding l block notes)) (sym b) ∙ h)
 
-pub done_indexed : (l : Limits) (block notes : List ℕ) (o : Options) (space records : ℕ) (d : List ℕ) → read_block block ≡ Accepted o → finding l block notes ≡ found d → is_told l.words (length d) ≡ true
+pub done_indexed : (l : Limits) (block notes : List ℕ) (o : Options) (space records : ℕ) (d : List ℕ) → read_block block ≡ Ok o → finding l block notes ≡ found d → is_told l.words (length d) ≡ true
     → length d ≤ space → length (index_of (meant block o) notes) ≤ records → indexing l block notes space records ≡ done d (index_of (meant block o) notes)
 unfolding indexing
 done_indexed l block notes o space records d b m t r s =
@@ -102,7 +103,7 @@ done_indexed l block notes o space records d b m t r s =
 
 -- the room that suffices for the three is that of the outputs and one byte, and that of the indexes and one record
 pub indexed_boundary : (l : Limits) → Joining l.words → (block first line end second : List ℕ) (o : Options) (digest₁ digest₂ : List ℕ) (index₁ index₂ : List Record) (space₁ records₁ space₂ records₂ space records : ℕ)
-    → read_block block ≡ Accepted o → Closed first → every no_feed line ≡ true → LineEnd line end → classify (meant block o) line ≡ Blank
+    → read_block block ≡ Ok o → Closed first → every no_feed line ≡ true → LineEnd line end → classify (meant block o) line ≡ Blank
     → length (first ++ (line ++ (end ++ second))) ≤ l.bytes
     → indexing l block first space₁ records₁ ≡ done digest₁ index₁ → indexing l block second space₂ records₂ ≡ done digest₂ index₂
     → is_told l.words (length (digest₁ ++ 10 ∷ digest₂)) ≡ true → length digest₁ + 1 + length digest₂ ≤ space → length index₁ + 1 + length index₂ ≤ records

@@ -1,4 +1,5 @@
 -- RULES 14: formatting a mended copy never gives code 3. The mended copy is well formed by RFC 3629, and a text that is has no damaged place.
+use Rattle.std.proofs.Common.{Option, Some, None, Ok, Err}
 use mathlib.Core.Path.{◌≡◌, refl, sym, ap, ◌∙◌}
 use mathlib.Core.Bool.{Bool, true, false, cond, false≢true}
 use mathlib.Core.List.{List, ◌∷◌}
@@ -10,14 +11,11 @@ use Rattle.lists.specs.Runs.{every}
 use Rattle.lists.proofs.Parts.{every_nil, every_cons}
 use Rattle.text.specs.Rfc3629.{Front, front, nothing, decode}
 use Rattle.text.specs.Characters.{glyph, characters, is_good, damage}
-use Rattle.text.specs.declared.Found.{Found}
-use Rattle.text.specs.declared.Found.TheVariants.{At, Nowhere}
 use Rattle.text.proofs.Decoder.{sound}
 use Rattle.text.proofs.Glyphs.{Bytes, characters_induct}
 use Rattle.options.specs.Opts.{Opts, meant}
 use Rattle.options.specs.OptionBlock.{read_block}
 use Rattle.options.specs.declared.Block.{Block}
-use Rattle.options.specs.declared.Block.TheVariants.{Accepted, Fault}
 use Rattle.pieces.specs.Pieces.{pieces}
 use Rattle.walk.specs.Digest.{digest, long_paragraph}
 use Rattle.formatter.specs.Answers.{Answer, done, refused, room as lacking, answer_coded}
@@ -49,13 +47,13 @@ formed_good = characters_induct (λ ys gs. is_utf8 ys ≡ true → every is_good
             rw (every_cons is_good (glyph ys) (characters (drop b.n ys)), g.1) (rest (rw k (sym (formed_behind ys c n e) ∙ w)))
         go nothing e = absurd (false≢true (sym (ill_formed ys (omega (arith, b.some, b.within)) e) ∙ w))
 
-formed_sound : (xs : List ℕ) → is_utf8 xs ≡ true → damage xs ≡ Nowhere
+formed_sound : (xs : List ℕ) → is_utf8 xs ≡ true → damage xs ≡ None
 formed_sound xs w = good_sound xs (formed_good xs w)
 
 -- ---- so it is not refused as damaged, whatever the block and the room
 
-module _ (l : Limits) (notes : List ℕ) (undamaged : damage notes ≡ Nowhere) where
-  nothing_found : (keep : Bool) → damage_in keep notes ≡ Nowhere
+module _ (l : Limits) (notes : List ℕ) (undamaged : damage notes ≡ None) where
+  nothing_found : (keep : Bool) → damage_in keep notes ≡ None
   nothing_found true = refl
   nothing_found false = undamaged
 
@@ -65,9 +63,9 @@ module _ (l : Limits) (notes : List ℕ) (undamaged : damage notes ≡ Nowhere) 
   notes_three : (o : Opts) → NotThree (with_notes l o notes)
   notes_three o then never h = size (ltb l.bytes (length notes)) h
     where
-      count : (f : Found) → (answer_coded (answering then (with_words o notes f))).code ≡ 3 → ⊥
-      count (At place) k = omega arith
-      count Nowhere k = never (digest o notes) k
+      count : (f : Option ℕ) → (answer_coded (answering then (with_words o notes f))).code ≡ 3 → ⊥
+      count (Some place) k = omega arith
+      count None k = never (digest o notes) k
 
       lends : (needed : ℕ) (b : Bool) → (answer_coded (answering then (elim b as (λ t. Finding) [ true ↦ stopped (Work needed) | false ↦ found (digest o notes) ]))).code ≡ 3 → ⊥
       lends needed true k = omega arith
@@ -82,8 +80,8 @@ module _ (l : Limits) (notes : List ℕ) (undamaged : damage notes ≡ Nowhere) 
       size false k = enough l.words (rw (nothing_found o.keep) at k)
 
   block_three : (block : List ℕ) (b : Block) → NotThree (with_block l block notes b)
-  block_three block (Fault place) then never h = omega arith
-  block_three block (Accepted o) then never h = notes_three (meant block o) then never h
+  block_three block (Err (record { at = place })) then never h = omega arith
+  block_three block (Ok o) then never h = notes_three (meant block o) then never h
 
 -- nor is a digest, for want of room
 fits : (d : List ℕ) (needed : ℕ) (t : Bool) → (answer_coded (cond t (done d) (lacking needed))).code ≡ 3 → ⊥
@@ -96,7 +94,7 @@ fits d needed false h = omega arith
 module _ (notes : List ℕ) (space entries : ℕ) (copy : List ℕ) (list : List Change)
     (bytes : (i : ℕ) → get_or notes i 0 < 256)
     (mends : mend notes space entries ≡ mended copy list) where
-  copy_undamaged : damage copy ≡ Nowhere
+  copy_undamaged : damage copy ≡ None
   copy_undamaged = formed_sound copy (the_copy_is_well_formed notes space entries copy list bytes mends)
 
   -- Measuring the mended copy never gives code 3, whatever the limits ..

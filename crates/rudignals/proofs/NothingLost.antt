@@ -3,6 +3,7 @@
 -- `writing` and `done` (specs/Format.antt and Answers.antt; `done bytes` is code 0 with those bytes), `LineEnd` and `LineIs` (specs/Theorems/LineEnds.antt), `Closed` (lines/specs),
 -- `Gap` (text/specs/Theorems/Blanks.antt), `InOrder` (output/specs/Theorems/Order.antt), `row_ink` (words/specs/Theorems/Ink.antt), `All` and `∈`
 -- (lists/specs/Theorems/All.antt), `joined` (lists/specs/Runs.antt).
+use Rattle.std.proofs.Common.{Some, None, Ok}
 use mathlib.Core.Path.{◌≡◌, refl, sym, ap, ap₂, ◌∙◌}
 use mathlib.Core.Bool.{Bool, true, false, ◌||◌, false≢true}
 use mathlib.Core.List.{List, [], ◌∷◌, ◌++◌, map}
@@ -17,11 +18,9 @@ use Rattle.lists.proofs.All.{all_back, all_weaken}
 use Rattle.lists.proofs.Parts.{every_nil}
 use Rattle.text.specs.Characters.{damage}
 use Rattle.text.specs.Theorems.Blanks.{Gap}
-use Rattle.text.specs.declared.Found.TheVariants.{At, Nowhere}
 use Rattle.options.specs.Opts.{Opts, meant}
 use Rattle.options.specs.OptionBlock.{read_block}
 use Rattle.options.specs.declared.Options.{Options}
-use Rattle.options.specs.declared.Block.TheVariants.{Accepted}
 use Rattle.lines.specs.Lines.{Line, no_feed, lines_of}
 use Rattle.lines.specs.Classes.{classify}
 use Rattle.lines.specs.declared.Class.TheVariants.{Blank}
@@ -63,24 +62,25 @@ use Rattle.explain.specs.Reasons.{line_endings}
 use Rattle.explain.specs.Explain.{explaining}
 use Rattle.rudignals.proofs.Windows.{pieces_front}
 use Rattle.rudignals.proofs.PieceStarts.{parts_are, parts_pieces, digest_parts, index_parts, reasons_parts, measuring_parts, indexing_parts, explaining_parts}
+use Rattle.pieces.specs.Cited.Places.{joining}
 
 -- What measuring has found, and what a call that is done has written, is the digest of its notes, of which 2 to 4 speak, under the
 -- options that its block means. So with the limits of RULES 2.2 (`own_room`) and with any others.
 pub what_is_measured_is_the_digest : (l : Limits) (block notes : List ℕ) (o : Options) (bytes : List ℕ)
-    → read_block block ≡ Accepted o
+    → read_block block ≡ Ok o
     → measuring l block notes ≡ done bytes
     → bytes ≡ digest (meant block o) notes
 what_is_measured_is_the_digest l block notes o bytes b e = (measured_done l block notes o bytes b e).bytes_are
 
 pub what_is_written_is_the_digest : (l : Limits) (block notes : List ℕ) (o : Options) (space : ℕ) (bytes : List ℕ)
-    → read_block block ≡ Accepted o
+    → read_block block ≡ Ok o
     → writing l block notes space ≡ done bytes
     → bytes ≡ digest (meant block o) notes
 what_is_written_is_the_digest l block notes o space bytes b e = what_is_measured_is_the_digest l block notes o bytes b (written_measured l block notes space bytes e).0
 
 -- (The call that measures and writes in one has limits such as those of RULES 2.2.)
 pub what_is_done_is_the_digest : (most words : ℕ) (block notes : List ℕ) (o : Options) (space : ℕ) (bytes : List ℕ)
-    → read_block block ≡ Accepted o
+    → read_block block ≡ Ok o
     → answer (limited most words) block notes space ≡ done bytes
     → bytes ≡ digest (meant block o) notes
 what_is_done_is_the_digest most words block notes o space bytes b e = what_is_measured_is_the_digest (limited most words) block notes o bytes b (answer_measured most words block notes space bytes e).0
@@ -93,7 +93,7 @@ what_is_done_is_the_digest most words block notes o space bytes b e = what_is_me
 -- The limits may be any. Where working room is lent, what is enough for the parts must be enough for the whole (`Joining`: proofs/Boundary), and the
 -- whole's length must be one that can be told; both hold of themselves with limits such as those of RULES 2.2.
 module _ (l : Limits) (joining : Joining l.words) (block first line end second : List ℕ) (o : Options) (digest₁ digest₂ : List ℕ)
-    (block-accepted : read_block block ≡ Accepted o)
+    (block-accepted : read_block block ≡ Ok o)
     (first_ends : Closed first)
     (one_line : every no_feed line ≡ true)
     (line_ends : LineEnd line end)
@@ -124,7 +124,7 @@ module _ (l : Limits) (joining : Joining l.words) (block first line end second :
 
 -- The call that does both in one, with limits such as those of RULES 2.2: nothing more is asked.
 module _ (most words : ℕ) (block first line end second : List ℕ) (o : Options) (digest₁ digest₂ : List ℕ)
-    (block-accepted : read_block block ≡ Accepted o)
+    (block-accepted : read_block block ≡ Ok o)
     (first_ends : Closed first)
     (one_line : every no_feed line ≡ true)
     (line_ends : LineEnd line end)
@@ -146,7 +146,7 @@ module _ (most words : ℕ) (block first line end second : List ℕ) (o : Option
 
 -- The plainest case: the blank line is empty, a line feed alone, and the limits are those of RULES 2.2.
 module _ (block first second : List ℕ) (o : Options) (digest₁ digest₂ : List ℕ)
-    (block-accepted : read_block block ≡ Accepted o)
+    (block-accepted : read_block block ≡ Ok o)
     (first_ends : Closed first)
     (within-limit : length (first ++ 10 ∷ second) ≤ most_bytes) where
   module _ (first-measured : measuring own_room block first ≡ done digest₁) (second-measured : measuring own_room block second ≡ done digest₂) where
@@ -184,7 +184,7 @@ words_stand_once_and_in_order = paragraph_order
 -- A gap is blank by the rule of RULES 4.4, read on the line that it stands on, whatever is before and after it there: the line's
 -- glyphs are those of the undamaged text before the gap, those of the gap, each of them a blank, and the rest. (`BlankThere`: proofs/Gaps.)
 pub a_gap_is_blank_where_it_stands : (glue : Bool) (before gap after : List ℕ)
-    → damage before ≡ Nowhere
+    → damage before ≡ None
     → Gap glue gap
     → BlankThere glue before gap after
 a_gap_is_blank_where_it_stands = gap_stands
@@ -271,7 +271,7 @@ pub record Unaltered (o : Opts) (above text end below : List ℕ) : Type 0 where
 pub a_damaged_line_stands : (o : Opts) (above text end below : List ℕ) (place : ℕ)
     → Closed above
     → LineIs text end below
-    → damage text ≡ At place
+    → damage text ≡ Some place
     → Unaltered o above text end below
 unfolding digest pieces
 a_damaged_line_stands o above text end below place c i d =
@@ -327,7 +327,7 @@ the_records_follow_without_a_gap = without-a-gap
 -- The parts are those of 1, a blank line between them, and so are the limits. Each part by itself is done with an index, whatever room it had; and
 -- there is room for both outputs and a byte, and for both indexes and a record.
 module _ (l : Limits) (joining : Joining l.words) (block first line end second : List ℕ) (o : Options) (digest₁ digest₂ : List ℕ) (index₁ index₂ : List Record)
-    (block-accepted : read_block block ≡ Accepted o)
+    (block-accepted : read_block block ≡ Ok o)
     (first_ends : Closed first)
     (one_line : every no_feed line ≡ true)
     (line_ends : LineEnd line end)
@@ -362,7 +362,7 @@ without_mail_every_start_is_a_cut o k notes off on = absurd (false≢true (sym o
 -- The option block is accepted. For any k the notes are cut after their first k pieces, where the next piece begins. Without mail nothing
 -- else is asked; with mail, that next-mail is true there. (`up_to_piece`, `from_piece` and `MayCut`: specs/Theorems/Parts.antt.)
 module _ (block notes : List ℕ) (o : Options) (k : ℕ)
-    (block-accepted : read_block block ≡ Accepted o)
+    (block-accepted : read_block block ≡ Ok o)
     (may-cut : MayCut (meant block o) k notes) where
   abbrev first_part : List ℕ
   first_part = up_to_piece (meant block o) k notes

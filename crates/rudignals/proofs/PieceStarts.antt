@@ -1,4 +1,5 @@
 -- The start of a piece is a full boundary: of what is refused, of measuring, of the index and of the reasons.
+use Rattle.std.proofs.Common.{Option, Some, None, Ok}
 use mathlib.Core.Path.{◌≡◌, refl, sym, ap, ap₂, ◌∙◌}
 use mathlib.Core.Bool.{Bool, true, false, cond, ◌||◌}
 use mathlib.Core.List.{List, [], ◌∷◌, ◌++◌, append-nil}
@@ -10,13 +11,10 @@ use borrow.Author.Tests.{le-ltb, ltb-true, ltb-false, lt-ltb, lt-leb, leb-false}
 use Rattle.lists.specs.Runs.{joined}
 use Rattle.lists.proofs.Parts.{joined_nil, joined_cons, joined_append}
 use Rattle.text.specs.Characters.{damage}
-use Rattle.text.specs.declared.Found.{Found}
-use Rattle.text.specs.declared.Found.TheVariants.{At, Nowhere}
 use Rattle.text.proofs.Damage.{later, or_later}
 use Rattle.options.specs.Opts.{Opts, meant}
 use Rattle.options.specs.OptionBlock.{read_block}
 use Rattle.options.specs.declared.Options.{Options}
-use Rattle.options.specs.declared.Block.TheVariants.{Accepted}
 use Rattle.options.proofs.Accepted.{accepted}
 use Rattle.lines.specs.Lines.{Line, lines_of}
 use Rattle.lines.specs.Theorems.Closed.{Closed}
@@ -58,8 +56,8 @@ module _ (most : ℕ) (o : Opts) where
   long_moved n place (q ∷ qs) = go (too_many most o q.kind) (long_moved n (place + length (extent_of q)) qs)
     where
       go : (t : Bool) → long_paragraph most o (n + (place + length (extent_of q))) qs ≡ later n (long_paragraph most o (place + length (extent_of q)) qs)
-          → elim t as (λ b. Found) [ true ↦ At (n + place) | false ↦ long_paragraph most o (n + place + length (extent_of q)) qs ]
-          ≡ later n (elim t as (λ b. Found) [ true ↦ At place | false ↦ long_paragraph most o (place + length (extent_of q)) qs ])
+          → elim t as (λ b. (Option ℕ)) [ true ↦ Some (n + place) | false ↦ long_paragraph most o (n + place + length (extent_of q)) qs ]
+          ≡ later n (elim t as (λ b. (Option ℕ)) [ true ↦ Some place | false ↦ long_paragraph most o (place + length (extent_of q)) qs ])
       go true ih = refl
       go false ih = let e : n + place + length (extent_of q) ≡ n + (place + length (extent_of q)) = omega arith in rw e ih
 
@@ -76,8 +74,8 @@ module _ (most : ℕ) (o : Opts) where
       size = omega (arith, ap length (joined_cons extent_of p ps) ∙ length-append (extent_of p) (joined extent_of ps))
 
       go : (t : Bool) → long_paragraph most o (place + length (extent_of p)) (ps ++ qs) ≡ or_later (place + length (extent_of p) + length (joined extent_of ps)) (long_paragraph most o (place + length (extent_of p)) ps) (long_paragraph most o 0 qs)
-          → elim t as (λ b. Found) [ true ↦ At place | false ↦ long_paragraph most o (place + length (extent_of p)) (ps ++ qs) ]
-          ≡ or_later (place + length (joined extent_of (p ∷ ps))) (elim t as (λ b. Found) [ true ↦ At place | false ↦ long_paragraph most o (place + length (extent_of p)) ps ]) (long_paragraph most o 0 qs)
+          → elim t as (λ b. (Option ℕ)) [ true ↦ Some place | false ↦ long_paragraph most o (place + length (extent_of p)) (ps ++ qs) ]
+          ≡ or_later (place + length (joined extent_of (p ∷ ps))) (elim t as (λ b. (Option ℕ)) [ true ↦ Some place | false ↦ long_paragraph most o (place + length (extent_of p)) ps ]) (long_paragraph most o 0 qs)
       go true ih = refl
       go false ih = rw size at ih
 
@@ -94,9 +92,9 @@ lending_is_by_parts lends o first second notes e = ap (most_work o) e ∙ work_a
 text_wins : (w : Words) (o : Opts) (part : List ℕ) (size place : ℕ) → stopped (Damaged (size + place)) ≡ both_found size (within w o part) (stopped (Damaged place))
 text_wins (up_to most) o part size place = go (long_paragraph most o 0 (pieces o part))
   where
-    go : (f : Found) → stopped (Damaged (size + place)) ≡ both_found size (with_words o part f) (stopped (Damaged place))
-    go (At early) = refl
-    go Nowhere = refl
+    go : (f : Option ℕ) → stopped (Damaged (size + place)) ≡ both_found size (with_words o part f) (stopped (Damaged place))
+    go (Some early) = refl
+    go None = refl
 text_wins (lent lends need) o part size place = go (ltb lends (need o part))
   where
     go : (b : Bool) → stopped (Damaged (size + place)) ≡ both_found size (elim b as (λ t. Finding) [ true ↦ stopped (Work (need o part)) | false ↦ found (digest o part) ]) (stopped (Damaged place))
@@ -107,11 +105,11 @@ module _ (o : Opts) (notes first second : List ℕ)
     (digests : digest o notes ≡ digest o first ++ digest o second)
     (all_pieces : pieces o notes ≡ pieces o first ++ pieces o second)
     (size : length (joined extent_of (pieces o first)) ≡ length first) where
-  words_both : (f g : Found) → with_words o notes (or_later (length first) f g) ≡ both_found (length first) (with_words o first f) (with_words o second g)
-  words_both (At place) (At later) = refl
-  words_both (At place) Nowhere = refl
-  words_both Nowhere (At place) = refl
-  words_both Nowhere Nowhere = ap found digests
+  words_both : (f g : Option ℕ) → with_words o notes (or_later (length first) f g) ≡ both_found (length first) (with_words o first f) (with_words o second g)
+  words_both (Some place) (Some later) = refl
+  words_both (Some place) None = refl
+  words_both None (Some place) = refl
+  words_both None None = ap found digests
 
   longs : (most : ℕ) → long_paragraph most o 0 (pieces o notes) ≡ or_later (length first) (long_paragraph most o 0 (pieces o first)) (long_paragraph most o 0 (pieces o second))
   longs most =
@@ -145,15 +143,15 @@ module _ (o : Opts) (notes first second : List ℕ)
   within_both (up_to most) j = ap (with_words o notes) (longs most) ∙ words_both (long_paragraph most o 0 (pieces o first)) (long_paragraph most o 0 (pieces o second))
   within_both (lent lends need) j = ap (with_work o notes lends) (j o first second notes all_pieces) ∙ work_both lends (need o first) (need o second)
 
-  text_both : (w : Words) → ByParts w → (f g : Found) → with_text w o notes (or_later (length first) f g) ≡ both_found (length first) (with_text w o first f) (with_text w o second g)
-  text_both w j (At place) (At later) = refl
-  text_both w j (At place) Nowhere = text_first (within w o second)
+  text_both : (w : Words) → ByParts w → (f g : Option ℕ) → with_text w o notes (or_later (length first) f g) ≡ both_found (length first) (with_text w o first f) (with_text w o second g)
+  text_both w j (Some place) (Some later) = refl
+  text_both w j (Some place) None = text_first (within w o second)
     where
       text_first : (f : Finding) → stopped (Damaged place) ≡ both_found (length first) (stopped (Damaged place)) f
       text_first (found d) = refl
       text_first (stopped r) = refl
-  text_both w j Nowhere (At place) = text_wins w o first (length first) place
-  text_both w j Nowhere Nowhere = within_both w j
+  text_both w j None (Some place) = text_wins w o first (length first) place
+  text_both w j None None = within_both w j
 
 -- ---- what measuring tells of it
 
@@ -210,7 +208,7 @@ look_both line es fs = go (ltb line (length es)) (ltb (line - length es) (length
 
 -- ---- notes cut where a piece begins, under the options that an accepted block means
 
-module _ (block notes : List ℕ) (o : Options) (k : ℕ) (accepts : read_block block ≡ Accepted o) (may : MayCut (meant block o) k notes) where
+module _ (block notes : List ℕ) (o : Options) (k : ℕ) (accepts : read_block block ≡ Ok o) (may : MayCut (meant block o) k notes) where
   abbrev m : Opts
   m = meant block o
 
@@ -263,9 +261,9 @@ module _ (block notes : List ℕ) (o : Options) (k : ℕ) (accepts : read_block 
   damage_of_parts : damage notes ≡ or_later (length first) (damage first) (damage second)
   damage_of_parts = go ends
     where
-      alone : (f : Found) → f ≡ or_later (length first) f Nowhere
-      alone (At place) = refl
-      alone Nowhere = refl
+      alone : (f : Option ℕ) → f ≡ or_later (length first) f None
+      alone (Some place) = refl
+      alone None = refl
 
       go : Ends → damage notes ≡ or_later (length first) (damage first) (damage second)
       go (fed c) = ap damage parts_are ∙ damage_closed first second c

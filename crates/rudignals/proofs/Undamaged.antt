@@ -1,5 +1,6 @@
 -- Texts end to end: without a damaged character in either there is none in both; and where the first ends in a line feed the damaged place of
 -- both is the first's, or else the second's. A blank line has none.
+use Rattle.std.proofs.Common.{None}
 use mathlib.Core.Path.{◌≡◌, refl, sym, ap, ◌∙◌}
 use mathlib.Core.Bool.{Bool, true, false, and-eq-true_iff, false≢true}
 use mathlib.Core.List.{List, [], ◌∷◌, ◌++◌, append_assoc}
@@ -15,7 +16,6 @@ use Rattle.lists.proofs.Walk.{each_step}
 use Rattle.lists.proofs.Extents.{each_append}
 use Rattle.text.specs.Rfc3629.{Front, front, nothing, scalar, encode, spelled, decode}
 use Rattle.text.specs.Characters.{Glyph, glyph_as, glyph, characters, glyphs, is_good, damage}
-use Rattle.text.specs.declared.Found.TheVariants.{Nowhere}
 use Rattle.text.proofs.Decoder.{sound}
 use Rattle.text.proofs.Glyphs.{bytes_of_part, characters_past}
 use Rattle.text.proofs.Glue.{every_good}
@@ -52,20 +52,20 @@ characters_append a b g = each_append cut glyph Good b stays a g
         let e = good_append d b (not-true (glyph d).damaged k.0) in
         (e, ap (λ (q : Glyph). length q.bytes - 1) e, omega (arith, y.some, y.within, y.count), k.1)
 
-pub good_sound : (a : List ℕ) → Good a → damage a ≡ Nowhere
+pub good_sound : (a : List ℕ) → Good a → damage a ≡ None
 unfolding damage
 good_sound a g = rw g
 
-pub damage_good : (a : List ℕ) → damage a ≡ Nowhere → Good a
+pub damage_good : (a : List ℕ) → damage a ≡ None → Good a
 damage_good a h = sym (every_good false a) ∙ damage_none false a h
 
-pub damage_append : (a b : List ℕ) → damage a ≡ Nowhere → damage b ≡ Nowhere → damage (a ++ b) ≡ Nowhere
+pub damage_append : (a b : List ℕ) → damage a ≡ None → damage b ≡ None → damage (a ++ b) ≡ None
 damage_append a b h g =
     let p = damage_good a h in
     good_sound (a ++ b) (rw (characters_append a b p, every_append is_good (characters a) (characters b), p, damage_good b g))
 
 -- a blank line is not damaged
-pub blank_sound : (o : Opts) (line : List ℕ) → classify o line ≡ Blank → damage line ≡ Nowhere
+pub blank_sound : (o : Opts) (line : List ℕ) → classify o line ≡ Blank → damage line ≡ None
 blank_sound o line e = good_sound line (sym (every_good o.glue line) ∙ go (every is_good (glyphs o.glue line)) refl)
   where
     go : (t : Bool) → every is_good (glyphs o.glue line) ≡ t → every is_good (glyphs o.glue line) ≡ true
@@ -73,15 +73,15 @@ blank_sound o line e = good_sound line (sym (every_good o.glue line) ∙ go (eve
     go false g = absurd (let p = damaged_plain o line g in let z : ◌≡◌ {A = ℕ} 0 1 = cc in omega arith)
 
 -- nor is nothing, nor a line end
-pub empty_sound : damage [] ≡ Nowhere
+pub empty_sound : damage [] ≡ None
 unfolding damage characters each piece walk walk_up_to every
 empty_sound = refl
 
-pub feed_sound : damage (10 ∷ []) ≡ Nowhere
+pub feed_sound : damage (10 ∷ []) ≡ None
 unfolding damage characters each piece walk walk_up_to glyph decode spelled encode scalar begins every
 feed_sound = refl
 
-pub return_feed_sound : damage (13 ∷ 10 ∷ []) ≡ Nowhere
+pub return_feed_sound : damage (13 ∷ 10 ∷ []) ≡ None
 unfolding damage characters each piece walk walk_up_to glyph decode spelled encode scalar begins every
 return_feed_sound = refl
 

@@ -62,6 +62,7 @@
 --   rudignals     rudignals_flow, rudignals_flow_large                                      the same, and one for the count
 --
 -- What stays open is scratch that nobody reads afterwards: docs/VERIFY.md lists it.
+use Rattle.std.proofs.Common.{Ok}
 use mathlib.Core.Path.{◌≡◌, sym, ap, ◌∙◌}
 use mathlib.Core.List.{List, []}
 use Prim.Native.Nat.{ℕ}
@@ -72,7 +73,6 @@ use Rattle.records.specs.Cited.Marks.{MarkedBy}
 use Rattle.records.proofs.Unique.{marked_unique}
 use Rattle.words.specs.Cited.Split.{places_in, Split}
 use Rattle.words.specs.declared.Count.{Count}
-use Rattle.words.specs.declared.Count.TheVariants.{Words}
 use Rattle.words.proofs.Unique.{count_unique, split_unique}
 use Rattle.spacing.specs.declared.Setting.{Setting}
 use Rattle.quick.specs.Quick.{quick_breaks}
@@ -88,7 +88,7 @@ bounded_unique Bounds x a b e f = e.0 ∙ sym f.0
 -- the count of a paragraph's words, the words that the table's first records are, and where they stand, whatever block the options came from
 pub words_unique : (most : ℕ) (notes : List ℕ) (ws : List ℕ → List Word) (ps t u : List ℕ) (r s : Count)
     → ((block : List ℕ) → Split most notes (ws block) ps t r) → ((block : List ℕ) → Split most notes (ws block) ps u s)
-    → (r ≡ s) × ((n : ℕ) → r ≡ Words n → (words_in notes n t ≡ words_in notes n u) × (places_in n t ≡ places_in n u))
+    → (r ≡ s) × ((n : ℕ) → r ≡ Ok n → (words_in notes n t ≡ words_in notes n u) × (places_in n t ≡ places_in n u))
 words_unique most notes ws ps t u r s a b =
     (count_unique most notes (ws []) ps t u r s (a []) (b []), λ n e. split_unique most notes (ws []) ps t u r s (a []) (b []) n e)
 

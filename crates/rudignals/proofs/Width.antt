@@ -1,5 +1,6 @@
 -- Quick keeps to the width (RULES 21.7). The breaker's own sums are the columns of the bytes that are written, counted afresh: through
 -- the indents, gaps with tabs, and added spaces.
+use Rattle.std.proofs.Common.{Option, Some, None, Ok}
 use mathlib.Core.Path.{◌≡◌, refl, sym, ap, ◌∙◌}
 use mathlib.Core.Bool.{Bool, true, false, cond, ◌&&◌, ◌||◌, or-false, and-eq-true_iff}
 use mathlib.Core.List.{List, [], ◌∷◌, ◌++◌, map, append_assoc}
@@ -16,9 +17,8 @@ use Rattle.text.specs.Characters.{characters}
 use Rattle.text.proofs.Glyphs.{characters_past}
 use Rattle.text.specs.Theorems.Blanks.{Gap}
 use Rattle.options.specs.Opts.{Opts, meant}
-use Rattle.options.specs.OptionBlock.{read_block}
+use Rattle.options.specs.OptionBlock.{read_block, between}
 use Rattle.options.specs.declared.Options.{Options}
-use Rattle.options.specs.declared.Block.TheVariants.{Accepted}
 use Rattle.options.proofs.Accepted.{accepted}
 use Rattle.lines.specs.Lines.{Line, no_feed}
 use Rattle.lines.specs.Classes.{columns_of, classify}
@@ -28,8 +28,6 @@ use Rattle.pieces.specs.Pieces.{Indent, Paragraph, Piece, paragraph, row_of, pie
 use Rattle.pieces.proofs.Extents.{Rows}
 use Rattle.pieces.proofs.Columns.{Margined, Settled, SettledPiece, pieces_settled, spaces_columns, spaces_feedless}
 use Rattle.records.specs.Word.{Word}
-use Rattle.records.specs.declared.Before.{Before}
-use Rattle.records.specs.declared.Before.TheVariants.{Absent, Count}
 use Rattle.words.specs.Words.{row_words, words_of}
 use Rattle.words.specs.Theorems.PlainGap.{plain_gap}
 use Rattle.words.proofs.Order.{Whole, paragraph_some, paragraph_whole}
@@ -52,16 +50,16 @@ use Rattle.rudignals.proofs.Order.{members_all, rows_of, space_separates}
 
 -- ---- what is before a word on its line
 
-gap_end_law : (tab column : ℕ) (before : Before) (after : ℕ) → 1 ≤ tab → gap_end tab column before after ≡ column + gap_width tab column before after
+gap_end_law : (tab column : ℕ) (before : Option ℕ) (after : ℕ) → 1 ≤ tab → gap_end tab column before after ≡ column + gap_width tab column before after
 unfolding gap_end gap_width
-gap_end_law tab column Absent after h = refl
-gap_end_law tab column (Count n) after h = let s = stop_behind tab (n + column) h in omega arith
+gap_end_law tab column None after h = refl
+gap_end_law tab column (Some n) after h = let s = stop_behind tab (n + column) h in omega arith
 
-no_gap : (tab a k : ℕ) → a + k + gap_width tab (a + k) Absent 0 ≡ a + gap_width tab a Absent 0 + k
+no_gap : (tab a k : ℕ) → a + k + gap_width tab (a + k) None 0 ≡ a + gap_width tab a None 0 + k
 unfolding gap_width
 no_gap tab a k = omega arith
 
-same_gap : (tab a : ℕ) (before : Before) (after : ℕ) → a + 0 + gap_width tab (a + 0) before after ≡ a + gap_width tab a before after + 0
+same_gap : (tab a : ℕ) (before : Option ℕ) (after : ℕ) → a + 0 + gap_width tab (a + 0) before after ≡ a + gap_width tab a before after + 0
 same_gap tab a before after = let e : a + 0 ≡ a = omega arith in rw e (omega arith)
 
 module _ (o : Opts) (least : 1 ≤ o.tab) where
@@ -78,7 +76,7 @@ module _ (o : Opts) (least : 1 ≤ o.tab) where
       go true e =
           let b = c.bare e in
           let k : ℕ = cond (w.sentence_start || w.new_line && punct) 2 1 in
-          rw (b.1, b.2, gap_end_law o.tab (column + k) Absent 0 least) (no_gap o.tab column k)
+          rw (b.1, b.2, gap_end_law o.tab (column + k) None 0 least) (no_gap o.tab column k)
       go false e = rw (gap_end_law o.tab (column + 0) w.before w.after least) (same_gap o.tab column w.before w.after)
 
   space_columns : (punct : Bool) (w : Word) → Counted o w → plain_gap w ≡ true → (column : ℕ) (ys : List ℕ)
@@ -302,7 +300,7 @@ quick_keeps_to_the_width o notes q p h quick m e n =
 
 -- What a call has written under an accepted option block with quick on keeps to the width, whatever the limits. Nothing else is assumed.
 pub what_is_written_keeps_to_the_width : (l : Limits) (block notes : List ℕ) (o : Options) (space : ℕ) (bytes : List ℕ)
-    → read_block block ≡ Accepted o
+    → read_block block ≡ Ok o
     → o.quick ≡ true
     → writing l block notes space ≡ done bytes
     → KeptToWidth (meant block o) notes bytes
@@ -316,7 +314,7 @@ what_is_written_keeps_to_the_width l block notes o space bytes b quick h =
 
 -- (The call that measures and writes in one has limits such as those of RULES 2.2.)
 pub what_is_done_keeps_to_the_width : (most words : ℕ) (block notes : List ℕ) (o : Options) (space : ℕ) (bytes : List ℕ)
-    → read_block block ≡ Accepted o
+    → read_block block ≡ Ok o
     → o.quick ≡ true
     → answer (limited most words) block notes space ≡ done bytes
     → KeptToWidth (meant block o) notes bytes

@@ -1,4 +1,5 @@
 -- Texts and lines that the words of the theorems refuse.
+use Rattle.std.proofs.Common.{None}
 use mathlib.Core.Path.{◌≡◌, refl, ap, ◌∙◌}
 use mathlib.Core.Bool.{Bool, true, false, true≢false, false≢true}
 use mathlib.Core.List.{List, [], ◌∷◌, ◌++◌}
@@ -16,7 +17,6 @@ use Rattle.lines.specs.Theorems.Closed.{Closed}
 use Rattle.pieces.specs.Pieces.{Paragraph, Piece, paragraph, pieces}
 use Rattle.pieces.specs.Theorems.NextMail.{next_mail_behind}
 use Rattle.records.specs.Word.{Word}
-use Rattle.records.specs.declared.Before.TheVariants.{Absent}
 use Rattle.words.specs.Words.{words_of}
 use Rattle.words.specs.Theorems.PlainGap.{plain_gap}
 use Rattle.words.specs.Theorems.Standing.{Ascends, Stands}
@@ -28,7 +28,7 @@ use Rattle.rudignals.specs.Theorems.Width.{columns_in, OutputLine, ended, words_
 use Rattle.rudignals.specs.Trials.Computing.{everything}
 
 abbrev word : List ℕ → List ℕ → Word
-word blanks text = record { blanks = blanks; text = text; width = length text; before = Absent; after = 0; new_line = false; ends_punct = false; sentence_start = false }
+word blanks text = record { blanks = blanks; text = text; width = length text; before = None; after = 0; new_line = false; ends_punct = false; sentence_start = false }
 
 -- `aaa bb`
 abbrev two_words : List Word

@@ -18,14 +18,14 @@ ghost use Rattle.formatter.specs.Work.{lending};
 pub fn rudignals_measure(options: &[u8], notes: &[u8]) -> u64
     ensures { result ≡ numbered (answer_coded (measuring own_room options.now notes.now)) }
 {
-    formatter::number_of(formatter::measure(options, notes))
+    lists::number_of(formatter::measure(options, notes))
 }
 
 // What it calls then: the answer's number, and the output as the answer leaves it.
 pub fn rudignals_write(options: &[u8], notes: &[u8], output: &mut [u8]) -> u64
     ensures { (result ≡ numbered (answer_coded (writing own_room options.now notes.now (length output.old)))) × (output.new ≡ output_after (writing own_room options.now notes.now (length output.old)) output.old) }
 {
-    formatter::number_of(formatter::write(options, notes, output))
+    lists::number_of(formatter::write(options, notes, output))
 }
 
 // The two in sequence. Writing follows whatever measuring tells: where that refuses with code 4, the output is still to be zeroed.
@@ -40,7 +40,7 @@ pub fn rudignals_format(options: &[u8], notes: &[u8], output: &mut [u8]) -> u64
 pub fn rudignals_measure_large(options: &[u8], notes: &[u8], work: &mut [u32]) -> u64
     ensures { result ≡ numbered (answer_coded (measuring (lending (length work.old)) options.now notes.now)) }
 {
-    formatter::number_of(formatter::measure_lent(options, notes, work))
+    lists::number_of(formatter::measure_lent(options, notes, work))
 }
 
 pub fn rudignals_write_large(
@@ -51,5 +51,5 @@ pub fn rudignals_write_large(
 ) -> u64
     ensures { (result ≡ numbered (answer_coded (writing (lending (length work.old)) options.now notes.now (length output.old)))) × (output.new ≡ output_after (writing (lending (length work.old)) options.now notes.now (length output.old)) output.old) }
 {
-    formatter::number_of(formatter::write_lent(options, notes, output, work))
+    lists::number_of(formatter::write_lent(options, notes, output, work))
 }

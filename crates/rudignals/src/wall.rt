@@ -15,5 +15,5 @@ pub fn rudignals_panel(digest: &[u8], tab: u64, cells: &mut [u32; 1920]) -> u64
 pub fn rudignals_fold(text: &[u8], tab: u64, columns: u64, output: &mut [u8]) -> u64
     ensures { (result ≡ numbered (fold_coded (folding text.now tab columns (length output.old)))) × (output.new ≡ fold_output_after (folding text.now tab columns (length output.old)) output.old) }
 {
-    fold::folding_number(fold::fold(text, tab, columns, output))
+    lists::number_of(fold::fold(text, tab, columns, output))
 }

@@ -1,4 +1,5 @@
 -- The answers by the tests that lead to them.
+use Rattle.std.proofs.Common.{Ok, Err}
 use mathlib.Core.Path.{◌≡◌, refl, sym, ap, ◌∙◌}
 use mathlib.Core.List.{List, map}
 use Prim.Native.Nat.{ℕ, ◌+◌, ◌≤◌, ◌<◌, min}
@@ -11,8 +12,8 @@ use Rattle.lists.specs.Coded.{numbered}
 use Rattle.salvage.specs.Mending.{Change, mended, changes, MendAnswer, done, long, full, room, mend, mend_coded, over, copy_after, places_after, bytes_after}
 use Rattle.salvage.specs.Restoring.{Back, done as given, long as longCopy, stray, room as roomBack, belonging, restored, restore, restore_coded, notes_after}
 use Rattle.salvage.specs.Cited.Steps.{told, number_of, told_back, number_back, Mends, Restores, Counted}
-use Rattle.salvage.specs.declared.Mended.TheVariants.{Done, Long, Full, Room}
-use Rattle.salvage.specs.declared.Restored.TheVariants.{Done as Given, Long as LongCopy, Stray, Room as RoomBack}
+use Rattle.salvage.specs.declared.Unmended.TheVariants.{Long, Full, Room}
+use Rattle.salvage.specs.declared.Unrestored.TheVariants.{Long as LongCopy, Stray, Room as RoomBack}
 
 -- stores from the front on
 over_front : (xs old : List ℕ) → length xs ≤ length old → sets old 0 xs ≡ over xs old
@@ -56,12 +57,12 @@ module _ (notes : List ℕ) (space entries : ℕ) where
       mend_done l = rw (le-ltb 65536 (length notes) h, le-ltb entries (length (changes notes)) k, le-ltb space (length (mended notes)) l)
 
 module _ (notes copy places bytes : List ℕ) where
-  pub mends_long : 65536 < length notes → Mends (mend notes (length copy) (min (length places) (length bytes))) copy places bytes Long copy places bytes
+  pub mends_long : 65536 < length notes → Mends (mend notes (length copy) (min (length places) (length bytes))) copy places bytes (Err Long) copy places bytes
   unfolding copy_after places_after bytes_after
   mends_long h = rw (mend_long notes (length copy) (min (length places) (length bytes)) h) (record { is = refl; copied = refl; placed = refl; kept = refl; small = omega arith })
 
   module _ (r : ℕ) (h : length notes ≤ 65536) (q : Counted notes r) where
-    pub mends_full : min (length places) (length bytes) < r → Mends (mend notes (length copy) (min (length places) (length bytes))) copy places bytes (Full r) copy places bytes
+    pub mends_full : min (length places) (length bytes) < r → Mends (mend notes (length copy) (min (length places) (length bytes))) copy places bytes (Err (Full r)) copy places bytes
     unfolding copy_after places_after bytes_after
     mends_full k =
         rw (mend_full notes (length copy) (min (length places) (length bytes)) h (rw q.count k), q.count)
@@ -69,7 +70,7 @@ module _ (notes copy places bytes : List ℕ) where
 
     module _ (k : r ≤ min (length places) (length bytes)) where
       pub mends_room : length copy < length notes + r
-          → Mends (mend notes (length copy) (min (length places) (length bytes))) copy places bytes (Room (length notes + r)) copy places bytes
+          → Mends (mend notes (length copy) (min (length places) (length bytes))) copy places bytes (Err (Room (length notes + r))) copy places bytes
       unfolding copy_after places_after bytes_after
       mends_room l =
           rw (mend_room notes (length copy) (min (length places) (length bytes)) h (rw q.count k) (rw q.mended l), q.mended)
@@ -78,12 +79,12 @@ module _ (notes copy places bytes : List ℕ) where
       module _ (l : length notes + r ≤ length copy) where
         pub mends_done : {copy' places' bytes' : List ℕ}
             → copy' ≡ sets copy 0 (mended notes) → places' ≡ sets places 0 (map (λ c. c.place) (changes notes)) → bytes' ≡ sets bytes 0 (map (λ c. c.byte) (changes notes))
-            → Mends (mend notes (length copy) (min (length places) (length bytes))) copy places bytes (Done (length notes + r)) copy' places' bytes'
+            → Mends (mend notes (length copy) (min (length places) (length bytes))) copy places bytes (Ok (length notes + r)) copy' places' bytes'
         unfolding copy_after places_after bytes_after
         mends_done a b d =
             rw (mend_done notes (length copy) (min (length places) (length bytes)) h (rw q.count k) (rw q.mended l))
             (record {
-              is = ap Done (sym q.mended);
+              is = ap Ok (sym q.mended);
               copied = a ∙ over_front (mended notes) copy (rw q.mended l);
               placed = b ∙ over_front (map (λ c. c.place) (changes notes)) places (rw (length-map (changes notes) (λ c. c.place), q.count) (omega arith));
               kept = d ∙ over_front (map (λ c. c.byte) (changes notes)) bytes (rw (length-map (changes notes) (λ c. c.byte), q.count) (omega arith));
@@ -112,24 +113,24 @@ module _ (copy : List ℕ) (list : List Change) (space : ℕ) where
       restore_done l = rw (le-ltb 131072 (length copy) h, le-ltb (belonging 0 copy list) (length list) k, le-ltb space (length (restored 0 copy list)) l)
 
 module _ (copy : List ℕ) (list : List Change) (notes : List ℕ) where
-  pub restores_long : 131072 < length copy → Restores (restore copy list (length notes)) notes LongCopy notes
+  pub restores_long : 131072 < length copy → Restores (restore copy list (length notes)) notes (Err LongCopy) notes
   unfolding notes_after
   restores_long h = rw (restore_long copy list (length notes) h) (record { is = refl; back = refl; small = omega arith })
 
   module _ (h : length copy ≤ 131072) where
-    pub restores_stray : (r : ℕ) → r ≡ belonging 0 copy list → r ≤ length copy → r < length list → Restores (restore copy list (length notes)) notes (Stray r) notes
+    pub restores_stray : (r : ℕ) → r ≡ belonging 0 copy list → r ≤ length copy → r < length list → Restores (restore copy list (length notes)) notes (Err (Stray r)) notes
     unfolding notes_after
     restores_stray r e b k =
         rw (restore_stray copy list (length notes) h (omega arith), ← e)
         (record { is = refl; back = refl; small = omega arith })
 
     module _ (n : ℕ) (k : length list ≤ belonging 0 copy list) (e : length (restored 0 copy list) ≡ n) (b : n ≤ length copy) where
-      pub restores_room : length notes < n → Restores (restore copy list (length notes)) notes (RoomBack n) notes
+      pub restores_room : length notes < n → Restores (restore copy list (length notes)) notes (Err (RoomBack n)) notes
       unfolding notes_after
       restores_room l = rw (restore_room copy list (length notes) h k (rw e l), e) (record { is = refl; back = refl; small = omega arith })
 
-      pub restores_done : {notes' : List ℕ} → n ≤ length notes → notes' ≡ sets notes 0 (restored 0 copy list) → Restores (restore copy list (length notes)) notes (Given n) notes'
+      pub restores_done : {notes' : List ℕ} → n ≤ length notes → notes' ≡ sets notes 0 (restored 0 copy list) → Restores (restore copy list (length notes)) notes (Ok n) notes'
       unfolding notes_after
       restores_done l a =
           rw (restore_done copy list (length notes) h k (rw e l))
-          (record { is = ap Given (sym e); back = a ∙ over_front (restored 0 copy list) notes (rw e l); small = omega arith })
+          (record { is = ap Ok (sym e); back = a ∙ over_front (restored 0 copy list) notes (rw e l); small = omega arith })

@@ -1,4 +1,5 @@
 -- Well-formed texts, character by character from the front, at a place, and over bytes below 0x80.
+use Rattle.std.proofs.Common.{}
 use mathlib.Core.Path.{◌≡◌, refl, ◌∙◌}
 use mathlib.Core.Bool.{true, false}
 use mathlib.Core.List.{List, [], ◌∷◌}
@@ -16,8 +17,7 @@ use Rattle.text.specs.Rfc3629.{front, nothing, decode}
 use Rattle.text.proofs.Decoder.{sound}
 use Rattle.text.proofs.Forms.{ascii}
 use Rattle.text.proofs.Places.{good_front}
-use Rattle.text.specs.Cited.Places.{Ascii, read_as}
-use Rattle.text.specs.declared.Char.TheVariants.{Good}
+use Rattle.text.specs.Cited.Places.{Ascii, read_as, good}
 use Rattle.salvage.specs.Lines.{octets_behind, fronts, is_character, is_utf8}
 use Rattle.salvage.proofs.Runs.{run_same}
 
@@ -55,7 +55,7 @@ module _ (s : List ℕ) where
       (record { on = a.on; within = a.within; pass = λ i h l. lt-ltb _ _ (a.small i h l) })
 
   -- from the answer of decode_at
-  pub read_on : (i code next : ℕ) → i ≤ length s → read_as i (decode (drop i s)) ≡ Good code next → (i < next) × (next ≤ length s) × (is_utf8 (drop i s) ≡ is_utf8 (drop next s))
+  pub read_on : (i code next : ℕ) → i ≤ length s → read_as i (decode (drop i s)) ≡ good code next → (i < next) × (next ≤ length s) × (is_utf8 (drop i s) ≡ is_utf8 (drop next s))
   read_on i code next h e =
       let f = good_front i (decode (drop i s)) code next e in
       let d = sound (drop i s) code f.0 f.1 in

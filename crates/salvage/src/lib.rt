@@ -8,72 +8,73 @@ ghost use Rattle.text.specs.Rfc3629.{encode};
 ghost use Rattle.salvage.specs.Lines.{no_feed, is_utf8};
 ghost use Rattle.salvage.specs.Mending.{mend as mendOf, mended_line, mended, high_bytes, line_changes, changes};
 ghost use Rattle.salvage.specs.Restoring.{listed, belongs, belonging, restored, restore as restoreOf};
-ghost use Rattle.salvage.specs.Cited.Steps.{Mends, number_of, number_back, Restores, Run, LineAt, HighCounted, LineCounted, Counted, Fits, Put, Whole};
+ghost use Rattle.salvage.specs.Cited.Steps.{Mends, unmended_coded, unrestored_coded, Restores, Run, LineAt, HighCounted, LineCounted, Counted, Fits, Put, Whole};
 
-use text::Char;
+use lists::Refusing;
 
-// What mending answers: the copy's length, or a refusal with what is told of it.
-#[derive(Clone, Copy)]
-pub enum Mended {
-    Done(usize),
+// Why notes are not mended: they are too long, so many changes outnumber the list's places, or there is no room for so many bytes.
+#[derive(Clone, Copy, Debug, PartialEq, Eq)]
+pub enum Unmended {
     Long,
     Full(usize),
     Room(usize),
 }
 
-// What restoring answers: the notes' length, or a refusal with what is told of it.
-#[derive(Clone, Copy)]
-pub enum Restored {
-    Done(usize),
+impl Refusing for Unmended {
+    ghost coded = { unmended_coded };
+
+    fn number(self) -> u64 {
+        match self {
+            Unmended::Long => lists::number(2, 0),
+            Unmended::Full(number) => lists::number(7, number),
+            Unmended::Room(needed) => lists::number(5, needed),
+        }
+    }
+}
+
+// Why a copy is not restored: it is too long, an entry does not belong to it, or there is no room for so many bytes.
+#[derive(Clone, Copy, Debug, PartialEq, Eq)]
+pub enum Unrestored {
     Long,
     Stray(usize),
     Room(usize),
 }
 
-// The answer to notes: their copy in `copy`, and what was changed in `places` and `bytes`. All is measured before anything is written.
-pub fn mend(notes: &[u8], copy: &mut [u8], places: &mut [u32], bytes: &mut [u8]) -> Mended
+impl Refusing for Unrestored {
+    ghost coded = { unrestored_coded };
+
+    fn number(self) -> u64 {
+        match self {
+            Unrestored::Long => lists::number(2, 0),
+            Unrestored::Stray(entry) => lists::number(11, entry),
+            Unrestored::Room(needed) => lists::number(5, needed),
+        }
+    }
+}
+
+// The answer to notes: the length of their copy, which is in `copy`, and what was changed is in `places` and `bytes`. All is measured before
+// anything is written.
+pub fn mend(
+    notes: &[u8],
+    copy: &mut [u8],
+    places: &mut [u32],
+    bytes: &mut [u8],
+) -> Result<usize, Unmended>
     ensures { Mends (mendOf notes.now (length copy.old) (min (length places.old) (length bytes.old))) copy.old places.old bytes.old result copy.new places.new bytes.new }
 {
     if 65536 < notes.len() {
-        return Mended::Long;
+        return Err(Unmended::Long);
     }
     let changed = count_changes(notes);
-    if lists::lesser(places.len(), bytes.len()) < changed {
-        return Mended::Full(changed);
+    if places.len().min(bytes.len()) < changed {
+        return Err(Unmended::Full(changed));
     }
     let needed = notes.len() + changed;
     if copy.len() < needed {
-        return Mended::Room(needed);
+        return Err(Unmended::Room(needed));
     }
     put_all(notes, copy, places, bytes);
-    Mended::Done(needed)
-}
-
-// The answer's code is in the upper 32 bits of its number, what it tells in the lower.
-const UPPER: u64 = 4294967296;
-
-pub fn mended_number(a: Mended) -> u64
-    requires { number_of a < 2 ^ 64 }
-    ensures { result ≡ number_of a }
-{
-    match a {
-        Mended::Done(n) => n as u64,
-        Mended::Long => 2 * UPPER,
-        Mended::Full(number) => 7 * UPPER + number as u64,
-        Mended::Room(needed) => 5 * UPPER + needed as u64,
-    }
-}
-
-pub fn restored_number(a: Restored) -> u64
-    requires { number_back a < 2 ^ 64 }
-    ensures { result ≡ number_back a }
-{
-    match a {
-        Restored::Done(n) => n as u64,
-        Restored::Long => 2 * UPPER,
-        Restored::Stray(entry) => 11 * UPPER + entry as u64,
-        Restored::Room(needed) => 5 * UPPER + needed as u64,
-    }
+    Ok(needed)
 }
 
 // ---- measuring
@@ -98,31 +99,17 @@ fn line_changes(line: &[u8]) -> usize
     ensures { LineCounted line.now result }
 {
     if is_well_formed(line) {
-        return 0;
+        0
+    } else {
+        high_bytes(line)
     }
-    high_bytes(line)
 }
 
 // How many bytes are 0x80 or more.
 fn high_bytes(line: &[u8]) -> usize
     ensures { HighCounted line.now result }
 {
-    let mut n = 0;
-    let mut i = 0;
-    while i < line.len() {
-        n += high_byte(line[i]);
-        i += 1;
-    }
-    n
-}
-
-fn high_byte(octet: u8) -> usize
-    ensures { HighCounted (octet ∷ []) result }
-{
-    if octet < 0x80 {
-        return 0;
-    }
-    1
+    line.iter().filter(|b| 0x80 <= **b).count()
 }
 
 // ---- lines
@@ -132,14 +119,12 @@ fn line_end(s: &[u8], at: usize) -> usize
     requires { at < length s.now }
     ensures { LineAt s.now at result }
 {
-    let mut i = feedless_eights(s, at);
-    while i < s.len() {
+    for i in feedless_eights(s, at)..s.len() {
         if s[i] == 10 {
             return i + 1;
         }
-        i += 1;
     }
-    i
+    s.len()
 }
 
 // On over bytes that are no line feed, as long as the next eight are none: eight tests without a branch between them are as quick as one.
@@ -189,10 +174,10 @@ fn is_well_formed(line: &[u8]) -> bool
         if line[i] < 0x80 {
             i = text::ascii_end(line, i + 1);
         } else {
-            let Char::Good { code: _, next } = text::decode_at(line, i) else {
+            let Some(c) = text::decode_at(line, i) else {
                 return false;
             };
-            i = next;
+            i = c.next;
         }
     }
     true
@@ -227,11 +212,11 @@ fn put_line(
     ensures { Put at n (mended_line line.now) (line_changes at line.now) copy.old places.old bytes.old (at + length line.now) result copy.new places.new bytes.new }
 {
     if is_well_formed(line) {
-        let to = at + n;
-        put_text(line, copy, to);
-        return n;
+        put_text(line, copy, at + n);
+        n
+    } else {
+        put_mended(line, at, n, copy, places, bytes)
     }
-    put_mended(line, at, n, copy, places, bytes)
 }
 
 // Writes a line whose bytes from 0x80 on are changed.
@@ -247,10 +232,8 @@ fn put_mended(
     ensures { Put at n (joined encode line.now) (high_bytes at line.now) copy.old places.old bytes.old (at + length line.now) result copy.new places.new bytes.new }
 {
     let mut m = n;
-    let mut i = 0;
-    while i < line.len() {
+    for i in 0..line.len() {
         m = put_byte(line[i], at + i, m, copy, places, bytes);
-        i += 1;
     }
     m
 }
@@ -285,33 +268,35 @@ fn put_text(text: &[u8], out: &mut [u8], at: usize)
     requires { at + length text.now ≤ length out.old }
     ensures { out.new ≡ sets out.old at text.now }
 {
-    let mut i = 0;
-    while i < text.len() {
-        out[at + i] = text[i];
-        i += 1;
-    }
+    let end = at + text.len();
+    out[at..end].copy_from_slice(text);
 }
 
 // ---- the way back
 
-// The answer to a copy and its list: the old notes in `notes`. All is measured before anything is written.
-pub fn restore(copy: &[u8], places: &[u32], bytes: &[u8], notes: &mut [u8]) -> Restored
+// The answer to a copy and its list: the length of the old notes, which are in `notes`. All is measured before anything is written.
+pub fn restore(
+    copy: &[u8],
+    places: &[u32],
+    bytes: &[u8],
+    notes: &mut [u8],
+) -> Result<usize, Unrestored>
     ensures { Restores (restoreOf copy.now (listed places.now bytes.now) (length notes.old)) notes.old result notes.new }
 {
     if 131072 < copy.len() {
-        return Restored::Long;
+        return Err(Unrestored::Long);
     }
-    let count = lists::lesser(places.len(), bytes.len());
+    let count = places.len().min(bytes.len());
     let fit = count_belonging(copy, places, bytes);
     if fit < count {
-        return Restored::Stray(fit);
+        return Err(Unrestored::Stray(fit));
     }
     let needed = copy.len() - count;
     if notes.len() < needed {
-        return Restored::Room(needed);
+        return Err(Unrestored::Room(needed));
     }
     put_back(copy, places, bytes, notes);
-    Restored::Done(needed)
+    Ok(needed)
 }
 
 // How many entries belong to the copy, up to the first that does not.
@@ -319,19 +304,16 @@ fn count_belonging(copy: &[u8], places: &[u32], bytes: &[u8]) -> usize
     requires { length copy.now ≤ 131072 }
     ensures { result ≡ belonging 0 copy.now (listed places.now bytes.now) }
 {
-    let count = lists::lesser(places.len(), bytes.len());
+    let count = places.len().min(bytes.len());
     let mut at = 0;
-    let mut k = 0;
-    while k < count {
-        let place = lists::wide(places[k]);
-        if is_belonging(copy, at, k, place, bytes[k]) {
-            at = place + 1;
-            k += 1;
-        } else {
+    for k in 0..count {
+        let place = places[k] as usize;
+        if !is_belonging(copy, at, k, place, bytes[k]) {
             return k;
         }
+        at = place + 1;
     }
-    k
+    count
 }
 
 // Whether an entry after k others belongs to the copy from the old place `at` on.
@@ -339,24 +321,13 @@ fn is_belonging(copy: &[u8], at: usize, k: usize, place: usize, byte: u8) -> boo
     requires { (at + k ≤ length copy.now) × (length copy.now ≤ 131072) × (place < 2 ^ 32) }
     ensures { result ≡ belongs at (drop (at + k) copy.now) (record { place = place; byte = byte }) }
 {
-    if place < at {
-        return false;
-    }
-    if byte < 0x80 {
-        return false;
-    }
     let first = place + k;
     let second = first + 1;
-    if copy.len() <= second {
-        return false;
-    }
-    if copy[first] != 0xC0 + byte / 64 {
-        return false;
-    }
-    if copy[second] != 0x80 + byte % 64 {
-        return false;
-    }
-    true
+    at <= place
+        && 0x80 <= byte
+        && second < copy.len()
+        && copy[first] == 0xC0 + byte / 64
+        && copy[second] == 0x80 + byte % 64
 }
 
 // Writes the old notes, for which there is room, from a copy to which the whole list belongs.
@@ -364,18 +335,16 @@ fn put_back(copy: &[u8], places: &[u32], bytes: &[u8], notes: &mut [u8])
     requires { Whole copy.now (listed places.now bytes.now) notes.old }
     ensures { notes.new ≡ sets notes.old 0 (restored 0 copy.now (listed places.now bytes.now)) }
 {
-    let count = lists::lesser(places.len(), bytes.len());
+    let count = places.len().min(bytes.len());
     let mut at = 0;
-    let mut k = 0;
-    while k < count {
-        let place = lists::wide(places[k]);
+    for k in 0..count {
+        let place = places[k] as usize;
         let from = at + k;
         let to = place + k;
         put_text(&copy[from..to], notes, at);
         notes[place] = bytes[k];
         at = place + 1;
-        k += 1;
     }
-    let rest = at + k;
+    let rest = at + count;
     put_text(&copy[rest..], notes, at);
 }

@@ -1,4 +1,5 @@
 -- The answers by the tests that lead to them.
+use Rattle.std.proofs.Common.{Ok, Err}
 use mathlib.Core.Path.{◌≡◌, refl, ap, ◌∙◌}
 use mathlib.Core.List.{List}
 use Prim.Native.Nat.{ℕ, ◌*◌, ◌≤◌, ◌<◌}
@@ -10,7 +11,7 @@ use Rattle.output.proofs.Sink.{written_fits, wrote_length}
 use Rattle.lists.specs.Coded.{numbered}
 use Rattle.unflow.specs.Unflow.{unflowed, UnflowAnswer, done, long, room, unflow, unflow_coded, unflow_output_after}
 use Rattle.unflow.specs.Cited.Steps.{told, number_of, Reads}
-use Rattle.unflow.specs.declared.Reading.TheVariants.{Done, Long, Room}
+use Rattle.unflow.specs.declared.Unread.TheVariants.{Long, Room}
 
 pub number_told : (a : UnflowAnswer) → number_of (told a) ≡ numbered (unflow_coded a)
 unfolding numbered
@@ -19,7 +20,7 @@ number_told long = refl
 number_told (room needed) = refl
 
 module _ (text out : List ℕ) where
-  pub reads_long : 65536 < length text → Reads (unflow text (length out)) out Long out
+  pub reads_long : 65536 < length text → Reads (unflow text (length out)) out (Err Long) out
   unfolding unflow unflow_output_after
   reads_long h = rw (lt-ltb 65536 (length text) h) (record { is = refl; output = refl; small = omega arith })
 
@@ -27,16 +28,16 @@ module _ (text out : List ℕ) where
     size : length (unflowed text) ≡ n
     size = omega (arith, w.count)
 
-    pub reads_done : n ≤ length out' → Reads (unflow text (length out)) out (Done n) out'
+    pub reads_done : n ≤ length out' → Reads (unflow text (length out)) out (Ok n) out'
     unfolding unflow unflow_output_after
     reads_done k =
         let l = wrote_length w in
         rw (le-ltb 65536 (length text) h, le-leb (length (unflowed text)) (length out) (omega (arith, size)))
-        (record { is = ap Done (omega (arith, size)); output = w.bytes ∙ written_fits 0 out (unflowed text) (omega (arith, size)); small = omega arith })
+        (record { is = ap Ok (omega (arith, size)); output = w.bytes ∙ written_fits 0 out (unflowed text) (omega (arith, size)); small = omega arith })
 
-    pub reads_room : {out'' : List ℕ} → length out' < n → out'' ≡ replicate (length out') 0 → Reads (unflow text (length out)) out (Room n) out''
+    pub reads_room : {out'' : List ℕ} → length out' < n → out'' ≡ replicate (length out') 0 → Reads (unflow text (length out)) out (Err (Room n)) out''
     unfolding unflow unflow_output_after
     reads_room k z =
         let l = wrote_length w in
         rw (le-ltb 65536 (length text) h, lt-leb (length (unflowed text)) (length out) (omega (arith, size)))
-        (record { is = ap Room (omega (arith, size)); output = z ∙ ap (λ (m : ℕ). replicate m 0) l; small = omega arith })
+        (record { is = ap Err (Room (omega (arith, size))); output = z ∙ ap (λ (m : ℕ). replicate m 0) l; small = omega arith })

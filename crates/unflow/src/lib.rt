@@ -1,22 +1,34 @@
 // Reading mail: lines of format=flowed (RFC 3676, DelSp=no) are joined to paragraphs, and each paragraph is written as one line.
 #![tactic(auto)]
 
-ghost use Rattle.std.specs.Prelude.{◌≡◌, ◌+◌, ◌*◌, ◌^◌, ◌≤◌, ◌<◌, length, drop, replicate};
+ghost use Rattle.std.specs.Prelude.{◌≡◌, ◌*◌, ◌≤◌, length, drop, replicate};
 ghost use Rattle.output.specs.Cited.Sink.{Wrote};
 ghost use Rattle.unflow.specs.Flowed.{quote_depth, stuffing, content_of, is_dashes, is_separator, ends_in_space};
 ghost use Rattle.unflow.specs.Unflow.{unflow as unflowOf, unflowed};
-ghost use Rattle.unflow.specs.Cited.Steps.{Reads, number_of, Parted, end_of, start_of, placed};
+ghost use Rattle.unflow.specs.Cited.Steps.{Reads, unread_coded, Parted, end_of, start_of, placed};
 
-// What reading answers: the length of what was read, or a refusal with what is told of it.
-#[derive(Clone, Copy)]
-pub enum Reading {
-    Done(usize),
+use lists::Refusing;
+
+// Why a text is not read: it is too long, or there is no room for so many bytes.
+#[derive(Clone, Copy, Debug, PartialEq, Eq)]
+pub enum Unread {
     Long,
     Room(usize),
 }
 
+impl Refusing for Unread {
+    ghost coded = { unread_coded };
+
+    fn number(self) -> u64 {
+        match self {
+            Unread::Long => lists::number(2, 0),
+            Unread::Room(needed) => lists::number(5, needed),
+        }
+    }
+}
+
 // A line of mail: its quote depth, the place where its content begins, whether it is soft, and whether it is a signature separator.
-#[derive(Clone, Copy)]
+#[derive(Clone, Copy, Debug, PartialEq, Eq)]
 struct Line {
     depth: usize,
     start: usize,
@@ -24,32 +36,20 @@ struct Line {
     separator: bool,
 }
 
-// A text of mail read into `out`, a paragraph a line. One pass writes what fits and counts what is needed.
-pub fn unflow(text: &[u8], out: &mut [u8]) -> Reading
+// A text of mail read into `out`, a paragraph a line: the length of what was read. One pass writes what fits and counts what is needed.
+pub fn unflow(text: &[u8], out: &mut [u8]) -> Result<usize, Unread>
     ensures { Reads (unflowOf text.now (length out.old)) out.old result out.new }
 {
     if 65536 < text.len() {
-        return Reading::Long;
+        return Err(Unread::Long);
     }
     let needed = put_paragraphs(text, out);
     if needed <= out.len() {
-        return Reading::Done(needed);
-    }
-    clear(out);
-    Reading::Room(needed)
-}
-
-// The answer's code is in the upper 32 bits of its number, what it tells in the lower.
-const UPPER: u64 = 4294967296;
-
-pub fn reading_number(a: Reading) -> u64
-    requires { number_of a < 2 ^ 64 }
-    ensures { result ≡ number_of a }
-{
-    match a {
-        Reading::Done(n) => n as u64,
-        Reading::Long => 2 * UPPER,
-        Reading::Room(needed) => 5 * UPPER + needed as u64,
+        Ok(needed)
+    } else {
+        // No byte stays where there is no room for all.
+        out.fill(0);
+        Err(Unread::Room(needed))
     }
 }
 
@@ -66,13 +66,13 @@ fn put_paragraphs(text: &[u8], out: &mut [u8]) -> usize
         let extent = lines::first_line(&text[at..]);
         let end = at + extent.text;
         let l = take_apart(&text[at..end]);
-        let place = lists::lesser(k, out.len());
+        let place = k.min(out.len());
         k += put_line(&text[at..end], l, going, depth, &mut out[place..]);
         at += extent.whole;
         going = l.soft;
         depth = l.depth;
     }
-    let place = lists::lesser(k, out.len());
+    let place = k.min(out.len());
     k + put_end(going, &mut out[place..])
 }
 
@@ -96,14 +96,7 @@ fn take_apart(line: &[u8]) -> Line
 fn marks_end(line: &[u8]) -> usize
     ensures { (result ≡ quote_depth line.now) × (result ≤ length line.now) }
 {
-    let mut i = 0;
-    while i < line.len() {
-        if line[i] != b'>' {
-            return i;
-        }
-        i += 1;
-    }
-    i
+    line.iter().take_while(|b| **b == b'>').count()
 }
 
 // The place after a space that stands there.
@@ -111,13 +104,7 @@ fn content_start(line: &[u8], depth: usize) -> usize
     requires { (depth ≡ quote_depth line.now) × (depth ≤ length line.now) }
     ensures { (content_of line.now ≡ drop result line.now) × (depth ≤ result) × (result ≤ length line.now) }
 {
-    if depth == line.len() {
-        return depth;
-    }
-    if line[depth] == b' ' {
-        return depth + 1;
-    }
-    depth
+    depth + usize::from(line[depth..].starts_with(b" "))
 }
 
 // The signature separator: without quote marks only as the whole line, after them with stuffing too.
@@ -125,27 +112,19 @@ fn is_separator(line: &[u8], depth: usize, start: usize) -> bool
     requires { (depth ≡ quote_depth line.now) × (content_of line.now ≡ drop start line.now) × (start ≤ length line.now) }
     ensures { result ≡ is_separator line.now }
 {
-    if depth == 0 {
-        return is_dashes(line);
-    }
-    is_dashes(&line[start..])
+    is_dashes(if depth == 0 { line } else { &line[start..] })
 }
 
 pub fn is_dashes(s: &[u8]) -> bool
     ensures { result ≡ is_dashes s.now }
 {
-    let dashes = b"-- ";
-    lines::begins(dashes, s) & (s.len() == 3)
+    s == b"-- ".as_slice()
 }
 
 fn ends_in_space(s: &[u8]) -> bool
     ensures { result ≡ ends_in_space s.now }
 {
-    if s.len() == 0 {
-        return false;
-    }
-    let last = s.len() - 1;
-    s[last] == b' '
+    s.last().copied().unwrap_or(0) == b' '
 }
 
 // Writes a line after those before it; `going` tells whether they left a paragraph open, which has a depth.
@@ -154,9 +133,9 @@ fn put_line(line: &[u8], l: Line, going: bool, depth: usize, rest: &mut [u8]) ->
     ensures { Wrote rest.old 0 (placed going depth line.now) rest.new result }
 {
     let k = put_start(line, l, going, depth, rest);
-    let place = lists::lesser(k, rest.len());
+    let place = k.min(rest.len());
     let m = k + output::put_text(line, l.start, line.len(), &mut rest[place..]);
-    let behind = lists::lesser(m, rest.len());
+    let behind = m.min(rest.len());
     m + put_end(!l.soft, &mut rest[behind..])
 }
 
@@ -170,9 +149,9 @@ fn put_start(line: &[u8], l: Line, going: bool, depth: usize, rest: &mut [u8]) -
     }
     let start = l.start;
     let k = put_end(going, rest);
-    let place = lists::lesser(k, rest.len());
+    let place = k.min(rest.len());
     let m = k + output::put_text(line, 0, l.depth, &mut rest[place..]);
-    let behind = lists::lesser(m, rest.len());
+    let behind = m.min(rest.len());
     m + output::put_added(stuffing_of(&line[start..]), &mut rest[behind..])
 }
 
@@ -180,47 +159,17 @@ fn put_start(line: &[u8], l: Line, going: bool, depth: usize, rest: &mut [u8]) -
 pub fn stuffing_of(content: &[u8]) -> usize
     ensures { (replicate result 32 ≡ stuffing content.now) × (result ≤ 1) }
 {
-    if content.len() == 0 {
-        return 0;
-    }
-    if content[0] == b' ' {
-        return 1;
-    }
-    if content[0] == b'>' {
-        return 1;
-    }
-    let from = b"From ";
-    if lines::begins(from, content) {
-        return 1;
-    }
-    0
+    let first = content.first().copied().unwrap_or(0);
+    usize::from((first == b' ') | (first == b'>') | lines::begins(b"From ", content))
 }
 
 // The end of a paragraph, if there is one to end: carriage return and line feed.
 pub fn put_end(ends: bool, rest: &mut [u8]) -> usize
     ensures { Wrote rest.old 0 (end_of ends) rest.new result }
 {
-    if !ends {
-        return 0;
-    }
-    if rest.len() == 0 {
-        return 2;
-    }
-    rest[0] = 13;
-    if rest.len() == 1 {
-        return 2;
-    }
-    rest[1] = 10;
-    2
-}
-
-// No byte stays where there is no room for all.
-fn clear(out: &mut [u8])
-    ensures { out.new ≡ replicate (length out.old) 0 }
-{
-    let mut i = 0;
-    while i < out.len() {
-        out[i] = 0;
-        i += 1;
+    if ends {
+        output::put_text(b"\r\n", 0, 2, rest)
+    } else {
+        0
     }
 }

@@ -1,15 +1,13 @@
 -- What the functions of the writer answer for: how a line begins, a paragraph, the pieces from a place of the notes on, and the answer in code.
-use Rattle.std.specs.Prelude.{◌≡◌, Bool, true, false, cond, ◌&&◌, ◌||◌, List, ◌++◌, ℕ, ◌+◌, ◌*◌, ◌^◌, ◌≤◌, ◌<◌, length, drop, replicate}
+use Rattle.std.specs.Prelude.{◌≡◌, Bool, true, false, cond, ◌&&◌, ◌||◌, List, ◌++◌, ℕ, ◌+◌, ◌*◌, ◌^◌, ◌≤◌, ◌<◌, length, drop, replicate, Option, Some, None, Result, Ok, Err}
 use Rattle.std.proofs.Math.Seq.{slice}
 use Rattle.lists.specs.Runs.{joined}
-use Rattle.lists.specs.Coded.{numbered}
-use Rattle.text.specs.declared.Found.TheVariants.{At, Nowhere}
+use Rattle.lists.specs.Coded.{numbered, result_coded}
 use Rattle.options.specs.Opts.{Opts}
 use Rattle.options.specs.OptionBlock.{bit, read_block}
 use Rattle.options.specs.declared.Part.{Part}
 use Rattle.options.specs.declared.Options.{Options}
-use Rattle.options.specs.declared.Block.{Block}
-use Rattle.options.specs.declared.Block.TheVariants.{Accepted, Fault}
+use Rattle.options.specs.declared.Fault.{Fault}
 use Rattle.pieces.specs.Pieces.{Kind, Piece, pieces}
 use Rattle.pieces.specs.declared.Margin.{Margin}
 use Rattle.pieces.specs.declared.Paragraph.{Paragraph}
@@ -21,59 +19,41 @@ use Rattle.output.specs.declared.Layout.{Layout}
 use Rattle.output.specs.Cited.Sink.{Wrote}
 use Rattle.output.specs.Cited.Writers.{margin_of}
 use Rattle.quick.specs.Quick.{quick_breaks}
+use Rattle.words.specs.declared.TooMany.{TooMany}
 use Rattle.paragraphs.specs.Cited.Steps.{setting_for, words_for}
 use Rattle.walk.specs.Digest.{too_many, long_paragraph}
 use Rattle.walk.specs.Cited.Course.{Admitted, SoundFrom, pieces_from, long_from, FirstPiece}
+use Rattle.walk.specs.declared.Stopped.{Stopped}
 use Rattle.formatter.specs.Answers.{Answer, done, refused, room, output_after}
 use Rattle.formatter.specs.Format.{Limits, within, answering}
-use Rattle.formatter.specs.Cited.Call.{told, reply_coded}
+use Rattle.formatter.specs.Cited.Call.{told, unwritten_coded}
+use Rattle.formatter.specs.declared.Unwritten.{Unwritten}
 use Rattle.unflow.specs.Flowed.{stuffing}
 use Rattle.flow.specs.Flow.{is_dashed, sent, sent_lines, flowed, piece_dashes, dashes_in}
 use Rattle.flow.specs.Answers.{is_given, unfit, sent_in, flow, dashes_of}
 use Rattle.flow.specs.Cited.Words.{space_if, next_sent, next_dashed, rest_sent, rest_dashes, words_sent, words_dashes}
-use Rattle.flow.specs.declared.Outcome.{Outcome}
+use Rattle.flow.specs.declared.Sent.{Sent}
 use Rattle.flow.specs.declared.Cursor.{Cursor}
-use Rattle.flow.specs.declared.Step.{Step}
-use Rattle.flow.specs.declared.Step.TheVariants.{On, Over}
-use Rattle.flow.specs.declared.Ended.{Ended}
-use Rattle.flow.specs.declared.Ended.TheVariants.{All, Stopped}
 use Rattle.flow.specs.declared.Opening.{Opening}
 use Rattle.flow.specs.declared.Turn.{Turn}
 
 -- ---- the options
 
 -- the block is well formed, and the writer does not take it
-abbrev pub refused_as : List ℕ → Block → Bool
-refused_as block (Fault place) = false
-refused_as block (Accepted o) = unfit block
+abbrev pub refused_as : List ℕ → Result Options Fault → Bool
+refused_as block (Err f) = false
+refused_as block (Ok o) = unfit block
 
 unfoldable pub refused_for : List ℕ → Bool
 refused_for block = refused_as block (read_block block)
 
 -- by its flags and its prefix
-abbrev pub shaped : ℕ → Part → Bool
+abbrev pub shaped : ℕ → Option Part → Bool
 shaped flags prefix = bit 0 flags || bit 1 flags || bit 2 flags || is_given prefix
 
 -- quick and uniform are on
 abbrev pub switched : Options → Options
-switched o = record {
-  crown = o.crown;
-  tagged = o.tagged;
-  mail = o.mail;
-  split = o.split;
-  uniform = true;
-  quick = true;
-  exact_prefix = o.exact_prefix;
-  exact_skip = o.exact_skip;
-  keep = o.keep;
-  glue = o.glue;
-  by_characters = o.by_characters;
-  width = o.width;
-  goal = o.goal;
-  tab = o.tab;
-  prefix = o.prefix;
-  skip = o.skip;
-}
+switched o = record o { uniform = true; quick = true }
 
 -- the options of an accepted block with these on, and notes within the limit
 pub record Ready (block notes : List ℕ) (m : Options) : Type 0 where
@@ -125,9 +105,9 @@ pub record TextSent (most : ℕ) (notes : List ℕ) (c : Cursor) (o : Options) (
       out' d.written
   pub dashes : d.dashes ≡ c.dashes + words_dashes (margin_of notes p.first) (margin_of notes p.indent) (quick_breaks (setting_for block o p) (words_for block notes c.at o p)) (words_for block notes c.at o p)
 
-abbrev pub TextStepped : ℕ → List ℕ → Cursor → Options → Paragraph → List ℕ → List ℕ → Step → List ℕ → Type 0
-TextStepped most notes c o p out out' (On d) block = TextSent most notes c o p out out' d block
-TextStepped most notes c o p out out' Over block = (most < length (words_for block notes c.at o p)) × (out' ≡ out)
+abbrev pub TextStepped : ℕ → List ℕ → Cursor → Options → Paragraph → List ℕ → List ℕ → Result Cursor TooMany → List ℕ → Type 0
+TextStepped most notes c o p out out' (Ok d) block = TextSent most notes c o p out out' d block
+TextStepped most notes c o p out out' (Err t) block = (most < length (words_for block notes c.at o p)) × (out' ≡ out)
 
 -- ---- the pieces from a place on
 
@@ -157,23 +137,33 @@ pub record Put (most : ℕ) (o : Opts) (notes out : List ℕ) (c d : Cursor) (ou
   pub bounded : d.written + most_sent_per_byte * c.at ≤ c.written + most_sent_per_byte * d.at
   pub counted : d.dashes + most_sent_per_byte * c.at ≤ c.dashes + most_sent_per_byte * d.at
 
-abbrev pub PieceStepped : ℕ → Opts → List ℕ → List ℕ → Cursor → List ℕ → Step → Type 0
-PieceStepped most o notes out c out' (On d) = Put most o notes out c d out'
-PieceStepped most o notes out c out' Over = (long_from most o c.mail notes c.at ≡ At c.at) × (out' ≡ out)
+abbrev pub PieceStepped : ℕ → Opts → List ℕ → List ℕ → Cursor → List ℕ → Result Cursor TooMany → Type 0
+PieceStepped most o notes out c out' (Ok d) = Put most o notes out c d out'
+PieceStepped most o notes out c out' (Err t) = (long_from most o c.mail notes c.at ≡ Some c.at) × (out' ≡ out)
 
 -- all were written; or the work stopped at a paragraph of too many words
-abbrev pub Finished : ℕ → Opts → List ℕ → List ℕ → List ℕ → Ended → Type 0
-Finished most o notes out out' (All n k) =
-    (long_paragraph most o 0 (pieces o notes) ≡ Nowhere) × Wrote out 0 (flowed o notes) out' n × (k ≡ dashes_in o (pieces o notes)) × (n ≤ most_sent_per_byte * length notes)
-Finished most o notes out out' (Stopped place) = (long_paragraph most o 0 (pieces o notes) ≡ At place) × (length out' ≡ length out) × (place ≤ length notes)
+abbrev pub Finished : ℕ → Opts → List ℕ → List ℕ → List ℕ → Result Sent Stopped → Type 0
+Finished most o notes out out' (Ok s) =
+    (long_paragraph most o 0 (pieces o notes) ≡ None) × Wrote out 0 (flowed o notes) out' s.written × (s.dashes ≡ dashes_in o (pieces o notes)) × (s.written ≤ most_sent_per_byte * length notes)
+Finished most o notes out out' (Err s) = (long_paragraph most o 0 (pieces o notes) ≡ Some s.at) × (length out' ≡ length out) × (s.at ≤ length notes)
 
 -- ---- the answer in code: without the bytes, which are in the output
 
-pub record Sends (a : Answer) (dashes : ℕ) (out : List ℕ) (r : Outcome) (out' : List ℕ) : Type 0 where
-  pub is : r.reply ≡ told a
+-- the reply of a writing call: the length of what is sent, or the refusal
+abbrev pub reply_of : Result Sent Unwritten → Result ℕ Unwritten
+reply_of (Ok s) = Ok s.written
+reply_of (Err u) = Err u
+
+-- and the count of lines `--` that is told, which is 0 on a refusal
+abbrev pub dashes_told : Result Sent Unwritten → ℕ
+dashes_told (Ok s) = s.dashes
+dashes_told (Err u) = 0
+
+pub record Sends (a : Answer) (dashes : ℕ) (out : List ℕ) (r : Result Sent Unwritten) (out' : List ℕ) : Type 0 where
+  pub is : reply_of r ≡ told a
   pub output : out' ≡ output_after a out
-  pub counts : r.dashes ≡ dashes
-  pub small : numbered (reply_coded r.reply) < 2 ^ 64
+  pub counts : dashes_told r ≡ dashes
+  pub small : numbered (result_coded unwritten_coded (reply_of r)) < 2 ^ 64
 
 -- what is left to be told where codes 1 to 3 are not due
 abbrev pub left_of : Limits → Opts → List ℕ → ℕ → Answer
@@ -190,11 +180,11 @@ left_dashes l o notes space = if_done (left_of l o notes space) (dashes_in o (pi
 
 -- what the functions of the call leave after: for a block and notes; for options that are taken, where codes 1 to 3 are not due; and where there
 -- is room for every paragraph
-abbrev pub Flows : Limits → List ℕ → List ℕ → List ℕ → Outcome → List ℕ → Type 0
+abbrev pub Flows : Limits → List ℕ → List ℕ → List ℕ → Result Sent Unwritten → List ℕ → Type 0
 Flows l block notes out r out' = Sends (flow l block notes (length out)) (dashes_of l block notes (length out)) out r out'
 
-abbrev pub FlowsLeft : Limits → Opts → List ℕ → List ℕ → Outcome → List ℕ → Type 0
+abbrev pub FlowsLeft : Limits → Opts → List ℕ → List ℕ → Result Sent Unwritten → List ℕ → Type 0
 FlowsLeft l o notes out r out' = Sends (left_of l o notes (length out)) (left_dashes l o notes (length out)) out r out'
 
-abbrev pub FlowsAll : Limits → Opts → List ℕ → List ℕ → Outcome → List ℕ → Type 0
+abbrev pub FlowsAll : Limits → Opts → List ℕ → List ℕ → Result Sent Unwritten → List ℕ → Type 0
 FlowsAll l o notes out r out' = let a = sent_in l.words (length out) (flowed o notes) in Sends a (if_done a (dashes_in o (pieces o notes))) out r out'

@@ -1,31 +1,32 @@
 -- What the functions of fold answer for on the way: the answer in code, a row by its end, and what is written of a text from a place on.
-use Rattle.std.specs.Prelude.{◌≡◌, Bool, true, ◌&&◌, List, ◌∷◌, ℕ, ◌+◌, ◌*◌, ◌^◌, ◌≤◌, ◌<◌, ltb, leb, length, get_or, drop}
+use Rattle.std.specs.Prelude.{◌≡◌, Bool, true, ◌&&◌, List, ◌∷◌, ℕ, ◌+◌, ◌^◌, ◌≤◌, ◌<◌, ltb, leb, length, get_or, drop, Result, Ok, Err}
+use Rattle.lists.specs.Coded.{Coded, coded, numbered, result_coded}
 use Rattle.text.specs.Characters.{glyph, characters, extent}
 use Rattle.lines.specs.Classes.{column_behind}
 use Rattle.fold.specs.Fold.{staying_on, first_row, FoldAnswer, done, options, long, room, fold_output_after}
-use Rattle.fold.specs.declared.Folding.{Folding}
-use Rattle.fold.specs.declared.Folding.TheVariants.{Done, Options, Long, Room}
+use Rattle.fold.specs.declared.Unfolded.{Unfolded}
+use Rattle.fold.specs.declared.Unfolded.TheVariants.{Options, Long, Room}
 use Rattle.fold.specs.declared.Spot.{Spot}
 
 -- ---- the answer in code: without the bytes, which are in the output
 
-abbrev pub told : FoldAnswer → Folding
-told (done all) = Done (length all)
-told options = Options
-told long = Long
-told (room needed) = Room needed
+abbrev pub told : FoldAnswer → Result ℕ Unfolded
+told (done all) = Ok (length all)
+told options = Err Options
+told long = Err Long
+told (room needed) = Err (Room needed)
 
-abbrev pub number_of : Folding → ℕ
-number_of (Done n) = n
-number_of Options = 1 * 2 ^ 32
-number_of Long = 2 * 2 ^ 32
-number_of (Room needed) = 5 * 2 ^ 32 + needed
+-- code and N of a refusal
+abbrev pub unfolded_coded : Unfolded → Coded
+unfolded_coded Options = coded 1 0
+unfolded_coded Long = coded 2 0
+unfolded_coded (Room needed) = coded 5 needed
 
 -- an answer, and the output after it
-pub record Folds (a : FoldAnswer) (out : List ℕ) (r : Folding) (out' : List ℕ) : Type 0 where
+pub record Folds (a : FoldAnswer) (out : List ℕ) (r : Result ℕ Unfolded) (out' : List ℕ) : Type 0 where
   pub is : r ≡ told a
   pub output : out' ≡ fold_output_after a out
-  pub small : number_of r < 2 ^ 64
+  pub small : numbered (result_coded unfolded_coded r) < 2 ^ 64
 
 -- ---- places of a line
 

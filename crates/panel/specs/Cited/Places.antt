@@ -1,11 +1,9 @@
 -- How the code's answers mean what the definition says. They serve contracts alone.
-use Rattle.std.specs.Prelude.{◌≡◌, false, cond, List, ℕ, ◌+◌, ◌≤◌, min, length, drop}
+use Rattle.std.specs.Prelude.{◌≡◌, false, cond, List, ℕ, ◌+◌, ◌≤◌, min, length, drop, Option, Some, None}
 use Rattle.text.specs.Rfc3629.{decode}
 use Rattle.lines.specs.Lines.{lines_of}
 use Rattle.panel.specs.Panel.{PanelRow, shown_as, size, newest}
 use Rattle.panel.specs.declared.Seen.{Seen}
-use Rattle.panel.specs.declared.Step.{Step}
-use Rattle.panel.specs.declared.Step.TheVariants.{At, Over}
 use Rattle.panel.specs.declared.Tail.{Tail}
 
 -- the sign at a place, and the next place
@@ -16,9 +14,9 @@ seen_at at line = let f = decode (drop at line) in record { sign = shown_as f; n
 abbrev pub row_at : ℕ → List ℕ → PanelRow
 row_at column cells = record { cells = cells; column = column; over = false }
 
--- where drawing goes on; every column after the row counts as 80
-unfoldable pub step_of : PanelRow → Step
-step_of r = cond r.over Over (At (min 80 r.column))
+-- the column at which drawing goes on, if it does; every column after the row counts as 80
+unfoldable pub step_of : PanelRow → Option ℕ
+step_of r = cond r.over None (Some (min 80 r.column))
 
 -- where the newest lines of a text begin, and how many they are
 pub record Newest (s : List ℕ) (t : Tail) : Type 0 where

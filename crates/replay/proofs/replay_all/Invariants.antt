@@ -1,9 +1,9 @@
--- No more lines than bytes, and no more right ones than lines.
-use Rattle.std.proofs.Common.{length, ◌-◌, ◌≤◌}
+-- No more lines than bytes that are done with, and no more right ones than lines.
+use Rattle.std.proofs.Common.{length, ◌+◌, ◌≤◌}
 use Rattle.replay.proofs.replay_all.Given as goal
 
-abbrev pub invariant-loop-at : goal.invariant-loop-at
-invariant-loop-at l = (l.to ≤ length l.text) × (l.lines ≤ l.at) × (l.right ≤ l.lines)
+abbrev pub invariant-loop-rest : goal.invariant-loop-rest
+invariant-loop-rest l = (l.lines + length l.rest ≤ length l.text) × (l.right ≤ l.lines)
 
-abbrev pub decreases-loop-at : goal.decreases-loop-at
-decreases-loop-at l = l.to - l.at
+abbrev pub decreases-loop-rest : goal.decreases-loop-rest
+decreases-loop-rest l = length l.rest

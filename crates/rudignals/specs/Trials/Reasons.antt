@@ -1,12 +1,12 @@
 -- RULES 13: reasons worked out by the definition, of every line one after the other: the kind and five numbers.
-use Rattle.std.specs.Prelude.{◌≡◌, refl, List, [], ◌∷◌, ◌++◌, ℕ, ◌+◌, ◌*◌, ◌^◌}
+use Rattle.std.specs.Prelude.{◌≡◌, refl, List, [], ◌∷◌, ◌++◌, ℕ, ◌+◌, ◌*◌, ◌^◌, Result, Ok, Err}
 use Prim.Native.String.{String}
 use Rattle.lists.specs.Runs.{joined}
 use Rattle.lists.specs.Trials.Bytes.{bytes}
 use Rattle.options.specs.Opts.{meant}
 use Rattle.options.specs.OptionBlock.{read_block}
-use Rattle.options.specs.declared.Block.{Block}
-use Rattle.options.specs.declared.Block.TheVariants.{Accepted, Fault}
+use Rattle.options.specs.declared.Options.{Options}
+use Rattle.options.specs.declared.Fault.{Fault}
 use Rattle.endings.specs.declared.Ending.{Ending}
 use Rattle.endings.specs.Endings.{numbers_of, breaks, endings}
 use Rattle.quick.specs.QuickLines.{quick_lines_from, quick_lines}
@@ -22,9 +22,9 @@ unfoldable reasons : Unit {0}
 unfolding numbers_of breaks endings quick_lines_from quick_lines offering chosen_of maker makers_from makers_of next_at nexts_from best_lines paragraph_endings endings_of line_endings explaining numbered
 reasons = tt
 
-abbrev told_by : List ℕ → List ℕ → Block → List ℕ
-told_by block notes (Fault place) = []
-told_by block notes (Accepted o) = joined (λ (e : Ending). numbers_of e) (line_endings (meant block o) notes)
+abbrev told_by : List ℕ → List ℕ → Result Options Fault → List ℕ
+told_by block notes (Err f) = []
+told_by block notes (Ok o) = joined (λ (e : Ending). numbers_of e) (line_endings (meant block o) notes)
 
 abbrev told : List ℕ → String → List ℕ
 told block notes = told_by block (bytes notes) (read_block block)

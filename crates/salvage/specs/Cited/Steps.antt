@@ -1,55 +1,55 @@
 -- What the functions of salvage answer for on the way: lines and runs at a place, counts, and what is written so far. No part of RULES 14.
-use Rattle.std.specs.Prelude.{◌≡◌, Bool, true, List, ◌∷◌, map, ℕ, ◌+◌, ◌-◌, ◌*◌, ◌^◌, ◌≤◌, ◌<◌, length, get_or, take, drop}
+use Rattle.std.specs.Prelude.{◌≡◌, Bool, true, List, ◌∷◌, map, ℕ, ◌+◌, ◌-◌, ◌^◌, ◌≤◌, ◌<◌, length, get_or, take, drop, Result, Ok, Err}
 use Rattle.std.proofs.lemmas.List.Edits.{sets}
 use Rattle.lists.specs.Runs.{joined}
+use Rattle.lists.specs.Coded.{Coded, coded, numbered, result_coded}
 use Rattle.text.specs.Rfc3629.{encode}
 use Rattle.salvage.specs.Lines.{whole_lines}
 use Rattle.salvage.specs.Mending.{Change, mended_line, mended, high_bytes, line_changes, changes, MendAnswer, done, long, full, room, copy_after, places_after, bytes_after}
 use Rattle.salvage.specs.Restoring.{Back, done as given, long as longCopy, stray, room as roomBack, belonging, restored, notes_after}
-use Rattle.salvage.specs.declared.Mended.{Mended}
-use Rattle.salvage.specs.declared.Mended.TheVariants.{Done, Long, Full, Room}
-use Rattle.salvage.specs.declared.Restored.{Restored}
-use Rattle.salvage.specs.declared.Restored.TheVariants.{Done as Given, Long as LongCopy, Stray, Room as RoomBack}
+use Rattle.salvage.specs.declared.Unmended.{Unmended}
+use Rattle.salvage.specs.declared.Unmended.TheVariants.{Long, Full, Room}
+use Rattle.salvage.specs.declared.Unrestored.{Unrestored}
+use Rattle.salvage.specs.declared.Unrestored.TheVariants.{Long as LongCopy, Stray, Room as RoomBack}
 
 -- ---- the answers in code: without the bytes, which are in the slices
 
-abbrev pub told : MendAnswer → Mended
-told (done copy list) = Done (length copy)
-told long = Long
-told (full number) = Full number
-told (room needed) = Room needed
+abbrev pub told : MendAnswer → Result ℕ Unmended
+told (done copy list) = Ok (length copy)
+told long = Err Long
+told (full number) = Err (Full number)
+told (room needed) = Err (Room needed)
 
-abbrev pub number_of : Mended → ℕ
-number_of (Done n) = n
-number_of Long = 2 * 2 ^ 32
-number_of (Full number) = 7 * 2 ^ 32 + number
-number_of (Room needed) = 5 * 2 ^ 32 + needed
+abbrev pub told_back : Back → Result ℕ Unrestored
+told_back (given notes) = Ok (length notes)
+told_back longCopy = Err LongCopy
+told_back (stray entry) = Err (Stray entry)
+told_back (roomBack needed) = Err (RoomBack needed)
 
-abbrev pub told_back : Back → Restored
-told_back (given notes) = Given (length notes)
-told_back longCopy = LongCopy
-told_back (stray entry) = Stray entry
-told_back (roomBack needed) = RoomBack needed
+-- code and N of a refusal
+abbrev pub unmended_coded : Unmended → Coded
+unmended_coded Long = coded 2 0
+unmended_coded (Full number) = coded 7 number
+unmended_coded (Room needed) = coded 5 needed
 
-abbrev pub number_back : Restored → ℕ
-number_back (Given n) = n
-number_back LongCopy = 2 * 2 ^ 32
-number_back (Stray entry) = 11 * 2 ^ 32 + entry
-number_back (RoomBack needed) = 5 * 2 ^ 32 + needed
+abbrev pub unrestored_coded : Unrestored → Coded
+unrestored_coded LongCopy = coded 2 0
+unrestored_coded (Stray entry) = coded 11 entry
+unrestored_coded (RoomBack needed) = coded 5 needed
 
 -- an answer of mending, and the slices after it
-pub record Mends (a : MendAnswer) (copy places bytes : List ℕ) (r : Mended) (copy' places' bytes' : List ℕ) : Type 0 where
+pub record Mends (a : MendAnswer) (copy places bytes : List ℕ) (r : Result ℕ Unmended) (copy' places' bytes' : List ℕ) : Type 0 where
   pub is : r ≡ told a
   pub copied : copy' ≡ copy_after a copy
   pub placed : places' ≡ places_after a places
   pub kept : bytes' ≡ bytes_after a bytes
-  pub small : number_of r < 2 ^ 64
+  pub small : numbered (result_coded unmended_coded r) < 2 ^ 64
 
 -- an answer of restoring, and the slice after it
-pub record Restores (a : Back) (notes : List ℕ) (r : Restored) (notes' : List ℕ) : Type 0 where
+pub record Restores (a : Back) (notes : List ℕ) (r : Result ℕ Unrestored) (notes' : List ℕ) : Type 0 where
   pub is : r ≡ told_back a
   pub back : notes' ≡ notes_after a notes
-  pub small : number_back r < 2 ^ 64
+  pub small : numbered (result_coded unrestored_coded r) < 2 ^ 64
 
 -- ---- lines and runs at a place
 

@@ -1,28 +1,29 @@
 -- What the functions of unflow answer for on the way: a line in places, and what is written of it after the lines before it.
-use Rattle.std.specs.Prelude.{◌≡◌, Bool, cond, not, ◌&&◌, List, [], ◌∷◌, ◌++◌, ℕ, ◌+◌, ◌*◌, ◌^◌, ◌≤◌, ◌<◌, eqb, length, drop, take, replicate}
+use Rattle.std.specs.Prelude.{◌≡◌, Bool, cond, not, ◌&&◌, List, [], ◌∷◌, ◌++◌, ℕ, ◌^◌, ◌≤◌, ◌<◌, eqb, length, drop, take, replicate, Result, Ok, Err}
+use Rattle.lists.specs.Coded.{Coded, coded, numbered, result_coded}
 use Rattle.unflow.specs.Flowed.{quote_mark, cr_lf, quote_depth, stuffing, content_of, is_separator, is_soft}
 use Rattle.unflow.specs.Unflow.{UnflowAnswer, done, long, room, unflow_output_after}
 use Rattle.unflow.specs.declared.Line.{Line}
-use Rattle.unflow.specs.declared.Reading.{Reading}
-use Rattle.unflow.specs.declared.Reading.TheVariants.{Done, Long, Room}
+use Rattle.unflow.specs.declared.Unread.{Unread}
+use Rattle.unflow.specs.declared.Unread.TheVariants.{Long, Room}
 
 -- ---- the answer in code: without the bytes, which are in the output
 
-abbrev pub told : UnflowAnswer → Reading
-told (done read) = Done (length read)
-told long = Long
-told (room needed) = Room needed
+abbrev pub told : UnflowAnswer → Result ℕ Unread
+told (done read) = Ok (length read)
+told long = Err Long
+told (room needed) = Err (Room needed)
 
-abbrev pub number_of : Reading → ℕ
-number_of (Done n) = n
-number_of Long = 2 * 2 ^ 32
-number_of (Room needed) = 5 * 2 ^ 32 + needed
+-- code and N of a refusal
+abbrev pub unread_coded : Unread → Coded
+unread_coded Long = coded 2 0
+unread_coded (Room needed) = coded 5 needed
 
 -- an answer, and the output after it
-pub record Reads (a : UnflowAnswer) (out : List ℕ) (r : Reading) (out' : List ℕ) : Type 0 where
+pub record Reads (a : UnflowAnswer) (out : List ℕ) (r : Result ℕ Unread) (out' : List ℕ) : Type 0 where
   pub is : r ≡ told a
   pub output : out' ≡ unflow_output_after a out
-  pub small : number_of r < 2 ^ 64
+  pub small : numbered (result_coded unread_coded r) < 2 ^ 64
 
 -- ---- a line
 

@@ -1,9 +1,9 @@
 -- What was read never runs past the room.
 use Rattle.std.proofs.Common.{length, ◌-◌, ◌≤◌}
-use Rattle.replay.proofs.fill_up.Given as goal
+use Rattle.replay.proofs.read_full.Given as goal
 
 abbrev pub invariant-loop-done : goal.invariant-loop-done
-invariant-loop-done g l = l.done ≤ length l.text
+invariant-loop-done g l = l.done ≤ length l.bytes
 
 abbrev pub decreases-loop-done : goal.decreases-loop-done
-decreases-loop-done g l = length l.initial.text - l.done
+decreases-loop-done g l = length l.initial.bytes - l.done
