@@ -23,7 +23,6 @@ use Rattle.unflow.specs.Flowed.{space}
 use Rattle.output.specs.EmittedLines.{lines_from}
 use Rattle.flow.specs.Flow.{broken_into, is_dashed}
 use Rattle.flow.specs.Theorems.ReadBack.{back_from, back, spelt, Between, Spells, Carry}
-use Rattle.options.specs.OptionBlock.{between}
 
 -- ---- a word more
 

@@ -15,7 +15,6 @@ use Rattle.text.specs.Rfc3629.{encode}
 use Rattle.text.specs.Theorems.Blanks.{space_code}
 use Rattle.records.specs.Word.{Word}
 use Rattle.flow.specs.Theorems.ReadBack.{spelt, Between, Spells, Carry}
-use Rattle.options.specs.OptionBlock.{between}
 
 abbrev word : List ℕ → Word
 word text = record { blanks = []; text = text; width = 0; before = None; after = 0; new_line = false; ends_punct = false; sentence_start = false }

@@ -34,7 +34,6 @@ use Rattle.fold.specs.Fold.{stays, staying_on, first_row, rows_of, feed, row_byt
 use Rattle.fold.specs.Theorems.Rows.{has_no_width, is_alone, fits, Marked, kept, added_feed, marked_rows, marked_line, marked, unadded}
 use Rattle.fold.proofs.Stays.{width_tab, staying_more, staying_end}
 use Rattle.fold.proofs.Rows.{first_front, first_some}
-use Rattle.options.specs.OptionBlock.{between}
 
 -- ---- every row fits
 

@@ -30,7 +30,6 @@ use Rattle.formatter.specs.Work.{lending}
 use Rattle.formatter.proofs.Answers.{Enough, Done, measured_done, found_done, done_found, done_measured}
 use Rattle.rudignals.proofs.LineEnds.{line_of_bytes}
 use Rattle.rudignals.proofs.Undamaged.{damage_append, blank_sound, feed_sound, return_feed_sound}
-use Rattle.pieces.specs.Cited.Places.{joining}
 
 -- ---- long paragraphs
 

@@ -12,7 +12,7 @@ use Rattle.lists.proofs.Parts.{every_nil, every_cons, joined_nil, joined_cons}
 use Rattle.text.specs.Rfc3629.{encode}
 use Rattle.widths.specs.WhiteSpace.{white_space}
 use Rattle.text.specs.Characters.{Glyph, characters, no_break, ordinary, ink_ahead, glyphs, is_blank, is_good, damage}
-use Rattle.text.specs.Cited.Places.{settle, ink_behind, ink_after, good}
+use Rattle.text.specs.Cited.Places.{settle, ink_behind, ink_after}
 use Rattle.text.specs.Theorems.Blanks.{space_code, Gap}
 use Rattle.text.proofs.Glyphs.{characters_past, characters_joined}
 use Rattle.text.proofs.Glue.{glyphs_settle, ahead_run, ahead_other, settle_first, settle_blank, settle_end}

@@ -29,7 +29,6 @@ use Rattle.indexer.specs.Theorems.Follows.{shifted}
 use Rattle.indexer.proofs.Follows.{index_between}
 use Rattle.rudignals.specs.Theorems.LineEnds.{LineEnd}
 use Rattle.rudignals.proofs.Boundary.{pieces_boundary, Joining, finding_boundary}
-use Rattle.pieces.specs.Cited.Places.{joining}
 
 -- ---- the index of two parts and a blank line between them
 

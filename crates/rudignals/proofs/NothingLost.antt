@@ -62,7 +62,6 @@ use Rattle.explain.specs.Reasons.{line_endings}
 use Rattle.explain.specs.Explain.{explaining}
 use Rattle.rudignals.proofs.Windows.{pieces_front}
 use Rattle.rudignals.proofs.PieceStarts.{parts_are, parts_pieces, digest_parts, index_parts, reasons_parts, measuring_parts, indexing_parts, explaining_parts}
-use Rattle.pieces.specs.Cited.Places.{joining}
 
 -- What measuring has found, and what a call that is done has written, is the digest of its notes, of which 2 to 4 speak, under the
 -- options that its block means. So with the limits of RULES 2.2 (`own_room`) and with any others.

@@ -17,7 +17,7 @@ use Rattle.text.specs.Characters.{characters}
 use Rattle.text.proofs.Glyphs.{characters_past}
 use Rattle.text.specs.Theorems.Blanks.{Gap}
 use Rattle.options.specs.Opts.{Opts, meant}
-use Rattle.options.specs.OptionBlock.{read_block, between}
+use Rattle.options.specs.OptionBlock.{read_block}
 use Rattle.options.specs.declared.Options.{Options}
 use Rattle.options.proofs.Accepted.{accepted}
 use Rattle.lines.specs.Lines.{Line, no_feed}
