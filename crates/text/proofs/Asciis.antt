@@ -1,5 +1,6 @@
 -- Bytes below 0x80: each is an accepted character, so a run of them has no damaged place.
-use mathlib.Core.Path.{◌≡◌, refl, ap, ◌∙◌}
+use Rattle.std.proofs.Common.{None}
+use mathlib.Core.Path.{◌≡◌, refl, sym, ap, ◌∙◌}
 use mathlib.Core.Bool.{Bool, true, false}
 use mathlib.Core.List.{List}
 use Prim.Native.Nat.{ℕ, zero, suc, ◌+◌, ◌-◌, ◌≤◌, ◌<◌}
@@ -10,7 +11,7 @@ use lib.ListN.{length, get_or, drop}
 use Rattle.text.specs.Characters.{damage}
 use Rattle.text.specs.Cited.Places.{Ascii}
 use Rattle.text.proofs.Glyphs.{ascii_here}
-use Rattle.text.proofs.Damage.{later, damage_on}
+use Rattle.text.proofs.Damage.{later, later_zero, damage_past, damage_on}
 
 module _ {s : List ℕ} {from : ℕ} where
   pub ascii_none : from ≤ length s → Ascii s from from
@@ -39,3 +40,6 @@ damage_run s from to a = go (to - from) to (omega (arith, a.on)) (omega (arith, 
     go (suc n) to' e h =
         let q : from + n + 1 ≡ to' = omega arith in
         go n (from + n) refl (omega arith) ∙ damage_on s (from + n) (ascii_here s (from + n) (omega (arith, a.within)) (a.small (from + n) (omega arith) (omega arith))) ∙ ap (λ (i : ℕ). later i (damage (drop i s))) q
+
+pub ascii_whole : (s : List ℕ) (n : ℕ) → Ascii s 0 n → n ≡ length s → damage s ≡ None
+ascii_whole s n a e = sym (later_zero (damage s)) ∙ damage_run s 0 n a ∙ damage_past s n (omega arith)

@@ -1,15 +1,18 @@
 -- The forms of RFC 3629 as the code tests them: the octets a, b, c, d at the front of a list, 0 where it ends, and the number k.
-use Rattle.std.proofs.Common.{None}
-use mathlib.Core.Path.{◌≡◌, refl, sym, ◌∙◌}
+use Rattle.std.proofs.Common.{Option, None}
+use mathlib.Core.Path.{◌≡◌, refl, sym, ap, ◌∙◌}
+use mathlib.Core.Bool.{Bool, true, false}
+use lib.Dec.{ltb}
 use mathlib.Core.List.{List, [], ◌∷◌, ◌++◌}
 use Prim.Native.Nat.{ℕ, ◌+◌, ◌-◌, ◌*◌, ◌/◌, ◌%◌, ◌≤◌, ◌<◌}
 use native.Mathlib.Omega.{arith}
 use lib.ListN.{length, get_or, take, drop, length-drop, get_or-eq_default}
-use lib.Seq.{take_all, get_or-drop}
-use borrow.Author.Tests.{lt-ltb, le-ltb}
+use lib.Seq.{take_all}
+use borrow.Author.Tests.{ltb-true, ltb-false, lt-ltb, le-ltb}
 use Rattle.lists.proofs.Views.{drop_here, drop_none}
 use Rattle.text.specs.Rfc3629.{encode, Front, front, nothing, decode}
 use Rattle.text.specs.Cited.Places.{read_as, good}
+use Rattle.text.specs.declared.Char.{Char}
 use Rattle.text.proofs.Decoder.{Octets, one, two, three, four, octets_of, number_four, Scalar, scalar_plain, scalar_true, sound, complete}
 
 pub record Two (k a b : ℕ) : Type 0 where
@@ -74,7 +77,7 @@ missed xs never = pick (decode xs) refl
     pick (front k n) e = let s = (sound xs k n e).stands in absurd (never k (scalar_plain k s.is_scalar) (octets_of k xs (drop n xs) s))
 
 module _ (at : ℕ) (xs : List ℕ) (a : ℕ) (at0 : a ≡ get_or xs 0 0) where
-  pub stray : 0x80 ≤ a → a < 0xC2 → None ≡ read_as at (decode xs)
+  stray : 0x80 ≤ a → a < 0xC2 → None ≡ read_as at (decode xs)
   stray lo hi = rw (missed xs pick)
     where
       pick : (k : ℕ) → Scalar k → Octets k xs → ⊥
@@ -144,43 +147,68 @@ module _ (at : ℕ) (xs : List ℕ) (a : ℕ) (at0 : a ≡ get_or xs 0 0) where
             pick (x ∷ y ∷ z ∷ []) e f g m = absurd (omega arith)
             pick (x ∷ y ∷ z ∷ w ∷ r) e f g m = rw (← e, ← f, ← g, ← m) (found k (a ∷ b ∷ c ∷ d ∷ []) r (record { most = t.most; no_surrogate = λ l n. omega arith }) (encode_four k a b c d lo t))
 
+-- an octet that is not 0 is there
+pub within : (xs : List ℕ) (n : ℕ) → 0 < get_or xs n 0 → n < length xs
+within xs n h = go (ltb n (length xs)) refl
+  where
+    go : (t : Bool) → ltb n (length xs) ≡ t → n < length xs
+    go true e = ltb-true n (length xs) e
+    go false e = absurd (omega (arith, get_or-eq_default xs 0 (ltb-false n (length xs) e)))
+
+-- the octets of a text from a place on, as the code takes them
+abbrev pub rest : List ℕ → ℕ → List ℕ
+rest s at = take (length s - at) (drop at s)
+
 -- a place of a text: the octets there, and after it
 module _ (s : List ℕ) (at : ℕ) where
-  pub rest_is : take (length s - at) (drop at s) ≡ drop at s
+  pub rest_is : rest s at ≡ drop at s
   rest_is = take_all (length s - at) (drop at s) (omega (arith, length-drop at s))
 
   pub past : length s ≤ at → None ≡ read_as at (decode (drop at s))
   unfolding decode
   past h = rw (drop_none 0 s at h)
 
-  -- after the end there is none
-  pub cut : length s ≤ at → get_or s at 0 ≡ 0
-  cut h = get_or-eq_default s 0 h
-
   module _ (more : at < length s) where
     pub lead : get_or s at 0 ≡ get_or (drop at s) 0 0
     lead = rw (drop_here 0 s at more)
 
+    pub stray_at : 0x80 ≤ get_or s at 0 → get_or s at 0 < 0xC2 → None ≡ read_as at (decode (drop at s))
+    stray_at lo hi = stray at (drop at s) _ lead lo hi
+
     pub ascii_at : get_or s at 0 < 0x80 → good (get_or s at 0) (at + 1) ≡ read_as at (decode (drop at s))
     ascii_at h = rw (drop_here 0 s at more, ascii (get_or s at 0) (drop (at + 1) s) h)
 
-    module _ (a b : ℕ) (ea : a ≡ get_or s at 0) (eb : b ≡ get_or s (at + 1) 0) where
-      pub no_two_at : 0xC2 ≤ a → a < 0xE0 → ((k : ℕ) → Two k a b → ⊥) → None ≡ read_as at (decode (drop at s))
-      no_two_at = no_two at (drop at s) a (ea ∙ lead) b (eb ∙ sym (get_or-drop at s 1 0))
+    -- where an octet begins two, three or four: the tests of those that are to continue it
+    pub lead_is : get_or s at 0 ≡ get_or (rest s at) 0 0
+    lead_is = lead ∙ ap (λ (l : List ℕ). get_or l 0 0) (sym rest_is)
 
-      pub is_two_at : 0xC2 ≤ a → a < 0xE0 → (k : ℕ) → Two k a b → good k (at + 2) ≡ read_as at (decode (drop at s))
-      is_two_at = is_two at (drop at s) a (ea ∙ lead) b (eb ∙ sym (get_or-drop at s 1 0))
+    read_is : {r : Option Char} → r ≡ read_as at (decode (rest s at)) → r ≡ read_as at (decode (drop at s))
+    read_is e = e ∙ ap (λ (l : List ℕ). read_as at (decode l)) rest_is
 
-      module _ (c : ℕ) (ec : c ≡ get_or s (at + 2) 0) where
-        pub no_three_at : 0xE0 ≤ a → a < 0xF0 → ((k : ℕ) → Three k a b c → ⊥) → None ≡ read_as at (decode (drop at s))
-        no_three_at = no_three at (drop at s) a (ea ∙ lead) b (eb ∙ sym (get_or-drop at s 1 0)) c (ec ∙ sym (get_or-drop at s 2 0))
+    module _ (lo : 0xC2 ≤ get_or s at 0) (hi : get_or s at 0 < 0xE0) where
+      pub two_here : (k : ℕ) → Two k (get_or (rest s at) 0 0) (get_or (rest s at) 1 0) → good k (at + 2) ≡ read_as at (decode (drop at s))
+      two_here k t = let l = lead_is in read_is (is_two at (rest s at) _ refl _ refl (omega arith) (omega arith) k t)
 
-        pub is_three_at : 0xE0 ≤ a → a < 0xF0 → (k : ℕ) → Three k a b c → good k (at + 3) ≡ read_as at (decode (drop at s))
-        is_three_at = is_three at (drop at s) a (ea ∙ lead) b (eb ∙ sym (get_or-drop at s 1 0)) c (ec ∙ sym (get_or-drop at s 2 0))
+      pub two_none : ((k : ℕ) → 2 ≤ length (rest s at) → Two k (get_or (rest s at) 0 0) (get_or (rest s at) 1 0) → ⊥) → None ≡ read_as at (decode (drop at s))
+      two_none never =
+          let l = lead_is in
+          read_is (no_two at (rest s at) _ refl _ refl (omega arith) (omega arith) (λ k t. never k (within (rest s at) 1 (omega (arith, t.second))) t))
 
-        module _ (d : ℕ) (ed : d ≡ get_or s (at + 3) 0) where
-          pub no_four_at : 0xF0 ≤ a → ((k : ℕ) → Four k a b c d → ⊥) → None ≡ read_as at (decode (drop at s))
-          no_four_at = no_four at (drop at s) a (ea ∙ lead) b (eb ∙ sym (get_or-drop at s 1 0)) c (ec ∙ sym (get_or-drop at s 2 0)) d (ed ∙ sym (get_or-drop at s 3 0))
+    module _ (lo : 0xE0 ≤ get_or s at 0) (hi : get_or s at 0 < 0xF0) where
+      pub three_here : (k : ℕ) → Three k (get_or (rest s at) 0 0) (get_or (rest s at) 1 0) (get_or (rest s at) 2 0) → good k (at + 3) ≡ read_as at (decode (drop at s))
+      three_here k t = let l = lead_is in read_is (is_three at (rest s at) _ refl _ refl _ refl (omega arith) (omega arith) k t)
 
-          pub is_four_at : 0xF0 ≤ a → (k : ℕ) → Four k a b c d → good k (at + 4) ≡ read_as at (decode (drop at s))
-          is_four_at = is_four at (drop at s) a (ea ∙ lead) b (eb ∙ sym (get_or-drop at s 1 0)) c (ec ∙ sym (get_or-drop at s 2 0)) d (ed ∙ sym (get_or-drop at s 3 0))
+      pub three_none : ((k : ℕ) → 3 ≤ length (rest s at) → Three k (get_or (rest s at) 0 0) (get_or (rest s at) 1 0) (get_or (rest s at) 2 0) → ⊥) → None ≡ read_as at (decode (drop at s))
+      three_none never =
+          let l = lead_is in
+          read_is (no_three at (rest s at) _ refl _ refl _ refl (omega arith) (omega arith) (λ k t. never k (within (rest s at) 2 (omega (arith, t.third))) t))
+
+    module _ (lo : 0xF0 ≤ get_or s at 0) where
+      pub four_here : (k : ℕ) → Four k (get_or (rest s at) 0 0) (get_or (rest s at) 1 0) (get_or (rest s at) 2 0) (get_or (rest s at) 3 0) → good k (at + 4) ≡ read_as at (decode (drop at s))
+      four_here k t = let l = lead_is in read_is (is_four at (rest s at) _ refl _ refl _ refl _ refl (omega arith) k t)
+
+      pub four_none : ((k : ℕ) → 4 ≤ length (rest s at) → Four k (get_or (rest s at) 0 0) (get_or (rest s at) 1 0) (get_or (rest s at) 2 0) (get_or (rest s at) 3 0) → ⊥)
+          → None ≡ read_as at (decode (drop at s))
+      four_none never =
+          let l = lead_is in
+          read_is (no_four at (rest s at) _ refl _ refl _ refl _ refl (omega arith) (λ k t. never k (within (rest s at) 3 (omega (arith, t.fourth))) t))

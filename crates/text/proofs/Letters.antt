@@ -4,10 +4,10 @@ use mathlib.Core.Bool.{Bool, true, false, and-eq-true_iff}
 use mathlib.Core.List.{List}
 use Prim.Native.Nat.{ℕ, ◌+◌, ◌/◌, ◌≤◌, ◌<◌}
 use native.Mathlib.Omega.{arith}
-use lib.Dec.{ltb, eqb}
+use lib.Dec.{ltb}
 use lib.ListN.{length, get_or, drop}
 use lib.Seq.{get_or-drop}
-use borrow.Author.Tests.{ltb-true, ltb-false, lt-ltb, le-ltb, leb-true, le-leb, lt-leb, eqb-true, eqb-false, ne_eqb, not-true}
+use borrow.Author.Tests.{ltb-true, ltb-false, lt-ltb, le-ltb, leb-true, lt-leb, eqb-true, eqb-false, not-true}
 use Rattle.widths.specs.Ranges.{width_in}
 use Rattle.widths.specs.Table.{table}
 use Rattle.widths.specs.Widths.{width_of}
@@ -44,18 +44,6 @@ module _ (s : List ℕ) (at : ℕ) where
       let c = (and-eq-true_iff _ _).0 b.1 in
       let d = (and-eq-true_iff _ _).0 c.1 in
       record { within = ltb-true _ _ a.0; least = leb-true _ _ b.0; most = leb-true _ _ c.0; no_accent = eqb-false _ _ (not-true _ d.0); second = eqb-true _ _ d.1 }
-
-  pub letter_not : (Letter s at → ⊥) → false ≡ letter_at s at
-  letter_not never = pick (letter_at s at) refl
-    where
-      pick : (t : Bool) → letter_at s at ≡ t → false ≡ t
-      pick true e = absurd (never (letter_is e))
-      pick false e = refl
-
-  -- by its second byte
-  pub letter_by : at + 1 < length s → 0xC3 ≤ get_or s at 0 → get_or s at 0 ≤ 0xD1 → (get_or s at 0 / 2 ≡ 0x66 → ⊥) → eqb (get_or s (at + 1) 0 / 64) 2 ≡ letter_at s at
-  unfolding letter_at
-  letter_by h k l n = rw (lt-ltb (at + 1) (length s) h, le-leb 0xC3 (get_or s at 0) k, le-leb (get_or s at 0) 0xD1 l, ne_eqb (get_or s at 0 / 2) 0x66 n)
 
   module _ (p : Pair s at) where
     pair_char : read_as at (decode (drop at s)) ≡ good (pair_code s at) (at + 2)

@@ -1,13 +1,13 @@
 -- U+00A0: its two bytes at a place tell it; and a run of it, with what is after it.
 use mathlib.Core.Path.{◌≡◌, refl, sym, ap, ◌∙◌}
-use mathlib.Core.Bool.{Bool, true, false, not, ◌&&◌, and-eq-true_iff, false≢true}
+use mathlib.Core.Bool.{Bool, true, false, not, and-eq-true_iff, false≢true}
 use mathlib.Core.List.{List, [], ◌∷◌, ◌++◌}
-use Prim.Native.Nat.{ℕ, suc, ◌+◌, ◌*◌, ◌≤◌, ◌<◌}
+use Prim.Native.Nat.{ℕ, ◌+◌, ◌*◌, ◌≤◌, ◌<◌}
 use native.Mathlib.Omega.{arith}
-use lib.Dec.{ltb, eqb}
-use lib.ListN.{length, get_or, drop, length-drop, take-append-drop, get_or-eq_default}
+use lib.Dec.{ltb}
+use lib.ListN.{length, get_or, drop, length-drop, take-append-drop}
 use lib.Seq.{get_or-drop}
-use borrow.Author.Tests.{ltb-true, ltb-false, eqb-true, eq-eqb, ne_eqb}
+use borrow.Author.Tests.{ltb-true, ltb-false, eqb-true, eq-eqb}
 use Rattle.lists.specs.Runs.{while}
 use Rattle.lists.specs.Theorems.All.{All}
 use Rattle.lists.proofs.Runs.{while_more, while_end}
@@ -17,7 +17,7 @@ use Rattle.widths.specs.Widths.{width_of}
 use Rattle.widths.specs.WhiteSpace.{white_space}
 use Rattle.text.specs.Characters.{Glyph, glyph, characters, no_break, ink_ahead, extent}
 use Rattle.text.specs.Cited.Places.{pair_code, Pair, no_break_at, glued_extent, RunOver}
-use Rattle.text.proofs.Forms.{lead}
+use Rattle.text.proofs.Forms.{within, lead}
 use Rattle.text.proofs.Glyphs.{Here, bytes_of_part, characters_past, characters_first}
 use Rattle.text.proofs.Letters.{pair_here}
 use Rattle.text.proofs.Extents.{Read, glyph_read}
@@ -47,18 +47,6 @@ run_bytes (g ∷ gs) a = pick (no_break g) refl (run_bytes gs a.1)
     pick false h e = rw (while_end no_break g gs h)
 
 module _ (s : List ℕ) (at : ℕ) where
-  within : {n : ℕ} → get_or s at 0 ≡ suc n → at < length s
-  within {n} e = pick (ltb at (length s)) refl
-    where
-      pick : (t : Bool) → ltb at (length s) ≡ t → at < length s
-      pick true h = ltb-true at (length s) h
-      pick false h = absurd (omega (arith, get_or-eq_default s 0 (ltb-false at (length s) h)))
-
-  pub no_break_past : length s ≤ at → false ≡ no_break_at s at
-  unfolding no_break_at
-  no_break_past h = rw (get_or-eq_default s 0 h)
-
-module _ (s : List ℕ) (at : ℕ) where
   pub no_break_here : no_break_at s at ≡ true → Here true s at 0xA0 (at + 2)
   unfolding no_break_at white_space
   no_break_here e =
@@ -66,7 +54,7 @@ module _ (s : List ℕ) (at : ℕ) where
       let x : get_or s at 0 ≡ 0xC2 = eqb-true _ _ b.0 in
       let y : get_or s (at + 1) 0 ≡ 0xA0 = eqb-true _ _ b.1 in
       let c : pair_code s at ≡ 0xA0 = rw (x, y) in
-      let p : Pair s at = record { within = within s (at + 1) y; least = omega arith; most = omega arith; second = rw y } in
+      let p : Pair s at = record { within = within s (at + 1) (omega arith); least = omega arith; most = omega arith; second = rw y } in
       rw c at (pair_here s at p)
 
   pub no_break_other : at < length s → no_break_at s at ≡ false → no_break (glyph (drop at s)) ≡ false
@@ -85,22 +73,6 @@ module _ (s : List ℕ) (at : ℕ) where
           let x : get_or s at 0 ≡ 0xC2 = lead s at h ∙ ap (λ (z : List ℕ). get_or z 0 0) k in
           let y : get_or s (at + 1) 0 ≡ 0xA0 = sym (get_or-drop at s 1 0) ∙ ap (λ (z : List ℕ). get_or z 1 0) k in
           absurd (false≢true (sym e ∙ rw (x, y)))
-
-  pub no_break_first : (get_or s at 0 ≡ 0xC2 → ⊥) → false ≡ no_break_at s at
-  unfolding no_break_at
-  no_break_first h = rw (ne_eqb (get_or s at 0) 0xC2 h)
-
-  pub no_break_second : get_or s at 0 ≡ 0xC2 → eqb (get_or s (at + 1) 0) 0xA0 ≡ no_break_at s at
-  unfolding no_break_at
-  no_break_second h = rw (eq-eqb (get_or s at 0) 0xC2 h)
-
-  pub no_break_cut : length s ≤ at + 1 → false ≡ no_break_at s at
-  unfolding no_break_at
-  no_break_cut h = rw (get_or-eq_default s 0 h) (pick (eqb (get_or s at 0) 0xC2))
-    where
-      pick : (t : Bool) → false ≡ (t && false)
-      pick true = refl
-      pick false = refl
 
   -- where none stands
   run_none : no_break_at s at ≡ false → extent (while no_break (characters (drop at s))) ≡ 0

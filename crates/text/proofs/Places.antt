@@ -1,6 +1,7 @@
 -- The code's answers at a place, each from the one below: a character from what is decoded, a glyph from the character.
 use Rattle.std.proofs.Common.{Option, Some, None}
-use mathlib.Core.Path.{◌≡◌, refl, ap, ap₂}
+use mathlib.Core.Path.{◌≡◌, refl, ap, ap₂, ◌∙◌}
+use lib.ListN.{drop}
 use mathlib.Core.Bool.{Bool, true, false, cond}
 use mathlib.Core.List.{List}
 use Prim.Native.Nat.{ℕ, ◌+◌}
@@ -27,6 +28,14 @@ seen_char_spec at xs = pick (decode xs) refl
     pick : (f : Front) → decode xs ≡ f → seen_char (read_as at f) ≡ seen_as at (glyph_as xs f)
     pick nothing e = refl
     pick (front c n) e = rw (length-take-le n xs (sound xs c n e).within)
+
+module _ (s : List ℕ) (at : ℕ) where
+  -- from what is decoded there
+  pub seen_some : (code next : ℕ) → good code next ≡ read_as at (decode (drop at s)) → glyph_of code next ≡ seen_as at (glyph (drop at s))
+  seen_some code next e = ap seen_char e ∙ seen_char_spec at (drop at s)
+
+  pub seen_none : None ≡ read_as at (decode (drop at s)) → Broken ≡ seen_as at (glyph (drop at s))
+  seen_none e = ap seen_char e ∙ seen_char_spec at (drop at s)
 
 -- the character that an answer was made from: a blank one (t true), an ordinary one, or none
 pub glyph_char : (r : Option Char) (t : Bool) (c next : ℕ) → seen_char r ≡ cond t (Blank c next) (Ink c next) → (r ≡ good c next) × (white_space c ≡ t)

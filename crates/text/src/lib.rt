@@ -24,51 +24,37 @@ pub enum Glyph {
 }
 
 // The character at a place, by RFC 3629. A byte below 0x80 is one by itself.
+#[tactic(auto, using(crate::proofs::Forms::past, crate::proofs::Forms::ascii_at, crate::proofs::Forms::stray_at))]
 pub fn decode_at(s: &[u8], at: usize) -> Option<Char>
     ensures { result ≡ read_as at (decode (drop at s.now)) }
 {
-    if s.len() <= at {
-        return None;
-    }
-    let a = s[at];
-    if a < 0x80 {
-        return Some(Char {
+    let a = *s.get(at)?;
+    match a {
+        0..=0x7F => Some(Char {
             code: u32::from(a),
             next: at + 1,
-        });
+        }),
+        // It continues a character, or begins two bytes for what one byte spells.
+        0x80..=0xC1 => None,
+        0xC2..=0xDF => two(s, at),
+        // Not by `long_at`: with one caller that is made part of the loop over words, which spares a call for each character.
+        0xE0..=0xEF => three(s, at),
+        _ => four(s, at),
     }
-    // It continues a character, or begins two bytes for what one byte spells.
-    if a < 0xC2 {
-        return None;
-    }
-    if a < 0xE0 {
-        return two(s, at);
-    }
-    // Not by `long_at`: with one caller that is made part of the loop over words, which spares a call for each character.
-    if a < 0xF0 {
-        return three(s, at);
-    }
-    four(s, at)
 }
 
-// The longer forms. A byte that continues a character is 10xxxxxx: b / 64 is 2, and b % 64 has its free bits.
+// The longer forms. A byte that continues a character is 10xxxxxx, from 0x80 to 0xBF: b % 64 has its free bits.
 
 // 110xxxxx 10xxxxxx
 fn two(s: &[u8], at: usize) -> Option<Char>
     requires { (at < length s.now) × (0xC2 ≤ get_or s.now at 0) × (get_or s.now at 0 < 0xE0) }
     ensures { result ≡ read_as at (decode (drop at s.now)) }
 {
-    let last = at + 1;
-    if s.len() <= last {
+    let &[a, b @ 0x80..=0xBF, ..] = &s[at..] else {
         return None;
-    }
-    let a = u32::from(s[at]);
-    let b = u32::from(s[last]);
-    if b / 64 != 2 {
-        return None;
-    }
+    };
     Some(Char {
-        code: a % 32 * 64 + b % 64,
+        code: u32::from(a) % 32 * 64 + u32::from(b) % 64,
         next: at + 2,
     })
 }
@@ -90,25 +76,14 @@ fn three(s: &[u8], at: usize) -> Option<Char>
     requires { (at < length s.now) × (0xE0 ≤ get_or s.now at 0) × (get_or s.now at 0 < 0xF0) }
     ensures { result ≡ read_as at (decode (drop at s.now)) }
 {
-    let next = at + 1;
-    let last = at + 2;
-    if s.len() <= last {
+    let &[a, b @ 0x80..=0xBF, c @ 0x80..=0xBF, ..] = &s[at..] else {
         return None;
-    }
-    let a = u32::from(s[at]);
-    let b = u32::from(s[next]);
-    let c = u32::from(s[last]);
-    if b / 64 != 2 {
-        return None;
-    }
-    if c / 64 != 2 {
-        return None;
-    }
+    };
     // A surrogate, U+D800 to U+DFFF, is no character.
     if a == 0xED && 0xA0 <= b {
         return None;
     }
-    let code = a % 16 * 4096 + b % 64 * 64 + c % 64;
+    let code = u32::from(a) % 16 * 4096 + u32::from(b) % 64 * 64 + u32::from(c) % 64;
     // Two bytes would do.
     if code < 0x800 {
         return None;
@@ -121,56 +96,42 @@ fn four(s: &[u8], at: usize) -> Option<Char>
     requires { (at < length s.now) × (0xF0 ≤ get_or s.now at 0) }
     ensures { result ≡ read_as at (decode (drop at s.now)) }
 {
-    let next = at + 1;
-    let third = at + 2;
-    let last = at + 3;
-    if s.len() <= last {
+    // No character begins with more than F4.
+    let &[
+        a @ ..=0xF4,
+        b @ 0x80..=0xBF,
+        c @ 0x80..=0xBF,
+        d @ 0x80..=0xBF,
+        ..
+    ] = &s[at..]
+    else {
         return None;
+    };
+    let code = u32::from(a) % 8 * 262144
+        + u32::from(b) % 64 * 4096
+        + u32::from(c) % 64 * 64
+        + u32::from(d) % 64;
+    // Three bytes would do for less.
+    if matches!(code, 0x10000..=0x10FFFF) {
+        Some(Char { code, next: at + 4 })
+    } else {
+        None
     }
-    let a = u32::from(s[at]);
-    let b = u32::from(s[next]);
-    let c = u32::from(s[third]);
-    let d = u32::from(s[last]);
-    // No character begins with more.
-    if 0xF4 < a {
-        return None;
-    }
-    if b / 64 != 2 {
-        return None;
-    }
-    if c / 64 != 2 {
-        return None;
-    }
-    if d / 64 != 2 {
-        return None;
-    }
-    let code = a % 8 * 262144 + b % 64 * 4096 + c % 64 * 64 + d % 64;
-    // Three bytes would do.
-    if code < 0x10000 {
-        return None;
-    }
-    if 0x10FFFF < code {
-        return None;
-    }
-    Some(Char { code, next: at + 4 })
 }
 
 // The character at a place, for all that formatting asks of it; each U+00A0 is blank here.
+#[tactic(auto, using(crate::proofs::Forms::ascii_at, crate::proofs::Places::seen_some, crate::proofs::Places::seen_none))]
 pub fn glyph_at(s: &[u8], at: usize) -> Glyph
     ensures { result ≡ seen_as at (glyph (drop at s.now)) }
 {
-    if s.len() <= at {
-        return Glyph::Damaged;
+    match s.get(at) {
+        // Most blanks are below 0x80, and need not be decoded.
+        Some(a @ 0..=0x7F) => glyph_of(u32::from(*a), at + 1),
+        _ => match decode_at(s, at) {
+            Some(Char { code, next }) => glyph_of(code, next),
+            None => Glyph::Damaged,
+        },
     }
-    // Most blanks are below 0x80, and need not be decoded.
-    let a = s[at];
-    if a < 0x80 {
-        return glyph_of(u32::from(a), at + 1);
-    }
-    let Some(Char { code, next }) = decode_at(s, at) else {
-        return Glyph::Damaged;
-    };
-    glyph_of(code, next)
 }
 
 // A character, by its number and the place after it.
@@ -207,20 +168,11 @@ fn over_no_breaks(s: &[u8], at: usize) -> usize
 }
 
 // Whether U+00A0 is at a place.
+#[tactic(auto, unfolding(crate::specs::Cited::Places::no_break_at))]
 pub fn is_no_break(s: &[u8], at: usize) -> bool
     ensures { result ≡ no_break_at s.now at }
 {
-    if s.len() <= at {
-        return false;
-    }
-    if s[at] != 0xC2 {
-        return false;
-    }
-    let next = at + 1;
-    if s.len() <= next {
-        return false;
-    }
-    s[next] == 0xA0
+    matches!(s.get(at..), Some([0xC2, 0xA0, ..]))
 }
 
 // Whether the character at a place is no blank, where there is no U+00A0. True of a damaged byte.
@@ -228,49 +180,29 @@ fn is_ink(s: &[u8], at: usize) -> bool
     requires { no_break_at s.now at ≡ false }
     ensures { result ≡ ink_ahead (characters (drop at s.now)) }
 {
-    if s.len() <= at {
-        return false;
-    }
-    !matches!(glyph_at(s, at), Glyph::Blank { .. })
+    at < s.len() && !matches!(glyph_at(s, at), Glyph::Blank { .. })
 }
 
 // Whether a letter of two bytes is at a place, U+00C0 to U+02FF or U+0380 to U+047F, Latin, Greek or Cyrillic: each takes one
 // column and none is blank, so that no more need be asked.
+#[tactic(auto, unfolding(crate::specs::Cited::Places::letter_at))]
 pub fn is_letter(s: &[u8], at: usize) -> bool
     ensures { result ≡ letter_at s.now at }
 {
-    if s.len() <= at {
-        return false;
-    }
-    let a = s[at];
-    if a < 0xC3 {
-        return false;
-    }
-    if 0xD1 < a {
-        return false;
-    }
     // CC and CD begin accents, which take none.
-    if a / 2 == 0x66 {
-        return false;
-    }
-    let next = at + 1;
-    if s.len() <= next {
-        return false;
-    }
-    s[next] / 64 == 2
+    matches!(s.get(at..), Some([0xC3..=0xCB | 0xCE..=0xD1, 0x80..=0xBF, ..]))
 }
 
 // The first place at which no character begins. Most texts are seen at once to have none.
+#[tactic(auto, using(crate::proofs::Asciis::ascii_whole, crate::proofs::Joining::joined_whole))]
 pub fn first_damage(s: &[u8]) -> Option<usize>
     ensures { result ≡ damage s.now }
 {
-    if ascii_end(s, 0) == s.len() {
-        return None;
+    if ascii_end(s, 0) == s.len() || are_joined(s) {
+        None
+    } else {
+        damage_among(s)
     }
-    if are_joined(s) {
-        return None;
-    }
-    damage_among(s)
 }
 
 // The same, read character by character.
@@ -289,19 +221,11 @@ fn damage_among(s: &[u8]) -> Option<usize>
 
 // Whether each byte joins the three before it, so that every character is whole: one test for all scripts, without a branch. A text of fewer
 // than three bytes is not asked.
+#[tactic(auto, using(crate::proofs::Joining::joined_by))]
 fn are_joined(s: &[u8]) -> bool
     ensures { result ≡ true → Joined 0 0 0 s.now }
 {
-    if s.len() < 3 {
-        return false;
-    }
-    if !begin_joined(s) {
-        return false;
-    }
-    if !rest_joined(s) {
-        return false;
-    }
-    end_joined(s)
+    3 <= s.len() && begin_joined(s) && rest_joined(s) && end_joined(s)
 }
 
 // The same of the bytes after the first three, sixteen at a time. The last sixteen may have been asked in part: that is quicker than one
@@ -318,9 +242,10 @@ fn rest_joined(s: &[u8]) -> bool
         i += 16;
     }
     if s.len() < 19 {
-        return few_join(s);
+        few_join(s)
+    } else {
+        sixteen_join(s, s.len() - 16)
     }
-    sixteen_join(s, s.len() - 16)
 }
 
 // The sixteen bytes at a place, which the compiler tests as one.
@@ -367,6 +292,7 @@ fn joins_at(s: &[u8], i: usize) -> bool
 
 // Whether a byte joins those before it, p, q and r: it goes on with a character exactly where one of them asks for it, it is none that
 // RFC 3629 has not, and after E0, ED, F0 and F4 it is one of those that may stand there.
+#[tactic(auto, unfolding(crate::specs::Cited::Joins::joins))]
 fn joins(p: u8, q: u8, r: u8, b: u8) -> bool
     ensures { result ≡ joins p q r b }
 {
@@ -399,14 +325,12 @@ pub fn ascii_end(s: &[u8], from: usize) -> usize
     requires { from ≤ length s.now }
     ensures { Ascii s.now from result }
 {
-    let mut i = ascii_sixteens(s, from);
-    while i < s.len() {
+    for i in ascii_sixteens(s, from)..s.len() {
         if 0x80 <= s[i] {
             return i;
         }
-        i += 1;
     }
-    i
+    s.len()
 }
 
 // On over bytes below 0x80, as long as the next sixteen are.
@@ -415,12 +339,8 @@ fn ascii_sixteens(s: &[u8], from: usize) -> usize
     ensures { Ascii s.now from result }
 {
     let mut i = from;
-    while 16 <= s.len() - i {
-        if are_ascii(s, i) {
-            i += 16;
-        } else {
-            return i;
-        }
+    while 16 <= s.len() - i && are_ascii(s, i) {
+        i += 16;
     }
     i
 }
@@ -448,24 +368,23 @@ pub fn printable_among(s: &[u8], i: usize) -> usize
         return 0;
     }
     let clear = 0x8080808080808080 - ((x + 0x6060606060606060) & 0x8080808080808080);
-    let zeros = u64::trailing_zeros(clear);
-    (zeros / 8) as usize
+    (clear.trailing_zeros() / 8) as usize
 }
 
 // The eight bytes at a place as one number, so that one sum tests them all.
+#[tactic(auto, unfolding(crate::specs::Cited::Eights::as_number))]
 pub fn eight(s: &[u8], i: usize) -> u64
     requires { (i ≤ length s.now) × (8 ≤ length s.now - i) }
     ensures { result ≡ as_number (eight_at s.now i) }
 {
-    let x = with_digit(s[i + 6], with_digit(s[i + 7], 0));
-    let y = with_digit(s[i + 3], with_digit(s[i + 4], with_digit(s[i + 5], x)));
-    with_digit(s[i], with_digit(s[i + 1], with_digit(s[i + 2], y)))
-}
-
-// A number with one digit more, its least: a byte.
-fn with_digit(b: u8, digits: u64) -> u64
-    requires { digits < 2 ^ 56 }
-    ensures { (result ≡ b + 256 * digits) × (result < 256 * digits + 256) }
-{
-    u64::from(b) + 256 * digits
+    u64::from_le_bytes([
+        s[i],
+        s[i + 1],
+        s[i + 2],
+        s[i + 3],
+        s[i + 4],
+        s[i + 5],
+        s[i + 6],
+        s[i + 7],
+    ])
 }
