@@ -14,3 +14,4 @@ pub mod Mapped
 pub mod Joins
 pub mod RunParts
 pub mod Remaining
+pub mod Refusals
