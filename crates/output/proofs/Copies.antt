@@ -5,12 +5,12 @@ use mathlib.Core.List.{List, [], ◌∷◌, ◌++◌}
 use Prim.Native.Nat.{ℕ, zero, suc, min, ◌+◌, ◌-◌, ◌≤◌, ◌<◌}
 use native.Mathlib.Nat.{suc-min-suc}
 use native.Mathlib.Omega.{arith}
-use lib.ListN.{length, get_or, take, drop, set, replicate, length-take, length-replicate, get_or-replicate}
+use Rattle.std.proofs.lemmas.List.{take-replicate}
+use lib.ListN.{length, get_or, take, drop, set, replicate, length-take, length-replicate}
 use lib.Seq.{slice, length-slice, take-nil, take_all, take-take}
-use Rattle.lists.proofs.Joins.{slice_join}
 use Rattle.lists.proofs.Slices.{slice_is, slice_one}
 use Rattle.output.specs.Cited.Sink.{paint, written, Wrote}
-use Rattle.output.proofs.Sink.{written_nil, wrote_byte, wrote_length, wrote_then}
+use Rattle.output.proofs.Sink.{written_nil, written_fits, wrote_byte, wrote_length}
 
 -- ---- over what is written already
 
@@ -42,48 +42,19 @@ pub byte_over : {o o' : List ℕ} (text : List ℕ) (j k : ℕ) → j ≤ k → 
     → Wrote o 0 (take (j + 1) text) (set o' j (get_or text j 0)) (j + 1)
 byte_over {o} {o'} text j k h l t r w = covered text j k 1 h l (omega arith) w (rw (slice_one 0 text j t) (wrote_byte o' j (get_or text j 0) (omega (arith, wrote_length w))))
 
-pub copied_byte : {o o' : List ℕ} (text : List ℕ) (n : ℕ) → n < length text → n < length o → Wrote o 0 (take n text) o' n → Wrote o 0 (take (n + 1) text) (set o' n (get_or text n 0)) (n + 1)
-copied_byte text n h k w = byte_over text n n (omega arith) (omega arith) h k w
-
-pub byte_to : (o : List ℕ) (n n' x : ℕ) → n < length o → n' ≡ n + 1 → Wrote o n (x ∷ []) (set o n x) n'
-byte_to o n n' x h e = rw e (wrote_byte o n x h)
-
--- a block, and one after it
-pub block_behind : {o o' o'' : List ℕ} (text : List ℕ) (at k m : ℕ) → at + (k + m) ≤ length text → Wrote o at (slice at (at + k) text) o' (at + k)
-    → Wrote o' (at + k) (slice (at + k) (at + k + m) text) o'' (at + k + m) → Wrote o at (slice at (at + (k + m)) text) o'' (at + (k + m))
-block_behind text at k m h p q =
-    let e : at + (k + m) ≡ at + k + m = omega arith in
-    rw e (rw (slice_join at (at + k) (at + k + m) text (omega arith) (omega arith) (omega arith)) at (wrote_then p q))
-
--- four blocks of four, read and put
-pub sixteen_here : {a b c d : List ℕ} (text : List ℕ) (at : ℕ) → at + 16 ≤ length text → a ≡ slice at (at + 4) text → b ≡ slice (at + 4) (at + 4 + 4) text
-    → c ≡ slice (at + 8) (at + 8 + 4) text → d ≡ slice (at + 12) (at + 12 + 4) text → a ++ (b ++ (c ++ d)) ≡ slice at (at + 16) text
-sixteen_here text at h p q r s =
-    let third : at + 4 + 4 ≡ at + 8 = omega arith in
-    let fourth : at + 8 + 4 ≡ at + 12 = omega arith in
-    let end : at + 12 + 4 ≡ at + 16 = omega arith in
-    rw (p, q, r, s, third, fourth, end, slice_join (at + 8) (at + 12) (at + 16) text (omega arith) (omega arith) (omega arith), slice_join (at + 4) (at + 8) (at + 16) text (omega arith) (omega arith) (omega arith))
-    (slice_join at (at + 4) (at + 16) text (omega arith) (omega arith) (omega arith))
-
-pub sixteen_put : {o o₁ o₂ o₃ o₄ a b c d : List ℕ} (at : ℕ) → Wrote o at a o₁ (at + 4) → Wrote o₁ (at + 4) b o₂ (at + 4 + 4) → Wrote o₂ (at + 8) c o₃ (at + 8 + 4) → Wrote o₃ (at + 12) d o₄ (at + 12 + 4)
-    → Wrote o at (a ++ (b ++ (c ++ d))) o₄ (at + 16)
-sixteen_put at p q r s =
-    let third : at + 4 + 4 ≡ at + 8 = omega arith in
-    let fourth : at + 8 + 4 ≡ at + 12 = omega arith in
-    let end : at + 12 + 4 ≡ at + 16 = omega arith in
-    wrote_then p (wrote_then (rw third at q) (wrote_then (rw fourth at r) (rw end at s)))
+-- a block that was copied to its place
+pub block_wrote : (text o ys : List ℕ) (at n : ℕ) → at + n ≤ length text → at + n ≤ length o → ys ≡ take (at + n - at) (drop at text)
+    → Wrote o at (slice at (at + n) text) (take at o ++ (ys ++ drop (at + n - at) (drop at o))) (at + n)
+block_wrote text o ys at n h k e =
+    let size : at + n - at ≡ n = omega arith in
+    let l : length (slice at (at + n) text) ≡ n = rw size at (length-slice at (at + n) text h) in
+    record { count = rw l; bytes = rw (e, size, ← slice_is at n text) (sym (rw l at (written_fits at o (slice at (at + n) text) (omega arith)))) }
 
 -- so the whole text is written
 pub copied_all : {o o' : List ℕ} (text : List ℕ) (n : ℕ) → n ≤ length text → length text ≤ n → Wrote o 0 (take n text) o' n → Wrote o 0 text o' (length text)
 copied_all text n h k w =
     let e : n ≡ length text = omega arith in
     rw (e, take_all (length text) text (omega arith)) at w
-
--- ---- spaces
-
-pub copied_space : {o o' : List ℕ} (count n : ℕ) → n < count → n < length o → Wrote o 0 (take n (replicate count 32)) o' n
-    → Wrote o 0 (take (n + 1) (replicate count 32)) (set o' n 32) (n + 1)
-copied_space count n h k w = rw (get_or-replicate {A = ℕ} count n 32 0 h) at (copied_byte (replicate count 32) n (rw (length-replicate {A = ℕ} count 32) h) k w)
 
 -- ---- as far as there is room
 
@@ -97,11 +68,17 @@ wrote_clip : {o o' : List ℕ} {r : ℕ} (d : List ℕ) → Wrote o 0 (take (min
 unfolding written
 wrote_clip {o} d w = record { count = omega arith; bytes = w.bytes ∙ paint_clip d o }
 
-pub spaces_wrote : {o o' : List ℕ} {r : ℕ} (count m : ℕ) → m ≡ min count (length o) → Wrote o 0 (take m (replicate count 32)) o' r → Wrote o 0 (replicate count 32) o' count
+-- spaces as far as there is room for them
+pub spaces_wrote : {o o' : List ℕ} {r : ℕ} (count m : ℕ) → m ≡ min count (length o) → Wrote o 0 (replicate m 32) o' r → Wrote o 0 (replicate count 32) o' count
 spaces_wrote {o} count m e w =
     let l = length-replicate {A = ℕ} count 32 in
-    let t : m ≡ min (length {A = ℕ} (replicate count 32)) (length o) = rw l e in
+    let t : replicate {A = ℕ} m 32 ≡ take (min (length {A = ℕ} (replicate count 32)) (length o)) (replicate {A = ℕ} count 32) = rw (l, ← e) (sym (take-replicate m count 32 (omega arith))) in
     rw l at (wrote_clip (replicate count 32) (rw t at w))
+
+pub filled_wrote : (o ys : List ℕ) (m : ℕ) → m ≤ length o → ys ≡ replicate m 32 → Wrote o 0 (replicate m 32) (ys ++ drop m o) m
+filled_wrote o ys m h e =
+    let l = length-replicate {A = ℕ} m 32 in
+    record { count = omega (arith, l); bytes = rw e (sym (rw l at (written_fits 0 o (replicate m 32) (omega (arith, l))))) }
 
 -- the part of the notes that there is room for
 text_clip : (notes : List ℕ) (from to m : ℕ) → from + m ≤ to → take (from + m - from) (drop from notes) ≡ take m (slice from to notes)

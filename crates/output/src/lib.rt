@@ -23,13 +23,15 @@ pub struct Layout {
     pub indent: Margin,
 }
 
-// So many bytes of a text from a place on, to the same place. Their number is known to the compiler, which moves them as one: all are read
-// before the first is stored.
+// So many bytes of a text from a place on, to the same place. Their number is known to the compiler, and they go by way of an array, so that
+// it moves them as one: without the array it would ask first whether the two places overlap.
 fn copy_block<const N: usize>(text: &[u8], at: usize, rest: &mut [u8])
     requires { (at + N ≤ length text.now) × (at + N ≤ length rest.old) }
     ensures { Wrote rest.old at (slice at (at + N) text.now) rest.new (at + N) }
 {
-    rest[at..at + N].copy_from_slice(&text[at..at + N]);
+    let mut block = [0u8; N];
+    block.copy_from_slice(&text[at..at + N]);
+    rest[at..at + N].copy_from_slice(&block);
 }
 
 // A text of at most three bytes: its first, middle and last byte, which of a shorter one are partly the same.

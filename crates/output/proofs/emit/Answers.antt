@@ -15,5 +15,5 @@ returns c =
     c.requires.0
     c.get-w.ensures
     c.run_from-run.ensures
-    (wrote_part _ _ _ _ _ _ c.lesser-place.ensures c.put_first.ensures)
+    (wrote_part _ _ _ _ _ _ c.min-place.ensures c.put_first.ensures)
     c.emit_rest.ensures)

@@ -9,7 +9,7 @@ returns c =
     let s = c in
     let t = length-slice s.args.from s.args.to s.args.notes.now s.requires.1 in (
       wrote_then
-          (wrote_part _ _ _ _ _ _ c.lesser-place.ensures c.put_text.ensures)
-          (wrote_part _ _ _ _ _ _ c.lesser-behind.ensures c.put_feed.ensures),
+          (wrote_part _ _ _ _ _ _ c.min-place.ensures c.put_text.ensures)
+          (wrote_part _ _ _ _ _ _ c.min-behind.ensures c.put_feed.ensures),
       omega (arith, c.put_text.ensures.count, c.put_feed.ensures.count),
     )

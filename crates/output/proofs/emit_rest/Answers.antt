@@ -19,9 +19,9 @@ loop-r-preserved c =
     let r = c.run_from-r.ensures in (
       r.few,
       omega (arith, r.on),
-      wrote_length (wrote_part _ l.k _ _ _ _ c.lesser-place.ensures c.put_word-k.ensures) ∙ l.invariant.2,
+      wrote_length (wrote_part _ l.k _ _ _ _ c.min-place.ensures c.put_word-k.ensures) ∙ l.invariant.2,
       turn_left c.requires.0 c.get-w.ensures c.loop-r-test.true _ _ c.added_space-added.ensures.is c.starts_line-fresh.ensures r l.invariant.3
-          (wrote_part _ _ _ _ _ _ c.lesser-place.ensures c.put_word-k.ensures),
+          (wrote_part _ _ _ _ _ _ c.min-place.ensures c.put_word-k.ensures),
     )
 
 pub returns : goal.returns
@@ -29,4 +29,4 @@ returns c =
     let l = c.loop-r in
     left_last
     (rw (rest_end _ _ _ _ _ _ c.loop-r-test.false) at l.invariant.3)
-    (wrote_part _ _ _ _ _ _ c.lesser-place-2.ensures c.put_feed.ensures)
+    (wrote_part _ _ _ _ _ _ c.min-place-2.ensures c.put_feed.ensures)

@@ -1,16 +1,23 @@
 -- `output::put_added` meets its contract.
 use native.Mathlib.Omega.{arith}
-use Rattle.output.proofs.Sink.{wrote_nil}
-use Rattle.output.proofs.Copies.{copied_space, spaces_wrote}
+use lib.ListN.{length-set}
+use Rattle.output.proofs.Sink.{wrote_nil, wrote_byte, wrote_then}
+use Rattle.output.proofs.Copies.{spaces_wrote}
 use Rattle.output.proofs.put_added.Goals as goal
+use Rattle.output.proofs.put_added.Goals.{then-room-gt0, else-room-gt0}
 
-pub returns-then-room-eq0 : goal.returns-then-room-eq0
-returns-then-room-eq0 c = spaces_wrote c.args.count 0 (omega arith) (wrote_nil _ 0)
+pub returns-then-room-gt1 : goal.returns-then-room-gt1
+returns-then-room-gt1 c =
+    let o = c.args.rest.now in
+    elim c.if-room-gt0.branch [
+      | then-room-gt0 w ↦ rw w.rest-is (spaces_wrote c.args.count 2 (omega arith) (wrote_then (wrote_byte o 0 32 (omega arith)) (wrote_byte _ 1 32 (rw length-set (omega arith)))))
+      | else-room-gt0 w ↦ absurd (omega arith)
+    ]
 
-pub returns-then-room-eq1 : goal.returns-then-room-eq1
-returns-then-room-eq1 c = let n = c.args.count in spaces_wrote n 1 (omega arith) (copied_space n 0 (omega arith) (omega arith) (wrote_nil _ 0))
-
-pub returns : goal.returns
-returns c =
-    let n = c.args.count in
-    spaces_wrote n 2 (omega arith) (copied_space n 1 (omega arith) (omega arith) (copied_space n 0 (omega arith) (omega arith) (wrote_nil _ 0)))
+pub returns-else-room-gt1 : goal.returns-else-room-gt1
+returns-else-room-gt1 c =
+    let o = c.args.rest.now in
+    elim c.if-room-gt0.branch [
+      | then-room-gt0 w ↦ rw w.rest-is (spaces_wrote c.args.count 1 (omega arith) (wrote_byte o 0 32 (omega arith)))
+      | else-room-gt0 w ↦ rw w.rest-is (spaces_wrote c.args.count 0 (omega arith) (wrote_nil o 0))
+    ]

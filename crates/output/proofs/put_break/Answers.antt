@@ -6,4 +6,4 @@ pub returns : goal.returns
 returns c =
     wrote_then
     c.put_feed-k.ensures
-    (wrote_part _ _ _ _ _ _ c.lesser-place.ensures c.put_margin.ensures)
+    (wrote_part _ _ _ _ _ _ c.min-place.ensures c.put_margin.ensures)

@@ -1,14 +1,12 @@
--- `output::put_spaces` meets its contract. Invariant: the spaces up to the place reached are written.
+-- `output::put_spaces` meets its contract.
+use mathlib.Core.Path.{◌≡◌}
 use native.Mathlib.Omega.{arith}
-use Rattle.output.proofs.Sink.{wrote_nil}
-use Rattle.output.proofs.Copies.{copied_space, spaces_wrote}
+use lib.ListN.{length, take, length-take}
+use Rattle.output.proofs.Copies.{spaces_wrote, filled_wrote}
 use Rattle.output.proofs.put_spaces.Goals as goal
 
-pub loop-k-init : goal.loop-k-init
-loop-k-init c = (omega arith, wrote_nil _ 0)
-
-pub loop-k-preserved : goal.loop-k-preserved
-loop-k-preserved c = (omega arith, copied_space c.args.count c.loop-k.k (omega arith) (omega arith) c.loop-k.invariant.1)
-
 pub returns : goal.returns
-returns c = spaces_wrote _ c.loop-k.k (omega arith) c.loop-k.invariant.1
+returns c =
+    let m = c.min-fits.result in
+    let size : length (take m c.args.rest.now) ≡ m = simp length-take (omega arith) in
+    spaces_wrote _ m c.min-fits.ensures (filled_wrote _ _ m (omega arith) (rw size at (c.fill.ensures.after (λ y e. e))))
