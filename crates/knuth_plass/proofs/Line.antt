@@ -1,7 +1,7 @@
 -- A break's line with the word on it: its columns, and what the break offers after the word.
-use Rattle.std.proofs.Common.{None}
-use mathlib.Core.Path.{◌≡◌, refl, sym, subst}
-use mathlib.Core.Bool.{Bool, true, false, cond}
+use Rattle.std.proofs.Common.{Option, Some, None, is_some}
+use mathlib.Core.Path.{◌≡◌, refl, sym, subst, ◌∙◌}
+use mathlib.Core.Bool.{Bool, true, false, cond, true≢false}
 use mathlib.Core.List.{List}
 use Prim.Native.Nat.{ℕ, suc, ◌+◌, ◌*◌, ◌≤◌, ◌<◌}
 use native.Mathlib.Nat.{add-zero, le_trans, mul-le-mul}
@@ -22,6 +22,11 @@ use Rattle.knuth_plass.specs.KnuthPlass.{Place, Offer, none, stretch_of, minimum
 use Rattle.knuth_plass.specs.Cited.Table.{most_words, ratio_of, Tables, path_to, seen}
 use Rattle.knuth_plass.specs.Cited.Round.{line_at, nothing, best_from, better, offer_made, offer_in, offer_at, Floor, Offers, OfferedIs}
 use Rattle.knuth_plass.proofs.Offers.{better_stays, offer_some, offer_better, fits_better, lesser_none}
+
+-- a gap that is asked for its tab
+pub no_tab : (before : Option ℕ) (r : Bool) → r ≡ is_some before → r ≡ false → before ≡ None
+no_tab None r e f = refl
+no_tab (Some n) r e f = absurd (true≢false (sym e ∙ f))
 
 -- what a line grows by without a tab
 pub plain_small : (x : Bool) (space width after r : ℕ) → r ≡ cond x (space + width) (after + (space + width)) → r ≤ after + (space + width)

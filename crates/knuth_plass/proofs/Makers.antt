@@ -1,5 +1,5 @@
 -- What made the break of a round: the first break that stays whose offer has the least total, or the one that is begun again with.
-use Rattle.std.proofs.Common.{Some, None}
+use Rattle.std.proofs.Common.{Option, Some, None}
 use mathlib.Core.Path.{◌≡◌, refl, sym, ap, ◌∙◌}
 use mathlib.Core.Bool.{Bool, true, false, cond}
 use mathlib.Core.List.{List, [], ◌∷◌, map}
@@ -22,7 +22,6 @@ use Rattle.knuth_plass.specs.declared.Break.{Break as Record}
 use Rattle.knuth_plass.specs.declared.Turn.{Turn}
 use Rattle.knuth_plass.specs.declared.State.{State}
 use Rattle.knuth_plass.specs.declared.Standing.{Standing}
-use Rattle.knuth_plass.specs.declared.Tried.{Tried}
 use Rattle.knuth_plass.specs.KnuthPlass.{Break, none, stretch_of, minimum_of, reduced, reached, staying, offer_of, best_offer, restart}
 use Rattle.knuth_plass.specs.BestLines.{offering, chosen_of, forced, maker_of, maker}
 use Rattle.knuth_plass.specs.Cited.Table.{ratio_of, Tables, break_in, path_to, seen, break_meant}
@@ -61,7 +60,7 @@ module _ (g : Setting) (weight total kept : ℕ) (t : Tables) (a : List ℕ) whe
   abbrev pub chosen_from : ℕ → Ending
   chosen_from k = chosen_in g weight total (map (break_meant t) (slice k kept a))
 
-  pub chosen_step : (k n : ℕ) (b : Record) (r : Tried) → k < kept → kept ≤ length a → n ≡ get_or a k 0 → b ≡ break_in t n → r ≡ tried_of g weight total b.columns (ratio_of b.ratio) b.demerits
+  pub chosen_step : (k n : ℕ) (b : Record) (r : Option Ending) → k < kept → kept ≤ length a → n ≡ get_or a k 0 → b ≡ break_in t n → r ≡ tried_of g weight total b.columns (ratio_of b.ratio) b.demerits
       → chosen_from k ≡ found r (chosen_from (k + 1))
   unfolding chosen_in break_meant seen
   chosen_step k n b r h l at e f = rw (slice_here a k kept 0 h l, f, e, at)

@@ -94,11 +94,11 @@ end_is uniform table i p w space got added = rw (added.is, got)
 
 module _ (uniform : Bool) (low : ℕ) (table : List ℕ) (n i p : ℕ) where
   -- none is left but the last
-  pub skips_last : n ≤ i + 1 → skipped_from uniform low table (n - (i + 1)) i p ≡ record { word = i; line = p }
+  pub skips_last : n - 1 ≤ i → skipped_from uniform low table (n - (i + 1)) i p ≡ record { word = i; line = p }
   unfolding skipped_from
   skips_last h = let e : n - (i + 1) ≡ 0 = omega arith in rw e
 
-  module _ (more : i + 1 < n) where
+  module _ (more : i < n - 1) where
     pub skips_stop : low ≤ end_at uniform table i p → skipped_from uniform low table (n - (i + 1)) i p ≡ record { word = i; line = p }
     unfolding skipped_from
     skips_stop h = let e : n - (i + 1) ≡ suc (n - (i + 1 + 1)) = omega arith in rw (e, skipped_from, le-leb low (end_at uniform table i p) h)
@@ -111,8 +111,8 @@ module _ (uniform : Bool) (low : ℕ) (table : List ℕ) (n i p : ℕ) where
   pub skips_none : low ≤ p → skipped_from uniform low table (n - (i + 1)) i p ≡ record { word = i; line = p }
   skips_none h = by (ltb (i + 1) n) refl where
     by : (x : Bool) → ltb (i + 1) n ≡ x → skipped_from uniform low table (n - (i + 1)) i p ≡ record { word = i; line = p }
-    by true e = skips_stop (ltb-true (i + 1) n e) (omega arith)
-    by false e = skips_last (ltb-false (i + 1) n e)
+    by true e = let m = ltb-true (i + 1) n e in skips_stop (omega arith) (omega arith)
+    by false e = let m = ltb-false (i + 1) n e in skips_last (omega arith)
 
 -- the words are as they were
 module _ (n : ℕ) (work work₁ : List ℕ) (worked : Worked n work work₁) where

@@ -79,9 +79,9 @@ offers_begin columns i t b h o = rw (offer_none columns false i t b h)
 
 -- all are done
 module _ (t : Tables) (k size : ℕ) (end : size ≤ k) where
-  pub pass_ends : (g : Setting) (x : ℕ) → pops g x (span t k (size - k)) ≡ span t k (size - k)
+  pub pass_ends : (g : Setting) (x : ℕ) → pops g x (span t k (size - k)) ≡ span t size (size - size)
   unfolding pops
-  pass_ends g x = rw (span_none t k size end)
+  pass_ends g x = rw (span_none t k size end, span_none t size size (omega arith))
 
   pub offers_end : (g : Setting) (i x gap : ℕ) (w : Word) (b : Offer) → lesser b (best_entry g i x gap w (near g x (span t k (size - k)))) ≡ b
   unfolding near best_entry

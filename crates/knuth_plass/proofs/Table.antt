@@ -9,6 +9,7 @@ use native.Mathlib.Omega.{arith}
 use lib.Dec.{eqb}
 use lib.ListN.{length, get_or, set, length-set}
 use lib.Seq.{length-sets, get_or-set_same, get_or-set_other}
+use Rattle.std.specs.Int.{from_bool}
 use Rattle.lists.proofs.Stores.{sets_other, sets_within}
 use Rattle.knuth_plass.specs.declared.Break.{Break as Record}
 use Rattle.knuth_plass.specs.Cited.Table.{below, Tables, table_in, active_in, active_at, Sized, break_number, record_at, break_in, no_record, place_numbers, with_place, line_numbers, with_line, with_record, with_active, with_break, Stored}
@@ -143,6 +144,10 @@ module _ (l : List ℕ) (k n : ℕ) where
 
 -- ---- the numbers of a place, and those of a line, stored one by one
 
+bit_is : (a : Bool) → from_bool a ≡ cond a 1 0
+bit_is true = refl
+bit_is false = refl
+
 bit_back : (a : Bool) → eqb (cond a 1 0) 1 ≡ a
 bit_back true = refl
 bit_back false = refl
@@ -161,14 +166,14 @@ before_back w true = let e : (w * 2 + 1) % 2 ≡ 1 = omega arith in rw e
 before_back w false = let e : (w * 2 + 0) % 2 ≡ 0 = omega arith in rw e
 
 module _ (l : List ℕ) (i : ℕ) (b : Record) where
-  pub stored_place : (p : ℕ) → p ≡ cond b.before 1 0 → set (set l (i * 8) b.previous) (i * 8 + 1) (b.word * 2 + p) ≡ with_place l i b
+  pub stored_place : (p : ℕ) → p ≡ from_bool b.before → set (set l (i * 8) b.previous) (i * 8 + 1) (b.word * 2 + p) ≡ with_place l i b
   unfolding with_place
-  stored_place p e = rw (add-one (i * 8), e)
+  stored_place p e = rw (add-one (i * 8), e, bit_is b.before)
 
-  pub stored_line : (f : ℕ) → f ≡ cond b.fresh 1 0
+  pub stored_line : (f : ℕ) → f ≡ from_bool b.fresh
       → set (set (set (set l (i * 8 + 4) (b.demerits % 2 ^ 32)) (i * 8 + 4 + 1) (b.demerits / 2 ^ 32)) (i * 8 + 4 + 2) b.columns) (i * 8 + 4 + 3) f ≡ with_line l i b
   unfolding with_line
-  stored_line f e = rw (add-one (i * 8 + 4), add-two (i * 8 + 4), add-three (i * 8 + 4), e)
+  stored_line f e = rw (add-one (i * 8 + 4), add-two (i * 8 + 4), add-three (i * 8 + 4), e, bit_is b.fresh)
 
   pub length_place : length (with_place l i b) ≡ length l
   unfolding with_place

@@ -1,6 +1,6 @@
 // Knuth-Plass where no gap has a tab: the active breaks are an interval of the table, and a round changes none of its records. A record's
 // columns are its base: the column of one endless line at which its own line begins, less the indent.
-ghost use Rattle.std.specs.Prelude.{◌≡◌, cond, true, ◌+◌, ◌-◌, ◌*◌, ◌<◌, ◌≤◌, ◌^◌, length};
+ghost use Rattle.std.specs.Prelude.{◌≡◌, cond, true, false, ◌+◌, ◌-◌, ◌*◌, ◌<◌, ◌≤◌, ◌^◌, length};
 ghost use Rattle.std.proofs.Math.Dec as D;
 ghost use Rattle.records.specs.Cited.Table.{Holds, Room};
 ghost use Rattle.spacing.specs.Cited.Bounds.{AddedIs};

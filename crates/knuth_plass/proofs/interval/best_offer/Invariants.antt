@@ -17,6 +17,3 @@ invariant-loop-k l =
     × ((notes : List ℕ) (gap : ℕ)
     → lesser (offer_made (l.x + gap) false l.turn.number (table_in l.breaks) l.best) (best_entry l.g l.turn.number l.x gap (meaning notes l.turn.word) (near l.g l.x (span (table_in l.breaks) l.k (l.size - l.k))))
     ≡ best_entry l.g l.turn.number l.x gap (meaning notes l.turn.word) (near l.g l.x (span (table_in l.breaks) l.head (l.size - l.head))))
-
-abbrev pub decreases-loop-k : goal.decreases-loop-k
-decreases-loop-k l = l.size - l.k

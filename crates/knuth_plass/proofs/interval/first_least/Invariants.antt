@@ -10,6 +10,3 @@ invariant-loop-k l =
     (l.k ≤ l.size)
     × (l.found < l.size)
     × (least_from (break_meant (table_in l.breaks) l.found) (span (table_in l.breaks) l.k (l.size - l.k)) ≡ least (span (table_in l.breaks) l.head (l.size - l.head)))
-
-abbrev pub decreases-loop-k : goal.decreases-loop-k
-decreases-loop-k l = l.size - l.k

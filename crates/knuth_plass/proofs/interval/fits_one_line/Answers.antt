@@ -4,6 +4,7 @@ use mathlib.Core.Path.{◌≡◌}
 use Prim.Native.Nat.{ℕ}
 use native.Mathlib.Omega.{arith}
 use Rattle.records.specs.Cited.Table.{word_in}
+use Rattle.knuth_plass.proofs.Line.{no_tab}
 use Rattle.knuth_plass.proofs.Intervals.{room_none, room_more, below_next}
 use Rattle.knuth_plass.proofs.interval.fits_one_line.Goals as goal
 
@@ -21,7 +22,7 @@ loop-i-preserved c =
     let a = got.small.after in
     let w = got.small.width in
     let table = c.args.work.now in
-    let plain : (word_in table l.i).before ≡ None = rw (← got.is) (c.has_tab.ensures c.if-has_tab.false) in (
+    let plain : (word_in table l.i).before ≡ None = rw (← got.is) (no_tab _ _ c.is_some.ensures c.if-is_some.false) in (
       omega arith,
       omega arith,
       rw (sum, got.is, room_more table l.i) (omega arith),

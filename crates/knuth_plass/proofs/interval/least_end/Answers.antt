@@ -18,5 +18,5 @@ returns c =
     let m = c.number.ensures.1 in
     let e = columns_at a.breaks.now a.head c.requires.1 in
     let n = c.number.ensures.0 in
-    let d = c.columns_from.ensures in
+    let d = c.saturating_sub.ensures in
     (omega arith, omega arith)

@@ -42,4 +42,4 @@ returns c =
     let a = c.args in
     let l = c.loop-k in
     let v = l.invariant in
-    record { from = v.0; to = v.1; is = v.2 ∙ pass_ends (table_in a.breaks.now) l.k a.size c.loop-k-test.false a.g a.x }
+    record { from = c.requires.2; to = omega arith; is = v.2 ∙ pass_ends (table_in a.breaks.now) l.k a.size c.loop-k-test.false a.g a.x }

@@ -9,6 +9,3 @@ invariant-loop-k l =
     (l.head ≤ l.k)
     × (l.k ≤ l.size)
     × (pops l.g l.x (span (table_in l.breaks) l.head (l.size - l.head)) ≡ pops l.g l.x (span (table_in l.breaks) l.k (l.size - l.k)))
-
-abbrev pub decreases-loop-k : goal.decreases-loop-k
-decreases-loop-k l = l.size - l.k

@@ -1,5 +1,7 @@
 -- `knuth_plass::interval::skip` meets its contract. Invariant: what is skipped from here is what is skipped from the start.
-use mathlib.Core.Path.{sym, ◌∙◌}
+use mathlib.Core.Path.{◌≡◌, sym, ◌∙◌}
+use native.Mathlib.Omega.{arith}
+use Prim.Native.Nat.{◌-◌}
 use Rattle.knuth_plass.proofs.Skipping.{end_is, skips_last, skips_stop, skips_go, skips_none}
 use Rattle.knuth_plass.proofs.interval.skip.Goals as goal
 
@@ -19,10 +21,12 @@ loop-k-preserved c =
     let l = c.loop-k in
     let more = c.loop-k-test.true in
     let e = end_is a.uniform a.work.now l.k l.line _ _ c.get-w.ensures.is c.space_at.ensures in
-    (more, c.if-low-end.false, rw e (l.invariant.2 ∙ skips_go a.uniform a.low a.work.now a.n l.k l.line more (rw (← e) c.if-low-end.false)))
+    (omega arith, c.if-low-end.false, rw e (l.invariant.2 ∙ skips_go a.uniform a.low a.work.now a.n l.k l.line more (rw (← e) c.if-low-end.false)))
 
 pub returns : goal.returns
 returns c =
     let a = c.args in
     let l = c.loop-k in
-    sym (l.invariant.2 ∙ skips_last a.uniform a.low a.work.now a.n l.k l.line c.loop-k-test.false)
+    let v = l.invariant in
+    let same : l.k ≡ a.n - 1 = omega (arith, v.0, c.loop-k-test.false) in
+    rw same at (sym (v.2 ∙ skips_last a.uniform a.low a.work.now a.n l.k l.line c.loop-k-test.false))

@@ -8,6 +8,3 @@ invariant-loop-k l =
     (l.k < l.n)
     × (l.line < l.low)
     × (skipped_from l.uniform l.low l.work (l.n - (l.i + 1)) l.i l.p ≡ skipped_from l.uniform l.low l.work (l.n - (l.k + 1)) l.k l.line)
-
-abbrev pub decreases-loop-k : goal.decreases-loop-k
-decreases-loop-k l = l.n - l.k

@@ -5,7 +5,7 @@ use mathlib.Core.Path.{sym}
 use mathlib.Core.Bool.{false}
 use Rattle.knuth_plass.proofs.interval.space_at.Goals as goal
 
-pub returns : goal.returns
-returns c =
+pub returns-else-uniform : goal.returns-else-uniform
+returns-else-uniform c =
     let a = c.args in
-    added_is a.uniform a.w.first (sentence_at a.work.now a.i) false _ (rw (c.if-uniform.false, c.if-w.false) (sym (added_none (sentence_at a.work.now a.i) false)))
+    added_is a.uniform a.w.first (sentence_at a.work.now a.i) false _ (rw (c.if-uniform.false.1, c.if-uniform.false.0) (sym (added_none (sentence_at a.work.now a.i) false)))

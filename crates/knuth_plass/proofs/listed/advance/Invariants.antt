@@ -1,6 +1,6 @@
 use mathlib.Core.Path.{◌≡◌}
 use mathlib.Core.List.{List, map}
-use Prim.Native.Nat.{ℕ, ◌-◌}
+use Prim.Native.Nat.{ℕ}
 use lib.ListN.{length}
 use Rattle.knuth_plass.specs.KnuthPlass.{reduced}
 use Rattle.knuth_plass.specs.Cited.Table.{table_in, active_in}
@@ -14,6 +14,3 @@ invariant-loop-k l =
     × Fit l.turn l.st l.k (table_in l.breaks) (active_in l.breaks) l.s
     × ((notes : List ℕ)
     → RoundGoes l.g l.turn l.st (answer l.g l.turn (map (reduced l.st.reduction) (breaks_listed l.st.count (table_in l.initial.breaks) (active_in l.initial.breaks))) notes) l.k (table_in l.breaks) (active_in l.breaks) l.s)
-
-abbrev pub decreases-loop-k : goal.decreases-loop-k
-decreases-loop-k l = l.st.count - l.k

@@ -5,5 +5,5 @@ use Rattle.knuth_plass.proofs.listed.noted.Goals as goal
 pub returns-then-demerits-s : goal.returns-then-demerits-s
 returns-then-demerits-s c = let a = c.args in noted_less a.s a.n a.demerits c.if-demerits-s.true
 
-pub returns : goal.returns
-returns c = let a = c.args in noted_not a.s a.n a.demerits c.if-demerits-s.false
+pub returns-else-demerits-s : goal.returns-else-demerits-s
+returns-else-demerits-s c = let a = c.args in noted_not a.s a.n a.demerits c.if-demerits-s.false

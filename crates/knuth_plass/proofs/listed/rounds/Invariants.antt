@@ -1,7 +1,7 @@
 use mathlib.Core.Path.{◌≡◌}
 use mathlib.Core.Bool.{false}
 use mathlib.Core.List.{List}
-use Prim.Native.Nat.{ℕ, ◌≤◌, ◌-◌}
+use Prim.Native.Nat.{ℕ, ◌≤◌}
 use lib.ListN.{drop}
 use Rattle.records.specs.Word.{meaning}
 use Rattle.records.specs.Cited.Table.{word_in, words_in}
@@ -16,6 +16,3 @@ invariant-loop-i l =
     × ((notes : List ℕ)
     → rounds_from l.g l.sentence l.i (standing l.st (table_in (records_part l.n l.work)) (active_in (records_part l.n l.work))) (drop l.i (words_in notes l.n l.initial.work))
     ≡ rounds_from l.g false 1 (begin l.g (meaning notes (word_in l.initial.work 0))) (drop 1 (words_in notes l.n l.initial.work)))
-
-abbrev pub decreases-loop-i : goal.decreases-loop-i
-decreases-loop-i l = l.n - l.i

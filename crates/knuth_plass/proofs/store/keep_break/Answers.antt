@@ -3,4 +3,4 @@ use Rattle.knuth_plass.proofs.Table.{stored_line}
 use Rattle.knuth_plass.proofs.store.keep_break.Goals as goal
 
 pub returns : goal.returns
-returns c = stored_line _ _ _ _ c.bit.ensures
+returns c = stored_line _ _ _ _ c.from.ensures

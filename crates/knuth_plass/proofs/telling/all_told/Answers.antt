@@ -54,7 +54,7 @@ loop-i-preserved c =
     let next = worked_home a.n l.work v.2 c.told_round-told.new.breaks _ c.work-in-loop-i-1.given.0 refl in
     let home = part_home a.n l.work v.2 c.told_round-told.new.breaks _ c.work-in-loop-i-1.given.0 refl in
     let r = told_home a.n _ l.work _ _ v.3 next home l.i t _ c.get-word.ensures.is _ _ _ _ _ _ _ c.told_round-told.ensures in
-    (omega arith, omega arith, worked_lent a.n l.work _ next v.2, worked_then a.n _ l.work v.3 _ next, r.round.ready, λ notes. rounds_next _ _ _ notes _ _ _ _ _ t (r.round.is notes) (behind_home a.n _ l.work _ _ v.3 next home l.i t _ c.get-word.ensures.is notes _ (c.sentence_behind-sentence.ensures notes)) ∙ v.5 notes, λ notes. so_turn a.g _ a.n notes l.sentence l.i _ _ _ _ a.e _ _ _ _ t (r.round.is notes) (r.ending notes) (behind_home a.n _ l.work _ _ v.3 next home l.i t _ c.get-word.ensures.is notes _ (c.sentence_behind-sentence.ensures notes)) (v.6 notes) c.take_ending-first.ensures c.take_ending-second.ensures)
+    (omega arith, omega arith, worked_lent a.n l.work _ next v.2, worked_then a.n _ l.work v.3 _ next, r.round.ready, λ notes. rounds_next _ _ _ notes _ _ _ _ _ t (r.round.is notes) (behind_home a.n _ l.work _ _ v.3 next home l.i t _ c.get-word.ensures.is notes _ (c.sentence_behind-sentence.ensures notes)) ∙ v.5 notes, λ notes. so_turn a.g _ a.n notes l.sentence l.i _ _ _ _ a.e _ _ _ _ t (r.round.is notes) (r.ending notes) (behind_home a.n _ l.work _ _ v.3 next home l.i t _ c.get-word.ensures.is notes _ (c.sentence_behind-sentence.ensures notes)) (v.6 notes) c.either-first.ensures c.either-second.ensures)
 
 pub returns : goal.returns
 returns c =

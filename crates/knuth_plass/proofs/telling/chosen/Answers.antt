@@ -5,17 +5,17 @@ use Rattle.knuth_plass.specs.Cited.Table.{table_in, active_in}
 use Rattle.knuth_plass.proofs.Makers.{chosen_step, chosen_end}
 use Rattle.knuth_plass.proofs.telling.chosen.Goals as goal
 
-pub returns-in-Here : goal.returns-in-Here
-returns-in-Here c =
+pub returns-in-Some : goal.returns-in-Some
+returns-in-Some c =
     let l = c.loop-k in
-    let here = chosen_step c.args.g c.args.weight c.args.total c.args.kept (table_in c.args.breaks.now) (active_in c.args.breaks.now) l.k _ _ _ c.loop-k-test.true c.requires.1.listed c.active-n.ensures c.get_break-b.ensures c.try_break.ensures in
-    sym (rw c.in-Here.is at here) ∙ l.invariant.1
+    let here = chosen_step c.args.g c.args.weight c.args.total c.args.kept (table_in c.args.breaks.now) (active_in c.args.breaks.now) l.k _ _ _ c.loop-k-test.true c.requires.1.listed c.active.ensures c.get_break-b.ensures c.try_break.ensures in
+    sym (rw c.in-Some.is at here) ∙ l.invariant.1
 
 pub loop-k-preserved : goal.loop-k-preserved
 loop-k-preserved c =
     let l = c.loop-k in
-    let here = chosen_step c.args.g c.args.weight c.args.total c.args.kept (table_in c.args.breaks.now) (active_in c.args.breaks.now) l.k _ _ _ c.loop-k-test.true c.requires.1.listed c.active-n.ensures c.get_break-b.ensures c.try_break.ensures in
-    (omega arith, sym (rw c.in-Other.is at here) ∙ l.invariant.1)
+    let here = chosen_step c.args.g c.args.weight c.args.total c.args.kept (table_in c.args.breaks.now) (active_in c.args.breaks.now) l.k _ _ _ c.loop-k-test.true c.requires.1.listed c.active.ensures c.get_break-b.ensures c.try_break.ensures in
+    (omega arith, sym (rw c.in_default.is at here) ∙ l.invariant.1)
 
 pub returns : goal.returns
 returns c =

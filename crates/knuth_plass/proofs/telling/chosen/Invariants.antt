@@ -1,5 +1,5 @@
 use mathlib.Core.Path.{◌≡◌}
-use Prim.Native.Nat.{◌≤◌, ◌-◌}
+use Prim.Native.Nat.{◌≤◌}
 use Rattle.knuth_plass.specs.Cited.Table.{table_in, active_in}
 use Rattle.knuth_plass.proofs.Makers.{chosen_from}
 use Rattle.knuth_plass.proofs.telling.chosen.Given as goal
@@ -7,6 +7,3 @@ use Rattle.knuth_plass.proofs.telling.chosen.Given as goal
 abbrev pub invariant-loop-k : goal.invariant-loop-k
 invariant-loop-k l =
     (l.k ≤ l.kept) × (chosen_from l.g l.weight l.total l.kept (table_in l.breaks) (active_in l.breaks) l.k ≡ chosen_from l.g l.weight l.total l.kept (table_in l.breaks) (active_in l.breaks) 0)
-
-abbrev pub decreases-loop-k : goal.decreases-loop-k
-decreases-loop-k l = l.kept - l.k

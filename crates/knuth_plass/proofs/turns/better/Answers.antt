@@ -5,4 +5,4 @@ use Rattle.knuth_plass.proofs.turns.better.Goals as goal
 pub returns : goal.returns
 returns c =
     let a = c.args in
-    better_is a.best a.previous a.total a.ratio _ _ _ c.either_total.ensures c.either.ensures c.either_ratio.ensures
+    better_is a.best a.previous a.total a.ratio _ _ _ c.either.ensures c.either-2.ensures c.either-3.ensures
