@@ -1,5 +1,5 @@
 -- What splitting, breaking and emitting have done, in terms of the paragraph's own words.
-use Rattle.std.proofs.Common.{Ok, Err}
+use Rattle.std.proofs.Common.{Result, Ok, Err}
 use mathlib.Core.Path.{◌≡◌, refl, sym, ◌∙◌}
 use mathlib.Core.Bool.{Bool, true, false, cond}
 use mathlib.Core.List.{List, []}
@@ -19,7 +19,7 @@ use Rattle.records.specs.Cited.Marks.{MarkedBy}
 use Rattle.records.proofs.Marks.{words_same}
 use Rattle.words.specs.Cited.Places.{counted}
 use Rattle.words.specs.Cited.Split.{Split}
-use Rattle.words.specs.declared.Count.{Count}
+use Rattle.words.specs.declared.TooMany.{TooMany}
 use Rattle.spacing.specs.declared.Setting.{Setting}
 use Rattle.output.specs.Cited.Bound.{longest, most_emitted}
 use Rattle.output.specs.Emission.{emit}
@@ -35,28 +35,28 @@ pub limits_of : (notes : List ℕ) (at : ℕ) (o : Options) (p : ParagraphAt) �
 unfolding setting_of meant
 limits_of notes at o p h block = record { over = h.goal; twice = h.twice; wide = h.width; tab = h.tab_least; tabs = h.tab_most; first = h.first_small; indent = h.indent_small }
 
-counted_many : (longest : ℕ) (ws : List Word) → counted longest ws ≡ (Err (record { })) → longest < length ws
+counted_many : (most : ℕ) (ws : List Word) → counted most ws ≡ Err (record {}) → most < length ws
 unfolding counted
-counted_many longest ws e = go (leb (length ws) longest) refl e
+counted_many most ws e = go (leb (length ws) most) refl e
   where
-    go : (t : Bool) → leb (length ws) longest ≡ t → cond t (Ok (length ws)) (Err (record { })) ≡ (Err (record { })) → longest < length ws
+    go : (t : Bool) → leb (length ws) most ≡ t → cond {A = Result ℕ TooMany} t (Ok (length ws)) (Err (record {})) ≡ Err (record {}) → most < length ws
     go true h k = absurd (let z : ◌≡◌ {A = ℕ} 0 1 = cc in omega arith)
-    go false h k = leb-false (length ws) longest h
+    go false h k = leb-false (length ws) most h
 
-counted_few : (longest : ℕ) (ws : List Word) (n : ℕ) → counted longest ws ≡ Ok n → (length ws ≡ n) × (length ws ≤ longest)
+counted_few : (most : ℕ) (ws : List Word) (n : ℕ) → counted most ws ≡ Ok n → (length ws ≡ n) × (length ws ≤ most)
 unfolding counted
-counted_few longest ws n e = go (leb (length ws) longest) refl e
+counted_few most ws n e = go (leb (length ws) most) refl e
   where
-    go : (t : Bool) → leb (length ws) longest ≡ t → cond t (Ok (length ws)) (Err (record { })) ≡ Ok n → (length ws ≡ n) × (length ws ≤ longest)
-    go true h k = (cc, leb-true (length ws) longest h)
+    go : (t : Bool) → leb (length ws) most ≡ t → cond {A = Result ℕ TooMany} t (Ok (length ws)) (Err (record {})) ≡ Ok n → (length ws ≡ n) × (length ws ≤ most)
+    go true h k = (cc, leb-true (length ws) most h)
     go false h k = absurd (let z : ◌≡◌ {A = ℕ} 0 1 = cc in omega arith)
 
-module _ {longest : ℕ} {notes t : List ℕ} {r : Count} {ws : List Word} {es : List ℕ} (s : Split longest notes ws es t r) where
-  pub split_many : r ≡ (Err (record { })) → longest < length ws
-  split_many e = counted_many longest ws (sym s.count ∙ e)
+module _ {most : ℕ} {notes t : List ℕ} {r : Result ℕ TooMany} {ws : List Word} {es : List ℕ} (s : Split most notes ws es t r) where
+  pub split_many : r ≡ Err (record {}) → most < length ws
+  split_many e = counted_many most ws (sym s.count ∙ e)
 
-  pub split_few : (n : ℕ) → r ≡ Ok n → (length ws ≡ n) × (length ws ≤ longest)
-  split_few n e = counted_few longest ws n (sym s.count ∙ e)
+  pub split_few : (n : ℕ) → r ≡ Ok n → (length ws ≡ n) × (length ws ≤ most)
+  split_few n e = counted_few most ws n (sym s.count ∙ e)
 
   -- no word is wider than the notes are long
   pub split_narrow : (n : ℕ) → r ≡ Ok n → length notes ≤ most_large → AllNarrow n t

@@ -1,5 +1,5 @@
 -- The loop over the pieces: what is left of the digest, and of the search for a paragraph of too many words; and that a line begins after each.
-use Rattle.std.proofs.Common.{Option, Some, None, Ok, Err}
+use Rattle.std.proofs.Common.{Option, Some, None, Result, Ok, Err}
 use mathlib.Core.Path.{◌≡◌, refl, sym, ap, ◌∙◌}
 use mathlib.Core.Bool.{Bool, true, false}
 use mathlib.Core.List.{List, [], ◌∷◌, ◌++◌}
@@ -24,8 +24,8 @@ use Rattle.walk.specs.Cited.Course.{pieces_from, output_from, long_from, FirstPi
 use Rattle.paragraphs.specs.declared.Cursor.{Cursor}
 use Rattle.walk.specs.declared.Ahead.{Ahead}
 use Rattle.walk.specs.declared.Ahead.TheVariants.{Text, End}
-use Rattle.walk.specs.declared.Ended.{Ended}
-use Rattle.walk.specs.declared.Course.{Course}
+use Rattle.walk.specs.declared.Short.{Short}
+use Rattle.walk.specs.declared.Stopped.{Stopped}
 
 -- ---- the pieces from a place on
 
@@ -74,12 +74,12 @@ module _ (most : ℕ) (o : Opts) where
   long_none nextMail notes at h = ap (long_paragraph most o at) (none_left o nextMail notes at h)
 
   module _ {nextMail : Bool} {notes : List ℕ} {at : ℕ} {kind : Kind} {state : Bool} {next : ℕ} (g : FirstPiece o nextMail notes at kind state next) where
-    long_as : (t : Bool) → too_many most o kind ≡ t → long_from most o nextMail notes at ≡ elim t as (λ x. (Option ℕ)) [ true ↦ Some at | false ↦ long_from most o state notes next ]
+    long_as : (t : Bool) → too_many most o kind ≡ t → long_from most o nextMail notes at ≡ elim t as (λ x. Option ℕ) [ true ↦ Some at | false ↦ long_from most o state notes next ]
     unfolding long_from long_paragraph
     long_as t e =
         ap (long_paragraph most o at) g.pieces
-        ∙ ap (λ (n : ℕ). elim (too_many most o g.piece.kind) as (λ x. (Option ℕ)) [ true ↦ Some at | false ↦ long_paragraph most o n (pieces_from o state notes next) ]) g.extent
-        ∙ ap (λ (b : Bool). elim b as (λ x. (Option ℕ)) [ true ↦ Some at | false ↦ long_from most o state notes next ]) (ap (too_many most o) g.is ∙ e)
+        ∙ ap (λ (n : ℕ). elim (too_many most o g.piece.kind) as (λ x. Option ℕ) [ true ↦ Some at | false ↦ long_paragraph most o n (pieces_from o state notes next) ]) g.extent
+        ∙ ap (λ (b : Bool). elim b as (λ x. Option ℕ) [ true ↦ Some at | false ↦ long_from most o state notes next ]) (ap (too_many most o) g.is ∙ e)
 
     pub long_more : too_many most o kind ≡ false → long_from most o nextMail notes at ≡ long_from most o state notes next
     long_more e = long_as false e
@@ -111,13 +111,13 @@ module _ (most : ℕ) (o : Opts) (notes : List ℕ) where
       long = h.long ∙ g.long;
     }
 
-    pub going_finished : (out' : List ℕ) (r : Ended) → FinishedFrom most o notes c out out' r → FinishedFrom most o notes c₀ out₀ out' r
+    pub going_finished : (out' : List ℕ) (r : Result ℕ Stopped) → FinishedFrom most o notes c out out' r → FinishedFrom most o notes c₀ out₀ out' r
     going_finished out' (Ok n) f = (sym g.long ∙ f.0, left_last g.left f.1)
-    going_finished out' (Err (record { at = place })) f = (sym g.long ∙ f.0, f.1 ∙ going_length)
+    going_finished out' (Err stopped) f = (sym g.long ∙ f.0, f.1 ∙ going_length)
 
-    pub going_cleared : (out' : List ℕ) (r : Ended) → ClearedFrom most o notes c out out' r → ClearedFrom most o notes c₀ out₀ out' r
+    pub going_cleared : (out' : List ℕ) (r : Result ℕ Stopped) → ClearedFrom most o notes c out out' r → ClearedFrom most o notes c₀ out₀ out' r
     going_cleared out' (Ok n) f = going_finished out' (Ok n) f
-    going_cleared out' (Err (record { at = place })) f = (sym g.long ∙ f.0, f.1 ∙ ap (λ (n : ℕ). replicate n 0) going_length)
+    going_cleared out' (Err stopped) f = (sym g.long ∙ f.0, f.1 ∙ ap (λ (n : ℕ). replicate n 0) going_length)
 
     pub going_over : {out' : List ℕ} → TooLong most o notes out c out' → FinishedFrom most o notes c₀ out₀ out' (Err (record { at = c.at }))
     going_over t = (sym g.long ∙ long_here most o t.goes t.many, ap length t.same ∙ going_length)
@@ -134,18 +134,18 @@ pub stands_first : (notes : List ℕ) → CursorIn notes start
 stands_first notes = record { within = omega arith; bounded = omega arith; sound = lines_sound notes }
 
 module _ (most : ℕ) (o : Opts) (notes : List ℕ) where
-  pub all_finished : (c : Cursor) (out out' : List ℕ) (r : Ended) → c ≡ start → ClearedFrom most o notes c out out' r → Finished most o notes out out' r
+  pub all_finished : (c : Cursor) (out out' : List ℕ) (r : Result ℕ Stopped) → c ≡ start → ClearedFrom most o notes c out out' r → Finished most o notes out out' r
   all_finished c out out' (Ok n) e f = let g : ClearedFrom most o notes start out out' (Ok n) = rw e at f in (sym (all_long most o notes) ∙ g.0, rw (all_output o notes) at g.1)
-  all_finished c out out' (Err (record { at = place })) e f = let g : ClearedFrom most o notes start out out' (Err (record { at = place })) = rw e at f in (sym (all_long most o notes) ∙ g.0, g.1)
+  all_finished c out out' (Err stopped) e f = let g : ClearedFrom most o notes start out out' (Err stopped) = rw e at f in (sym (all_long most o notes) ∙ g.0, g.1)
 
   -- where there is no room nothing is written, and nothing is to be cleared
-  pub none_measured : (c : Cursor) (out' : List ℕ) (r : Ended) → FinishedFrom most o notes c [] out' r → FinishedFrom most o notes c [] [] r
+  pub none_measured : (c : Cursor) (out' : List ℕ) (r : Result ℕ Stopped) → FinishedFrom most o notes c [] out' r → FinishedFrom most o notes c [] [] r
   none_measured c out' (Ok n) f = rw (none_longer out' (wrote_length f.1)) at f
-  none_measured c out' (Err (record { at = place })) f = (f.0, refl)
+  none_measured c out' (Err stopped) f = (f.0, refl)
 
-  pub none_finished : (c : Cursor) (out' : List ℕ) (r : Ended) → c ≡ start → FinishedFrom most o notes c [] out' r → Finished most o notes [] [] r
+  pub none_finished : (c : Cursor) (out' : List ℕ) (r : Result ℕ Stopped) → c ≡ start → FinishedFrom most o notes c [] out' r → Finished most o notes [] [] r
   none_finished c out' (Ok n) e f = all_finished c [] [] (Ok n) e (none_measured c out' (Ok n) f)
-  none_finished c out' (Err (record { at = place })) e f = all_finished c [] [] (Err (record { at = place })) e (f.0, refl)
+  none_finished c out' (Err stopped) e f = all_finished c [] [] (Err stopped) e (f.0, refl)
 
   pub none_left_out : {c₀ c : Cursor} {out : List ℕ} → Going most o notes c₀ [] c out → Going most o notes c₀ [] c []
   none_left_out {out = out} g = rw (none_longer out (going_length most o notes g)) at g
@@ -159,6 +159,6 @@ module _ (most : ℕ) (block : List ℕ) (o : Options) (notes out₀ out : List 
   reached_end e = rw e at s
 
 -- by how far the room reached
-module _ (most room : ℕ) (block : List ℕ) (o : Options) (notes out₀ out : List ℕ) (c₀ : Cursor) (r : Course) (s : Coursed most room block o notes c₀ out₀ out r) where
-  pub course_short : {c : Cursor} {p : Paragraph} → r ≡ shorter c p → Coursed most room block o notes c₀ out₀ out (shorter c p)
+module _ (most room : ℕ) (block : List ℕ) (o : Options) (notes out₀ out : List ℕ) (c₀ : Cursor) (r : Result ℕ Short) (s : Coursed most room block o notes c₀ out₀ out r) where
+  pub course_short : {short : Short} → r ≡ Err short → Coursed most room block o notes c₀ out₀ out (Err short)
   course_short e = rw e at s

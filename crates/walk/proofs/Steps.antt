@@ -1,5 +1,5 @@
 -- What a piece's writers have done, as the definition says it of the piece; and what they could ask.
-use Rattle.std.proofs.Common.{None, Ok, Err}
+use Rattle.std.proofs.Common.{None, Result, Ok, Err}
 use mathlib.Core.Path.{◌≡◌, refl, sym, ap, ◌∙◌}
 use mathlib.Core.Bool.{Bool, true, false, not, ◌||◌}
 use mathlib.Core.List.{List, [], ◌++◌}
@@ -24,6 +24,7 @@ use Rattle.pieces.specs.declared.Piece.{Piece as PieceAt}
 use Rattle.pieces.specs.declared.Piece.TheVariants.{Text}
 use Rattle.pieces.proofs.Meaning.{TextIs, means}
 use Rattle.words.specs.Words.{words_of}
+use Rattle.words.specs.declared.TooMany.{TooMany}
 use Rattle.words.proofs.Order.{paragraph_some}
 use Rattle.output.specs.Cited.Bound.{longest}
 use Rattle.output.specs.Emission.{line_feed, emit}
@@ -34,7 +35,6 @@ use Rattle.walk.specs.Digest.{formatted, most_words, output_of}
 use Rattle.paragraphs.specs.Cited.Steps.{room_for, setting_for, words_for, Placed, TextPut, takes, TextStepped}
 use Rattle.walk.specs.Cited.Course.{FirstPiece, Put, TooLong, Admitted, TextAhead, Going, FinishedFrom}
 use Rattle.paragraphs.specs.declared.Cursor.{Cursor}
-use Rattle.paragraphs.specs.declared.Step.{Step}
 use Rattle.paragraphs.proofs.Streaming.{takes_few, takes_many, half}
 use Rattle.walk.proofs.Rows.{text_words}
 use Rattle.walk.proofs.Meaning.{TextGoes, PieceGoes, piece_goes}
@@ -169,7 +169,7 @@ module _ (block notes : List ℕ) (o : Options) (c : Cursor) (p : ParagraphAt) (
   pub begins_placed : Placed notes c.at o p
   begins_placed = let g = begins_goes in text_found block notes o (ready_kept block notes o ready) ready.short c.mail c.at p g.paragraph_is g.text g.bounds
 
-  pub begins_stepped : (most limit room : ℕ) (out out' : List ℕ) (r : Step) (d : Cursor) → limit ≤ most → room ≤ limit → TextStepped (takes o.quick (p.next - c.at) limit room (length (words_for block notes c.at o p))) notes c.at o p out c.written out' r block → r ≡ Ok d
+  pub begins_stepped : (most limit room : ℕ) (out out' : List ℕ) (r : Result Cursor TooMany) (d : Cursor) → limit ≤ most → room ≤ limit → TextStepped (takes o.quick (p.next - c.at) limit room (length (words_for block notes c.at o p))) notes c.at o p out c.written out' r block → r ≡ Ok d
       → Put most (meant block o) notes out c d out'
   begins_stepped most limit room out out' r d few small w e =
       let g = begins_goes in
@@ -177,7 +177,7 @@ module _ (block notes : List ℕ) (o : Options) (c : Cursor) (p : ParagraphAt) (
       let n = takes_few o.quick (p.next - c.at) limit room (length (words_for block notes c.at o p)) (half notes c.at o p begins_placed block) small v.0 in
       text_put block notes o ready c.mail c.at p g.paragraph_is g.goes g.text g.bounds most out c d out' refl refl (omega (arith, n, few)) v.1
 
-  pub begins_over : (limit room : ℕ) (out out' : List ℕ) (r : Step) → TextStepped (takes o.quick (p.next - c.at) limit room (length (words_for block notes c.at o p))) notes c.at o p out c.written out' r block → r ≡ (Err (record { }))
+  pub begins_over : (limit room : ℕ) (out out' : List ℕ) (r : Result Cursor TooMany) → TextStepped (takes o.quick (p.next - c.at) limit room (length (words_for block notes c.at o p))) notes c.at o p out c.written out' r block → r ≡ Err (record { })
       → (room < length (words_for block notes c.at o p)) × (out' ≡ out)
   begins_over limit room out out' r w e =
       let v : TextStepped (takes o.quick (p.next - c.at) limit room (length (words_for block notes c.at o p))) notes c.at o p out c.written out' (Err (record { })) block = rw e at w in

@@ -6,6 +6,6 @@ pub returns-then-quick : goal.returns-then-quick
 unfolding room_for
 returns-then-quick c = rw c.if-quick.true
 
-pub returns : goal.returns
+pub returns-else-quick : goal.returns-else-quick
 unfolding room_for
-returns c = rw c.if-quick.false
+returns-else-quick c = rw c.if-quick.false

@@ -7,8 +7,8 @@ use Rattle.walk.proofs.put_texts.Given as goal
 
 abbrev pub invariant-loop-behind : goal.invariant-loop-behind
 invariant-loop-behind l =
-    ((most : ℕ) → l.limit ≤ most → Going most (meant l.block l.o) l.notes l.initial.c l.initial.out l.c l.out) × TextAhead l.block l.o l.notes l.c l.p
+    ((most : ℕ) → l.limit ≤ most → Going most (meant l.notes.block.now l.notes.options) l.notes.bytes.now l.initial.c l.initial.out l.c l.out) × TextAhead l.notes.block.now l.notes.options l.notes.bytes.now l.c l.p
     × (length l.work ≡ length l.initial.work)
 
 abbrev pub decreases-loop-behind : goal.decreases-loop-behind
-decreases-loop-behind l = length l.notes - l.c.at
+decreases-loop-behind l = length l.notes.bytes.now - l.c.at
