@@ -1,8 +1,9 @@
 -- How many lines a text has from a place on, byte by byte from its end; and where its newest lines begin.
 use mathlib.Core.Path.{◌≡◌, refl, sym, ap, ◌∙◌}
-use mathlib.Core.Bool.{Bool, true, false}
+use mathlib.Core.Bool.{Bool, true, false, ◌||◌}
 use mathlib.Core.List.{List, [], ◌∷◌, ◌++◌}
 use Prim.Native.Nat.{ℕ, zero, suc, ◌+◌, ◌-◌, ◌≤◌, ◌<◌}
+use mir.Val.{bool_byte}
 use native.Mathlib.Numerals.{add-one}
 use native.Mathlib.Omega.{arith}
 use lib.Dec.{eqb}
@@ -83,20 +84,19 @@ newest_here s last h n m = go (eqb (get_or s last 0) 10) refl
             let z = count_same s last (omega (arith, q)) (eqb-false (get_or s last 0) 10 e) in
             omega arith
 
--- ---- the same at the byte before a place
+-- ---- how many more lines a text has from a byte on than from the one after it
 
-module _ (s : List ℕ) (at : ℕ) (some : 0 < at) (within : at ≤ length s) where
-  again : at - 1 + 1 ≡ at
-  again = omega arith
+module _ (s : List ℕ) (last : ℕ) (within : last < length s) where
+  pub ends_told : (r : ℕ) → r ≡ bool_byte (eqb (last + 1) (length s) || eqb (get_or s last 0) 10) → (r ≤ 1) × (r + count_from s (last + 1) ≡ count_from s last)
+  ends_told r e = go (eqb (last + 1) (length s)) refl (eqb (get_or s last 0) 10) refl
+    where
+      go : (t : Bool) → eqb (last + 1) (length s) ≡ t → (f : Bool) → eqb (get_or s last 0) 10 ≡ f → (r ≤ 1) × (r + count_from s (last + 1) ≡ count_from s last)
+      go true h f g = let n : r ≡ 1 = e ∙ rw h in let k = count_last s last (eqb-true (last + 1) (length s) h) in (omega arith, omega arith)
+      go false h true g = let n : r ≡ 1 = e ∙ rw (h, g) in let k = count_feed s last within (eqb-true (get_or s last 0) 10 g) in (omega arith, omega arith)
+      go false h false g =
+          let n : r ≡ 0 = e ∙ rw (h, g) in
+          let k = count_same s last (omega (arith, eqb-false (last + 1) (length s) h)) (eqb-false (get_or s last 0) 10 g) in
+          (omega arith, omega arith)
 
-  pub ends_last : at ≡ length s → 1 + count_from s at ≡ count_from s (at - 1)
-  ends_last h = omega (arith, rw again at (count_last s (at - 1) (omega arith)))
-
-  pub ends_fed : get_or s (at - 1) 0 ≡ 10 → 1 + count_from s at ≡ count_from s (at - 1)
-  ends_fed e = omega (arith, rw again at (count_feed s (at - 1) (omega arith) e))
-
-  pub ends_not : (at ≡ length s → ⊥) → (get_or s (at - 1) 0 ≡ 10 → ⊥) → 0 + count_from s at ≡ count_from s (at - 1)
-  ends_not h ne = omega (arith, rw again at (count_same s (at - 1) (omega (arith, h)) ne))
-
-  pub newest_at : (n m : ℕ) → n ≡ count_from s at → n ≤ 24 → m ≤ 1 → m + count_from s at ≡ count_from s (at - 1) → 24 < n + m → lines_of (drop at s) ≡ newest (lines_of s)
-  newest_at n m e f o b g = rw again at (newest_here s (at - 1) (omega arith) (rw again (omega arith)) (omega arith))
+  pub newest_at : (n m : ℕ) → n ≡ count_from s (last + 1) → n ≤ 24 → m ≤ 1 → m + count_from s (last + 1) ≡ count_from s last → 24 < n + m → lines_of (drop (last + 1) s) ≡ newest (lines_of s)
+  newest_at n m e f o b g = newest_here s last within (omega arith) (omega arith)

@@ -1,14 +1,12 @@
 -- Drawing the panel, row by row: the rows drawn and those of the lines left are the panel's, and what is left of the cells is blank.
 use Rattle.std.proofs.Common.{Ok, Err}
 use mathlib.Core.Path.{◌≡◌, refl, sym, ap, ◌∙◌}
-use mathlib.Core.Bool.{Bool, true, false}
 use mathlib.Core.List.{List, [], ◌∷◌, ◌++◌, append_assoc, append-nil}
-use Prim.Native.Nat.{ℕ, zero, suc, ◌+◌, ◌-◌, ◌*◌, ◌≤◌, ◌<◌}
+use Prim.Native.Nat.{ℕ, zero, suc, ◌+◌, ◌-◌, ◌*◌, ◌≤◌, ◌<◌, max}
 use native.Mathlib.Omega.{arith}
-use lib.Dec.{eqb}
 use lib.ListN.{length, take, drop, replicate, length-append, length-drop, length-replicate, replicate-append-replicate}
 use lib.Seq.{take_at, drop_at, drop-drop, length-take-le, take_all}
-use borrow.Author.Tests.{eqb-false, le-leb, lt-leb}
+use borrow.Author.Tests.{ne_eqb, le-leb, lt-leb}
 use Rattle.lists.specs.Runs.{joined}
 use Rattle.lists.proofs.Parts.{joined_nil, joined_cons, joined_append}
 use Rattle.lists.proofs.Slices.{slice_is}
@@ -112,15 +110,15 @@ module _ (digest : List ℕ) (tab : ℕ) (cells : List ℕ) (at from : ℕ) (e :
 
 -- ---- the answers
 
-pub stop_bounds : (tab w : ℕ) → tab ≤ 100 → w ≡ stop_width tab → (1 ≤ w) × (w ≤ 100)
+pub stop_width_is : (tab : ℕ) → max tab 1 ≡ stop_width tab
 unfolding stop_width
-stop_bounds tab w h e = pick (eqb tab 0) refl
-  where
-    pick : (t : Bool) → eqb tab 0 ≡ t → (1 ≤ w) × (w ≤ 100)
-    pick true f = rw (e, f) (omega arith, omega arith)
-    pick false f = let n = eqb-false tab 0 f in rw (e, f) (omega (arith, n), h)
+stop_width_is zero = omega arith
+stop_width_is (suc n) = rw (ne_eqb (suc n) 0 (λ e. omega arith)) (omega arith)
 
-pub refused : (tab : ℕ) (digest : List ℕ) → 100 < tab → ((Err (record { })) ≡ panel_answer tab) × (replicate 1920 blank ≡ cells_after tab digest)
+pub stop_bounds : (tab w : ℕ) → tab ≤ 100 → w ≡ stop_width tab → (1 ≤ w) × (w ≤ 100)
+stop_bounds tab w h e = let m = stop_width_is tab in (omega arith, omega arith)
+
+pub refused : (tab : ℕ) (digest : List ℕ) → 100 < tab → ((Err (record {})) ≡ panel_answer tab) × (replicate 1920 blank ≡ cells_after tab digest)
 unfolding panel_answer cells_after
 refused tab digest h = rw (lt-leb tab 100 h) (refl, refl)
 

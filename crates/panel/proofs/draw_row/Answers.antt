@@ -28,7 +28,7 @@ loop-at-preserved c =
     drawing_next _ _ _ _ _ c.requires.0
     c.loop-at.invariant _ here _
     c.draw_sign.ensures.1 _
-    (sym c.in-At.is ∙ c.draw_sign.ensures.0)
+    (sym c.in-Some.is ∙ c.draw_sign.ensures.0)
 
 pub returns : goal.returns
 returns c = drawing_last _ _ _ _ _ c.loop-at.invariant c.loop-at-test.false

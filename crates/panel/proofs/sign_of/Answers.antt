@@ -1,4 +1,5 @@
 -- `panel::sign_of` meets its contract: its tests in the definition's order.
+use native.Mathlib.Omega.{arith}
 use borrow.Author.Tests.{ne_eqb}
 use Rattle.panel.specs.Panel.{sign_of}
 use Rattle.panel.proofs.sign_of.Goals as goal
@@ -11,37 +12,22 @@ pub returns-then-is_control : goal.returns-then-is_control
 unfolding sign_of
 returns-then-is_control c = rw (ne_eqb c.args.c 9 c.if-c-eq9.false, ← c.is_control.ensures, c.if-is_control.true)
 
-pub returns-then-w-eq0 : goal.returns-then-w-eq0
+pub returns-in-0 : goal.returns-in-0
 unfolding sign_of
-returns-then-w-eq0 c =
-    rw (
-      ne_eqb c.args.c 9 c.if-c-eq9.false,
-      ← c.is_control.ensures,
-      c.if-is_control.false,
-      ← c.width-w.ensures,
-      c.if-w-eq0.true,
-    )
+returns-in-0 c = rw (ne_eqb c.args.c 9 c.if-c-eq9.false, ← c.is_control.ensures, c.if-is_control.false, ← c.width.ensures, c.in-0.is)
 
-pub returns-then-w-eq2 : goal.returns-then-w-eq2
+pub returns-in-2 : goal.returns-in-2
 unfolding sign_of
-returns-then-w-eq2 c =
-    rw (
-      ne_eqb c.args.c 9 c.if-c-eq9.false,
-      ← c.is_control.ensures,
-      c.if-is_control.false,
-      ← c.width-w.ensures,
-      ne_eqb c.width-w.result 0 c.if-w-eq0.false,
-      c.if-w-eq2.true,
-    )
+returns-in-2 c = rw (ne_eqb c.args.c 9 c.if-c-eq9.false, ← c.is_control.ensures, c.if-is_control.false, ← c.width.ensures, c.in-2.is)
 
-pub returns : goal.returns
+pub returns-in_default : goal.returns-in_default
 unfolding sign_of
-returns c =
+returns-in_default c =
     rw (
       ne_eqb c.args.c 9 c.if-c-eq9.false,
       ← c.is_control.ensures,
       c.if-is_control.false,
-      ← c.width-w.ensures,
-      ne_eqb c.width-w.result 0 c.if-w-eq0.false,
-      ne_eqb c.width-w.result 2 c.if-w-eq2.false,
+      ← c.width.ensures,
+      ne_eqb c.width.result 0 (λ e. omega arith),
+      ne_eqb c.width.result 2 (λ e. omega arith),
     )
