@@ -74,6 +74,21 @@ return_behind [] = refl
 return_behind (x ∷ []) = refl
 return_behind (x ∷ y ∷ text) = ap (λ (l : List ℕ). x ∷ l) (return_behind (y ∷ text))
 
+-- another last byte stays
+return_stays : (text : List ℕ) (x : ℕ) → (x ≡ 13 → ⊥) → without_return (text ++ x ∷ []) ≡ text ++ x ∷ []
+unfolding without_return
+return_stays [] x h = rw (ne_eqb x 13 h)
+return_stays (y ∷ []) x h = rw (ne_eqb x 13 h)
+return_stays (y ∷ z ∷ text) x h = ap (λ (l : List ℕ). y ∷ l) (return_stays (z ∷ text) x h)
+
+-- of a text by its last byte and what is before it
+module _ (xs before : List ℕ) (last : ℕ) (parts : xs ≡ before ++ last ∷ []) where
+  pub return_off : last ≡ 13 → length before ≡ length (without_return xs)
+  return_off h = rw (parts, h, return_behind)
+
+  pub return_on : (last ≡ 13 → ⊥) → length xs ≡ length (without_return xs)
+  return_on h = rw (parts, return_stays before last h)
+
 pub return_none : (xs : List ℕ) → length xs ≡ 0 → length (without_return xs) ≡ 0
 unfolding without_return
 return_none [] h = refl

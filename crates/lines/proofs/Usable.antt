@@ -1,5 +1,5 @@
 -- For callers: options that a block was accepted as can be used.
-use Rattle.std.proofs.Common.{None}
+use Rattle.std.proofs.Common.{Option, Some, None}
 use mathlib.Core.Path.{◌≡◌, refl}
 use mathlib.Core.List.{List}
 use Prim.Native.Nat.{ℕ}
@@ -9,9 +9,9 @@ use Rattle.options.proofs.Accepted.{Prefix, Kept}
 use Rattle.lines.specs.Cited.Places.{Lies, Usable}
 use Rattle.options.specs.OptionBlock.{between}
 
-lies : (block : List ℕ) (p : Part) → ((start end : ℕ) → p ≡ between start end → Prefix block start end) → Lies block p
+lies : (block : List ℕ) (p : Option Part) → ((start end : ℕ) → p ≡ between start end → Prefix block start end) → Lies block p
 lies block None h = tt
-lies block (between start end) h = let k = h start end refl in (k.ordered, k.inside)
+lies block (Some part) h = let k = h part.start part.end refl in (k.ordered, k.inside)
 
 pub usable : (block : List ℕ) (o : Options) → Kept block o → Usable block o
 usable block o k = record {

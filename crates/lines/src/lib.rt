@@ -233,9 +233,13 @@ fn ascii_eights(s: &[u8], from: usize) -> usize
 fn without_return(body: &[u8]) -> usize
     ensures { result ≡ length (without_return body.now) }
 {
-    match body.split_last() {
-        Some((13, before)) => before.len(),
-        _ => body.len(),
+    let Some((last, before)) = body.split_last() else {
+        return 0;
+    };
+    if *last == 13 {
+        before.len()
+    } else {
+        body.len()
     }
 }
 
@@ -321,7 +325,7 @@ fn classify(line: &[u8], sound: bool, o: Options, block: &[u8]) -> Class
         return Class::Plain;
     }
     // Without a prefix the indent is the line's first blanks.
-    let Some(Part { start, end }) = o.prefix else {
+    let Some(prefix) = o.prefix else {
         let lead = lead_of(line, from, tab);
         return Class::Formatted(Shape {
             prefix_place: 0,
@@ -330,7 +334,14 @@ fn classify(line: &[u8], sound: bool, o: Options, block: &[u8]) -> Class
             prefix_length: 0,
         });
     };
-    behind_prefix(line, from, &block[start..end], o.exact_prefix, tab, glue)
+    behind_prefix(
+        line,
+        from,
+        &block[prefix.start..prefix.end],
+        o.exact_prefix,
+        tab,
+        glue,
+    )
 }
 
 // Whether nothing but blanks is in a line from a place on. A byte below 0x80, as most are, is a character by itself.

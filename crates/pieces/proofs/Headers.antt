@@ -8,7 +8,7 @@ use lib.ListN.{length, get_or}
 use Rattle.lists.specs.Runs.{while, every, begins}
 use Rattle.lists.proofs.Runs.{while_more, while_end, every_more, every_end}
 use Rattle.pieces.specs.Pieces.{printable, no_colon, header_text, from_word}
-use borrow.Author.Tests.{le-leb, lt-leb, lt-ltb, le-ltb, ne_eqb}
+use borrow.Author.Tests.{le-leb, lt-leb, lt-ltb, ne_eqb}
 use native.Mathlib.Omega.{arith}
 use mathlib.Core.Bool.{and-false}
 use Rattle.pieces.specs.Cited.Places.{header_name}
@@ -112,14 +112,6 @@ module _ (line : List ℕ) where
   header_from h = rw h
 
   module _ (other : begins from_word line ≡ false) (n : ℕ) (name : n ≡ length (while header_name line)) where
-    pub header_first : n ≡ 0 → false ≡ header_text line
-    unfolding header_text
-    header_first h = rw other (sym (headed_is line ∙ rw (sym name ∙ h) refl))
-
-    pub header_all : length line ≤ n → false ≡ header_text line
+    pub header_is : ltb 0 n && (ltb n (length line) && eqb (get_or line n 0) 58) ≡ header_text line
     unfolding header_text behind_name
-    header_all h = rw other (sym (headed_is line ∙ rw (le-ltb (length (while header_name line)) (length line) (omega arith)) (and-false (ltb 0 (length (while header_name line))))))
-
-    pub header_colon : (n ≡ 0 → ⊥) → n < length line → eqb (get_or line n 0) 58 ≡ header_text line
-    unfolding header_text behind_name
-    header_colon h k = rw other (sym (headed_is line ∙ rw (← name, lt-ltb 0 n (omega arith), lt-ltb n (length line) k) refl))
+    header_is = rw other (sym (headed_is line ∙ rw (← name) refl))

@@ -1,4 +1,3 @@
-pub mod Shapes
 pub mod Headers
 pub mod Following
 pub mod Places

@@ -1,5 +1,5 @@
 -- A paragraph of each kind, from the place that its lines reach.
-use Rattle.std.proofs.Common.{None}
+use Rattle.std.proofs.Common.{Option, Some, None, is_some}
 use mathlib.Core.Path.{◌≡◌, refl, sym, ap, ◌∙◌, fun_ext}
 use mathlib.Core.Bool.{Bool, true, false, cond, not, ◌&&◌, ◌||◌}
 use mathlib.Core.List.{List, []}
@@ -16,27 +16,27 @@ use Rattle.lines.specs.declared.Shape.{Shape}
 use Rattle.lines.specs.declared.Class.TheVariants.{Formatted}
 use Rattle.lines.proofs.Shapes.{known}
 use Rattle.pieces.specs.Pieces.{Second, alone, joins, continues, agrees, not_at_start, follow, follow_second, second_of, further}
-use Rattle.pieces.specs.Cited.Places.{taken, margin_at, spaces_at, later_at, later_start, indent_at, start_at, paragraph_with, reach, second_place, second_at, passes_rule, is_given, LineIs, Shaped, Joined, joining}
+use Rattle.pieces.specs.Cited.Places.{taken, margin_at, spaces_at, later_at, later_start, indent_at, start_at, paragraph_with, reach, second_place, second_at, passes_rule, LineIs, Shaped, Joined, joining}
 use Rattle.pieces.specs.declared.Classed.{Classed}
 use Rattle.pieces.specs.declared.Paragraph.{Paragraph}
+use Rattle.pieces.specs.declared.Second.{Second as SecondAt}
 use Rattle.pieces.specs.declared.Rule.TheVariants.{Mail, Like}
 use Rattle.pieces.proofs.Following.{taken_none, taken_more}
 use Rattle.pieces.proofs.Reach.{further_is}
-use Rattle.pieces.proofs.Shapes.{like_is}
 use Rattle.pieces.specs.declared.Margin.{Margin}
-use Rattle.options.specs.OptionBlock.{between}
 
 -- the code's rules are those of the definition
 pub mail_rule : (block : List ℕ) (o : Options) → passes_rule Mail o.prefix ≡ continues (meant block o)
 unfolding passes_rule continues meant
 mail_rule block o = fun_ext (λ s. ap (λ (t : Bool). ltb 0 s.indent_end && t) (pick o.prefix s))
   where
-    pick : (p : Part) (s : Shape) → not (is_given p) || ltb 0 s.prefix_place ≡ not_at_start (text_of block p) s
+    pick : (p : Option Part) (s : Shape) → not (is_some p) || ltb 0 s.prefix_place ≡ not_at_start (text_of block p) s
     pick None s = refl
-    pick (between start end) s = refl
+    pick (Some part) s = refl
 
-pub like_rule : (a : Shape) (p : Part) → passes_rule (Like a) p ≡ agrees a
-like_rule a p = fun_ext (λ s. sym (like_is a s p))
+pub like_rule : (a : Shape) (p : Option Part) → passes_rule (Like a) p ≡ agrees a
+unfolding passes_rule
+like_rule a p = fun_ext (λ s. refl)
 
 -- a line's shape lies in the notes
 pub line_shaped : (o : Opts) (notes : List ℕ) (at : ℕ) (line : Classed) (s : Shape) → LineIs o notes at line → line.class ≡ Formatted s → 1 ≤ o.tab → o.tab ≤ 100 → length notes ≤ most_large → Shaped notes at s
@@ -156,7 +156,8 @@ module _ (o : Opts) (notes : List ℕ) (at next : ℕ) (s : Shape) where
             (paragraph_with o false at next s (lines_of (drop next notes)))
         go alone h p = absurd (let z : ◌≡◌ {A = ℕ} 0 1 = cc in omega arith)
         go (joins text u) h p =
-            let ut : u ≡ t = cc in
+            let seconds : ◌≡◌ {A = SecondAt} (record { next = behind; shape = t }) (record { next = next + length (first_line (drop next notes)).raw; shape = u }) = cc in
+            let ut : u ≡ t = ap (λ (x : SecondAt). x.shape) (sym seconds) in
             let i : indent_at o false at next s (lines_of (drop next notes)) ≡ margin_at next 0 t = hang_indent ∙ ap (later_at o at next s) h ∙ ap (margin_at next 0) ut in
             let b : start_at o false s (lines_of (drop next notes)) ≡ t.indent_end = hang_start ∙ ap (later_start s) h ∙ ap (λ (x : Shape). x.indent_end) ut in
             let n = q ∙ hang_count behind text t (h ∙ ap (joins text) ut) j in

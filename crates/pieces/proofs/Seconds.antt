@@ -1,5 +1,6 @@
 -- The second line of a crown or tagged paragraph, as the code finds it.
-use Rattle.std.proofs.Common.{None}
+use Rattle.std.proofs.Common.{Option, Some, None}
+use Rattle.std.specs.Bool.{then_some}
 use mathlib.Core.Path.{◌≡◌, refl, sym, ap, subst, ◌∙◌}
 use mathlib.Core.Bool.{Bool, true, false, cond, true≢false}
 use mathlib.Core.List.{List}
@@ -42,14 +43,19 @@ module _ (o : Opts) (a : Shape) (notes : List ℕ) (at : ℕ) where
       shaped : second_place place (cond (second_rule o.tagged a s) (joins (first_line (drop at notes)).text s) alone) ≡ second_at o a notes at
       shaped = ap (λ (k : Class). second_place place (second_as o a (first_line (drop at notes)).text k)) (sym shape) ∙ second_is
 
-      pub second_not : second_rule o.tagged a s ≡ false → None ≡ second_at o a notes at
+      second_not : second_rule o.tagged a s ≡ false → None ≡ second_at o a notes at
       second_not h = ap (λ (t : Bool). second_place place (cond t (joins (first_line (drop at notes)).text s) alone)) (sym h) ∙ shaped
 
-      pub second_joins : second_rule o.tagged a s ≡ true → joining line.next s ≡ second_at o a notes at
+      second_joins : second_rule o.tagged a s ≡ true → joining line.next s ≡ second_at o a notes at
       unfolding place
       second_joins h = ap (λ (n : ℕ). joining n s) here.next ∙ ap (λ (t : Bool). second_place place (cond t (joins (first_line (drop at notes)).text s) alone)) (sym h) ∙ shaped
 
-pub joined_of : (notes : List ℕ) (at : ℕ) (r : SecondAt) {n : ℕ} {s : Shape} → SecondSound notes at r → r ≡ joining n s → Joined notes at n s
+      pub second_told : (b : Bool) → second_rule o.tagged a s ≡ b → Joined notes at line.next s
+          → (let r : Option SecondAt = then_some b (record { next = line.next; shape = s }) in (r ≡ second_at o a notes at) × SecondSound notes at r)
+      second_told true h j = (second_joins h, j)
+      second_told false h j = (second_not h, tt)
+
+pub joined_of : (notes : List ℕ) (at : ℕ) (r : Option SecondAt) {second : SecondAt} → SecondSound notes at r → r ≡ Some second → Joined notes at second.next second.shape
 joined_of notes at r h e = subst (SecondSound notes at) e h
 
 -- a paragraph that hangs is not split

@@ -233,10 +233,10 @@ fn second_line(
         return None;
     }
     let Classed { next, class, .. } = line_at(notes, at, o, block, sound);
-    match class {
-        Class::Formatted(shape) if is_second(o.tagged, s, shape) => Some(Second { next, shape }),
-        _ => None,
-    }
+    let Class::Formatted(shape) = class else {
+        return None;
+    };
+    is_second(o.tagged, s, shape).then_some(Second { next, shape })
 }
 
 // The place after the lines that join by a rule. Split: one line each.
@@ -302,7 +302,7 @@ pub fn is_header(line: &[u8]) -> bool
         return true;
     }
     let n = name_end(line);
-    0 < n && line.get(n) == Some(&b':')
+    0 < n && n < line.len() && line[n] == b':'
 }
 
 // The first place whose byte is a colon or is not printable, or the end.

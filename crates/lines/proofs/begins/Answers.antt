@@ -16,12 +16,10 @@ pub returns-then-s-last : goal.returns-then-s-last
 returns-then-s-last c = sym (begins_unlike _ _ _ (search rules) c.if-s-last.true)
 
 pub returns-then-s-i : goal.returns-then-s-i
-returns-then-s-i c = let l = c in sym (begins_other _ _ _ l.loop-i-test.true (omega (arith, c.if-s-p.false, l.loop-i-test.true)) c.if-s-i.true) ∙ l.loop-i.invariant.1
+returns-then-s-i c = sym (begins_other c.args.p.now c.args.s.now c.loop-i.i (omega arith) (omega arith) c.if-s-i.true) ∙ c.loop-i.invariant
 
 pub loop-i-preserved : goal.loop-i-preserved
-loop-i-preserved c =
-    let l = c in
-    (search rules, sym (begins_more _ _ _ l.loop-i-test.true (omega (arith, c.if-s-p.false, l.loop-i-test.true)) c.if-s-i.false) ∙ l.loop-i.invariant.1)
+loop-i-preserved c = sym (begins_more c.args.p.now c.args.s.now c.loop-i.i (omega arith) (omega arith) c.if-s-i.false) ∙ c.loop-i.invariant
 
 pub returns : goal.returns
-returns c = sym (begins_done _ _ _ c.loop-i-test.false) ∙ c.loop-i.invariant.1
+returns c = sym (begins_done c.args.p.now c.args.s.now c.loop-i.i (omega arith)) ∙ c.loop-i.invariant

@@ -8,7 +8,8 @@ pub returns-then-b-lt128 : goal.returns-then-b-lt128
 returns-then-b-lt128 c =
     let p = c.requires in
     let h = ascii_here _ _ p.1 c.if-b-lt128.true in
-    behind_char _ _ _ _ p.0 h (rw c.wide.ensures at c.column_behind.ensures.0) c.column_behind.ensures.1
+    let column = rw c.from.ensures at c.column_behind.ensures.0 in
+    behind_char _ _ _ _ p.0 h column c.column_behind.ensures.1
 
 pub returns-in_default : goal.returns-in_default
 returns-in_default c =
@@ -19,5 +20,5 @@ returns-in_default c =
 pub returns : goal.returns
 returns c =
     let p = c.requires in
-    let h = char_here _ _ _ _ (sym c.decode_at.ensures ∙ c.in-Good.is) in
+    let h = char_here _ _ _ _ (sym c.decode_at.ensures ∙ c.in-Some.is) in
     behind_char _ _ _ _ p.0 h c.column_behind-2.ensures.0 c.column_behind-2.ensures.1

@@ -45,5 +45,5 @@ returns c =
     let blank : every is_blank (glyphs c.args.o.glue c.args.line.now) ≡ c.is_all_blank.result = sym (spaces_blank _ _ c.run_end-from.ensures _) ∙ sym (c.is_all_blank.ensures _) in
     let ink : every is_blank (glyphs c.args.o.glue c.args.line.now) ≡ false = blank ∙ c.if-is_all_blank.false in
     let good : every is_good (glyphs c.args.o.glue c.args.line.now) ≡ true = not-false _ (sym (c.is_damaged.ensures _) ∙ c.if-is_damaged.false) in
-    let lies = rw c.in-Given.is at c.requires.0.prefix in
-    class_given _ _ ink good (sym (c.is_skipped.ensures _) ∙ c.if-is_skipped.false) _ _ (rw c.in-Given.is) (rw (part_between _ _ _ lies.0) at c.behind_prefix.ensures)
+    let lies = rw c.in-Some.is at c.requires.0.prefix in
+    class_given _ _ ink good (sym (c.is_skipped.ensures _) ∙ c.if-is_skipped.false) _ _ (rw c.in-Some.is) (rw (part_between _ _ _ lies.0) at c.behind_prefix.ensures)

@@ -11,12 +11,12 @@ use Rattle.lines.proofs.is_all_blank.Goals as goal
 
 pub loop-i-preserved-then-is_white_space : goal.loop-i-preserved-then-is_white_space
 loop-i-preserved-then-is_white_space c =
-    let octet : Here c.is_white_space.result c.args.line.now c.loop-i.i (get_or c.args.line.now c.loop-i.i 0) (c.loop-i.i + 1) = rw (c.is_white_space.ensures, c.wide.ensures) (ascii_here _ _ c.loop-i-test.true c.if-b-lt128.true) in
+    let octet : Here c.is_white_space.result c.args.line.now c.loop-i.i (get_or c.args.line.now c.loop-i.i 0) (c.loop-i.i + 1) = rw (c.is_white_space.ensures, c.from.ensures) (ascii_here _ _ c.loop-i-test.true c.if-b-lt128.true) in
     let e = c.blank_eights-i.ensures in (e.1, λ glue. e.2 glue ∙ sym (all_on glue _ _ _ _ (rw c.if-is_white_space.true at (octet))) ∙ c.loop-i.invariant.1 glue)
 
 pub returns-else-is_white_space : goal.returns-else-is_white_space
 returns-else-is_white_space c =
-    let octet : Here c.is_white_space.result c.args.line.now c.loop-i.i (get_or c.args.line.now c.loop-i.i 0) (c.loop-i.i + 1) = rw (c.is_white_space.ensures, c.wide.ensures) (ascii_here _ _ c.loop-i-test.true c.if-b-lt128.true) in
+    let octet : Here c.is_white_space.result c.args.line.now c.loop-i.i (get_or c.args.line.now c.loop-i.i 0) (c.loop-i.i + 1) = rw (c.is_white_space.ensures, c.from.ensures) (ascii_here _ _ c.loop-i-test.true c.if-b-lt128.true) in
     λ glue. sym (all_stop glue _ _ c.loop-i-test.true ((octet).is_blank ∙ c.if-is_white_space.false)) ∙ c.loop-i.invariant.1 glue
 
 pub returns-in_default : goal.returns-in_default

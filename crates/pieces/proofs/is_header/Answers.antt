@@ -1,21 +1,22 @@
--- `pieces::is_header` meets its contract: each return by the law of the tests that led there.
-use mathlib.Core.Path.{sym, ◌∙◌}
+-- `pieces::is_header` meets its contract: `From `, or a name with its colon after it.
+use Rattle.std.proofs.Common.{sym, ◌∙◌, arith}
+use Rattle.std.proofs.lemmas.Grind.{common_steps}
 use Rattle.pieces.specs.Pieces.{from_word}
-use Rattle.pieces.proofs.Headers.{header_from, header_first, header_all, header_colon}
+use Rattle.pieces.proofs.Headers.{header_from, header_is}
 use Rattle.pieces.proofs.is_header.Goals as goal
 
 pub returns-then-begins : goal.returns-then-begins
 unfolding from_word
 returns-then-begins c = header_from _ (sym c.begins.ensures ∙ c.if-begins.true)
 
-pub returns-then-n-eq0 : goal.returns-then-n-eq0
+pub returns-then-n-line : goal.returns-then-n-line
 unfolding from_word
-returns-then-n-eq0 c = header_first _ (sym c.begins.ensures ∙ c.if-begins.false) _ c.name_end-n.ensures.0 c.if-n-eq0.true
+returns-then-n-line c =
+    let h = header_is c.args.line.now (sym c.begins.ensures ∙ c.if-begins.false) _ c.name_end-n.ensures.0 in
+    grind (arith, common_steps)
 
-pub returns-then-line-n : goal.returns-then-line-n
+pub returns-else-n-line : goal.returns-else-n-line
 unfolding from_word
-returns-then-line-n c = header_all _ (sym c.begins.ensures ∙ c.if-begins.false) _ c.name_end-n.ensures.0 c.if-line-n.true
-
-pub returns : goal.returns
-unfolding from_word
-returns c = header_colon _ (sym c.begins.ensures ∙ c.if-begins.false) _ c.name_end-n.ensures.0 c.if-n-eq0.false c.if-line-n.false
+returns-else-n-line c =
+    let h = header_is c.args.line.now (sym c.begins.ensures ∙ c.if-begins.false) _ c.name_end-n.ensures.0 in
+    grind (arith, common_steps)

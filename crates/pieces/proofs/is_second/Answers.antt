@@ -1,20 +1,17 @@
--- `pieces::is_second` meets its contract: each return rewrites by the tests that led there.
-use mathlib.Core.Path.{ap}
-use mathlib.Core.Bool.{not}
-use Rattle.pieces.proofs.Shapes.{second_not_prefix, second_not_margin, second_crown, second_indent, second_columns}
+-- `pieces::is_second` meets its contract: the tests are those of the rule.
+use Rattle.std.proofs.Common.{arith}
+use Rattle.std.proofs.lemmas.Grind.{common_steps}
+use Rattle.pieces.specs.Pieces.{second_rule}
 use Rattle.pieces.proofs.is_second.Goals as goal
 
-pub returns-then-a-b : goal.returns-then-a-b
-returns-then-a-b c = second_not_prefix _ _ _ c.if-a-b.true
-
-pub returns-then-a-b-2 : goal.returns-then-a-b-2
-returns-then-a-b-2 c = second_not_margin _ _ c.if-a-b.false _ c.if-a-b-2.true
-
-pub returns-then-not-tagged : goal.returns-then-not-tagged
-returns-then-not-tagged c = second_crown _ _ c.if-a-b.false c.if-a-b-2.false _ (ap not c.if-not-tagged.true)
-
 pub returns-then-a-b-3 : goal.returns-then-a-b-3
-returns-then-a-b-3 c = second_indent _ _ c.if-a-b.false c.if-a-b-2.false _ (ap not c.if-not-tagged.false) c.if-a-b-3.true
+unfolding second_rule
+returns-then-a-b-3 c = grind (arith, common_steps)
 
-pub returns : goal.returns
-returns c = second_columns _ _ c.if-a-b.false c.if-a-b-2.false _ (ap not c.if-not-tagged.false) c.if-a-b-3.false
+pub returns-else-a-b-3 : goal.returns-else-a-b-3
+unfolding second_rule
+returns-else-a-b-3 c = grind (arith, common_steps)
+
+pub returns-else-a-b-2 : goal.returns-else-a-b-2
+unfolding second_rule
+returns-else-a-b-2 c = grind (arith, common_steps)

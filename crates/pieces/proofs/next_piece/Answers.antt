@@ -1,4 +1,6 @@
 -- `pieces::next_piece` meets its contract, class by class.
+use Rattle.std.proofs.Common.{◌≡◌, ◌||◌, arith}
+use Rattle.std.proofs.lemmas.Grind.{common_steps}
 use mathlib.Core.Path.{sym, ◌∙◌}
 use mathlib.Core.Bool.{true, false}
 use Rattle.pieces.proofs.Places.{next_sound}
@@ -10,29 +12,29 @@ use Rattle.pieces.proofs.next_piece.Goals as goal
 
 pub returns-then-starts_mail : goal.returns-then-starts_mail
 returns-then-starts_mail c =
-    piece_bounded _ _ _ _ _ _ _ c.requires (piece_text _ _ _ _ _ _ c.line_at-line.ensures _ c.in-Formatted.is true (sym c.if-starts_mail.true ∙ c.starts_mail.ensures) _ c.mail_paragraph.ensures)
+    piece_bounded _ _ _ _ _ _ _ c.requires (piece_text _ _ _ _ _ _ c.line_at-end.ensures _ c.in-Formatted.is true (sym c.if-starts_mail.true ∙ c.starts_mail.ensures) _ c.mail_paragraph.ensures)
 
 pub hanging_paragraph-requires : goal.hanging_paragraph-requires
 hanging_paragraph-requires c =
-    let l = c.line_at-line.ensures in
-    let h = sym c.is_hanging.ensures ∙ c.if-is_hanging.true in
+    let l = c.line_at-end.ensures in
+    let h : (c.args.o.crown || c.args.o.tagged) ≡ true = grind (arith, common_steps) in
     (record { short = c.requires.1; usable = c.requires.2; place = l.within; sound = next_sound _ _ _ _ _ l c.requires.4 }, (joined_line _ _ _ _ _ l c.in-Formatted.is c.requires.2 c.requires.1).shaped, h, not_split _ _ c.requires.3 h)
 
-pub returns-then-is_hanging : goal.returns-then-is_hanging
-returns-then-is_hanging c =
-    piece_bounded _ _ _ _ _ _ _ c.requires (piece_text _ _ _ _ _ _ c.line_at-line.ensures _ c.in-Formatted.is false (sym c.if-starts_mail.false ∙ c.starts_mail.ensures) _ c.hanging_paragraph.ensures)
+pub returns-then-o : goal.returns-then-o
+returns-then-o c =
+    piece_bounded _ _ _ _ _ _ _ c.requires (piece_text _ _ _ _ _ _ c.line_at-end.ensures _ c.in-Formatted.is false (sym c.if-starts_mail.false ∙ c.starts_mail.ensures) _ c.hanging_paragraph.ensures)
 
 pub plain_paragraph-requires : goal.plain_paragraph-requires
 plain_paragraph-requires c =
-    let l = c.line_at-line.ensures in
-    (record { short = c.requires.1; usable = c.requires.2; place = l.within; sound = next_sound _ _ _ _ _ l c.requires.4 }, (joined_line _ _ _ _ _ l c.in-Formatted.is c.requires.2 c.requires.1).shaped, sym c.is_hanging.ensures ∙ c.if-is_hanging.false)
+    let l = c.line_at-end.ensures in
+    (record { short = c.requires.1; usable = c.requires.2; place = l.within; sound = next_sound _ _ _ _ _ l c.requires.4 }, (joined_line _ _ _ _ _ l c.in-Formatted.is c.requires.2 c.requires.1).shaped, grind (arith, common_steps))
 
 pub returns-in-Blank : goal.returns-in-Blank
-returns-in-Blank c = piece_bounded _ _ _ _ _ _ _ c.requires (piece_blank _ _ _ _ _ c.line_at-line.ensures c.in-Blank.is)
+returns-in-Blank c = piece_bounded _ _ _ _ _ _ _ c.requires (piece_blank _ _ _ _ _ c.line_at-end.ensures c.in-Blank.is)
 
 pub returns-in-Plain : goal.returns-in-Plain
-returns-in-Plain c = piece_bounded _ _ _ _ _ _ _ c.requires (piece_plain _ _ _ _ _ c.line_at-line.ensures c.in-Plain.is)
+returns-in-Plain c = piece_bounded _ _ _ _ _ _ _ c.requires (piece_plain _ _ _ _ _ c.line_at-end.ensures c.in-Plain.is)
 
-pub returns-else-is_hanging : goal.returns-else-is_hanging
-returns-else-is_hanging c =
-    piece_bounded _ _ _ _ _ _ _ c.requires (piece_text _ _ _ _ _ _ c.line_at-line.ensures _ c.in-Formatted.is false (sym c.if-starts_mail.false ∙ c.starts_mail.ensures) _ c.plain_paragraph.ensures)
+pub returns-else-o-2 : goal.returns-else-o-2
+returns-else-o-2 c =
+    piece_bounded _ _ _ _ _ _ _ c.requires (piece_text _ _ _ _ _ _ c.line_at-end.ensures _ c.in-Formatted.is false (sym c.if-starts_mail.false ∙ c.starts_mail.ensures) _ c.plain_paragraph.ensures)
