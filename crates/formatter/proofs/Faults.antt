@@ -1,5 +1,5 @@
 -- A fault's place is small, however long the block: tags ascend up to 6, and a well-formed field has at most 258 bytes.
-use Rattle.std.proofs.Common.{Option, Some, None, Ok, Err}
+use Rattle.std.proofs.Common.{Option, Some, None, Result, Ok, Err}
 use mathlib.Core.Path.{◌≡◌, refl, sym, ap, ◌∙◌}
 use mathlib.Core.Bool.{Bool, true, false, cond, ◌&&◌, ◌||◌, and-eq-true_iff, false≢true}
 use mathlib.Core.List.{List, [], ◌∷◌}
@@ -13,6 +13,7 @@ use Rattle.lists.specs.Runs.{every}
 use Rattle.lists.proofs.Walk.{walk_nil, walk_step}
 use Rattle.text.specs.Characters.{characters, is_good}
 use Rattle.options.specs.OptionBlock.{number, Field, tag_of, size_of, value_of, Start, next_field, fields, flag_bits, allowed, well_formed, first_fault, least_width, part_of, options_of, fits, judged, read_block}
+use Rattle.options.specs.declared.Fault.{Fault}
 use Rattle.options.specs.declared.Options.{Options}
 
 -- an allowed value is short, and its tag is one of six
@@ -90,8 +91,8 @@ small (suc k) s (x ∷ xs) l h p = go (well_formed f) refl (small k)
     then : Start
     then = record { place = s.place + 3 + size_of f; previous = tag_of f }
 
-    first : (t : Bool) → well_formed f ≡ t → first_fault (walk next_field s (x ∷ xs)) ≡ elim t as (λ y. (Option ℕ)) [ true ↦ first_fault (walk next_field then (drop (suc (2 + size_of f)) (x ∷ xs))) | false ↦ Some s.place ]
-    first t e = ap first_fault (walk_step next_field s (x ∷ xs) (omega arith)) ∙ ap (λ (b : Bool). elim b as (λ y. (Option ℕ)) [ true ↦ first_fault (walk next_field then (drop (suc (2 + size_of f)) (x ∷ xs))) | false ↦ Some s.place ]) e
+    first : (t : Bool) → well_formed f ≡ t → first_fault (walk next_field s (x ∷ xs)) ≡ elim t as (λ y. Option ℕ) [ true ↦ first_fault (walk next_field then (drop (suc (2 + size_of f)) (x ∷ xs))) | false ↦ Some s.place ]
+    first t e = ap first_fault (walk_step next_field s (x ∷ xs) (omega arith)) ∙ ap (λ (b : Bool). elim b as (λ y. Option ℕ) [ true ↦ first_fault (walk next_field then (drop (suc (2 + size_of f)) (x ∷ xs))) | false ↦ Some s.place ]) e
 
     go : (t : Bool) → well_formed f ≡ t → ((r : Start) (ys : List ℕ) → length ys ≤ k → r.place ≤ 258 * r.previous → r.previous ≤ 6 → Small r ys) → Small s (x ∷ xs)
     go false e rest = let q = first false e in record {
@@ -115,12 +116,12 @@ pub fault_small : (block : List ℕ) (place : ℕ) → read_block block ≡ Err 
 unfolding read_block fields
 fault_small block place e = settle (first_fault (walk next_field (record { place = 0; previous = 0 }) block)) refl e
   where
-    rule : (t : Bool) (o : Options) → length block ≤ 1548 → cond t (Ok o) (Err (record { at = (length block) })) ≡ Err (record { at = place }) → place ≤ 1548
+    rule : (t : Bool) (o : Options) → length block ≤ 1548 → cond {A = Result Options Fault} t (Ok o) (Err (record { at = length block })) ≡ Err (record { at = place }) → place ≤ 1548
     rule true o l a = absurd (let z : ◌≡◌ {A = ℕ} 0 1 = cc in omega arith)
-    rule false o l a = let z : length block ≡ place = cc in omega arith
+    rule false o l a = let z : ◌≡◌ {A = Fault} (record { at = length block }) (record { at = place }) = cc in omega (arith, ap (λ (f : Fault). f.at) z)
 
     settle : (f : Option ℕ) → first_fault (walk next_field (record { place = 0; previous = 0 }) block) ≡ f → judged block (fields block) f ≡ Err (record { at = place }) → place ≤ 1548
-    settle (Some n) q a = let z : n ≡ place = cc in omega (arith, (all_small block).place n q)
+    settle (Some n) q a = let z : ◌≡◌ {A = Fault} (record { at = n }) (record { at = place }) = cc in omega (arith, (all_small block).place n q, ap (λ (f : Fault). f.at) z)
     settle None q a =
         let o = options_of block (fields block) in
         rule (fits (least_width (part_of 2 (fields block)) (part_of 3 (fields block))) o.width o.goal) o (omega (arith, (all_small block).whole q)) a

@@ -35,7 +35,7 @@ module _ (o : Opts) (size : ℕ) where
   none_over place [] e = omega arith
   none_over place (q ∷ qs) e = go (too_many (room_for o.quick size) o q.kind) refl e (none_over (place + length (extent_of q)) qs)
     where
-      go : (b : Bool) → too_many (room_for o.quick size) o q.kind ≡ b → elim b as (λ x. (Option ℕ)) [ true ↦ Some place | false ↦ long_paragraph (room_for o.quick size) o (place + length (extent_of q)) qs ] ≡ None
+      go : (b : Bool) → too_many (room_for o.quick size) o q.kind ≡ b → elim b as (λ x. Option ℕ) [ true ↦ Some place | false ↦ long_paragraph (room_for o.quick size) o (place + length (extent_of q)) qs ] ≡ None
           → (long_paragraph (room_for o.quick size) o (place + length (extent_of q)) qs ≡ None → most_work o qs ≤ size) → most_work o (q ∷ qs) ≤ size
       go true t k rest = absurd (let z : ◌≡◌ {A = ℕ} 0 1 = cc in omega arith)
       go false t k rest = max-le (kind_room q.kind t) (rest k)

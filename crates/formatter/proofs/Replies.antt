@@ -1,5 +1,5 @@
 -- The replies, case by case: what each refusal and a digest leave after, and what measuring tells.
-use Rattle.std.proofs.Common.{Option, Some, None, Ok, Err}
+use Rattle.std.proofs.Common.{Option, Some, None, Result, Ok, Err}
 use mathlib.Core.Path.{◌≡◌, refl, sym, ap, ◌∙◌}
 use mathlib.Core.List.{List}
 use Prim.Native.Nat.{ℕ, ◌≤◌, ◌<◌, max}
@@ -9,7 +9,7 @@ use borrow.Author.Tests.{lt-ltb, le-ltb, le-leb, lt-leb}
 use Rattle.options.specs.Opts.{Opts, meant}
 use Rattle.options.specs.OptionBlock.{read_block}
 use Rattle.options.specs.declared.Options.{Options}
-use Rattle.options.specs.declared.Block.{Block}
+use Rattle.options.specs.declared.Fault.{Fault}
 use Rattle.lines.specs.Cited.Places.{most_large}
 use Rattle.pieces.specs.Pieces.{pieces}
 use Rattle.output.specs.Cited.Sink.{Wrote}
@@ -19,27 +19,27 @@ use Rattle.walk.specs.Digest.{most_words, digest, long_paragraph}
 use Rattle.formatter.specs.Format.{Words, Limits, own_room, Finding, found, stopped, within, with_work, with_text, damage_in, with_notes, with_block, finding, answering, with_digest, most_told, measured, measuring, in_room, writing}
 use Rattle.formatter.specs.Work.{most_lent, lending}
 use Rattle.walk.specs.Work.{work_for}
-use Rattle.walk.specs.Cited.Course.{Finished}
-use Rattle.formatter.specs.Cited.Call.{told, Answers, Refuses, left_of, AdmitsNotes, Admits, AdmitsWithin, AdmitsWork, AdmitsLent}
-use Rattle.formatter.specs.declared.Reply.{Reply}
+use Rattle.walk.specs.Cited.Course.{Admitted, Finished}
+use Rattle.formatter.specs.Cited.Call.{told, Answers, Refuses, left_of, AdmitsNotes, Admits, Of, AdmitsWithin, AdmitsLent}
+use Rattle.formatter.specs.declared.Unwritten.{Unwritten}
 use Rattle.formatter.specs.declared.Refusal.{Refusal}
 use Rattle.formatter.specs.declared.Refusal.TheVariants.{Options as Faulty, Long, Text, Words as Many, Work}
-use Rattle.formatter.specs.declared.Admission.{Admission}
-use Rattle.walk.specs.declared.Ended.{Ended}
+use Rattle.walk.specs.declared.Stopped.{Stopped}
+use Rattle.walk.specs.declared.notes.Notes.{Notes}
 use Rattle.formatter.proofs.Together.{written_at_once}
 use Rattle.formatter.specs.declared.Unwritten.TheVariants.{Refused as Declined, Room}
 
 -- ---- with the options and notes that are to be formatted
 
-module _ (o : Opts) (notes out out' : List ℕ) (r : Ended) (f : Finished most_words o notes out out' r) where
+module _ (o : Opts) (notes out out' : List ℕ) (r : Result ℕ Stopped) (f : Finished most_words o notes out out' r) where
   all_of : {n : ℕ} → r ≡ Ok n → (long_paragraph most_words o 0 (pieces o notes) ≡ None) × Wrote out 0 (digest o notes) out' n
   all_of e = rw e at f
 
-  stopped_of : {place : ℕ} → r ≡ Err (record { at = place }) → (long_paragraph most_words o 0 (pieces o notes) ≡ Some place) × (out' ≡ replicate (length out) 0)
+  stopped_of : {stopped : Stopped} → r ≡ Err stopped → (long_paragraph most_words o 0 (pieces o notes) ≡ Some stopped.at) × (out' ≡ replicate (length out) 0)
   stopped_of e = rw e at f
 
   -- too many words: all zero
-  pub words_answer : {place : ℕ} → r ≡ Err (record { at = place }) → Answers (left_of own_room o notes (with_digest (length out))) out (Err (Declined (Many place))) out'
+  pub words_answer : {stopped : Stopped} → r ≡ Err stopped → Answers (left_of own_room o notes (with_digest (length out))) out (Err (Declined (Many stopped.at))) out'
   unfolding output_after
   words_answer e = let s = stopped_of e in rw s.0 (record { is = refl; output = s.1 })
 
@@ -62,7 +62,7 @@ module _ (o : Opts) (notes out out' : List ℕ) (r : Ended) (f : Finished most_w
       let l = wrote_length w.1 in
       let c : n ≡ length (digest o notes) = omega (arith, w.1.count) in
       let over : length out < length (digest o notes) = omega arith in
-      rw (w.0, lt-leb (length (digest o notes)) (length out) over) (record { is = ap Err (Room c); output = z ∙ ap (λ (k : ℕ). replicate k 0) l })
+      rw (w.0, lt-leb (length (digest o notes)) (length out) over) (record { is = ap (λ (k : ℕ). Err (Room k)) c; output = z ∙ ap (λ (k : ℕ). replicate k 0) l })
 
 -- ---- with the options of an accepted block
 
@@ -78,21 +78,27 @@ module _ (l : Limits) (block notes : List ℕ) (o : Options) where
   pub long_refused : l.bytes < length notes → AdmitsNotes l block o notes (Err Long)
   long_refused h = record { whole_is = rw (with_notes, lt-ltb l.bytes (length notes) h); untouched = λ out. refl; early = omega arith }
 
-  pub text_refused : {f : (Option ℕ)} {place : ℕ} → length notes ≤ l.bytes → f ≡ damage_in o.keep notes → f ≡ Some place → AdmitsNotes l block o notes (Err (Text place))
+  pub text_refused : {f : Option ℕ} {place : ℕ} → length notes ≤ l.bytes → f ≡ damage_in o.keep notes → f ≡ Some place → AdmitsNotes l block o notes (Err (Text place))
   text_refused {f} {place} h e a = record { whole_is = notes_are (Some place) h (sym a ∙ e); untouched = λ out. refl; early = omega arith }
 
-  pub notes_passed : {f : (Option ℕ)} → length notes ≤ l.bytes → f ≡ damage_in o.keep notes → f ≡ None → AdmitsNotes l block o notes (Ok o)
-  notes_passed h e a = (refl, h, notes_are None h (sym a ∙ e), λ k. rw k at (sym e ∙ a))
+  pub notes_passed : {f : Option ℕ} → length notes ≤ l.bytes → f ≡ damage_in o.keep notes → f ≡ None → AdmitsNotes l block o notes (Ok tt)
+  notes_passed h e a = (h, notes_are None h (sym a ∙ e), λ k. rw k at (sym e ∙ a))
 
 -- ---- with any block, and limits that the code is proved for
 
-module _ (l : Limits) (block notes : List ℕ) (b : Block) (read : b ≡ read_block block) where
-  pub fault_refused : {place : ℕ} → b ≡ Err (record { at = place }) → Admits l block notes (Err (Faulty place))
-  fault_refused {place} e = record { whole_is = rw (sym read ∙ e); untouched = λ out. refl; early = omega arith }
+module _ (l : Limits) (block notes : List ℕ) (b : Result Options Fault) (read : b ≡ read_block block) where
+  pub fault_refused : {fault : Fault} → b ≡ Err fault → Admits l block notes (Err (Faulty fault.at))
+  fault_refused e = record { whole_is = rw (sym read ∙ e); untouched = λ out. refl; early = omega arith }
 
-  pub block_admits : {o : Options} (r : Admission) → l.bytes ≤ most_large → b ≡ Ok o → AdmitsNotes l block o notes r → Admits l block notes r
-  block_admits (Err r) m e n = record { whole_is = rw (sym read ∙ e) n.whole_is; untouched = n.untouched; early = n.early }
-  block_admits {o} (Ok p) m e n = (record { accepted = sym read ∙ e ∙ ap Ok (sym n.0); short = omega (arith, n.1, m); sound = λ k. n.3 (ap (λ (x : Options). x.keep) (sym n.0) ∙ k) }, rw (sym read ∙ e, n.0) n.2, n.1)
+  module _ {o : Options} (e : b ≡ Ok o) where
+    pub notes_refused : {r : Refusal} → AdmitsNotes l block o notes (Err r) → Admits l block notes (Err r)
+    notes_refused n = record { whole_is = rw (sym read ∙ e) n.whole_is; untouched = n.untouched; early = n.early }
+
+    pub notes_admitted : l.bytes ≤ most_large → AdmitsNotes l block o notes (Ok tt) → Admitted block notes o
+    notes_admitted m n = record { accepted = sym read ∙ e; short = omega (arith, n.0, m); sound = n.2 }
+
+    pub notes_admits : (n : Notes) → n.options ≡ o → Of block notes n → AdmitsNotes l block o notes (Ok tt) → Admits l block notes (Ok n)
+    notes_admits n p of h = rw p (of, rw (sym read ∙ e) h.1, h.0)
 
 -- ---- what is replied to it
 
@@ -101,11 +107,11 @@ abbrev pub in_output : Limits → List ℕ → List ℕ → Answer
 in_output l out d = in_room (length out) (measured l.words d)
 
 module _ (l : Limits) (block notes : List ℕ) where
-  as_measured : (f : Finding) {r : Reply} → with_block l block notes (read_block block) ≡ f → r ≡ told (answering (measured l.words) f) → r ≡ told (measuring l block notes)
+  as_measured : (f : Finding) {r : Result ℕ Unwritten} → with_block l block notes (read_block block) ≡ f → r ≡ told (answering (measured l.words) f) → r ≡ told (measuring l block notes)
   unfolding measuring finding
   as_measured f e h = h ∙ ap (λ (x : Finding). told (answering (measured l.words) x)) (sym e)
 
-  as_written : (out : List ℕ) (f : Finding) {r : Reply} {out' : List ℕ} → with_block l block notes (read_block block) ≡ f → Answers (answering (in_output l out) f) out r out' → Answers (writing l block notes (length out)) out r out'
+  as_written : (out : List ℕ) (f : Finding) {r : Result ℕ Unwritten} {out' : List ℕ} → with_block l block notes (read_block block) ≡ f → Answers (answering (in_output l out) f) out r out' → Answers (writing l block notes (length out)) out r out'
   unfolding finding
   as_written out f e h = rw (written_at_once l block notes (length out) ∙ ap (answering (in_output l out)) e) h
 
@@ -117,40 +123,56 @@ module _ (l : Limits) (block notes : List ℕ) where
     unfolding output_after
     refusal_written out = as_written out (stopped r) f.whole_is (record { is = refl; output = sym (f.untouched out) })
 
-module _ (l : Limits) (block notes : List ℕ) (a : Admission) (admits : Admits l block notes a) where
+module _ (l : Limits) (block notes : List ℕ) (a : Result Notes Refusal) (admits : Admits l block notes a) where
   pub refused_of : {r : Refusal} → a ≡ Err r → Admits l block notes (Err r)
   refused_of e = rw e at admits
 
-  pub passed_of : {o : Options} → a ≡ Ok o → Admits l block notes (Ok o)
+  pub passed_of : {n : Notes} → a ≡ Ok n → Admits l block notes (Ok n)
   passed_of e = rw e at admits
 
   pub refused_measured : {r : Refusal} → a ≡ Err r → Err (Declined r) ≡ told (measuring l block notes)
   refused_measured e = refusal_measured l block notes (refused_of e)
 
-  pub passed_measured : {o : Options} {r : Reply} → a ≡ Ok o → r ≡ told (left_of l (meant block o) notes (measured l.words)) → r ≡ told (measuring l block notes)
-  passed_measured {o} e h = as_measured l block notes (within l.words (meant block o) notes) (passed_of e).1 h
+  pub passed_measured : {n : Notes} {r : Result ℕ Unwritten} → a ≡ Ok n → r ≡ told (left_of l (meant n.block.now n.options) n.bytes.now (measured l.words)) → r ≡ told (measuring l block notes)
+  passed_measured {n} e h = let f = passed_of e in as_measured l block notes (within l.words (meant block n.options) notes) f.1 (rw (f.0.0, f.0.1) at h)
 
   pub refused_written : (out : List ℕ) {r : Refusal} → a ≡ Err r → Answers (writing l block notes (length out)) out (Err (Declined r)) out
   refused_written out e = refusal_written l block notes (refused_of e) out
 
-  pub passed_written : (out : List ℕ) {o : Options} {r : Reply} {out' : List ℕ} → a ≡ Ok o → Answers (left_of l (meant block o) notes (in_output l out)) out r out' → Answers (writing l block notes (length out)) out r out'
-  passed_written out {o} e h = as_written l block notes out (within l.words (meant block o) notes) (passed_of e).1 h
+  pub passed_written : (out : List ℕ) {n : Notes} {r : Result ℕ Unwritten} {out' : List ℕ} → a ≡ Ok n → Answers (left_of l (meant n.block.now n.options) n.bytes.now (in_output l out)) out r out'
+      → Answers (writing l block notes (length out)) out r out'
+  passed_written out {n} e h = let f = passed_of e in as_written l block notes out (within l.words (meant block n.options) notes) f.1 (rw (f.0.0, f.0.1) at h)
 
 -- ---- where working room is lent
 
 module _ (lends : ℕ) (block notes : List ℕ) where
-  pub within_refused : {a : Admission} {r : Refusal} → AdmitsWithin most_lent block notes a → a ≡ Err r → AdmitsLent lends block notes (Err r)
-  within_refused s e = let f : Admits (lending lends) block notes (Err _) = rw e at (s (lending lends).words) in
-      record { whole_is = f.whole_is; untouched = f.untouched; early = omega (arith, f.early) }
+  module _ {a : Result Notes Refusal} (admits : AdmitsWithin most_lent block notes a) where
+    pub within_refused : {r : Refusal} → a ≡ Err r → AdmitsLent lends block notes (Err r)
+    within_refused e = let f : Admits (lending lends) block notes (Err _) = rw e at (admits (lending lends).words) in
+        record { whole_is = f.whole_is; untouched = f.untouched; early = omega (arith, f.early) }
 
-  -- code 12 is due exactly where less is lent than is needed
-  pub work_refused : (o : Opts) (p : Options) (needed : ℕ) → needed ≡ max lends (work_for o notes) → lends < needed → AdmitsWork lends o notes p (Err (Work needed))
-  work_refused o p needed e h =
-      let n : needed ≡ work_for o notes = omega arith in
-      record { whole_is = rw (within, with_work, lt-ltb lends (work_for o notes) (omega arith), n); untouched = λ out. refl; early = omega arith }
+    module _ {n : Notes} (e : a ≡ Ok n) (needed : ℕ) (w : needed ≡ max lends (work_for (meant n.block.now n.options) n.bytes.now)) where
+      passed_within : Admits (lending lends) block notes (Ok n)
+      passed_within = rw e at (admits (lending lends).words)
 
-  module _ (a : Admission) (admits : AdmitsLent lends block notes a) where
-    pub lent_passed : {o : Options} → a ≡ Ok o → AdmitsLent lends block notes (Ok o)
+      needed_for : needed ≡ max lends (work_for (meant block n.options) notes)
+      needed_for = rw (passed_within.0.0, passed_within.0.1) at w
+
+      -- code 12 is due exactly where less is lent than is needed
+      pub work_refused : lends < needed → AdmitsLent lends block notes (Err (Work needed))
+      work_refused h =
+          let o = meant block n.options in
+          let k : needed ≡ work_for o notes = omega (arith, needed_for) in
+          record { whole_is = passed_within.1 ∙ rw (within, with_work, lt-ltb lends (work_for o notes) (omega (arith, needed_for)), k); untouched = λ out. refl; early = omega arith }
+
+      pub work_passed : needed ≤ lends → AdmitsLent lends block notes (Ok n)
+      work_passed h =
+          let o = meant block n.options in
+          let k : work_for o notes ≤ lends = omega (arith, needed_for) in
+          (passed_within.0, passed_within.1 ∙ rw (within, with_work, le-ltb lends (work_for o notes) k), k)
+
+  module _ (a : Result Notes Refusal) (admits : AdmitsLent lends block notes a) where
+    pub lent_passed : {n : Notes} → a ≡ Ok n → AdmitsLent lends block notes (Ok n)
     lent_passed e = rw e at admits
 
     lent_refused : {r : Refusal} → a ≡ Err r → AdmitsLent lends block notes (Err r)
@@ -159,14 +181,15 @@ module _ (lends : ℕ) (block notes : List ℕ) where
     pub lent_refused_measured : {r : Refusal} → a ≡ Err r → Err (Declined r) ≡ told (measuring (lending lends) block notes)
     lent_refused_measured e = refusal_measured (lending lends) block notes (lent_refused e)
 
-    pub lent_passed_measured : {o : Options} {r : Reply} → a ≡ Ok o → r ≡ told (measured (lending lends).words (digest (meant block o) notes)) → r ≡ told (measuring (lending lends) block notes)
-    lent_passed_measured {o} e h = as_measured (lending lends) block notes (found (digest (meant block o) notes)) (lent_passed e).1 h
+    pub lent_passed_measured : {n : Notes} {r : Result ℕ Unwritten} → a ≡ Ok n → r ≡ told (measured (lending lends).words (digest (meant n.block.now n.options) n.bytes.now)) → r ≡ told (measuring (lending lends) block notes)
+    lent_passed_measured {n} e h = let f = lent_passed e in as_measured (lending lends) block notes (found (digest (meant block n.options) notes)) f.1 (rw (f.0.0, f.0.1) at h)
 
     pub lent_refused_written : (out : List ℕ) {r : Refusal} → a ≡ Err r → Answers (writing (lending lends) block notes (length out)) out (Err (Declined r)) out
     lent_refused_written out e = refusal_written (lending lends) block notes (lent_refused e) out
 
-    pub lent_passed_written : (out : List ℕ) {o : Options} {r : Reply} {out' : List ℕ} → a ≡ Ok o → Answers (in_output (lending lends) out (digest (meant block o) notes)) out r out' → Answers (writing (lending lends) block notes (length out)) out r out'
-    lent_passed_written out {o} e h = as_written (lending lends) block notes out (found (digest (meant block o) notes)) (lent_passed e).1 h
+    pub lent_passed_written : (out : List ℕ) {n : Notes} {r : Result ℕ Unwritten} {out' : List ℕ} → a ≡ Ok n → Answers (in_output (lending lends) out (digest (meant n.block.now n.options) n.bytes.now)) out r out'
+        → Answers (writing (lending lends) block notes (length out)) out r out'
+    lent_passed_written out {n} e h = let f = lent_passed e in as_written (lending lends) block notes out (found (digest (meant block n.options) notes)) f.1 (rw (f.0.0, f.0.1) at h)
 
 -- what is measured, and what is written, of a digest that was put into an output as far as it fits
 module _ (lends : ℕ) (d out out' : List ℕ) (n : ℕ) (w : Wrote out 0 d out' n) where
@@ -193,4 +216,4 @@ module _ (lends : ℕ) (d out out' : List ℕ) (n : ℕ) (w : Wrote out 0 d out'
   unfolding output_after
   room_written h k z =
       let l = wrote_length w in
-      rw (told_is h, lt-leb (length d) (length out) (omega (arith, counted, l))) (record { is = ap Err (Room counted); output = z ∙ ap (λ (k : ℕ). replicate k 0) l })
+      rw (told_is h, lt-leb (length d) (length out) (omega (arith, counted, l))) (record { is = ap (λ (k : ℕ). Err (Room k)) counted; output = z ∙ ap (λ (k : ℕ). replicate k 0) l })

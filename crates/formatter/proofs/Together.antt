@@ -1,5 +1,5 @@
 -- Measuring and writing: together they are the call; measuring's N is the room that suffices, and the least.
-use Rattle.std.proofs.Common.{Option, Some, None, Ok, Err}
+use Rattle.std.proofs.Common.{Option, Some, None, Result, Ok, Err}
 use mathlib.Core.Path.{◌≡◌, refl, ap}
 use mathlib.Core.Bool.{Bool, true, false, cond}
 use mathlib.Core.List.{List}
@@ -10,7 +10,8 @@ use lib.ListN.{length}
 use borrow.Author.Tests.{le-leb, lt-leb, leb-true}
 use Rattle.options.specs.Opts.{Opts, meant}
 use Rattle.options.specs.OptionBlock.{read_block}
-use Rattle.options.specs.declared.Block.{Block}
+use Rattle.options.specs.declared.Fault.{Fault}
+use Rattle.options.specs.declared.Options.{Options}
 use Rattle.pieces.specs.Pieces.{pieces}
 use Rattle.formatter.specs.Answers.{Answer, done, refused, room, answer_coded}
 use Rattle.formatter.specs.declared.Refusal.{Refusal}
@@ -93,8 +94,8 @@ module _ (bytes most : ℕ) where
   unfolding measuring finding
   measuring_never_answers_five block notes = go (read_block block)
     where
-      go : (b : Block) → (answer_coded (answering done (with_block (limited bytes most) block notes b))).code ≤ 4
-      go (Err (record { at = place })) = omega arith
+      go : (b : Result Options Fault) → (answer_coded (answering done (with_block (limited bytes most) block notes b))).code ≤ 4
+      go (Err fault) = omega arith
       go (Ok o) = notes_measured (meant block o) notes
 
 -- ---- for callers

@@ -1,7 +1,7 @@
 -- What an answer tells has no more than 32 bits: a fault's place is small, other places lie in the notes, and a digest has at most 1,040 bytes
 -- for each byte of the notes, if no paragraph has more words than RULES 2.2 allows; if working room is lent for more, a longer digest
 -- is refused. So code and value can be read back from the number.
-use Rattle.std.proofs.Common.{Option, Some, None, Ok, Err}
+use Rattle.std.proofs.Common.{Option, Some, None, Result, Ok, Err}
 use mathlib.Core.Path.{◌≡◌, refl, sym, ap, ◌∙◌}
 use mathlib.Core.Bool.{Bool, true, false, cond, ◌||◌}
 use mathlib.Core.List.{List, [], ◌∷◌}
@@ -16,7 +16,8 @@ use Rattle.lists.proofs.Parts.{joined_cons}
 use Rattle.text.proofs.Damage.{damage_some}
 use Rattle.options.specs.Opts.{Opts, meant}
 use Rattle.options.specs.OptionBlock.{read_block}
-use Rattle.options.specs.declared.Block.{Block}
+use Rattle.options.specs.declared.Fault.{Fault}
+use Rattle.options.specs.declared.Options.{Options}
 use Rattle.options.proofs.Accepted.{accepted}
 use Rattle.lines.specs.Cited.Places.{most_large}
 use Rattle.pieces.specs.Pieces.{Piece, Kind, blank_line, plain_line, paragraph, pieces}
@@ -26,14 +27,14 @@ use Rattle.pieces.specs.declared.Piece.TheVariants.{Blank as BlankAt, Plain as P
 use Rattle.pieces.proofs.Meaning.{means, bounded}
 use Rattle.words.specs.Words.{words_of}
 use Rattle.output.specs.Emission.{line_feed}
-use Rattle.lists.specs.Coded.{Coded, numbered}
+use Rattle.lists.specs.Coded.{Coded, numbered, result_coded}
 use Rattle.formatter.specs.Answers.{Answer, done, refused, room, refusal_coded, answer_coded}
 use Rattle.formatter.specs.declared.Refusal.{Refusal}
 use Rattle.formatter.specs.declared.Refusal.TheVariants.{Options as Faulty, Long, Text as Damaged, Words as Many, Work}
 use Rattle.walk.specs.Digest.{most_words, output_of, extent_of, too_many, digest, long_paragraph}
 use Rattle.formatter.specs.Format.{Words, up_to, lent, Limits, most_bytes, own_room, Finding, found, stopped, with_words, within, with_text, damage_in, with_notes, with_block, finding, answering, answer, most_told, measured, measuring, writing}
 use Rattle.walk.specs.Cited.Course.{output_from, long_from, FirstPiece}
-use Rattle.formatter.specs.Cited.Call.{told, reply_coded}
+use Rattle.formatter.specs.Cited.Call.{told, unwritten_coded}
 use Rattle.formatter.proofs.Together.{together_they_do_what_the_old_call_did, what_is_refused_is_measured_so, what_is_found_is_measured, in_room_value}
 use Rattle.formatter.proofs.Answers.{Enough}
 use Rattle.walk.proofs.Meaning.{PieceGoes, piece_goes}
@@ -195,8 +196,8 @@ module _ (l : Limits) (sound : Sound l) where
     unfolding measuring finding meant
     measured_value = go (read_block block) refl
       where
-        go : (b : Block) → read_block block ≡ b → (answer_coded (answering (measured l.words) (with_block l block notes b))).value ≤ most_told
-        go (Err (record { at = place })) e = omega (arith, fault_small block place e)
+        go : (b : Result Options Fault) → read_block block ≡ b → (answer_coded (answering (measured l.words) (with_block l block notes b))).value ≤ most_told
+        go (Err fault) e = omega (arith, fault_small block fault.at e)
         go (Ok o) e =
             let k = accepted block o e in
             notes_value (meant block o) notes (measured l.words) (λ short enough. digest_value (meant block o) notes k.tab_least k.tab_most short k.split_clears l.words sound.modest enough)
@@ -250,17 +251,17 @@ the_answer_tells_code_and_value block notes space = rw (← together_they_do_wha
 
 -- ---- the code's number
 
-pub told_coded : (a : Answer) → reply_coded (told a) ≡ answer_coded a
+pub told_coded : (a : Answer) → result_coded unwritten_coded (told a) ≡ answer_coded a
 told_coded (done digest) = refl
 told_coded (refused r) = refl
 told_coded (room needed) = refl
 
-small_fits : (a : Answer) → (answer_coded a).value ≤ most_told → numbered (reply_coded (told a)) < 2 ^ 64
+small_fits : (a : Answer) → (answer_coded a).value ≤ most_told → numbered (result_coded unwritten_coded (told a)) < 2 ^ 64
 unfolding numbered
 small_fits a v = let c = code_most a in rw told_coded (omega arith)
 
-pub measured_fits : (l : Limits) → Sound l → (block notes : List ℕ) → numbered (reply_coded (told (measuring l block notes))) < 2 ^ 64
+pub measured_fits : (l : Limits) → Sound l → (block notes : List ℕ) → numbered (result_coded unwritten_coded (told (measuring l block notes))) < 2 ^ 64
 measured_fits l sound block notes = small_fits (measuring l block notes) (measured_value l sound block notes)
 
-pub written_fits : (l : Limits) → Sound l → (block notes : List ℕ) (space : ℕ) → numbered (reply_coded (told (writing l block notes space))) < 2 ^ 64
+pub written_fits : (l : Limits) → Sound l → (block notes : List ℕ) (space : ℕ) → numbered (result_coded unwritten_coded (told (writing l block notes space))) < 2 ^ 64
 written_fits l sound block notes space = small_fits (writing l block notes space) (written_value l sound block notes space)

@@ -1,6 +1,6 @@
 -- Lent working room: N of code 12 can be told; a call is refused so exactly when less is lent than is needed; and with the room that was told
 -- it is not refused so again.
-use Rattle.std.proofs.Common.{Option, Some, None, Ok, Err}
+use Rattle.std.proofs.Common.{Option, Some, None, Result, Ok, Err}
 use mathlib.Core.Path.{◌≡◌, refl, sym, ap}
 use mathlib.Core.Bool.{Bool, true, false, cond}
 use mathlib.Core.List.{List}
@@ -11,8 +11,8 @@ use lib.ListN.{length}
 use borrow.Author.Tests.{ltb-true}
 use Rattle.options.specs.Opts.{Opts, meant}
 use Rattle.options.specs.OptionBlock.{read_block}
+use Rattle.options.specs.declared.Fault.{Fault}
 use Rattle.options.specs.declared.Options.{Options}
-use Rattle.options.specs.declared.Block.{Block}
 use Rattle.walk.specs.Digest.{digest}
 use Rattle.walk.specs.Work.{work_for}
 use Rattle.walk.proofs.Work.{work_most}
@@ -59,8 +59,8 @@ module _ (block notes : List ℕ) where
     unfolding finding
     asked_suffices lends needed more e h n f = go (read_block block) refl
       where
-        go : (b : Block) → read_block block ≡ b → ⊥
-        go (Err (record { at = place })) q = let z : stopped (Faulty place) ≡ stopped (Work needed) = rw q at e in let c : ◌≡◌ {A = ℕ} 0 1 = cc in omega arith
+        go : (b : Result Options Fault) → read_block block ≡ b → ⊥
+        go (Err fault) q = let z : stopped (Faulty fault.at) ≡ stopped (Work needed) = rw q at e in let c : ◌≡◌ {A = ℕ} 0 1 = cc in omega arith
         go (Ok o) q =
             let a = asked_is_needed lends needed o q e in
             let b = asked_is_needed more n o q f in
@@ -78,8 +78,8 @@ module _ (block notes : List ℕ) where
   unfolding finding
   no_more_is_asked_for lends needed e = go (read_block block) refl
     where
-      go : (b : Block) → read_block block ≡ b → needed ≤ 8 * (length notes + 1)
-      go (Err (record { at = place })) q = absurd (let z : stopped (Faulty place) ≡ stopped (Work needed) = rw q at e in let c : ◌≡◌ {A = ℕ} 0 1 = cc in omega arith)
+      go : (b : Result Options Fault) → read_block block ≡ b → needed ≤ 8 * (length notes + 1)
+      go (Err fault) q = absurd (let z : stopped (Faulty fault.at) ≡ stopped (Work needed) = rw q at e in let c : ◌≡◌ {A = ℕ} 0 1 = cc in omega arith)
       go (Ok o) q = let a = the_room_asked_for_is_the_room_needed lends needed o q e in let m = work_most (meant block o) notes in omega (arith, a.0, m)
 
   -- So of measuring and of writing, which ask for room where it is found to lack.
