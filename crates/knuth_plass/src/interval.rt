@@ -9,11 +9,11 @@ ghost use Rattle.knuth_plass.specs.Cited.Table as T;
 ghost use Rattle.knuth_plass.specs.Cited.Round as R;
 ghost use Rattle.knuth_plass.specs.Cited.Interval as I;
 
+use super::goals::{Goals, Round};
 use super::store::{bits_of, get_break, lesser, number, store_break};
-use super::turns::{NO_OFFER, START, either, extended, offered, restarted, turn_of};
-use super::{Best, Break, Turn};
+use super::turns::{NO_OFFER, START, either, extended, offered, restarted, round_of};
+use super::{Best, Break};
 use records::Word;
-use spacing::Setting;
 
 // Between rounds: the active breaks are the records from head up to size, and all words so far are on an endless line of so many columns.
 #[derive(Clone, Copy, Debug, PartialEq, Eq)]
@@ -49,31 +49,30 @@ fn fits_one_line(work: &[u32], n: usize, first: usize) -> bool
 }
 
 // Whether no base is below the first, which is the indent: the first line is as long already, or none may end before it is.
-fn stays_low(g: Setting) -> bool
-    requires { R.Limits g }
-    ensures { result ≡ true → I.Low g }
+fn stays_low(g: Goals) -> bool
+    ensures { result ≡ true → I.Low g.setting }
 {
-    g.indent <= g.first || g.indent <= g.goal - (g.width - g.goal)
+    g.setting.indent <= g.setting.first || g.setting.indent <= g.minimum()
 }
 
 // Whether the rounds of a paragraph go by an interval.
-pub fn is_regular(work: &[u32], n: usize, g: Setting) -> bool
-    requires { R.Limits g × (n ≤ T.most_words) × Holds n work.now }
-    ensures { result ≡ true → I.Regular g n work.now }
+pub fn is_regular(work: &[u32], n: usize, g: Goals) -> bool
+    requires { (n ≤ T.most_words) × Holds n work.now }
+    ensures { result ≡ true → I.Regular g.setting n work.now }
 {
-    stays_low(g) && fits_one_line(work, n, g.first)
+    stays_low(g) && fits_one_line(work, n, g.setting.first)
 }
 
 // ---- a round
 
 // The first of the active breaks whose line is not too long with the word, when the endless line has x columns.
-fn pass(breaks: &[u32], g: Setting, x: usize, head: usize, size: usize) -> usize
-    requires { R.Limits g × (x < 2 ^ 32) × (head ≤ size) × (size ≤ length (T.table_in breaks.now)) }
-    ensures { I.PassIs g x head size (T.table_in breaks.now) result }
+fn pass(breaks: &[u32], g: Goals, x: usize, head: usize, size: usize) -> usize
+    requires { (x < 2 ^ 32) × (head ≤ size) × (size ≤ length (T.table_in breaks.now)) }
+    ensures { I.PassIs g.setting x head size (T.table_in breaks.now) result }
 {
-    let end = x + g.indent;
+    let end = x + g.setting.indent;
     for k in head..size {
-        if end <= g.width + number(breaks, k, 6) {
+        if end <= g.setting.width + number(breaks, k, 6) {
             return k;
         }
     }
@@ -93,12 +92,12 @@ fn first_least(breaks: &[u32], head: usize, size: usize) -> usize
 }
 
 // The best offer of a break after the word. Bases ascend: after a line that is too short to end here all are.
-fn best_offer(breaks: &[u32], g: Setting, turn: Turn, x: usize, head: usize, size: usize) -> Best
-    requires { I.Stay g turn x head size (T.table_in breaks.now) }
-    ensures { I.BestOffered g turn x head size (T.table_in breaks.now) result }
+fn best_offer(breaks: &[u32], r: Round, x: usize, head: usize, size: usize) -> Best
+    requires { I.Stay r.goals.setting r.turn x head size (T.table_in breaks.now) }
+    ensures { I.BestOffered r.goals.setting r.turn x head size (T.table_in breaks.now) result }
 {
-    let minimum = g.goal - (g.width - g.goal);
-    let end = x + g.indent;
+    let minimum = r.goals.minimum();
+    let end = x + r.goals.setting.indent;
     let mut best = NO_OFFER;
     for k in head..size {
         let b = get_break(breaks, k);
@@ -106,7 +105,7 @@ fn best_offer(breaks: &[u32], g: Setting, turn: Turn, x: usize, head: usize, siz
         if t < minimum {
             return best;
         }
-        best = offered(g, turn, k, b, t, best);
+        best = offered(r, k, b, t, best);
     }
     best
 }
@@ -120,12 +119,13 @@ fn is_fresh(i: usize, n: usize, b: Break) -> bool
 }
 
 // Record n as an active break before the round of word i, when the endless line has p columns.
-fn viewed(g: Setting, i: usize, p: usize, n: usize, b: Break) -> Break
-    requires { R.Limits g × (p < 2 ^ 31) × (b.word < T.most_words) }
-    ensures { result ≡ I.view_of g i p n b }
+fn viewed(g: Goals, i: usize, p: usize, n: usize, b: Break) -> Break
+    requires { (p < 2 ^ 31) × (b.word < T.most_words) }
+    ensures { result ≡ I.view_of g.setting i p n b }
 {
     let fresh = is_fresh(i, n, b);
-    let columns = either(fresh, g.indent, (p + g.indent).saturating_sub(b.columns));
+    let indent = g.setting.indent;
+    let columns = either(fresh, indent, (p + indent).saturating_sub(b.columns));
     Break {
         columns,
         fresh,
@@ -143,14 +143,14 @@ fn base_of(before: bool, x: usize, width: usize, gap: usize) -> usize
 
 // Nothing stays: the break that begins again, from the first least one. On the endless line p columns were before the word.
 // In the original: `restart_active_breaks`.
-fn again(breaks: &[u32], g: Setting, turn: Turn, s: Interval, x: usize, gap: usize) -> Break
-    requires { R.Limits g × R.Turns g turn × I.Leaves g turn x gap s (T.table_in breaks.now) }
-    ensures { I.AgainIs g turn x gap s (T.table_in breaks.now) result }
+fn again(breaks: &[u32], r: Round, s: Interval, x: usize, gap: usize) -> Break
+    requires { I.Leaves r.goals.setting r.turn x gap s (T.table_in breaks.now) }
+    ensures { I.AgainIs r.goals.setting r.turn x gap s (T.table_in breaks.now) result }
 {
-    let w = turn.word;
+    let w = r.turn.word;
     let n = first_least(breaks, s.head, s.size);
-    let least = viewed(g, turn.number, s.line, n, get_break(breaks, n));
-    let b = restarted(g, turn, n, least);
+    let least = viewed(r.goals, r.turn.number, s.line, n, get_break(breaks, n));
+    let b = restarted(r, n, least);
     extended(b, base_of(b.before, x, w.width, gap))
 }
 
@@ -173,7 +173,7 @@ fn made(best: Best, i: usize, base: usize) -> Break
 // The round of word i; gap is that of the next word, which the base of a break after this one has in it.
 // In the original: `find_kp_breakpoints`.
 fn round(
-    g: Setting,
+    g: Goals,
     word: Word,
     gap: usize,
     i: usize,
@@ -182,17 +182,17 @@ fn round(
     s: Interval,
     breaks: &mut [u32],
 ) -> Interval
-    requires { R.Limits g × I.Plain word × (i < length (T.table_in breaks.old)) × I.Between g i word.after s (T.table_in breaks.old) × (s.line + (word.after + 2 + word.width) + gap < 2 ^ 31) }
-    ensures { I.IntervalIs g last sentence i gap word s (T.table_in breaks.old) (T.table_in breaks.new) result }
+    requires { I.Plain word × (i < length (T.table_in breaks.old)) × I.Between g.setting i word.after s (T.table_in breaks.old) × (s.line + (word.after + 2 + word.width) + gap < 2 ^ 31) }
+    ensures { I.IntervalIs g.setting last sentence i gap word s (T.table_in breaks.old) (T.table_in breaks.new) result }
 {
     let size = s.size;
     // Not the spacing that is written later: the previous word's punctuation does not count here.
-    let space = spacing::added_space(g.uniform, word.first, sentence, false);
+    let space = spacing::added_space(g.setting.uniform, word.first, sentence, false);
     let line = s.line + word.after + space + word.width;
     let head = pass(breaks, g, line, s.head, size);
     if head == size {
-        let turn = turn_of(g, word, i, space, last);
-        let b = again(breaks, g, turn, s, line, gap);
+        let r = round_of(g, word, i, space, last);
+        let b = again(breaks, r, s, line, gap);
         store_break(breaks, size, b);
         return Interval {
             head: size,
@@ -204,11 +204,11 @@ fn round(
         // The last line costs nothing: what is offered after it changes no path.
         return Interval { head, size, line };
     }
-    if line + g.indent < g.goal - (g.width - g.goal) + number(breaks, head, 6) {
+    if line + g.setting.indent < g.minimum() + number(breaks, head, 6) {
         return Interval { head, size, line };
     }
-    let turn = turn_of(g, word, i, space, last);
-    let best = best_offer(breaks, g, turn, line, head, size);
+    let r = round_of(g, word, i, space, last);
+    let best = best_offer(breaks, r, line, head, size);
     let b = made(best, i, line + gap);
     store_break(breaks, size, b);
     Interval {
@@ -259,12 +259,11 @@ fn space_at(work: &[u32], uniform: bool, i: usize, w: Word) -> usize
 }
 
 // The least columns of the endless line at which the line of a break may end.
-fn least_end(breaks: &[u32], g: Setting, head: usize) -> usize
-    requires { R.Limits g × (head < length (T.table_in breaks.now)) }
-    ensures { (result ≡ I.least_end g (T.table_in breaks.now) head) × (result < 2 ^ 33) }
+fn least_end(breaks: &[u32], g: Goals, head: usize) -> usize
+    requires { head < length (T.table_in breaks.now) }
+    ensures { (result ≡ I.least_end g.setting (T.table_in breaks.now) head) × (result < 2 ^ 33) }
 {
-    let minimum = g.goal - (g.width - g.goal);
-    (minimum + number(breaks, head, 6)).saturating_sub(g.indent)
+    (g.minimum() + number(breaks, head, 6)).saturating_sub(g.setting.indent)
 }
 
 // The words from i on whose rounds change nothing but the endless line, which has p columns before them and less than low with them: the
@@ -291,27 +290,27 @@ fn skip(work: &[u32], n: usize, uniform: bool, low: usize, i: usize, p: usize) -
 
 // A round for each word after the first that is not skipped.
 // In the original: `find_kp_breakpoints`.
-fn rounds(g: Setting, work: &mut [u32], n: usize) -> Interval
-    requires { R.Limits g × (1 ≤ n) × R.Lent n work.old × R.AllNarrow n work.old × I.Regular g n work.old }
-    ensures { I.IntervalsAre g n work.old (T.table_in (T.records_part n work.new)) result × R.Worked n work.old work.new }
+fn rounds(g: Goals, work: &mut [u32], n: usize) -> Interval
+    requires { (1 ≤ n) × R.Lent n work.old × R.AllNarrow n work.old × I.Regular g.setting n work.old }
+    ensures { I.IntervalsAre g.setting n work.old (T.table_in (T.records_part n work.new)) result × R.Worked n work.old work.new }
 {
     let base = n * 7;
     let end = n * 15;
     let w = records::get(work, 0);
     let first = Break {
-        columns: g.indent,
+        columns: g.setting.indent,
         ..START
     };
     store_break(&mut work[base..end], 0, first);
     let mut s = Interval {
         head: 0,
         size: 1,
-        line: g.first + w.width,
+        line: g.setting.first + w.width,
     };
     let mut i = 1;
     while i < n {
         let low = least_end(&work[base..end], g, s.head);
-        let over = skip(work, n, g.uniform, low, i, s.line);
+        let over = skip(work, n, g.setting.uniform, low, i, s.line);
         let k = over.word;
         let word = records::get(work, k);
         let gap = gap_behind(work, n, k);
@@ -336,9 +335,9 @@ fn rounds(g: Setting, work: &mut [u32], n: usize) -> Interval
 }
 
 // The record that the best path ends at.
-pub fn best_path(g: Setting, work: &mut [u32], n: usize) -> usize
-    requires { R.Limits g × (1 ≤ n) × R.Lent n work.old × R.AllNarrow n work.old × I.Regular g n work.old }
-    ensures { R.PathIs g n work.old (T.table_in (T.records_part n work.new)) result × R.Worked n work.old work.new }
+pub fn best_path(g: Goals, work: &mut [u32], n: usize) -> usize
+    requires { (1 ≤ n) × R.Lent n work.old × R.AllNarrow n work.old × I.Regular g.setting n work.old }
+    ensures { R.PathIs g.setting n work.old (T.table_in (T.records_part n work.new)) result × R.Worked n work.old work.new }
 {
     let base = n * 7;
     let end = n * 15;

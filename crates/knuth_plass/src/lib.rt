@@ -2,6 +2,7 @@
 // and after them n break records.
 #![tactic(auto)]
 
+mod goals;
 mod interval;
 mod listed;
 mod marking;
@@ -16,6 +17,7 @@ ghost use Rattle.knuth_plass.specs.Cited.Round as R;
 ghost use Rattle.knuth_plass.specs.Cited.Makers as W;
 
 use endings::Ending;
+use goals::Goals;
 use records::Word;
 use spacing::Setting;
 
@@ -70,9 +72,9 @@ pub struct Standing {
 }
 
 // The record that the best path ends at: by an interval of the table where that will do, and else by a list of the active breaks.
-fn best_path(g: Setting, work: &mut [u32], n: usize) -> usize
-    requires { R.Limits g × (1 ≤ n) × R.Lent n work.old × R.AllNarrow n work.old }
-    ensures { R.PathIs g n work.old (T.table_in (T.records_part n work.new)) result × R.Worked n work.old work.new }
+fn best_path(g: Goals, work: &mut [u32], n: usize) -> usize
+    requires { (1 ≤ n) × R.Lent n work.old × R.AllNarrow n work.old }
+    ensures { R.PathIs g.setting n work.old (T.table_in (T.records_part n work.new)) result × R.Worked n work.old work.new }
 {
     if interval::is_regular(work, n, g) {
         return interval::best_path(g, work, n);
@@ -90,7 +92,7 @@ pub fn best_breaks(work: &mut [u32], n: usize, g: Setting)
     requires { R.Limits g × (1 ≤ n) × R.Lent n work.old × R.AllNarrow n work.old }
     ensures { R.BestAre g n work.old work.new }
 {
-    let last = best_path(g, work, n);
+    let last = best_path(Goals { setting: g }, work, n);
     marking::clear(work, n);
     marking::mark_path(work, n, last);
 }
@@ -117,7 +119,7 @@ pub fn best_ending(work: &mut [u32], n: usize, g: Setting, e: usize) -> Ending
 {
     let base = n * 7;
     let end = n * 15;
-    let told = telling::all_told(g, work, n, e);
+    let told = telling::all_told(Goals { setting: g }, work, n, e);
     let breaks = &work[base..end];
     let last = listed::least(breaks, told.st);
     if telling::stands_before(breaks, last, e) {

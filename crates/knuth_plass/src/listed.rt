@@ -5,13 +5,13 @@ ghost use Rattle.knuth_plass.specs.KnuthPlass.{reduced};
 ghost use Rattle.knuth_plass.specs.Cited.Table as T;
 ghost use Rattle.knuth_plass.specs.Cited.Round as R;
 
+use super::goals::{Goals, Round};
 use super::store::{bits_of, get_break, keep_break, lesser, number, store_break};
 use super::turns::{
-    NO_OFFER, NOTHING, START, extended, offered, reach, restarted, sentence_behind, turn_of,
+    NO_OFFER, NOTHING, START, extended, offered, reach, restarted, round_of, sentence_behind,
 };
-use super::{Best, Break, Standing, State, Turn};
+use super::{Best, Break, Standing, State};
 use records::Word;
-use spacing::Setting;
 
 // The number of the k-th active break. It is in record k, in the one place that is not the record's own.
 pub fn active(breaks: &[u32], k: usize) -> usize
@@ -72,30 +72,30 @@ fn keep(breaks: &mut [u32], n: usize, b: Break, t: usize, s: State, best: Best) 
 // One turn of a round: the k-th active break loses the reduction and gets the word on its line. It stays active, and may offer, where
 // the line is no longer than the width.
 // In the original: `find_kp_breakpoints`.
-fn visit(g: Setting, turn: Turn, st: Standing, breaks: &mut [u32], k: usize, s: State) -> State
-    requires { R.Limits g × R.Turns g turn × R.Fit turn st k (T.table_in breaks.old) (T.active_in breaks.old) s × (k < st.count) }
-    ensures { R.Fit turn st (k + 1) (T.table_in breaks.new) (T.active_in breaks.new) result × ((z : R.Outcome) → R.RoundGoes g turn st z k (T.table_in breaks.old) (T.active_in breaks.old) s → R.RoundGoes g turn st z (k + 1) (T.table_in breaks.new) (T.active_in breaks.new) result) }
+fn visit(r: Round, st: Standing, breaks: &mut [u32], k: usize, s: State) -> State
+    requires { R.Fit r.turn st k (T.table_in breaks.old) (T.active_in breaks.old) s × (k < st.count) }
+    ensures { R.Fit r.turn st (k + 1) (T.table_in breaks.new) (T.active_in breaks.new) result × ((z : R.Outcome) → R.RoundGoes r.goals.setting r.turn st z k (T.table_in breaks.old) (T.active_in breaks.old) s → R.RoundGoes r.goals.setting r.turn st z (k + 1) (T.table_in breaks.new) (T.active_in breaks.new) result) }
 {
     let n = active(breaks, k);
     let b = lessened(get_break(breaks, n), st.reduction);
-    let t = reach(g, turn, b);
+    let t = reach(r, b);
     let seen = noted(s, n, b.demerits);
     // Most lines are too short to end here, so that this is asked first.
-    if t < g.goal - (g.width - g.goal) {
+    if t < r.goals.minimum() {
         return keep(breaks, n, b, t, seen, s.best);
     }
-    if g.width < t {
+    if r.goals.setting.width < t {
         return seen;
     }
-    let better = offered(g, turn, n, b, t, s.best);
+    let better = offered(r, n, b, t, s.best);
     keep(breaks, n, b, t, seen, better)
 }
 
 // A round over all active breaks.
 // In the original: `find_kp_breakpoints`.
-pub fn advance(g: Setting, turn: Turn, st: Standing, breaks: &mut [u32]) -> State
-    requires { R.Limits g × R.Turns g turn × (turn.number < length (T.table_in breaks.old)) × R.RoundReady turn.number st (T.table_in breaks.old) (T.active_in breaks.old) }
-    ensures { R.Fit turn st st.count (T.table_in breaks.new) (T.active_in breaks.new) result × ((notes : List ℕ) → R.Done g turn st (map (reduced st.reduction) (R.breaks_listed st.count (T.table_in breaks.old) (T.active_in breaks.old))) (T.table_in breaks.new) (T.active_in breaks.new) result notes) }
+pub fn advance(r: Round, st: Standing, breaks: &mut [u32]) -> State
+    requires { (r.turn.number < length (T.table_in breaks.old)) × R.RoundReady r.turn.number st (T.table_in breaks.old) (T.active_in breaks.old) }
+    ensures { R.Fit r.turn st st.count (T.table_in breaks.new) (T.active_in breaks.new) result × ((notes : List ℕ) → R.Done r.goals.setting r.turn st (map (reduced st.reduction) (R.breaks_listed st.count (T.table_in breaks.old) (T.active_in breaks.old))) (T.table_in breaks.new) (T.active_in breaks.new) result notes) }
 {
     let first = active(breaks, 0);
     let b = lessened(get_break(breaks, first), st.reduction);
@@ -106,7 +106,7 @@ pub fn advance(g: Setting, turn: Turn, st: Standing, breaks: &mut [u32]) -> Stat
         best: NO_OFFER,
     };
     for k in 0..st.count {
-        s = visit(g, turn, st, breaks, k, s);
+        s = visit(r, st, breaks, k, s);
     }
     s
 }
@@ -122,9 +122,9 @@ pub fn append(breaks: &mut [u32], size: usize, kept: usize, b: Break)
 
 // The end of a round: the best offer becomes one break more; where nothing stays, one break begins again.
 // In the original: `find_kp_breakpoints`.
-pub fn settle(g: Setting, turn: Turn, st: Standing, breaks: &mut [u32], s: State) -> Standing
-    requires { R.Limits g × R.Turns g turn × R.Fit turn st st.count (T.table_in breaks.old) (T.active_in breaks.old) s }
-    ensures { R.Settled g turn st (T.table_in breaks.old) (T.active_in breaks.old) s (T.table_in breaks.new) (T.active_in breaks.new) result }
+pub fn settle(r: Round, st: Standing, breaks: &mut [u32], s: State) -> Standing
+    requires { R.Fit r.turn st st.count (T.table_in breaks.old) (T.active_in breaks.old) s }
+    ensures { R.Settled r.goals.setting r.turn st (T.table_in breaks.old) (T.active_in breaks.old) s (T.table_in breaks.new) (T.active_in breaks.new) result }
 {
     let kept = s.kept;
     let best = s.best;
@@ -132,11 +132,11 @@ pub fn settle(g: Setting, turn: Turn, st: Standing, breaks: &mut [u32], s: State
     if best.total < NOTHING {
         let b = Break {
             previous: best.previous,
-            word: turn.number,
+            word: r.turn.number,
             before: false,
             demerits: best.total,
             ratio: bits_of(best.ratio),
-            columns: g.indent,
+            columns: r.goals.setting.indent,
             fresh: true,
         };
         append(breaks, size, kept, b);
@@ -155,7 +155,7 @@ pub fn settle(g: Setting, turn: Turn, st: Standing, breaks: &mut [u32], s: State
     }
     // Nothing was stored for a break that did not stay: the least one is as it was.
     let least = lessened(get_break(breaks, s.from), st.reduction);
-    append(breaks, size, 0, restarted(g, turn, s.from, least));
+    append(breaks, size, 0, restarted(r, s.from, least));
     Standing {
         count: 1,
         size: size + 1,
@@ -166,7 +166,7 @@ pub fn settle(g: Setting, turn: Turn, st: Standing, breaks: &mut [u32], s: State
 // The round of word i.
 // In the original: `find_kp_breakpoints`.
 fn round(
-    g: Setting,
+    g: Goals,
     word: Word,
     i: usize,
     last: bool,
@@ -174,27 +174,27 @@ fn round(
     st: Standing,
     breaks: &mut [u32],
 ) -> Standing
-    requires { R.Limits g × (i < length (T.table_in breaks.old)) × Small word × (word.width < 2 ^ 31) × R.RoundReady i st (T.table_in breaks.old) (T.active_in breaks.old) }
-    ensures { R.RoundIs g last sentence i word st (T.table_in breaks.old) (T.active_in breaks.old) (T.table_in breaks.new) (T.active_in breaks.new) result }
+    requires { (i < length (T.table_in breaks.old)) × Small word × (word.width < 2 ^ 31) × R.RoundReady i st (T.table_in breaks.old) (T.active_in breaks.old) }
+    ensures { R.RoundIs g.setting last sentence i word st (T.table_in breaks.old) (T.active_in breaks.old) (T.table_in breaks.new) (T.active_in breaks.new) result }
 {
     // Not the spacing that is written later: the previous word's punctuation does not count here.
-    let space = spacing::added_space(g.uniform, word.first, sentence, false);
-    let turn = turn_of(g, word, i, space, last);
-    let s = advance(g, turn, st, breaks);
-    settle(g, turn, st, breaks, s)
+    let space = spacing::added_space(g.setting.uniform, word.first, sentence, false);
+    let r = round_of(g, word, i, space, last);
+    let s = advance(r, st, breaks);
+    settle(r, st, breaks, s)
 }
 
 // One round for each word after the first.
 // In the original: `find_kp_breakpoints`.
-pub fn rounds(g: Setting, work: &mut [u32], n: usize) -> Standing
-    requires { R.Limits g × (1 ≤ n) × R.Lent n work.old × R.AllNarrow n work.old }
-    ensures { R.RoundsAre g n work.old (T.table_in (T.records_part n work.new)) (T.active_in (T.records_part n work.new)) result × R.Worked n work.old work.new }
+pub fn rounds(g: Goals, work: &mut [u32], n: usize) -> Standing
+    requires { (1 ≤ n) × R.Lent n work.old × R.AllNarrow n work.old }
+    ensures { R.RoundsAre g.setting n work.old (T.table_in (T.records_part n work.new)) (T.active_in (T.records_part n work.new)) result × R.Worked n work.old work.new }
 {
     let base = n * 7;
     let end = n * 15;
     let w = records::get(work, 0);
     let first = Break {
-        columns: g.first + w.width,
+        columns: g.setting.first + w.width,
         ..START
     };
     append(&mut work[base..end], 0, 0, first);

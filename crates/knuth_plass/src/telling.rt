@@ -5,25 +5,24 @@ ghost use Rattle.knuth_plass.specs.Cited.Table as T;
 ghost use Rattle.knuth_plass.specs.Cited.Round as R;
 ghost use Rattle.knuth_plass.specs.Cited.Makers as W;
 
+use super::goals::{Goals, Round};
 use super::listed::{active, advance, append, lessened, settle};
 use super::marking::starts;
 use super::store::{get_break, ratio_of};
-use super::turns::{NOTHING, START, either, restarted, sentence_behind, turn_of};
-use super::{AllTold, Break, Standing, State, Told, Turn};
+use super::turns::{NOTHING, START, either, restarted, round_of, sentence_behind};
+use super::{AllTold, Break, Standing, State, Told};
 use endings::Ending;
 use records::Word;
-use spacing::Setting;
 
 // What a break that stays offers, with a word of this weight at the end of its line, if the offer has the total.
-fn try_break(g: Setting, weight: u16, b: Break, total: u64) -> Option<Ending>
-    requires { R.Limits g × W.Stays weight b }
-    ensures { result ≡ W.tried_of g weight total b.columns (T.ratio_of b.ratio) b.demerits }
+fn try_break(g: Goals, weight: u16, b: Break, total: u64) -> Option<Ending>
+    requires { W.Stays weight b }
+    ensures { result ≡ W.tried_of g.setting weight total b.columns (T.ratio_of b.ratio) b.demerits }
 {
-    let stretch = g.width - g.goal;
-    if b.columns < g.goal - stretch || g.width < b.columns {
+    if b.columns < g.minimum() || g.setting.width < b.columns {
         return None;
     }
-    let ratio = demerits::ratio(g.goal, b.columns, stretch);
+    let ratio = demerits::ratio(g.setting.goal, b.columns, g.stretch());
     let old = ratio_of(b.ratio);
     let cost = demerits::cost(ratio, old, weight);
     if cost + b.demerits != total {
@@ -39,9 +38,9 @@ fn try_break(g: Setting, weight: u16, b: Break, total: u64) -> Option<Ending>
 }
 
 // The first of the breaks that stay whose offer has the least total: its offer became the break.
-fn chosen(g: Setting, weight: u16, breaks: &[u32], kept: usize, total: u64) -> Ending
-    requires { R.Limits g × W.Kept weight kept (T.table_in breaks.now) (T.active_in breaks.now) }
-    ensures { result ≡ W.chosen_in g weight total (R.breaks_listed kept (T.table_in breaks.now) (T.active_in breaks.now)) }
+fn chosen(g: Goals, weight: u16, breaks: &[u32], kept: usize, total: u64) -> Ending
+    requires { W.Kept weight kept (T.table_in breaks.now) (T.active_in breaks.now) }
+    ensures { result ≡ W.chosen_in g.setting weight total (R.breaks_listed kept (T.table_in breaks.now) (T.active_in breaks.now)) }
 {
     for k in 0..kept {
         let b = get_break(breaks, active(breaks, k));
@@ -53,12 +52,12 @@ fn chosen(g: Setting, weight: u16, breaks: &[u32], kept: usize, total: u64) -> E
 }
 
 // The break that begins again where nothing stays is before the word or after it.
-fn forced(g: Setting, turn: Turn, st: Standing, breaks: &[u32], from: usize) -> Ending
-    requires { R.Limits g × R.Turns g turn × W.From turn st from (T.table_in breaks.now) }
-    ensures { W.ForcedIs g turn (R.lessened st.reduction (T.break_in (T.table_in breaks.now) from)) result }
+fn forced(r: Round, st: Standing, breaks: &[u32], from: usize) -> Ending
+    requires { W.From r.turn st from (T.table_in breaks.now) }
+    ensures { W.ForcedIs r.goals.setting r.turn (R.lessened st.reduction (T.break_in (T.table_in breaks.now) from)) result }
 {
     let least = lessened(get_break(breaks, from), st.reduction);
-    let b = restarted(g, turn, from, least);
+    let b = restarted(r, from, least);
     if b.before {
         Ending::Before
     } else {
@@ -67,26 +66,26 @@ fn forced(g: Setting, turn: Turn, st: Standing, breaks: &[u32], from: usize) -> 
 }
 
 // What makes the break of a round, when all active breaks have the word on their lines.
-fn maker(g: Setting, turn: Turn, st: Standing, breaks: &[u32], s: State) -> Ending
-    requires { R.Limits g × R.Turns g turn × R.Fit turn st st.count (T.table_in breaks.now) (T.active_in breaks.now) s }
-    ensures { W.MakerIs g turn st (T.table_in breaks.now) (T.active_in breaks.now) s result }
+fn maker(r: Round, st: Standing, breaks: &[u32], s: State) -> Ending
+    requires { R.Fit r.turn st st.count (T.table_in breaks.now) (T.active_in breaks.now) s }
+    ensures { W.MakerIs r.goals.setting r.turn st (T.table_in breaks.now) (T.active_in breaks.now) s result }
 {
     if s.best.total < NOTHING {
-        if turn.last {
+        if r.turn.last {
             Ending::Paragraph
         } else {
-            chosen(g, turn.weight, breaks, s.kept, s.best.total)
+            chosen(r.goals, r.turn.weight, breaks, s.kept, s.best.total)
         }
     } else if 0 < s.kept {
         Ending::Paragraph
     } else {
-        forced(g, turn, st, breaks, s.from)
+        forced(r, st, breaks, s.from)
     }
 }
 
 // The round of word i, and what makes its break.
 fn told_round(
-    g: Setting,
+    g: Goals,
     word: Word,
     i: usize,
     last: bool,
@@ -94,29 +93,29 @@ fn told_round(
     st: Standing,
     breaks: &mut [u32],
 ) -> Told
-    requires { R.Limits g × (i < length (T.table_in breaks.old)) × Small word × (word.width < 2 ^ 31) × R.RoundReady i st (T.table_in breaks.old) (T.active_in breaks.old) }
-    ensures { W.ToldIs g last sentence i word st (T.table_in breaks.old) (T.active_in breaks.old) (T.table_in breaks.new) (T.active_in breaks.new) result }
+    requires { (i < length (T.table_in breaks.old)) × Small word × (word.width < 2 ^ 31) × R.RoundReady i st (T.table_in breaks.old) (T.active_in breaks.old) }
+    ensures { W.ToldIs g.setting last sentence i word st (T.table_in breaks.old) (T.active_in breaks.old) (T.table_in breaks.new) (T.active_in breaks.new) result }
 {
-    let space = spacing::added_space(g.uniform, word.first, sentence, false);
-    let turn = turn_of(g, word, i, space, last);
-    let s = advance(g, turn, st, breaks);
-    let ending = maker(g, turn, st, breaks, s);
+    let space = spacing::added_space(g.setting.uniform, word.first, sentence, false);
+    let r = round_of(g, word, i, space, last);
+    let s = advance(r, st, breaks);
+    let ending = maker(r, st, breaks, s);
     Told {
-        st: settle(g, turn, st, breaks, s),
+        st: settle(r, st, breaks, s),
         ending,
     }
 }
 
 // One round for each word after the first, and what made the breaks of word e - 1 and of word e.
-pub fn all_told(g: Setting, work: &mut [u32], n: usize, e: usize) -> AllTold
-    requires { R.Limits g × (1 ≤ n) × R.Lent n work.old × R.AllNarrow n work.old × (1 ≤ e) }
-    ensures { W.AllToldIs g n e work.old (T.table_in (T.records_part n work.new)) (T.active_in (T.records_part n work.new)) result × R.Worked n work.old work.new }
+pub fn all_told(g: Goals, work: &mut [u32], n: usize, e: usize) -> AllTold
+    requires { (1 ≤ n) × R.Lent n work.old × R.AllNarrow n work.old × (1 ≤ e) }
+    ensures { W.AllToldIs g.setting n e work.old (T.table_in (T.records_part n work.new)) (T.active_in (T.records_part n work.new)) result × R.Worked n work.old work.new }
 {
     let base = n * 7;
     let end = n * 15;
     let w = records::get(work, 0);
     let start = Break {
-        columns: g.first + w.width,
+        columns: g.setting.first + w.width,
         ..START
     };
     append(&mut work[base..end], 0, 0, start);

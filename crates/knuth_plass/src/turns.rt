@@ -7,28 +7,29 @@ ghost use Rattle.demerits.specs.Cited.Bounds.{most_word};
 ghost use Rattle.knuth_plass.specs.KnuthPlass.{stretch_of, minimum_of, sentence_behind};
 ghost use Rattle.knuth_plass.specs.Cited.Round as R;
 
+use super::goals::{Goals, Round};
 use super::store::ratio_of;
 use super::{Best, Break, Turn};
 use records::Word;
-use spacing::Setting;
 
 // A ratio of 1, and of -1, as bits.
 const RATIO_ONE: u32 = 0x3f80_0000;
 
 const RATIO_LESS_ONE: u32 = 0xbf80_0000;
 
-// A turn, with what its word weighs.
-pub fn turn_of(g: Setting, word: Word, number: usize, space: usize, last: bool) -> Turn
-    requires { R.Limits g × R.Turnable number word space }
-    ensures { (result ≡ R.turn_of last number word space (word_term (stretch_of g) word.width)) × R.Turns g result }
+// The round of a word, with what it weighs.
+pub fn round_of(g: Goals, word: Word, number: usize, space: usize, last: bool) -> Round
+    requires { R.Turnable number word space }
+    ensures { (result.goals.setting ≡ g.setting) × (result.turn ≡ R.turn_of last number word space (word_term (stretch_of g.setting) word.width)) }
 {
-    Turn {
+    let turn = Turn {
         word,
         number,
         space,
-        weight: demerits::word_term(g.width - g.goal, word.width),
+        weight: demerits::word_term(g.stretch(), word.width),
         last,
-    }
+    };
+    Round { goals: g, turn }
 }
 
 // A total that no offer reaches.
@@ -83,28 +84,28 @@ fn better(best: Best, previous: usize, total: u64, ratio: f32) -> Best
 }
 
 // The columns of the line with the word on it, where a tab is in the gap before the word.
-fn reach_by_tab(g: Setting, turn: Turn, b: Break) -> usize
-    requires { R.Limits g × R.Turns g turn × (b.columns < 2 ^ 32) }
-    ensures { (result ≡ R.line_at g turn b) × (result < 2 ^ 36) }
+fn reach_by_tab(r: Round, b: Break) -> usize
+    requires { b.columns < 2 ^ 32 }
+    ensures { (result ≡ R.line_at r.goals.setting r.turn b) × (result < 2 ^ 36) }
 {
-    let w = turn.word;
+    let w = r.turn.word;
     if b.fresh {
-        return b.columns + turn.space + w.width;
+        return b.columns + r.turn.space + w.width;
     }
-    let gap = spacing::gap_width(g.tab, b.columns, w.before, w.after);
-    b.columns + gap + turn.space + w.width
+    let gap = spacing::gap_width(r.goals.setting.tab, b.columns, w.before, w.after);
+    b.columns + gap + r.turn.space + w.width
 }
 
 // The columns of the line with the word on it. The added space counts on a fresh line too. Without a tab every line grows by the same.
-pub fn reach(g: Setting, turn: Turn, b: Break) -> usize
-    requires { R.Limits g × R.Turns g turn × (b.columns < 2 ^ 32) }
-    ensures { (result ≡ R.line_at g turn b) × (result < 2 ^ 36) }
+pub fn reach(r: Round, b: Break) -> usize
+    requires { b.columns < 2 ^ 32 }
+    ensures { (result ≡ R.line_at r.goals.setting r.turn b) × (result < 2 ^ 36) }
 {
-    let w = turn.word;
+    let w = r.turn.word;
     if w.before.is_some() {
-        return reach_by_tab(g, turn, b);
+        return reach_by_tab(r, b);
     }
-    let bare = turn.space + w.width;
+    let bare = r.turn.space + w.width;
     b.columns + either(b.fresh, bare, w.after + bare)
 }
 
@@ -123,10 +124,11 @@ fn floor(stretch: usize, weight: u16) -> u64
 
 // What break n, with the word on its line of t columns, no less than the least that may end, makes of the best offer so far.
 // In the original: `find_kp_breakpoints`.
-pub fn offered(g: Setting, turn: Turn, n: usize, b: Break, t: usize, best: Best) -> Best
-    requires { R.Offers g turn b t × (minimum_of g ≤ t) }
-    ensures { R.OfferedIs g turn n b t best result }
+pub fn offered(r: Round, n: usize, b: Break, t: usize, best: Best) -> Best
+    requires { R.Offers r.goals.setting r.turn b t × (minimum_of r.goals.setting ≤ t) }
+    ensures { R.OfferedIs r.goals.setting r.turn n b t best result }
 {
+    let turn = r.turn;
     if turn.last {
         // The last line costs nothing, but a break that is not among the least offers none.
         if 0 < b.demerits {
@@ -134,8 +136,8 @@ pub fn offered(g: Setting, turn: Turn, n: usize, b: Break, t: usize, best: Best)
         }
         return better(best, n, 0, 0.0);
     }
-    let stretch = g.width - g.goal;
-    let ratio = demerits::ratio(g.goal, t, stretch);
+    let stretch = r.goals.stretch();
+    let ratio = demerits::ratio(r.goals.setting.goal, t, stretch);
     // Most offers are beaten before their cost is worked out.
     if best.total <= floor(stretch, turn.weight) + b.demerits {
         return best;
@@ -146,29 +148,28 @@ pub fn offered(g: Setting, turn: Turn, n: usize, b: Break, t: usize, best: Best)
 
 // The break that begins again where nothing stays, from break n: before the word where that is the lesser evil, and never on a fresh line.
 // In the original: `restart_active_breaks`.
-pub fn restarted(g: Setting, turn: Turn, n: usize, least: Break) -> Break
-    requires { R.Limits g × R.Turns g turn × (least.columns < 2 ^ 32) }
-    ensures { R.Restarted g turn n least result }
+pub fn restarted(r: Round, n: usize, least: Break) -> Break
+    requires { least.columns < 2 ^ 32 }
+    ensures { R.Restarted r.goals.setting r.turn n least result }
 {
-    let t = reach(g, turn, least);
-    let w = turn.word;
-    let minimum = g.goal - (g.width - g.goal);
+    let g = r.goals;
+    let t = reach(r, least);
     let after = Break {
         previous: n,
-        word: turn.number,
+        word: r.turn.number,
         before: false,
         demerits: 0,
         ratio: RATIO_LESS_ONE,
-        columns: g.indent,
+        columns: g.setting.indent,
         fresh: true,
     };
-    if least.fresh || t + least.columns <= minimum + g.width {
+    if least.fresh || t + least.columns <= g.minimum() + g.setting.width {
         return after;
     }
     Break {
         before: true,
         ratio: RATIO_ONE,
-        columns: g.indent + w.width,
+        columns: g.setting.indent + r.turn.word.width,
         fresh: false,
         ..after
     }

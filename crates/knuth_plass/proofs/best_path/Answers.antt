@@ -5,4 +5,4 @@ use Rattle.knuth_plass.proofs.best_path.Goals as goal
 pub returns : goal.returns
 returns c =
     let r = c.rounds-st.ensures in
-    (path_least _ _ _ _ _ _ r.0 _ c.least.ensures c.requires.1, r.1)
+    (path_least _ _ _ _ _ _ r.0 _ c.least.ensures c.requires.0, r.1)

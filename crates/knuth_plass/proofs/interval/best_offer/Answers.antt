@@ -11,7 +11,7 @@ pub loop-k-init : goal.loop-k-init
 loop-k-init c =
     let a = c.args in
     let p = c.requires in
-    (omega arith, p.order, λ h. absurd (omega arith), λ notes gap. offers_begin (a.x + gap) a.turn.number (table_in a.breaks.now) _ (omega arith) _)
+    (λ h. absurd (omega arith), λ notes gap. offers_begin (a.x + gap) a.r.turn.number (table_in a.breaks.now) _ (omega arith) _)
 
 pub returns-then-t-minimum : goal.returns-then-t-minimum
 returns-then-t-minimum c =
@@ -23,8 +23,8 @@ returns-then-t-minimum c =
     let e = columns_meant table l.k _ c.get_break-b.ensures in
     let h = c.if-t-minimum.true in
     record {
-      is = λ notes gap. sym (offers_stop a.g table a.x l.k a.size t a.turn.number gap (meaning notes a.turn.word) _ (omega arith)) ∙ v.3 notes gap;
-      fits = v.2;
+      is = λ notes gap. sym (offers_stop a.r.goals.setting table a.x l.k a.size t a.r.turn.number gap (meaning notes a.r.turn.word) _ (omega arith)) ∙ v.1 notes gap;
+      fits = v.0;
     }
 
 pub loop-k-preserved : goal.loop-k-preserved
@@ -34,15 +34,13 @@ loop-k-preserved c =
     let table = table_in a.breaks.now in
     let l = c.loop-k in
     let v = l.invariant in
-    let from = v.0 in
+    let from = l.auto.k in
     let t = c.loop-k-test.true in
     let e = columns_meant table l.k _ c.get_break-b.ensures in
     let h = c.if-t-minimum.false in
     let o = c.offered-best.ensures in (
-      omega arith,
-      omega arith,
-      o.fits a.size t v.2,
-      λ notes gap. offers_next a.g a.turn table a.x l.k a.size t p.inner notes gap l.best c.offered-best.result _ _ c.get_break-b.ensures (omega arith) (omega arith) o ∙ v.3 notes gap,
+      o.fits a.size t v.0,
+      λ notes gap. offers_next a.r.goals.setting a.r.turn table a.x l.k a.size t p.inner notes gap l.best c.offered-best.result _ _ c.get_break-b.ensures (omega arith) (omega arith) o ∙ v.1 notes gap,
     )
 
 pub returns : goal.returns
@@ -51,6 +49,6 @@ returns c =
     let l = c.loop-k in
     let v = l.invariant in
     record {
-      is = λ notes gap. sym (offers_end (table_in a.breaks.now) l.k a.size c.loop-k-test.false a.g a.turn.number a.x gap (meaning notes a.turn.word) _) ∙ v.3 notes gap;
-      fits = v.2;
+      is = λ notes gap. sym (offers_end (table_in a.breaks.now) l.k a.size c.loop-k-test.false a.r.goals.setting a.r.turn.number a.x gap (meaning notes a.r.turn.word) _) ∙ v.1 notes gap;
+      fits = v.0;
     }

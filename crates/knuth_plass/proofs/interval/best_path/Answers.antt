@@ -6,4 +6,4 @@ pub returns : goal.returns
 returns c =
     let a = c.args in
     let r = c.rounds-s.ensures in
-    (interval_path a.g a.n a.work.now _ _ _ r.0 c.first_least.ensures, r.1)
+    (interval_path a.g.setting a.n a.work.now _ _ _ r.0 c.first_least.ensures, r.1)

@@ -1,6 +1,5 @@
 -- `knuth_plass::interval::first_least` meets its contract. Invariant: the least of the one found and the rest is the least of all.
 use mathlib.Core.Path.{◌∙◌, sym}
-use native.Mathlib.Omega.{arith}
 use Rattle.knuth_plass.specs.Cited.Table.{table_in}
 use Rattle.knuth_plass.proofs.Lowest.{lesser_below}
 use Rattle.knuth_plass.proofs.Span.{least_begins, least_goes, least_ends}
@@ -10,7 +9,7 @@ pub loop-k-init : goal.loop-k-init
 loop-k-init c =
     let a = c.args in
     let h = c.requires.0 in
-    (omega arith, h, least_begins (table_in a.breaks.now) a.head a.size h)
+    (h, least_begins (table_in a.breaks.now) a.head a.size h)
 
 pub loop-k-preserved : goal.loop-k-preserved
 loop-k-preserved c =
@@ -19,9 +18,8 @@ loop-k-preserved c =
     let l = c.loop-k in
     let v = l.invariant in
     let t = c.loop-k-test.true in (
-      omega arith,
-      rw c.lesser-found.ensures (lesser_below table l.found l.k a.size v.1 t),
-      rw c.lesser-found.ensures (least_goes table l.found l.k a.size t) ∙ v.2,
+      rw c.lesser-found.ensures (lesser_below table l.found l.k a.size v.0 t),
+      rw c.lesser-found.ensures (least_goes table l.found l.k a.size t) ∙ v.1,
     )
 
 pub returns : goal.returns
@@ -29,4 +27,4 @@ returns c =
     let a = c.args in
     let l = c.loop-k in
     let v = l.invariant in
-    record { below = v.1; is = sym (least_ends (table_in a.breaks.now) l.k a.size c.loop-k-test.false l.found) ∙ v.2 }
+    record { below = v.0; is = sym (least_ends (table_in a.breaks.now) l.k a.size c.loop-k-test.false l.found) ∙ v.1 }

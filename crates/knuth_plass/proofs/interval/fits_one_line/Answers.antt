@@ -9,14 +9,14 @@ use Rattle.knuth_plass.proofs.Intervals.{room_none, room_more, below_next}
 use Rattle.knuth_plass.proofs.interval.fits_one_line.Goals as goal
 
 pub loop-i-init : goal.loop-i-init
-loop-i-init c = let p = c.requires in let f = p.0 in let z = room_none c.args.work.now in (omega arith, omega arith, omega arith, λ j h. absurd (omega arith))
+loop-i-init c = let p = c.requires in let f = p.0 in let z = room_none c.args.work.now in (omega arith, omega arith, λ j h. absurd (omega arith))
 
 pub loop-i-preserved : goal.loop-i-preserved
 loop-i-preserved c =
     let l = c.loop-i in
     let v = l.invariant in
-    let u = v.1 in
-    let sum = v.2 in
+    let u = v.0 in
+    let sum = v.1 in
     let t = c.loop-i-test.true in
     let got = c.get-w.ensures in
     let a = got.small.after in
@@ -24,7 +24,6 @@ loop-i-preserved c =
     let table = c.args.work.now in
     let plain : (word_in table l.i).before ≡ None = rw (← got.is) (no_tab _ _ c.is_some.ensures c.if-is_some.false) in (
       omega arith,
-      omega arith,
       rw (sum, got.is, room_more table l.i) (omega arith),
-      below_next (λ (j : ℕ). (word_in table j).before ≡ None) l.i v.3 plain,
+      below_next (λ (j : ℕ). (word_in table j).before ≡ None) l.i v.2 plain,
     )

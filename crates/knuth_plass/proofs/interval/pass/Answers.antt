@@ -8,38 +8,34 @@ use Rattle.knuth_plass.proofs.interval.pass.Goals as goal
 
 pub number-requires : goal.number-requires
 number-requires c =
-    let r = c.requires.3 in
+    let r = c.requires.2 in
     let t = c.loop-k-test.true in
     (has_room c.args.breaks.now c.loop-k.k (omega arith), omega arith)
 
 pub returns-then-end-g : goal.returns-then-end-g
 returns-then-end-g c =
     let a = c.args in
-    let room = c.requires.3 in
+    let room = c.requires.2 in
     let l = c.loop-k in
-    let v = l.invariant in
     let t = c.loop-k-test.true in
     let e = columns_at a.breaks.now l.k (omega arith) in
     let n = c.number.ensures.0 in
     let h = c.if-end-g.true in
-    record { from = v.0; to = v.1; is = v.2 ∙ pass_stops a.g (table_in a.breaks.now) a.x l.k a.size t (omega arith) }
+    record { from = l.auto.k; to = omega arith; is = l.invariant ∙ pass_stops a.g.setting (table_in a.breaks.now) a.x l.k a.size t (omega arith) }
 
 pub loop-k-preserved : goal.loop-k-preserved
 loop-k-preserved c =
     let a = c.args in
-    let room = c.requires.3 in
+    let room = c.requires.2 in
     let l = c.loop-k in
-    let v = l.invariant in
-    let from = v.0 in
     let t = c.loop-k-test.true in
     let e = columns_at a.breaks.now l.k (omega arith) in
     let n = c.number.ensures.0 in
     let h = c.if-end-g.false in
-    (omega arith, omega arith, v.2 ∙ pass_goes a.g (table_in a.breaks.now) a.x l.k a.size t (omega arith))
+    l.invariant ∙ pass_goes a.g.setting (table_in a.breaks.now) a.x l.k a.size t (omega arith)
 
 pub returns : goal.returns
 returns c =
     let a = c.args in
     let l = c.loop-k in
-    let v = l.invariant in
-    record { from = c.requires.2; to = omega arith; is = v.2 ∙ pass_ends (table_in a.breaks.now) l.k a.size c.loop-k-test.false a.g a.x }
+    record { from = c.requires.1; to = omega arith; is = l.invariant ∙ pass_ends (table_in a.breaks.now) l.k a.size c.loop-k-test.false a.g.setting a.x }

@@ -13,8 +13,8 @@ store_break-requires c =
     let p = c.requires in
     let added = c.added_space-space.ensures in
     let passed = c.pass-head.ensures in
-    let begins = rw c.turn_of-turn.ensures.0 at c.again-b.ensures in
-    (has_room a.breaks.now a.s.size (room a.g a.last a.sentence a.i a.gap a.word a.s (table_in a.breaks.now) p.1 p.2 p.3 p.4 _ added.most added.is _ refl _ passed), again_fits a.g a.last a.sentence a.i a.gap a.word a.s (table_in a.breaks.now) p.1 p.2 p.3 p.4 _ added.most added.is _ refl _ passed c.if-head-size.true _ _ begins)
+    let begins = rw (c.round_of-r.ensures.0, c.round_of-r.ensures.1) at c.again-b.ensures in
+    (has_room a.breaks.now a.s.size (room a.g.setting a.last a.sentence a.i a.gap a.word a.s (table_in a.breaks.now) p.0 p.1 p.2 p.3 _ added.most added.is _ refl _ passed), again_fits a.g.setting a.last a.sentence a.i a.gap a.word a.s (table_in a.breaks.now) p.0 p.1 p.2 p.3 _ added.most added.is _ refl _ passed c.if-head-size.true _ _ begins)
 
 pub returns-then-head-size : goal.returns-then-head-size
 returns-then-head-size c =
@@ -22,9 +22,9 @@ returns-then-head-size c =
     let p = c.requires in
     let added = c.added_space-space.ensures in
     let passed = c.pass-head.ensures in
-    let begins = rw c.turn_of-turn.ensures.0 at c.again-b.ensures in
-    let stored = ap table_in c.store_break.ensures ∙ table_record a.breaks.now a.s.size _ (room a.g a.last a.sentence a.i a.gap a.word a.s (table_in a.breaks.now) p.1 p.2 p.3 p.4 _ added.most added.is _ refl _ passed) in
-    round_again a.g a.last a.sentence a.i a.gap a.word a.s (table_in a.breaks.now) p.1 p.2 p.3 p.4 _ added.most added.is _ refl _ passed c.if-head-size.true _ _ begins _ stored
+    let begins = rw (c.round_of-r.ensures.0, c.round_of-r.ensures.1) at c.again-b.ensures in
+    let stored = ap table_in c.store_break.ensures ∙ table_record a.breaks.now a.s.size _ (room a.g.setting a.last a.sentence a.i a.gap a.word a.s (table_in a.breaks.now) p.0 p.1 p.2 p.3 _ added.most added.is _ refl _ passed) in
+    round_again a.g.setting a.last a.sentence a.i a.gap a.word a.s (table_in a.breaks.now) p.0 p.1 p.2 p.3 _ added.most added.is _ refl _ passed c.if-head-size.true _ _ begins _ stored
 
 pub returns-then-last : goal.returns-then-last
 returns-then-last c =
@@ -32,7 +32,7 @@ returns-then-last c =
     let p = c.requires in
     let added = c.added_space-space.ensures in
     let passed = c.pass-head.ensures in
-    round_last a.g a.last a.sentence a.i a.gap a.word a.s (table_in a.breaks.now) p.1 p.2 p.3 p.4 _ added.most added.is _ refl _ passed c.if-head-size.false c.if-last.true
+    round_last a.g.setting a.last a.sentence a.i a.gap a.word a.s (table_in a.breaks.now) p.0 p.1 p.2 p.3 _ added.most added.is _ refl _ passed c.if-head-size.false c.if-last.true
 
 pub number-requires : goal.number-requires
 number-requires c =
@@ -40,8 +40,8 @@ number-requires c =
     let p = c.requires in
     let added = c.added_space-space.ensures in
     let passed = c.pass-head.ensures in
-    let room = room a.g a.last a.sentence a.i a.gap a.word a.s (table_in a.breaks.now) p.1 p.2 p.3 p.4 _ added.most added.is _ refl _ passed in
-    let stay = inside a.g a.last a.sentence a.i a.gap a.word a.s (table_in a.breaks.now) p.1 p.2 p.3 p.4 _ added.most added.is _ refl _ passed c.if-head-size.false in
+    let room = room a.g.setting a.last a.sentence a.i a.gap a.word a.s (table_in a.breaks.now) p.0 p.1 p.2 p.3 _ added.most added.is _ refl _ passed in
+    let stay = inside a.g.setting a.last a.sentence a.i a.gap a.word a.s (table_in a.breaks.now) p.0 p.1 p.2 p.3 _ added.most added.is _ refl _ passed c.if-head-size.false in
     (has_room a.breaks.now c.pass-head.result (omega arith), omega arith)
 
 pub returns-then-line-g : goal.returns-then-line-g
@@ -50,12 +50,12 @@ returns-then-line-g c =
     let p = c.requires in
     let added = c.added_space-space.ensures in
     let passed = c.pass-head.ensures in
-    let room = room a.g a.last a.sentence a.i a.gap a.word a.s (table_in a.breaks.now) p.1 p.2 p.3 p.4 _ added.most added.is _ refl _ passed in
-    let stay = inside a.g a.last a.sentence a.i a.gap a.word a.s (table_in a.breaks.now) p.1 p.2 p.3 p.4 _ added.most added.is _ refl _ passed c.if-head-size.false in
+    let room = room a.g.setting a.last a.sentence a.i a.gap a.word a.s (table_in a.breaks.now) p.0 p.1 p.2 p.3 _ added.most added.is _ refl _ passed in
+    let stay = inside a.g.setting a.last a.sentence a.i a.gap a.word a.s (table_in a.breaks.now) p.0 p.1 p.2 p.3 _ added.most added.is _ refl _ passed c.if-head-size.false in
     let e = columns_at a.breaks.now c.pass-head.result (omega arith) in
     let n = c.number.ensures.0 in
     let h = c.if-line-g.true in
-    round_short a.g a.last a.sentence a.i a.gap a.word a.s (table_in a.breaks.now) p.1 p.2 p.3 p.4 _ added.most added.is _ refl _ passed c.if-head-size.false c.if-last.false (omega arith)
+    round_short a.g.setting a.last a.sentence a.i a.gap a.word a.s (table_in a.breaks.now) p.0 p.1 p.2 p.3 _ added.most added.is _ refl _ passed c.if-head-size.false c.if-last.false (omega arith)
 
 pub best_offer-best-requires : goal.best_offer-best-requires
 best_offer-best-requires c =
@@ -63,8 +63,8 @@ best_offer-best-requires c =
     let p = c.requires in
     let added = c.added_space-space.ensures in
     let passed = c.pass-head.ensures in
-    let turn = c.turn_of-turn-2.ensures in
-    rw turn.0 (stays a.g a.last a.sentence a.i a.gap a.word a.s (table_in a.breaks.now) p.1 p.2 p.3 p.4 _ added.most added.is _ refl _ passed c.if-head-size.false p.0 c.if-last.false _ (rw turn.0 at turn.1))
+    let turn = c.round_of-r-2.ensures in
+    rw (turn.0, turn.1) (stays a.g.setting a.last a.sentence a.i a.gap a.word a.s (table_in a.breaks.now) p.0 p.1 p.2 p.3 _ added.most added.is _ refl _ passed c.if-head-size.false a.g.limits c.if-last.false _ (rw (turn.0, turn.1) at c.round_of-r-2.result.turns))
 
 pub made-b-requires : goal.made-b-requires
 made-b-requires c =
@@ -72,14 +72,14 @@ made-b-requires c =
     let p = c.requires in
     let added = c.added_space-space.ensures in
     let passed = c.pass-head.ensures in
-    let turn = c.turn_of-turn-2.ensures in
-    let offered = rw turn.0 at c.best_offer-best.ensures in
-    let room = room a.g a.last a.sentence a.i a.gap a.word a.s (table_in a.breaks.now) p.1 p.2 p.3 p.4 _ added.most added.is _ refl _ passed in
-    let stay = inside a.g a.last a.sentence a.i a.gap a.word a.s (table_in a.breaks.now) p.1 p.2 p.3 p.4 _ added.most added.is _ refl _ passed c.if-head-size.false in
+    let turn = c.round_of-r-2.ensures in
+    let offered = rw (turn.0, turn.1) at c.best_offer-best.ensures in
+    let room = room a.g.setting a.last a.sentence a.i a.gap a.word a.s (table_in a.breaks.now) p.0 p.1 p.2 p.3 _ added.most added.is _ refl _ passed in
+    let stay = inside a.g.setting a.last a.sentence a.i a.gap a.word a.s (table_in a.breaks.now) p.0 p.1 p.2 p.3 _ added.most added.is _ refl _ passed c.if-head-size.false in
     let e = columns_at a.breaks.now c.pass-head.result (omega arith) in
     let n = c.number.ensures.0 in
     let h = c.if-line-g.false in
-    (offered.fits (has_offer a.g a.last a.sentence a.i a.gap a.word a.s (table_in a.breaks.now) p.1 p.2 p.3 p.4 _ added.most added.is _ refl _ passed c.if-head-size.false p.0 c.if-last.false _ (rw turn.0 at turn.1) (omega arith) _ offered)).ratio
+    (offered.fits (has_offer a.g.setting a.last a.sentence a.i a.gap a.word a.s (table_in a.breaks.now) p.0 p.1 p.2 p.3 _ added.most added.is _ refl _ passed c.if-head-size.false a.g.limits c.if-last.false _ (rw (turn.0, turn.1) at c.round_of-r-2.result.turns) (omega arith) _ offered)).ratio
 
 pub store_break-requires-2 : goal.store_break-requires-2
 store_break-requires-2 c =
@@ -87,14 +87,14 @@ store_break-requires-2 c =
     let p = c.requires in
     let added = c.added_space-space.ensures in
     let passed = c.pass-head.ensures in
-    let turn = c.turn_of-turn-2.ensures in
-    let offered = rw turn.0 at c.best_offer-best.ensures in
-    let room = room a.g a.last a.sentence a.i a.gap a.word a.s (table_in a.breaks.now) p.1 p.2 p.3 p.4 _ added.most added.is _ refl _ passed in
-    let stay = inside a.g a.last a.sentence a.i a.gap a.word a.s (table_in a.breaks.now) p.1 p.2 p.3 p.4 _ added.most added.is _ refl _ passed c.if-head-size.false in
+    let turn = c.round_of-r-2.ensures in
+    let offered = rw (turn.0, turn.1) at c.best_offer-best.ensures in
+    let room = room a.g.setting a.last a.sentence a.i a.gap a.word a.s (table_in a.breaks.now) p.0 p.1 p.2 p.3 _ added.most added.is _ refl _ passed in
+    let stay = inside a.g.setting a.last a.sentence a.i a.gap a.word a.s (table_in a.breaks.now) p.0 p.1 p.2 p.3 _ added.most added.is _ refl _ passed c.if-head-size.false in
     let e = columns_at a.breaks.now c.pass-head.result (omega arith) in
     let n = c.number.ensures.0 in
     let h = c.if-line-g.false in
-    (has_room a.breaks.now a.s.size room, made_fits a.g a.last a.sentence a.i a.gap a.word a.s (table_in a.breaks.now) p.1 p.2 p.3 p.4 _ added.most added.is _ refl _ passed c.if-head-size.false p.0 c.if-last.false _ (rw turn.0 at turn.1) (omega arith) _ offered _ c.made-b.ensures)
+    (has_room a.breaks.now a.s.size room, made_fits a.g.setting a.last a.sentence a.i a.gap a.word a.s (table_in a.breaks.now) p.0 p.1 p.2 p.3 _ added.most added.is _ refl _ passed c.if-head-size.false a.g.limits c.if-last.false _ (rw (turn.0, turn.1) at c.round_of-r-2.result.turns) (omega arith) _ offered _ c.made-b.ensures)
 
 pub returns : goal.returns
 returns c =
@@ -102,12 +102,12 @@ returns c =
     let p = c.requires in
     let added = c.added_space-space.ensures in
     let passed = c.pass-head.ensures in
-    let turn = c.turn_of-turn-2.ensures in
-    let offered = rw turn.0 at c.best_offer-best.ensures in
-    let room = room a.g a.last a.sentence a.i a.gap a.word a.s (table_in a.breaks.now) p.1 p.2 p.3 p.4 _ added.most added.is _ refl _ passed in
-    let stay = inside a.g a.last a.sentence a.i a.gap a.word a.s (table_in a.breaks.now) p.1 p.2 p.3 p.4 _ added.most added.is _ refl _ passed c.if-head-size.false in
+    let turn = c.round_of-r-2.ensures in
+    let offered = rw (turn.0, turn.1) at c.best_offer-best.ensures in
+    let room = room a.g.setting a.last a.sentence a.i a.gap a.word a.s (table_in a.breaks.now) p.0 p.1 p.2 p.3 _ added.most added.is _ refl _ passed in
+    let stay = inside a.g.setting a.last a.sentence a.i a.gap a.word a.s (table_in a.breaks.now) p.0 p.1 p.2 p.3 _ added.most added.is _ refl _ passed c.if-head-size.false in
     let e = columns_at a.breaks.now c.pass-head.result (omega arith) in
     let n = c.number.ensures.0 in
     let h = c.if-line-g.false in
     let stored = ap table_in c.store_break-2.ensures ∙ table_record a.breaks.now a.s.size _ room in
-    round_made a.g a.last a.sentence a.i a.gap a.word a.s (table_in a.breaks.now) p.1 p.2 p.3 p.4 _ added.most added.is _ refl _ passed c.if-head-size.false p.0 c.if-last.false _ (rw turn.0 at turn.1) (omega arith) _ offered _ c.made-b.ensures _ stored
+    round_made a.g.setting a.last a.sentence a.i a.gap a.word a.s (table_in a.breaks.now) p.0 p.1 p.2 p.3 _ added.most added.is _ refl _ passed c.if-head-size.false a.g.limits c.if-last.false _ (rw (turn.0, turn.1) at c.round_of-r-2.result.turns) (omega arith) _ offered _ c.made-b.ensures _ stored

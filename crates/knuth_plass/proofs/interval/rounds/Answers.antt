@@ -15,18 +15,18 @@ unfolding of_bits
 loop-i-init c =
     let a = c.args in
     let p = c.requires in
-    let worked = worked_home a.n a.work.now p.2 c.store_break.new.breaks _ c.work-1.given.0 refl in
-    let home = part_home a.n a.work.now p.2 c.store_break.new.breaks _ c.work-1.given.0 refl in
-    let some = p.1 in
-    let room = part_room a.n a.work.now p.2 in
+    let worked = worked_home a.n a.work.now p.1 c.store_break.new.breaks _ c.work-1.given.0 refl in
+    let home = part_home a.n a.work.now p.1 c.store_break.new.breaks _ c.work-1.given.0 refl in
+    let some = p.0 in
+    let room = part_room a.n a.work.now p.1 in
     let stored = ap table_in (home ∙ c.store_break.ensures) ∙ table_record (records_part a.n a.work.now) 0 _ (rw room (omega arith)) in (
       omega arith,
-      p.1,
-      worked_lent a.n a.work.now _ worked p.2,
+      p.0,
+      worked_lent a.n a.work.now _ worked p.1,
       worked_none a.n _,
-      along_second a.g a.n _ _ _
-          (along_start a.g a.n _ p.0 (regular_then a.n a.work.now _ worked a.g p.4) p.1 0 refl (table_in (records_part a.n a.work.now)) (part_sized a.n a.work.now p.2) (rw room (omega arith)) _ _
-          (c.get-w.ensures.is ∙ sym (worked_word a.n a.work.now _ worked 0 p.1)) stored),
+      along_second a.g.setting a.n _ _ _
+          (along_start a.g.setting a.n _ a.g.limits (regular_then a.n a.work.now _ worked a.g.setting p.3) p.0 0 refl (table_in (records_part a.n a.work.now)) (part_sized a.n a.work.now p.1) (rw room (omega arith)) _ _
+          (c.get-w.ensures.is ∙ sym (worked_word a.n a.work.now _ worked 0 p.0)) stored),
     )
 
 pub least_end-low-requires : goal.least_end-low-requires
@@ -36,7 +36,7 @@ least_end-low-requires c =
     let some = v.4.some in
     let few = v.4.few in
     let t = c.loop-i-test.true in
-    (c.requires.0, rw (part_room c.args.n l.work v.2) (omega arith))
+    rw (part_room c.args.n l.work v.2) (omega arith)
 
 pub get-word-requires : goal.get-word-requires
 get-word-requires c =
@@ -44,7 +44,7 @@ get-word-requires c =
     let a = c.args in
     let l = c.loop-i in
     let v = l.invariant in
-    let behind = behind_skipped a.g a.n _ c.requires.0 l.s.head l.s.size (table_in (records_part a.n l.work)) l.work v.3 l.i l.s.line v.0 c.loop-i-test.true v.4 _ c.least_end-low.ensures.0 _ c.skip-over.ensures in
+    let behind = behind_skipped a.g.setting a.n _ c.args.g.limits l.s.head l.s.size (table_in (records_part a.n l.work)) l.work v.3 l.i l.s.line v.0 c.loop-i-test.true v.4 _ c.least_end-low.ensures.0 _ c.skip-over.ensures in
     (behind.from, behind.to) in
     let r = c.loop-i.invariant.2.room in let k = here.1 in omega arith
 
@@ -54,7 +54,7 @@ gap_behind-gap-requires c =
     let a = c.args in
     let l = c.loop-i in
     let v = l.invariant in
-    let behind = behind_skipped a.g a.n _ c.requires.0 l.s.head l.s.size (table_in (records_part a.n l.work)) l.work v.3 l.i l.s.line v.0 c.loop-i-test.true v.4 _ c.least_end-low.ensures.0 _ c.skip-over.ensures in
+    let behind = behind_skipped a.g.setting a.n _ c.args.g.limits l.s.head l.s.size (table_in (records_part a.n l.work)) l.work v.3 l.i l.s.line v.0 c.loop-i-test.true v.4 _ c.least_end-low.ensures.0 _ c.skip-over.ensures in
     (behind.from, behind.to) in
     let lent = c.loop-i.invariant.2 in
     let r = lent.room in
@@ -66,7 +66,7 @@ sentence_at-sentence-requires c =
     let a = c.args in
     let l = c.loop-i in
     let v = l.invariant in
-    let behind = behind_skipped a.g a.n _ c.requires.0 l.s.head l.s.size (table_in (records_part a.n l.work)) l.work v.3 l.i l.s.line v.0 c.loop-i-test.true v.4 _ c.least_end-low.ensures.0 _ c.skip-over.ensures in
+    let behind = behind_skipped a.g.setting a.n _ c.args.g.limits l.s.head l.s.size (table_in (records_part a.n l.work)) l.work v.3 l.i l.s.line v.0 c.loop-i-test.true v.4 _ c.least_end-low.ensures.0 _ c.skip-over.ensures in
     (behind.from, behind.to) in
     let r = c.loop-i.invariant.2.room in let k = here.1 in omega arith
 
@@ -76,7 +76,7 @@ overflow_add-k c =
     let a = c.args in
     let l = c.loop-i in
     let v = l.invariant in
-    let behind = behind_skipped a.g a.n _ c.requires.0 l.s.head l.s.size (table_in (records_part a.n l.work)) l.work v.3 l.i l.s.line v.0 c.loop-i-test.true v.4 _ c.least_end-low.ensures.0 _ c.skip-over.ensures in
+    let behind = behind_skipped a.g.setting a.n _ c.args.g.limits l.s.head l.s.size (table_in (records_part a.n l.work)) l.work v.3 l.i l.s.line v.0 c.loop-i-test.true v.4 _ c.least_end-low.ensures.0 _ c.skip-over.ensures in
     (behind.from, behind.to) in
     let f = c.loop-i.invariant.2.few in let k = here.1 in omega arith
 
@@ -87,22 +87,21 @@ round-s-requires c =
     let l = c.loop-i in
     let v = l.invariant in
     let k = c.skip-over.result.word in
-    let first = worked_home a.n a.work.now p.2 c.store_break.new.breaks _ c.work-1.given.0 refl in
-    let regular = regular_then a.n a.work.now _ first a.g p.4 in
-    let behind = behind_skipped a.g a.n _ p.0 l.s.head l.s.size (table_in (records_part a.n l.work)) l.work v.3 l.i l.s.line v.0 c.loop-i-test.true v.4 _ c.least_end-low.ensures.0 _ c.skip-over.ensures in
+    let first = worked_home a.n a.work.now p.1 c.store_break.new.breaks _ c.work-1.given.0 refl in
+    let regular = regular_then a.n a.work.now _ first a.g.setting p.3 in
+    let behind = behind_skipped a.g.setting a.n _ a.g.limits l.s.head l.s.size (table_in (records_part a.n l.work)) l.work v.3 l.i l.s.line v.0 c.loop-i-test.true v.4 _ c.least_end-low.ensures.0 _ c.skip-over.ensures in
     let t = behind.to in
     let got = c.get-word.ensures in
     let word = got.is ∙ worked_word a.n _ l.work v.3 k t in
     let gap = c.gap_behind-gap.ensures ∙ gap_same a.n _ l.work v.3 k in (
-      p.0,
       record {
         small = got.small;
-        narrow = rw (word, worked_word a.n a.work.now _ first k t) (p.3 _ t);
+        narrow = rw (word, worked_word a.n a.work.now _ first k t) (p.2 _ t);
         tabless = rw word (regular.line.tabless k t);
       },
       rw (part_room a.n l.work v.2) t,
-      rw word (between a.g a.n _ k _ _ (table_in (records_part a.n l.work)) behind.along t),
-      rw (word, gap) (line_room_law a.g.first a.n k _ _ regular.line t behind.along.short),
+      rw word (between a.g.setting a.n _ k _ _ (table_in (records_part a.n l.work)) behind.along t),
+      rw (word, gap) (line_room_law a.g.setting.first a.n k _ _ regular.line t behind.along.short),
     )
 
 pub overflow_add-i : goal.overflow_add-i
@@ -111,7 +110,7 @@ overflow_add-i c =
     let a = c.args in
     let l = c.loop-i in
     let v = l.invariant in
-    let behind = behind_skipped a.g a.n _ c.requires.0 l.s.head l.s.size (table_in (records_part a.n l.work)) l.work v.3 l.i l.s.line v.0 c.loop-i-test.true v.4 _ c.least_end-low.ensures.0 _ c.skip-over.ensures in
+    let behind = behind_skipped a.g.setting a.n _ c.args.g.limits l.s.head l.s.size (table_in (records_part a.n l.work)) l.work v.3 l.i l.s.line v.0 c.loop-i-test.true v.4 _ c.least_end-low.ensures.0 _ c.skip-over.ensures in
     (behind.from, behind.to) in
     let f = c.loop-i.invariant.2.few in let k = here.1 in omega arith
 
@@ -121,7 +120,7 @@ loop-i-smaller c =
     let a = c.args in
     let l = c.loop-i in
     let v = l.invariant in
-    let behind = behind_skipped a.g a.n _ c.requires.0 l.s.head l.s.size (table_in (records_part a.n l.work)) l.work v.3 l.i l.s.line v.0 c.loop-i-test.true v.4 _ c.least_end-low.ensures.0 _ c.skip-over.ensures in
+    let behind = behind_skipped a.g.setting a.n _ c.args.g.limits l.s.head l.s.size (table_in (records_part a.n l.work)) l.work v.3 l.i l.s.line v.0 c.loop-i-test.true v.4 _ c.least_end-low.ensures.0 _ c.skip-over.ensures in
     (behind.from, behind.to) in
     let k = here in let from = k.0 in let to = k.1 in omega arith
 
@@ -132,7 +131,7 @@ loop-i-preserved c =
     let v = l.invariant in
     let k = c.skip-over.result.word in
     let some = v.0 in
-    let behind = behind_skipped a.g a.n _ c.requires.0 l.s.head l.s.size (table_in (records_part a.n l.work)) l.work v.3 l.i l.s.line some c.loop-i-test.true v.4 _ c.least_end-low.ensures.0 _ c.skip-over.ensures in
+    let behind = behind_skipped a.g.setting a.n _ c.args.g.limits l.s.head l.s.size (table_in (records_part a.n l.work)) l.work v.3 l.i l.s.line some c.loop-i-test.true v.4 _ c.least_end-low.ensures.0 _ c.skip-over.ensures in
     let from = behind.from in
     let t = behind.to in
     let next = worked_home a.n l.work v.2 c.round-s.new.breaks _ c.work-in-loop-i-1.given.0 refl in
@@ -144,7 +143,7 @@ loop-i-preserved c =
       omega arith,
       worked_lent a.n l.work _ next v.2,
       worked_then a.n _ l.work v.3 _ next,
-      along_next a.g a.n _ k _ _ (table_in (records_part a.n l.work)) behind.along t _ _ _
+      along_next a.g.setting a.n _ k _ _ (table_in (records_part a.n l.work)) behind.along t _ _ _
           (rw (home, mark_here a.n _ k t, ← mark, ← word, ← gap) c.round-s.ensures)
           (λ notes. mark_behind a.n _ k notes (omega arith)),
     )
@@ -155,7 +154,7 @@ returns c =
     let p = c.requires in
     let l = c.loop-i in
     let v = l.invariant in
-    let first = worked_home a.n a.work.now p.2 c.store_break.new.breaks _ c.work-1.given.0 refl in
+    let first = worked_home a.n a.work.now p.1 c.store_break.new.breaks _ c.work-1.given.0 refl in
     let room = part_room a.n l.work v.2 in
-    let are = intervals_are a.g a.n _ p.0 (regular_then a.n a.work.now _ first a.g p.4) p.1 l.i _ l.s (table_in (records_part a.n l.work)) v.1 c.loop-i-test.false (omega arith) v.4 in
-    (intervals_then a.n a.work.now _ first a.g _ _ are, worked_then a.n a.work.now _ first l.work v.3)
+    let are = intervals_are a.g.setting a.n _ a.g.limits (regular_then a.n a.work.now _ first a.g.setting p.3) p.0 l.i _ l.s (table_in (records_part a.n l.work)) v.1 c.loop-i-test.false (omega arith) v.4 in
+    (intervals_then a.n a.work.now _ first a.g.setting _ _ are, worked_then a.n a.work.now _ first l.work v.3)

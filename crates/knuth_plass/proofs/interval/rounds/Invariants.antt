@@ -11,7 +11,7 @@ invariant-loop-i l =
     × (l.i ≤ l.n)
     × Lent l.n l.work
     × Worked l.n l.initial.work l.work
-    × Along l.g l.n l.initial.work l.i (mark_at l.n l.initial.work l.i) l.s (table_in (records_part l.n l.work))
+    × Along l.g.setting l.n l.initial.work l.i (mark_at l.n l.initial.work l.i) l.s (table_in (records_part l.n l.work))
 
 abbrev pub decreases-loop-i : goal.decreases-loop-i
 decreases-loop-i l = l.n - l.i

@@ -13,7 +13,7 @@ returns-then-low-end c =
     let a = c.args in
     let l = c.loop-k in
     let e = end_is a.uniform a.work.now l.k l.line _ _ c.get-w.ensures.is c.space_at.ensures in
-    sym (l.invariant.2 ∙ skips_stop a.uniform a.low a.work.now a.n l.k l.line c.loop-k-test.true (rw (← e) c.if-low-end.true))
+    sym (l.invariant.1 ∙ skips_stop a.uniform a.low a.work.now a.n l.k l.line c.loop-k-test.true (rw (← e) c.if-low-end.true))
 
 pub loop-k-preserved : goal.loop-k-preserved
 loop-k-preserved c =
@@ -21,12 +21,12 @@ loop-k-preserved c =
     let l = c.loop-k in
     let more = c.loop-k-test.true in
     let e = end_is a.uniform a.work.now l.k l.line _ _ c.get-w.ensures.is c.space_at.ensures in
-    (omega arith, c.if-low-end.false, rw e (l.invariant.2 ∙ skips_go a.uniform a.low a.work.now a.n l.k l.line more (rw (← e) c.if-low-end.false)))
+    (c.if-low-end.false, rw e (l.invariant.1 ∙ skips_go a.uniform a.low a.work.now a.n l.k l.line more (rw (← e) c.if-low-end.false)))
 
 pub returns : goal.returns
 returns c =
     let a = c.args in
     let l = c.loop-k in
     let v = l.invariant in
-    let same : l.k ≡ a.n - 1 = omega (arith, v.0, c.loop-k-test.false) in
-    rw same at (sym (v.2 ∙ skips_last a.uniform a.low a.work.now a.n l.k l.line c.loop-k-test.false))
+    let same : l.k ≡ a.n - 1 = omega (arith, l.auto.k-end (omega arith), c.loop-k-test.false) in
+    rw same at (sym (v.1 ∙ skips_last a.uniform a.low a.work.now a.n l.k l.line c.loop-k-test.false))

@@ -5,6 +5,5 @@ use Rattle.knuth_plass.proofs.interval.skip.Given as goal
 
 abbrev pub invariant-loop-k : goal.invariant-loop-k
 invariant-loop-k l =
-    (l.k < l.n)
-    × (l.line < l.low)
+    (l.line < l.low)
     × (skipped_from l.uniform l.low l.work (l.n - (l.i + 1)) l.i l.p ≡ skipped_from l.uniform l.low l.work (l.n - (l.k + 1)) l.k l.line)

@@ -11,6 +11,6 @@ use Rattle.knuth_plass.proofs.listed.advance.Given as goal
 abbrev pub invariant-loop-k : goal.invariant-loop-k
 invariant-loop-k l =
     (length l.breaks ≡ length l.initial.breaks)
-    × Fit l.turn l.st l.k (table_in l.breaks) (active_in l.breaks) l.s
+    × Fit l.r.turn l.st l.k (table_in l.breaks) (active_in l.breaks) l.s
     × ((notes : List ℕ)
-    → RoundGoes l.g l.turn l.st (answer l.g l.turn (map (reduced l.st.reduction) (breaks_listed l.st.count (table_in l.initial.breaks) (active_in l.initial.breaks))) notes) l.k (table_in l.breaks) (active_in l.breaks) l.s)
+    → RoundGoes l.r.goals.setting l.r.turn l.st (answer l.r.goals.setting l.r.turn (map (reduced l.st.reduction) (breaks_listed l.st.count (table_in l.initial.breaks) (active_in l.initial.breaks))) notes) l.k (table_in l.breaks) (active_in l.breaks) l.s)

@@ -6,8 +6,8 @@ use Rattle.knuth_plass.proofs.listed.round.Goals as goal
 pub returns : goal.returns
 returns c =
     let a = c.args in
-    let turn = c.turn_of-turn.ensures in
-    round_is a.g a.last a.sentence a.i _ _ _ a.st (table_in a.breaks.now) (active_in a.breaks.now) _ _ _ _ _ _
+    let turn = c.round_of-r.ensures in
+    round_is a.g.setting a.last a.sentence a.i _ _ _ a.st (table_in a.breaks.now) (active_in a.breaks.now) _ _ _ _ _ _
     c.added_space-space.ensures.is
-    (rw turn.0 at c.advance-s.ensures.1)
-    (rw turn.0 at c.settle.ensures)
+    (rw (turn.0, turn.1) at c.advance-s.ensures.1)
+    (rw (turn.0, turn.1) at c.settle.ensures)

@@ -1,7 +1,7 @@
 use mathlib.Core.Path.{◌≡◌}
 use mathlib.Core.Bool.{false}
 use mathlib.Core.List.{List}
-use Prim.Native.Nat.{ℕ, ◌≤◌}
+use Prim.Native.Nat.{ℕ}
 use lib.ListN.{drop}
 use Rattle.records.specs.Word.{meaning}
 use Rattle.records.specs.Cited.Table.{word_in, words_in}
@@ -14,8 +14,8 @@ use Rattle.knuth_plass.proofs.telling.all_told.Given as goal
 
 abbrev pub invariant-loop-i : goal.invariant-loop-i
 invariant-loop-i l =
-    (1 ≤ l.i) × (l.i ≤ l.n) × Lent l.n l.work × Worked l.n l.initial.work l.work × RoundReady l.i l.st (table_in (records_part l.n l.work)) (active_in (records_part l.n l.work))
+    Lent l.n l.work × Worked l.n l.initial.work l.work × RoundReady l.i l.st (table_in (records_part l.n l.work)) (active_in (records_part l.n l.work))
     × ((notes : List ℕ)
-    → rounds_from l.g l.sentence l.i (standing l.st (table_in (records_part l.n l.work)) (active_in (records_part l.n l.work))) (drop l.i (words_in notes l.n l.initial.work))
-    ≡ rounds_from l.g false 1 (begin l.g (meaning notes (word_in l.initial.work 0))) (drop 1 (words_in notes l.n l.initial.work)))
-    × ((notes : List ℕ) → SoFar (makers_of l.g (words_in notes l.n l.initial.work)) l.e l.i (makers_from l.g l.sentence l.i (standing l.st (table_in (records_part l.n l.work)) (active_in (records_part l.n l.work))) (drop l.i (words_in notes l.n l.initial.work))) l.first l.second)
+    → rounds_from l.g.setting l.sentence l.i (standing l.st (table_in (records_part l.n l.work)) (active_in (records_part l.n l.work))) (drop l.i (words_in notes l.n l.initial.work))
+    ≡ rounds_from l.g.setting false 1 (begin l.g.setting (meaning notes (word_in l.initial.work 0))) (drop 1 (words_in notes l.n l.initial.work)))
+    × ((notes : List ℕ) → SoFar (makers_of l.g.setting (words_in notes l.n l.initial.work)) l.e l.i (makers_from l.g.setting l.sentence l.i (standing l.st (table_in (records_part l.n l.work)) (active_in (records_part l.n l.work))) (drop l.i (words_in notes l.n l.initial.work))) l.first l.second)

@@ -1,9 +1,8 @@
 use mathlib.Core.Path.{◌≡◌}
-use Prim.Native.Nat.{◌≤◌}
 use Rattle.knuth_plass.specs.Cited.Table.{table_in, active_in}
 use Rattle.knuth_plass.proofs.Makers.{chosen_from}
 use Rattle.knuth_plass.proofs.telling.chosen.Given as goal
 
 abbrev pub invariant-loop-k : goal.invariant-loop-k
 invariant-loop-k l =
-    (l.k ≤ l.kept) × (chosen_from l.g l.weight l.total l.kept (table_in l.breaks) (active_in l.breaks) l.k ≡ chosen_from l.g l.weight l.total l.kept (table_in l.breaks) (active_in l.breaks) 0)
+    chosen_from l.g.setting l.weight l.total l.kept (table_in l.breaks) (active_in l.breaks) l.k ≡ chosen_from l.g.setting l.weight l.total l.kept (table_in l.breaks) (active_in l.breaks) 0
