@@ -8,10 +8,10 @@ use native.Mathlib.Nat.{zero-add}
 use lib.ListN.{length, length-map}
 use lib.Seq.{sets, sets-eq}
 use borrow.Author.Tests.{lt-ltb, le-ltb}
-use Rattle.lists.specs.Coded.{numbered}
+use Rattle.lists.specs.Coded.{numbered, result_coded}
 use Rattle.salvage.specs.Mending.{Change, mended, changes, MendAnswer, done, long, full, room, mend, mend_coded, over, copy_after, places_after, bytes_after}
 use Rattle.salvage.specs.Restoring.{Back, done as given, long as longCopy, stray, room as roomBack, belonging, restored, restore, restore_coded, notes_after}
-use Rattle.salvage.specs.Cited.Steps.{told, number_of, told_back, number_back, Mends, Restores, Counted}
+use Rattle.salvage.specs.Cited.Steps.{told, told_back, unmended_coded, unrestored_coded, Mends, Restores, Counted}
 use Rattle.salvage.specs.declared.Unmended.TheVariants.{Long, Full, Room}
 use Rattle.salvage.specs.declared.Unrestored.TheVariants.{Long as LongCopy, Stray, Room as RoomBack}
 
@@ -21,16 +21,14 @@ over_front xs old h = sets-eq xs old 0 (omega arith) ∙ rw (zero-add (length xs
 
 -- ---- the numbers
 
-pub number_told : (a : MendAnswer) → number_of (told a) ≡ numbered (mend_coded a)
-unfolding numbered
-number_told (done copy list) = omega arith
+pub number_told : (a : MendAnswer) → numbered (result_coded unmended_coded (told a)) ≡ numbered (mend_coded a)
+number_told (done copy list) = refl
 number_told long = refl
 number_told (full number) = refl
 number_told (room needed) = refl
 
-pub number_told_back : (a : Back) → number_back (told_back a) ≡ numbered (restore_coded a)
-unfolding numbered
-number_told_back (given notes) = omega arith
+pub number_told_back : (a : Back) → numbered (result_coded unrestored_coded (told_back a)) ≡ numbered (restore_coded a)
+number_told_back (given notes) = refl
 number_told_back longCopy = refl
 number_told_back (stray entry) = refl
 number_told_back (roomBack needed) = refl
@@ -58,12 +56,12 @@ module _ (notes : List ℕ) (space entries : ℕ) where
 
 module _ (notes copy places bytes : List ℕ) where
   pub mends_long : 65536 < length notes → Mends (mend notes (length copy) (min (length places) (length bytes))) copy places bytes (Err Long) copy places bytes
-  unfolding copy_after places_after bytes_after
+  unfolding copy_after places_after bytes_after numbered
   mends_long h = rw (mend_long notes (length copy) (min (length places) (length bytes)) h) (record { is = refl; copied = refl; placed = refl; kept = refl; small = omega arith })
 
   module _ (r : ℕ) (h : length notes ≤ 65536) (q : Counted notes r) where
     pub mends_full : min (length places) (length bytes) < r → Mends (mend notes (length copy) (min (length places) (length bytes))) copy places bytes (Err (Full r)) copy places bytes
-    unfolding copy_after places_after bytes_after
+    unfolding copy_after places_after bytes_after numbered
     mends_full k =
         rw (mend_full notes (length copy) (min (length places) (length bytes)) h (rw q.count k), q.count)
         (record { is = refl; copied = refl; placed = refl; kept = refl; small = omega (arith, q.few) })
@@ -71,7 +69,7 @@ module _ (notes copy places bytes : List ℕ) where
     module _ (k : r ≤ min (length places) (length bytes)) where
       pub mends_room : length copy < length notes + r
           → Mends (mend notes (length copy) (min (length places) (length bytes))) copy places bytes (Err (Room (length notes + r))) copy places bytes
-      unfolding copy_after places_after bytes_after
+      unfolding copy_after places_after bytes_after numbered
       mends_room l =
           rw (mend_room notes (length copy) (min (length places) (length bytes)) h (rw q.count k) (rw q.mended l), q.mended)
           (record { is = refl; copied = refl; placed = refl; kept = refl; small = omega (arith, q.few) })
@@ -80,7 +78,7 @@ module _ (notes copy places bytes : List ℕ) where
         pub mends_done : {copy' places' bytes' : List ℕ}
             → copy' ≡ sets copy 0 (mended notes) → places' ≡ sets places 0 (map (λ c. c.place) (changes notes)) → bytes' ≡ sets bytes 0 (map (λ c. c.byte) (changes notes))
             → Mends (mend notes (length copy) (min (length places) (length bytes))) copy places bytes (Ok (length notes + r)) copy' places' bytes'
-        unfolding copy_after places_after bytes_after
+        unfolding copy_after places_after bytes_after numbered
         mends_done a b d =
             rw (mend_done notes (length copy) (min (length places) (length bytes)) h (rw q.count k) (rw q.mended l))
             (record {
@@ -114,23 +112,23 @@ module _ (copy : List ℕ) (list : List Change) (space : ℕ) where
 
 module _ (copy : List ℕ) (list : List Change) (notes : List ℕ) where
   pub restores_long : 131072 < length copy → Restores (restore copy list (length notes)) notes (Err LongCopy) notes
-  unfolding notes_after
+  unfolding notes_after numbered
   restores_long h = rw (restore_long copy list (length notes) h) (record { is = refl; back = refl; small = omega arith })
 
   module _ (h : length copy ≤ 131072) where
     pub restores_stray : (r : ℕ) → r ≡ belonging 0 copy list → r ≤ length copy → r < length list → Restores (restore copy list (length notes)) notes (Err (Stray r)) notes
-    unfolding notes_after
+    unfolding notes_after numbered
     restores_stray r e b k =
         rw (restore_stray copy list (length notes) h (omega arith), ← e)
         (record { is = refl; back = refl; small = omega arith })
 
     module _ (n : ℕ) (k : length list ≤ belonging 0 copy list) (e : length (restored 0 copy list) ≡ n) (b : n ≤ length copy) where
       pub restores_room : length notes < n → Restores (restore copy list (length notes)) notes (Err (RoomBack n)) notes
-      unfolding notes_after
+      unfolding notes_after numbered
       restores_room l = rw (restore_room copy list (length notes) h k (rw e l), e) (record { is = refl; back = refl; small = omega arith })
 
       pub restores_done : {notes' : List ℕ} → n ≤ length notes → notes' ≡ sets notes 0 (restored 0 copy list) → Restores (restore copy list (length notes)) notes (Ok n) notes'
-      unfolding notes_after
+      unfolding notes_after numbered
       restores_done l a =
           rw (restore_done copy list (length notes) h k (rw e l))
           (record { is = ap Ok (sym e); back = a ∙ over_front (restored 0 copy list) notes (rw e l); small = omega arith })

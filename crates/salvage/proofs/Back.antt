@@ -5,10 +5,10 @@ use mathlib.Core.List.{List, [], ◌∷◌, ◌++◌}
 use Prim.Native.Nat.{ℕ, zero, suc, ◌+◌, ◌-◌, ◌/◌, ◌%◌, ◌≤◌, ◌<◌, min}
 use native.Mathlib.Omega.{arith}
 use native.Mathlib.Nat.{suc-add, zero-min, min-zero, suc-min-suc}
-use lib.Dec.{leb}
-use lib.ListN.{length, get_or, take, drop, set, length-append, length-drop}
+use lib.Dec.{ltb, leb, eqb}
+use lib.ListN.{length, get_or, get_or-eq_default, take, drop, set, length-append, length-drop}
 use lib.Seq.{sets, length-sets, drop-drop, length-take-le}
-use borrow.Author.Tests.{le-leb, lt-leb, leb-true, eq-eqb, ne_eqb}
+use borrow.Author.Tests.{ltb-true, ltb-false, leb-true, eqb-true, eqb-false, eq-eqb, ne_eqb}
 use Rattle.lists.specs.Runs.{begins}
 use Rattle.lists.proofs.RunsAt.{begins_within}
 use Rattle.lists.proofs.Views.{drop_here, drop_none}
@@ -38,13 +38,6 @@ listed_here (p ∷ places) (b ∷ bytes) (suc k) h = rw (suc-add k 1) (listed_he
 -- ---- two octets at a place
 
 module _ (x y : ℕ) (s : List ℕ) (i : ℕ) where
-  pair_cut : length s ≤ i + 1 → begins (x ∷ y ∷ []) (drop i s) ≡ false
-  pair_cut h = pick (begins (x ∷ y ∷ []) (drop i s)) refl
-    where
-      pick : (t : Bool) → begins (x ∷ y ∷ []) (drop i s) ≡ t → begins (x ∷ y ∷ []) (drop i s) ≡ false
-      pick false e = e
-      pick true e = absurd (omega (arith, begins_within (x ∷ y ∷ []) (drop i s) e, length-drop i s))
-
   module _ (h : i + 1 < length s) where
     two_here : drop i s ≡ get_or s i 0 ∷ get_or s (i + 1) 0 ∷ drop (i + 1 + 1) s
     two_here = rw (← drop_here 0 s (i + 1) h) (drop_here 0 s i (omega arith))
@@ -61,38 +54,41 @@ module _ (x y : ℕ) (s : List ℕ) (i : ℕ) where
     unfolding begins
     pair_both e f = rw (two_here, eq-eqb x (get_or s i 0) (sym e), begins, eq-eqb y (get_or s (i + 1) 0) (sym f), begins)
 
--- ---- whether an entry belongs
+  pair_cut : length s ≤ i + 1 → begins (x ∷ y ∷ []) (drop i s) ≡ false
+  pair_cut h = pick (begins (x ∷ y ∷ []) (drop i s)) refl
+    where
+      pick : (t : Bool) → begins (x ∷ y ∷ []) (drop i s) ≡ t → begins (x ∷ y ∷ []) (drop i s) ≡ false
+      pick false e = e
+      pick true e = absurd (omega (arith, begins_within (x ∷ y ∷ []) (drop i s) e, length-drop i s))
 
-module _ (copy : List ℕ) (at k place byte : ℕ) where
-  pub entry_before : place < at → false ≡ belongs at (drop (at + k) copy) (record { place = place; byte = byte })
-  unfolding belongs
-  entry_before h = rw (lt-leb at place h)
+  -- past the end 0 is read, and the second is above it
+  pub two_octets : 0 < y → eqb (get_or s i 0) x && eqb (get_or s (i + 1) 0) y ≡ begins (x ∷ y ∷ []) (drop i s)
+  two_octets more = go (eqb (get_or s i 0) x) refl (eqb (get_or s (i + 1) 0) y) refl (ltb (i + 1) (length s)) refl
+    where
+      go : (t : Bool) → eqb (get_or s i 0) x ≡ t → (u : Bool) → eqb (get_or s (i + 1) 0) y ≡ u → (v : Bool) → ltb (i + 1) (length s) ≡ v → t && u ≡ begins (x ∷ y ∷ []) (drop i s)
+      go true p true q true l = sym (pair_both (ltb-true _ _ l) (eqb-true _ x p) (eqb-true _ y q))
+      go true p false q true l = sym (pair_second (ltb-true _ _ l) (eqb-true _ x p) (eqb-false _ y q))
+      go false p u q true l = sym (pair_first (ltb-true _ _ l) (eqb-false _ x p))
+      go t p true q false l = absurd (omega (arith, eqb-true _ y q, get_or-eq_default s 0 {n = i + 1} (ltb-false _ _ l)))
+      go true p false q false l = sym (pair_cut (ltb-false _ _ l))
+      go false p false q false l = sym (pair_cut (ltb-false _ _ l))
 
-  module _ (h : at ≤ place) where
-    pub entry_low : byte < 0x80 → false ≡ belongs at (drop (at + k) copy) (record { place = place; byte = byte })
-    unfolding belongs
-    entry_low l = rw (le-leb at place h, lt-leb 0x80 byte l)
+-- ---- whether an entry belongs, where its two octets are read
 
-    module _ (l : 0x80 ≤ byte) (m : byte < 256) where
-      entry_pair : belongs at (drop (at + k) copy) (record { place = place; byte = byte }) ≡ begins ((0xC0 + byte / 64) ∷ (0x80 + byte % 64) ∷ []) (drop (place + k) copy)
-      unfolding belongs
-      entry_pair =
-          let e : at + k + (place - at) ≡ place + k = omega arith in
-          rw (le-leb at place h, le-leb 0x80 byte l, encode_high byte l m, drop-drop (place - at) (at + k) copy, e)
-
-      pub entry_cut : length copy ≤ place + k + 1 → false ≡ belongs at (drop (at + k) copy) (record { place = place; byte = byte })
-      entry_cut c = rw entry_pair (sym (pair_cut (0xC0 + byte / 64) (0x80 + byte % 64) copy (place + k) c))
-
-      module _ (c : place + k + 1 < length copy) where
-        pub entry_first : (get_or copy (place + k) 0 ≡ 0xC0 + byte / 64 → ⊥) → false ≡ belongs at (drop (at + k) copy) (record { place = place; byte = byte })
-        entry_first e = rw entry_pair (sym (pair_first (0xC0 + byte / 64) (0x80 + byte % 64) copy (place + k) c e))
-
-        module _ (e : get_or copy (place + k) 0 ≡ 0xC0 + byte / 64) where
-          pub entry_second : (get_or copy (place + k + 1) 0 ≡ 0x80 + byte % 64 → ⊥) → false ≡ belongs at (drop (at + k) copy) (record { place = place; byte = byte })
-          entry_second f = rw entry_pair (sym (pair_second (0xC0 + byte / 64) (0x80 + byte % 64) copy (place + k) c e f))
-
-          pub entry_both : get_or copy (place + k + 1) 0 ≡ 0x80 + byte % 64 → true ≡ belongs at (drop (at + k) copy) (record { place = place; byte = byte })
-          entry_both f = rw entry_pair (sym (pair_both (0xC0 + byte / 64) (0x80 + byte % 64) copy (place + k) c e f))
+pub entry_told : (copy : List ℕ) (at k place byte one two : ℕ) → byte < 256 → one ≡ get_or copy (place + k) 0 → two ≡ get_or copy (place + k + 1) 0
+    → ((leb at place && leb 0x80 byte) && eqb one (0xC0 + byte / 64)) && eqb two (0x80 + byte % 64) ≡ belongs at (drop (at + k) copy) (record { place = place; byte = byte })
+unfolding belongs
+entry_told copy at k place byte one two small e f = rw (e, f) (go (leb at place) refl (leb 0x80 byte) refl)
+  where
+    go : (t : Bool) → leb at place ≡ t → (u : Bool) → leb 0x80 byte ≡ u
+        → ((t && u) && eqb (get_or copy (place + k) 0) (0xC0 + byte / 64)) && eqb (get_or copy (place + k + 1) 0) (0x80 + byte % 64)
+        ≡ t && (u && begins (encode byte) (drop (place - at) (drop (at + k) copy)))
+    go false p u q = refl
+    go true p false q = refl
+    go true p true q =
+        let h = leb-true at place p in
+        let i : at + k + (place - at) ≡ place + k = omega arith in
+        rw (encode_high byte (leb-true 0x80 byte q) small, drop-drop (place - at) (at + k) copy, i) (two_octets (0xC0 + byte / 64) (0x80 + byte % 64) copy (place + k) (omega arith))
 
 -- what an entry that belongs says
 pub record Belongs (at : ℕ) (copy : List ℕ) (e : Change) : Type 0 where

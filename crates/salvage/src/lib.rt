@@ -316,18 +316,15 @@ fn count_belonging(copy: &[u8], places: &[u32], bytes: &[u8]) -> usize
     count
 }
 
-// Whether an entry after k others belongs to the copy from the old place `at` on.
+// Whether an entry after k others belongs to the copy from the old place `at` on. (Past its end 0 is read, which is neither octet.)
 fn is_belonging(copy: &[u8], at: usize, k: usize, place: usize, byte: u8) -> bool
     requires { (at + k ≤ length copy.now) × (length copy.now ≤ 131072) × (place < 2 ^ 32) }
     ensures { result ≡ belongs at (drop (at + k) copy.now) (record { place = place; byte = byte }) }
 {
     let first = place + k;
-    let second = first + 1;
-    at <= place
-        && 0x80 <= byte
-        && second < copy.len()
-        && copy[first] == 0xC0 + byte / 64
-        && copy[second] == 0x80 + byte % 64
+    let one = copy.get(first).copied().unwrap_or(0);
+    let two = copy.get(first + 1).copied().unwrap_or(0);
+    (at <= place) & (0x80 <= byte) & (one == 0xC0 + byte / 64) & (two == 0x80 + byte % 64)
 }
 
 // Writes the old notes, for which there is room, from a copy to which the whole list belongs.

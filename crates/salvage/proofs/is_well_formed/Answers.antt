@@ -21,12 +21,12 @@ returns-in_default c =
 
 pub loop-i-smaller : goal.loop-i-smaller
 loop-i-smaller c =
-    let read : (c.loop-i.i < c.in-Good.next) × (c.in-Good.next ≤ length c.args.line.now) × (is_utf8 (drop c.loop-i.i c.args.line.now) ≡ is_utf8 (drop c.in-Good.next c.args.line.now)) = read_on _ _ _ _ c.loop-i.invariant.0 (sym c.decode_at.ensures ∙ c.in-Good.is) in
+    let read : (c.loop-i.i < c.in-Some.c.next) × (c.in-Some.c.next ≤ length c.args.line.now) × (is_utf8 (drop c.loop-i.i c.args.line.now) ≡ is_utf8 (drop c.in-Some.c.next c.args.line.now)) = read_on _ _ _ _ c.loop-i.invariant.0 (sym c.decode_at.ensures ∙ c.in-Some.is) in
     let r = read in omega (arith, r.0, r.1)
 
 pub loop-i-preserved : goal.loop-i-preserved
 loop-i-preserved c =
-    let read : (c.loop-i.i < c.in-Good.next) × (c.in-Good.next ≤ length c.args.line.now) × (is_utf8 (drop c.loop-i.i c.args.line.now) ≡ is_utf8 (drop c.in-Good.next c.args.line.now)) = read_on _ _ _ _ c.loop-i.invariant.0 (sym c.decode_at.ensures ∙ c.in-Good.is) in
+    let read : (c.loop-i.i < c.in-Some.c.next) × (c.in-Some.c.next ≤ length c.args.line.now) × (is_utf8 (drop c.loop-i.i c.args.line.now) ≡ is_utf8 (drop c.in-Some.c.next c.args.line.now)) = read_on _ _ _ _ c.loop-i.invariant.0 (sym c.decode_at.ensures ∙ c.in-Some.is) in
     let r = read in (r.1, sym r.2 ∙ c.loop-i.invariant.1)
 
 pub returns : goal.returns

@@ -17,7 +17,7 @@ put_mended-requires c =
     let f = changed _ (sym c.is_well_formed.ensures ∙ c.if-is_well_formed.false) in
     (c.requires.0, rw (f.0, f.1 c.args.at) at c.requires.1)
 
-pub returns : goal.returns
-returns c =
+pub returns-else-is_well_formed : goal.returns-else-is_well_formed
+returns-else-is_well_formed c =
     let f = changed _ (sym c.is_well_formed.ensures ∙ c.if-is_well_formed.false) in
     rw (f.0, f.1 c.args.at) c.put_mended.ensures
