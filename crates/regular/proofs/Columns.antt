@@ -76,21 +76,6 @@ module _ (s : List ℕ) where
   pub columns_step : (from i next : ℕ) → next ≡ i + 1 → from ≤ i → i < length s → columns_in s from next ≡ columns_in s from i + column_of (get_or s i 0)
   columns_step from i next e a l = rw e (columns_join from i (i + 1) a (omega arith) (omega arith) ∙ ap (λ (n : ℕ). columns_in s from i + n) (columns_one i l))
 
-  pub columns_eight : (i : ℕ) → i + 8 ≤ length s
-      → columns_in s i (i + 8)
-      ≡ column_of (get_or s i 0) + column_of (get_or s (i + 1) 0) + column_of (get_or s (i + 2) 0) + column_of (get_or s (i + 3) 0) + column_of (get_or s (i + 4) 0) + column_of (get_or s (i + 5) 0) + column_of (get_or s (i + 6) 0) + column_of (get_or s (i + 7) 0)
-  columns_eight i w =
-      let a = columns_none i in
-      let b = columns_step i i (i + 1) refl (omega arith) (omega arith) in
-      let c = columns_step i (i + 1) (i + 2) (omega arith) (omega arith) (omega arith) in
-      let d = columns_step i (i + 2) (i + 3) (omega arith) (omega arith) (omega arith) in
-      let e = columns_step i (i + 3) (i + 4) (omega arith) (omega arith) (omega arith) in
-      let f = columns_step i (i + 4) (i + 5) (omega arith) (omega arith) (omega arith) in
-      let g = columns_step i (i + 5) (i + 6) (omega arith) (omega arith) (omega arith) in
-      let h = columns_step i (i + 6) (i + 7) (omega arith) (omega arith) (omega arith) in
-      let j = columns_step i (i + 7) (i + 8) (omega arith) (omega arith) (omega arith) in
-      omega arith
-
   pub columns_size : (from to : ℕ) → to ≤ length s → columns_in s from to ≤ to - from
   columns_size from to w = let n = length-slice from to s w in omega (arith, columns_most (slice from to s), n)
 

@@ -14,7 +14,7 @@ use Rattle.output.specs.Emission.{line_feed}
 use Rattle.output.specs.Cited.Sink.{Wrote}
 use Rattle.output.proofs.Sink.{left_first, left_then}
 use Rattle.regular.specs.declared.Cut.{Cut}
-use Rattle.regular.specs.declared.State.{State}
+use Rattle.regular.specs.declared.Reached.{Reached}
 use Rattle.regular.specs.Cited.Regular.{not_space, lastly, fresh_punct}
 use Rattle.regular.specs.Cited.Places.{NoSpace, Inked, Even, columns_in, Reaches, CutAt, Along, Filled}
 use Rattle.regular.proofs.EvenParts.{rest_even}
@@ -70,7 +70,7 @@ module _ (s : List ℕ) (from e : ℕ) (counts : Bool) (g : Setting) (indent : L
             ∙ along.punct
 
     pub along_done : (column' + columns_in s p e ≤ g.width) ⊎ ((i : ℕ) → p ≤ i → i < e → NoSpace s i) → from ≤ p → k' ≤ k + (p - from) * 2 ^ 34 → column' ≤ column + g.indent → length s ≤ 2 ^ 20
-        → (out'' : List ℕ) (r : State) → Wrote out' k' (slice p e s) out'' r.written → r.column ≡ column' + columns_in s p e → Filled s from e counts g indent column out k out'' r
+        → (out'' : List ℕ) (r : Reached) → Wrote out' k' (slice p e s) out'' r.written → r.column ≡ column' + columns_in s p e → Filled s from e counts g indent column out k out'' r
     along_done fits on few near size out'' r wrote is =
         let w = along.inked.within in
         let b = along.inked.on in

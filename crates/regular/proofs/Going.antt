@@ -25,7 +25,7 @@ module _ (s : List ℕ) (i next : ℕ) (mail : Bool) (skip later : ℕ) (o : Opt
   -- a line by its stretch
   pub row_went : mail ≡ false → (row : Row) → ((block : List ℕ) → RowIs (meant block o) skip later s next i row) → o.uniform ≡ g.uniform
       → (out' : List ℕ) (v : Reached) → Went s row.from row.end g indent out t out' v
-      → RowPut s i next mail skip later o g indent out t out' (record { at = row.next; written = v.written; column = v.column; punct = v.punct; begins = v.begins })
+      → RowPut s i next mail skip later o g indent out t out' (record { at = row.next; reached = v })
   unfolding meant
   row_went m row is same out' v went =
       let r = is [] in
@@ -48,7 +48,7 @@ module _ (s : List ℕ) (i next : ℕ) (mail : Bool) (skip later : ℕ) (o : Opt
   -- a line word by word
   pub row_worded : (x : Extent) → LineAt (meant [] o) mail skip later s next i x → (start : ℕ) → start ≡ i + cond mail 0 skip
       → (out' : List ℕ) (v : Reached) → Worded s start (i + x.text) mail o g indent out t out' v
-      → RowPut s i next mail skip later o g indent out t out' (record { at = i + x.whole; written = v.written; column = v.column; punct = v.punct; begins = v.begins })
+      → RowPut s i next mail skip later o g indent out t out' (record { at = i + x.whole; reached = v })
   unfolding meant
   row_worded x line start e out' v worded =
       let a = line.on in

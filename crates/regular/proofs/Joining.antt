@@ -16,7 +16,7 @@ use Rattle.output.specs.Emission.{line_feed}
 use Rattle.output.specs.Cited.Sink.{Wrote, Left}
 use Rattle.output.proofs.Sink.{left_first, left_then}
 use Rattle.regular.specs.declared.Cut.{Cut}
-use Rattle.regular.specs.declared.State.{State}
+use Rattle.regular.specs.declared.Reached.{Reached}
 use Rattle.regular.specs.Cited.Regular.{stretch_words, lastly, fresh_punct, added, quick_rest, quick_fresh}
 use Rattle.regular.specs.Cited.Places.{NoSpace, LastSpace, BeforeSpaces, OverSpaces, Inked, Even, columns_in, Reaches, CutAt, CutIs, Filled, Joined}
 use Rattle.regular.proofs.Columns.{columns_size}
@@ -35,7 +35,7 @@ added_few false = omega arith
 module _ (s : List ℕ) (p e : ℕ) (punct : Bool) (g : Setting) (indent : List ℕ) (column : ℕ) (out : List ℕ) (k : ℕ) (inked : Inked s p e) (even : Even g.uniform s p e) where
   -- all of it stays
   pub join_all : column + added punct + columns_in s p e ≤ g.width → length s ≤ 2 ^ 20
-      → (out' out'' : List ℕ) (k' : ℕ) (r : State) → Wrote out k (replicate (added punct) 32) out' k' → Wrote out' k' (slice p e s) out'' r.written → r.column ≡ column + added punct + columns_in s p e
+      → (out' out'' : List ℕ) (k' : ℕ) (r : Reached) → Wrote out k (replicate (added punct) 32) out' k' → Wrote out' k' (slice p e s) out'' r.written → r.column ≡ column + added punct + columns_in s p e
       → Joined s p e punct g indent column out k out'' r
   join_all fits size out' out'' k' r spaces wrote at =
       let w = inked.within in
@@ -55,7 +55,7 @@ module _ (s : List ℕ) (p e : ℕ) (punct : Bool) (g : Setting) (indent : List 
   -- its part from next on begins a line of output
   module _ (next : ℕ) (on : p ≤ next) (some : next < e) (out' : List ℕ) (k' : ℕ) (near : k' ≤ k + (next - p + 1) * 2 ^ 34)
       (left : (o : Opts) (more : List Word) → o.uniform ≡ g.uniform → Left out k (quick_rest g indent column punct (stretch_words o true false (slice p e s) ++ more)) out' k' (quick_fresh g indent true g.indent (stretch_words o false false (slice next e s) ++ more))) where
-    pub join_rest : (out'' : List ℕ) (r : State) → Filled s next e true g indent g.indent out' k' out'' r → Joined s p e punct g indent column out k out'' r
+    pub join_rest : (out'' : List ℕ) (r : Reached) → Filled s next e true g indent g.indent out' k' out'' r → Joined s p e punct g indent column out k out'' r
     join_rest out'' r filled =
         let w = inked.within in
         let n = length-slice next e s w in

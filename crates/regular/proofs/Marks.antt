@@ -9,7 +9,6 @@ use lib.Seq.{slice, length-slice, slice_empty}
 use Rattle.spacing.specs.declared.Setting.{Setting}
 use Rattle.words.specs.Cited.Scan.{punct_code}
 use Rattle.output.proofs.Sink.{left_first}
-use Rattle.regular.specs.declared.State.{State}
 use Rattle.regular.specs.declared.Reached.{Reached}
 use Rattle.regular.specs.Cited.Regular.{stretch_words, lastly, fresh_punct, quick_on}
 use Rattle.regular.specs.Cited.Places.{FirstSpace, Inked, Filled, Joined, Stands, Went}
@@ -54,7 +53,7 @@ module _ (s : List ℕ) (from e : ℕ) (g : Setting) (indent : List ℕ) (out : 
     stands = near;
   }
 
-  pub went_some : t.begins ≡ false → Inked s from e → length s ≤ 2 ^ 20 → g.indent < 2 ^ 31 → g.width < 2 ^ 31 → (out' : List ℕ) (r : State) → Joined s from e t.punct g indent t.column out t.written out' r → (punct : Bool) → punct ≡ punct_code (get_or s (e - 1) 0)
+  pub went_some : t.begins ≡ false → Inked s from e → length s ≤ 2 ^ 20 → g.indent < 2 ^ 31 → g.width < 2 ^ 31 → (out' : List ℕ) (r : Reached) → Joined s from e t.punct g indent t.column out t.written out' r → (punct : Bool) → punct ≡ punct_code (get_or s (e - 1) 0)
       → Went s from e g indent out t out' (record { written = r.written; column = r.column; punct = punct; begins = false })
   unfolding quick_on
   went_some begun inked size ind wid out' r j punct q = record {
@@ -64,7 +63,7 @@ module _ (s : List ℕ) (from e : ℕ) (g : Setting) (indent : List ℕ) (out : 
   }
 
   -- with the paragraph's first word
-  pub went_head : t.begins ≡ true → t.column < 2 ^ 31 → Inked s from e → length s ≤ 2 ^ 20 → g.indent < 2 ^ 31 → (out' : List ℕ) (r : State) → Filled s from e false g indent t.column out t.written out' r → (punct : Bool) → punct ≡ fresh_punct false (slice from e s)
+  pub went_head : t.begins ≡ true → t.column < 2 ^ 31 → Inked s from e → length s ≤ 2 ^ 20 → g.indent < 2 ^ 31 → (out' : List ℕ) (r : Reached) → Filled s from e false g indent t.column out t.written out' r → (punct : Bool) → punct ≡ fresh_punct false (slice from e s)
       → Went s from e g indent out t out' (record { written = r.written; column = r.column; punct = punct; begins = false })
   unfolding quick_on
   went_head begins near inked size ind out' r f punct q = record {

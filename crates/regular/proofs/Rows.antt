@@ -108,7 +108,7 @@ module _ (o : Opts) (skip later : ℕ) (s : List ℕ) (next i : ℕ) (x : Extent
 
   -- the stretch without the spaces at its end
   stretch_is : spelled false (slice (i + skip) (i + x.text) s) ≡ true → (e : ℕ) → BeforeSpaces s (i + skip) (i + x.text) e → (n : ℕ) → n ≡ columns_in s (i + skip) e → Even o.uniform s (i + skip) e
-      → RowIs o skip later s next i (record { from = i + skip; end = e; columns = n; next = i + x.whole; regular = true })
+      → RowIs o skip later s next i (record { from = i + skip; end = e; columns = n; next = i + x.whole })
   stretch_is spelt e before n count even =
       let a = line.on in
       let b = line.within in
@@ -190,7 +190,7 @@ module _ (o : Opts) (skip later : ℕ) (s : List ℕ) (next i : ℕ) (x : Extent
           whole = rw z (over ∙ behind_is);
         }
 
-    pub row_is : (e : ℕ) → BeforeSpaces s (i + skip) end e → (n : ℕ) → n ≡ columns_in s (i + skip) e → Even o.uniform s (i + skip) e → RowIs o skip later s next i (record { from = i + skip; end = e; columns = n; next = behind; regular = true })
+    pub row_is : (e : ℕ) → BeforeSpaces s (i + skip) end e → (n : ℕ) → n ≡ columns_in s (i + skip) e → Even o.uniform s (i + skip) e → RowIs o skip later s next i (record { from = i + skip; end = e; columns = n; next = behind })
     row_is e before n count even =
         let k = size in
         let m = same_ends (line_ends text i (omega (arith, k, more)) x found) ends (omega arith) row_begins.0 in

@@ -28,48 +28,46 @@ use Rattle.quick.proofs.Width.{reached_by}
 use Rattle.regular.specs.declared.Reached.{Reached}
 use Rattle.regular.specs.declared.Waiting.{Waiting}
 use Rattle.regular.specs.Cited.Regular.{quick_rest, quick_fresh, quick_on}
-use Rattle.regular.specs.Cited.Places.{ahead, Stands, standing, GapIn, WordPut, Listed, Worded}
+use Rattle.regular.specs.Cited.Places.{ahead, Stands, GapIn, WordPut, Listed, Worded}
 use Rattle.regular.proofs.Rest.{word_breaks, word_stays, on_rest, on_fresh}
 use Rattle.regular.proofs.Joining.{left_on}
-
--- ---- spaces of the notes
 
 -- ---- one word
 
 module _ (s : List ℕ) (w : Record) (g : Setting) (indent : List ℕ) (out : List ℕ) (t : Waiting) (lies : Within (length s) w) (size : length s ≤ 2 ^ 20) (order : t.from ≤ t.to) (within : t.to ≤ length s) where
   -- a paragraph's first
-  pub put_head : t.begins ≡ true → t.column < 2 ^ 31 → w.width ≤ length s → (out₁ : List ℕ) (j : ℕ) → Wrote out t.written (slice t.from t.to s) out₁ j
-      → WordPut s w g indent out t out₁ (record { from = w.start; to = w.end; written = j; column = t.column + w.width; punct = false; begins = false })
+  pub put_head : t.reached.begins ≡ true → t.reached.column < 2 ^ 31 → w.width ≤ length s → (out₁ : List ℕ) (j : ℕ) → Wrote out t.reached.written (slice t.from t.to s) out₁ j
+      → WordPut s w g indent out t out₁ (record { from = w.start; to = w.end; reached = record { written = j; column = t.reached.column + w.width; punct = false; begins = false } })
   unfolding quick_on quick_fresh meaning
   put_head begins near narrow out₁ j wrote =
       let n = length-slice t.from t.to s within in
       let c = wrote.count in
       record {
-        left = λ more. left_then (rw (on_fresh g indent t.begins t.column t.punct (meaning s w ∷ more) begins) (left_first out t.written _)) wrote;
+        left = λ more. left_then (rw (on_fresh g indent t.reached.begins t.reached.column t.reached.punct (meaning s w ∷ more) begins) (left_first out t.reached.written _)) wrote;
         order = lies.text;
         within = lies.end;
         most = omega arith;
         stands = (omega arith, λ b. absurd (false≢true b));
       }
 
-  module _ (begun : t.begins ≡ false) (reached : ℕ)
-      (is : reached ≡ t.column + gap_width g.tab t.column w.before w.after + added_space g.uniform w.first w.sentence t.punct + w.width) where
-    reaches : reached_by g t.column t.punct (meaning s w) ≡ reached
+  module _ (begun : t.reached.begins ≡ false) (reached : ℕ)
+      (is : reached ≡ t.reached.column + gap_width g.tab t.reached.column w.before w.after + added_space g.uniform w.first w.sentence t.reached.punct + w.width) where
+    reaches : reached_by g t.reached.column t.reached.punct (meaning s w) ≡ reached
     unfolding meaning
     reaches = sym is
 
-    pub put_fresh : g.width < reached → w.width ≤ length s → g.indent < 2 ^ 31 → (out₁ : List ℕ) (j : ℕ) → Wrote out t.written (slice t.from t.to s ++ (line_feed ++ indent)) out₁ j → j ≤ t.written + 2 ^ 34
-        → WordPut s w g indent out t out₁ (record { from = w.start; to = w.end; written = j; column = g.indent + w.width; punct = w.punct; begins = false })
+    pub put_fresh : g.width < reached → w.width ≤ length s → g.indent < 2 ^ 31 → (out₁ : List ℕ) (j : ℕ) → Wrote out t.reached.written (slice t.from t.to s ++ (line_feed ++ indent)) out₁ j → j ≤ t.reached.written + 2 ^ 34
+        → WordPut s w g indent out t out₁ (record { from = w.start; to = w.end; reached = record { written = j; column = g.indent + w.width; punct = w.punct; begins = false } })
     unfolding quick_on quick_fresh meaning
     put_fresh wide narrow small out₁ j wrote near = record {
       left = λ more.
           left_then
           (rw (
-            on_rest g indent t.begins t.column t.punct (meaning s w ∷ more) begun,
-            word_breaks g indent t.column t.punct (meaning s w) more (rw reaches (lt-ltb _ _ wide)),
+            on_rest g indent t.reached.begins t.reached.column t.reached.punct (meaning s w ∷ more) begun,
+            word_breaks g indent t.reached.column t.reached.punct (meaning s w) more (rw reaches (lt-ltb _ _ wide)),
             ← append_inner (slice t.from t.to s) line_feed indent (quick_fresh g indent true g.indent (meaning s w ∷ more)),
           )
-          (left_first out t.written _))
+          (left_first out t.reached.written _))
           wrote;
       order = lies.text;
       within = lies.end;
@@ -78,12 +76,12 @@ module _ (s : List ℕ) (w : Record) (g : Setting) (indent : List ℕ) (out : Li
     }
 
     -- it stays on the line
-    module _ (fits : reached ≤ g.width) (small : g.width < 2 ^ 31) (count : ℕ) (counts : count ≡ added_space g.uniform w.first w.sentence t.punct) where
-      stays : (more : List Word) → ahead g indent (standing t) (meaning s w ∷ more) ≡ replicate count 32 ++ (slice w.from w.end s ++ quick_rest g indent reached w.punct more)
+    module _ (fits : reached ≤ g.width) (small : g.width < 2 ^ 31) (count : ℕ) (counts : count ≡ added_space g.uniform w.first w.sentence t.reached.punct) where
+      stays : (more : List Word) → ahead g indent t.reached (meaning s w ∷ more) ≡ replicate count 32 ++ (slice w.from w.end s ++ quick_rest g indent reached w.punct more)
       unfolding meaning space_before
       stays more =
-          on_rest g indent t.begins t.column t.punct (meaning s w ∷ more) begun
-          ∙ word_stays g indent t.column t.punct (meaning s w) more (rw reaches (le-ltb _ _ fits))
+          on_rest g indent t.reached.begins t.reached.column t.reached.punct (meaning s w ∷ more) begun
+          ∙ word_stays g indent t.reached.column t.reached.punct (meaning s w) more (rw reaches (le-ltb _ _ fits))
           ∙ rw (
             reaches,
             ← counts,
@@ -93,7 +91,7 @@ module _ (s : List ℕ) (w : Record) (g : Setting) (indent : List ℕ) (out : Li
           )
 
       -- with those that wait
-      pub put_on : GapIn s t.to w.from count → WordPut s w g indent out t out (record { from = t.from; to = w.end; written = t.written; column = reached; punct = w.punct; begins = false })
+      pub put_on : GapIn s t.to w.from count → WordPut s w g indent out t out (record { from = t.from; to = w.end; reached = record { written = t.reached.written; column = reached; punct = w.punct; begins = t.reached.begins } })
       unfolding quick_on
       put_on gap =
           let a = lies.gap in
@@ -101,14 +99,14 @@ module _ (s : List ℕ) (w : Record) (g : Setting) (indent : List ℕ) (out : Li
           let d = lies.end in
           let o = gap.on in
           record {
-            left = λ more. rw (joined more) (left_first out t.written _);
+            left = λ more. rw (on_rest g indent t.reached.begins reached w.punct more begun, joined more) (left_first out t.reached.written _);
             order = omega arith;
             within = d;
             most = omega arith;
-            stands = (omega arith, λ e. absurd (false≢true e));
+            stands = (omega arith, λ e. absurd (false≢true (sym begun ∙ e)));
           }
         where
-          joined : (more : List Word) → slice t.from t.to s ++ ahead g indent (standing t) (meaning s w ∷ more) ≡ slice t.from w.end s ++ quick_rest g indent reached w.punct more
+          joined : (more : List Word) → slice t.from t.to s ++ ahead g indent t.reached (meaning s w ∷ more) ≡ slice t.from w.end s ++ quick_rest g indent reached w.punct more
           joined more =
               let a = lies.gap in
               let b = lies.text in
@@ -124,8 +122,8 @@ module _ (s : List ℕ) (w : Record) (g : Setting) (indent : List ℕ) (out : Li
               )
 
       -- after them
-      pub put_stays : (out₁ out₂ : List ℕ) (i j : ℕ) → Wrote out t.written (slice t.from t.to s) out₁ i → Wrote out₁ i (replicate count 32) out₂ j → j ≤ i + 2
-          → WordPut s w g indent out t out₂ (record { from = w.from; to = w.end; written = j; column = reached; punct = w.punct; begins = false })
+      pub put_stays : (out₁ out₂ : List ℕ) (i j : ℕ) → Wrote out t.reached.written (slice t.from t.to s) out₁ i → Wrote out₁ i (replicate count 32) out₂ j → j ≤ i + 2
+          → WordPut s w g indent out t out₂ (record { from = w.from; to = w.end; reached = record { written = j; column = reached; punct = w.punct; begins = t.reached.begins } })
       unfolding quick_on
       put_stays out₁ out₂ i j wrote spaces near =
           let n = length-slice t.from t.to s within in
@@ -133,11 +131,11 @@ module _ (s : List ℕ) (w : Record) (g : Setting) (indent : List ℕ) (out : Li
           let a = lies.gap in
           let b = lies.text in
           record {
-            left = λ more. left_then (left_then (rw (stays more) (left_first out t.written _)) wrote) spaces;
+            left = λ more. left_then (left_then (rw (on_rest g indent t.reached.begins reached w.punct more begun, stays more) (left_first out t.reached.written _)) wrote) spaces;
             order = omega arith;
             within = lies.end;
             most = omega arith;
-            stands = (omega arith, λ e. absurd (false≢true e));
+            stands = (omega arith, λ e. absurd (false≢true (sym begun ∙ e)));
           }
 
 -- ---- the words of a table
@@ -163,11 +161,11 @@ pub record Wording (s : List ℕ) (start end : ℕ) (mail : Bool) (o : Options) 
   pub ink : first ≡ true → while is_blank (ink_glyphs o.glue (slice at end s)) ≡ []
   pub left : (more : List Word)
       → Left out t.written (ahead g indent t (words_between (meant [] o) mail (not mail) false s start end ++ more))
-      out' v.written (slice v.from v.to s ++ ahead g indent (standing v) (words_between (meant [] o) mail first punct s at end ++ more))
+      out' v.reached.written (slice v.from v.to s ++ ahead g indent v.reached (words_between (meant [] o) mail first punct s at end ++ more))
   pub order : v.from ≤ v.to
   pub within : v.to ≤ length s
-  pub most : v.written ≤ t.written + (at - start) * 2 ^ 34
-  pub stands : Stands (standing v)
+  pub most : v.reached.written ≤ t.written + (at - start) * 2 ^ 34
+  pub stands : Stands v.reached
 
 words_zero : (s table : List ℕ) → words_in s 0 table ≡ []
 unfolding words_in records_of
@@ -178,7 +176,7 @@ module _ (s : List ℕ) (start end : ℕ) (mail : Bool) (o : Options) (g : Setti
       (out'' : List ℕ) (v' : Waiting) (listed : Listed s table' r.count g indent out' v out'' r.count v') where
     all : (more : List Word)
         → Left out t.written (ahead g indent t (words_between (meant [] o) mail (not mail) false s start end ++ more))
-        out'' v'.written (slice v'.from v'.to s ++ ahead g indent (standing v') (words_between (meant [] o) mail r.first r.punct s r.at end ++ more))
+        out'' v'.reached.written (slice v'.from v'.to s ++ ahead g indent v'.reached (words_between (meant [] o) mail r.first r.punct s r.at end ++ more))
     all more =
         let rest = words_between (meant [] o) mail r.first r.punct s r.at end in
         let e : words_between (meant [] o) mail first punct s at end ≡ words_in s r.count table' ++ rest = sym (rw (words_zero s table) at taken.words) in
@@ -194,8 +192,8 @@ module _ (s : List ℕ) (start end : ℕ) (mail : Bool) (o : Options) (g : Setti
         let y = listed.most in
         record { on = omega arith; to = taken.to; ink = taken.ink; left = all; order = listed.order; within = listed.within; most = omega arith; stands = listed.stands }
 
-    pub wording_done : r.more ≡ false → end ≤ length s → length s ≤ 2 ^ 20 → (out''' : List ℕ) (k : ℕ) → Wrote out'' v'.written (slice v'.from v'.to s) out''' k
-        → Worded s start end mail o g indent out t out''' (record { written = k; column = v'.column; punct = v'.punct; begins = v'.begins })
+    pub wording_done : r.more ≡ false → end ≤ length s → length s ≤ 2 ^ 20 → (out''' : List ℕ) (k : ℕ) → Wrote out'' v'.reached.written (slice v'.from v'.to s) out''' k
+        → Worded s start end mail o g indent out t out''' (record { written = k; column = v'.reached.column; punct = v'.reached.punct; begins = v'.reached.begins })
     wording_done e inside size out''' k wrote =
         let n = length-slice v'.from v'.to s listed.within in
         let w = listed.within in

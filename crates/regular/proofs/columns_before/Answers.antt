@@ -23,10 +23,10 @@ pub overflow_add-result : goal.overflow_add-result
 overflow_add-result c =
     let start = c in
     let pre = start.requires in
-    omega (arith, c.columns_between-2.ensures, pre.2, pre.3, pre.5.full, pre.5.most, pre.1, columns_size start.args.s.now start.args.at start.args.next (omega (arith, pre.1, pre.2)), columns_size start.args.s.now start.args.p start.args.at (omega (arith, pre.2, pre.5.most)))
+    omega (arith, c.columns_between-else-next-at.ensures, pre.2, pre.3, pre.5.full, pre.5.most, pre.1, columns_size start.args.s.now start.args.at start.args.next (omega (arith, pre.1, pre.2)), columns_size start.args.s.now start.args.p start.args.at (omega (arith, pre.2, pre.5.most)))
 
-pub returns : goal.returns
-returns c =
+pub returns-else-next-at : goal.returns-else-next-at
+returns-else-next-at c =
     let start = c in
     let pre = start.requires in
-    omega (arith, c.columns_between-2.ensures, pre.5.full, columns_join start.args.s.now start.args.p start.args.at start.args.next pre.5.on (omega (arith, c.if-next-at.false)) (omega (arith, pre.1, pre.2)))
+    omega (arith, c.columns_between-else-next-at.ensures, pre.5.full, columns_join start.args.s.now start.args.p start.args.at start.args.next pre.5.on (omega (arith, c.if-next-at.false)) (omega (arith, pre.1, pre.2)))

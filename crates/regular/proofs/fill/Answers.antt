@@ -1,13 +1,14 @@
 -- `regular::fill` meets its contract. Invariant: what is left of the output is that of the words from p on, on a fresh line, and of those that follow; left are their columns.
 use mathlib.Core.Path.{◌≡◌, refl, ◌∙◌}
-use mathlib.Core.Logic.{inl, inr}
-use Prim.Native.Nat.{◌+◌, ◌-◌, ◌≤◌}
+use mathlib.Core.Logic.{◌⊎◌, inl, inr}
+use Prim.Native.Nat.{ℕ, ◌+◌, ◌-◌, ◌≤◌, ◌<◌}
 use native.Mathlib.Omega.{arith}
 use Rattle.output.proofs.Sink.{wrote_length}
-use Rattle.regular.specs.Cited.Places.{CutAt, columns_in}
+use Rattle.regular.specs.Cited.Places.{NoSpace, CutAt, columns_in}
 use Rattle.regular.proofs.Columns.{columns_some, columns_size, columns_join}
 use Rattle.regular.proofs.Filling.{along_first, along_turn, along_done}
 use Rattle.regular.proofs.fill.Goals as goal
+use Rattle.regular.proofs.fill.Goals.{else-loop-column-test, then-loop-column-test+then-cut-e}
 
 pub loop-column-init : goal.loop-column-init
 loop-column-init c = let pre = c.requires in (omega arith, omega arith, omega arith, refl, along_first _ _ _ _ _ _ _ _ _ pre.0 pre.2, pre.1)
@@ -24,19 +25,13 @@ place_of-at-requires c =
       omega (arith, inked.on),
       inked.within,
       l.invariant.5,
-      omega (arith, c.room_of-room.ensures, c.loop-column-test.true, l.invariant.5, columns_some c.args.s.now l.p c.args.e c.args.e inked.on (omega arith) inked.within inked.letters),
+      omega (arith, c.saturating_sub-room.ensures, c.loop-column-test.true, l.invariant.5, columns_some c.args.s.now l.p c.args.e c.args.e inked.on (omega arith) inked.within inked.letters),
     )
 
 pub overflow_add-result : goal.overflow_add-result
 overflow_add-result c =
     let few : c.loop-column.left ≤ c.args.e - c.loop-column.p = omega (arith, c.loop-column.invariant.5, columns_size c.args.s.now c.loop-column.p c.args.e c.loop-column.invariant.4.inked.within) in
     let l = c.loop-column in let pre = c.requires in omega (arith, few, l.invariant.4.inked.within, pre.4, pre.6, pre.7, l.invariant.2)
-
-pub returns-then-cut-e : goal.returns-then-cut-e
-returns-then-cut-e c =
-    let l = c.loop-column in
-    let sum : l.column + l.left ≡ l.column + columns_in c.args.s.now l.p c.args.e = rw l.invariant.5 in
-    along_done _ _ _ _ _ _ _ _ _ _ _ _ _ _ l.invariant.4 (inr (c.cut_line-cut.ensures.lone (omega (arith, c.if-cut-e.true)))) l.invariant.0 l.invariant.1 l.invariant.2 c.requires.4 _ _ c.put_at.ensures sum
 
 pub overflow_sub-left : goal.overflow_sub-left
 overflow_sub-left c =
@@ -54,7 +49,7 @@ loop-column-preserved c =
       omega (arith, l.invariant.0, l.invariant.1, put.1, found.on, found.gap),
       omega arith,
       wrote_length put.0 ∙ l.invariant.3,
-      along_turn _ _ _ _ _ _ _ _ _ _ _ _ _ _ l.invariant.4 _ _ _ c.room_of-room.ensures c.place_of-at.ensures found _ _ put.0,
+      along_turn _ _ _ _ _ _ _ _ _ _ _ _ _ _ l.invariant.4 _ _ _ c.saturating_sub-room.ensures c.place_of-at.ensures found _ _ put.0,
       omega (arith, rest),
     )
 
@@ -62,4 +57,9 @@ pub returns : goal.returns
 returns c =
     let l = c.loop-column in
     let sum : l.column + l.left ≡ l.column + columns_in c.args.s.now l.p c.args.e = rw l.invariant.5 in
-    along_done _ _ _ _ _ _ _ _ _ _ _ _ _ _ l.invariant.4 (inl (omega (arith, c.loop-column-test.false, l.invariant.5))) l.invariant.0 l.invariant.1 l.invariant.2 c.requires.4 _ _ c.put_at-2.ensures sum
+    let done : (l.column + columns_in c.args.s.now l.p c.args.e ≤ c.args.g.width) ⊎ ((i : ℕ) → l.p ≤ i → i < c.args.e → NoSpace c.args.s.now i) =
+    elim c.loop-column-test.branch [
+      | else-loop-column-test w ↦ inl (omega (arith, w.loop-column-test.false, l.invariant.5))
+      | then-loop-column-test+then-cut-e w ↦ inr (w.cut_line-cut.ensures.lone (omega (arith, w.if-cut-e.true)))
+    ] in
+    along_done _ _ _ _ _ _ _ _ _ _ _ _ _ _ l.invariant.4 done l.invariant.0 l.invariant.1 l.invariant.2 c.requires.4 _ _ c.put_at.ensures sum

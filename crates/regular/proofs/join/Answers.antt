@@ -25,7 +25,7 @@ place_of-at-requires c =
       omega (arith, inked.on),
       inked.within,
       c.requires.1,
-      omega (arith, c.room_of-room.ensures, c.if-begin-columns.false, c.requires.1, columns_some c.args.s.now c.args.p c.args.e c.args.e inked.on (omega arith) inked.within inked.letters),
+      omega (arith, c.saturating_sub-room.ensures, c.if-begin-columns.false, c.requires.1, columns_some c.args.s.now c.args.p c.args.e c.args.e inked.on (omega arith) inked.within inked.letters),
     )
 
 pub overflow_sub-left : goal.overflow_sub-left
@@ -49,15 +49,15 @@ returns-then-p-q c =
     let put = c.put_line-j.ensures in
     let spaces = c.spaces_at-i.ensures in
     join_rest _ _ _ _ _ _ _ _ _ pre.0 pre.2 _ (omega (arith, found.on, found.gap)) found.rest.on _ _ (omega (arith, put.1, spaces.1, found.on, found.gap))
-    (join_cut _ _ _ _ _ _ _ _ _ pre.0 pre.2 _ _ _ (omega (arith, c.room_of-room.ensures, extra)) c.place_of-at.ensures found (omega (arith, c.before_spaces-end.ensures.most, c.last_space-q.ensures.most)) _ _ _ _ (rw extra at spaces.0) put.0)
+    (join_cut _ _ _ _ _ _ _ _ _ pre.0 pre.2 _ _ _ (omega (arith, c.saturating_sub-room.ensures, extra)) c.place_of-at.ensures found (omega (arith, c.before_spaces-end.ensures.most, c.last_space-q.ensures.most)) _ _ _ _ (rw extra at spaces.0) put.0)
     _ _ c.fill.ensures
 
 pub returns : goal.returns
 returns c =
     let pre = c.requires in
     let extra = c.added_of-extra.ensures.0 in
-    let broken = c.break_at-j.ensures in
+    let broken = c.break_at.ensures in
     let last = c.last_space-q.ensures in
     join_rest _ _ _ _ _ _ _ _ _ pre.0 pre.2 _ (omega arith) pre.0.on _ _ (omega (arith, broken.1))
-    (join_off _ _ _ _ _ _ _ _ _ pre.0 pre.2 _ _ (omega (arith, c.room_of-room.ensures, extra)) c.place_of-at.ensures (λ i a h. last.none i (omega (arith, c.if-p-q.false)) h) _ _ broken.0)
+    (join_off _ _ _ _ _ _ _ _ _ pre.0 pre.2 _ _ (omega (arith, c.saturating_sub-room.ensures, extra)) c.place_of-at.ensures (λ i a h. last.none i (omega (arith, c.if-p-q.false)) h) _ _ broken.0)
     _ _ c.fill-2.ensures

@@ -1,6 +1,5 @@
 -- `regular::row_at` meets its contract.
 use mathlib.Core.Path.{◌≡◌, refl}
-use mathlib.Core.Bool.{and-eq-true_iff}
 use mathlib.Core.List.{[]}
 use Prim.Native.Nat.{◌+◌, ◌-◌}
 use native.Mathlib.Omega.{arith}
@@ -34,12 +33,10 @@ overflow_sub-result-2 c =
 
 pub returns : goal.returns
 unfolding meant
-returns c = λ h block.
+returns c = λ block.
     let counted : columns_in c.args.s.now (c.args.i + c.args.skip) c.before_spaces-end.result + c.letters_after-letters.result.count ≡ c.before_spaces-end.result - (c.args.i + c.args.skip) = row_columns _ _ _ _ c.requires.1 c.regular_end-at.ensures _ c.letters_after-letters.ensures _ c.before_spaces-end.ensures in
     let p = c.requires in
     let regular = c.regular_end-at.ensures in
     let letters = c.letters_after-letters.ensures in
-    let both = (and-eq-true_iff _ _).0 h in
-    rw h
-    (row_is (meant block c.args.o) c.args.skip c.args.later c.args.s.now c.args.next c.args.i _ p.0 p.1 refl p.3
-    _ (row_on _ _ _ _ p.1 regular _ letters) letters.most (row_spelled _ _ _ _ p.1 regular _ letters) (c.ends_line.ensures both.0) _ c.behind_line.ensures _ c.before_spaces-end.ensures _ (omega (arith, counted)) (c.are_as_written.ensures both.1))
+    row_is (meant block c.args.o) c.args.skip c.args.later c.args.s.now c.args.next c.args.i _ p.0 p.1 refl p.3
+    _ (row_on _ _ _ _ p.1 regular _ letters) letters.most (row_spelled _ _ _ _ p.1 regular _ letters) (c.ends_line.ensures c.if-not-ends_line.false) _ c.behind_line.ensures _ c.before_spaces-end.ensures _ (omega (arith, counted)) (c.are_as_written.ensures c.if-not-are_as_written.false)
