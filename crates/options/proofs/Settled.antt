@@ -1,32 +1,12 @@
--- Width and goal: a given goal is the goal; the rule, test by test.
+-- Width and goal: what the rule says, test by test.
 use Rattle.std.proofs.Common.{Option, Some, None}
 use mathlib.Core.Path.{◌≡◌}
-use mathlib.Core.Bool.{true, false, and-eq-true_iff}
-use Prim.Native.Nat.{ℕ, ◌*◌, ◌-◌, ◌≤◌, ◌<◌}
+use mathlib.Core.Bool.{true, and-eq-true_iff}
+use Prim.Native.Nat.{ℕ, ◌*◌, ◌≤◌}
 use native.Mathlib.Omega.{arith}
-use lib.Dec.{leb}
-use borrow.Author.Tests.{le-leb, lt-leb, leb-true}
+use borrow.Author.Tests.{leb-true}
 use Rattle.options.specs.declared.Part.{Part}
-use Rattle.options.specs.OptionBlock.{least_width, fits, between}
-
-module _ (least width goal : ℕ) where
-  pub fits_low : width < least → fits least width goal ≡ false
-  unfolding fits
-  fits_low h = rw (lt-leb least width h)
-
-  module _ (l : least ≤ width) where
-    pub fits_under : width < goal → fits least width goal ≡ false
-    unfolding fits
-    fits_under h = rw (le-leb least width l, lt-leb goal width h)
-
-    module _ (g : goal ≤ width) where
-      pub fits_far : goal < width - goal → fits least width goal ≡ false
-      unfolding fits
-      fits_far h = rw (le-leb least width l, le-leb goal width g, lt-leb width (2 * goal) (omega arith))
-
-      pub fits_near : width - goal ≤ goal → fits least width goal ≡ leb width 1000
-      unfolding fits
-      fits_near h = rw (le-leb least width l, le-leb goal width g, le-leb width (2 * goal) (omega arith))
+use Rattle.options.specs.OptionBlock.{least_width, fits}
 
 pub record Fits (least width goal : ℕ) : Type 0 where
   pub width_least : least ≤ width

@@ -3,9 +3,9 @@
 
 ghost use Rattle.std.specs.Prelude.{◌≡◌, cond, not, ◌&&◌, ◌+◌, ◌-◌, ◌/◌, ◌%◌, ◌^◌, ◌≤◌, ◌<◌, min, max, eqb, length, get_or, drop};
 ghost use Rattle.options.specs.OptionBlock.{between, number, fields, allowed, well_formed, number_at, width_from, goal_from, least_width, fits, bit, options_of, judged, read_block};
-ghost use Rattle.options.specs.Cited.Places.{field_at, PartsAre, number_text, prefix_text};
+ghost use Rattle.options.specs.Cited.Places.{field_at, parts_with, parts_of, number_text, prefix_text};
 
-// The tags of the fields.
+// The tags of the fields, as the block has them. They stay numbers: an enum would be made of a byte only to be matched at once.
 const FLAGS: usize = 1;
 
 const WIDTH: usize = 2;
@@ -50,6 +50,45 @@ pub struct Part {
     pub end: usize,
 }
 
+// The parts of the fields that were read, each under its tag.
+#[derive(Clone, Copy, Debug, PartialEq, Eq, Default)]
+struct Parts {
+    flags: Option<Part>,
+    width: Option<Part>,
+    goal: Option<Part>,
+    tab: Option<Part>,
+    prefix: Option<Part>,
+    skip: Option<Part>,
+}
+
+impl Parts {
+    // These, and a field's part under its tag.
+    #[tactic(auto, unfolding(crate::specs::Cited::Places::parts_with))]
+    fn with(self, tag: usize, part: Part) -> Parts
+        ensures { result ≡ parts_with tag part self }
+    {
+        let part = Some(part);
+        match tag {
+            FLAGS => Parts {
+                flags: part,
+                ..self
+            },
+            WIDTH => Parts {
+                width: part,
+                ..self
+            },
+            GOAL => Parts { goal: part, ..self },
+            TAB => Parts { tab: part, ..self },
+            PREFIX => Parts {
+                prefix: part,
+                ..self
+            },
+            SKIP => Parts { skip: part, ..self },
+            _ => self,
+        }
+    }
+}
+
 // The options as accepted: flags after the clearing rules, width and goal settled, tab at least 1, the prefixes as parts of the block.
 #[derive(Clone, Copy, Debug, PartialEq, Eq)]
 pub struct Options {
@@ -80,48 +119,28 @@ pub struct Fault {
 // The accepted options, or the place of the first faulty field, or the block's length where the width and goal rule fails. Each field is
 // looked at once, and what it has is kept under its tag.
 // In the original: `uumain`.
+#[tactic(auto, using(crate::proofs::Taken::reading_fault, crate::proofs::Taken::reading_parts, crate::proofs::Taken::reading_sound))]
 pub fn read_block(block: &[u8]) -> Result<Options, Fault>
     ensures { result ≡ read_block block.now }
 {
     let mut at = 0;
     let mut previous = 0;
-    let mut flags = None;
-    let mut width = None;
-    let mut goal = None;
-    let mut tab = None;
-    let mut prefix = None;
-    let mut skip = None;
+    let mut parts = Parts::default();
     while at < block.len() {
         if !well_formed(block, at, previous) {
             return Err(Fault { at });
         }
         let tag = byte_at(block, at);
         let end = field_end(block, at);
-        flags = part_with(flags, FLAGS, tag, at, end);
-        width = part_with(width, WIDTH, tag, at, end);
-        goal = part_with(goal, GOAL, tag, at, end);
-        tab = part_with(tab, TAB, tag, at, end);
-        prefix = part_with(prefix, PREFIX, tag, at, end);
-        skip = part_with(skip, SKIP, tag, at, end);
+        parts = parts.with(tag, Part { start: at + 3, end });
         previous = tag;
         at = end;
     }
-    settle(block, flags, width, goal, tab, prefix, skip)
-}
-
-// The part of a tag after a field from at up to end: its value, if it is the tag's own.
-fn part_with(part: Option<Part>, own: usize, tag: usize, at: usize, end: usize) -> Option<Part>
-    requires { at < 2 ^ 63 }
-    ensures { result ≡ cond (eqb tag own) (between (at + 3) end) part }
-{
-    if tag == own {
-        Some(Part { start: at + 3, end })
-    } else {
-        part
-    }
+    settle(block, parts)
 }
 
 // Tags ascend, the block does not end inside a field, and the value is allowed.
+#[tactic(auto, using(crate::proofs::Fields::well_order, crate::proofs::Fields::well_cut, crate::proofs::Fields::well_value))]
 fn well_formed(block: &[u8], at: usize, previous: usize) -> bool
     requires { at < length block.now }
     ensures { result ≡ well_formed (field_at block.now at previous) }
@@ -132,6 +151,7 @@ fn well_formed(block: &[u8], at: usize, previous: usize) -> bool
 }
 
 // Whether a tag's field may have this value. A tag that is not known may have none.
+#[tactic(auto, unfolding(crate::specs::OptionBlock::allowed, crate::specs::Cited::Places::number_text, crate::specs::Cited::Places::prefix_text))]
 fn allowed(tag: usize, value: &[u8]) -> bool
     ensures { result ≡ allowed tag (length value.now) value.now }
 {
@@ -145,6 +165,7 @@ fn allowed(tag: usize, value: &[u8]) -> bool
 }
 
 // A number of two bytes, within these bounds.
+#[tactic(auto, unfolding(crate::specs::Cited::Places::number_text))]
 fn is_number(value: &[u8], least: usize, most: usize) -> bool
     ensures { result ≡ number_text least most value.now }
 {
@@ -153,6 +174,7 @@ fn is_number(value: &[u8], least: usize, most: usize) -> bool
 }
 
 // At most 255 bytes, none of them damaged.
+#[tactic(auto, unfolding(crate::specs::Cited::Places::prefix_text, text::specs::Characters::damage))]
 fn is_prefix(value: &[u8]) -> bool
     ensures { result ≡ prefix_text value.now }
 {
@@ -160,21 +182,12 @@ fn is_prefix(value: &[u8]) -> bool
 }
 
 // The options of a block whose fields are all well formed, if they keep the width and goal rule.
-fn settle(
-    block: &[u8],
-    flags: Option<Part>,
-    width: Option<Part>,
-    goal: Option<Part>,
-    tab: Option<Part>,
-    prefix: Option<Part>,
-    skip: Option<Part>,
-) -> Result<Options, Fault>
-    requires { PartsAre block.now flags width goal tab prefix skip }
+fn settle(block: &[u8], parts: Parts) -> Result<Options, Fault>
+    requires { parts ≡ parts_of (fields block.now) }
     ensures { result ≡ judged block.now (fields block.now) None }
 {
-    let least = least_width(width, goal);
-    let o = options_of(block, flags, width, goal, tab, prefix, skip);
-    if fits(least, o.width, o.goal) {
+    let o = options_of(block, parts);
+    if fits(least_width(parts.width, parts.goal), o.width, o.goal) {
         Ok(o)
     } else {
         Err(Fault { at: block.len() })
@@ -183,20 +196,13 @@ fn settle(
 
 // The options by the parts of the block; one that is missing is not given.
 // In the original: `uumain`.
-fn options_of(
-    block: &[u8],
-    flag_part: Option<Part>,
-    width: Option<Part>,
-    goal: Option<Part>,
-    tab_part: Option<Part>,
-    prefix: Option<Part>,
-    skip: Option<Part>,
-) -> Options
-    requires { PartsAre block.now flag_part width goal tab_part prefix skip }
+#[tactic(auto, unfolding(crate::specs::OptionBlock::options_of))]
+fn options_of(block: &[u8], parts: Parts) -> Options
+    requires { parts ≡ parts_of (fields block.now) }
     ensures { result ≡ options_of block.now (fields block.now) }
 {
-    let flags = number_or(block, flag_part, 0);
-    let tab = number_or(block, tab_part, 8);
+    let flags = number_or(block, parts.flags, 0);
+    let tab = number_or(block, parts.tab, 8);
     Options {
         crown: is_crown(flags),
         tagged: is_tagged(flags),
@@ -209,11 +215,11 @@ fn options_of(
         keep: is_set(flags, KEEP),
         glue: is_set(flags, GLUE),
         by_characters: is_set(flags, CHARACTERS),
-        width: width_of(block, width, goal),
-        goal: goal_of(block, width, goal),
+        width: width_of(block, parts.width, parts.goal),
+        goal: goal_of(block, parts.width, parts.goal),
         tab: tab.max(1),
-        prefix,
-        skip,
+        prefix: parts.prefix,
+        skip: parts.skip,
     }
 }
 
@@ -282,6 +288,7 @@ fn least_width(width: Option<Part>, goal: Option<Part>) -> usize
 
 // The width and goal rule. What the width has beyond the goal is at most the goal again: twice the goal could overflow.
 // In the original: `uumain`.
+#[tactic(auto, unfolding(crate::specs::OptionBlock::fits))]
 fn fits(least: usize, width: usize, goal: usize) -> bool
     ensures { result ≡ fits least width goal }
 {
@@ -307,6 +314,7 @@ fn number_or(block: &[u8], part: Option<Part>, other: usize) -> usize
 }
 
 // Two bytes, most significant byte first.
+#[tactic(auto, unfolding(crate::specs::OptionBlock::number))]
 fn number_at(block: &[u8], at: usize) -> usize
     ensures value { result ≡ number (drop at block.now) }
     ensures bound { result ≤ 65535 }

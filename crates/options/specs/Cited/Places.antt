@@ -1,10 +1,11 @@
 -- What the code's small functions answer: a field is a place of the block, with the tag of the field before it; a number within
 -- bounds, and a prefix, as values of a field.
-use Rattle.std.specs.Prelude.{◌≡◌, Bool, ◌&&◌, List, ℕ, leb, eqb, length, drop, Option}
+use Rattle.std.specs.Prelude.{Bool, cond, ◌&&◌, List, ℕ, leb, eqb, length, drop, Some}
 use Rattle.lists.specs.Runs.{every}
 use Rattle.text.specs.Characters.{characters, is_good}
-use Rattle.options.specs.OptionBlock.{Field, number, fields, part_of}
+use Rattle.options.specs.OptionBlock.{Field, number, part_of}
 use Rattle.options.specs.declared.Part.{Part}
+use Rattle.options.specs.declared.Parts.{Parts}
 
 abbrev pub field_at : List ℕ → ℕ → ℕ → Field
 field_at block at previous = record { place = at; previous = previous; bytes = drop at block }
@@ -15,11 +16,24 @@ number_text least most v = eqb (length v) 2 && leb least (number v) && leb (numb
 unfoldable pub prefix_text : List ℕ → Bool
 prefix_text v = leb (length v) 255 && every is_good (characters v)
 
--- these are the parts of the block's six fields
-pub record PartsAre (block : List ℕ) (flags width goal tab prefix skip : Option Part) : Type 0 where
-  pub is_flags : flags ≡ part_of 1 (fields block)
-  pub is_width : width ≡ part_of 2 (fields block)
-  pub is_goal : goal ≡ part_of 3 (fields block)
-  pub is_tab : tab ≡ part_of 4 (fields block)
-  pub is_prefix : prefix ≡ part_of 5 (fields block)
-  pub is_skip : skip ≡ part_of 6 (fields block)
+-- the parts of the block's six fields
+abbrev pub parts_of : List Field → Parts
+parts_of fs = record {
+  flags = part_of 1 fs;
+  width = part_of 2 fs;
+  goal = part_of 3 fs;
+  tab = part_of 4 fs;
+  prefix = part_of 5 fs;
+  skip = part_of 6 fs;
+}
+
+-- parts, and one more under its tag
+unfoldable pub parts_with : ℕ → Part → Parts → Parts
+parts_with tag part p = record {
+  flags = cond (eqb tag 1) (Some part) p.flags;
+  width = cond (eqb tag 2) (Some part) p.width;
+  goal = cond (eqb tag 3) (Some part) p.goal;
+  tab = cond (eqb tag 4) (Some part) p.tab;
+  prefix = cond (eqb tag 5) (Some part) p.prefix;
+  skip = cond (eqb tag 6) (Some part) p.skip;
+}
