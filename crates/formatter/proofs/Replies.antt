@@ -1,11 +1,13 @@
 -- The replies, case by case: what each refusal and a digest leave after, and what measuring tells.
 use Rattle.std.proofs.Common.{Option, Some, None, Result, Ok, Err}
 use mathlib.Core.Path.{◌≡◌, refl, sym, ap, ◌∙◌}
+use mathlib.Core.Bool.{Bool, true, false}
 use mathlib.Core.List.{List}
-use Prim.Native.Nat.{ℕ, ◌≤◌, ◌<◌, max}
+use Prim.Native.Nat.{ℕ, ◌≤◌, ◌<◌, max, min}
 use native.Mathlib.Omega.{arith}
+use lib.Dec.{leb}
 use lib.ListN.{length, replicate}
-use borrow.Author.Tests.{lt-ltb, le-ltb, le-leb, lt-leb}
+use borrow.Author.Tests.{le-ltb, le-leb, lt-leb, leb-true, leb-false}
 use Rattle.options.specs.Opts.{Opts, meant}
 use Rattle.options.specs.OptionBlock.{read_block}
 use Rattle.options.specs.declared.Options.{Options}
@@ -20,10 +22,10 @@ use Rattle.formatter.specs.Format.{Words, Limits, own_room, Finding, found, stop
 use Rattle.formatter.specs.Work.{most_lent, lending}
 use Rattle.walk.specs.Work.{work_for}
 use Rattle.walk.specs.Cited.Course.{Admitted, Finished}
-use Rattle.formatter.specs.Cited.Call.{told, Answers, Refuses, left_of, AdmitsNotes, Admits, Of, AdmitsWithin, AdmitsLent}
+use Rattle.formatter.specs.Cited.Call.{told, Answers, Refuses, left_of, AdmitsNotes, Admits, AdmitsWithin, AdmitsLent}
 use Rattle.formatter.specs.declared.Unwritten.{Unwritten}
 use Rattle.formatter.specs.declared.Refusal.{Refusal}
-use Rattle.formatter.specs.declared.Refusal.TheVariants.{Options as Faulty, Long, Text, Words as Many, Work}
+use Rattle.formatter.specs.declared.Refusal.TheVariants.{Text, Words as Many}
 use Rattle.walk.specs.declared.Stopped.{Stopped}
 use Rattle.walk.specs.declared.notes.Notes.{Notes}
 use Rattle.formatter.proofs.Together.{written_at_once}
@@ -75,9 +77,6 @@ module _ (l : Limits) (block notes : List ℕ) (o : Options) where
   unfolding meant
   notes_are f h e = rw (with_notes, le-ltb l.bytes (length notes) h, e)
 
-  pub long_refused : l.bytes < length notes → AdmitsNotes l block o notes (Err Long)
-  long_refused h = record { whole_is = rw (with_notes, lt-ltb l.bytes (length notes) h); untouched = λ out. refl; early = omega arith }
-
   pub text_refused : {f : Option ℕ} {place : ℕ} → length notes ≤ l.bytes → f ≡ damage_in o.keep notes → f ≡ Some place → AdmitsNotes l block o notes (Err (Text place))
   text_refused {f} {place} h e a = record { whole_is = notes_are (Some place) h (sym a ∙ e); untouched = λ out. refl; early = omega arith }
 
@@ -86,19 +85,12 @@ module _ (l : Limits) (block notes : List ℕ) (o : Options) where
 
 -- ---- with any block, and limits that the code is proved for
 
-module _ (l : Limits) (block notes : List ℕ) (b : Result Options Fault) (read : b ≡ read_block block) where
-  pub fault_refused : {fault : Fault} → b ≡ Err fault → Admits l block notes (Err (Faulty fault.at))
-  fault_refused e = record { whole_is = rw (sym read ∙ e); untouched = λ out. refl; early = omega arith }
+module _ (l : Limits) (block notes : List ℕ) (b : Result Options Fault) (read : b ≡ read_block block) {o : Options} (e : b ≡ Ok o) where
+  pub notes_admitted : l.bytes ≤ most_large → AdmitsNotes l block o notes (Ok tt) → Admitted block notes o
+  notes_admitted m n = record { accepted = sym read ∙ e; short = omega (arith, n.0, m); sound = n.2 }
 
-  module _ {o : Options} (e : b ≡ Ok o) where
-    pub notes_refused : {r : Refusal} → AdmitsNotes l block o notes (Err r) → Admits l block notes (Err r)
-    notes_refused n = record { whole_is = rw (sym read ∙ e) n.whole_is; untouched = n.untouched; early = n.early }
-
-    pub notes_admitted : l.bytes ≤ most_large → AdmitsNotes l block o notes (Ok tt) → Admitted block notes o
-    notes_admitted m n = record { accepted = sym read ∙ e; short = omega (arith, n.0, m); sound = n.2 }
-
-    pub notes_admits : (n : Notes) → n.options ≡ o → Of block notes n → AdmitsNotes l block o notes (Ok tt) → Admits l block notes (Ok n)
-    notes_admits n p of h = rw p (of, rw (sym read ∙ e) h.1, h.0)
+  pub notes_within : AdmitsNotes l block o notes (Ok tt) → (with_block l block notes (read_block block) ≡ within l.words (meant block o) notes) × (length notes ≤ l.bytes)
+  notes_within n = (rw (sym read ∙ e) n.1, n.0)
 
 -- ---- what is replied to it
 
@@ -146,30 +138,15 @@ module _ (l : Limits) (block notes : List ℕ) (a : Result Notes Refusal) (admit
 -- ---- where working room is lent
 
 module _ (lends : ℕ) (block notes : List ℕ) where
-  module _ {a : Result Notes Refusal} (admits : AdmitsWithin most_lent block notes a) where
-    pub within_refused : {r : Refusal} → a ≡ Err r → AdmitsLent lends block notes (Err r)
-    within_refused e = let f : Admits (lending lends) block notes (Err _) = rw e at (admits (lending lends).words) in
-        record { whole_is = f.whole_is; untouched = f.untouched; early = omega (arith, f.early) }
-
-    module _ {n : Notes} (e : a ≡ Ok n) (needed : ℕ) (w : needed ≡ max lends (work_for (meant n.block.now n.options) n.bytes.now)) where
-      passed_within : Admits (lending lends) block notes (Ok n)
-      passed_within = rw e at (admits (lending lends).words)
-
-      needed_for : needed ≡ max lends (work_for (meant block n.options) notes)
-      needed_for = rw (passed_within.0.0, passed_within.0.1) at w
-
-      -- code 12 is due exactly where less is lent than is needed
-      pub work_refused : lends < needed → AdmitsLent lends block notes (Err (Work needed))
-      work_refused h =
-          let o = meant block n.options in
-          let k : needed ≡ work_for o notes = omega (arith, needed_for) in
-          record { whole_is = passed_within.1 ∙ rw (within, with_work, lt-ltb lends (work_for o notes) (omega (arith, needed_for)), k); untouched = λ out. refl; early = omega arith }
-
-      pub work_passed : needed ≤ lends → AdmitsLent lends block notes (Ok n)
-      work_passed h =
-          let o = meant block n.options in
-          let k : work_for o notes ≤ lends = omega (arith, needed_for) in
-          (passed_within.0, passed_within.1 ∙ rw (within, with_work, le-ltb lends (work_for o notes) k), k)
+  -- code 12 is not due where no more is needed than is lent
+  pub work_passed : {a : Result Notes Refusal} → AdmitsWithin most_lent block notes a → {n : Notes} → a ≡ Ok n → (needed : ℕ) → needed ≡ max lends (work_for (meant n.block.now n.options) n.bytes.now) → needed ≤ lends
+      → AdmitsLent lends block notes (Ok n)
+  work_passed admits {n} e needed w h =
+      let f : Admits (lending lends) block notes (Ok n) = rw e at (admits (lending lends).words) in
+      let o = meant block n.options in
+      let m : needed ≡ max lends (work_for o notes) = rw (f.0.0, f.0.1) at w in
+      let k : work_for o notes ≤ lends = omega (arith, m) in
+      (f.0, f.1 ∙ rw (within, with_work, le-ltb lends (work_for o notes) k), k)
 
   module _ (a : Result Notes Refusal) (admits : AdmitsLent lends block notes a) where
     pub lent_passed : {n : Notes} → a ≡ Ok n → AdmitsLent lends block notes (Ok n)
@@ -202,18 +179,24 @@ module _ (lends : ℕ) (d out out' : List ℕ) (n : ℕ) (w : Wrote out 0 d out'
   untold_is : most_told < n → measured (lending lends).words d ≡ room most_told
   untold_is h = rw (lt-leb (length d) most_told (omega (arith, counted)))
 
-  pub untold_written : {clear : List ℕ} → most_told < n → clear ≡ replicate (length out') 0 → Answers (in_room (length out) (measured (lending lends).words d)) out (Err (Room most_told)) clear
-  unfolding output_after
-  untold_written h z = rw (untold_is h) (record { is = refl; output = z ∙ ap (λ (k : ℕ). replicate k 0) (wrote_length w) })
-
   pub done_written : n ≤ most_told → n ≤ length out' → Answers (in_room (length out) (measured (lending lends).words d)) out (Ok n) out'
   unfolding output_after
   done_written h k =
       let l = wrote_length w in
       rw (told_is h, le-leb (length d) (length out) (omega (arith, counted, l))) (record { is = ap Ok counted; output = w.bytes ∙ written_fits 0 out d (omega (arith, counted, l)) })
 
-  pub room_written : {clear : List ℕ} → n ≤ most_told → length out' < n → clear ≡ replicate (length out') 0 → Answers (in_room (length out) (measured (lending lends).words d)) out (Err (Room n)) clear
+  -- it cannot be told, or does not fit: all zero
+  pub room_written : {clear : List ℕ} {told : ℕ} → told ≡ min n most_told → (n ≤ most_told → length out' < n) → clear ≡ replicate (length out') 0 → Answers (in_room (length out) (measured (lending lends).words d)) out (Err (Room told)) clear
   unfolding output_after
-  room_written h k z =
-      let l = wrote_length w in
-      rw (told_is h, lt-leb (length d) (length out) (omega (arith, counted, l))) (record { is = ap (λ (k : ℕ). Err (Room k)) counted; output = z ∙ ap (λ (k : ℕ). replicate k 0) l })
+  room_written {clear} {told} e h z = go (leb n most_told) refl
+    where
+      zero : clear ≡ replicate (length out) 0
+      zero = z ∙ ap (λ (k : ℕ). replicate k 0) (wrote_length w)
+
+      go : (b : Bool) → leb n most_told ≡ b → Answers (in_room (length out) (measured (lending lends).words d)) out (Err (Room told)) clear
+      go true t =
+          let k = leb-true n most_told t in
+          rw (told_is k, lt-leb (length d) (length out) (omega (arith, counted, h k, wrote_length w))) (record { is = ap (λ (m : ℕ). Err (Room m)) (omega (arith, e, k, counted)); output = zero })
+      go false t =
+          let k = leb-false n most_told t in
+          rw (untold_is k) (record { is = ap (λ (m : ℕ). Err (Room m)) (omega (arith, e, k)); output = zero })

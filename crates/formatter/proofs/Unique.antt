@@ -1,6 +1,6 @@
 -- What `admit`, `admit_within` and `admit_lent` promise determines their answer.
 use Rattle.std.proofs.Common.{Option, Some, None, Result, Ok, Err}
-use mathlib.Core.Path.{◌≡◌, sym, ap, ◌∙◌}
+use mathlib.Core.Path.{◌≡◌, sym, ◌∙◌}
 use mathlib.Core.Bool.{Bool, true, false}
 use mathlib.Core.List.{List}
 use Prim.Native.Nat.{ℕ, ◌≤◌}

@@ -1,10 +1,11 @@
 -- `formatter::measure` meets its contract.
+use Rattle.std.proofs.lemmas.Result.{err_from_is_err_and}
 use Rattle.formatter.specs.Format.{own_room}
 use Rattle.formatter.proofs.Replies.{refused_measured, passed_measured}
 use Rattle.formatter.proofs.measure.Goals as goal
 
-pub returns-in-Refused : goal.returns-in-Refused
-returns-in-Refused c = refused_measured own_room c.args.block.now c.args.notes.now c.admit.result c.admit.ensures c.in-Refused.is
+pub returns-in_err-admitted : goal.returns-in_err-admitted
+returns-in_err-admitted c = let p = err_from_is_err_and c.from_residual.result c.from_residual.ensures.1 in rw (p.1, p.2) (refused_measured own_room _ _ _ c.admit.ensures c.in_err-admitted.was)
 
-pub returns-in-Passed : goal.returns-in-Passed
-returns-in-Passed c = passed_measured own_room c.args.block.now c.args.notes.now c.admit.result c.admit.ensures c.in-Passed.is c.measure_notes.ensures
+pub returns : goal.returns
+returns c = passed_measured own_room _ _ _ c.admit.ensures c.in_ok-admitted.was c.measure_notes.ensures

@@ -1,12 +1,10 @@
 -- `formatter::measure_lent` meets its contract.
-use lib.ListN.{length}
+use Rattle.std.proofs.lemmas.Result.{err_from_is_err_and}
 use Rattle.formatter.proofs.Replies.{lent_refused_measured, lent_passed_measured}
 use Rattle.formatter.proofs.measure_lent.Goals as goal
 
-pub returns-in-Refused : goal.returns-in-Refused
-returns-in-Refused c =
-    lent_refused_measured (length c.args.work.now) c.args.block.now c.args.notes.now c.admit_lent.result c.admit_lent.ensures c.in-Refused.is
+pub returns-in_err-admitted : goal.returns-in_err-admitted
+returns-in_err-admitted c = let p = err_from_is_err_and c.from_residual.result c.from_residual.ensures.1 in rw (p.1, p.2) (lent_refused_measured _ _ _ _ c.admit_lent.ensures c.in_err-admitted.was)
 
-pub returns-in-Passed : goal.returns-in-Passed
-returns-in-Passed c =
-    lent_passed_measured (length c.args.work.now) c.args.block.now c.args.notes.now c.admit_lent.result c.admit_lent.ensures c.in-Passed.is c.measure_large.ensures
+pub returns : goal.returns
+returns c = lent_passed_measured _ _ _ _ c.admit_lent.ensures c.in_ok-admitted.was c.measure_large.ensures

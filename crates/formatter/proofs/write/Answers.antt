@@ -1,12 +1,11 @@
 -- `formatter::write` meets its contract.
+use Rattle.std.proofs.lemmas.Result.{err_from_is_err_and}
 use Rattle.formatter.specs.Format.{own_room}
 use Rattle.formatter.proofs.Replies.{refused_written, passed_written}
 use Rattle.formatter.proofs.write.Goals as goal
 
-pub returns-in-Refused : goal.returns-in-Refused
-returns-in-Refused c =
-    refused_written own_room c.args.block.now c.args.notes.now c.admit.result c.admit.ensures c.args.out.now c.in-Refused.is
+pub returns-in_err-admitted : goal.returns-in_err-admitted
+returns-in_err-admitted c = let p = err_from_is_err_and c.from_residual.result c.from_residual.ensures.1 in rw (p.1, p.2) (refused_written own_room _ _ _ c.admit.ensures _ c.in_err-admitted.was)
 
-pub returns-in-Passed : goal.returns-in-Passed
-returns-in-Passed c =
-    passed_written own_room c.args.block.now c.args.notes.now c.admit.result c.admit.ensures c.args.out.now c.in-Passed.is c.write_notes.ensures
+pub returns : goal.returns
+returns c = passed_written own_room _ _ _ c.admit.ensures _ c.in_ok-admitted.was c.write_notes.ensures
