@@ -5,6 +5,7 @@ ghost use Rattle.std.specs.Prelude.{◌≡◌, ℕ, ◌+◌, ◌*◌, ◌^◌, �
 ghost use Rattle.lists.specs.Coded.{Coded, coded, numbered, result_coded};
 
 // An answer's number: its code is in the upper 32 bits, what it tells in the lower.
+#[tactic(auto, unfolding(crate::specs::Coded::numbered))]
 pub fn number(code: u64, told: usize) -> u64
     requires { code * 2 ^ 32 + told < 2 ^ 64 }
     ensures { result ≡ numbered (coded code told) }
@@ -22,6 +23,7 @@ pub trait Refusing {
 }
 
 // The number of an answer that is a length or why there is none.
+#[tactic(auto, unfolding(crate::specs::Coded::numbered))]
 pub fn number_of<E: Refusing>(answer: Result<usize, E>) -> u64
     requires { numbered (result_coded E.coded answer) < 2 ^ 64 }
     ensures { result ≡ numbered (result_coded E.coded answer) }
