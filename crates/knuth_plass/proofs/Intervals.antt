@@ -29,7 +29,7 @@ use Rattle.knuth_plass.proofs.Table.{sized_with, read_back}
 use Rattle.knuth_plass.proofs.Filled.{filled_leads}
 use Rattle.knuth_plass.proofs.Path.{path_start}
 use Rattle.knuth_plass.proofs.Paragraph.{last_is}
-use Rattle.knuth_plass.proofs.Work.{worked_word, worked_words}
+use Rattle.knuth_plass.proofs.Work.{worked_word}
 use Rattle.knuth_plass.proofs.Bases.{Tabless, NeverFalls, interval_from, first_entry, first_ready, round_ready, first_never, indent_never, path_interval}
 use Rattle.knuth_plass.proofs.Span.{span_here, span_none}
 
@@ -227,31 +227,8 @@ interval_path g n table t s last are found =
 -- ---- the words as they were before the rounds
 
 module _ (n : ℕ) (work work₁ : List ℕ) (worked : Worked n work work₁) where
-  room_same : (k : ℕ) → k ≤ n → line_room work₁ k ≡ line_room work k
-  unfolding line_room
-  room_same zero h = refl
-  room_same (suc k) h = rw (room_same k (omega arith), worked_word n work work₁ worked k (omega arith))
-
   pub gap_same : (i : ℕ) → gap_after n i work₁ ≡ gap_after n i work
   gap_same i = by (ltb (i + 1) n) refl where
     by : (x : Bool) → ltb (i + 1) n ≡ x → cond x (word_in work₁ (i + 1)).after 0 ≡ cond x (word_in work (i + 1)).after 0
     by true e = rw (worked_word n work work₁ worked (i + 1) (ltb-true (i + 1) n e))
     by false e = refl
-
-  pub regular_then : (g : Setting) → Regular g n work → Regular g n work₁
-  regular_then g r = record {
-    low = r.low;
-    line = record {
-      tabless = λ i h. rw (worked_word n work work₁ worked i h) (r.line.tabless i h);
-      short = rw (room_same n (omega arith)) r.line.short;
-    };
-  }
-
-  pub intervals_then : (g : Setting) (t : Tables) (s : Interval) → IntervalsAre g n work₁ t s → IntervalsAre g n work t s
-  intervals_then g t s are = record {
-    filled = are.filled;
-    few = are.few;
-    some = are.some;
-    holds = are.holds;
-    is = λ notes. rw (← worked_words n work work₁ worked notes) (are.is notes);
-  }

@@ -1,5 +1,5 @@
 -- The slice that is lent to the rounds: words in front, break records after them. A part comes home into its place, and the rest is as it was.
-use mathlib.Core.Path.{◌≡◌, refl, sym, ap, ◌∙◌}
+use mathlib.Core.Path.{◌≡◌, sym, ap, ◌∙◌}
 use mathlib.Core.Bool.{Bool, false}
 use mathlib.Core.List.{List, ◌++◌}
 use Prim.Native.Nat.{ℕ, ◌+◌, ◌-◌, ◌*◌, ◌^◌, ◌≤◌, ◌<◌}
@@ -15,11 +15,10 @@ use Rattle.spacing.specs.declared.Setting.{Setting}
 use Rattle.demerits.specs.Demerits.{no_ratio}
 use Rattle.knuth_plass.specs.declared.Standing.{Standing}
 use Rattle.knuth_plass.specs.declared.Told.{Told}
-use Rattle.knuth_plass.specs.declared.AllTold.{AllTold}
-use Rattle.knuth_plass.specs.KnuthPlass.{Active, sentence_behind, rounds_from}
+use Rattle.knuth_plass.specs.KnuthPlass.{sentence_behind}
 use Rattle.knuth_plass.specs.Cited.Table.{ratio_of, records_part, with_break, Tables, Sized, table_in, active_in}
-use Rattle.knuth_plass.specs.Cited.Round.{Limits, RoundReady, standing, begin, Lent, Worked, RoundIs, RoundsAre}
-use Rattle.knuth_plass.specs.Cited.Makers.{ToldIs, AllToldIs}
+use Rattle.knuth_plass.specs.Cited.Round.{Limits, begin, Begun, Lent, Worked, RoundIs}
+use Rattle.knuth_plass.specs.Cited.Makers.{ToldIs}
 use Rattle.knuth_plass.proofs.Table.{table_length, active_sized}
 use Rattle.knuth_plass.proofs.Paragraph.{ready_first, begins}
 
@@ -61,9 +60,6 @@ module _ (n : ℕ) (work : List ℕ) (lent : Lent n work) (part work₁ : List �
   }
 
 -- ---- what is as it was
-
-pub worked_none : (n : ℕ) (work : List ℕ) → Worked n work work
-worked_none n work = record { sized = refl; words = refl; beyond = refl }
 
 module _ (n : ℕ) (work work₁ : List ℕ) (worked : Worked n work work₁) where
   pub worked_then : (work₂ : List ℕ) → Worked n work₁ work₂ → Worked n work work₂
@@ -132,22 +128,6 @@ module _ (n : ℕ) (work₀ work work₁ part : List ℕ) (worked : Worked n wor
       let all = worked_then n work₀ work worked work₁ next in
       e ∙ rw (worked_word n work₀ work₁ all i here, worked_words n work₀ work₁ all notes)
 
--- all rounds, told of the words as they were before the first
-module _ (g : Setting) (n : ℕ) (work₀ work : List ℕ) (worked : Worked n work₀ work) (some : 1 ≤ n) (t : Tables) (a : List ℕ) where
-  pub rounds_then : (r : Standing) → RoundsAre g n work t a r → RoundsAre g n work₀ t a r
-  rounds_then r are = record {
-    ready = are.ready;
-    holds = are.holds;
-    is = λ notes. are.is notes ∙ rw (worked_word n work₀ work worked 0 some, worked_words n work₀ work worked notes);
-  }
-
-  pub told_then : (e : ℕ) (r : AllTold) → AllToldIs g n e work t a r → AllToldIs g n e work₀ t a r
-  told_then e r told = record {
-    rounds = rounds_then r.st told.rounds;
-    first = λ notes h. told.first notes h ∙ rw (worked_words n work₀ work worked notes);
-    second = λ notes h. told.second notes h ∙ rw (worked_words n work₀ work worked notes);
-  }
-
 -- ---- the paragraph's start, stored in the lent part
 
 module _ (g : Setting) (n : ℕ) (work : List ℕ) (lent : Lent n work) (some : 1 ≤ n) (limits : Limits g) (w : WordRecord) (got : w ≡ word_in work 0) (narrow : w.width < 2 ^ 31)
@@ -161,17 +141,18 @@ module _ (g : Setting) (n : ℕ) (work : List ℕ) (lent : Lent n work) (some : 
   room_some : 0 < length (table_in (records_part n work))
   room_some = rw (part_room n work lent) some
 
-  pub start_ready : RoundReady 1 one (table_in (records_part n work₁)) (active_in (records_part n work₁))
-  start_ready =
-      ready_first g w r zero-ratio limits narrow (table_in (records_part n work)) (active_in (records_part n work)) (table_in (records_part n work₁)) (active_in (records_part n work₁))
-      (part_sized n work lent) (active_sized (records_part n work)) room_some (ap table_in (part_home n work lent part work₁ same home) ∙ stored) (ap active_in (part_home n work lent part work₁ same home) ∙ put)
+  abbrev home_table : table_in (records_part n work₁) ≡ with_break (table_in (records_part n work)) 0 (record { previous = 0; word = 0; before = false; demerits = 0; ratio = r; columns = g.first + w.width; fresh = false })
+  home_table = ap table_in (part_home n work lent part work₁ same home) ∙ stored
 
-  pub start_begins : (notes : List ℕ) → standing one (table_in (records_part n work₁)) (active_in (records_part n work₁)) ≡ begin g (meaning notes (word_in work₁ 0))
-  start_begins notes =
-      begins g w r zero-ratio limits narrow (table_in (records_part n work)) (active_in (records_part n work)) (table_in (records_part n work₁)) (active_in (records_part n work₁))
-      (part_sized n work lent) (active_sized (records_part n work)) room_some (ap table_in (part_home n work lent part work₁ same home) ∙ stored) (ap active_in (part_home n work lent part work₁ same home) ∙ put) notes
-      ∙ ap (λ (v : WordRecord). begin g (meaning notes v)) (got ∙ sym (worked_word n work work₁ (worked_home n work lent part work₁ same home) 0 some))
+  abbrev home_active : active_in (records_part n work₁) ≡ set (active_in (records_part n work)) 0 0
+  home_active = ap active_in (part_home n work lent part work₁ same home) ∙ put
 
-  pub start_rounds : (notes : List ℕ) → rounds_from g false 1 (standing one (table_in (records_part n work₁)) (active_in (records_part n work₁))) (drop 1 (words_in notes n work₁))
-      ≡ rounds_from g false 1 (begin g (meaning notes (word_in work₁ 0))) (drop 1 (words_in notes n work₁))
-  start_rounds notes = ap (λ (b : Active). rounds_from g false 1 b (drop 1 (words_in notes n work₁))) (start_begins notes)
+  pub begun : Begun g n work (table_in (records_part n work₁)) (active_in (records_part n work₁)) one
+  begun = record {
+    ready = ready_first g w r zero-ratio limits narrow (table_in (records_part n work)) (active_in (records_part n work)) (table_in (records_part n work₁)) (active_in (records_part n work₁))
+        (part_sized n work lent) (active_sized (records_part n work)) room_some home_table home_active;
+    is = λ notes.
+        begins g w r zero-ratio limits narrow (table_in (records_part n work)) (active_in (records_part n work)) (table_in (records_part n work₁)) (active_in (records_part n work₁))
+        (part_sized n work lent) (active_sized (records_part n work)) room_some home_table home_active notes
+        ∙ ap (λ (v : WordRecord). begin g (meaning notes v)) got;
+  }

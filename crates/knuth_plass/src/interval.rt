@@ -270,7 +270,7 @@ fn least_end(breaks: &[u32], g: Goals, head: usize) -> usize
 // first active break's line is too short to end there, and so is every other. The last word, of n, is never skipped.
 fn skip(work: &[u32], n: usize, uniform: bool, low: usize, i: usize, p: usize) -> Skipped
     requires { (i < n) × (n ≤ T.most_words) × Holds n work.now × (low < 2 ^ 33) }
-    ensures { result ≡ I.skipped_from uniform low work.now (n - (i + 1)) i p }
+    ensures { (result ≡ I.skipped_from uniform low work.now (n - (i + 1)) i p) × (i ≤ result.word) × (result.word < n) }
 {
     // Rounds that offer follow one another: after one of them no word has to be read to see that there is nothing to skip.
     if low <= p {

@@ -112,7 +112,7 @@ pub fn advance(r: Round, st: Standing, breaks: &mut [u32]) -> State
 }
 
 // One break more, active last.
-pub fn append(breaks: &mut [u32], size: usize, kept: usize, b: Break)
+fn append(breaks: &mut [u32], size: usize, kept: usize, b: Break)
     requires { (size < length (T.table_in breaks.old)) × (kept < length (T.table_in breaks.old)) × (size < T.most_words) × T.Fits b }
     ensures { (T.table_in breaks.new ≡ T.with_break (T.table_in breaks.old) size b) × (T.active_in breaks.new ≡ set (T.active_in breaks.old) kept size) }
 {
@@ -184,11 +184,10 @@ fn round(
     settle(r, st, breaks, s)
 }
 
-// One round for each word after the first.
-// In the original: `find_kp_breakpoints`.
-pub fn rounds(g: Goals, work: &mut [u32], n: usize) -> Standing
+// The paragraph's start: its one break is active, and the line that it begins has the first word.
+pub fn begin(g: Goals, work: &mut [u32], n: usize) -> Standing
     requires { (1 ≤ n) × R.Lent n work.old × R.AllNarrow n work.old }
-    ensures { R.RoundsAre g.setting n work.old (T.table_in (T.records_part n work.new)) (T.active_in (T.records_part n work.new)) result × R.Worked n work.old work.new }
+    ensures { R.Begun g.setting n work.old (T.table_in (T.records_part n work.new)) (T.active_in (T.records_part n work.new)) result × R.Worked n work.old work.new }
 {
     let base = n * 7;
     let end = n * 15;
@@ -198,11 +197,22 @@ pub fn rounds(g: Goals, work: &mut [u32], n: usize) -> Standing
         ..START
     };
     append(&mut work[base..end], 0, 0, first);
-    let mut st = Standing {
+    Standing {
         count: 1,
         size: 1,
         reduction: 0,
-    };
+    }
+}
+
+// One round for each word after the first.
+// In the original: `find_kp_breakpoints`.
+pub fn rounds(g: Goals, work: &mut [u32], n: usize) -> Standing
+    requires { (1 ≤ n) × R.Lent n work.old × R.AllNarrow n work.old }
+    ensures { R.RoundsAre g.setting n work.old (T.table_in (T.records_part n work.new)) (T.active_in (T.records_part n work.new)) result × R.Worked n work.old work.new }
+{
+    let base = n * 7;
+    let end = n * 15;
+    let mut st = begin(g, work, n);
     let mut sentence = false;
     for i in 1..n {
         let word = records::get(work, i);

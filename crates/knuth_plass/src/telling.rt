@@ -6,10 +6,10 @@ ghost use Rattle.knuth_plass.specs.Cited.Round as R;
 ghost use Rattle.knuth_plass.specs.Cited.Makers as W;
 
 use super::goals::{Goals, Round};
-use super::listed::{active, advance, append, lessened, settle};
+use super::listed::{active, advance, begin, lessened, settle};
 use super::marking::starts;
 use super::store::{get_break, ratio_of};
-use super::turns::{NOTHING, START, either, restarted, round_of, sentence_behind};
+use super::turns::{NOTHING, either, restarted, round_of, sentence_behind};
 use super::{AllTold, Break, Standing, State, Told};
 use endings::Ending;
 use records::Word;
@@ -113,17 +113,7 @@ pub fn all_told(g: Goals, work: &mut [u32], n: usize, e: usize) -> AllTold
 {
     let base = n * 7;
     let end = n * 15;
-    let w = records::get(work, 0);
-    let start = Break {
-        columns: g.setting.first + w.width,
-        ..START
-    };
-    append(&mut work[base..end], 0, 0, start);
-    let mut st = Standing {
-        count: 1,
-        size: 1,
-        reduction: 0,
-    };
+    let mut st = begin(g, work, n);
     let mut sentence = false;
     let mut first = Ending::Paragraph;
     let mut second = Ending::Paragraph;

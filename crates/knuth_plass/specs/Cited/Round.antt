@@ -245,6 +245,11 @@ AllNarrow n table = (i : ℕ) → i < n → Narrow i table
 unfoldable pub begin : Setting → Word → Active
 begin g w = record { breaks = first_break g w ∷ []; reduction = 0 }
 
+-- before the first of them: the paragraph's start is the one active break
+pub record Begun (g : Setting) (n : ℕ) (table : List ℕ) (t : Tables) (a : List ℕ) (r : Standing) : Type 0 where
+  pub ready : RoundReady 1 r t a
+  pub is : (notes : List ℕ) → standing r t a ≡ begin g (meaning notes (word_in table 0))
+
 -- after the rounds of n words
 pub record RoundsAre (g : Setting) (n : ℕ) (table : List ℕ) (t : Tables) (a : List ℕ) (r : Standing) : Type 0 where
   pub ready : RoundReady n r t a

@@ -1,12 +1,11 @@
 -- `knuth_plass::interval::rounds` meets its contract. Invariant: the rounds still to do come to what all rounds come to from the start.
-use mathlib.Core.Path.{refl, sym, ap, ◌∙◌}
-use Prim.Native.Nat.{◌≤◌, ◌<◌}
+use mathlib.Core.Path.{refl, ap, ◌∙◌}
 use native.Mathlib.Omega.{arith}
 use lib.Ieee.{of_bits}
 use Rattle.knuth_plass.specs.Cited.Table.{records_part, table_in}
 use Rattle.knuth_plass.proofs.Table.{table_record}
-use Rattle.knuth_plass.proofs.Work.{part_room, part_sized, part_home, worked_home, worked_none, worked_then, worked_lent, worked_word}
-use Rattle.knuth_plass.proofs.Intervals.{between, along_start, along_next, line_room_law, gap_same, regular_then, intervals_are, intervals_then}
+use Rattle.knuth_plass.proofs.Work.{part_room, part_sized, part_home, worked_home, worked_then, worked_lent, worked_word}
+use Rattle.knuth_plass.proofs.Intervals.{between, along_start, along_next, line_room_law, gap_same, intervals_are}
 use Rattle.knuth_plass.proofs.Skipping.{mark_here, mark_behind, along_second, sentence_same, behind_skipped}
 use Rattle.knuth_plass.proofs.interval.rounds.Goals as goal
 
@@ -23,10 +22,9 @@ loop-i-init c =
       omega arith,
       p.0,
       worked_lent a.n a.work.now _ worked p.1,
-      worked_none a.n _,
+      worked,
       along_second a.g.setting a.n _ _ _
-          (along_start a.g.setting a.n _ a.g.limits (regular_then a.n a.work.now _ worked a.g.setting p.3) p.0 0 refl (table_in (records_part a.n a.work.now)) (part_sized a.n a.work.now p.1) (rw room (omega arith)) _ _
-          (c.get-w.ensures.is ∙ sym (worked_word a.n a.work.now _ worked 0 p.0)) stored),
+          (along_start a.g.setting a.n _ a.g.limits p.3 p.0 0 refl (table_in (records_part a.n a.work.now)) (part_sized a.n a.work.now p.1) (rw room (omega arith)) _ _ c.get-w.ensures.is stored),
     )
 
 pub least_end-low-requires : goal.least_end-low-requires
@@ -38,48 +36,6 @@ least_end-low-requires c =
     let t = c.loop-i-test.true in
     rw (part_room c.args.n l.work v.2) (omega arith)
 
-pub get-word-requires : goal.get-word-requires
-get-word-requires c =
-    let here : (c.loop-i.i ≤ c.skip-over.result.word) × (c.skip-over.result.word < c.args.n) =
-    let a = c.args in
-    let l = c.loop-i in
-    let v = l.invariant in
-    let behind = behind_skipped a.g.setting a.n _ c.args.g.limits l.s.head l.s.size (table_in (records_part a.n l.work)) l.work v.3 l.i l.s.line v.0 c.loop-i-test.true v.4 _ c.least_end-low.ensures.0 _ c.skip-over.ensures in
-    (behind.from, behind.to) in
-    let r = c.loop-i.invariant.2.room in let k = here.1 in omega arith
-
-pub gap_behind-gap-requires : goal.gap_behind-gap-requires
-gap_behind-gap-requires c =
-    let here : (c.loop-i.i ≤ c.skip-over.result.word) × (c.skip-over.result.word < c.args.n) =
-    let a = c.args in
-    let l = c.loop-i in
-    let v = l.invariant in
-    let behind = behind_skipped a.g.setting a.n _ c.args.g.limits l.s.head l.s.size (table_in (records_part a.n l.work)) l.work v.3 l.i l.s.line v.0 c.loop-i-test.true v.4 _ c.least_end-low.ensures.0 _ c.skip-over.ensures in
-    (behind.from, behind.to) in
-    let lent = c.loop-i.invariant.2 in
-    let r = lent.room in
-    (here.1, omega arith, lent.few)
-
-pub sentence_at-sentence-requires : goal.sentence_at-sentence-requires
-sentence_at-sentence-requires c =
-    let here : (c.loop-i.i ≤ c.skip-over.result.word) × (c.skip-over.result.word < c.args.n) =
-    let a = c.args in
-    let l = c.loop-i in
-    let v = l.invariant in
-    let behind = behind_skipped a.g.setting a.n _ c.args.g.limits l.s.head l.s.size (table_in (records_part a.n l.work)) l.work v.3 l.i l.s.line v.0 c.loop-i-test.true v.4 _ c.least_end-low.ensures.0 _ c.skip-over.ensures in
-    (behind.from, behind.to) in
-    let r = c.loop-i.invariant.2.room in let k = here.1 in omega arith
-
-pub overflow_add-k : goal.overflow_add-k
-overflow_add-k c =
-    let here : (c.loop-i.i ≤ c.skip-over.result.word) × (c.skip-over.result.word < c.args.n) =
-    let a = c.args in
-    let l = c.loop-i in
-    let v = l.invariant in
-    let behind = behind_skipped a.g.setting a.n _ c.args.g.limits l.s.head l.s.size (table_in (records_part a.n l.work)) l.work v.3 l.i l.s.line v.0 c.loop-i-test.true v.4 _ c.least_end-low.ensures.0 _ c.skip-over.ensures in
-    (behind.from, behind.to) in
-    let f = c.loop-i.invariant.2.few in let k = here.1 in omega arith
-
 pub round-s-requires : goal.round-s-requires
 round-s-requires c =
     let a = c.args in
@@ -87,42 +43,20 @@ round-s-requires c =
     let l = c.loop-i in
     let v = l.invariant in
     let k = c.skip-over.result.word in
-    let first = worked_home a.n a.work.now p.1 c.store_break.new.breaks _ c.work-1.given.0 refl in
-    let regular = regular_then a.n a.work.now _ first a.g.setting p.3 in
-    let behind = behind_skipped a.g.setting a.n _ a.g.limits l.s.head l.s.size (table_in (records_part a.n l.work)) l.work v.3 l.i l.s.line v.0 c.loop-i-test.true v.4 _ c.least_end-low.ensures.0 _ c.skip-over.ensures in
+    let behind = behind_skipped a.g.setting a.n _ a.g.limits l.s.head l.s.size (table_in (records_part a.n l.work)) l.work v.3 l.i l.s.line v.0 c.loop-i-test.true v.4 _ c.least_end-low.ensures.0 _ c.skip-over.ensures.0 in
     let t = behind.to in
     let got = c.get-word.ensures in
     let word = got.is ∙ worked_word a.n _ l.work v.3 k t in
     let gap = c.gap_behind-gap.ensures ∙ gap_same a.n _ l.work v.3 k in (
       record {
         small = got.small;
-        narrow = rw (word, worked_word a.n a.work.now _ first k t) (p.2 _ t);
-        tabless = rw word (regular.line.tabless k t);
+        narrow = rw word (p.2 _ t);
+        tabless = rw word (p.3.line.tabless k t);
       },
       rw (part_room a.n l.work v.2) t,
       rw word (between a.g.setting a.n _ k _ _ (table_in (records_part a.n l.work)) behind.along t),
-      rw (word, gap) (line_room_law a.g.setting.first a.n k _ _ regular.line t behind.along.short),
+      rw (word, gap) (line_room_law a.g.setting.first a.n k _ _ p.3.line t behind.along.short),
     )
-
-pub overflow_add-i : goal.overflow_add-i
-overflow_add-i c =
-    let here : (c.loop-i.i ≤ c.skip-over.result.word) × (c.skip-over.result.word < c.args.n) =
-    let a = c.args in
-    let l = c.loop-i in
-    let v = l.invariant in
-    let behind = behind_skipped a.g.setting a.n _ c.args.g.limits l.s.head l.s.size (table_in (records_part a.n l.work)) l.work v.3 l.i l.s.line v.0 c.loop-i-test.true v.4 _ c.least_end-low.ensures.0 _ c.skip-over.ensures in
-    (behind.from, behind.to) in
-    let f = c.loop-i.invariant.2.few in let k = here.1 in omega arith
-
-pub loop-i-smaller : goal.loop-i-smaller
-loop-i-smaller c =
-    let here : (c.loop-i.i ≤ c.skip-over.result.word) × (c.skip-over.result.word < c.args.n) =
-    let a = c.args in
-    let l = c.loop-i in
-    let v = l.invariant in
-    let behind = behind_skipped a.g.setting a.n _ c.args.g.limits l.s.head l.s.size (table_in (records_part a.n l.work)) l.work v.3 l.i l.s.line v.0 c.loop-i-test.true v.4 _ c.least_end-low.ensures.0 _ c.skip-over.ensures in
-    (behind.from, behind.to) in
-    let k = here in let from = k.0 in let to = k.1 in omega arith
 
 pub loop-i-preserved : goal.loop-i-preserved
 loop-i-preserved c =
@@ -131,7 +65,7 @@ loop-i-preserved c =
     let v = l.invariant in
     let k = c.skip-over.result.word in
     let some = v.0 in
-    let behind = behind_skipped a.g.setting a.n _ c.args.g.limits l.s.head l.s.size (table_in (records_part a.n l.work)) l.work v.3 l.i l.s.line some c.loop-i-test.true v.4 _ c.least_end-low.ensures.0 _ c.skip-over.ensures in
+    let behind = behind_skipped a.g.setting a.n _ a.g.limits l.s.head l.s.size (table_in (records_part a.n l.work)) l.work v.3 l.i l.s.line some c.loop-i-test.true v.4 _ c.least_end-low.ensures.0 _ c.skip-over.ensures.0 in
     let from = behind.from in
     let t = behind.to in
     let next = worked_home a.n l.work v.2 c.round-s.new.breaks _ c.work-in-loop-i-1.given.0 refl in
@@ -154,7 +88,5 @@ returns c =
     let p = c.requires in
     let l = c.loop-i in
     let v = l.invariant in
-    let first = worked_home a.n a.work.now p.1 c.store_break.new.breaks _ c.work-1.given.0 refl in
     let room = part_room a.n l.work v.2 in
-    let are = intervals_are a.g.setting a.n _ a.g.limits (regular_then a.n a.work.now _ first a.g.setting p.3) p.0 l.i _ l.s (table_in (records_part a.n l.work)) v.1 c.loop-i-test.false (omega arith) v.4 in
-    (intervals_then a.n a.work.now _ first a.g.setting _ _ are, worked_then a.n a.work.now _ first l.work v.3)
+    (intervals_are a.g.setting a.n _ a.g.limits p.3 p.0 l.i _ l.s (table_in (records_part a.n l.work)) v.1 c.loop-i-test.false (omega arith) v.4, v.3)

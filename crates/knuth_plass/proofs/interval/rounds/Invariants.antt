@@ -10,8 +10,8 @@ invariant-loop-i l =
     (1 ≤ l.i)
     × (l.i ≤ l.n)
     × Lent l.n l.work
-    × Worked l.n l.initial.work l.work
-    × Along l.g.setting l.n l.initial.work l.i (mark_at l.n l.initial.work l.i) l.s (table_in (records_part l.n l.work))
+    × Worked l.n l.fn.work l.work
+    × Along l.g.setting l.n l.fn.work l.i (mark_at l.n l.fn.work l.i) l.s (table_in (records_part l.n l.work))
 
 abbrev pub decreases-loop-i : goal.decreases-loop-i
 decreases-loop-i l = l.n - l.i

@@ -1,36 +1,22 @@
 -- `knuth_plass::telling::all_told` meets its contract. Invariant: as of the rounds; and what is kept of the two words, with what is to come, is of all that the rounds tell.
-use mathlib.Core.Path.{◌≡◌, refl, ◌∙◌}
-use Prim.Native.Nat.{◌<◌, ◌^◌}
+use mathlib.Core.Bool.{false}
+use lib.ListN.{drop}
+use Rattle.records.specs.Cited.Table.{words_in}
+use Rattle.knuth_plass.specs.KnuthPlass.{Active, rounds_from}
+use mathlib.Core.Path.{ap, ◌≡◌, refl, ◌∙◌}
 use native.Mathlib.Omega.{arith}
-use lib.Ieee.{of_bits}
 use Rattle.knuth_plass.specs.Cited.Table.{records_part, table_in, active_in}
-use Rattle.knuth_plass.proofs.Work.{start_ready, start_begins, start_rounds, part_room, part_home, worked_home, worked_none, worked_then, worked_lent, worked_word, told_home, behind_home, told_then}
+use Rattle.knuth_plass.proofs.Work.{part_room, part_home, worked_home, worked_then, worked_lent, worked_word, told_home, behind_home}
 use Rattle.knuth_plass.proofs.Paragraph.{rounds_next, rounds_are}
 use Rattle.knuth_plass.proofs.Asked.{so_first, so_turn}
 use Rattle.knuth_plass.proofs.telling.all_told.Goals as goal
 
-pub append-requires : goal.append-requires
-append-requires c =
-    let p = c.requires in
-    let a = c.args in
-    let w : c.get-w.result.width < 2 ^ 31 = rw c.get-w.ensures.is (p.2 0 p.0) in
-    let f = a.g.limits.first in
-    let some = p.0 in
-    let e = part_room a.n a.work.now p.1 in
-    (rw e (omega arith), rw e (omega arith), omega arith, record { previous = omega arith; word = omega arith; columns = omega arith })
-
 pub loop-i-init : goal.loop-i-init
-unfolding of_bits
 loop-i-init c =
     let p = c.requires in
     let a = c.args in
-    let narrow : c.get-w.result.width < 2 ^ 31 = rw c.get-w.ensures.is (p.2 0 p.0) in (
-      worked_lent a.n a.work.now _ (worked_home a.n a.work.now p.1 c.append.new.breaks _ c.work-1.given.0 refl) p.1,
-      worked_none a.n _,
-      start_ready a.g.setting a.n a.work.now p.1 p.0 a.g.limits c.get-w.result c.get-w.ensures.is narrow c.append.new.breaks _ c.work-1.given.0 refl 0 refl c.append.ensures.0 c.append.ensures.1,
-      start_rounds a.g.setting a.n a.work.now p.1 p.0 a.g.limits c.get-w.result c.get-w.ensures.is narrow c.append.new.breaks _ c.work-1.given.0 refl 0 refl c.append.ensures.0 c.append.ensures.1,
-      λ notes. so_first a.g.setting _ a.n notes a.e _ p.0 p.3 (start_begins a.g.setting a.n a.work.now p.1 p.0 a.g.limits c.get-w.result c.get-w.ensures.is narrow c.append.new.breaks _ c.work-1.given.0 refl 0 refl c.append.ensures.0 c.append.ensures.1 notes),
-    )
+    let b = c.begin-st.ensures in
+    (worked_lent a.n a.work.now _ b.1 p.1, b.1, b.0.ready, λ notes. ap (λ (x : Active). rounds_from a.g.setting false 1 x (drop 1 (words_in notes a.n a.work.now))) (b.0.is notes), λ notes. so_first a.g.setting a.work.now a.n notes a.e _ p.0 p.3 (b.0.is notes))
 
 pub told_round-told-requires : goal.told_round-told-requires
 told_round-told-requires c =
@@ -40,8 +26,7 @@ told_round-told-requires c =
     let l = c.loop-i in
     let v = l.invariant in
     let w = c.get-word.ensures in
-    let worked = worked_then a.n a.work.now _ (worked_home a.n a.work.now p.1 c.append.new.breaks _ c.work-1.given.0 refl) l.work v.1 in
-    (rw (part_room a.n l.work v.0) t, w.small, rw (w.is, worked_word a.n a.work.now l.work worked l.i t) (p.2 _ t), v.2)
+    (rw (part_room a.n l.work v.0) t, w.small, rw (w.is, worked_word a.n a.work.now l.work v.1 l.i t) (p.2 _ t), v.2)
 
 pub loop-i-preserved : goal.loop-i-preserved
 loop-i-preserved c =
@@ -60,13 +45,12 @@ returns c =
     let a = c.args in
     let l = c.loop-i in
     let v = l.invariant in
-    let worked = worked_home a.n a.work.now p.1 c.append.new.breaks _ c.work-1.given.0 refl in
     let end : l.i ≡ a.n = omega (arith, l.auto.i-end p.0, c.loop-i-test.false) in
     let few = part_room a.n l.work v.0 in (
-      told_then a.g.setting a.n a.work.now _ worked p.0 _ _ a.e _ (record {
+      record {
         rounds = rounds_are a.g.setting a.n l.i _ (table_in (records_part a.n l.work)) (active_in (records_part a.n l.work)) l.st l.sentence (l.auto.i-end p.0) c.loop-i-test.false (omega arith) v.2 v.3;
         first = λ notes h. (v.4 notes).first (omega arith);
         second = λ notes h. (v.4 notes).second (omega arith);
-      }),
-      worked_then a.n a.work.now _ worked l.work v.1,
+      },
+      v.1,
     )
