@@ -72,6 +72,18 @@ struct Progress {
     reached: Reached,
 }
 
+// The notes, the setting and the indent that a paragraph is written with: what holds of them on each of its lines is said here.
+#[derive(Clone, Copy, Debug)]
+struct Page<'a> {
+    s: &'a [u8],
+    g: Setting,
+    indent: Margin,
+    ghost short: { length s.now ≤ 2 ^ 20 },
+    ghost within: { MarginIn (length s.now) indent },
+    ghost fair: { Fair g },
+    ghost narrow: { (g.indent < 2 ^ 31) × (g.width < 2 ^ 31) },
+}
+
 // Where a line of output ends in the notes, and where the next word begins.
 #[derive(Clone, Copy, Debug, PartialEq, Eq)]
 struct Cut {
@@ -299,67 +311,65 @@ fn cut_line(s: &[u8], p: usize, e: usize, at: usize) -> Cut
 }
 
 // Bytes of the notes, written after k bytes.
-fn put_at(s: &[u8], from: usize, to: usize, out: &mut [u8], k: usize) -> usize
-    requires { (from ≤ to) × (to ≤ length s.now) × (length s.now ≤ 2 ^ 20) × (k < 2 ^ 63) }
-    ensures { Wrote out.old k (slice from to s.now) out.new result }
+fn put_at(page: Page, from: usize, to: usize, out: &mut [u8], k: usize) -> usize
+    requires { (from ≤ to) × (to ≤ length page.s.now) × (k < 2 ^ 63) }
+    ensures { Wrote out.old k (slice from to page.entry.s.now) out.new result }
 {
     let place = k.min(out.len());
-    k + output::put_text(s, from, to, &mut out[place..])
+    k + output::put_text(page.s, from, to, &mut out[place..])
 }
 
 // A new line, after k bytes.
-fn break_at(s: &[u8], indent: Margin, out: &mut [u8], k: usize) -> usize
-    requires { MarginIn (length s.now) indent × (length s.now ≤ 2 ^ 20) × (k < 2 ^ 63) }
-    ensures { Wrote out.old k (line_feed ++ margin_of s.now indent) out.new result × (result ≤ k + 2 ^ 33) }
+fn break_at(page: Page, out: &mut [u8], k: usize) -> usize
+    requires { k < 2 ^ 63 }
+    ensures { Wrote out.old k (line_feed ++ margin_of page.entry.s.now page.entry.indent) out.new result × (result ≤ k + 2 ^ 33) }
 {
     let place = k.min(out.len());
-    k + output::put_break(s, indent, &mut out[place..])
+    k + output::put_break(page.s, page.indent, &mut out[place..])
 }
 
 // A line of output after k bytes: bytes of the notes, and a new line.
-fn put_line(s: &[u8], from: usize, to: usize, indent: Margin, out: &mut [u8], k: usize) -> usize
-    requires { (from ≤ to) × (to ≤ length s.now) × MarginIn (length s.now) indent × (length s.now ≤ 2 ^ 20) × (k < 2 ^ 62 + 2 ^ 61) }
-    ensures { Wrote out.old k (slice from to s.now ++ (line_feed ++ margin_of s.now indent)) out.new result × (result ≤ k + 2 ^ 34) }
+fn put_line(page: Page, from: usize, to: usize, out: &mut [u8], k: usize) -> usize
+    requires { (from ≤ to) × (to ≤ length page.s.now) × (k < 2 ^ 62 + 2 ^ 61) }
+    ensures { Wrote out.old k (slice from to page.entry.s.now ++ (line_feed ++ margin_of page.entry.s.now page.entry.indent)) out.new result × (result ≤ k + 2 ^ 34) }
 {
-    let j = put_at(s, from, to, out, k);
-    break_at(s, indent, out, j)
+    let j = put_at(page, from, to, out, k);
+    break_at(page, out, j)
 }
 
 // A stretch of so many columns on fresh lines.
 fn fill(
-    s: &[u8],
+    page: Page,
     from: usize,
     e: usize,
     columns: usize,
     counts: bool,
-    g: Setting,
-    indent: Margin,
     t: Reached,
     out: &mut [u8],
 ) -> Reached
-    requires { Inked s.now from e × (columns ≡ columns_in s.now from e) × Even g.uniform s.now from e × MarginIn (length s.now) indent × (length s.now ≤ 2 ^ 20) × (t.written < 2 ^ 62 + 2 ^ 60) × (t.column < 2 ^ 61) × (g.indent < 2 ^ 61) }
-    ensures { Filled s.now from e counts g (margin_of s.now indent) t.column out.old t.written out.new result }
+    requires { Inked page.s.now from e × (columns ≡ columns_in page.s.now from e) × Even page.g.uniform page.s.now from e × (t.written < 2 ^ 62 + 2 ^ 60) × (t.column < 2 ^ 61) }
+    ensures { Filled page.entry.s.now from e counts page.entry.g (margin_of page.entry.s.now page.entry.indent) t.column out.old t.written out.new result }
 {
     let mut p = from;
     let mut k = t.written;
     let mut column = t.column;
     let mut counting = counts;
     let mut left = columns;
-    while g.width < column + left {
-        let room = g.width.saturating_sub(column);
-        let at = place_of(s, p, e, left, room);
-        let cut = cut_line(s, p, e, at);
+    while page.g.width < column + left {
+        let room = page.g.width.saturating_sub(column);
+        let at = place_of(page.s, p, e, left, room);
+        let cut = cut_line(page.s, p, e, at);
         if cut.next == e {
             break;
         }
-        k = put_line(s, p, cut.end, indent, out, k);
-        left -= columns_before(s, p, e, left, at, room, cut.next);
+        k = put_line(page, p, cut.end, out, k);
+        left -= columns_before(page.s, p, e, left, at, room, cut.next);
         p = cut.next;
-        column = g.indent;
+        column = page.g.indent;
         counting = true;
     }
     Reached {
-        written: put_at(s, p, e, out, k),
+        written: put_at(page, p, e, out, k),
         column: column + left,
         ..t
     }
@@ -382,52 +392,43 @@ fn spaces_at(count: usize, out: &mut [u8], k: usize) -> usize
 }
 
 // The next line's stretch of so many columns, after a line of output that has begun.
-fn join(
-    s: &[u8],
-    p: usize,
-    e: usize,
-    columns: usize,
-    g: Setting,
-    indent: Margin,
-    t: Reached,
-    out: &mut [u8],
-) -> Reached
-    requires { Inked s.now p e × (columns ≡ columns_in s.now p e) × Even g.uniform s.now p e × MarginIn (length s.now) indent × (length s.now ≤ 2 ^ 20) × (t.written < 2 ^ 62 + 2 ^ 59) × (t.column < 2 ^ 60) × (g.indent < 2 ^ 60) × (g.width < 2 ^ 60) }
-    ensures { Joined s.now p e t.punct g (margin_of s.now indent) t.column out.old t.written out.new result }
+fn join(page: Page, p: usize, e: usize, columns: usize, t: Reached, out: &mut [u8]) -> Reached
+    requires { Inked page.s.now p e × (columns ≡ columns_in page.s.now p e) × Even page.g.uniform page.s.now p e × (t.written < 2 ^ 62 + 2 ^ 59) × (t.column < 2 ^ 60) }
+    ensures { Joined page.entry.s.now p e t.punct page.entry.g (margin_of page.entry.s.now page.entry.indent) t.column out.old t.written out.new result }
 {
     let extra = added_of(t.punct);
     let begin = t.column + extra;
     let k = t.written;
-    if begin + columns <= g.width {
+    if begin + columns <= page.g.width {
         let j = spaces_at(extra, out, k);
         return Reached {
-            written: put_at(s, p, e, out, j),
+            written: put_at(page, p, e, out, j),
             column: begin + columns,
             ..t
         };
     }
-    let room = g.width.saturating_sub(begin);
-    let at = place_of(s, p, e, columns, room);
-    let q = last_space(s, p, at);
+    let room = page.g.width.saturating_sub(begin);
+    let at = place_of(page.s, p, e, columns, room);
+    let q = last_space(page.s, p, at);
     if p < q {
-        let end = before_spaces(s, p, q);
-        let next = over_spaces(s, q + 1, e);
-        let left = columns - columns_before(s, p, e, columns, at, room, next);
+        let end = before_spaces(page.s, p, q);
+        let next = over_spaces(page.s, q + 1, e);
+        let left = columns - columns_before(page.s, p, e, columns, at, room, next);
         let i = spaces_at(extra, out, k);
-        let j = put_line(s, p, end, indent, out, i);
+        let j = put_line(page, p, end, out, i);
         let fresh = Reached {
             written: j,
-            column: g.indent,
+            column: page.g.indent,
             ..t
         };
-        return fill(s, next, e, left, true, g, indent, fresh, out);
+        return fill(page, next, e, left, true, fresh, out);
     }
     let fresh = Reached {
-        written: break_at(s, indent, out, k),
-        column: g.indent,
+        written: break_at(page, out, k),
+        column: page.g.indent,
         ..t
     };
-    fill(s, p, e, columns, true, g, indent, fresh, out)
+    fill(page, p, e, columns, true, fresh, out)
 }
 
 // The end of the regular bytes at a place, at the latest another place.
@@ -607,28 +608,26 @@ fn is_punct(b: u8) -> bool
 
 // The stretch of a paragraph's next line, if it has a word.
 fn next_row(
-    s: &[u8],
+    page: Page,
     from: usize,
     e: usize,
     columns: usize,
-    g: Setting,
-    indent: Margin,
     t: Reached,
     out: &mut [u8],
 ) -> Reached
-    requires { (from ≤ e) × (e ≤ length s.now) × (from < e → Inked s.now from e) × (columns ≡ columns_in s.now from e) × Even g.uniform s.now from e × MarginIn (length s.now) indent × (length s.now ≤ 2 ^ 20) × (t.written < 2 ^ 62 + 2 ^ 59) × Stands t × (g.indent < 2 ^ 31) × (g.width < 2 ^ 31) }
-    ensures { Went s.now from e g (margin_of s.now indent) out.old t out.new result }
+    requires { (from ≤ e) × (e ≤ length page.s.now) × (from < e → Inked page.s.now from e) × (columns ≡ columns_in page.s.now from e) × Even page.g.uniform page.s.now from e × (t.written < 2 ^ 62 + 2 ^ 59) × Stands t }
+    ensures { Went page.entry.s.now from e page.entry.g (margin_of page.entry.s.now page.entry.indent) out.old t out.new result }
 {
     if from == e {
         return t;
     }
     if t.begins {
-        return head_row(s, from, e, columns, g, indent, t, out);
+        return head_row(page, from, e, columns, t, out);
     }
-    let r = join(s, from, e, columns, g, indent, t, out);
+    let r = join(page, from, e, columns, t, out);
     let last = e - 1;
     Reached {
-        punct: is_punct(s[last]),
+        punct: is_punct(page.s[last]),
         begins: false,
         ..r
     }
@@ -636,21 +635,19 @@ fn next_row(
 
 // The stretch with a paragraph's first word.
 fn head_row(
-    s: &[u8],
+    page: Page,
     from: usize,
     e: usize,
     columns: usize,
-    g: Setting,
-    indent: Margin,
     t: Reached,
     out: &mut [u8],
 ) -> Reached
-    requires { Inked s.now from e × (columns ≡ columns_in s.now from e) × Even g.uniform s.now from e × MarginIn (length s.now) indent × (length s.now ≤ 2 ^ 20) × (t.written < 2 ^ 62 + 2 ^ 59) × (t.begins ≡ true) × (t.column < 2 ^ 31) × (g.indent < 2 ^ 31) }
-    ensures { Went s.now from e g (margin_of s.now indent) out.old t out.new result }
+    requires { Inked page.s.now from e × (columns ≡ columns_in page.s.now from e) × Even page.g.uniform page.s.now from e × (t.written < 2 ^ 62 + 2 ^ 59) × (t.begins ≡ true) × (t.column < 2 ^ 31) }
+    ensures { Went page.entry.s.now from e page.entry.g (margin_of page.entry.s.now page.entry.indent) out.old t out.new result }
 {
-    let r = fill(s, from, e, columns, false, g, indent, t, out);
+    let r = fill(page, from, e, columns, false, t, out);
     Reached {
-        punct: head_punct(s, from, e),
+        punct: head_punct(page.s, from, e),
         begins: false,
         ..r
     }
@@ -679,13 +676,13 @@ fn is_gap(s: &[u8], to: usize, from: usize, count: usize) -> bool
 
 // A word of any kind. Words wait for those after them, so that a line of output is copied at once.
 // In the original: `accum_words_simple`.
-fn put_word(s: &[u8], w: Word, g: Setting, indent: Margin, t: Waiting, out: &mut [u8]) -> Waiting
-    requires { Within (length s.now) w × Small w × (w.width ≤ length s.now) × Fair g × MarginIn (length s.now) indent × (length s.now ≤ 2 ^ 20) × (t.from ≤ t.to) × (t.to ≤ length s.now) × (t.reached.written < 2 ^ 62 + 2 ^ 59) × Stands t.reached × (g.indent < 2 ^ 31) × (g.width < 2 ^ 31) }
-    ensures { WordPut s.now w g (margin_of s.now indent) out.old t out.new result }
+fn put_word(page: Page, w: Word, t: Waiting, out: &mut [u8]) -> Waiting
+    requires { Within (length page.s.now) w × Small w × (w.width ≤ length page.s.now) × (t.from ≤ t.to) × (t.to ≤ length page.s.now) × (t.reached.written < 2 ^ 62 + 2 ^ 59) × Stands t.reached }
+    ensures { WordPut page.entry.s.now w page.entry.g (margin_of page.entry.s.now page.entry.indent) out.old t out.new result }
 {
     let r = t.reached;
     if r.begins {
-        let j = put_at(s, t.from, t.to, out, r.written);
+        let j = put_at(page, t.from, t.to, out, r.written);
         return Waiting {
             from: w.start,
             to: w.end,
@@ -697,15 +694,15 @@ fn put_word(s: &[u8], w: Word, g: Setting, indent: Margin, t: Waiting, out: &mut
             },
         };
     }
-    let column = quick::reach(g, r.column, r.punct, w);
-    if g.width < column {
-        let j = put_line(s, t.from, t.to, indent, out, r.written);
+    let column = quick::reach(page.g, r.column, r.punct, w);
+    if page.g.width < column {
+        let j = put_line(page, t.from, t.to, out, r.written);
         return Waiting {
             from: w.start,
             to: w.end,
             reached: Reached {
                 written: j,
-                column: g.indent + w.width,
+                column: page.g.indent + w.width,
                 punct: w.punct,
                 begins: false,
             },
@@ -716,15 +713,15 @@ fn put_word(s: &[u8], w: Word, g: Setting, indent: Margin, t: Waiting, out: &mut
         punct: w.punct,
         ..r
     };
-    let added = spacing::added_space(g.uniform, w.first, w.sentence, r.punct);
-    if is_gap(s, t.to, w.from, added) {
+    let added = spacing::added_space(page.g.uniform, w.first, w.sentence, r.punct);
+    if is_gap(page.s, t.to, w.from, added) {
         return Waiting {
             from: t.from,
             to: w.end,
             reached: here,
         };
     }
-    let i = put_at(s, t.from, t.to, out, r.written);
+    let i = put_at(page, t.from, t.to, out, r.written);
     let j = spaces_at(added, out, i);
     Waiting {
         from: w.from,
@@ -735,21 +732,13 @@ fn put_word(s: &[u8], w: Word, g: Setting, indent: Margin, t: Waiting, out: &mut
 
 // The words of a table, one by one.
 // In the original: `break_simple`.
-fn put_listed(
-    s: &[u8],
-    table: &[u32],
-    n: usize,
-    g: Setting,
-    indent: Margin,
-    t: Waiting,
-    out: &mut [u8],
-) -> Waiting
-    requires { Kept n (length s.now) n table.now × (n ≤ 2 ^ 20) × Fair g × MarginIn (length s.now) indent × (length s.now ≤ 2 ^ 20) × (t.from ≤ t.to) × (t.to ≤ length s.now) × (t.reached.written < 2 ^ 62 + 2 ^ 58) × Stands t.reached × (g.indent < 2 ^ 31) × (g.width < 2 ^ 31) }
-    ensures { Listed s.now table.now n g (margin_of s.now indent) out.old t out.new n result }
+fn put_listed(page: Page, table: &[u32], n: usize, t: Waiting, out: &mut [u8]) -> Waiting
+    requires { Kept n (length page.s.now) n table.now × (n ≤ 2 ^ 20) × (t.from ≤ t.to) × (t.to ≤ length page.s.now) × (t.reached.written < 2 ^ 62 + 2 ^ 58) × Stands t.reached }
+    ensures { Listed page.entry.s.now table.now n page.entry.g (margin_of page.entry.s.now page.entry.indent) out.old t out.new n result }
 {
     let mut v = t;
     for j in 0..n {
-        v = put_word(s, records::get(table, j), g, indent, v, out);
+        v = put_word(page, records::get(table, j), v, out);
     }
     v
 }
@@ -761,38 +750,34 @@ const IN_WINDOW: usize = 16;
 
 // The words of a line from start up to end.
 fn put_words(
-    s: &[u8],
+    page: Page,
     start: usize,
     end: usize,
     mail: bool,
     o: Options,
-    g: Setting,
-    indent: Margin,
     t: Reached,
     out: &mut [u8],
 ) -> Reached
-    requires { (start ≤ end) × (end ≤ length s.now) × (length s.now ≤ 2 ^ 20) × (1 ≤ o.tab) × (o.tab ≤ 100) × (mail ≡ false → while is_blank (ink_glyphs o.glue (slice start end s.now)) ≡ []) × Fair g × MarginIn (length s.now) indent × (t.written < 2 ^ 62 + 2 ^ 57) × Stands t × (g.indent < 2 ^ 31) × (g.width < 2 ^ 31) }
-    ensures { Worded s.now start end mail o g (margin_of s.now indent) out.old t out.new result }
+    requires { (start ≤ end) × (end ≤ length page.s.now) × (1 ≤ o.tab) × (o.tab ≤ 100) × (mail ≡ false → while is_blank (ink_glyphs o.glue (slice start end page.s.now)) ≡ []) × (t.written < 2 ^ 62 + 2 ^ 57) × Stands t }
+    ensures { Worded page.entry.s.now start end mail o page.entry.g (margin_of page.entry.s.now page.entry.indent) out.old t out.new result }
 {
     let mut table = [0u32; WINDOW];
-    put_through(s, start, end, mail, o, g, indent, t, out, &mut table)
+    put_through(page, start, end, mail, o, t, out, &mut table)
 }
 
 // The same through a table of sixteen.
 fn put_through(
-    s: &[u8],
+    page: Page,
     start: usize,
     end: usize,
     mail: bool,
     o: Options,
-    g: Setting,
-    indent: Margin,
     t: Reached,
     out: &mut [u8],
     table: &mut [u32],
 ) -> Reached
-    requires { (start ≤ end) × (end ≤ length s.now) × (length s.now ≤ 2 ^ 20) × (1 ≤ o.tab) × (o.tab ≤ 100) × (mail ≡ false → while is_blank (ink_glyphs o.glue (slice start end s.now)) ≡ []) × Fair g × MarginIn (length s.now) indent × (t.written < 2 ^ 62 + 2 ^ 57) × Stands t × (g.indent < 2 ^ 31) × (g.width < 2 ^ 31) × Holds 16 table.old }
-    ensures { Worded s.now start end mail o g (margin_of s.now indent) out.old t out.new result }
+    requires { (start ≤ end) × (end ≤ length page.s.now) × (1 ≤ o.tab) × (o.tab ≤ 100) × (mail ≡ false → while is_blank (ink_glyphs o.glue (slice start end page.s.now)) ≡ []) × (t.written < 2 ^ 62 + 2 ^ 57) × Stands t × Holds 16 table.old }
+    ensures { Worded page.entry.s.now start end mail o page.entry.g (margin_of page.entry.s.now page.entry.indent) out.old t out.new result }
 {
     let mut at = start;
     let mut first = !mail;
@@ -803,11 +788,11 @@ fn put_through(
         reached: t,
     };
     loop {
-        let r = words::split_some(s, at, end, mail, first, punct, o, 0, IN_WINDOW, table);
-        v = put_listed(s, table, r.count, g, indent, v, out);
+        let r = words::split_some(page.s, at, end, mail, first, punct, o, 0, IN_WINDOW, table);
+        v = put_listed(page, table, r.count, v, out);
         if !r.more {
             return Reached {
-                written: put_at(s, v.from, v.to, out, v.reached.written),
+                written: put_at(page, v.from, v.to, out, v.reached.written),
                 ..v.reached
             };
         }
@@ -819,79 +804,73 @@ fn put_through(
 
 // The line at a place of a paragraph, word by word.
 fn put_other(
-    s: &[u8],
+    page: Page,
     i: usize,
     next: usize,
     mail: bool,
     skip: usize,
     later: usize,
     o: Options,
-    g: Setting,
-    indent: Margin,
     t: Reached,
     out: &mut [u8],
 ) -> Progress
-    requires { (i < next) × (next ≤ length s.now) × (length s.now ≤ 2 ^ 20) × (1 ≤ o.tab) × (o.tab ≤ 100) × (mail ≡ false → AllBegin o.glue skip later (lines_of (slice i next s.now))) × Fair g × MarginIn (length s.now) indent × (t.written < 2 ^ 62 + 2 ^ 57) × Stands t × (g.indent < 2 ^ 31) × (g.width < 2 ^ 31) }
-    ensures { RowPut s.now i next mail skip later o g (margin_of s.now indent) out.old t out.new result }
+    requires { (i < next) × (next ≤ length page.s.now) × (1 ≤ o.tab) × (o.tab ≤ 100) × (mail ≡ false → AllBegin o.glue skip later (lines_of (slice i next page.s.now))) × (t.written < 2 ^ 62 + 2 ^ 57) × Stands t }
+    ensures { RowPut page.entry.s.now i next mail skip later o page.entry.g (margin_of page.entry.s.now page.entry.indent) out.old t out.new result }
 {
-    let part = &s[..next];
+    let part = &page.s[..next];
     let line = lines::first_line(&part[i..]);
     let start = words::begin(mail, i, skip);
     let end = i + line.text;
     Progress {
         at: i + line.whole,
-        reached: put_words(s, start, end, mail, o, g, indent, t, out),
+        reached: put_words(page, start, end, mail, o, t, out),
     }
 }
 
 // The line at a place of a paragraph: by its stretch if it is regular, as no line of mail is.
 fn put_row(
-    s: &[u8],
+    page: Page,
     i: usize,
     next: usize,
     mail: bool,
     skip: usize,
     later: usize,
     o: Options,
-    g: Setting,
-    indent: Margin,
     t: Reached,
     out: &mut [u8],
 ) -> Progress
-    requires { (i < next) × (next ≤ length s.now) × (length s.now ≤ 2 ^ 20) × (1 ≤ o.tab) × (o.tab ≤ 100) × (mail ≡ false → AllBegin o.glue skip later (lines_of (slice i next s.now))) × (g.uniform ≡ (o.uniform || mail)) × Fair g × MarginIn (length s.now) indent × (t.written < 2 ^ 62 + 2 ^ 57) × Stands t × (g.indent < 2 ^ 31) × (g.width < 2 ^ 31) }
-    ensures { RowPut s.now i next mail skip later o g (margin_of s.now indent) out.old t out.new result }
+    requires { (i < next) × (next ≤ length page.s.now) × (1 ≤ o.tab) × (o.tab ≤ 100) × (mail ≡ false → AllBegin o.glue skip later (lines_of (slice i next page.s.now))) × (page.g.uniform ≡ (o.uniform || mail)) × (t.written < 2 ^ 62 + 2 ^ 57) × Stands t }
+    ensures { RowPut page.entry.s.now i next mail skip later o page.entry.g (margin_of page.entry.s.now page.entry.indent) out.old t out.new result }
 {
-    if !mail && let Some(row) = row_at(s, i, next, skip, later, o) {
+    if !mail && let Some(row) = row_at(page.s, i, next, skip, later, o) {
         return Progress {
             at: row.next,
-            reached: next_row(s, row.from, row.end, row.columns, g, indent, t, out),
+            reached: next_row(page, row.from, row.end, row.columns, t, out),
         };
     }
-    put_other(s, i, next, mail, skip, later, o, g, indent, t, out)
+    put_other(page, i, next, mail, skip, later, o, t, out)
 }
 
 // A paragraph's lines.
 fn put_rows(
-    s: &[u8],
+    page: Page,
     at: usize,
     next: usize,
     mail: bool,
     start: usize,
     later: usize,
     o: Options,
-    g: Setting,
-    indent: Margin,
     t: Reached,
     out: &mut [u8],
 ) -> Reached
-    requires { (at ≤ next) × (next ≤ length s.now) × (length s.now ≤ 2 ^ 20) × (1 ≤ o.tab) × (o.tab ≤ 100) × (mail ≡ false → AllBegin o.glue start later (lines_of (slice at next s.now))) × (g.uniform ≡ (o.uniform || mail)) × Fair g × MarginIn (length s.now) indent × (t.written < 2 ^ 62 + 2 ^ 56) × Stands t × (g.indent < 2 ^ 31) × (g.width < 2 ^ 31) }
-    ensures { Rowed s.now at next mail start later o g (margin_of s.now indent) out.old t out.new result }
+    requires { (at ≤ next) × (next ≤ length page.s.now) × (1 ≤ o.tab) × (o.tab ≤ 100) × (mail ≡ false → AllBegin o.glue start later (lines_of (slice at next page.s.now))) × (page.g.uniform ≡ (o.uniform || mail)) × (t.written < 2 ^ 62 + 2 ^ 56) × Stands t }
+    ensures { Rowed page.entry.s.now at next mail start later o page.entry.g (margin_of page.entry.s.now page.entry.indent) out.old t out.new result }
 {
     let mut i = at;
     let mut skip = start;
     let mut v = t;
     while i < next {
-        let r = put_row(s, i, next, mail, skip, later, o, g, indent, v, out);
+        let r = put_row(page, i, next, mail, skip, later, o, v, out);
         v = r.reached;
         i = r.at;
         skip = later;
@@ -943,6 +922,7 @@ pub fn put_quick(
         punct: false,
         begins: true,
     };
-    let v = put_rows(s, at, next, mail, start, later, o, g, indent, t, out);
+    let page = Page { s, g, indent };
+    let v = put_rows(page, at, next, mail, start, later, o, t, out);
     feed_at(out, v.written)
 }

@@ -15,8 +15,8 @@ loop-column-init c = let pre = c.requires in (omega arith, omega arith, omega ar
 
 pub overflow_add-column : goal.overflow_add-column
 overflow_add-column c =
-    let few : c.loop-column.left ≤ c.args.e - c.loop-column.p = omega (arith, c.loop-column.invariant.5, columns_size c.args.s.now c.loop-column.p c.args.e c.loop-column.invariant.4.inked.within) in
-    let l = c.loop-column in let pre = c.requires in omega (arith, few, l.invariant.4.inked.within, pre.4, pre.6, pre.7, l.invariant.2)
+    let few : c.loop-column.left ≤ c.args.e - c.loop-column.p = omega (arith, c.loop-column.invariant.5, columns_size c.args.page.s.now c.loop-column.p c.args.e c.loop-column.invariant.4.inked.within) in
+    let l = c.loop-column in let pre = c.requires in omega (arith, few, l.invariant.4.inked.within, c.args.page.short, pre.4, c.args.page.narrow.0, l.invariant.2)
 
 pub place_of-at-requires : goal.place_of-at-requires
 place_of-at-requires c =
@@ -25,24 +25,24 @@ place_of-at-requires c =
       omega (arith, inked.on),
       inked.within,
       l.invariant.5,
-      omega (arith, c.saturating_sub-room.ensures, c.loop-column-test.true, l.invariant.5, columns_some c.args.s.now l.p c.args.e c.args.e inked.on (omega arith) inked.within inked.letters),
+      omega (arith, c.saturating_sub-room.ensures, c.loop-column-test.true, l.invariant.5, columns_some c.args.page.s.now l.p c.args.e c.args.e inked.on (omega arith) inked.within inked.letters),
     )
 
 pub overflow_add-result : goal.overflow_add-result
 overflow_add-result c =
-    let few : c.loop-column.left ≤ c.args.e - c.loop-column.p = omega (arith, c.loop-column.invariant.5, columns_size c.args.s.now c.loop-column.p c.args.e c.loop-column.invariant.4.inked.within) in
-    let l = c.loop-column in let pre = c.requires in omega (arith, few, l.invariant.4.inked.within, pre.4, pre.6, pre.7, l.invariant.2)
+    let few : c.loop-column.left ≤ c.args.e - c.loop-column.p = omega (arith, c.loop-column.invariant.5, columns_size c.args.page.s.now c.loop-column.p c.args.e c.loop-column.invariant.4.inked.within) in
+    let l = c.loop-column in let pre = c.requires in omega (arith, few, l.invariant.4.inked.within, c.args.page.short, pre.4, c.args.page.narrow.0, l.invariant.2)
 
 pub overflow_sub-left : goal.overflow_sub-left
 overflow_sub-left c =
-    let found : CutAt c.args.s.now c.loop-column.p c.args.e c.place_of-at.result c.cut_line-cut.result = c.cut_line-cut.ensures.cut (omega (arith, c.cut_line-cut.ensures.most, c.if-cut-e.false)) in
-    let rest : c.loop-column.left ≡ c.columns_before-left.result + columns_in c.args.s.now c.cut_line-cut.result.next c.args.e = omega (arith, c.loop-column.invariant.5, c.columns_before-left.ensures, columns_join c.args.s.now c.loop-column.p c.cut_line-cut.result.next c.args.e (omega (arith, found.on, found.gap)) (omega (arith, found.rest.on)) found.rest.within) in
+    let found : CutAt c.args.page.s.now c.loop-column.p c.args.e c.place_of-at.result c.cut_line-cut.result = c.cut_line-cut.ensures.cut (omega (arith, c.cut_line-cut.ensures.most, c.if-cut-e.false)) in
+    let rest : c.loop-column.left ≡ c.columns_before-left.result + columns_in c.args.page.s.now c.cut_line-cut.result.next c.args.e = omega (arith, c.loop-column.invariant.5, c.columns_before-left.ensures, columns_join c.args.page.s.now c.loop-column.p c.cut_line-cut.result.next c.args.e (omega (arith, found.on, found.gap)) (omega (arith, found.rest.on)) found.rest.within) in
     omega (arith, rest)
 
 pub loop-column-preserved : goal.loop-column-preserved
 loop-column-preserved c =
-    let found : CutAt c.args.s.now c.loop-column.p c.args.e c.place_of-at.result c.cut_line-cut.result = c.cut_line-cut.ensures.cut (omega (arith, c.cut_line-cut.ensures.most, c.if-cut-e.false)) in
-    let rest : c.loop-column.left ≡ c.columns_before-left.result + columns_in c.args.s.now c.cut_line-cut.result.next c.args.e = omega (arith, c.loop-column.invariant.5, c.columns_before-left.ensures, columns_join c.args.s.now c.loop-column.p c.cut_line-cut.result.next c.args.e (omega (arith, found.on, found.gap)) (omega (arith, found.rest.on)) found.rest.within) in
+    let found : CutAt c.args.page.s.now c.loop-column.p c.args.e c.place_of-at.result c.cut_line-cut.result = c.cut_line-cut.ensures.cut (omega (arith, c.cut_line-cut.ensures.most, c.if-cut-e.false)) in
+    let rest : c.loop-column.left ≡ c.columns_before-left.result + columns_in c.args.page.s.now c.cut_line-cut.result.next c.args.e = omega (arith, c.loop-column.invariant.5, c.columns_before-left.ensures, columns_join c.args.page.s.now c.loop-column.p c.cut_line-cut.result.next c.args.e (omega (arith, found.on, found.gap)) (omega (arith, found.rest.on)) found.rest.within) in
     let l = c.loop-column in
     let put = c.put_line-k.ensures in (
       omega (arith, l.invariant.0, found.on, found.gap),
@@ -56,10 +56,10 @@ loop-column-preserved c =
 pub returns : goal.returns
 returns c =
     let l = c.loop-column in
-    let sum : l.column + l.left ≡ l.column + columns_in c.args.s.now l.p c.args.e = rw l.invariant.5 in
-    let done : (l.column + columns_in c.args.s.now l.p c.args.e ≤ c.args.g.width) ⊎ ((i : ℕ) → l.p ≤ i → i < c.args.e → NoSpace c.args.s.now i) =
+    let sum : l.column + l.left ≡ l.column + columns_in c.args.page.s.now l.p c.args.e = rw l.invariant.5 in
+    let done : (l.column + columns_in c.args.page.s.now l.p c.args.e ≤ c.args.page.g.width) ⊎ ((i : ℕ) → l.p ≤ i → i < c.args.e → NoSpace c.args.page.s.now i) =
     elim c.loop-column-test.branch [
       | else-loop-column-test w ↦ inl (omega (arith, w.loop-column-test.false, l.invariant.5))
       | then-loop-column-test+then-cut-e w ↦ inr (w.cut_line-cut.ensures.lone (omega (arith, w.if-cut-e.true)))
     ] in
-    along_done _ _ _ _ _ _ _ _ _ _ _ _ _ _ l.invariant.4 done l.invariant.0 l.invariant.1 l.invariant.2 c.requires.4 _ _ c.put_at.ensures sum
+    along_done _ _ _ _ _ _ _ _ _ _ _ _ _ _ l.invariant.4 done l.invariant.0 l.invariant.1 l.invariant.2 c.args.page.short _ _ c.put_at.ensures sum

@@ -7,7 +7,7 @@ use Rattle.regular.proofs.put_through.Goals as goal
 pub returns-then-not-r : goal.returns-then-not-r
 returns-then-not-r c =
     let p = c.requires in
-    wording_done _ _ _ _ _ _ _ _ _ _ _ _ _ _ c.loop-o.invariant.0 _ _ _ c.split_some-r.ensures _ _ c.put_listed-v.ensures (not-true _ c.if-not-r.true) p.1 p.2 _ _ c.put_at.ensures
+    wording_done _ _ _ _ _ _ _ _ _ _ _ _ _ _ c.loop-o.invariant.0 _ _ _ c.split_some-r.ensures _ _ c.put_listed-v.ensures (not-true _ c.if-not-r.true) p.1 c.args.page.short _ _ c.put_at.ensures
 
 pub loop-o-preserved : goal.loop-o-preserved
 loop-o-preserved c =
