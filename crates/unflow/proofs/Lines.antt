@@ -1,22 +1,25 @@
 -- Lines of mail by places, and what stuffing looks at.
 use mathlib.Core.Path.{◌≡◌, refl, sym, ap, ◌∙◌}
-use mathlib.Core.Bool.{Bool, true, false, cond, not, ◌&&◌, and-eq-true_iff}
+use mathlib.Core.Bool.{Bool, true, false, cond, not, ◌&&◌, ◌||◌, and-eq-true_iff}
 use mathlib.Core.List.{List, [], ◌∷◌, ◌++◌}
 use Prim.Native.Nat.{ℕ, ◌+◌, ◌-◌, ◌≤◌, ◌<◌}
+use mir.Val.{bool_byte}
 use native.Mathlib.Omega.{arith}
 use native.Mathlib.Nat.{zero-add, suc-add}
-use lib.ListN.{length, get_or, take, drop, replicate, length-append}
+use lib.Dec.{ltb, eqb}
+use lib.Pointwise.{pointwise, bytes_decides}
+use lib.ListN.{drop_of_length-le, length, get_or, get_or-eq_default, take, drop, replicate, length-append}
 use lib.Seq.{slice}
-use borrow.Author.Tests.{eqb-true, eq-eqb, ne_eqb}
+use borrow.Author.Tests.{eqb-true, eqb-false, ltb-true, ltb-false, ne_eqb}
 use Rattle.lists.specs.Runs.{while, behind, begins}
-use Rattle.lists.proofs.Runs.{while_more, while_end}
+use Rattle.lists.proofs.Runs.{while_more, while_end, begins_front}
 use Rattle.lists.proofs.RunsAt.{while_front}
 use Rattle.lists.proofs.RunParts.{drop_while}
 use Rattle.lists.proofs.Fronts.{part_to_end}
 use Rattle.lists.proofs.Slices.{slice_is}
 use Rattle.lists.proofs.Views.{drop_here, drop_none}
 use Rattle.pieces.specs.Pieces.{from_word}
-use Rattle.unflow.specs.Flowed.{space, quote_mark, is_mark, quote_depth, needs_space, stuffing, unstuffed, content_of, is_dashes, is_separator, ends_in_space, is_soft}
+use Rattle.unflow.specs.Flowed.{quote_mark, is_mark, quote_depth, needs_space, stuffing, unstuffed, content_of, dashes, is_dashes, is_separator, ends_in_space, is_soft}
 use Rattle.unflow.specs.Cited.Steps.{Parted}
 
 -- a list from a place on, as it is copied
@@ -45,17 +48,27 @@ module _ (line : List ℕ) (depth : ℕ) (e : depth ≡ quote_depth line) where
   unfolding quote_depth
   behind_depth = rw e (sym (drop_while is_mark line))
 
-  pub content_none : depth ≡ length line → content_of line ≡ drop depth line
+  content_none : depth ≡ length line → content_of line ≡ drop depth line
   unfolding content_of unstuffed
   content_none h = rw (behind_depth, drop_none 0 line depth (omega arith))
 
-  pub content_stuffed : depth < length line → get_or line depth 0 ≡ 32 → content_of line ≡ drop (depth + 1) line
+  content_stuffed : depth < length line → get_or line depth 0 ≡ 32 → content_of line ≡ drop (depth + 1) line
   unfolding content_of unstuffed
   content_stuffed h k = rw (behind_depth, drop_here 0 line depth h, k)
 
-  pub content_bare : depth < length line → (get_or line depth 0 ≡ 32 → ⊥) → content_of line ≡ drop depth line
+  content_bare : depth < length line → (get_or line depth 0 ≡ 32 → ⊥) → content_of line ≡ drop depth line
   unfolding content_of unstuffed
   content_bare h k = rw (behind_depth, drop_here 0 line depth h, ne_eqb (get_or line depth 0) 32 k)
+
+  -- n is 1 for a space (past the end 0 is read)
+  pub content_told : depth ≤ length line → (n : ℕ) → n ≡ bool_byte (eqb (get_or line depth 0) 32) → (content_of line ≡ drop (depth + n) line) × (depth ≤ depth + n) × (depth + n ≤ length line)
+  content_told h n told = go (ltb depth (length line)) refl (eqb (get_or line depth 0) 32) refl
+    where
+      go : (t : Bool) → ltb depth (length line) ≡ t → (u : Bool) → eqb (get_or line depth 0) 32 ≡ u → (content_of line ≡ drop (depth + n) line) × (depth ≤ depth + n) × (depth + n ≤ length line)
+      go true l true q = let one : n ≡ 1 = told ∙ rw q in rw one (content_stuffed (ltb-true _ _ l) (eqb-true _ 32 q), omega arith, omega (arith, ltb-true _ _ l))
+      go true l false q = let z : n ≡ 0 = told ∙ rw q in let none : depth + n ≡ depth = omega arith in rw none (content_bare (ltb-true _ _ l) (eqb-false _ 32 q), omega arith, h)
+      go false l true q = absurd (omega (arith, eqb-true _ 32 q, get_or-eq_default line 0 {n = depth} (ltb-false _ _ l)))
+      go false l false q = let z : n ≡ 0 = told ∙ rw q in let none : depth + n ≡ depth = omega arith in rw none (content_none (omega (arith, ltb-false _ _ l)), omega arith, h)
 
   pub separator_whole : depth ≡ 0 → is_dashes line ≡ is_separator line
   unfolding is_separator
@@ -65,41 +78,33 @@ module _ (line : List ℕ) (depth : ℕ) (e : depth ≡ quote_depth line) where
   unfolding is_separator
   separator_quoted h start c = rw (← e, ne_eqb depth 0 h, c)
 
--- ---- the byte at the end
+-- ---- what stuffing looks at: past the end 0 is read
 
-pub ends_none : (s : List ℕ) → length s ≡ 0 → ends_in_space s ≡ false
-unfolding ends_in_space
-ends_none [] h = refl
-ends_none (x ∷ s) h = absurd (omega arith)
+pub stuffing_told : (c : List ℕ) (n : ℕ) → n ≡ bool_byte ((eqb (get_or c 0 0) 32 || eqb (get_or c 0 0) 62) || begins from_word c) → (replicate {A = ℕ} n 32 ≡ stuffing c) × (n ≤ 1)
+unfolding stuffing needs_space begins from_word
+stuffing_told [] n told = rw told (refl, omega arith)
+stuffing_told (x ∷ c) n told = rw told (go (eqb x 32) (eqb x 62) (begins from_word (x ∷ c)))
+  where
+    go : (t u v : Bool) → (replicate {A = ℕ} (bool_byte ((t || u) || v)) 32 ≡ cond (t || u || v) (32 ∷ []) []) × (bool_byte ((t || u) || v) ≤ 1)
+    go true u v = (refl, omega arith)
+    go false true v = (refl, omega arith)
+    go false false true = (refl, omega arith)
+    go false false false = (refl, omega arith)
 
--- ---- what stuffing looks at
+-- ---- the signature separator
 
-pub needs_none : (c : List ℕ) → length c ≡ 0 → stuffing c ≡ []
-unfolding stuffing needs_space
-needs_none [] h = refl
-needs_none (x ∷ c) h = absurd (omega arith)
+pub dashes_told : (s : List ℕ) → pointwise eqb s dashes ≡ is_dashes s
+unfolding is_dashes begins
+dashes_told s = go (pointwise eqb s dashes) refl (begins dashes s && eqb (length s) 3) refl
+  where
+    is : begins dashes s ≡ true → length s ≡ 3 → s ≡ dashes
+    is b l = begins_front dashes s b ∙ ap (λ (r : List ℕ). dashes ++ r) (drop_of_length-le s {i = 3} (omega arith))
 
-pub needs_space_law : (c : List ℕ) → (length c ≡ 0 → ⊥) → get_or c 0 0 ≡ 32 → stuffing c ≡ 32 ∷ []
-unfolding stuffing needs_space
-needs_space_law [] n h = absurd (n refl)
-needs_space_law (x ∷ c) n h = rw (eq-eqb x 32 h)
-
-pub needs_mark : (c : List ℕ) → (length c ≡ 0 → ⊥) → get_or c 0 0 ≡ 62 → stuffing c ≡ 32 ∷ []
-unfolding stuffing needs_space
-needs_mark [] n h = absurd (n refl)
-needs_mark (x ∷ c) n h = rw h
-
-by_from : (c : List ℕ) → (length c ≡ 0 → ⊥) → (get_or c 0 0 ≡ 32 → ⊥) → (get_or c 0 0 ≡ 62 → ⊥) → stuffing c ≡ cond (begins from_word c) (space ∷ []) []
-unfolding stuffing needs_space
-by_from [] n h k = absurd (n refl)
-by_from (x ∷ c) n h k = rw (ne_eqb x 32 h, ne_eqb x 62 k)
-
-module _ (c : List ℕ) (n : length c ≡ 0 → ⊥) (h : get_or c 0 0 ≡ 32 → ⊥) (k : get_or c 0 0 ≡ 62 → ⊥) where
-  pub needs_from : begins from_word c ≡ true → stuffing c ≡ 32 ∷ []
-  needs_from b = by_from c n h k ∙ rw b
-
-  pub needs_not : begins from_word c ≡ false → stuffing c ≡ []
-  needs_not b = by_from c n h k ∙ rw b
+    go : (t : Bool) → pointwise eqb s dashes ≡ t → (u : Bool) → begins dashes s && eqb (length s) 3 ≡ u → t ≡ u
+    go true p true q = refl
+    go false p false q = refl
+    go true p false q = sym (ap is_dashes ((bytes_decides s dashes).0 p)) ∙ q
+    go false p true q = let a = (and-eq-true_iff (begins dashes s) (eqb (length s) 3)).0 q in sym p ∙ (bytes_decides s dashes).1 (is a.0 (eqb-true _ 3 a.1))
 
 -- ---- a text that ends in a space needs stuffing or not, whatever is after it
 

@@ -1,47 +1,20 @@
 -- What the writers of a line have written, put together.
-use mathlib.Core.Path.{◌≡◌, refl, sym, ap, ◌∙◌}
+use mathlib.Core.Path.{◌≡◌, sym, ap, ◌∙◌}
 use mathlib.Core.Bool.{Bool, true, false, not, ◌&&◌}
-use mathlib.Core.List.{List, [], ◌∷◌}
+use mathlib.Core.List.{List}
 use Prim.Native.Nat.{ℕ, ◌+◌, ◌-◌, ◌≤◌}
 use native.Mathlib.Omega.{arith}
 use lib.Dec.{eqb}
-use lib.ListN.{length, take, drop, set, replicate, length-replicate, length-drop, length-take}
+use lib.ListN.{length, take, drop, replicate, length-replicate, length-drop, length-take}
 use lib.Seq.{slice}
-use borrow.Author.Tests.{not-true, not-false}
 use Rattle.lists.proofs.Fronts.{part_to_end}
-use Rattle.output.specs.Cited.Sink.{paint, written, Wrote}
-use Rattle.output.proofs.Sink.{written_past, wrote_nil, wrote_then}
-use Rattle.unflow.specs.Flowed.{cr_lf, stuffing, content_of}
+use Rattle.output.specs.Cited.Sink.{Wrote}
+use Rattle.output.proofs.Sink.{wrote_nil, wrote_then}
+use Rattle.unflow.specs.Flowed.{stuffing, content_of}
 use Rattle.unflow.specs.Cited.Steps.{Parted, joins, end_of, start_of, placed}
 use Rattle.unflow.specs.declared.Line.{Line}
 use Rattle.unflow.proofs.Lines.{slice_all}
 use Rattle.unflow.proofs.Texts.{end_most, start_most}
-
--- ---- carriage return and line feed, as far as they fit
-
-end_is : (b : Bool) → not b ≡ false → end_of b ≡ cr_lf
-unfolding end_of
-end_is b h = rw (not-false b h)
-
-pub end_not : (b : Bool) (o : List ℕ) → not b ≡ true → Wrote o 0 (end_of b) o 0
-unfolding end_of
-end_not b o h = rw (not-true b h) (wrote_nil o 0)
-
-pub end_none : (b : Bool) (o : List ℕ) → not b ≡ false → length o ≡ 0 → Wrote o 0 (end_of b) o 2
-end_none b o h e = rw (end_is b h) (record { count = refl; bytes = sym (written_past 0 o cr_lf (omega arith)) })
-
-pub end_one : (b : Bool) (o : List ℕ) → not b ≡ false → length o ≡ 1 → Wrote o 0 (end_of b) (set o 0 13) 2
-unfolding written paint
-end_one b [] h e = absurd (omega arith)
-end_one b (x ∷ []) h e = rw (end_is b h) (record { count = refl; bytes = refl })
-end_one b (x ∷ y ∷ o) h e = absurd (omega arith)
-
-pub end_both : (b : Bool) (o : List ℕ) → not b ≡ false → (length o ≡ 0 → ⊥) → (length o ≡ 1 → ⊥) → Wrote o 0 (end_of b) (set (set o 0 13) 1 10) 2
-unfolding written paint
-end_both b [] h n m = absurd (n refl)
-end_both b (x ∷ []) h n m = absurd (m refl)
-end_both b (x ∷ y ∷ []) h n m = rw (end_is b h) (record { count = refl; bytes = refl })
-end_both b (x ∷ y ∷ z ∷ o) h n m = rw (end_is b h) (record { count = refl; bytes = refl })
 
 -- ---- before a line's content, and all of it
 

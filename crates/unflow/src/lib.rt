@@ -59,7 +59,7 @@ fn put_paragraphs(text: &[u8], out: &mut [u8]) -> usize
     ensures { Wrote out.old 0 (unflowed text.now) out.new result × (result ≤ 4 * length text.now) }
 {
     let mut at = 0;
-    let mut k = 0;
+    let mut k: usize = 0;
     let mut going = false;
     let mut depth = 0;
     while at < text.len() {
@@ -96,7 +96,12 @@ fn take_apart(line: &[u8]) -> Line
 fn marks_end(line: &[u8]) -> usize
     ensures { (result ≡ quote_depth line.now) × (result ≤ length line.now) }
 {
-    line.iter().take_while(|b| **b == b'>').count()
+    for i in 0..line.len() {
+        if line[i] != b'>' {
+            return i;
+        }
+    }
+    line.len()
 }
 
 // The place after a space that stands there.
@@ -104,7 +109,7 @@ fn content_start(line: &[u8], depth: usize) -> usize
     requires { (depth ≡ quote_depth line.now) × (depth ≤ length line.now) }
     ensures { (content_of line.now ≡ drop result line.now) × (depth ≤ result) × (result ≤ length line.now) }
 {
-    depth + usize::from(line[depth..].starts_with(b" "))
+    depth + usize::from(line.get(depth).copied().unwrap_or(0) == b' ')
 }
 
 // The signature separator: without quote marks only as the whole line, after them with stuffing too.

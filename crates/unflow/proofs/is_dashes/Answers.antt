@@ -1,11 +1,7 @@
--- `unflow::is_dashes` meets its contract: the tests are the definition's.
-use mathlib.Core.Bool.{Bool, ◌&&◌}
-use mathlib.Core.Path.{ap}
-use lib.Dec.{eqb}
-use lib.ListN.{length}
-use Rattle.unflow.specs.Flowed.{is_dashes}
+-- `unflow::is_dashes` meets its contract.
+use mathlib.Core.Path.{◌∙◌}
+use Rattle.unflow.proofs.Lines.{dashes_told}
 use Rattle.unflow.proofs.is_dashes.Goals as goal
 
 pub returns : goal.returns
-unfolding is_dashes
-returns c = ap (λ (b : Bool). b && eqb (length c.args.s.now) 3) c.begins.ensures
+returns c = rw c.as_slice.ensures at c.eq.ensures ∙ dashes_told c.args.s.now

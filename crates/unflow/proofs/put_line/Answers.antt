@@ -14,5 +14,5 @@ overflow_add-result c = omega (arith, wrote_start c.args.line.now c.args.l c.arg
 pub returns : goal.returns
 returns c =
     line_placed _ _ _ _ c.requires.0 c.put_start-k.ensures
-    (wrote_part _ _ _ _ _ _ c.lesser-place.ensures c.put_text.ensures)
-    (wrote_part _ _ _ _ _ _ c.lesser-behind.ensures c.put_end.ensures)
+    (wrote_part _ _ _ _ _ _ c.min-place.ensures c.put_text.ensures)
+    (wrote_part _ _ _ _ _ _ c.min-behind.ensures c.put_end.ensures)

@@ -1,4 +1,7 @@
 -- `unflow::put_paragraphs` meets its contract. Invariant: what is left to be written behind what is written gives the whole.
+use mathlib.Core.Path.{◌≡◌}
+use Prim.Native.Nat.{min}
+use lib.ListN.{length}
 use native.Mathlib.Omega.{arith}
 use Rattle.lines.proofs.Lines.{LineHere, line_lent}
 use Rattle.output.proofs.Sink.{wrote_part}
@@ -36,7 +39,10 @@ loop-at-smaller c =
 pub loop-at-preserved : goal.loop-at-preserved
 loop-at-preserved c =
     let here : LineHere c.args.text.now c.loop-at.at c.first_line-extent.result = line_lent _ _ _ c.loop-at-test.true c.first_line-extent.ensures in
-    turning_line c.loop-at.invariant here c.take_apart-l.ensures (wrote_part _ _ _ _ _ _ c.lesser-place.ensures c.put_line-k.ensures)
+    let place : c.min-place.result ≡ min c.loop-at.k (length c.loop-at.out) = c.min-place.ensures in
+    turning_line c.loop-at.invariant here c.take_apart-l.ensures (wrote_part _ _ _ _ _ _ place c.put_line-k.ensures)
 
 pub returns : goal.returns
-returns c = turning_last c.loop-at.invariant c.loop-at-test.false (wrote_part _ _ _ _ _ _ c.lesser-place-2.ensures c.put_end.ensures)
+returns c =
+    let place : c.min-place-2.result ≡ min c.loop-at.k (length c.loop-at.out) = c.min-place-2.ensures in
+    turning_last c.loop-at.invariant c.loop-at-test.false (wrote_part _ _ _ _ _ _ place c.put_end.ensures)

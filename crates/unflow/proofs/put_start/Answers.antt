@@ -17,6 +17,6 @@ overflow_add-result c =
 pub returns : goal.returns
 returns c =
     start_apart _ _ _ _ c.requires.0 c.stuffing_of.result c.if-going-depth.false c.put_end-k.ensures
-    (wrote_part _ _ _ _ _ _ c.lesser-place.ensures c.put_text.ensures)
+    (wrote_part _ _ _ _ _ _ c.min-place.ensures c.put_text.ensures)
     c.stuffing_of.ensures.0
-    (wrote_part _ _ _ _ _ _ c.lesser-behind.ensures c.put_added.ensures)
+    (wrote_part _ _ _ _ _ _ c.min-behind.ensures c.put_added.ensures)
