@@ -65,7 +65,7 @@ fn put_lines(text: &[u8], tab: usize, columns: usize, out: &mut [u8]) -> usize
     ensures { Wrote out.old 0 (folded tab columns text.now) out.new result × (result ≤ 2 * length text.now) }
 {
     let mut at = 0;
-    let mut k = 0;
+    let mut k: usize = 0;
     while at < text.len() {
         let extent = lines::first_line(&text[at..]);
         let end = at + extent.whole;

@@ -2,7 +2,7 @@ mod Counts
 mod Rows
 mod Signs
 mod Turns
-mod Panels
+pub mod Panels
 mod Alone
 mod Fillers
 mod Pluses

@@ -4,4 +4,4 @@ use Rattle.fold.proofs.put_fed.Goals as goal
 
 pub returns : goal.returns
 returns c =
-    wrote_then c.put_feed-k.ensures (wrote_part _ _ _ _ _ _ c.lesser-place.ensures c.put_text.ensures)
+    wrote_then c.put_feed-k.ensures (wrote_part _ _ _ _ _ _ c.min-place.ensures c.put_text.ensures)

@@ -28,7 +28,7 @@ loop-at-smaller c =
 pub loop-at-preserved : goal.loop-at-preserved
 loop-at-preserved c =
     let here : LineHere c.args.text.now c.loop-at.at c.first_line-extent.result = line_lent _ _ _ c.loop-at-test.true c.first_line-extent.ensures in
-    passing_line _ _ _ c.loop-at.invariant here c.put_line-k.ensures.1 (wrote_part _ _ _ _ _ _ c.lesser-place.ensures c.put_line-k.ensures.0)
+    passing_line _ _ _ c.loop-at.invariant here c.put_line-k.ensures.1 (wrote_part _ _ _ _ _ _ c.min-place.ensures c.put_line-k.ensures.0)
 
 pub returns : goal.returns
 returns c = passing_last _ _ _ c.loop-at.invariant c.loop-at-test.false

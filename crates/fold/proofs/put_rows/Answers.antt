@@ -5,7 +5,7 @@ use Rattle.fold.proofs.put_rows.Goals as goal
 
 pub loop-at-preserved : goal.loop-at-preserved
 loop-at-preserved c =
-    let e = c.row_end-end.ensures in turning_row _ _ _ c.loop-at.invariant c.loop-at-test.true e.0 (e.2 c.loop-at-test.true) e.1 (wrote_part _ _ _ _ _ _ c.lesser-place.ensures c.put_fed-k.ensures)
+    let e = c.row_end-end.ensures in turning_row _ _ _ c.loop-at.invariant c.loop-at-test.true e.0 (e.2 c.loop-at-test.true) e.1 (wrote_part _ _ _ _ _ _ c.min-place.ensures c.put_fed-k.ensures)
 
 pub returns : goal.returns
 returns c =
