@@ -1,5 +1,5 @@
 -- The words of a table, matched one after the other.
-use Rattle.std.proofs.Common.{Ok, Err}
+use Rattle.std.proofs.Common.{Result, Ok, Err}
 use mathlib.Core.Path.{◌≡◌, sym, ap, ◌∙◌}
 use mathlib.Core.Bool.{Bool}
 use mathlib.Core.List.{List, ◌++◌}
@@ -13,7 +13,7 @@ use Rattle.records.proofs.Table.{words_drop, words_end}
 use Rattle.checker.specs.Matching.{Match, and_then, match_text, match_feed, match_next, match_rest, match_words}
 use Rattle.checker.specs.Cited.Places.{SpotIn, Matches}
 use Rattle.checker.specs.declared.Spot.{Spot}
-use Rattle.checker.specs.declared.Matched.{Matched}
+use Rattle.checker.specs.declared.Fault.{Fault}
 use Rattle.checker.proofs.Spots.{on_in, on_is, then_fault, then_on, matches_same, part_slice}
 
 -- a word of the table lies in the notes
@@ -37,8 +37,8 @@ module _ (glue : Bool) (indent notes table : List ℕ) (n : ℕ) (digest : List 
   rest_next i p w g h k = rw (words_drop notes n table i h, ← g.is, ← part_slice w.start w.end notes k)
 
   module _ (from : Spot) (i : ℕ) (p : Spot) (l : RestLeft from i p) where
-    module _ (w : Record) (g : Got table i w) (h : i < n) (k : w.start ≤ w.end) {r : Matched} (a : Matches digest (match_next glue indent (take (w.end - w.start) (drop w.start notes)) (drop p.at digest) p.line) r) where
-      pub rest_fault : {line : ℕ} → r ≡ Err (record { line = line }) → Matches digest (rest_from 1 from) (Err (record { line = line }))
+    module _ (w : Record) (g : Got table i w) (h : i < n) (k : w.start ≤ w.end) {r : Result Spot Fault} (a : Matches digest (match_next glue indent (take (w.end - w.start) (drop w.start notes)) (drop p.at digest) p.line) r) where
+      pub rest_fault : {f : Fault} → r ≡ Err f → Matches digest (rest_from 1 from) (Err f)
       rest_fault e = matches_same (sym (rest_next i p w g h k) ∙ l.is) (then_fault a (match_rest glue indent (drop (i + 1) (words_in notes n table))) e)
 
       pub rest_more : {q : Spot} → r ≡ Ok q → RestLeft from (i + 1) q
@@ -49,7 +49,7 @@ module _ (glue : Bool) (indent notes table : List ℕ) (n : ℕ) (digest : List 
         few = omega arith;
       }
 
-    pub rest_last : n ≤ i → {r : Matched} → Matches digest (match_feed (drop p.at digest) p.line) r → Matches digest (rest_from 1 from) r
+    pub rest_last : n ≤ i → {r : Result Spot Fault} → Matches digest (match_feed (drop p.at digest) p.line) r → Matches digest (rest_from 1 from) r
     unfolding match_rest
     rest_last h m = matches_same (sym (ap (λ ws. match_rest glue indent ws (drop p.at digest) p.line) (words_end notes n table i h)) ∙ l.is) m
 
@@ -59,9 +59,9 @@ module _ (glue : Bool) (indent notes table : List ℕ) (n : ℕ) (digest : List 
   unfolding match_words meaning
   words_first first p w g h k = rw (words_drop notes n table 0 h, ← g.is, ← part_slice w.start w.end notes k)
 
-  module _ (first : List ℕ) (p : Spot) (w : Record) (g : Got table 0 w) (h : 0 < n) (k : w.start ≤ w.end) {r : Matched} (a : Matches digest (match_text (first ++ take (w.end - w.start) (drop w.start notes)) (drop p.at digest) p.line) r) where
-    pub words_fault : {line : ℕ} → r ≡ Err (record { line = line }) → Matches digest (match_words glue first indent (words_in notes n table) (drop p.at digest) p.line) (Err (record { line = line }))
+  module _ (first : List ℕ) (p : Spot) (w : Record) (g : Got table 0 w) (h : 0 < n) (k : w.start ≤ w.end) {r : Result Spot Fault} (a : Matches digest (match_text (first ++ take (w.end - w.start) (drop w.start notes)) (drop p.at digest) p.line) r) where
+    pub words_fault : {f : Fault} → r ≡ Err f → Matches digest (match_words glue first indent (words_in notes n table) (drop p.at digest) p.line) (Err f)
     words_fault e = matches_same (sym (words_first first p w g h k)) (then_fault a (match_rest glue indent (drop 1 (words_in notes n table))) e)
 
-    pub words_rest : {q : Spot} {r' : Matched} → r ≡ Ok q → Matches digest (rest_from 1 q) r' → Matches digest (match_words glue first indent (words_in notes n table) (drop p.at digest) p.line) r'
+    pub words_rest : {q : Spot} {r' : Result Spot Fault} → r ≡ Ok q → Matches digest (rest_from 1 q) r' → Matches digest (match_words glue first indent (words_in notes n table) (drop p.at digest) p.line) r'
     words_rest e b = matches_same (sym (words_first first p w g h k)) (then_on a (match_rest glue indent (drop 1 (words_in notes n table))) e b)

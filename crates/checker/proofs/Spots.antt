@@ -1,15 +1,16 @@
 -- Matching by places: what a step of the code comes to in the digest from a place on.
-use Rattle.std.proofs.Common.{Ok, Err}
+use Rattle.std.proofs.Common.{Result, Ok, Err}
+use Rattle.std.specs.List.{starts_with}
 use mathlib.Core.Path.{◌≡◌, refl, sym, ap, ◌∙◌}
 use mathlib.Core.Bool.{Bool, true, false, cond, ◌&&◌}
 use mathlib.Core.List.{List, [], ◌∷◌, ◌++◌}
 use Prim.Native.Nat.{ℕ, suc, ◌+◌, ◌-◌, ◌≤◌, ◌<◌}
 use native.Mathlib.Omega.{arith}
-use lib.Dec.{eqb}
+use lib.Dec.{eqb, ltb}
 use lib.ListN.{length, get_or, take, drop, length-drop, length-append}
 use lib.Seq.{slice, drop-drop}
 use Rattle.lists.proofs.Slices.{slice_is}
-use borrow.Author.Tests.{ne_eqb, lt-ltb, le-ltb, le-leb, lt-leb}
+use borrow.Author.Tests.{ne_eqb, lt-ltb, ltb-true, ltb-false, le-ltb, le-leb, lt-leb}
 use Rattle.lists.specs.Runs.{begins}
 use Rattle.lists.proofs.RunsAt.{begins_within}
 use Rattle.lists.proofs.Views.{drop_here, drop_none}
@@ -19,16 +20,16 @@ use Rattle.output.specs.Emission.{line_feed}
 use Rattle.checker.specs.Matching.{Match, on, fault, and_then, match_text, match_feed, spaces, parting, lead, match_spaced, match_next}
 use Rattle.checker.specs.Cited.Places.{SpotIn, matched, Matches, GapAt}
 use Rattle.checker.specs.declared.Spot.{Spot}
-use Rattle.checker.specs.declared.Matched.{Matched}
+use Rattle.checker.specs.declared.Fault.{Fault}
 use Rattle.checker.specs.declared.Gap.{Gap}
 
 -- ---- one after the other
 
-module _ {digest : List ℕ} {m : Match} {r : Matched} (a : Matches digest m r) where
-  pub fault_is : {line : ℕ} → r ≡ Err (record { line = line }) → m ≡ fault line
+module _ {digest : List ℕ} {m : Match} {r : Result Spot Fault} (a : Matches digest m r) where
+  pub fault_is : {f : Fault} → r ≡ Err f → m ≡ fault f.line
   fault_is e = sym a.is ∙ ap (matched digest) e
 
-  pub fault_line : {line : ℕ} → r ≡ Err (record { line = line }) → line ≤ length digest
+  pub fault_line : {f : Fault} → r ≡ Err f → f.line ≤ length digest
   fault_line e = rw e at a.inside
 
   pub on_is : {q : Spot} → r ≡ Ok q → m ≡ on (drop q.at digest) q.line
@@ -37,13 +38,13 @@ module _ {digest : List ℕ} {m : Match} {r : Matched} (a : Matches digest m r) 
   pub on_in : {q : Spot} → r ≡ Ok q → SpotIn digest q
   on_in e = rw e at a.inside
 
-  pub then_fault : (f : List ℕ → ℕ → Match) {line : ℕ} → r ≡ Err (record { line = line }) → Matches digest (and_then m f) (Err (record { line = line }))
+  pub then_fault : (f : List ℕ → ℕ → Match) {k : Fault} → r ≡ Err k → Matches digest (and_then m f) (Err k)
   then_fault f e = record { is = sym (ap (λ (x : Match). and_then x f) (fault_is e)); inside = fault_line e }
 
-  pub then_on : (f : List ℕ → ℕ → Match) {q : Spot} {r' : Matched} → r ≡ Ok q → Matches digest (f (drop q.at digest) q.line) r' → Matches digest (and_then m f) r'
+  pub then_on : (f : List ℕ → ℕ → Match) {q : Spot} {r' : Result Spot Fault} → r ≡ Ok q → Matches digest (f (drop q.at digest) q.line) r' → Matches digest (and_then m f) r'
   then_on f e b = record { is = b.is ∙ sym (ap (λ (x : Match). and_then x f) (on_is e)); inside = b.inside }
 
-pub matches_same : {digest : List ℕ} {m m' : Match} {r : Matched} → m ≡ m' → Matches digest m r → Matches digest m' r
+pub matches_same : {digest : List ℕ} {m m' : Match} {r : Result Spot Fault} → m ≡ m' → Matches digest m r → Matches digest m' r
 matches_same e a = record { is = a.is ∙ e; inside = a.inside }
 
 -- ---- bytes that have to stand there
@@ -80,30 +81,30 @@ text_append a b xs n = go (begins a xs) refl
     go true e = rw (e, begins_parts a b xs, e, drop-drop (length b) (length a) xs, length-append a b)
     go false e = rw (e, begins_parts a b xs, e)
 
-module _ (a b digest : List ℕ) (p : Spot) {r : Matched} (m : Matches digest (match_text a (drop p.at digest) p.line) r) where
-  pub append_fault : {line : ℕ} → r ≡ Err (record { line = line }) → Matches digest (match_text (a ++ b) (drop p.at digest) p.line) (Err (record { line = line }))
+module _ (a b digest : List ℕ) (p : Spot) {r : Result Spot Fault} (m : Matches digest (match_text a (drop p.at digest) p.line) r) where
+  pub append_fault : {f : Fault} → r ≡ Err f → Matches digest (match_text (a ++ b) (drop p.at digest) p.line) (Err f)
   append_fault e = matches_same (text_append a b (drop p.at digest) p.line) (then_fault m (match_text b) e)
 
-  pub append_on : {q : Spot} {r' : Matched} → r ≡ Ok q → Matches digest (match_text b (drop q.at digest) q.line) r' → Matches digest (match_text (a ++ b) (drop p.at digest) p.line) r'
+  pub append_on : {q : Spot} {r' : Result Spot Fault} → r ≡ Ok q → Matches digest (match_text b (drop q.at digest) q.line) r' → Matches digest (match_text (a ++ b) (drop p.at digest) p.line) r'
   append_on e n = matches_same (text_append a b (drop p.at digest) p.line) (then_on m (match_text b) e n)
 
 -- what the code lends of the notes
 pub part_slice : (a b : ℕ) (s : List ℕ) → a ≤ b → take (b - a) (drop a s) ≡ slice a b s
 part_slice a b s h = let z : a + (b - a) ≡ b = omega arith in sym (slice_is a (b - a) s) ∙ ap (λ (i : ℕ). slice a i s) z
 
-pub part_text : (a b : ℕ) (s digest : List ℕ) (p : Spot) {r : Matched} → a ≤ b → Matches digest (match_text (take (b - a) (drop a s)) (drop p.at digest) p.line) r → Matches digest (match_text (slice a b s) (drop p.at digest) p.line) r
+pub part_text : (a b : ℕ) (s digest : List ℕ) (p : Spot) {r : Result Spot Fault} → a ≤ b → Matches digest (match_text (take (b - a) (drop a s)) (drop p.at digest) p.line) r → Matches digest (match_text (slice a b s) (drop p.at digest) p.line) r
 part_text a b s digest p h m = matches_same (ap (λ (t : List ℕ). match_text t (drop p.at digest) p.line) (part_slice a b s h)) m
 
 -- ---- a line feed
 
 module _ (digest : List ℕ) (p : Spot) (s : SpotIn digest p) where
-  pub feed_past : length digest ≤ p.at → Matches digest (match_feed (drop p.at digest) p.line) (Err (record { line = p.line }))
+  pub feed_off : (p.at < length digest → get_or digest p.at 0 ≡ 10 → ⊥) → Matches digest (match_feed (drop p.at digest) p.line) (Err (record { line = p.line }))
   unfolding match_feed begins
-  feed_past h = record { is = rw (drop_none 0 digest p.at h); inside = omega (arith, s.within, s.line) }
-
-  pub feed_other : p.at < length digest → (get_or digest p.at 0 ≡ 10 → ⊥) → Matches digest (match_feed (drop p.at digest) p.line) (Err (record { line = p.line }))
-  unfolding match_feed begins
-  feed_other h k = record { is = rw (drop_here 0 digest p.at h, ne_eqb 10 (get_or digest p.at 0) (λ e. k (sym e)), begins); inside = omega (arith, s.within, s.line) }
+  feed_off k = go (ltb p.at (length digest)) refl
+    where
+      go : (t : Bool) → ltb p.at (length digest) ≡ t → Matches digest (match_feed (drop p.at digest) p.line) (Err (record { line = p.line }))
+      go true e = let h = ltb-true _ _ e in record { is = rw (drop_here 0 digest p.at h, ne_eqb 10 (get_or digest p.at 0) (λ e. k h (sym e)), begins); inside = omega (arith, s.within, s.line) }
+      go false e = record { is = rw (drop_none 0 digest p.at (ltb-false _ _ e)); inside = omega (arith, s.within, s.line) }
 
   pub feed_on : p.at < length digest → get_or digest p.at 0 ≡ 10 → Matches digest (match_feed (drop p.at digest) p.line) (Ok (record { at = p.at + 1; line = p.line + 1 }))
   unfolding match_feed begins
@@ -127,7 +128,7 @@ module _ (glue : Bool) (w digest : List ℕ) (p : Spot) (s : SpotIn digest p) (g
       inside = omega (arith, s.within, s.line);
     }
 
-    pub spaced_text : own ≤ g.end - g.hard → {r : Matched} → Matches digest (match_text w (drop (g.end - own) digest) p.line) r → Matches digest (match_spaced glue w (drop p.at digest) p.line) r
+    pub spaced_text : own ≤ g.end - g.hard → {r : Result Spot Fault} → Matches digest (match_text w (drop (g.end - own) digest) p.line) r → Matches digest (match_spaced glue w (drop p.at digest) p.line) r
     unfolding match_spaced
     spaced_text k m =
         let z : g.end - own ≡ p.at + (extent (spaces (drop p.at digest)) - lead w) = omega (arith, a.hard, a.end, a.order) in
@@ -136,8 +137,8 @@ module _ (glue : Bool) (w digest : List ℕ) (p : Spot) (s : SpotIn digest p) (g
 
 -- ---- the next word
 
-module _ (glue : Bool) (indent w digest : List ℕ) (p : Spot) {r : Matched} (a : Matches digest (match_feed (drop p.at digest) p.line) r) where
-  pub next_fresh : {q : Spot} {r' : Matched} → r ≡ Ok q → Matches digest (match_text (indent ++ w) (drop q.at digest) q.line) r' → Matches digest (match_next glue indent w (drop p.at digest) p.line) r'
+module _ (glue : Bool) (indent w digest : List ℕ) (p : Spot) {r : Result Spot Fault} (a : Matches digest (match_feed (drop p.at digest) p.line) r) where
+  pub next_fresh : {q : Spot} {r' : Result Spot Fault} → r ≡ Ok q → Matches digest (match_text (indent ++ w) (drop q.at digest) q.line) r' → Matches digest (match_next glue indent w (drop p.at digest) p.line) r'
   unfolding match_next match_feed
   next_fresh {q} {r'} e b = go (begins line_feed (drop p.at digest)) refl (on_is a e)
     where
@@ -146,15 +147,26 @@ module _ (glue : Bool) (indent w digest : List ℕ) (p : Spot) {r : Matched} (a 
       go true t k = matches_same (rw t (sym (ap (λ (m : Match). and_then m (match_text (indent ++ w))) (rw t at k)))) b
       go false t k = absurd (let q : fault p.line ≡ on (drop q.at digest) q.line = rw t at k in let z : ◌≡◌ {A = ℕ} 0 1 = cc in omega arith)
 
-  pub next_spaced : {line : ℕ} {r' : Matched} → r ≡ Err (record { line = line }) → Matches digest (match_spaced glue w (drop p.at digest) p.line) r' → Matches digest (match_next glue indent w (drop p.at digest) p.line) r'
+  pub next_spaced : {f : Fault} {r' : Result Spot Fault} → r ≡ Err f → Matches digest (match_spaced glue w (drop p.at digest) p.line) r' → Matches digest (match_next glue indent w (drop p.at digest) p.line) r'
   unfolding match_next match_feed
-  next_spaced {line} {r'} e b = go (begins line_feed (drop p.at digest)) refl (fault_is a e)
+  next_spaced {f} {r'} e b = go (begins line_feed (drop p.at digest)) refl (fault_is a e)
     where
-      go : (t : Bool) → begins line_feed (drop p.at digest) ≡ t → cond (begins line_feed (drop p.at digest)) (on (drop 1 (drop p.at digest)) (suc p.line)) (fault p.line) ≡ fault line
+      go : (t : Bool) → begins line_feed (drop p.at digest) ≡ t → cond (begins line_feed (drop p.at digest)) (on (drop 1 (drop p.at digest)) (suc p.line)) (fault p.line) ≡ fault f.line
           → Matches digest (match_next glue indent w (drop p.at digest) p.line) r'
-      go true t k = absurd (let q : on (drop 1 (drop p.at digest)) (suc p.line) ≡ fault line = rw t at k in let z : ◌≡◌ {A = ℕ} 0 1 = cc in omega arith)
+      go true t k = absurd (let q : on (drop 1 (drop p.at digest)) (suc p.line) ≡ fault f.line = rw t at k in let z : ◌≡◌ {A = ℕ} 0 1 = cc in omega arith)
       go false t k = matches_same (rw t) b
 
+-- what std's `starts_with` says
+starts_begins : (p s : List ℕ) → starts_with eqb s p ≡ begins p s
+unfolding begins
+starts_begins [] s = refl
+starts_begins (x ∷ p) [] = refl
+starts_begins (x ∷ p) (y ∷ s) = go (eqb x y) (starts_begins p s)
+  where
+    go : (t : Bool) → starts_with eqb s p ≡ begins p s → (t && starts_with eqb s p) ≡ elim t [ true ↦ begins p s | false ↦ false ]
+    go true e = e
+    go false e = refl
+
 -- what the code lends of a digest is all of it from a place on
-pub part_begins : (text s : List ℕ) (at : ℕ) (b : Bool) → begins text (take (length s - at) (drop at s)) ≡ b → begins text (drop at s) ≡ b
-part_begins text s at b e = ap (begins text) (sym (rest_is s at)) ∙ e
+pub part_begins : (text s : List ℕ) (at : ℕ) {r b : Bool} → r ≡ starts_with eqb (take (length s - at) (drop at s)) text → r ≡ b → begins text (drop at s) ≡ b
+part_begins text s at e k = ap (begins text) (sym (rest_is s at)) ∙ sym (starts_begins text (take (length s - at) (drop at s))) ∙ sym e ∙ k

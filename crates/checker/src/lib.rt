@@ -195,7 +195,7 @@ fn match_feed(digest: &[u8], p: Spot) -> Result<Spot, Fault>
     requires { SpotIn digest.now p }
     ensures { Matches digest.now (match_feed (drop p.at digest.now) p.line) result }
 {
-    if digest.get(p.at).copied() == Some(10) {
+    if digest.get(p.at) == Some(&10) {
         Ok(Spot {
             at: p.at + 1,
             line: p.line + 1,
@@ -210,7 +210,7 @@ fn match_text(text: &[u8], digest: &[u8], p: Spot) -> Result<Spot, Fault>
     requires { SpotIn digest.now p }
     ensures { Matches digest.now (match_text text.now (drop p.at digest.now) p.line) result }
 {
-    if lines::begins(text, &digest[p.at..]) {
+    if digest[p.at..].starts_with(text) {
         Ok(Spot {
             at: p.at + text.len(),
             ..p

@@ -1,9 +1,10 @@
 -- `checker::match_behind` meets its contract.
+use Rattle.std.proofs.Common.{rules}
 use Rattle.checker.proofs.Spots.{append_fault, append_on}
 use Rattle.checker.proofs.match_behind.Goals as goal
 
-pub returns-in-Fault : goal.returns-in-Fault
-returns-in-Fault c = append_fault _ _ _ c.args.p c.match_margin.ensures c.in-Fault.is
+pub returns-in_err-q : goal.returns-in_err-q
+returns-in_err-q c = search (rules, append_fault _ c.args.word.now _ c.args.p c.match_margin.ensures c.in_err-q.was)
 
-pub returns-in-On : goal.returns-in-On
-returns-in-On c = append_on _ _ _ c.args.p c.match_margin.ensures c.in-On.is c.match_text.ensures
+pub returns : goal.returns
+returns c = append_on _ _ _ c.args.p c.match_margin.ensures c.in_ok-q.was c.match_text.ensures

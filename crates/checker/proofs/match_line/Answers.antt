@@ -1,12 +1,13 @@
 -- `checker::match_line` meets its contract.
+use Rattle.std.proofs.Common.{rules}
 use Rattle.checker.specs.Matching.{match_feed, match_line}
 use Rattle.checker.proofs.Spots.{then_fault, then_on}
 use Rattle.checker.proofs.match_line.Goals as goal
 
-pub returns-in-Fault : goal.returns-in-Fault
+pub returns-in_err-q : goal.returns-in_err-q
 unfolding match_line
-returns-in-Fault c = then_fault c.match_text.ensures match_feed c.in-Fault.is
+returns-in_err-q c = search (rules, then_fault c.match_text.ensures match_feed c.in_err-q.was)
 
-pub returns-in-On : goal.returns-in-On
+pub returns : goal.returns
 unfolding match_line
-returns-in-On c = then_on c.match_text.ensures match_feed c.in-On.is c.match_feed.ensures
+returns c = then_on c.match_text.ensures match_feed c.in_ok-q.was c.match_feed.ensures
