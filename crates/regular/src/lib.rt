@@ -18,9 +18,12 @@ ghost use Rattle.output.specs.Emission.{line_feed};
 ghost use Rattle.output.specs.Cited.Sink.{Wrote};
 ghost use Rattle.output.specs.Cited.Writers.{margin_of, MarginIn};
 ghost use Rattle.regular.specs.Cited.Regular.{column_of, is_even, evenly, fresh_punct, added};
-ghost use Rattle.regular.specs.Cited.Places.{Spaceless, LastSpace, FirstSpace, OverSpaces, BeforeSpaces, Inked, Even, columns_in, Reaches, OverIs, CutIs, Filled, Joined, EachRegular, RegularTo, SpelledTo, RowIs, Went, Stands, GapIn, WordPut, Listed, Worded, RowPut, Rowed, PutIs};
+ghost use Rattle.regular.specs.Cited.Places.{indent_of, Spaceless, LastSpace, FirstSpace, OverSpaces, BeforeSpaces, Inked, Even, columns_in, Reaches, OverIs, CutIs, Filled, Joined, EachRegular, RegularTo, SpelledTo, RowIs, Went, Stands, GapIn, WordPut, Listed, Worded, RowPut, Rowed, PutIs};
+
+mod page;
 
 use options::Options;
+use page::Page;
 use pieces::Margin;
 use records::Word;
 use spacing::Setting;
@@ -70,18 +73,6 @@ struct Waiting {
 struct Progress {
     at: usize,
     reached: Reached,
-}
-
-// The notes, the setting and the indent that a paragraph is written with: what holds of them on each of its lines is said here.
-#[derive(Clone, Copy, Debug)]
-struct Page<'a> {
-    s: &'a [u8],
-    g: Setting,
-    indent: Margin,
-    ghost short: { length s.now ≤ 2 ^ 20 },
-    ghost within: { MarginIn (length s.now) indent },
-    ghost fair: { Fair g },
-    ghost narrow: { (g.indent < 2 ^ 31) × (g.width < 2 ^ 31) },
 }
 
 // Where a line of output ends in the notes, and where the next word begins.
@@ -312,26 +303,26 @@ fn cut_line(s: &[u8], p: usize, e: usize, at: usize) -> Cut
 
 // Bytes of the notes, written after k bytes.
 fn put_at(page: Page, from: usize, to: usize, out: &mut [u8], k: usize) -> usize
-    requires { (from ≤ to) × (to ≤ length page.s.now) × (k < 2 ^ 63) }
-    ensures { Wrote out.old k (slice from to page.entry.s.now) out.new result }
+    requires { (from ≤ to) × (to ≤ length page.notes.now) × (k < 2 ^ 63) }
+    ensures { Wrote out.old k (slice from to page.entry.notes.now) out.new result }
 {
     let place = k.min(out.len());
-    k + output::put_text(page.s, from, to, &mut out[place..])
+    k + output::put_text(page.notes, from, to, &mut out[place..])
 }
 
 // A new line, after k bytes.
 fn break_at(page: Page, out: &mut [u8], k: usize) -> usize
     requires { k < 2 ^ 63 }
-    ensures { Wrote out.old k (line_feed ++ margin_of page.entry.s.now page.entry.indent) out.new result × (result ≤ k + 2 ^ 33) }
+    ensures { Wrote out.old k (line_feed ++ indent_of page.entry) out.new result × (result ≤ k + 2 ^ 33) }
 {
     let place = k.min(out.len());
-    k + output::put_break(page.s, page.indent, &mut out[place..])
+    k + output::put_break(page.notes, page.indent, &mut out[place..])
 }
 
 // A line of output after k bytes: bytes of the notes, and a new line.
 fn put_line(page: Page, from: usize, to: usize, out: &mut [u8], k: usize) -> usize
-    requires { (from ≤ to) × (to ≤ length page.s.now) × (k < 2 ^ 62 + 2 ^ 61) }
-    ensures { Wrote out.old k (slice from to page.entry.s.now ++ (line_feed ++ margin_of page.entry.s.now page.entry.indent)) out.new result × (result ≤ k + 2 ^ 34) }
+    requires { (from ≤ to) × (to ≤ length page.notes.now) × (k < 2 ^ 62 + 2 ^ 61) }
+    ensures { Wrote out.old k (slice from to page.entry.notes.now ++ (line_feed ++ indent_of page.entry)) out.new result × (result ≤ k + 2 ^ 34) }
 {
     let j = put_at(page, from, to, out, k);
     break_at(page, out, j)
@@ -347,25 +338,25 @@ fn fill(
     t: Reached,
     out: &mut [u8],
 ) -> Reached
-    requires { Inked page.s.now from e × (columns ≡ columns_in page.s.now from e) × Even page.g.uniform page.s.now from e × (t.written < 2 ^ 62 + 2 ^ 60) × (t.column < 2 ^ 61) }
-    ensures { Filled page.entry.s.now from e counts page.entry.g (margin_of page.entry.s.now page.entry.indent) t.column out.old t.written out.new result }
+    requires { Inked page.notes.now from e × (columns ≡ columns_in page.notes.now from e) × Even page.setting.uniform page.notes.now from e × (t.written < 2 ^ 62 + 2 ^ 60) × (t.column < 2 ^ 61) }
+    ensures { Filled page.entry from e counts t.column out.old t.written out.new result }
 {
     let mut p = from;
     let mut k = t.written;
     let mut column = t.column;
     let mut counting = counts;
     let mut left = columns;
-    while page.g.width < column + left {
-        let room = page.g.width.saturating_sub(column);
-        let at = place_of(page.s, p, e, left, room);
-        let cut = cut_line(page.s, p, e, at);
+    while page.setting.width < column + left {
+        let room = page.setting.width.saturating_sub(column);
+        let at = place_of(page.notes, p, e, left, room);
+        let cut = cut_line(page.notes, p, e, at);
         if cut.next == e {
             break;
         }
         k = put_line(page, p, cut.end, out, k);
-        left -= columns_before(page.s, p, e, left, at, room, cut.next);
+        left -= columns_before(page.notes, p, e, left, at, room, cut.next);
         p = cut.next;
-        column = page.g.indent;
+        column = page.setting.indent;
         counting = true;
     }
     Reached {
@@ -393,13 +384,13 @@ fn spaces_at(count: usize, out: &mut [u8], k: usize) -> usize
 
 // The next line's stretch of so many columns, after a line of output that has begun.
 fn join(page: Page, p: usize, e: usize, columns: usize, t: Reached, out: &mut [u8]) -> Reached
-    requires { Inked page.s.now p e × (columns ≡ columns_in page.s.now p e) × Even page.g.uniform page.s.now p e × (t.written < 2 ^ 62 + 2 ^ 59) × (t.column < 2 ^ 60) }
-    ensures { Joined page.entry.s.now p e t.punct page.entry.g (margin_of page.entry.s.now page.entry.indent) t.column out.old t.written out.new result }
+    requires { Inked page.notes.now p e × (columns ≡ columns_in page.notes.now p e) × Even page.setting.uniform page.notes.now p e × (t.written < 2 ^ 62 + 2 ^ 59) × (t.column < 2 ^ 60) }
+    ensures { Joined page.entry p e t.punct t.column out.old t.written out.new result }
 {
     let extra = added_of(t.punct);
     let begin = t.column + extra;
     let k = t.written;
-    if begin + columns <= page.g.width {
+    if begin + columns <= page.setting.width {
         let j = spaces_at(extra, out, k);
         return Reached {
             written: put_at(page, p, e, out, j),
@@ -407,25 +398,25 @@ fn join(page: Page, p: usize, e: usize, columns: usize, t: Reached, out: &mut [u
             ..t
         };
     }
-    let room = page.g.width.saturating_sub(begin);
-    let at = place_of(page.s, p, e, columns, room);
-    let q = last_space(page.s, p, at);
+    let room = page.setting.width.saturating_sub(begin);
+    let at = place_of(page.notes, p, e, columns, room);
+    let q = last_space(page.notes, p, at);
     if p < q {
-        let end = before_spaces(page.s, p, q);
-        let next = over_spaces(page.s, q + 1, e);
-        let left = columns - columns_before(page.s, p, e, columns, at, room, next);
+        let end = before_spaces(page.notes, p, q);
+        let next = over_spaces(page.notes, q + 1, e);
+        let left = columns - columns_before(page.notes, p, e, columns, at, room, next);
         let i = spaces_at(extra, out, k);
         let j = put_line(page, p, end, out, i);
         let fresh = Reached {
             written: j,
-            column: page.g.indent,
+            column: page.setting.indent,
             ..t
         };
         return fill(page, next, e, left, true, fresh, out);
     }
     let fresh = Reached {
         written: break_at(page, out, k),
-        column: page.g.indent,
+        column: page.setting.indent,
         ..t
     };
     fill(page, p, e, columns, true, fresh, out)
@@ -548,15 +539,17 @@ fn letters_after(s: &[u8], at: usize, next: usize) -> Letters
 }
 
 // The line at a place of a paragraph, if it is of regular bytes and letters of two, and its gaps are written as they are.
-fn row_at(s: &[u8], i: usize, next: usize, skip: usize, later: usize, o: Options) -> Option<Row>
-    requires { (i < next) × (next ≤ length s.now) × (length s.now ≤ 2 ^ 20) × AllBegin o.glue skip later (lines_of (slice i next s.now)) }
-    ensures { IfSome result (λ r. (block : List ℕ) → RowIs (meant block o) skip later s.now next i r) }
+fn row_at(page: Page, i: usize, next: usize, skip: usize, later: usize) -> Option<Row>
+    requires { (i < next) × (next ≤ length page.notes.now) × AllBegin page.options.glue skip later (lines_of (slice i next page.notes.now)) }
+    ensures { IfSome result (λ r. (block : List ℕ) → RowIs (meant block page.entry.options) skip later page.entry.notes.now next i r) }
 {
     let from = i + skip;
-    let at = regular_end(s, from, next);
-    let letters = letters_after(s, at, next);
-    let end = before_spaces(s, from, letters.end);
-    if !ends_line(s, letters.end, next) || !are_as_written(s, from, end, o.uniform) {
+    let at = regular_end(page.notes, from, next);
+    let letters = letters_after(page.notes, at, next);
+    let end = before_spaces(page.notes, from, letters.end);
+    if !ends_line(page.notes, letters.end, next)
+        || !are_as_written(page.notes, from, end, page.options.uniform)
+    {
         return None;
     }
     Some(Row {
@@ -615,8 +608,8 @@ fn next_row(
     t: Reached,
     out: &mut [u8],
 ) -> Reached
-    requires { (from ≤ e) × (e ≤ length page.s.now) × (from < e → Inked page.s.now from e) × (columns ≡ columns_in page.s.now from e) × Even page.g.uniform page.s.now from e × (t.written < 2 ^ 62 + 2 ^ 59) × Stands t }
-    ensures { Went page.entry.s.now from e page.entry.g (margin_of page.entry.s.now page.entry.indent) out.old t out.new result }
+    requires { (from ≤ e) × (e ≤ length page.notes.now) × (from < e → Inked page.notes.now from e) × (columns ≡ columns_in page.notes.now from e) × Even page.setting.uniform page.notes.now from e × (t.written < 2 ^ 62 + 2 ^ 59) × Stands t }
+    ensures { Went page.entry from e out.old t out.new result }
 {
     if from == e {
         return t;
@@ -627,7 +620,7 @@ fn next_row(
     let r = join(page, from, e, columns, t, out);
     let last = e - 1;
     Reached {
-        punct: is_punct(page.s[last]),
+        punct: is_punct(page.notes[last]),
         begins: false,
         ..r
     }
@@ -642,12 +635,12 @@ fn head_row(
     t: Reached,
     out: &mut [u8],
 ) -> Reached
-    requires { Inked page.s.now from e × (columns ≡ columns_in page.s.now from e) × Even page.g.uniform page.s.now from e × (t.written < 2 ^ 62 + 2 ^ 59) × (t.begins ≡ true) × (t.column < 2 ^ 31) }
-    ensures { Went page.entry.s.now from e page.entry.g (margin_of page.entry.s.now page.entry.indent) out.old t out.new result }
+    requires { Inked page.notes.now from e × (columns ≡ columns_in page.notes.now from e) × Even page.setting.uniform page.notes.now from e × (t.written < 2 ^ 62 + 2 ^ 59) × (t.begins ≡ true) × (t.column < 2 ^ 31) }
+    ensures { Went page.entry from e out.old t out.new result }
 {
     let r = fill(page, from, e, columns, false, t, out);
     Reached {
-        punct: head_punct(page.s, from, e),
+        punct: head_punct(page.notes, from, e),
         begins: false,
         ..r
     }
@@ -677,8 +670,8 @@ fn is_gap(s: &[u8], to: usize, from: usize, count: usize) -> bool
 // A word of any kind. Words wait for those after them, so that a line of output is copied at once.
 // In the original: `accum_words_simple`.
 fn put_word(page: Page, w: Word, t: Waiting, out: &mut [u8]) -> Waiting
-    requires { Within (length page.s.now) w × Small w × (w.width ≤ length page.s.now) × (t.from ≤ t.to) × (t.to ≤ length page.s.now) × (t.reached.written < 2 ^ 62 + 2 ^ 59) × Stands t.reached }
-    ensures { WordPut page.entry.s.now w page.entry.g (margin_of page.entry.s.now page.entry.indent) out.old t out.new result }
+    requires { Within (length page.notes.now) w × Small w × (w.width ≤ length page.notes.now) × (t.from ≤ t.to) × (t.to ≤ length page.notes.now) × (t.reached.written < 2 ^ 62 + 2 ^ 59) × Stands t.reached }
+    ensures { WordPut page.entry w out.old t out.new result }
 {
     let r = t.reached;
     if r.begins {
@@ -694,15 +687,15 @@ fn put_word(page: Page, w: Word, t: Waiting, out: &mut [u8]) -> Waiting
             },
         };
     }
-    let column = quick::reach(page.g, r.column, r.punct, w);
-    if page.g.width < column {
+    let column = quick::reach(page.setting, r.column, r.punct, w);
+    if page.setting.width < column {
         let j = put_line(page, t.from, t.to, out, r.written);
         return Waiting {
             from: w.start,
             to: w.end,
             reached: Reached {
                 written: j,
-                column: page.g.indent + w.width,
+                column: page.setting.indent + w.width,
                 punct: w.punct,
                 begins: false,
             },
@@ -713,8 +706,8 @@ fn put_word(page: Page, w: Word, t: Waiting, out: &mut [u8]) -> Waiting
         punct: w.punct,
         ..r
     };
-    let added = spacing::added_space(page.g.uniform, w.first, w.sentence, r.punct);
-    if is_gap(page.s, t.to, w.from, added) {
+    let added = spacing::added_space(page.setting.uniform, w.first, w.sentence, r.punct);
+    if is_gap(page.notes, t.to, w.from, added) {
         return Waiting {
             from: t.from,
             to: w.end,
@@ -733,8 +726,8 @@ fn put_word(page: Page, w: Word, t: Waiting, out: &mut [u8]) -> Waiting
 // The words of a table, one by one.
 // In the original: `break_simple`.
 fn put_listed(page: Page, table: &[u32], n: usize, t: Waiting, out: &mut [u8]) -> Waiting
-    requires { Kept n (length page.s.now) n table.now × (n ≤ 2 ^ 20) × (t.from ≤ t.to) × (t.to ≤ length page.s.now) × (t.reached.written < 2 ^ 62 + 2 ^ 58) × Stands t.reached }
-    ensures { Listed page.entry.s.now table.now n page.entry.g (margin_of page.entry.s.now page.entry.indent) out.old t out.new n result }
+    requires { Kept n (length page.notes.now) n table.now × (n ≤ 2 ^ 20) × (t.from ≤ t.to) × (t.to ≤ length page.notes.now) × (t.reached.written < 2 ^ 62 + 2 ^ 58) × Stands t.reached }
+    ensures { Listed page.entry table.now n out.old t out.new n result }
 {
     let mut v = t;
     for j in 0..n {
@@ -749,20 +742,12 @@ const WINDOW: usize = 112;
 const IN_WINDOW: usize = 16;
 
 // The words of a line from start up to end.
-fn put_words(
-    page: Page,
-    start: usize,
-    end: usize,
-    mail: bool,
-    o: Options,
-    t: Reached,
-    out: &mut [u8],
-) -> Reached
-    requires { (start ≤ end) × (end ≤ length page.s.now) × (1 ≤ o.tab) × (o.tab ≤ 100) × (mail ≡ false → while is_blank (ink_glyphs o.glue (slice start end page.s.now)) ≡ []) × (t.written < 2 ^ 62 + 2 ^ 57) × Stands t }
-    ensures { Worded page.entry.s.now start end mail o page.entry.g (margin_of page.entry.s.now page.entry.indent) out.old t out.new result }
+fn put_words(page: Page, start: usize, end: usize, t: Reached, out: &mut [u8]) -> Reached
+    requires { (start ≤ end) × (end ≤ length page.notes.now) × (page.mail ≡ false → while is_blank (ink_glyphs page.options.glue (slice start end page.notes.now)) ≡ []) × (t.written < 2 ^ 62 + 2 ^ 57) × Stands t }
+    ensures { Worded page.entry start end out.old t out.new result }
 {
     let mut table = [0u32; WINDOW];
-    put_through(page, start, end, mail, o, t, out, &mut table)
+    put_through(page, start, end, t, out, &mut table)
 }
 
 // The same through a table of sixteen.
@@ -770,17 +755,15 @@ fn put_through(
     page: Page,
     start: usize,
     end: usize,
-    mail: bool,
-    o: Options,
     t: Reached,
     out: &mut [u8],
     table: &mut [u32],
 ) -> Reached
-    requires { (start ≤ end) × (end ≤ length page.s.now) × (1 ≤ o.tab) × (o.tab ≤ 100) × (mail ≡ false → while is_blank (ink_glyphs o.glue (slice start end page.s.now)) ≡ []) × (t.written < 2 ^ 62 + 2 ^ 57) × Stands t × Holds 16 table.old }
-    ensures { Worded page.entry.s.now start end mail o page.entry.g (margin_of page.entry.s.now page.entry.indent) out.old t out.new result }
+    requires { (start ≤ end) × (end ≤ length page.notes.now) × (page.mail ≡ false → while is_blank (ink_glyphs page.options.glue (slice start end page.notes.now)) ≡ []) × (t.written < 2 ^ 62 + 2 ^ 57) × Stands t × Holds 16 table.old }
+    ensures { Worded page.entry start end out.old t out.new result }
 {
     let mut at = start;
-    let mut first = !mail;
+    let mut first = !page.mail;
     let mut punct = false;
     let mut v = Waiting {
         from: start,
@@ -788,7 +771,18 @@ fn put_through(
         reached: t,
     };
     loop {
-        let r = words::split_some(page.s, at, end, mail, first, punct, o, 0, IN_WINDOW, table);
+        let r = words::split_some(
+            page.notes,
+            at,
+            end,
+            page.mail,
+            first,
+            punct,
+            page.options,
+            0,
+            IN_WINDOW,
+            table,
+        );
         v = put_listed(page, table, r.count, v, out);
         if !r.more {
             return Reached {
@@ -807,23 +801,21 @@ fn put_other(
     page: Page,
     i: usize,
     next: usize,
-    mail: bool,
     skip: usize,
     later: usize,
-    o: Options,
     t: Reached,
     out: &mut [u8],
 ) -> Progress
-    requires { (i < next) × (next ≤ length page.s.now) × (1 ≤ o.tab) × (o.tab ≤ 100) × (mail ≡ false → AllBegin o.glue skip later (lines_of (slice i next page.s.now))) × (t.written < 2 ^ 62 + 2 ^ 57) × Stands t }
-    ensures { RowPut page.entry.s.now i next mail skip later o page.entry.g (margin_of page.entry.s.now page.entry.indent) out.old t out.new result }
+    requires { (i < next) × (next ≤ length page.notes.now) × (page.mail ≡ false → AllBegin page.options.glue skip later (lines_of (slice i next page.notes.now))) × (t.written < 2 ^ 62 + 2 ^ 57) × Stands t }
+    ensures { RowPut page.entry i next skip later out.old t out.new result }
 {
-    let part = &page.s[..next];
+    let part = &page.notes[..next];
     let line = lines::first_line(&part[i..]);
-    let start = words::begin(mail, i, skip);
+    let start = words::begin(page.mail, i, skip);
     let end = i + line.text;
     Progress {
         at: i + line.whole,
-        reached: put_words(page, start, end, mail, o, t, out),
+        reached: put_words(page, start, end, t, out),
     }
 }
 
@@ -832,23 +824,23 @@ fn put_row(
     page: Page,
     i: usize,
     next: usize,
-    mail: bool,
     skip: usize,
     later: usize,
-    o: Options,
     t: Reached,
     out: &mut [u8],
 ) -> Progress
-    requires { (i < next) × (next ≤ length page.s.now) × (1 ≤ o.tab) × (o.tab ≤ 100) × (mail ≡ false → AllBegin o.glue skip later (lines_of (slice i next page.s.now))) × (page.g.uniform ≡ (o.uniform || mail)) × (t.written < 2 ^ 62 + 2 ^ 57) × Stands t }
-    ensures { RowPut page.entry.s.now i next mail skip later o page.entry.g (margin_of page.entry.s.now page.entry.indent) out.old t out.new result }
+    requires { (i < next) × (next ≤ length page.notes.now) × (page.mail ≡ false → AllBegin page.options.glue skip later (lines_of (slice i next page.notes.now))) × (t.written < 2 ^ 62 + 2 ^ 57) × Stands t }
+    ensures { RowPut page.entry i next skip later out.old t out.new result }
 {
-    if !mail && let Some(row) = row_at(page.s, i, next, skip, later, o) {
+    if !page.mail
+        && let Some(row) = row_at(page, i, next, skip, later)
+    {
         return Progress {
             at: row.next,
             reached: next_row(page, row.from, row.end, row.columns, t, out),
         };
     }
-    put_other(page, i, next, mail, skip, later, o, t, out)
+    put_other(page, i, next, skip, later, t, out)
 }
 
 // A paragraph's lines.
@@ -856,21 +848,19 @@ fn put_rows(
     page: Page,
     at: usize,
     next: usize,
-    mail: bool,
     start: usize,
     later: usize,
-    o: Options,
     t: Reached,
     out: &mut [u8],
 ) -> Reached
-    requires { (at ≤ next) × (next ≤ length page.s.now) × (1 ≤ o.tab) × (o.tab ≤ 100) × (mail ≡ false → AllBegin o.glue start later (lines_of (slice at next page.s.now))) × (page.g.uniform ≡ (o.uniform || mail)) × (t.written < 2 ^ 62 + 2 ^ 56) × Stands t }
-    ensures { Rowed page.entry.s.now at next mail start later o page.entry.g (margin_of page.entry.s.now page.entry.indent) out.old t out.new result }
+    requires { (at ≤ next) × (next ≤ length page.notes.now) × (page.mail ≡ false → AllBegin page.options.glue start later (lines_of (slice at next page.notes.now))) × (t.written < 2 ^ 62 + 2 ^ 56) × Stands t }
+    ensures { Rowed page.entry at next start later out.old t out.new result }
 {
     let mut i = at;
     let mut skip = start;
     let mut v = t;
     while i < next {
-        let r = put_row(page, i, next, mail, skip, later, o, v, out);
+        let r = put_row(page, i, next, skip, later, v, out);
         v = r.reached;
         i = r.at;
         skip = later;
@@ -922,7 +912,13 @@ pub fn put_quick(
         punct: false,
         begins: true,
     };
-    let page = Page { s, g, indent };
-    let v = put_rows(page, at, next, mail, start, later, o, t, out);
+    let page = Page {
+        notes: s,
+        setting: g,
+        options: o,
+        mail,
+        indent,
+    };
+    let v = put_rows(page, at, next, start, later, t, out);
     feed_at(out, v.written)
 }

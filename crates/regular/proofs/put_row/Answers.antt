@@ -11,9 +11,8 @@ unfolding meant
 next_row-requires c =
     let p = c.requires in
     let r = c.in-Some.ensures [] in
-    (r.some, omega (arith, r.within, r.most, p.1), r.inked, r.counts, λ u. r.even (gaps_same _ _ _ p.5 c.if-not-mail.true ∙ u), omega (arith, p.6), p.7)
+    (r.some, omega (arith, r.within, r.most, p.1), r.inked, r.counts, λ u. r.even (gaps_same _ _ _ c.args.page.uniform c.if-not-page.true ∙ u), omega (arith, p.3), p.4)
 
 pub returns : goal.returns
 returns c =
-    let p = c.requires in
-    row_went _ _ _ _ _ _ _ _ _ _ _ c.if-not-mail.true _ c.in-Some.ensures (gaps_same _ _ _ p.5 c.if-not-mail.true) _ _ c.next_row.ensures
+    row_went _ _ _ _ _ _ _ c.if-not-page.true _ c.in-Some.ensures (gaps_same _ _ _ c.args.page.uniform c.if-not-page.true) _ _ c.next_row.ensures
