@@ -20,7 +20,7 @@ use Rattle.knuth_plass.specs.declared.Best.{Best}
 use Rattle.knuth_plass.specs.declared.Turn.{Turn}
 use Rattle.knuth_plass.specs.KnuthPlass.{Place, Offer, none, stretch_of, minimum_of, reached, lesser, offer_of}
 use Rattle.knuth_plass.specs.Cited.Table.{most_words, ratio_of, Tables, path_to, seen}
-use Rattle.knuth_plass.specs.Cited.Round.{line_at, nothing, best_from, better, offer_made, offer_in, offer_at, Floor, Offers, OfferedIs}
+use Rattle.knuth_plass.specs.Cited.Round.{Turns, line_at, nothing, best_from, better, offer_made, offer_in, offer_at, Floor, Offers, OfferedIs}
 use Rattle.knuth_plass.proofs.Offers.{better_stays, offer_some, offer_better, fits_better, lesser_none}
 
 -- a gap that is asked for its tab
@@ -98,7 +98,7 @@ module _ (g : Setting) (turn : Turn) (n : ℕ) (b : Record) (best : Best) (x : �
     unfolding offer_at
     offered_short h = offers_none (λ columns fresh path. rw (offer_at, le-leb x g.width o.fits, lt-leb (minimum_of g) x h))
 
-    module _ (long : minimum_of g ≤ x) where
+    module _ (turns : Turns g turn) (long : minimum_of g ≤ x) where
       pub offered_last_none : turn.last ≡ true → 0 < b.demerits → OfferedIs g turn n b x best best
       unfolding offer_at seen
       offered_last_none l h =
@@ -108,7 +108,7 @@ module _ (g : Setting) (turn : Turn) (n : ℕ) (b : Record) (best : Best) (x : �
       unfolding offer_at offer_made seen
       offered_last r z l h =
           rw z
-          (offers_some 0 no_ratio o.turns.few (omega arith) tt
+          (offers_some 0 no_ratio turns.few (omega arith) tt
           (λ columns fresh t. rw (offer_at, le-leb x g.width o.fits, le-leb (minimum_of g) x long, l, le-leb b.demerits 0 h)))
 
       full_offer : (d : ℕ) (r : Float) → turn.last ≡ false → r ≡ ratio g.goal x (stretch_of g)
@@ -124,7 +124,7 @@ module _ (g : Setting) (turn : Turn) (n : ℕ) (b : Record) (best : Best) (x : �
           → OfferedIs g turn n b x best (better best n (d + b.demerits) r)
       offered_full d r l e f k w =
           let s = o.sound.demerits in
-          let h = o.turns.few in
+          let h = turns.few in
           offers_some (d + b.demerits) r h (omega arith) w (full_offer d r l e f (omega arith))
 
       -- the best offer so far is no more than the floor, so it stays
@@ -133,6 +133,6 @@ module _ (g : Setting) (turn : Turn) (n : ℕ) (b : Record) (best : Best) (x : �
       offered_beaten f r l e w floor h =
           let d = cost_with r (ratio_of b.ratio) turn.weight in
           let k = floor_least r (ratio_of b.ratio) turn.weight f floor in
-          let small : d ≤ most_cost = square_le_most (line_term r) turn.weight (ratio_term r (ratio_of b.ratio)) (line_le r w) o.turns.light (ratio_le r (ratio_of b.ratio) w o.sound.ratio) in
-          let is : d ≡ cost (ratio g.goal x (stretch_of g)) (ratio_of b.ratio) (stretch_of g) turn.word.width = rw (← e) (cost_with_law r (ratio_of b.ratio) (stretch_of g) turn.word.width turn.weight o.turns.weight) in
+          let small : d ≤ most_cost = square_le_most (line_term r) turn.weight (ratio_term r (ratio_of b.ratio)) (line_le r w) turns.light (ratio_le r (ratio_of b.ratio) w o.sound.ratio) in
+          let is : d ≡ cost (ratio g.goal x (stretch_of g)) (ratio_of b.ratio) (stretch_of g) turn.word.width = rw (← e) (cost_with_law r (ratio_of b.ratio) (stretch_of g) turn.word.width turn.weight turns.weight) in
           subst (λ (z : Best). OfferedIs g turn n b x best z) (better_stays best n (d + b.demerits) r (omega (arith, k, h))) (offered_full d r l e is small w)

@@ -18,7 +18,7 @@ use Rattle.knuth_plass.specs.declared.Best.{Best}
 use Rattle.knuth_plass.specs.declared.interval.Interval.{Interval}
 use Rattle.knuth_plass.specs.KnuthPlass.{Break, Offer, none, offer, minimum_of, lesser}
 use Rattle.knuth_plass.specs.Cited.Table.{Tables, break_in, with_break, place_of, path_to, seen, break_meant, Sound, Filled, Fits}
-use Rattle.knuth_plass.specs.Cited.Round.{Limits, Turns, turn_of, nothing, offer_made}
+use Rattle.knuth_plass.specs.Cited.Round.{turn_of, nothing, offer_made}
 use Rattle.knuth_plass.specs.Cited.Interval.{Good, reach_of, pops, near, entry_offer, best_entry, near_offer, interval_round, span, PassIs, Stay, BestOffered, active_of, Between, AgainIs, MadeIs, Plain, IntervalIs}
 use Rattle.knuth_plass.proofs.Filled.{filled_later, filled_more}
 use Rattle.knuth_plass.proofs.Offers.{offer_some, offer_none}
@@ -173,12 +173,12 @@ module _ (g : Setting) (last sentence : Bool) (i gap : ℕ) (w : WordRecord) (s 
         let f = (fits head (omega arith) inside).0 in
         round_none (λ notes. rw (l, staying, near, lt-leb (minimum_of g) (reach_of g x (break_meant t head)) (omega arith)) refl)
 
-    module _ (limits : Limits g) (inner : last ≡ false) (weight : ℕ) (turns : Turns g (turn_of last i w space weight)) where
+    module _ (inner : last ≡ false) (weight : ℕ) where
       pub stays : Stay g (turn_of last i w space weight) x head s.size t
       stays =
           let r = room in
           let h = passed.to in
-          record { limits = limits; turns = turns; inner = inner; short = omega arith; filled = between.filled; room = omega arith; order = h; fits = fits }
+          record { inner = inner; short = omega arith; filled = between.filled; room = omega arith; order = h; fits = fits }
 
       module _ (long : minimum_of g + (break_meant t head).columns ≤ x + g.indent) (best : Best) (offered : BestOffered g (turn_of last i w space weight) x head s.size t best) where
         near_offer_law : (notes : List ℕ) → near_offer g last i x gap (meaning notes w) (pops g x (active_of s t)) ≡ offer_made (x + gap) false i t best

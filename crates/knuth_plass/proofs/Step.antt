@@ -183,8 +183,8 @@ module _ (g : Setting) (turn : Turn) (st : Standing) (k : ℕ) (t : Tables) (a :
           let stored = stored_with t n (extended x b) room fit.filled.sized in
           rw (went, listed, saw, kept, noted_kept s n b.demerits) (fit_keeps x best _ limits line fits offered stored, goes_keeps x best _ limits line fits offered stored)
 
-    pub offers : (x : ℕ) → Limits g → x ≤ g.width → Offers g turn b x
-    offers x limits fits = record { limits = limits; turns = turns; fits = fits; sound = rw is sound }
+    pub offers : (x : ℕ) → x ≤ g.width → Offers g turn b x
+    offers x fits = record { fits = fits; sound = rw is sound }
 
     -- the table has room for what is stored where it stays
     pub keep_room : (after : State) (x : ℕ) (l : List ℕ) → t ≡ table_in l → after ≡ noted s n b.demerits → Limits g → x ≤ g.width → Keeps n x after.kept l
@@ -204,4 +204,4 @@ module _ (g : Setting) (turn : Turn) (st : Standing) (k : ℕ) (t : Tables) (a :
     short_fits x limits h = let o = limits.over in omega arith
 
     pub short_offers : (x : ℕ) → Limits g → x < minimum_of g → OfferedIs g turn (n) b x s.best s.best
-    short_offers x limits h = offered_short g turn (n) b s.best x (offers x limits (short_fits x limits h)) h
+    short_offers x limits h = offered_short g turn (n) b s.best x (offers x (short_fits x limits h)) h

@@ -307,6 +307,7 @@ fn rounds(g: Goals, work: &mut [u32], n: usize) -> Interval
         size: 1,
         line: g.setting.first + w.width,
     };
+    // A `for` would count the words that are skipped.
     let mut i = 1;
     while i < n {
         let low = least_end(&work[base..end], g, s.head);

@@ -1,5 +1,5 @@
 // Knuth-Plass: the best breaks of a paragraph, one round for each word over the active breaks. A paragraph is one lent slice: its n words,
-// and after them n break records.
+// and after them n break records. What a slice has to hold stands in the contracts, not in a type: it is lent, and each function changes it.
 #![tactic(auto)]
 
 mod goals;

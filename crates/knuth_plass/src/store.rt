@@ -1,4 +1,4 @@
-// The break table: eight numbers a record, of which seven are the record's own.
+// The break table: eight numbers a record, of which seven are the record's own. It is numbers in a slice that is lent, for there is no heap.
 ghost use Rattle.std.specs.Prelude.{◌≡◌, ◌+◌, ◌*◌, ◌<◌, ◌≤◌, ◌^◌, length};
 ghost use Rattle.std.proofs.Math.Dec as D;
 ghost use Rattle.demerits.specs.Cited.Bounds.{within};

@@ -18,7 +18,7 @@ use Rattle.knuth_plass.specs.declared.interval.Interval.{Interval}
 use Rattle.knuth_plass.specs.declared.interval.Skipped.{Skipped}
 use Rattle.knuth_plass.specs.KnuthPlass.{Break, Place, Offer, none, offer, after, before_word, stretch_of, minimum_of, lesser, with_offer, least, path_of}
 use Rattle.knuth_plass.specs.Cited.Table.{ratio_of, Tables, break_in, place_of, path_to, seen, break_meant, Sound, Filled}
-use Rattle.knuth_plass.specs.Cited.Round.{Limits, Turns, BestFits, nothing, offer_made}
+use Rattle.knuth_plass.specs.Cited.Round.{BestFits, nothing, offer_made}
 
 -- ---- An entry of the table is a Break whose `columns` are its base and whose `fresh` is not read.
 
@@ -147,8 +147,6 @@ pub record FirstLeast (head size : ℕ) (t : Tables) (r : ℕ) : Type 0 where
 
 -- entries that stay, with the word on their lines: x columns of the endless line
 pub record Stay (g : Setting) (turn : Turn) (x head size : ℕ) (t : Tables) : Type 0 where
-  pub limits : Limits g
-  pub turns : Turns g turn
   pub inner : turn.last ≡ false
   pub short : x < 2 ^ 32
   pub filled : Filled turn.number size t

@@ -136,8 +136,6 @@ pub record Floor (w f : ℕ) : Type 0 where
 
 -- a break that may offer: the word is on its line of x columns
 pub record Offers (g : Setting) (turn : Turn) (b : Record) (x : ℕ) : Type 0 where
-  pub limits : Limits g
-  pub turns : Turns g turn
   pub fits : x ≤ g.width
   pub sound : Sound turn.number b
 

@@ -64,7 +64,7 @@ best_offer-best-requires c =
     let added = c.added_space-space.ensures in
     let passed = c.pass-head.ensures in
     let turn = c.round_of-r-2.ensures in
-    rw (turn.0, turn.1) (stays a.g.setting a.last a.sentence a.i a.gap a.word a.s (table_in a.breaks.now) p.0 p.1 p.2 p.3 _ added.most added.is _ refl _ passed c.if-head-size.false a.g.limits c.if-last.false _ (rw (turn.0, turn.1) at c.round_of-r-2.result.turns))
+    rw (turn.0, turn.1) (stays a.g.setting a.last a.sentence a.i a.gap a.word a.s (table_in a.breaks.now) p.0 p.1 p.2 p.3 _ added.most added.is _ refl _ passed c.if-head-size.false c.if-last.false _)
 
 pub made-b-requires : goal.made-b-requires
 made-b-requires c =
@@ -79,7 +79,7 @@ made-b-requires c =
     let e = columns_at a.breaks.now c.pass-head.result (omega arith) in
     let n = c.number.ensures.0 in
     let h = c.if-line-g.false in
-    (offered.fits (has_offer a.g.setting a.last a.sentence a.i a.gap a.word a.s (table_in a.breaks.now) p.0 p.1 p.2 p.3 _ added.most added.is _ refl _ passed c.if-head-size.false a.g.limits c.if-last.false _ (rw (turn.0, turn.1) at c.round_of-r-2.result.turns) (omega arith) _ offered)).ratio
+    (offered.fits (has_offer a.g.setting a.last a.sentence a.i a.gap a.word a.s (table_in a.breaks.now) p.0 p.1 p.2 p.3 _ added.most added.is _ refl _ passed c.if-head-size.false c.if-last.false _ (omega arith) _ offered)).ratio
 
 pub store_break-requires-2 : goal.store_break-requires-2
 store_break-requires-2 c =
@@ -94,7 +94,7 @@ store_break-requires-2 c =
     let e = columns_at a.breaks.now c.pass-head.result (omega arith) in
     let n = c.number.ensures.0 in
     let h = c.if-line-g.false in
-    (has_room a.breaks.now a.s.size room, made_fits a.g.setting a.last a.sentence a.i a.gap a.word a.s (table_in a.breaks.now) p.0 p.1 p.2 p.3 _ added.most added.is _ refl _ passed c.if-head-size.false a.g.limits c.if-last.false _ (rw (turn.0, turn.1) at c.round_of-r-2.result.turns) (omega arith) _ offered _ c.made-b.ensures)
+    (has_room a.breaks.now a.s.size room, made_fits a.g.setting a.last a.sentence a.i a.gap a.word a.s (table_in a.breaks.now) p.0 p.1 p.2 p.3 _ added.most added.is _ refl _ passed c.if-head-size.false c.if-last.false _ (omega arith) _ offered _ c.made-b.ensures)
 
 pub returns : goal.returns
 returns c =
@@ -110,4 +110,4 @@ returns c =
     let n = c.number.ensures.0 in
     let h = c.if-line-g.false in
     let stored = ap table_in c.store_break-2.ensures ∙ table_record a.breaks.now a.s.size _ room in
-    round_made a.g.setting a.last a.sentence a.i a.gap a.word a.s (table_in a.breaks.now) p.0 p.1 p.2 p.3 _ added.most added.is _ refl _ passed c.if-head-size.false a.g.limits c.if-last.false _ (rw (turn.0, turn.1) at c.round_of-r-2.result.turns) (omega arith) _ offered _ c.made-b.ensures _ stored
+    round_made a.g.setting a.last a.sentence a.i a.gap a.word a.s (table_in a.breaks.now) p.0 p.1 p.2 p.3 _ added.most added.is _ refl _ passed c.if-head-size.false c.if-last.false _ (omega arith) _ offered _ c.made-b.ensures _ stored

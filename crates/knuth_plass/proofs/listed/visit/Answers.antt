@@ -53,7 +53,7 @@ offered-better-requires c =
     let a = c.args in
     let p = c.requires in
     let is = c.lessened-b.ensures ∙ ap (lessened a.st.reduction) c.get_break.ensures in
-    (offers a.r.goals.setting a.r.turn a.st a.k (table_in a.breaks.now) (active_in a.breaks.now) a.s a.r.turns p.0 p.1 _ c.active-n.ensures _ is _ a.r.goals.limits c.if-r-t.false, rw c.minimum.ensures at c.if-t-minimum.false)
+    (offers a.r.goals.setting a.r.turn a.st a.k (table_in a.breaks.now) (active_in a.breaks.now) a.s a.r.turns p.0 p.1 _ c.active-n.ensures _ is _ c.if-r-t.false, rw c.minimum.ensures at c.if-t-minimum.false)
 
 pub keep-requires-2 : goal.keep-requires-2
 keep-requires-2 c =
