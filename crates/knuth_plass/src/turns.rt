@@ -128,8 +128,7 @@ pub fn offered(r: Round, n: usize, b: Break, t: usize, best: Best) -> Best
     requires { R.Offers r.goals.setting r.turn b t × (minimum_of r.goals.setting ≤ t) }
     ensures { R.OfferedIs r.goals.setting r.turn n b t best result }
 {
-    let turn = r.turn;
-    if turn.last {
+    if r.turn.last {
         // The last line costs nothing, but a break that is not among the least offers none.
         if 0 < b.demerits {
             return best;
@@ -139,10 +138,10 @@ pub fn offered(r: Round, n: usize, b: Break, t: usize, best: Best) -> Best
     let stretch = r.goals.stretch();
     let ratio = demerits::ratio(r.goals.setting.goal, t, stretch);
     // Most offers are beaten before their cost is worked out.
-    if best.total <= floor(stretch, turn.weight) + b.demerits {
+    if best.total <= floor(stretch, r.turn.weight) + b.demerits {
         return best;
     }
-    let cost = demerits::cost(ratio, ratio_of(b.ratio), turn.weight);
+    let cost = demerits::cost(ratio, ratio_of(b.ratio), r.turn.weight);
     better(best, n, cost + b.demerits, ratio)
 }
 
