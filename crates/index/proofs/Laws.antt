@@ -1,18 +1,17 @@
--- The search for the record that holds a line: what it has come to after so many records.
-use Rattle.std.proofs.Common.{None}
+-- The record that holds a line, and its part: by differences instead of sums, and as the first one that a search finds.
+use Rattle.std.proofs.Common.{Some, None}
 use mathlib.Core.Path.{◌≡◌, refl}
 use mathlib.Core.Bool.{Bool, true, false, cond}
 use mathlib.Core.List.{List, [], ◌∷◌}
-use Prim.Native.Nat.{ℕ, zero, suc, ◌+◌, ◌-◌, ◌≤◌, ◌<◌}
-use native.Mathlib.Nat.{not-suc-le-zero, le_of_suc-le-suc}
+use Prim.Native.Nat.{ℕ, ◌+◌, ◌-◌, ◌≤◌, ◌<◌}
 use native.Mathlib.Omega.{arith}
-use lib.Dec.{leb, ltb}
-use lib.ListN.{length, take, drop}
-use borrow.Author.Tests.{ltb-true, ltb-false, leb-true, lt-ltb, le-ltb, le-leb, lt-leb}
+use lib.Dec.{ltb}
+use lib.ListN.{length, take}
+use borrow.Author.Tests.{ltb-true, ltb-false, lt-ltb, le-ltb, le-leb, lt-leb}
 use Rattle.index.specs.declared.Record.{Record}
-use Rattle.index.specs.declared.Part.{Part}
 use Rattle.index.specs.Lookup.{holds, part_in, part_under, lookup}
-use Rattle.index.specs.Cited.Lists.{no_record, record_at, part_if}
+use Rattle.std.specs.List.{find}
+use Rattle.std.specs.Option.{option_and_then}
 
 -- ---- one record
 
@@ -30,10 +29,6 @@ module _ (r : Record) (line : ℕ) where
       go true e = lt-ltb line (r.first + r.count) (omega (arith, h, ltb-true (line - r.first) r.count e))
       go false e = le-ltb line (r.first + r.count) (omega (arith, h, ltb-false (line - r.first) r.count e))
 
-pub none_holds : (line : ℕ) → holds line no_record ≡ false
-unfolding holds
-none_holds line = rw (le-leb 0 line (omega arith), le-ltb line 0 (omega arith))
-
 module _ (r : Record) (size : ℕ) where
   pub part_past : size < r.place → None ≡ part_in size r
   unfolding part_in
@@ -43,66 +38,27 @@ module _ (r : Record) (size : ℕ) where
   unfolding part_in
   part_long h l = rw (lt-leb (r.place + r.length) size (omega (arith, h, l)))
 
-  pub part_within : r.place ≤ size → r.length ≤ size - r.place → part r.place r.length ≡ part_in size r
+  pub part_within : r.place ≤ size → r.length ≤ size - r.place → Some (record { place = r.place; length = r.length }) ≡ part_in size r
   unfolding part_in
   part_within h l = rw (le-leb (r.place + r.length) size (omega (arith, h, l)))
 
-module _ (size line : ℕ) (r : Record) where
-  pub part_held : holds line r ≡ true → part_if size line r ≡ part_in size r
-  unfolding part_if
-  part_held e = rw e
-
-  pub part_not : holds line r ≡ false → part_if size line r ≡ None
-  unfolding part_if
-  part_not e = rw e
-
 -- ---- the list
 
--- the count of records to look at
-pub lookup_within : (index : List Record) (filled size line n : ℕ) → n ≡ cond (leb filled (length index)) filled 0 → lookup index filled size line ≡ part_under size line (take n index)
-unfolding lookup part_under
-lookup_within index filled size line n e = rw e (go (leb filled (length index)))
+part_found : (size line : ℕ) (rs : List Record) → part_under size line rs ≡ option_and_then (part_in size) (find (holds line) rs)
+unfolding part_under
+part_found size line [] = refl
+part_found size line (r ∷ rs) = go (holds line r) (part_found size line rs)
   where
-    go : (b : Bool) → cond b (part_under size line (take filled index)) None ≡ part_under size line (take (cond b filled 0) index)
-    go true = refl
-    go false = refl
+    go : (b : Bool) → part_under size line rs ≡ option_and_then (part_in size) (find (holds line) rs)
+        → elim b [ true ↦ part_in size r | false ↦ part_under size line rs ] ≡ option_and_then (part_in size) (cond b (Some r) (find (holds line) rs))
+    go true e = refl
+    go false e = e
 
-pub within_most : (filled records n : ℕ) → n ≡ cond (leb filled records) filled 0 → (n ≤ records) × (n ≤ filled)
-within_most filled records n e = go (leb filled records) refl e
-  where
-    go : (b : Bool) → leb filled records ≡ b → n ≡ cond b filled 0 → (n ≤ records) × (n ≤ filled)
-    go true h k = let l = leb-true filled records h in (omega (arith, k, l), omega (arith, k))
-    go false h k = (omega (arith, k), omega (arith, k))
+module _ (index : List Record) (filled size line : ℕ) where
+  pub lookup_past : length index < filled → lookup index filled size line ≡ None
+  unfolding lookup
+  lookup_past h = rw (lt-leb filled (length index) h)
 
--- what is left of the first n records after i of them
-abbrev pub rest_from : ℕ → ℕ → List Record → ℕ → ℕ → Part
-rest_from size line index n i = part_under size line (drop i (take n index))
-
-rest_at : (index : List Record) (n i : ℕ) → i < n → n ≤ length index → drop i (take n index) ≡ record_at index i ∷ drop (suc i) (take n index)
-rest_at [] zero i l k = absurd (not-suc-le-zero l)
-rest_at [] (suc n) i l k = absurd (not-suc-le-zero k)
-rest_at (r ∷ index) zero i l k = absurd (not-suc-le-zero l)
-rest_at (r ∷ index) (suc n) zero l k = refl
-rest_at (r ∷ index) (suc n) (suc i) l k = rest_at index n i (le_of_suc-le-suc l) (le_of_suc-le-suc k)
-
-rest_none : (index : List Record) (n i : ℕ) → n ≤ i → drop i (take n index) ≡ []
-rest_none index zero zero l = refl
-rest_none index zero (suc i) l = refl
-rest_none [] (suc n) zero l = absurd (not-suc-le-zero l)
-rest_none [] (suc n) (suc i) l = refl
-rest_none (r ∷ index) (suc n) zero l = absurd (not-suc-le-zero l)
-rest_none (r ∷ index) (suc n) (suc i) l = rest_none index n i (le_of_suc-le-suc l)
-
-module _ (size line : ℕ) (index : List Record) (n : ℕ) where
-  pub rest_last : (i : ℕ) → n ≤ i → rest_from size line index n i ≡ None
-  unfolding part_under
-  rest_last i l = rw (rest_none index n i l)
-
-  module _ (i : ℕ) (less : i < n) (few : n ≤ length index) where
-    pub rest_here : holds line (record_at index i) ≡ true → rest_from size line index n i ≡ part_in size (record_at index i)
-    unfolding part_under
-    rest_here e = rw (rest_at index n i less few, part_under, e)
-
-    pub rest_on : holds line (record_at index i) ≡ false → rest_from size line index n i ≡ rest_from size line index n (suc i)
-    unfolding part_under
-    rest_on e = rw (rest_at index n i less few, part_under, e)
+  pub lookup_within : filled ≤ length index → lookup index filled size line ≡ option_and_then (part_in size) (find (holds line) (take filled index))
+  unfolding lookup
+  lookup_within h = rw (le-leb filled (length index) h, part_found size line (take filled index))

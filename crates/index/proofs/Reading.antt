@@ -1,12 +1,12 @@
 -- Records read off marks: that none runs past the marks, and what one more is, in the list that a loop stores them to.
 use mathlib.Core.Path.{◌≡◌, refl, sym, ap, ◌∙◌}
 use mathlib.Core.Bool.{Bool, true, false}
-use mathlib.Core.List.{List, [], ◌∷◌, ◌++◌}
+use mathlib.Core.List.{List, [], ◌∷◌, ◌++◌, append-nil}
 use Prim.Native.Nat.{ℕ, zero, suc, ◌+◌, ◌*◌, ◌^◌, ◌≤◌, ◌<◌, min}
 use native.Mathlib.Nat.{not-suc-le-zero, le_of_suc-le-suc}
 use native.Mathlib.Omega.{arith}
 use lib.Dec.{leb}
-use lib.ListN.{length, set, take, drop, length-take, length-drop}
+use lib.ListN.{length, set, take, drop, length-take, length-drop, drop_of_length-le}
 use lib.Seq.{take_all}
 use borrow.Author.Tests.{leb-true, leb-false}
 use Rattle.marks.specs.Cited.Marks.{marks_in, to_mark}
@@ -68,3 +68,6 @@ module _ (marks : List Bool) where
   read_more n r [] l = absurd (not-suc-le-zero l)
   read_more zero r (y ∷ ys) l = refl
   read_more (suc n) r (y ∷ ys) l = ap (λ (t : List Record). record_after marks r ∷ t) (read_more n (record_after marks r) ys (le_of_suc-le-suc l))
+
+  pub read_all : (n : ℕ) (r : Record) (ys : List Record) → length ys ≤ n → read_to n r ys ≡ read_from marks n r
+  read_all n r ys h = ap (λ (t : List Record). read_from marks n r ++ t) (drop_of_length-le ys h) ∙ append-nil (read_from marks n r)

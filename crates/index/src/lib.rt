@@ -35,6 +35,7 @@ pub fn lookup(index: &[Record], filled: u64, size: usize, line: u64) -> Option<P
 }
 
 // Does a record hold an output line? By a difference: the sum of first and count may not fit.
+#[tactic(auto, using(crate::proofs::Laws::holds_early, crate::proofs::Laws::holds_late))]
 fn is_holding(r: Record, line: u64) -> bool
     ensures { result ≡ holds line r }
 {
@@ -42,6 +43,7 @@ fn is_holding(r: Record, line: u64) -> bool
 }
 
 // A record's part, unless it runs past the notes. By a difference, likewise.
+#[tactic(auto, using(crate::proofs::Laws::part_past, crate::proofs::Laws::part_long, crate::proofs::Laws::part_within))]
 fn part_in(r: Record, size: usize) -> Option<Part>
     ensures { result ≡ part_in size r }
 {

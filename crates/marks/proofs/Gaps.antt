@@ -7,9 +7,10 @@ use native.Mathlib.Nat.{not-suc-le-zero, le_of_suc-le-suc, zero-add, zero-sub, s
 use native.Mathlib.Omega.{arith}
 use lib.Count.{count_trailing_zeros, under}
 use lib.Dec.{eqb}
-use lib.ListN.{length, get_or, drop, drop_of_length-le, length-drop}
+use lib.ListN.{length, get_or, take, drop, drop_of_length-le, length-drop}
 use lib.Pow.{shr-shr, shr_lt}
-use lib.Seq.{drop-nil, drop-drop, drop-append-le, drop-append-add}
+use lib.Seq.{take_all, drop-nil, drop-drop, drop-append-le, drop-append-add}
+use Rattle.std.specs.List.{AllWithin, HoldsAt}
 use Rattle.lists.proofs.Views.{drop_here}
 use Rattle.marks.specs.Cited.Marks.{bits_of, marks_in, to_mark}
 use Rattle.marks.proofs.Laws.{marks_cons, length_bits, length_marks, to_mark_within}
@@ -102,16 +103,25 @@ module _ (t : List ℕ) (from : ℕ) where
         ∙ drop-append-le (from % 32) bits (marks_in (drop (from / 32 + 1) t)) (omega (arith, length_bits 32 (get_or t (from / 32) 0)))
         ∙ ap (λ (bs : List Bool). bs ++ marks_in (drop (from / 32 + 1) t)) (bits_from 32 (from % 32) (get_or t (from / 32) 0))
 
-    pub gap_in_word : (get_or t (from / 32) 0 / 2 ^ (from % 32) ≡ 0 → ⊥) → get_or t (from / 32) 0 < 2 ^ 32 → to_mark (drop from (marks_in t)) ≡ suc (count_trailing_zeros 32 (get_or t (from / 32) 0 / 2 ^ (from % 32)))
-    gap_in_word p l =
-        let j = from % 32 in
-        let e : 32 ≡ 32 - j + j = omega arith in
-        ap to_mark within ∙ to_mark_word (32 - j) 32 (get_or t (from / 32) 0 / 2 ^ j) (marks_in (drop (from / 32 + 1) t)) (pos_of_ne-zero p) (shr_lt (32 - j) j (subst (λ (k : ℕ). get_or t (from / 32) 0 < 2 ^ k) e l)) (omega arith)
+    -- w is the word
+    module _ (w : ℕ) (is : get_or t (from / 32) 0 ≡ w) where
+      pub gap_in_word : (w / 2 ^ (from % 32) ≡ 0 → ⊥) → w < 2 ^ 32 → to_mark (drop from (marks_in t)) ≡ suc (count_trailing_zeros 32 (w / 2 ^ (from % 32)))
+      gap_in_word p l =
+          let j = from % 32 in
+          let e : 32 ≡ 32 - j + j = omega arith in
+          ap to_mark within
+          ∙ ap (λ (v : ℕ). to_mark (bits_of (32 - j) (v / 2 ^ j) ++ marks_in (drop (from / 32 + 1) t))) is
+          ∙ to_mark_word (32 - j) 32 (w / 2 ^ j) (marks_in (drop (from / 32 + 1) t)) (pos_of_ne-zero p) (shr_lt (32 - j) j (subst (λ (k : ℕ). w < 2 ^ k) e l)) (omega arith)
 
-    pub gap_behind_word : get_or t (from / 32) 0 / 2 ^ (from % 32) ≡ 0 → to_mark (drop from (marks_in t)) ≡ further (32 - from % 32) (to_mark (marks_in (drop (from / 32 + 1) t)))
-    gap_behind_word e =
-        let bs = marks_in (drop (from / 32 + 1) t) in
-        ap to_mark (within ∙ ap (λ (v : ℕ). bits_of (32 - from % 32) v ++ bs) e) ∙ to_mark_past (32 - from % 32) bs
+      -- m is how far the first mark of the words behind it is
+      pub gap_behind_word : w / 2 ^ (from % 32) ≡ 0 → (m : ℕ) → m ≡ to_mark (marks_in (take (length t - (from / 32 + 1)) (drop (from / 32 + 1) t))) → to_mark (drop from (marks_in t)) ≡ further (32 - from % 32) m
+      gap_behind_word e m far =
+          let bs = marks_in (drop (from / 32 + 1) t) in
+          let n = length-drop (from / 32 + 1) t in
+          let whole : take (length t - (from / 32 + 1)) (drop (from / 32 + 1) t) ≡ drop (from / 32 + 1) t = take_all (length t - (from / 32 + 1)) (drop (from / 32 + 1) t) (omega arith) in
+          ap to_mark (within ∙ ap (λ (v : ℕ). bits_of (32 - from % 32) (v / 2 ^ (from % 32)) ++ bs) is ∙ ap (λ (v : ℕ). bits_of (32 - from % 32) v ++ bs) e)
+          ∙ to_mark_past (32 - from % 32) bs
+          ∙ ap (further (32 - from % 32)) (sym (far ∙ ap (λ (s : List ℕ). to_mark (marks_in s)) whole))
 
   pub gap_past : length t ≤ from / 32 → to_mark (drop from (marks_in t)) ≡ 0
   gap_past h = ap to_mark (drop_of_length-le (marks_in t) {i = from} (omega (arith, length_marks t))) ∙ unfold to_mark in refl
@@ -120,25 +130,26 @@ pub further_some : (n m : ℕ) → (m ≡ 0 → ⊥) → further n m ≡ n + m
 further_some n zero h = absurd (h refl)
 further_some n (suc m) h = omega arith
 
--- no distance in the table is past its length
-pub gap_few : (t : List ℕ) (k : ℕ) → to_mark (marks_in (drop k t)) ≤ 32 * length t
-gap_few t k = omega (arith, to_mark_within (marks_in (drop k t)), length_marks (drop k t), length-drop k t)
+-- no distance in a table is past its length
+pub gap_few : (t : List ℕ) → to_mark (marks_in t) ≤ 32 * length t
+gap_few t = omega (arith, to_mark_within (marks_in t), length_marks t)
 
--- ---- the walk over whole words: i is the next word
-abbrev pub Reached : List ℕ → ℕ → ℕ → Type 0
-Reached t k i = to_mark (marks_in (drop k t)) ≡ further (32 * (i - k)) (to_mark (marks_in (drop i t)))
+-- ---- whole words: the first i of them have no mark
+passed : (t : List ℕ) (i : ℕ) → i ≤ length t → ((k : ℕ) → k < i → get_or t k 0 ≡ 0) → to_mark (marks_in t) ≡ further (32 * i) (to_mark (marks_in (drop i t)))
+passed t zero h bare = sym (further_none (to_mark (marks_in t)))
+passed [] (suc i) h bare = absurd (not-suc-le-zero h)
+passed (v ∷ t) (suc i) h bare =
+    let m = to_mark (marks_in (drop i t)) in
+    let q : 32 + 32 * i ≡ 32 * suc i = omega arith in
+    gap_on (v ∷ t) 0 (omega arith) (bare 0 (omega arith))
+    ∙ ap (further 32) (passed t i (le_of_suc-le-suc h) (λ k l. bare (suc k) (omega arith)))
+    ∙ further_both 32 (32 * i) m
+    ∙ ap (λ (n : ℕ). further n m) q
 
-module _ (t : List ℕ) (k : ℕ) where
-  module _ (i : ℕ) (so : Reached t k i) where
-    pub reached_last : length t ≤ i → 0 ≡ to_mark (marks_in (drop k t))
-    reached_last h = sym (so ∙ ap (further (32 * (i - k))) (gap_none t i h))
+module _ (t : List ℕ) where
+  pub all_bare : AllWithin (λ v. v ≡ 0) t 0 (length t) → 0 ≡ to_mark (marks_in t)
+  all_bare bare = sym (passed t (length t) (omega arith) (λ k l. bare k 0 (omega arith) l) ∙ ap (further (32 * length t)) (gap_none t (length t) (omega arith)))
 
-    module _ (less : i < length t) where
-      pub reached_mark : (get_or t i 0 ≡ 0 → ⊥) → get_or t i 0 < 2 ^ 32 → 32 * (i - k) + suc (count_trailing_zeros 32 (get_or t i 0)) ≡ to_mark (marks_in (drop k t))
-      reached_mark p l = sym (so ∙ ap (further (32 * (i - k))) (gap_here t i less p l) ∙ omega arith)
-
-      pub reached_more : k ≤ i → get_or t i 0 ≡ 0 → Reached t k (i + 1)
-      reached_more h e =
-          let q : 32 * (i - k) + 32 ≡ 32 * (i + 1 - k) = omega arith in
-          let m = to_mark (marks_in (drop (i + 1) t)) in
-          so ∙ ap (further (32 * (i - k))) (gap_on t i less e) ∙ further_both (32 * (i - k)) 32 m ∙ ap (λ (n : ℕ). further n m) q
+  pub first_marked : (i : ℕ) → (i < length t) × HoldsAt (λ v. v ≡ 0 → ⊥) t i × AllWithin (λ v. v ≡ 0) t 0 i → get_or t i 0 < 2 ^ 32 → 32 * i + suc (count_trailing_zeros 32 (get_or t i 0)) ≡ to_mark (marks_in t)
+  first_marked i h l =
+      sym (passed t i (omega arith) (λ k l. h.2 k 0 (omega arith) l) ∙ ap (further (32 * i)) (gap_here t i h.0 (h.1 0) l) ∙ omega arith)

@@ -7,6 +7,7 @@ ghost use Rattle.std.specs.Int.Count.{count_trailing_zeros};
 ghost use Rattle.marks.specs.Cited.Marks.{marks_in, to_mark};
 
 // Marks a place that has no mark yet.
+#[tactic(auto, using(crate::proofs::Marking::bare_within, crate::proofs::Marking::marks_marked))]
 pub fn mark(table: &mut [u32], at: usize)
     requires { get_or (marks_in table.old) at true ≡ false }
     ensures { marks_in table.new ≡ set (marks_in table.old) at true }

@@ -1,18 +1,17 @@
--- `marks::gap_from_word` meets its contract. Invariant: the words that were passed have no mark.
-use mathlib.Core.Path.{ap, ◌∙◌}
-use Prim.Native.Nat.{ℕ, ◌+◌, ◌-◌, ◌*◌}
-use native.Mathlib.Omega.{arith}
-use Rattle.marks.proofs.Gaps.{reached_last, reached_mark, reached_more}
+-- `marks::gap_from_word` meets its contract.
+use Rattle.std.proofs.Common.{◌≡◌, rules}
+use Rattle.std.proofs.lemmas.Iterator.{IsFirst-from_position, YieldsList-from_slice}
+use Rattle.std.proofs.lemmas.Option.{MatchOption-at_some, MatchOption-at_none}
+use borrow.Author.Tests.{tests}
+use Rattle.marks.proofs.Gaps.{all_bare, first_marked}
 use Rattle.marks.proofs.gap_from_word.Goals as goal
 
-pub returns-then-word-ne0 : goal.returns-then-word-ne0
-returns-then-word-ne0 c =
-    let i = c.loop-i.i in
-    ap (λ (m : ℕ). 32 * (i - c.args.k) + m) c.first.ensures
-    ∙ reached_mark c.args.table.now c.args.k i c.loop-i.invariant.1 c.loop-i-test.true c.if-word-ne0.true (c.shared_slice_known-in-loop-i-1.given i).fits
+pub returns-in-Some : goal.returns-in-Some
+returns-in-Some c =
+    let first = IsFirst-from_position _ _ _ (λ v. v ≡ 0 → ⊥) (λ v. v ≡ 0) c.position.ensures.ran (YieldsList-from_slice c.args.table.now cc) (λ x q k. search (rules, tests)) (λ x q k. search (rules, tests)) in
+    rw c.first.ensures (first_marked c.args.table.now _ (MatchOption-at_some _ _ _ c.in-Some.is first) (c.type_inv.table c.in-Some.i).fits)
 
-pub loop-i-preserved : goal.loop-i-preserved
-loop-i-preserved c = (omega (arith, c.loop-i.invariant.0), reached_more c.args.table.now c.args.k c.loop-i.i c.loop-i.invariant.1 c.loop-i-test.true c.loop-i.invariant.0 c.if-word-ne0.false)
-
-pub returns : goal.returns
-returns c = reached_last c.args.table.now c.args.k c.loop-i.i c.loop-i.invariant.1 c.loop-i-test.false
+pub returns-in-None : goal.returns-in-None
+returns-in-None c =
+    let first = IsFirst-from_position _ _ _ (λ v. v ≡ 0 → ⊥) (λ v. v ≡ 0) c.position.ensures.ran (YieldsList-from_slice c.args.table.now cc) (λ x q k. search (rules, tests)) (λ x q k. search (rules, tests)) in
+    all_bare c.args.table.now (MatchOption-at_none _ _ c.in-None.is first)
