@@ -16,7 +16,7 @@ use Rattle.lines.specs.Classes.{next_stop, column_behind}
 use Rattle.spacing.proofs.Laws.{stop_behind}
 use Rattle.fold.specs.Fold.{stays, staying_on, first_row}
 use Rattle.fold.specs.Cited.Steps.{plain_byte, Plain, Behind, stay_end, row_end}
-use Rattle.fold.specs.declared.Spot.{Spot}
+use Rattle.lines.specs.declared.Spot.{Spot}
 
 -- ---- one character
 

@@ -1,15 +1,14 @@
 // Folding, for the wall: a line feed is put before each character that would end past the columns, so that all of a text can be shown.
 #![tactic(auto)]
 
-ghost use Rattle.std.specs.Prelude.{◌≡◌, true, cond, ◌∷◌, ◌++◌, ◌+◌, ◌-◌, ◌*◌, ◌≤◌, ◌<◌, eqb, length, take, drop};
+ghost use Rattle.std.specs.Prelude.{◌≡◌, true, ◌∷◌, ◌++◌, ◌+◌, ◌-◌, ◌*◌, ◌≤◌, ◌<◌, length, take, drop};
 ghost use Rattle.std.proofs.Math.Seq.{slice};
-ghost use Rattle.widths.specs.Widths.{width_of};
 ghost use Rattle.text.specs.Characters.{characters};
-ghost use Rattle.lines.specs.Classes.{next_stop};
 ghost use Rattle.output.specs.Cited.Sink.{Wrote};
 ghost use Rattle.fold.specs.Fold.{fold as fold_of, rows_of, feed, in_rows, folded};
 ghost use Rattle.fold.specs.Cited.Steps.{Folds, unfolded_coded, Plain, plain_byte, Behind, stay_end, row_end};
 
+use lines::Spot;
 use lists::Refusing;
 
 // Why a text is not folded: the tab width or the columns are refused, it is too long, or there is no room for so many bytes.
@@ -30,13 +29,6 @@ impl Refusing for Unfolded {
             Unfolded::Room(needed) => lists::number(5, needed),
         }
     }
-}
-
-// A place of a line, and the column that it is at on its row.
-#[derive(Clone, Copy, Debug, PartialEq, Eq)]
-struct Spot {
-    at: usize,
-    column: usize,
 }
 
 // A text folded into `out`: the length of what was written. One pass writes what fits and counts what is needed.
@@ -212,23 +204,11 @@ fn behind(line: &[u8], at: usize, column: usize, tab: usize) -> Spot
     match text::decode_at(line, at) {
         Some(c) => Spot {
             at: c.next,
-            column: column_behind(column, c.code, tab),
+            column: lines::column_behind(column, c.code, tab),
         },
         None => Spot {
             at: at + 1,
             column: column + 1,
         },
-    }
-}
-
-// The column after a character: a tab goes to the next stop.
-fn column_behind(column: usize, code: u32, tab: usize) -> usize
-    requires { (column ≤ 1000) × (1 ≤ tab) × (tab ≤ 100) }
-    ensures { (result ≡ cond (eqb code 9) (next_stop tab column) (column + width_of code)) × (result ≤ column + 100) }
-{
-    if code == 9 {
-        (column / tab + 1) * tab
-    } else {
-        column + widths::width(code)
     }
 }

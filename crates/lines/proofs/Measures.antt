@@ -7,7 +7,7 @@ use native.Mathlib.Nat.{add-mul, div-add-mod', mod-lt, div-le_self}
 use native.Mathlib.Omega.{arith}
 use lib.Dec.{eqb}
 use lib.ListN.{length, drop}
-use borrow.Author.Tests.{eq-eqb, ne_eqb}
+use borrow.Author.Tests.{ne_eqb}
 use Rattle.lists.specs.Runs.{while, every}
 use Rattle.lists.proofs.Runs.{while_more, every_more}
 use Rattle.widths.specs.Widths.{width_of}
@@ -27,10 +27,6 @@ next_stop_law column tab h =
     let m = mod-lt column {m = tab} h in
     let e = add-mul (column / tab) 1 tab in
     (omega arith, omega arith, div-le_self column tab)
-
-pub stop_is : (column tab code : ℕ) → code ≡ 9 → (column / tab + 1) * tab ≡ cond (eqb code 9) (next_stop tab column) (column + width_of code)
-unfolding next_stop
-stop_is column tab code h = rw eq-eqb
 
 pub width_is : (column tab code w : ℕ) → (code ≡ 9 → ⊥) → w ≡ width_of code → column + w ≡ cond (eqb code 9) (next_stop tab column) (column + width_of code)
 width_is column tab code w h e = rw (ne_eqb code 9 h, e)

@@ -1,7 +1,7 @@
 // Lines: where one ends, where its text ends, and its class.
 #![tactic(auto)]
 
-ghost use Rattle.std.specs.Prelude.{◌≡◌, Bool, true, false, cond, not, ◌+◌, ◌-◌, ◌≤◌, ◌<◌, eqb, length, get_or, drop};
+ghost use Rattle.std.specs.Prelude.{◌≡◌, Bool, true, false, cond, not, ◌+◌, ◌-◌, ◌^◌, ◌≤◌, ◌<◌, eqb, length, get_or, drop};
 ghost use Rattle.lists.specs.Runs.{while, every, begins};
 ghost use Rattle.widths.specs.Widths.{width_of};
 ghost use Rattle.text.specs.Characters.{glyphs, is_blank, is_good, damage};
@@ -46,9 +46,9 @@ pub struct ClassedExtent {
 
 // A place of a line, and the column that it is at.
 #[derive(Clone, Copy, Debug, PartialEq, Eq)]
-struct Spot {
-    at: usize,
-    column: usize,
+pub struct Spot {
+    pub at: usize,
+    pub column: usize,
 }
 
 // The first line of what is left of the notes.
@@ -671,13 +671,22 @@ fn behind(line: &[u8], spot: Spot, tab: usize) -> Spot
 
 // The column after a character: a tab goes to the next stop.
 // In the original: `FileLines::compute_indent`.
-fn column_behind(column: usize, code: u32, tab: usize) -> usize
+pub fn column_behind(column: usize, code: u32, tab: usize) -> usize
     requires { (column ≤ most_columns) × (1 ≤ tab) × (tab ≤ 100) }
     ensures { (result ≡ cond (eqb code 9) (next_stop tab column) (column + width_of code)) × (result ≤ column + 100) }
 {
     if code == 9 {
-        (column / tab + 1) * tab
+        next_stop(tab, column)
     } else {
         column + widths::width(code)
     }
+}
+
+// The next tab stop after a column.
+#[tactic(auto, unfolding(crate::specs::Classes::next_stop))]
+pub fn next_stop(tab: usize, column: usize) -> usize
+    requires { (1 ≤ tab) × (tab ≤ 100) × (column < 2 ^ 41) }
+    ensures { (result ≡ next_stop tab column) × (column < result) × (result ≤ column + tab) }
+{
+    (column / tab + 1) * tab
 }

@@ -200,7 +200,7 @@ fn next_stop(tab: usize, column: usize) -> usize
     requires { (1 ≤ tab) × (tab ≤ 100) × (column ≤ 80) }
     ensures { result ≡ min 80 (next_stop tab column) }
 {
-    ((column / tab + 1) * tab).min(80)
+    lines::next_stop(tab, column).min(80)
 }
 
 // The last cell of a line that runs over shows `+`; no filler is left without its character.

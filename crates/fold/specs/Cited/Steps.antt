@@ -6,7 +6,7 @@ use Rattle.lines.specs.Classes.{column_behind}
 use Rattle.fold.specs.Fold.{staying_on, first_row, FoldAnswer, done, options, long, room, fold_output_after}
 use Rattle.fold.specs.declared.Unfolded.{Unfolded}
 use Rattle.fold.specs.declared.Unfolded.TheVariants.{Options, Long, Room}
-use Rattle.fold.specs.declared.Spot.{Spot}
+use Rattle.lines.specs.declared.Spot.{Spot}
 
 -- ---- the answer in code: without the bytes, which are in the output
 
