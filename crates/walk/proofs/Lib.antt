@@ -9,3 +9,4 @@ pub mod Steps
 pub mod Loop
 pub mod Lent
 pub mod Unique
+pub mod Courses

@@ -2,7 +2,7 @@
 use Rattle.std.proofs.Common.{Option, Some, None, Result, Ok, Err}
 use mathlib.Core.Path.{◌≡◌, refl, sym, ap, ◌∙◌}
 use mathlib.Core.Bool.{Bool, true, false}
-use mathlib.Core.List.{List, [], ◌∷◌, ◌++◌}
+use mathlib.Core.List.{List, [], ◌++◌}
 use Prim.Native.Nat.{ℕ, ◌≤◌}
 use native.Mathlib.Omega.{arith}
 use lib.ListN.{length, drop, replicate}
@@ -11,20 +11,15 @@ use Rattle.lists.proofs.Walk.{walk_nil}
 use Rattle.lists.proofs.Parts.{joined_nil, joined_cons}
 use Rattle.lists.proofs.All.{all_back}
 use Rattle.options.specs.Opts.{Opts}
-use Rattle.options.specs.declared.Options.{Options}
 use Rattle.lines.specs.Lines.{Line, lines_of}
 use Rattle.lines.proofs.Lines.{lines_past}
 use Rattle.lines.proofs.Sound.{lines_sound}
 use Rattle.pieces.specs.Pieces.{Kind, next_piece, pieces}
-use Rattle.pieces.specs.declared.Paragraph.{Paragraph}
 use Rattle.pieces.proofs.Extents.{lines_in, walk_lines}
-use Rattle.output.proofs.Sink.{length_written, wrote_length, wrote_nil, left_first, left_then, left_last}
+use Rattle.output.proofs.Sink.{length_written, wrote_nil, left_first, left_then, left_last}
 use Rattle.walk.specs.Digest.{output_of, piece_output, digest, too_many, long_paragraph}
-use Rattle.walk.specs.Cited.Course.{pieces_from, output_from, long_from, FirstPiece, Put, TooLong, SoundFrom, CursorIn, Going, start, FinishedFrom, ClearedFrom, Finished, Reached, Coursed}
+use Rattle.walk.specs.Cited.Course.{pieces_from, output_from, long_from, FirstPiece, Put, TooLong, SoundFrom, CursorIn, Going, start, FinishedFrom, ClearedFrom, Finished}
 use Rattle.paragraphs.specs.declared.Cursor.{Cursor}
-use Rattle.walk.specs.declared.Ahead.{Ahead}
-use Rattle.walk.specs.declared.Ahead.TheVariants.{Text, End}
-use Rattle.walk.specs.declared.Short.{Short}
 use Rattle.walk.specs.declared.Stopped.{Stopped}
 
 -- ---- the pieces from a place on
@@ -125,40 +120,11 @@ module _ (most : ℕ) (o : Opts) (notes : List ℕ) where
     pub going_last : length notes ≤ c.at → FinishedFrom most o notes c₀ out₀ out (Ok c.written)
     going_last h = (sym g.long ∙ long_none most o c.mail notes c.at h, left_last (rw (output_none o c.mail notes c.at h) at g.left) (wrote_nil out c.written))
 
-none_longer : (xs : List ℕ) → length xs ≡ 0 → xs ≡ []
-none_longer [] e = refl
-none_longer (x ∷ xs) e = absurd (omega (arith, e))
-
 -- from the first place on
 pub stands_first : (notes : List ℕ) → CursorIn notes start
 stands_first notes = record { within = omega arith; bounded = omega arith; sound = lines_sound notes }
 
 module _ (most : ℕ) (o : Opts) (notes : List ℕ) where
-  pub all_finished : (c : Cursor) (out out' : List ℕ) (r : Result ℕ Stopped) → c ≡ start → ClearedFrom most o notes c out out' r → Finished most o notes out out' r
-  all_finished c out out' (Ok n) e f = let g : ClearedFrom most o notes start out out' (Ok n) = rw e at f in (sym (all_long most o notes) ∙ g.0, rw (all_output o notes) at g.1)
-  all_finished c out out' (Err stopped) e f = let g : ClearedFrom most o notes start out out' (Err stopped) = rw e at f in (sym (all_long most o notes) ∙ g.0, g.1)
-
-  -- where there is no room nothing is written, and nothing is to be cleared
-  pub none_measured : (c : Cursor) (out' : List ℕ) (r : Result ℕ Stopped) → FinishedFrom most o notes c [] out' r → FinishedFrom most o notes c [] [] r
-  none_measured c out' (Ok n) f = rw (none_longer out' (wrote_length f.1)) at f
-  none_measured c out' (Err stopped) f = (f.0, refl)
-
-  pub none_finished : (c : Cursor) (out' : List ℕ) (r : Result ℕ Stopped) → c ≡ start → FinishedFrom most o notes c [] out' r → Finished most o notes [] [] r
-  none_finished c out' (Ok n) e f = all_finished c [] [] (Ok n) e (none_measured c out' (Ok n) f)
-  none_finished c out' (Err stopped) e f = all_finished c [] [] (Err stopped) e (f.0, refl)
-
-  pub none_left_out : {c₀ c : Cursor} {out : List ℕ} → Going most o notes c₀ [] c out → Going most o notes c₀ [] c []
-  none_left_out {out = out} g = rw (none_longer out (going_length most o notes g)) at g
-
--- by what follows the lines
-module _ (most : ℕ) (block : List ℕ) (o : Options) (notes out₀ out : List ℕ) (c₀ : Cursor) (r : Ahead) (s : Reached most block o notes c₀ out₀ out r) where
-  pub reached_text : {c : Cursor} {p : Paragraph} → r ≡ Text c p → Reached most block o notes c₀ out₀ out (Text c p)
-  reached_text e = rw e at s
-
-  pub reached_end : {n : ℕ} → r ≡ End n → Reached most block o notes c₀ out₀ out (End n)
-  reached_end e = rw e at s
-
--- by how far the room reached
-module _ (most room : ℕ) (block : List ℕ) (o : Options) (notes out₀ out : List ℕ) (c₀ : Cursor) (r : Result ℕ Short) (s : Coursed most room block o notes c₀ out₀ out r) where
-  pub course_short : {short : Short} → r ≡ Err short → Coursed most room block o notes c₀ out₀ out (Err short)
-  course_short e = rw e at s
+  pub all_finished : (out out' : List ℕ) (r : Result ℕ Stopped) → ClearedFrom most o notes start out out' r → Finished most o notes out out' r
+  all_finished out out' (Ok n) f = (sym (all_long most o notes) ∙ f.0, rw (all_output o notes) at f.1)
+  all_finished out out' (Err stopped) f = (sym (all_long most o notes) ∙ f.0, f.1)

@@ -3,7 +3,7 @@ use Rattle.std.proofs.Common.{None, Result, Ok, Err}
 use mathlib.Core.Path.{◌≡◌, refl, sym, ap, ◌∙◌}
 use mathlib.Core.Bool.{Bool, true, false, not, ◌||◌}
 use mathlib.Core.List.{List, [], ◌++◌}
-use Prim.Native.Nat.{ℕ, ◌+◌, ◌-◌, ◌≤◌, ◌<◌}
+use Prim.Native.Nat.{ℕ, ◌+◌, ◌-◌, ◌*◌, ◌^◌, ◌≤◌, ◌<◌}
 use native.Mathlib.Omega.{arith}
 use lib.ListN.{length}
 use lib.Seq.{slice}
@@ -177,10 +177,10 @@ module _ (block notes : List ℕ) (o : Options) (c : Cursor) (p : ParagraphAt) (
       let n = takes_few o.quick (p.next - c.at) limit room (length (words_for block notes c.at o p)) (half notes c.at o p begins_placed block) small v.0 in
       text_put block notes o ready c.mail c.at p g.paragraph_is g.goes g.text g.bounds most out c d out' refl refl (omega (arith, n, few)) v.1
 
-  pub begins_over : (limit room : ℕ) (out out' : List ℕ) (r : Result Cursor TooMany) → TextStepped (takes o.quick (p.next - c.at) limit room (length (words_for block notes c.at o p))) notes c.at o p out c.written out' r block → r ≡ Err (record { })
+  pub begins_over : (limit room : ℕ) (out out' : List ℕ) (r : Result Cursor TooMany) → TextStepped (takes o.quick (p.next - c.at) limit room (length (words_for block notes c.at o p))) notes c.at o p out c.written out' r block → r ≡ Err (record {})
       → (room < length (words_for block notes c.at o p)) × (out' ≡ out)
   begins_over limit room out out' r w e =
-      let v : TextStepped (takes o.quick (p.next - c.at) limit room (length (words_for block notes c.at o p))) notes c.at o p out c.written out' (Err (record { })) block = rw e at w in
+      let v : TextStepped (takes o.quick (p.next - c.at) limit room (length (words_for block notes c.at o p))) notes c.at o p out c.written out' (Err (record {})) block = rw e at w in
       (takes_many o.quick (p.next - c.at) limit room (length (words_for block notes c.at o p)) v.0, v.1)
 
   -- it has more words than any may have
@@ -197,6 +197,12 @@ pub room_few : (quick : Bool) (size k : ℕ) → size ≡ k → (quick ≡ true 
 unfolding room_for
 room_few true size k e a b = let h = a refl in omega arith
 room_few false size k e a b = let h = b refl in omega arith
+
+-- so they are small
+pub room_small : (quick : Bool) (size : ℕ) → room_for quick size ≤ most_words → size * 4 < 2 ^ 63
+unfolding room_for
+room_small true size h = omega arith
+room_small false size h = omega arith
 
 -- and the last ones are for as many
 pub room_last : (quick : Bool) (size n k : ℕ) → size ≡ k → room_for quick size < n → (quick ≡ true → 7168 ≤ k) → (quick ≡ false → 15360 ≤ k) → most_words < n

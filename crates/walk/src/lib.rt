@@ -2,6 +2,7 @@
 #![tactic(auto)]
 
 pub mod notes;
+mod texts;
 
 ghost use Rattle.std.specs.Prelude.{◌≡◌, true, false, cond, List, [], ℕ, ◌+◌, ◌-◌, ◌*◌, ◌≤◌, max, length, None};
 ghost use Rattle.std.proofs.Math.Seq.{slice};
@@ -14,32 +15,36 @@ ghost use Rattle.output.specs.Cited.Sink.{Wrote};
 ghost use Rattle.paragraphs.specs.Cited.Steps.{room_for, words_for};
 ghost use Rattle.walk.specs.Digest.{most_words, digest};
 ghost use Rattle.walk.specs.Work.{work_for};
-ghost use Rattle.walk.specs.Cited.Course.{CursorIn, TextAhead, Reached, output_from, long_from, Coursed, Finished, FinishedFrom, ClearedFrom};
+ghost use Rattle.walk.specs.Cited.Course.{CursorIn, output_from, long_from, Finished};
+ghost use Rattle.walk.specs.Cited.Texts.{FinishedText, ClearedText, Coursed, Reached};
 
 use notes::Notes;
 use options::Options;
 use paragraphs::Cursor;
 use pieces::{Paragraph, Piece};
+use texts::Text;
 
-// What follows the lines after a place: a paragraph, where the cursor stands, or the end of the notes, with the digest's length. Neither is an
-// absence or a failure: an Option would drop the length, and a Result call one of them an error.
-#[derive(Clone, Copy, Debug, PartialEq, Eq)]
-enum Ahead {
-    Text { c: Cursor, p: Paragraph },
+// What follows the lines after a place: a paragraph, or the end of the notes, with the digest's length. Neither is an absence or a failure: an
+// Option would drop the length, and a Result call one of them an error.
+#[derive(Clone, Copy, Debug)]
+enum Ahead<'a> {
+    Text(Text<'a>),
     End(usize),
-}
-
-// The tables do not reach to the end of the digest: where the cursor stands, and a paragraph of more words than they have room for.
-#[derive(Clone, Copy, Debug, PartialEq, Eq)]
-struct Short {
-    c: Cursor,
-    p: Paragraph,
 }
 
 // There is no digest: the place of the first paragraph that has too many words.
 #[derive(Clone, Copy, Debug, PartialEq, Eq)]
 pub struct Stopped {
     pub at: usize,
+}
+
+// Of a paragraph of too many words its first line's place is told.
+impl<'a> From<Text<'a>> for Stopped {
+    ghost from_gives = { λ text stopped. stopped.at ≡ text.c.at };
+
+    fn from(text: Text<'a>) -> Stopped {
+        Stopped { at: text.c.at }
+    }
 }
 
 // Where the notes begin.
@@ -57,16 +62,15 @@ pub fn put_all(notes: Notes, out: &mut [u8]) -> Result<usize, Stopped>
 {
     match put_lines(notes, FRONT, out) {
         Ahead::End(needed) => Ok(needed),
-        Ahead::Text { c, p } => put_or_clear(notes, c, p, out),
+        Ahead::Text(text) => put_or_clear(text, out),
     }
 }
 
 // Everything from the first paragraph on, or nothing.
-fn put_or_clear(notes: Notes, c: Cursor, p: Paragraph, out: &mut [u8]) -> Result<usize, Stopped>
-    requires { CursorIn notes.bytes.now c × TextAhead notes.block.now notes.options notes.bytes.now c p }
-    ensures { ClearedFrom most_words (meant notes.entry.block.now notes.entry.options) notes.entry.bytes.now c out.old out.new result }
+fn put_or_clear(text: Text, out: &mut [u8]) -> Result<usize, Stopped>
+    ensures { ClearedText most_words text.entry out.old out.new result }
 {
-    let ended = put_from(notes, c, p, out);
+    let ended = put_from(text, out);
     if ended.is_err() {
         out.fill(0);
     }
@@ -74,14 +78,13 @@ fn put_or_clear(notes: Notes, c: Cursor, p: Paragraph, out: &mut [u8]) -> Result
 }
 
 // Everything from the first paragraph on, written.
-fn put_from(notes: Notes, c: Cursor, p: Paragraph, out: &mut [u8]) -> Result<usize, Stopped>
-    requires { CursorIn notes.bytes.now c × TextAhead notes.block.now notes.options notes.bytes.now c p }
-    ensures { FinishedFrom most_words (meant notes.entry.block.now notes.entry.options) notes.entry.bytes.now c out.old out.new result }
+fn put_from(text: Text, out: &mut [u8]) -> Result<usize, Stopped>
+    ensures { FinishedText most_words text.entry out.old out.new result }
 {
-    if notes.options.quick {
-        put_quick(notes, c, p, out)
+    if text.notes.options.quick {
+        put_quick(text, out)
     } else {
-        put_best(notes, c, p, out)
+        put_best(text, out)
     }
 }
 
@@ -100,18 +103,18 @@ pub fn put_all_lent(notes: Notes, out: &mut [u8], work: &mut [u32]) -> usize
 {
     match put_lines(notes, FRONT, out) {
         Ahead::End(needed) => needed,
-        Ahead::Text { c, p } => put_lent(notes, c, p, out, work),
+        Ahead::Text(text) => put_lent(text, out, work),
     }
 }
 
 // Everything from the first paragraph on.
-fn put_lent(notes: Notes, c: Cursor, p: Paragraph, out: &mut [u8], work: &mut [u32]) -> usize
-    requires { CursorIn notes.bytes.now c × TextAhead notes.block.now notes.options notes.bytes.now c p × (long_from (room_for notes.options.quick (length work.old)) (meant notes.block.now notes.options) c.mail notes.bytes.now c.at ≡ None) }
-    ensures { Wrote out.old c.written (output_from (meant notes.entry.block.now notes.entry.options) c.mail notes.entry.bytes.now c.at) out.new result }
+fn put_lent(text: Text, out: &mut [u8], work: &mut [u32]) -> usize
+    requires { long_from (room_for text.notes.options.quick (length work.old)) (meant text.notes.block.now text.notes.options) text.c.mail text.notes.bytes.now text.c.at ≡ None }
+    ensures { Wrote out.old text.entry.c.written (output_from (meant text.entry.notes.block.now text.entry.notes.options) text.entry.c.mail text.entry.notes.bytes.now text.entry.c.at) out.new result }
 {
-    let limit = paragraphs::room_for(notes.options.quick, work.len());
+    let limit = paragraphs::room_for(text.notes.options.quick, work.len());
     // There is room for every paragraph, so none is left.
-    put_texts(notes, c, p, out, limit, work).unwrap()
+    put_texts(text, out, limit, work).unwrap()
 }
 
 // The room that the notes need, if it is more than so much. Their bytes may show that it is not: between two words stands a blank.
@@ -165,9 +168,9 @@ fn with_paragraph(o: Options, notes: &[u8], at: usize, p: Paragraph, most: usize
 }
 
 // Writes the lines from a place on, blank and plain ones, up to the next paragraph.
-fn put_lines(notes: Notes, from: Cursor, out: &mut [u8]) -> Ahead
+fn put_lines<'a>(notes: Notes<'a>, from: Cursor, out: &mut [u8]) -> Ahead<'a>
     requires { CursorIn notes.bytes.now from }
-    ensures { (most : ℕ) → Reached most notes.entry.block.now notes.entry.options notes.entry.bytes.now from out.old out.new result }
+    ensures { (most : ℕ) → Reached most notes.entry from out.old out.new result }
 {
     let mut c = from;
     while c.at < notes.bytes.len() {
@@ -195,7 +198,7 @@ fn put_lines(notes: Notes, from: Cursor, out: &mut [u8]) -> Ahead
                 };
             }
             Piece::Text(p) => {
-                return Ahead::Text { c, p };
+                return Ahead::Text(Text { notes, c, p });
             }
         }
     }
@@ -225,94 +228,85 @@ const SURE_BYTES: usize = 2048;
 // As far as a room of N numbers reaches. The room is declared here and lent from here on: N has an instance of this function to itself, which
 // is never made part of its caller, so that a call has no more room cleared than its paragraphs ask for.
 #[inline(never)]
-fn put_in<const N: usize>(
-    notes: Notes,
-    c: Cursor,
-    p: Paragraph,
-    out: &mut [u8],
-) -> Result<usize, Short>
-    requires { CursorIn notes.bytes.now c × TextAhead notes.block.now notes.options notes.bytes.now c p × (room_for notes.options.quick N ≤ most_words) }
-    ensures { Coursed most_words (room_for notes.entry.options.quick N) notes.entry.block.now notes.entry.options notes.entry.bytes.now c out.old out.new result }
+fn put_in<'a, const N: usize>(text: Text<'a>, out: &mut [u8]) -> Result<usize, Text<'a>>
+    requires { room_for text.notes.options.quick N ≤ most_words }
+    ensures { Coursed most_words (room_for text.entry.notes.options.quick N) text.entry out.old out.new result }
 {
     let mut work = [0u32; N];
-    put_texts(notes, c, p, out, MOST_WORDS, &mut work)
+    put_texts(text, out, MOST_WORDS, &mut work)
 }
 
 // Quick. Paragraphs whose bytes show that they have no more words than they may need no room; the words of longer ones have to be counted.
 // The first paragraph is not read for nothing where it is longer.
-fn put_quick(notes: Notes, c: Cursor, p: Paragraph, out: &mut [u8]) -> Result<usize, Stopped>
-    requires { CursorIn notes.bytes.now c × TextAhead notes.block.now notes.options notes.bytes.now c p × (notes.options.quick ≡ true) }
-    ensures { FinishedFrom most_words (meant notes.entry.block.now notes.entry.options) notes.entry.bytes.now c out.old out.new result }
+fn put_quick(text: Text, out: &mut [u8]) -> Result<usize, Stopped>
+    requires { text.notes.options.quick ≡ true }
+    ensures { FinishedText most_words text.entry out.old out.new result }
 {
-    let mut rest = Short { c, p };
-    if p.next - c.at <= SURE_BYTES {
-        match put_in::<0>(notes, rest.c, rest.p, out) {
+    let mut left = text;
+    if text.p.next - text.c.at <= SURE_BYTES {
+        match put_in::<0>(left, out) {
             Ok(needed) => return Ok(needed),
-            Err(short) => rest = short,
+            Err(short) => left = short,
         }
     }
-    put_in::<QUICK_MOST>(notes, rest.c, rest.p, out).map_err(|short| Stopped { at: short.c.at })
+    Ok(put_in::<QUICK_MOST>(left, out)?)
 }
 
 // Knuth-Plass, in three rooms, each for longer paragraphs than the one before it: for the words of a few lines, for those of 1 KiB of prose, and
 // for the most that a paragraph may have. The first paragraph is not split for a room that it outgrows.
-fn put_best(notes: Notes, c: Cursor, p: Paragraph, out: &mut [u8]) -> Result<usize, Stopped>
-    requires { CursorIn notes.bytes.now c × TextAhead notes.block.now notes.options notes.bytes.now c p × (notes.options.quick ≡ false) }
-    ensures { FinishedFrom most_words (meant notes.entry.block.now notes.entry.options) notes.entry.bytes.now c out.old out.new result }
+fn put_best(text: Text, out: &mut [u8]) -> Result<usize, Stopped>
+    requires { text.notes.options.quick ≡ false }
+    ensures { FinishedText most_words text.entry out.old out.new result }
 {
-    let size = p.next - c.at;
-    let mut rest = Short { c, p };
+    let size = text.p.next - text.c.at;
+    let mut left = text;
     if size <= FEW_BYTES {
-        match put_in::<BEST_FEW>(notes, rest.c, rest.p, out) {
+        match put_in::<BEST_FEW>(left, out) {
             Ok(needed) => return Ok(needed),
-            Err(short) => rest = short,
+            Err(short) => left = short,
         }
     }
     if size <= MORE_BYTES {
-        match put_in::<BEST_MORE>(notes, rest.c, rest.p, out) {
+        match put_in::<BEST_MORE>(left, out) {
             Ok(needed) => return Ok(needed),
-            Err(short) => rest = short,
+            Err(short) => left = short,
         }
     }
-    put_in::<BEST_MOST>(notes, rest.c, rest.p, out).map_err(|short| Stopped { at: short.c.at })
+    Ok(put_in::<BEST_MOST>(left, out)?)
 }
 
 // Paragraph by paragraph, each with the lines after it, as far as the room reaches; quick needs none where a paragraph's bytes show that it
 // has no more than so many words.
 // In the original: `uumain`.
-fn put_texts(
-    notes: Notes,
-    first: Cursor,
-    head: Paragraph,
+fn put_texts<'a>(
+    first: Text<'a>,
     out: &mut [u8],
     limit: usize,
     work: &mut [u32],
-) -> Result<usize, Short>
-    requires { CursorIn notes.bytes.now first × TextAhead notes.block.now notes.options notes.bytes.now first head × (room_for notes.options.quick (length work.old) ≤ limit) }
-    ensures { (most : ℕ) → limit ≤ most → Coursed most (room_for notes.entry.options.quick (length work.old)) notes.entry.block.now notes.entry.options notes.entry.bytes.now first out.old out.new result }
+) -> Result<usize, Text<'a>>
+    requires { room_for first.notes.options.quick (length work.old) ≤ limit }
+    ensures { (most : ℕ) → limit ≤ most → Coursed most (room_for first.entry.notes.options.quick (length work.old)) first.entry out.old out.new result }
 {
-    let mut c = first;
-    let mut p = head;
+    let mut text = first;
     loop {
         let Ok(behind) = paragraphs::put_paragraph(
-            notes.bytes,
-            c.at,
-            notes.options,
-            p,
+            text.notes.bytes,
+            text.c.at,
+            text.notes.options,
+            text.p,
             out,
-            c.written,
+            text.c.written,
             limit,
             work,
         ) else {
-            return Err(Short { c, p });
+            return Err(text);
         };
-        match put_lines(notes, behind, out) {
+        match put_lines(text.notes, behind, out) {
             Ahead::End(needed) => {
                 return Ok(needed);
             }
-            Ahead::Text { c: d, p: q } => {
-                c = d;
-                p = q;
+            Ahead::Text(next) => {
+                text = next;
             }
         }
     }

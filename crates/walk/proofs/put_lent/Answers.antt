@@ -2,13 +2,10 @@
 use native.Mathlib.Omega.{arith}
 use lib.ListN.{length}
 use Rattle.paragraphs.specs.Cited.Steps.{room_for}
-use Rattle.walk.proofs.Loop.{course_short}
-use Rattle.walk.proofs.Steps.{begins_long}
-use Rattle.walk.proofs.Unique.{nowhere_else}
+use Rattle.walk.proofs.Courses.{lent_ended}
 use Rattle.walk.proofs.put_lent.Goals as goal
 
-pub returns-in-Short : goal.returns-in-Short
-returns-in-Short c =
-    let t = course_short _ _ _ _ _ _ _ _ c.put_texts.result (c.put_texts.ensures (room_for c.args.o.quick (length c.args.work.now)) (omega (arith, c.room_for-limit.ensures))) c.in-Short.is in
-    let p = c.requires in
-    nowhere_else p.3 (begins_long _ _ _ _ _ p.0 t.1 (room_for c.args.o.quick (length c.args.work.now)) _ _ _ t.0 t.2).0
+pub unwrap-requires : goal.unwrap-requires
+unwrap-requires c =
+    let e = lent_ended _ c.args.text _ _ _ c.requires (c.put_texts.ensures (room_for c.args.text.notes.options.quick (length c.args.work.now)) (omega (arith, c.room_for-limit.ensures))) in
+    rw e.1

@@ -14,12 +14,8 @@ use Rattle.pieces.specs.Cited.Bounds.{Bounded}
 use Rattle.pieces.specs.declared.Paragraph.{Paragraph}
 use Rattle.pieces.specs.declared.Piece.TheVariants.{Text as TextAt}
 use Rattle.output.specs.Cited.Sink.{Wrote, Left}
-use Rattle.paragraphs.specs.Cited.Steps.{words_for}
 use Rattle.paragraphs.specs.declared.Cursor.{Cursor}
 use Rattle.walk.specs.Digest.{output_of, piece_output, digest, extent_of, too_many, long_paragraph}
-use Rattle.walk.specs.declared.Ahead.{Ahead}
-use Rattle.walk.specs.declared.Ahead.TheVariants.{Text as AheadText, End}
-use Rattle.walk.specs.declared.Short.{Short}
 use Rattle.walk.specs.declared.Stopped.{Stopped}
 
 -- the options of an accepted block, and notes within the limit, without a damaged character unless such are kept
@@ -105,17 +101,6 @@ FinishedFrom most o notes c out out' (Err stopped) = (long_from most o c.mail no
 abbrev pub ClearedFrom : ℕ → Opts → List ℕ → Cursor → List ℕ → List ℕ → Result ℕ Stopped → Type 0
 ClearedFrom most o notes c out out' (Ok n) = FinishedFrom most o notes c out out' (Ok n)
 ClearedFrom most o notes c out out' (Err stopped) = (long_from most o c.mail notes c.at ≡ Some stopped.at) × (out' ≡ replicate (length out) 0)
-
--- so far as the room reaches, which is for so many words: to the end, or to a paragraph of more words
-abbrev pub Coursed : ℕ → ℕ → List ℕ → Options → List ℕ → Cursor → List ℕ → List ℕ → Result ℕ Short → Type 0
-Coursed most room block o notes c₀ out₀ out (Ok n) = FinishedFrom most (meant block o) notes c₀ out₀ out (Ok n)
-Coursed most room block o notes c₀ out₀ out (Err short) =
-    Going most (meant block o) notes c₀ out₀ short.c out × TextAhead block o notes short.c short.p × (room < length (words_for block notes short.c.at o short.p))
-
--- the lines from a place on were written, up to a paragraph or to the end
-abbrev pub Reached : ℕ → List ℕ → Options → List ℕ → Cursor → List ℕ → List ℕ → Ahead → Type 0
-Reached most block o notes c₀ out₀ out (AheadText c p) = Going most (meant block o) notes c₀ out₀ c out × TextAhead block o notes c p × (c₀.at ≤ c.at)
-Reached most block o notes c₀ out₀ out (End n) = FinishedFrom most (meant block o) notes c₀ out₀ out (Ok n)
 
 -- all of them, from the first place on; where a paragraph has too many words no byte of a digest is left
 abbrev pub start : Cursor
