@@ -73,3 +73,35 @@ thai_tones c h l = within 0xE47 _ _ _ _ _ refl h h l
 pub joiner : (c : ℕ) → c ≡ 0x200D → 0 ≡ width_of c
 unfolding past table
 joiner c e = within 0x200D _ _ _ _ _ refl (omega arith) (omega arith) (omega arith)
+
+pub hiragana : (c : ℕ) → 0x3041 ≤ c → c ≤ 0x3096 → 2 ≡ width_of c
+unfolding past table
+hiragana c h l = within 0x3041 _ _ _ _ _ refl h h l
+
+pub katakana : (c : ℕ) → 0x309B ≤ c → c ≤ 0x30FF → 2 ≡ width_of c
+unfolding past table
+katakana c h l = within 0x309B _ _ _ _ _ refl h h l
+
+pub hangul : (c : ℕ) → 0xAC00 ≤ c → c ≤ 0xD7A3 → 2 ≡ width_of c
+unfolding past table
+hangul c h l = within 0xAC00 _ _ _ _ _ refl h h l
+
+pub emoji_3f8 : (c : ℕ) → 0x1F3F8 ≤ c → c ≤ 0x1F43E → 2 ≡ width_of c
+unfolding past table
+emoji_3f8 c h l = within 0x1F3F8 _ _ _ _ _ refl h h l
+
+pub emoji_442 : (c : ℕ) → 0x1F442 ≤ c → c ≤ 0x1F4FC → 2 ≡ width_of c
+unfolding past table
+emoji_442 c h l = within 0x1F442 _ _ _ _ _ refl h h l
+
+pub emoji_4ff : (c : ℕ) → 0x1F4FF ≤ c → c ≤ 0x1F53D → 2 ≡ width_of c
+unfolding past table
+emoji_4ff c h l = within 0x1F4FF _ _ _ _ _ refl h h l
+
+pub emoji_5fb : (c : ℕ) → 0x1F5FB ≤ c → c ≤ 0x1F64F → 2 ≡ width_of c
+unfolding past table
+emoji_5fb c h l = within 0x1F5FB _ _ _ _ _ refl h h l
+
+pub emoji_680 : (c : ℕ) → 0x1F680 ≤ c → c ≤ 0x1F6C5 → 2 ≡ width_of c
+unfolding past table
+emoji_680 c h l = within 0x1F680 _ _ _ _ _ refl h h l

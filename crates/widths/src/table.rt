@@ -7,7 +7,7 @@ ghost use Rattle.widths.specs.Cited.Forms.{beyond, behind};
 ghost use Rattle.widths.specs.Cited.Starts.{near_starts, next_starts, far_starts};
 
 // Characters of one width.
-#[derive(Clone, Copy)]
+#[derive(Clone, Copy, Debug, PartialEq, Eq)]
 pub struct Span {
     pub first: u32,
     pub last: u32,

@@ -6,8 +6,8 @@ use Rattle.widths.proofs.search.Goals as goal
 pub returns-then-c-s-2 : goal.returns-then-c-s-2
 returns-then-c-s-2 c = gap _ _ _ _ _ c.row-s.ensures c.loop-s.invariant c.if-c-s-2.true
 
-pub returns-then-c-s : goal.returns-then-c-s
-returns-then-c-s c =
+pub returns-else-c-s-2 : goal.returns-else-c-s-2
+returns-else-c-s-2 c =
     hit _ _ _ _ _ c.row-s.ensures c.loop-s.invariant c.if-c-s-2.false c.if-c-s.true
 
 pub overflow_add-k : goal.overflow_add-k
