@@ -149,11 +149,6 @@ module _ (s : List ℕ) (at : ℕ) where
   damaged_is : Broken ≡ seen_as at (glyph (drop at s)) → glyph (drop at s) ≡ glyph_as (drop at s) nothing
   damaged_is e = glyph_is nothing (damaged_front at (decode (drop at s)) (damaged_char_here (sym e)))
 
-  pub no_blank : (r : Seen) → r ≡ seen_as at (glyph (drop at s)) → ((c n : ℕ) → r ≡ Blank c n → ⊥) → (glyph (drop at s)).blank ≡ false
-  no_blank (Ink c n) e h = (ink_here c n (sym e)).is_blank
-  no_blank (Blank c n) e h = absurd (h c n refl)
-  no_blank Broken e h = rw (damaged_is e)
-
   pub not_blank : (r : Seen) → r ≡ seen_as at (glyph (drop at s)) → OneOf (0 ∷ 2 ∷ []) (tag_of the_type r) → (glyph (drop at s)).blank ≡ false
   not_blank (Ink c n) e h = (ink_here c n (sym e)).is_blank
   not_blank (Blank c n) e h = absurd (⊎_elim (λ z. omega arith) (λ z. omega arith) h)

@@ -1,8 +1,9 @@
 -- `text::is_ink` meets its contract: the first character there is not U+00A0, so that it alone decides.
 use mathlib.Core.Path.{sym, ap, ◌∙◌}
 use mathlib.Core.Bool.{not}
+use borrow.Author.Rules.{rules}
 use borrow.Author.Tests.{le-ltb}
-use Rattle.text.proofs.Glyphs.{blank_here, no_blank}
+use Rattle.text.proofs.Glyphs.{blank_here, not_blank}
 use Rattle.text.proofs.NoBreaks.{ink_past, ink_first}
 use Rattle.text.proofs.is_ink.Goals.{in-Blank, in_default}
 use Rattle.text.proofs.is_ink.Goals as goal
@@ -15,5 +16,5 @@ returns-after-matches c =
     let i = c.args in
     elim c.match-matches.branch [
       | in-Blank w ↦ rw w.matches-is (sym (ink_first i.s.now i.at c.if-at-s.true c.requires ∙ ap not (blank_here i.s.now i.at _ _ (sym c.glyph_at.ensures ∙ w.in-Blank.is)).is_blank))
-      | in_default w ↦ rw w.matches-is (sym (ink_first i.s.now i.at c.if-at-s.true c.requires ∙ ap not (no_blank i.s.now i.at _ c.glyph_at.ensures w.in_default.not-Blank)))
+      | in_default w ↦ rw w.matches-is (sym (ink_first i.s.now i.at c.if-at-s.true c.requires ∙ ap not (not_blank i.s.now i.at _ c.glyph_at.ensures (search rules))))
     ]
