@@ -1,5 +1,5 @@
 -- What the writing call has written comes back: its answers lead to the statements about what is sent.
-use Rattle.std.proofs.Common.{Ok, Err}
+use Rattle.std.proofs.Common.{Ok, Err, Result}
 use mathlib.Core.Path.{◌≡◌, refl, sym, ap, ◌∙◌}
 use mathlib.Core.Bool.{Bool, true, false, cond}
 use mathlib.Core.List.{List, ◌++◌, map}
@@ -12,7 +12,7 @@ use Rattle.lists.specs.Theorems.All.{◌∈◌}
 use Rattle.options.specs.Opts.{Opts, meant}
 use Rattle.options.specs.OptionBlock.{read_block}
 use Rattle.options.specs.declared.Options.{Options}
-use Rattle.options.specs.declared.Block.{Block}
+use Rattle.options.specs.declared.Fault.{Fault}
 use Rattle.pieces.specs.Pieces.{Piece, Paragraph, paragraph, pieces}
 use Rattle.words.specs.Words.{words_of}
 use Rattle.output.specs.Emission.{line_feed}
@@ -90,6 +90,6 @@ what_the_call_wrote_comes_back l block notes space bytes h = read (read_block bl
           count = ap length b ∙ length-map (joined (λ (q : Piece). came_back m q.kind) (pieces m notes)) unquoted ∙ each_piece_once_and_each_such_line m notes ∙ ap (λ (n : ℕ). length (pieces m notes) + n) (sym (dashes_done l block notes space bytes o h e));
         }
 
-    read : (b : Block) → read_block block ≡ b → sent_block l space block notes b ≡ done bytes → ComesBack l block notes space bytes
-    read (Err (record { at = place })) e k = absurd (let z : ◌≡◌ {A = ℕ} 0 1 = cc in omega arith)
+    read : (b : Result Options Fault) → read_block block ≡ b → sent_block l space block notes b ≡ done bytes → ComesBack l block notes space bytes
+    read (Err fault) e k = absurd (let z : ◌≡◌ {A = ℕ} 0 1 = cc in omega arith)
     read (Ok o) e k = fit o e (unfit block) refl k

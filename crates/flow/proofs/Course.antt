@@ -1,5 +1,5 @@
 -- Piece by piece: what was sent of each, and what is left of the work.
-use Rattle.std.proofs.Common.{None, Ok, Err}
+use Rattle.std.proofs.Common.{None, Ok, Err, Result}
 use mathlib.Core.Path.{◌≡◌, refl, sym, ap, ◌∙◌}
 use mathlib.Core.Bool.{Bool, true, false, not}
 use mathlib.Core.List.{List, [], ◌∷◌, ◌++◌, append-nil}
@@ -53,7 +53,7 @@ use Rattle.flow.specs.Flow.{broken_into, paragraph_lines, sent_lines, plain_sent
 use Rattle.flow.specs.Cited.Words.{most_sent}
 use Rattle.flow.specs.Cited.Sending.{Ready, ParagraphSent, TextSent, TextStepped, flowed_from, dashes_for, CursorIn, Put, PieceStepped, Finished}
 use Rattle.flow.specs.declared.Cursor.{Cursor}
-use Rattle.flow.specs.declared.Step.{Step}
+use Rattle.words.specs.declared.TooMany.{TooMany}
 use Rattle.flow.specs.declared.Turn.{Turn}
 use Rattle.flow.proofs.Words.{words_sent_law, words_dashes_law, sent_most, words_dashes_few}
 
@@ -223,9 +223,9 @@ module _ (block notes : List ℕ) (o : Options) (ready : Ready block notes o) (c
   pub text_placed : Placed notes c.at o p
   text_placed = placed block notes o ready c.mail c.at p g.paragraph_is g.goes g.text g.bounds
 
-  pub text_stepped : (room : ℕ) (out out' : List ℕ) (r : Step) → TextStepped room notes c o p out out' r block → PieceStepped room (meant block o) notes out c out' r
+  pub text_stepped : (room : ℕ) (out out' : List ℕ) (r : Result Cursor TooMany) → TextStepped room notes c o p out out' r block → PieceStepped room (meant block o) notes out c out' r
   text_stepped room out out' (Ok d) w = put block notes o ready c.mail c.at p g.paragraph_is g.goes g.text g.bounds room out c d out' refl refl w
-  text_stepped room out out' (Err (record { })) w = (long_here room (meant block o) g.goes (many block notes o ready c.mail c.at p g.paragraph_is g.goes g.text g.bounds room w.0), w.1)
+  text_stepped room out out' (Err over) w = (long_here room (meant block o) g.goes (many block notes o ready c.mail c.at p g.paragraph_is g.goes g.text g.bounds room w.0), w.1)
 
 -- ---- the loop over the pieces
 
@@ -286,7 +286,7 @@ module _ (o : Opts) (notes : List ℕ) where
       long = sym (long_more room o p.goes p.few) ∙ g.long;
     }
 
-    pub going_last : length notes ≤ c.at → Finished room o notes out₀ out (all_sent c.written c.dashes)
+    pub going_last : length notes ≤ c.at → Finished room o notes out₀ out (Ok (record { written = c.written; dashes = c.dashes }))
     going_last h = (
       sym g.long ∙ long_none room o c.mail notes c.at h,
       left_last (rw (sent_none c.mail c.at h) at g.left) (wrote_nil out c.written),
@@ -296,6 +296,6 @@ module _ (o : Opts) (notes : List ℕ) where
 
 -- ---- by what came of a piece
 
-module _ (room : ℕ) (o : Opts) (notes out out' : List ℕ) (c : Cursor) {r : Step} (s : PieceStepped room o notes out c out' r) where
+module _ (room : ℕ) (o : Opts) (notes out out' : List ℕ) (c : Cursor) {r : Result Cursor TooMany} (s : PieceStepped room o notes out c out' r) where
   pub stepped_on : {d : Cursor} → r ≡ Ok d → Put room o notes out c d out'
   stepped_on e = rw e at s

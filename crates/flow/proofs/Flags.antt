@@ -1,5 +1,5 @@
 -- The flags of a well-formed block: tags ascend, so that theirs is the first field, or there are none.
-use Rattle.std.proofs.Common.{Option, Some, None, Ok, Err}
+use Rattle.std.proofs.Common.{Option, Some, None, Ok, Err, Result}
 use mathlib.Core.Path.{◌≡◌, refl, sym, ap, ◌∙◌}
 use mathlib.Core.Bool.{Bool, true, false, cond, true≢false}
 use mathlib.Core.List.{List, [], ◌∷◌}
@@ -12,8 +12,9 @@ use borrow.Author.Tests.{ltb-true, ltb-false, leb-true, leb-false}
 use Rattle.options.specs.OptionBlock.{number, fields, well_formed, first_fault, part_of, number_at, options_of, fits, least_width, judged, read_block, between}
 use Rattle.options.specs.Cited.Places.{field_at}
 use Rattle.options.specs.declared.Options.{Options}
+use Rattle.options.specs.declared.Fault.{Fault}
 use Rattle.options.proofs.Fields.{rest, rest_all, well_order, fault_here, fault_later, part_none, part_here, part_later}
-use Rattle.options.proofs.Given.{at_nowhere}
+use Rattle.std.proofs.lemmas.Option.{none-some}
 use Rattle.options.proofs.Accepted.{accepted_fault}
 use Rattle.flow.specs.Answers.{flags_of, unfit}
 use Rattle.flow.specs.Cited.Sending.{refused_for, shaped}
@@ -25,7 +26,7 @@ module _ (block : List ℕ) where
     where
       go : (t : Bool) → well_formed (field_at block at previous) ≡ t → well_formed (field_at block at previous) ≡ true
       go true e = e
-      go false e = absurd (at_nowhere at (sym (fault_here block at previous h (get_or block at 0) (at + 3 + number (drop (at + 1) block)) refl refl e) ∙ f))
+      go false e = absurd (none-some at (sym f ∙ fault_here block at previous h (get_or block at 0) (at + 3 + number (drop (at + 1) block)) refl refl e))
 
   above : (at previous : ℕ) → at < length block → well_formed (field_at block at previous) ≡ true → previous < get_or block at 0
   above at previous h w = go (leb (get_or block at 0) previous) refl
@@ -92,14 +93,14 @@ module _ (block : List ℕ) (o : Options) where
   accepted_sound e = go (first_fault (fields block)) e
     where
       go : (f : Option ℕ) → judged block (fields block) f ≡ Ok o → f ≡ None
-      go (Some place) a = absurd (accepted_fault o place (sym a))
+      go (Some place) a = absurd (accepted_fault o _ (sym a))
       go None a = refl
 
   pub accepted_are : read_block block ≡ Ok o → o ≡ options_of block (fields block)
   unfolding read_block
   accepted_are e = go (first_fault (fields block)) e
     where
-      fitted : (b : Bool) → cond b (Ok (options_of block (fields block))) (Err (record { at = (length block) })) ≡ Ok o → o ≡ options_of block (fields block)
+      fitted : (b : Bool) → cond {A = Result Options Fault} b (Ok (options_of block (fields block))) (Err (record { at = length block })) ≡ Ok o → o ≡ options_of block (fields block)
       fitted true k = cc
       fitted false k = cc
 
@@ -115,7 +116,7 @@ module _ (block : List ℕ) (o : Options) where
   unfolding unfit refused_for
   accepted_unfit e = rw (e, accepted_prefix e)
 
-pub fault_fits : (block : List ℕ) {place : ℕ} → read_block block ≡ Err (record { at = place }) → false ≡ refused_for block
+pub fault_fits : (block : List ℕ) {fault : Fault} → read_block block ≡ Err fault → false ≡ refused_for block
 unfolding refused_for
 fault_fits block e = rw e
 

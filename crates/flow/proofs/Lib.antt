@@ -3,7 +3,7 @@ mod Back
 mod Carries
 mod Worked
 mod Solid
-mod Sent
+mod SentLines
 mod Digest
 mod Words
 mod Flags

@@ -30,7 +30,7 @@ use Rattle.flow.proofs.Readings.{Ended, mail_sent, sent_read, read_pieces}
 use Rattle.flow.proofs.Back.{back_count}
 use Rattle.flow.proofs.Carries.{lines_some as from_some, words_carried}
 use Rattle.flow.proofs.Solid.{paragraph_solid}
-use Rattle.flow.proofs.Sent.{Sound, Level, blank_sound, plain_sound, paragraph_sound, pieces_level}
+use Rattle.flow.proofs.SentLines.{Sound, Level, blank_sound, plain_sound, paragraph_sound, pieces_level}
 use Rattle.flow.proofs.Digest.{lines_are_emitted}
 
 joined_alike : {A B : Type 0} (f g : A → List B) (xs : List A) → All (λ x. f x ≡ g x) xs → joined f xs ≡ joined g xs

@@ -1,5 +1,5 @@
 -- What the writer's answer tells has no more than 32 bits, so code and value can be read back from its number.
-use Rattle.std.proofs.Common.{Ok, Err}
+use Rattle.std.proofs.Common.{Ok, Err, Result}
 use mathlib.Core.Path.{◌≡◌, refl, sym, ap, ◌∙◌}
 use mathlib.Core.Bool.{Bool, true, false, cond, ◌||◌}
 use mathlib.Core.List.{List}
@@ -11,7 +11,7 @@ use borrow.Author.Tests.{leb-true}
 use Rattle.options.specs.Opts.{Opts, meant}
 use Rattle.options.specs.OptionBlock.{read_block}
 use Rattle.options.specs.declared.Options.{Options}
-use Rattle.options.specs.declared.Block.{Block}
+use Rattle.options.specs.declared.Fault.{Fault}
 use Rattle.options.proofs.Accepted.{accepted}
 use Rattle.pieces.specs.Pieces.{pieces}
 use Rattle.walk.specs.Digest.{most_words}
@@ -56,8 +56,8 @@ module _ (l : Limits) (sound : Sound l) (block notes : List ℕ) (space : ℕ) w
           notes_value l sound (mailed (meant block o)) notes (λ d. sent_in l.words space (flowed (mailed (meant block o)) notes))
           (λ short enough. sent_value (mailed (meant block o)) k.tab_least k.tab_most k.split_clears short l.words sound.modest enough)
 
-      go : (b : Block) → read_block block ≡ b → (answer_coded (sent_block l space block notes b)).value ≤ most_told
-      go (Err (record { at = place })) e = omega (arith, fault_small block place e)
+      go : (b : Result Options Fault) → read_block block ≡ b → (answer_coded (sent_block l space block notes b)).value ≤ most_told
+      go (Err fault) e = omega (arith, fault_small block fault.at e)
       go (Ok o) e = fit o e (unfit block)
 
 -- Code and value can be read back from the number, whatever the limits, the block, the notes and the room.
@@ -82,8 +82,8 @@ asked_sent lends space o notes n e = asked_notes work_for notes lends o n (go (w
     go (stopped r) k = let q : r ≡ Work n = cc in ap stopped q
 
 module _ (block notes : List ℕ) where
-  asked_block : (lends space : ℕ) (b : Block) (n : ℕ) → sent_block (lending lends) space block notes b ≡ refused (Work n) → (needed : ℕ) (more other : ℕ) → sent_block (lending more) other block notes b ≡ refused (Work needed) → (n ≡ needed) × (more < needed)
-  asked_block lends space (Err (record { at = place })) n e needed more other f = absurd (let z : ◌≡◌ {A = ℕ} 0 1 = cc in omega arith)
+  asked_block : (lends space : ℕ) (b : Result Options Fault) (n : ℕ) → sent_block (lending lends) space block notes b ≡ refused (Work n) → (needed : ℕ) (more other : ℕ) → sent_block (lending more) other block notes b ≡ refused (Work needed) → (n ≡ needed) × (more < needed)
+  asked_block lends space (Err fault) n e needed more other f = absurd (let z : ◌≡◌ {A = ℕ} 0 1 = cc in omega arith)
   asked_block lends space (Ok o) n e needed more other f = go (unfit block) e f
     where
       m : Opts

@@ -2,8 +2,9 @@
 use mathlib.Core.Path.{◌≡◌, refl, sym, ap, ◌∙◌}
 use mathlib.Core.Bool.{Bool, true, false, cond, not, ◌&&◌}
 use mathlib.Core.List.{List, ◌∷◌, ◌++◌, append-nil}
-use Prim.Native.Nat.{ℕ, ◌+◌, ◌-◌, ◌^◌, ◌≤◌, ◌<◌}
+use Prim.Native.Nat.{ℕ, ◌+◌, ◌^◌, ◌≤◌, ◌<◌}
 use native.Mathlib.Omega.{arith}
+use mir.Val.{bool_byte}
 use lib.Dec.{ltb}
 use lib.ListN.{length, drop, replicate, length-append}
 use lib.Seq.{slice, slice_empty}
@@ -32,7 +33,16 @@ use Rattle.flow.proofs.Words.{one_most}
 
 -- ---- the end of a line
 
-pub line_ended : (dashed : Bool) {k : ℕ} {o o' : List ℕ} {at r : ℕ} → k ≡ cond dashed 1 0 → Wrote o at (replicate (1 - k) 32 ++ end_of true) o' r → Wrote o at (line_end dashed) o' r
+-- a truth value as a number
+pub as_number : (b : Bool) {n : ℕ} → n ≡ bool_byte b → n ≡ cond b 1 0
+as_number true e = e
+as_number false e = e
+
+pub at_most_one : (b : Bool) {n : ℕ} → n ≡ bool_byte b → n ≤ 1
+at_most_one true e = omega (arith, e)
+at_most_one false e = omega (arith, e)
+
+pub line_ended : (dashed : Bool) {k : ℕ} {o o' : List ℕ} {at r : ℕ} → k ≡ cond (not dashed) 1 0 → Wrote o at (replicate k 32 ++ end_of true) o' r → Wrote o at (line_end dashed) o' r
 unfolding line_end end_of
 line_ended true e w = rw e at w
 line_ended false e w = rw e at w

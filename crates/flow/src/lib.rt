@@ -452,10 +452,13 @@ fn trimmed_end(notes: &[u8], from: usize, to: usize) -> usize
     requires { (from ≤ to) × (to ≤ length notes.now) }
     ensures { (slice from result notes.now ≡ trimmed (slice from to notes.now)) × (from ≤ result) × (result ≤ to) }
 {
-    for last in (from..to).rev() {
+    let mut end = to;
+    while from < end {
+        let last = end - 1;
         if notes[last] != b' ' {
-            return last + 1;
+            return end;
         }
+        end = last;
     }
-    from
+    end
 }

@@ -6,4 +6,4 @@ use Rattle.flow.proofs.emit.Goals as goal
 
 pub returns : goal.returns
 returns c =
-    paragraph_sent _ _ _ c.args.l c.get-w.result c.opening_of-o.result _ _ c.emit_rest.result c.requires.0 c.get-w.ensures c.opening_of-o.ensures (wrote_part _ _ _ _ _ _ c.lesser-place.ensures c.put_opened.ensures.0) refl c.emit_rest.ensures
+    paragraph_sent _ _ _ c.args.l c.get-w.result c.opening_of-o.result _ _ c.emit_rest.result c.requires.0 c.get-w.ensures c.opening_of-o.ensures (wrote_part _ _ _ _ _ _ c.min-place.ensures c.put_opened.ensures.0) refl c.emit_rest.ensures

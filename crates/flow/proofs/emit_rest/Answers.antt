@@ -28,7 +28,7 @@ returns c =
     let i = c.loop-i.invariant in
     let h = c.loop-i-test.false in
     record {
-      wrote = left_last (rw (sent_end _ _ _ _ _ _ _ h) at i.5) (wrote_part _ _ _ _ _ _ c.lesser-place.ensures c.put_end.ensures);
+      wrote = left_last (rw (sent_end _ _ _ _ _ _ _ h) at i.5) (wrote_part _ _ _ _ _ _ c.min-place.ensures c.put_end.ensures);
       dashes = omega (arith, i.6, dashes_end c.args.notes.now c.args.table.now c.args.n c.args.l.indent c.loop-i.t.dashed c.loop-i.i h);
       few = omega (arith, i.3, i.1);
     }

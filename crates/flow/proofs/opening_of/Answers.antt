@@ -5,4 +5,4 @@ use Rattle.flow.proofs.Openings.{opens}
 use Rattle.flow.proofs.opening_of.Goals as goal
 
 pub returns : goal.returns
-returns c = opens _ _ _ _ _ refl c.put_first.ensures c.lesser-n.ensures _ c.judged.result (wrote_length c.put_first.ensures) c.judged.ensures
+returns c = opens _ _ _ _ _ refl c.put_first.ensures c.min-n.ensures _ c.judged.result (wrote_length c.put_first.ensures) c.judged.ensures

@@ -16,4 +16,4 @@ returns c =
     let a = length-append (margin_of c.args.notes.now c.args.m) (slice c.args.from c.args.to c.args.notes.now) in
     let r = length-replicate {A = ℕ} c.args.spaces 32 in
     omega (arith, c.requires.3, c.requires.4, c.put_added-k.ensures.count, c.put_first.ensures.count) in
-    (wrote_then c.put_added-k.ensures (wrote_part _ _ _ _ _ _ c.lesser-place.ensures c.put_first.ensures), bound)
+    (wrote_then c.put_added-k.ensures (wrote_part _ _ _ _ _ _ c.min-place.ensures c.put_first.ensures), bound)

@@ -12,5 +12,5 @@ overflow_add-result c =
 pub returns : goal.returns
 returns c =
     let e = c.sent_end-end.ensures in
-    let w = line_sent c.args.notes.now c.args.from c.args.to c.sent_end-end.result c.stuffing_of-spaces.result 0 e.1 e.0 c.stuffing_of-spaces.ensures.0 (wrote_part _ _ _ _ _ _ c.lesser-place.ensures c.put_opened.ensures.0) (wrote_part _ _ _ _ _ _ c.lesser-behind.ensures c.put_end.ensures) in
+    let w = line_sent c.args.notes.now c.args.from c.args.to c.sent_end-end.result c.stuffing_of-spaces.result 0 e.1 e.0 c.stuffing_of-spaces.ensures.0 (wrote_part _ _ _ _ _ _ c.min-place.ensures c.put_opened.ensures.0) (wrote_part _ _ _ _ _ _ c.min-behind.ensures c.put_end.ensures) in
     (w, line_most c.args.notes.now _ _ _ e.0 e.1 e.2 c.requires.1 w)

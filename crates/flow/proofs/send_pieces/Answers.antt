@@ -12,7 +12,7 @@ loop-c-init c = (going_first _ _ _ _, refl)
 
 pub loop-c-preserved : goal.loop-c-preserved
 loop-c-preserved c =
-    let i = c.loop-c.invariant in (going_on _ _ i.0 (stepped_on (room_for true (length c.args.work.now)) _ _ _ _ _ (rw i.1 at c.send_piece.ensures) c.in-On.is), omega (arith, i.1))
+    let i = c.loop-c.invariant in (going_on _ _ i.0 (stepped_on (room_for true (length c.args.work.now)) _ _ _ _ _ (rw i.1 at c.send_piece.ensures) c.in-Ok.is), omega (arith, i.1))
 
 pub returns : goal.returns
 returns c = going_last _ _ c.loop-c.invariant.0 (omega (arith, c.loop-c-test.false))
