@@ -134,7 +134,7 @@ fn send_notes(o: Options, block: &[u8], notes: &[u8], out: &mut [u8]) -> Result<
 {
     let mut work = [0u32; QUICK_MOST];
     let sent = match send_pieces(o, block, notes, out, &mut work) {
-        Ok(sent) => sent,
+        Ok(done) => done,
         Err(stopped) => {
             out.fill(0);
             return Err(stopped.into());
