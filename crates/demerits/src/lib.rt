@@ -21,7 +21,7 @@ fn float(n: usize) -> f32
     requires { n < 65536 }
     ensures { result ≡ S.float n }
 {
-    (n as u16) as f32
+    f32::from(n as u16)
 }
 
 // x without its sign.
@@ -61,7 +61,7 @@ fn term(k: u16, x: f32) -> u16
     requires { T (B.at_most B.most_truncated (mul binary32 (S.float k) (S.abs (S.cube x)))) }
     ensures { result ≡ S.term k x }
 {
-    trunc((k as f32) * abs(x * x * x))
+    trunc(f32::from(k) * abs(x * x * x))
 }
 
 // goal - t, as a float.
@@ -83,9 +83,10 @@ pub fn ratio(goal: usize, t: usize, stretch: usize) -> f32
     ensures { (result ≡ S.ratio goal t stretch) × T (B.within 1 result) }
 {
     if t == goal {
-        return 0.0;
+        0.0
+    } else {
+        apart(goal, t) / float(stretch)
     }
-    apart(goal, t) / float(stretch)
 }
 
 // L, for the line's ratio r.
@@ -104,12 +105,13 @@ pub fn word_term(stretch: usize, word: usize) -> u16
     ensures { (result ≡ S.word_term stretch word) × (result ≤ B.most_word) }
 {
     if stretch <= 1 {
-        return 0;
+        0
+    } else {
+        term(
+            WORD_WEIGHT,
+            float(stretch.saturating_sub(word)) / float(stretch - 1),
+        )
     }
-    term(
-        WORD_WEIGHT,
-        float(stretch.saturating_sub(word)) / float(stretch - 1),
-    )
 }
 
 // D, for the line's ratio r and that of the line before.

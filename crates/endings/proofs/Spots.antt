@@ -29,20 +29,22 @@ module _ (table : List ℕ) (n : ℕ) where
   unfolding spot_of
   spot_cons i left h = rw (marks_from table n i h)
 
-  pub spot_here : (i left : ℕ) (b : Bool) → i < n → b ≡ mark_in table i → (b && eqb left 0) ≡ true → Before i ≡ spot_from i left
-  spot_here i left b h e t = sym (rw (← e, t) at (spot_cons i left h))
+  pub spot_here : (i left : ℕ) → i < n → true ≡ mark_in table i → left ≡ 0 → Before i ≡ spot_from i left
+  spot_here i left h e z = sym (rw (← e, eq-eqb left 0 z) at (spot_cons i left h))
 
-  pub spot_on : (i left left' : ℕ) (b : Bool) → i < n → b ≡ mark_in table i → (b && eqb left 0) ≡ false → left' ≡ cond b (left - 1) left
-      → spot_from (i + 1) left' ≡ spot_from i left
-  spot_on i left left' b h e t f = rw f (sym (rw (← e, t) at (spot_cons i left h)))
+  pub spot_less : (i left : ℕ) → i < n → true ≡ mark_in table i → (left ≡ 0 → ⊥) → spot_from (i + 1) (left - 1) ≡ spot_from i left
+  spot_less i left h e z = sym (rw (← e, ne_eqb left 0 z) at (spot_cons i left h))
+
+  pub spot_on : (i left : ℕ) → i < n → false ≡ mark_in table i → spot_from (i + 1) left ≡ spot_from i left
+  spot_on i left h e = sym (rw (← e) at (spot_cons i left h))
 
   pub spot_last : (i left : ℕ) → n ≤ i → left ≡ 0 → Last ≡ spot_from i left
   unfolding spot_of
   spot_last i left h z = sym (rw (slice_none (marks_in n table) i n h, eq-eqb left 0 z))
 
-  pub spot_behind : (i left : ℕ) → n ≤ i → (left ≡ 0 → ⊥) → Behind (left - 1) ≡ spot_from i left
+  pub spot_behind : (i left behind : ℕ) → n ≤ i → left ≡ behind + 1 → Behind behind ≡ spot_from i left
   unfolding spot_of
-  spot_behind i left h z = sym (rw (slice_none (marks_in n table) i n h, ne_eqb left 0 z))
+  spot_behind i left behind h z = let e : left - 1 ≡ behind = omega arith in sym (rw (slice_none (marks_in n table) i n h, ne_eqb left 0 (λ q. absurd (omega arith)), e))
 
 -- ---- why a line ends there
 

@@ -33,6 +33,7 @@ pub enum Ending {
 }
 
 // The kind and its numbers, as the host gets them.
+#[tactic(auto, unfolding(crate::specs::Endings::numbers_of))]
 pub fn put(e: Ending, reason: &mut [u64; 6])
     ensures { reason.new ≡ numbers_of e }
 {

@@ -3,7 +3,7 @@ use mathlib.Core.Path.{◌≡◌, refl, sym, ap}
 use mathlib.Core.Bool.{Bool, true, false, cond, ◌&&◌}
 use mathlib.Core.List.{List, [], ◌∷◌}
 use Prim.Native.Nat.{ℕ, zero, suc, ◌+◌, ◌-◌, ◌<◌, ◌≤◌}
-use borrow.Author.Tests.{eqb-true, eqb-false}
+use borrow.Author.Tests.{eqb-true, eqb-false, eq-eqb, ne_eqb, lt-ltb, le-ltb}
 use lib.Dec.{ltb, eqb}
 use lib.ListN.{get_or, drop}
 use Rattle.lists.proofs.Views.{behind_first}
@@ -87,18 +87,19 @@ module _ (g : Setting) (notes table : List ℕ) (n : ℕ) where
   unfolding meaning
   ending_turn column punct i left w r e h is = rw (words_drop notes n table i h, ← e, is) (told_cons g left column punct (meaning notes w) _)
 
-  pub ending_here : (column : ℕ) (punct : Bool) (i left : ℕ) (w : Record) (r : ℕ) → w ≡ word_in table i → i < n
-      → r ≡ column + gap_width g.tab column w.before w.after + added_space g.uniform w.first w.sentence punct + w.width
-      → (ltb g.width r && eqb left 0) ≡ true
-      → Full column (gap_width g.tab column w.before w.after) (added_space g.uniform w.first w.sentence punct) w.width ≡ ending_from column punct i left
-  ending_here column punct i left w r e h is test = sym (rw test at (ending_turn column punct i left w r e h is))
+  module _ (column : ℕ) (punct : Bool) (i left : ℕ) (w : Record) (r : ℕ) (e : w ≡ word_in table i) (h : i < n)
+      (is : r ≡ column + gap_width g.tab column w.before w.after + added_space g.uniform w.first w.sentence punct + w.width) where
+    -- it is the line that ends before this word
+    pub ending_here : g.width < r → left ≡ 0 → Full column (gap_width g.tab column w.before w.after) (added_space g.uniform w.first w.sentence punct) w.width ≡ ending_from column punct i left
+    ending_here over z = sym (rw (lt-ltb g.width r over, eq-eqb left 0 z) at (ending_turn column punct i left w r e h is))
 
-  pub ending_on : (column : ℕ) (punct : Bool) (i left : ℕ) (w : Record) (r column' left' : ℕ) → w ≡ word_in table i → i < n
-      → r ≡ column + gap_width g.tab column w.before w.after + added_space g.uniform w.first w.sentence punct + w.width
-      → (ltb g.width r && eqb left 0) ≡ false → column' ≡ cond (ltb g.width r) (g.indent + w.width) r → left' ≡ cond (ltb g.width r) (left - 1) left
-      → ending_from column' w.punct (i + 1) left' ≡ ending_from column punct i left
-  ending_on column punct i left w r column' left' e h is test behind fewer =
-      rw (behind, fewer) (sym (rw test at (ending_turn column punct i left w r e h is)))
+    -- it is a line after that one
+    pub ending_less : g.width < r → (left ≡ 0 → ⊥) → ending_from (g.indent + w.width) w.punct (i + 1) (left - 1) ≡ ending_from column punct i left
+    ending_less over z = sym (rw (lt-ltb g.width r over, ne_eqb left 0 z) at (ending_turn column punct i left w r e h is))
+
+    -- the line goes on
+    pub ending_on : r ≤ g.width → ending_from r w.punct (i + 1) left ≡ ending_from column punct i left
+    ending_on fits = sym (rw (le-ltb g.width r fits) at (ending_turn column punct i left w r e h is))
 
   pub ending_last : (column : ℕ) (punct : Bool) (i left : ℕ) → n ≤ i → Paragraph ≡ ending_from column punct i left
   unfolding quick_lines_from endings

@@ -86,7 +86,7 @@ pub fn store(t: &mut [u32], i: usize, w: Word)
     );
 }
 
-// The seven numbers of a record.
+// The seven numbers of a record, one by one: `copy_from_slice` of all seven was tried, and half as quick.
 fn put(t: &mut [u32], i: usize, n0: u32, n1: u32, n2: u32, n3: u32, n4: u32, n5: u32, n6: u32)
     requires { Room i t.old }
     ensures { t.new ≡ stored t.old (i * 7) n0 n1 n2 n3 n4 n5 n6 }

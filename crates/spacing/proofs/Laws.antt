@@ -1,6 +1,6 @@
 -- Laws of gap width, the next stop and added space: bounds, and the order of tests that the code has.
 use Rattle.std.proofs.Common.{Option, Some, None}
-use mathlib.Core.Bool.{Bool, true, false, cond, ◌&&◌, ◌||◌, or-false}
+use mathlib.Core.Bool.{Bool, true, false, cond, ◌&&◌, ◌||◌}
 use mathlib.Core.Path.{◌≡◌, refl}
 use Prim.Native.Nat.{ℕ, ◌+◌, ◌≤◌, ◌<◌}
 use native.Mathlib.Nat.{div-add-mod', mod-lt, add-mul, one-mul}
@@ -44,19 +44,9 @@ added_most uniform first sentence punct = twice (uniform || first) (sentence || 
     twice true false = omega arith
     twice false b = omega arith
 
-module _ (sentence punct : Bool) where
-  pub added_first : (uniform : Bool) → added_space uniform true sentence punct ≡ cond (sentence || punct) 2 1
-  unfolding added_space
-  added_first true = refl
-  added_first false = refl
-
-  pub added_uniform : added_space true false sentence punct ≡ cond sentence 2 1
-  unfolding added_space
-  added_uniform = rw or-false
-
-  pub added_none : added_space false false sentence punct ≡ 0
-  unfolding added_space
-  added_none = refl
+pub added_none : (sentence punct : Bool) → added_space false false sentence punct ≡ 0
+unfolding added_space
+added_none sentence punct = refl
 
 pub added_is : (uniform first sentence punct : Bool) (r : ℕ) → r ≡ added_space uniform first sentence punct → AddedIs uniform first sentence punct r
 added_is uniform first sentence punct r e = record { is = e; most = rw e (added_most uniform first sentence punct) }

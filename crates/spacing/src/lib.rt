@@ -18,6 +18,7 @@ pub struct Setting {
 }
 
 // The next tab stop after a column.
+#[tactic(auto, unfolding(lines::specs::Classes::next_stop))]
 fn next_stop(tab: usize, column: usize) -> usize
     requires { (1 ≤ tab) × (tab ≤ 100) × (column < 2 ^ 41) }
     ensures { (result ≡ next_stop tab column) × (column < result) × (result ≤ column + tab) }
@@ -27,6 +28,7 @@ fn next_stop(tab: usize, column: usize) -> usize
 
 // The width of a gap that begins at a column. A tab goes to the next stop after the blanks before it.
 // In the original: `BreakArgs::compute_width`.
+#[tactic(auto, unfolding(crate::specs::Spacing::gap_width))]
 pub fn gap_width(tab: usize, column: usize, before: Option<usize>, after: usize) -> usize
     requires { (1 ≤ tab) × (tab ≤ 100) × (column < 2 ^ 40) × (before_number before < 2 ^ 32) × (after < 2 ^ 32) }
     ensures { GapIs tab column before after result }
@@ -40,6 +42,7 @@ pub fn gap_width(tab: usize, column: usize, before: Option<usize>, after: usize)
 // The spaces that are added before a word: where it was the first of its line, or everywhere if uniform. punct is the mark of the word
 // before it.
 // In the original: `compute_slen`.
+#[tactic(auto, unfolding(crate::specs::Spacing::added_space))]
 pub fn added_space(uniform: bool, first: bool, sentence: bool, punct: bool) -> usize
     ensures { AddedIs uniform first sentence punct result }
 {

@@ -13,14 +13,12 @@ use borrow.Author.Tests.{ltb-true, ltb-false, eq-eqb, ne_eqb}
 use Rattle.lists.specs.Runs.{while, behind}
 use Rattle.lists.proofs.Runs.{while_more, while_end, behind_more, behind_end}
 use Rattle.lists.proofs.Parts.{while_behind}
-use Rattle.text.specs.contracts.Glyph.{the_type}
-use denote.Enum.Declared.{tag_of}
-use types.Run.{OneOf}
 use Rattle.widths.specs.WhiteSpace.{white_space}
 use Rattle.text.specs.Characters.{Glyph, glyph, no_break, glyphs, is_blank, extent}
 use Rattle.text.specs.Cited.Places.{seen_as, ink_glyphs}
 use Rattle.text.specs.declared.Glyph.{Glyph as Seen}
-use Rattle.text.proofs.Glyphs.{Here, not_blank, ascii_here}
+use Rattle.text.specs.declared.Glyph.TheVariants.{Blank}
+use Rattle.text.proofs.Glyphs.{Here, no_blank as not_blank, ascii_here}
 use Rattle.text.proofs.Extents.{glyph_read}
 use Rattle.text.proofs.NoBreaks.{no_break_blank}
 use Rattle.text.proofs.Edges.{glyphs_past, ink_past, glyphs_first, ink_begins, blank_on}
@@ -61,7 +59,7 @@ module _ (tab code : ℕ) (before : Option ℕ) (after : ℕ) where
   pub gap_other : (code ≡ 9 → ⊥) → ◌≡◌ {A = Gap} (record { before = before; after = after + 1 }) (gap_behind tab code (record { before = before; after = after }))
   gap_other h = rw (ne_eqb code 9 h)
 
-  pub gap_later : code ≡ 9 → (n : ℕ) → before ≡ Some n → ◌≡◌ {A = Gap} (record { before = Some n; after = (after / tab + 1) * tab }) (gap_behind tab code (record { before = before; after = after }))
+  pub gap_later : code ≡ 9 → (n : ℕ) → before ≡ Some n → ◌≡◌ {A = Gap} (record { before = before; after = (after / tab + 1) * tab }) (gap_behind tab code (record { before = before; after = after }))
   unfolding next_stop
   gap_later h n e = rw (eq-eqb code 9 h, e)
 
@@ -105,7 +103,7 @@ module _ (glue : Bool) (s : List ℕ) (at : ℕ) where
   no_blank_begins b = no_blank_first b.within b.ink
 
   -- from an answer of glyph_at that is no blank
-  pub no_blank : (r : Seen) → r ≡ seen_as at (glyph (drop at s)) → OneOf (0 ∷ 2 ∷ []) (tag_of the_type r) → NoBlank glue s at
+  pub no_blank : (r : Seen) → r ≡ seen_as at (glyph (drop at s)) → ((code next : ℕ) → r ≡ Blank code next → ⊥) → NoBlank glue s at
   no_blank r e h = pick (ltb at (length s)) refl
     where
       pick : (t : Bool) → ltb at (length s) ≡ t → NoBlank glue s at

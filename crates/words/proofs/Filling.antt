@@ -1,5 +1,5 @@
 -- The table filled word by word.
-use Rattle.std.proofs.Common.{Ok, Err}
+use Rattle.std.proofs.Common.{Result, Ok, Err}
 use mathlib.Core.Path.{◌≡◌, refl, sym, ap, ◌∙◌}
 use mathlib.Core.Logic.{⊎_elim}
 use mathlib.Core.List.{List, [], ◌∷◌, ◌++◌, map, map-append, append_assoc, append-nil}
@@ -15,7 +15,7 @@ use Rattle.records.specs.declared.Word.{Word as Record}
 use Rattle.records.proofs.Table.{length_with, read_back, read_other, records_more, within_more, words_length, words_more}
 use Rattle.words.specs.Cited.Split.{Kept, places_in, WordsFilled, Split}
 use Rattle.words.specs.Cited.Places.{counted}
-use Rattle.words.specs.declared.Count.{Count}
+use Rattle.words.specs.declared.TooMany.{TooMany}
 
 -- of the whole, the first n words are in the table and the rest is left
 pub record Filling (most : ℕ) (notes : List ℕ) (whole left : List Word) (ps qs : List ℕ) (n : ℕ) (t : List ℕ) : Type 0 where
@@ -94,20 +94,20 @@ unfolding words_in records_of places_in
 filling_none {most = most} {notes = notes} {t = t} h = record { words = refl; places = refl; kept = kept_none most (length notes) t h }
 
 -- what the table holds at last
-pub filled_split : (most : ℕ) (notes : List ℕ) (ws : List Word) (ps : List ℕ) (t : List ℕ) (r : Count) → WordsFilled most notes ws ps t r → Split most notes ws ps t r
+pub filled_split : (most : ℕ) (notes : List ℕ) (ws : List Word) (ps : List ℕ) (t : List ℕ) (r : Result ℕ TooMany) → WordsFilled most notes ws ps t r → Split most notes ws ps t r
 unfolding counted
 filled_split most notes ws ps t (Ok n) f =
     let l : length ws ≡ n = sym (ap length f.0) ∙ words_length notes n t in
-    let same : (m : ℕ) → Ok n ≡ Ok m → n ≡ m = λ m q. cc in
+    let same : (m : ℕ) → ◌≡◌ {A = Result ℕ TooMany} (Ok n) (Ok m) → n ≡ m = λ m q. cc in
     record {
       count = rw (l, le-leb n most f.2.few);
       words = λ m q. rw (same m q) at f.0;
       places = λ m q. rw (same m q) at f.1;
       kept = λ m q. rw (same m q) at f.2;
     }
-filled_split most notes ws ps t (Err (record { })) f = record {
+filled_split most notes ws ps t (Err over) f = record {
   count = rw (lt-leb (length ws) most f);
-  words = λ m q. absurd (let z : ◌≡◌ {A = ℕ} 0 1 = cc in omega arith);
-  places = λ m q. absurd (let z : ◌≡◌ {A = ℕ} 0 1 = cc in omega arith);
-  kept = λ m q. absurd (let z : ◌≡◌ {A = ℕ} 0 1 = cc in omega arith);
+  words = λ m q. absurd (cc);
+  places = λ m q. absurd (cc);
+  kept = λ m q. absurd (cc);
 }

@@ -1,4 +1,5 @@
 -- Ink at a place, worked off one glyph after the other, and with glue on a run of U+00A0 at once; a damaged byte is ink.
+use Rattle.std.proofs.Common.{Some, None}
 use mathlib.Core.Path.{◌≡◌, refl, sym, ap, ◌∙◌}
 use mathlib.Core.Bool.{Bool, true, false, cond, ◌||◌}
 use mathlib.Core.List.{List, [], ◌∷◌, ◌++◌, map}
@@ -126,9 +127,9 @@ module _ {glue : Bool} {s : List ℕ} {at : ℕ} where
   ink_letter w i l = ink_more w (record { end = w.end + 2; width = w.width + 1; punct = false }) i (letter_here s w.end l) {n = 1} (letter_width s w.end l) refl (no_punct _ (letter_least s w.end l))
 
   -- a character from U+0800 on, from the answers of long_at and ink_width
-  pub ink_long : (w r : Ink) {code n : ℕ} → InkLeft glue s at w → Here (white_space code) s w.end code r.end → 0x800 ≤ code → n ≡ ink_width code → (n ≡ 3 → ⊥) → r.width ≡ w.width + n → r.punct ≡ false → InkLeft glue s at r
-  ink_long w r {code} {n} i h least e ink width punct =
-      let k = ink_not_blank code n e ink in
+  pub ink_long : (w r : Ink) {code n : ℕ} → InkLeft glue s at w → Here (white_space code) s w.end code r.end → 0x800 ≤ code → Some n ≡ ink_width code → r.width ≡ w.width + n → r.punct ≡ false → InkLeft glue s at r
+  ink_long w r {code} {n} i h least e width punct =
+      let k = ink_not_blank code n e in
       ink_more w r i (rw k.0 at h) {n = n} k.1 width (punct ∙ no_punct code (omega arith))
 
   pub ink_damaged : (w : Ink) → InkLeft glue s at w → w.end < length s → DamagedHere s w.end → InkLeft glue s at (record { end = w.end + 1; width = w.width + 1; punct = false })
@@ -159,9 +160,9 @@ module _ {glue : Bool} {s : List ℕ} {at : ℕ} where
       ink_end w i (rw f (while_end is_ink _ _ t)) (ap (behind is_ink) f ∙ behind_end is_ink _ _ t ∙ sym (blank_on glue s w.end h))
 
   -- a blank from U+0800 on, which is no U+00A0
-  pub ink_long_stop : (w : Ink) {code next n : ℕ} → InkLeft glue s at w → Here (white_space code) s w.end code next → 0x800 ≤ code → n ≡ ink_width code → n ≡ 3 → OverInk glue s at w
-  ink_long_stop w {code} {next} {n} i h least e blank =
-      let k : Here true s w.end code next = rw (ink_blank code n e blank) at h in
+  pub ink_long_stop : (w : Ink) {code next : ℕ} → InkLeft glue s at w → Here (white_space code) s w.end code next → 0x800 ≤ code → None ≡ ink_width code → OverInk glue s at w
+  ink_long_stop w {code} {next} i h least e =
+      let k : Here true s w.end code next = rw (ink_blank code e) at h in
       ink_stop w i k (other-stop glue s w.end k (λ z. omega arith))
 
 -- U+00A0 by which a word goes on, one column each

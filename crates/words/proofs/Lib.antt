@@ -10,6 +10,7 @@ pub mod Filling
 pub mod Taking
 pub mod SpacedWords
 pub mod Rows
+pub mod LineSplit
 pub mod Gaps
 pub mod Spelled
 pub mod Halves

@@ -1,8 +1,9 @@
 -- The words of a paragraph, line by line; and that they depend on no prefix.
+use Rattle.std.proofs.Common.{Result}
 use mathlib.Core.Path.{◌≡◌, refl, sym, ap, ap₂, ◌∙◌}
 use mathlib.Core.Bool.{Bool, true, false, cond, not}
 use mathlib.Core.List.{List, [], ◌∷◌, ◌++◌}
-use Prim.Native.Nat.{ℕ, ◌+◌, ◌≤◌, ◌<◌}
+use Prim.Native.Nat.{ℕ, ◌+◌, ◌-◌, ◌≤◌, ◌<◌}
 use native.Mathlib.Omega.{arith}
 use lib.ListN.{length, take, drop, length-append, length-take, length-drop}
 use lib.Seq.{slice, drop-drop, take-take, length-slice, length-take-le}
@@ -17,6 +18,7 @@ use Rattle.lines.specs.Lines.{Line, first_line, lines_of}
 use Rattle.lines.specs.Classes.{glyphs_before, glyphs_from}
 use Rattle.lines.specs.Cited.Places.{lengths_of}
 use Rattle.lines.specs.declared.Extent.{Extent}
+use Rattle.lists.proofs.Fronts.{part_to_end}
 use Rattle.lines.proofs.Ink.{up_to_from}
 use Rattle.lines.proofs.Lines.{LineHere, lines_past, line_here}
 use Rattle.pieces.specs.Pieces.{Row}
@@ -27,7 +29,7 @@ use Rattle.words.specs.Places.{places_from, row_places, places_of}
 use Rattle.words.specs.Cited.Places.{rows_at, words_at, places_at}
 use Rattle.words.specs.Cited.Scan.{glyphs_behind, words_from}
 use Rattle.words.specs.Cited.Split.{WordsFilled, Split}
-use Rattle.words.specs.declared.Count.{Count}
+use Rattle.words.specs.declared.TooMany.{TooMany}
 use Rattle.words.proofs.WordRuns.{extent_bytes, behind_joined}
 use Rattle.words.proofs.Filling.{filled_split}
 
@@ -159,6 +161,14 @@ module _ (o : Opts) (mail : Bool) (skip later : ℕ) (notes : List ℕ) (next i 
       starts : mail ≡ false → skip ≤ e.text
       starts m = rw count at (begin m).0.within
 
+-- where its words begin, and from the answer of first_line there
+module _ (o : Opts) (mail : Bool) (skip later : ℕ) (notes : List ℕ) (next i : ℕ) (more : i < next) (fits : next ≤ length notes) (begins : mail ≡ false → AllBegin o.glue skip later (lines_of (slice i next notes))) where
+  pub begins_within : (mail ≡ false → i + skip ≤ next) × (i + cond mail 0 skip ≤ next)
+  begins_within = let line = line_at o mail skip later notes next i _ more fits refl begins in (λ m. omega (arith, line.starts m, line.shorter, line.within), omega (arith, line.begins, line.shorter, line.within))
+
+  pub line_read : (e : Extent) → e ≡ lengths_of (first_line (take (length (take next notes) - i) (drop i (take next notes)))) → LineAt o mail skip later notes next i e
+  line_read e q = line_at o mail skip later notes next i e more fits (q ∙ ap (λ (l : List ℕ). lengths_of (first_line l)) (part_to_end i (take next notes))) begins
+
 pub lines_end : (o : Opts) (mail : Bool) (skip later : ℕ) (notes : List ℕ) (next i : ℕ) → next ≤ i → words_at o mail skip later (lines_of (slice i next notes)) ≡ []
 lines_end o mail skip later notes next i h = rw (lines_past (take next notes) i (rw length-take (omega arith))) (rows_none o mail skip later)
 
@@ -166,6 +176,6 @@ pub places_end : (o : Opts) (mail : Bool) (skip later : ℕ) (notes : List ℕ) 
 places_end o mail skip later notes next i h = rw (lines_past (take next notes) i (rw length-take (omega arith))) (places_nil o mail skip later o.glue i)
 
 -- so the table filled answers for every block
-pub filled_words : (most : ℕ) (notes t ps : List ℕ) (r : Count) (o : Options) (mail : Bool) (start later : ℕ) (ls : List Line) → WordsFilled most notes (words_at (meant [] o) mail start later ls) ps t r
+pub filled_words : (most : ℕ) (notes t ps : List ℕ) (r : Result ℕ TooMany) (o : Options) (mail : Bool) (start later : ℕ) (ls : List Line) → WordsFilled most notes (words_at (meant [] o) mail start later ls) ps t r
     → (block : List ℕ) → Split most notes (words_at (meant block o) mail start later ls) ps t r
 filled_words most notes t ps r o mail start later ls f block = rw (words_same o block mail start later ls) at (filled_split most notes (words_at (meant [] o) mail start later ls) ps t r f)

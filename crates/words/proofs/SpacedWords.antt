@@ -1,5 +1,5 @@
 -- Words of plain characters, spaces apart: each is the next word of its line, wherever that ends.
-use Rattle.std.proofs.Common.{None}
+use Rattle.std.proofs.Common.{None, Result}
 use mathlib.Core.Path.{◌≡◌, refl, ap}
 use mathlib.Core.Bool.{Bool, true, false, not, ◌||◌, true≢false, false≢true}
 use mathlib.Core.Logic.{⊎_elim}
@@ -26,7 +26,7 @@ use Rattle.words.specs.Cited.Scan.{glyphs_behind, no_blanks, Plain, OverBlanks, 
 use Rattle.words.specs.Cited.Split.{Kept, places_in, WordsFilled}
 use Rattle.words.specs.Cited.Spaced.{SpacesBefore, plain_ink, PlainWord, PlainBehind, one_blank, PlainNext, EndsAt, SpacedTo}
 use Rattle.words.specs.declared.Blanks.{Blanks}
-use Rattle.words.specs.declared.Count.{Count}
+use Rattle.words.specs.declared.TooMany.{TooMany}
 use Rattle.words.specs.declared.Spaced.{Spaced}
 use Rattle.words.proofs.InkRuns.{InkLeft, ink_first, ink_past, ink_stop}
 use Rattle.words.proofs.PlainRuns.{plain_here, ink_plain}
@@ -197,7 +197,7 @@ module _ (o : Opts) (notes : List ℕ) (next at : ℕ) (first previous : Bool) (
         }
 
 -- with the words of the rest of the line, up to where its end was found
-pub spaced_filled : (most : ℕ) {o : Opts} {mail : Bool} {notes : List ℕ} {start end n : ℕ} {t : List ℕ} {r : Spaced} {t' : List ℕ} → SpacedTo o mail notes start end n t r t' → (stop : ℕ) → stop ≡ end → (t'' : List ℕ) (k : Count)
+pub spaced_filled : (most : ℕ) {o : Opts} {mail : Bool} {notes : List ℕ} {start end n : ℕ} {t : List ℕ} {r : Spaced} {t' : List ℕ} → SpacedTo o mail notes start end n t r t' → (stop : ℕ) → stop ≡ end → (t'' : List ℕ) (k : Result ℕ TooMany)
     → WordsFilled most notes (words_in notes r.count t' ++ words_from o mail r.first r.punct (glyphs_behind o.glue r.first (slice r.at stop notes)))
     (places_in r.count t' ++ places_from r.at (runs (glyphs_behind o.glue r.first (slice r.at stop notes)))) t'' k
     → WordsFilled most notes (words_in notes n t ++ words_from o mail (not mail) false (glyphs_behind o.glue (not mail) (slice start end notes)))

@@ -1,4 +1,4 @@
--- Ok taken of a line, as many as there is room for: how many they are, and all of them.
+-- Words taken of a line, as many as there is room for: how many they are, and all of them.
 use Rattle.std.proofs.Common.{Ok, Err}
 use mathlib.Core.Path.{◌≡◌, sym, ap, ◌∙◌}
 use mathlib.Core.Bool.{Bool, true, false}
@@ -25,7 +25,7 @@ module _ {most : ℕ} {o : Opts} {mail : Bool} {notes : List ℕ} {start end : �
       let c = length-append (words_in notes n t) (words_between o mail head punct notes start end) in
       omega (arith, a, b, c, words_length notes r.count t', words_length notes n t)
 
-  pub taken_over : r.more ≡ true → WordsFilled most notes (words_in notes n t ++ words_between o mail head punct notes start end) (places_in n t ++ places_from start (runs (glyphs_behind o.glue head (slice start end notes)))) t' (Err (record { }))
+  pub taken_over : r.more ≡ true → WordsFilled most notes (words_in notes n t ++ words_between o mail head punct notes start end) (places_in n t ++ places_from start (runs (glyphs_behind o.glue head (slice start end notes)))) t' (Err (record {}))
   taken_over e =
       let l = taken.left e in
       let c = length-append (words_in notes n t) (words_between o mail head punct notes start end) in

@@ -146,10 +146,7 @@ fn spaced_words(
     if mail {
         return r;
     }
-    loop {
-        if most <= r.count {
-            return r;
-        }
+    while r.count < most {
         let Some(w) = spaced_word(s, r.at, r.first, r.punct, o) else {
             return r;
         };
@@ -161,6 +158,7 @@ fn spaced_words(
             punct: w.punct,
         };
     }
+    r
 }
 
 // The next word of a line, if it is plain and nothing but spaces is before it.
@@ -339,39 +337,31 @@ pub fn split_some(
     ensures { TakenTo most (meant [] o) mail notes.now start end head punct n table.old result table.new }
 {
     let s = &notes[..end];
-    let mut count = n;
-    let mut at = start;
-    let mut first = head;
-    let mut previous = punct;
-    loop {
-        let Some(w) = next_word(s, at, mail, first, previous, o) else {
-            return Taken {
-                count,
-                at,
-                first,
-                punct: previous,
-                more: false,
-            };
-        };
-        if most <= count {
-            return Taken {
-                count,
-                at,
-                first,
-                punct: previous,
-                more: true,
-            };
+    let mut r = Taken {
+        count: n,
+        at: start,
+        first: head,
+        punct,
+        more: false,
+    };
+    while let Some(w) = next_word(s, r.at, mail, r.first, r.punct, o) {
+        if most <= r.count {
+            return Taken { more: true, ..r };
         }
-        records::store(table, count, w);
-        count += 1;
-        at = w.end;
-        first = false;
-        previous = w.punct;
+        records::store(table, r.count, w);
+        r = Taken {
+            count: r.count + 1,
+            at: w.end,
+            first: false,
+            punct: w.punct,
+            more: false,
+        };
     }
+    r
 }
 
 // The numbers of a table for sixteen words, which go through it in their order.
-const WINDOW: usize = 112;
+const WINDOW: usize = IN_WINDOW * 7;
 
 const IN_WINDOW: usize = 16;
 
@@ -474,10 +464,11 @@ pub fn next_word(
         return None;
     }
     let w = over_ink(s, start, o.glue);
-    if mail {
-        return Some(mail_word(start, w.end));
-    }
-    Some(word_of(o.uniform, o.by_characters, first, previous, at, b, w))
+    Some(if mail {
+        mail_word(start, w.end)
+    } else {
+        word_of(o.uniform, o.by_characters, first, previous, at, b, w)
+    })
 }
 
 // The record of a word after blanks that begin at a place.
@@ -561,13 +552,14 @@ fn blanks_at(s: &[u8], at: usize, tab: usize, first: bool) -> Blanks
     ensures { (first ≡ true → result ≡ no_blanks at) × (first ≡ false → (glue : Bool) → OverBlanks glue tab false s.now at result) }
 {
     if first {
-        return Blanks {
+        Blanks {
             end: at,
             before: None,
             after: 0,
-        };
+        }
+    } else {
+        over_blanks(s, at, tab)
     }
-    over_blanks(s, at, tab)
 }
 
 // The blanks at a place after which a word has ended. They are the same with glue and without: a U+00A0 among them is blank.
@@ -616,14 +608,7 @@ fn is_one_space(s: &[u8], at: usize) -> bool
     requires { (at ≤ length s.now) × (length s.now ≤ most_large) }
     ensures { result ≡ true → OneSpace s.now at }
 {
-    let next = at + 1;
-    if s.len() <= next {
-        return false;
-    }
-    if s[at] != 32 {
-        return false;
-    }
-    starts_ink(s, next)
+    s.get(at) == Some(&32) && starts_ink(s, at + 1)
 }
 
 // Whether the bytes at a place show that no blank stands there. A blank is below 33, or begins with C2, E1, E2 or E3; after E3 there is
@@ -632,24 +617,12 @@ fn starts_ink(s: &[u8], at: usize) -> bool
     requires { (at ≤ length s.now) × (length s.now ≤ most_large) }
     ensures { result ≡ true → InkBegins s.now at }
 {
-    if s.len() <= at {
-        return false;
+    match s.get(at).copied() {
+        None => false,
+        Some(a) if a < 0xC2 => 33 <= a,
+        Some(0xE3) => matches!(s.get(at + 1), Some(b) if *b != 0x80),
+        Some(a) => (a != 0xC2) & (a != 0xE1) & (a != 0xE2),
     }
-    let a = s[at];
-    if a < 33 {
-        return false;
-    }
-    if a < 0xC2 {
-        return true;
-    }
-    if a == 0xE3 {
-        let next = at + 1;
-        if s.len() <= next {
-            return false;
-        }
-        return s[next] != 0x80;
-    }
-    (a != 0xC2) & (a != 0xE1) & (a != 0xE2)
 }
 
 // Blanks with one more, which ends at next. The first tab parts the counts; a later one goes to the next stop.
@@ -658,14 +631,12 @@ fn behind_blank(b: Blanks, code: u32, next: usize, tab: usize) -> Blanks
     requires { (1 ≤ tab) × (tab ≤ 100) × (b.after ≤ most_columns) }
     ensures { (result.end ≡ next) × (gap_in result ≡ gap_behind tab code (gap_in b)) }
 {
-    if code != 9 {
-        return Blanks {
+    match b.before {
+        _ if code != 9 => Blanks {
             end: next,
             after: b.after + 1,
             ..b
-        };
-    }
-    match b.before {
+        },
         None => Blanks {
             end: next,
             before: Some(b.after),
@@ -793,10 +764,7 @@ fn over_plain(s: &[u8], w: Ink) -> Ink
 fn is_plain(s: &[u8], at: usize) -> bool
     ensures { result ≡ true → Plain s.now at (at + 1) }
 {
-    match s.get(at) {
-        Some(b) => (33 <= *b) & (*b < 128),
-        None => false,
-    }
+    matches!(s.get(at), Some(33..=127))
 }
 
 // The end of the plain characters at a place.

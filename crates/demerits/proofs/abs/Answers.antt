@@ -13,6 +13,6 @@ pub returns-then-x-2 : goal.returns-then-x-2
 unfolding of_bits
 returns-then-x-2 c = abs_level c.args.x (subst T (sym c.well_formed.0.1) tt) c.if-x-2.true
 
-pub returns : goal.returns
+pub returns-else-x-2 : goal.returns-else-x-2
 unfolding of_bits
-returns c = abs_above c.args.x c.if-x.false c.if-x-2.false
+returns-else-x-2 c = abs_above c.args.x c.if-x.false c.if-x-2.false

@@ -8,8 +8,8 @@ pub returns-then-t-goal : goal.returns-then-t-goal
 unfolding of_bits
 returns-then-t-goal c = let a = c.args in (ratio_same a.goal a.t a.stretch c.if-t-goal.true, tt)
 
-pub returns : goal.returns
-returns c =
+pub returns-else-t-goal : goal.returns-else-t-goal
+returns-else-t-goal c =
     let a = c.args in
     let n = c.if-t-goal.false in
     rw (c.apart.ensures, c.float.ensures) (

@@ -4,4 +4,4 @@ use Rattle.demerits.proofs.term.Goals as goal
 
 pub returns : goal.returns
 unfolding term
-returns c = rw c.abs.ensures at c.trunc.ensures
+returns c = rw (c.from.ensures, c.abs.ensures) at c.trunc.ensures

@@ -12,12 +12,12 @@ returns-then-stretch-le1 c = let a = c.args in (word_tight a.stretch a.word c.if
 pub term-requires : goal.term-requires
 term-requires c =
     let a = c.args in
-    rw (c.float.ensures, c.float-2.ensures, c.less.ensures)
+    rw (c.float.ensures, c.float-else-stretch-le1.ensures, c.saturating_sub.ensures)
     (weighted_up_to most_truncated 300 2 _ (lit≤ tt) (lit≤ tt) (lit≤ tt) (word_within a.stretch a.word (omega arith) (omega arith)))
 
-pub returns : goal.returns
-returns c =
+pub returns-else-stretch-le1 : goal.returns-else-stretch-le1
+returns-else-stretch-le1 c =
     let a = c.args in
-    let t = rw (c.float.ensures, c.float-2.ensures, c.less.ensures) at c.term.ensures in
+    let t = rw (c.float.ensures, c.float-else-stretch-le1.ensures, c.saturating_sub.ensures) at c.term.ensures in
     let e = t ∙ word_any a.stretch a.word (omega arith) (omega arith) in
     (e, rw e (word_le a.stretch a.word (omega arith) (omega arith)))

@@ -3,5 +3,5 @@ use mathlib.Core.Path.{refl}
 use Rattle.words.proofs.BlankRuns.{gap_later}
 use Rattle.words.proofs.behind_blank.Goals as goal
 
-pub returns-in-Count : goal.returns-in-Count
-returns-in-Count c = (refl, gap_later _ _ _ _ c.if-code-ne9.false _ c.in-Count.is)
+pub returns-in-Some : goal.returns-in-Some
+returns-in-Some c = (refl, gap_later _ _ _ _ c.if-code-ne9.false _ c.in-Some.is)

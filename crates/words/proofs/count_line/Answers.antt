@@ -1,5 +1,5 @@
 -- `words::count_line` meets its contract. Invariant: the words counted, with those of what is left of the line, are all the words.
-use mathlib.Core.Path.{ap, ◌∙◌}
+use mathlib.Core.Path.{ap}
 use borrow.Author.Tests.{not-true}
 use native.Mathlib.Omega.{arith}
 use lib.ListN.{length}
@@ -20,4 +20,4 @@ unfolding meant
 loop-o-preserved c =
     let t = c.split_some-r.ensures in
     let i = c.loop-o.invariant in
-    (t.to, omega (arith, i.1, t.gained), omega (arith, taken_count t, i.2), t.ink, t.kept.held, c.table-1.given ∙ i.5)
+    (t.to, omega (arith, i.1, t.gained), omega (arith, taken_count t, i.2), t.ink, t.kept.held)

@@ -19,7 +19,6 @@ invariant-loop-o l =
     × (l.count + length (words_between (meant [] l.o) l.mail l.first l.punct l.notes l.at l.end) ≡ l.n + length (words_between (meant [] l.o) l.mail (not l.mail) false l.notes l.start l.end))
     × (l.first ≡ true → while is_blank (ink_glyphs l.o.glue (slice l.at l.end l.notes)) ≡ [])
     × Holds 16 l.table
-    × (length l.table ≡ length l.initial.table)
 
 abbrev pub decreases-loop-o : goal.decreases-loop-o
 decreases-loop-o l = l.end - l.at

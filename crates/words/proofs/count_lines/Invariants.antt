@@ -16,7 +16,6 @@ invariant-loop-i l =
     × (l.n ≤ l.i)
     × (l.mail ≡ false → AllBegin (meant [] l.o).glue l.skip l.later (lines_of (slice l.i l.next l.notes)))
     × (l.n + length (words_at (meant [] l.o) l.mail l.skip l.later (lines_of (slice l.i l.next l.notes))) ≡ length (words_at (meant [] l.o) l.mail l.start l.later (lines_of (slice l.at l.next l.notes))))
-    × (length l.table ≡ length l.initial.table)
 
 abbrev pub decreases-loop-i : goal.decreases-loop-i
 decreases-loop-i l = l.next - l.i

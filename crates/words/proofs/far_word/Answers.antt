@@ -1,5 +1,4 @@
 -- `words::far_word` meets its contract: the spaces, the plain characters after them, and the record of both.
-use native.Mathlib.Omega.{arith}
 use Rattle.options.specs.Opts.{meant}
 use Rattle.words.proofs.far_word.Goals as goal
 
@@ -7,7 +6,7 @@ pub returns : goal.returns
 unfolding meant
 returns c = record {
   gap = c.spaces_before-b.result;
-  stop = c.plain_word_end-end.result;
-  plain = record { gap = c.spaces_before-b.ensures; word = c.plain_word_end-end.ensures (omega (arith, c.if-end-eq0.false)) };
+  stop = c.in_ok-end.end;
+  plain = record { gap = c.spaces_before-b.ensures; word = c.in_ok-end.ensures };
   is = rw c.plain_ink-w.ensures at c.word_of.ensures;
 }

@@ -18,8 +18,8 @@ returns-then-mail c =
     let over : OverBlanks c.args.o.glue c.args.o.tab c.args.first c.args.s.now c.args.at c.blanks_at-b.result = blanks_before c.args.first c.requires.0 c.requires.4 c.blanks_at-b.ensures in
     rw (c.mail_word.ensures, c.if-mail.true) (next_mail _ _ _ _ _ (over) _ c.over_ink-w.ensures c.if-s-start.false _)
 
-pub returns : goal.returns
+pub returns-else-mail : goal.returns-else-mail
 unfolding meant
-returns c =
+returns-else-mail c =
     let over : OverBlanks c.args.o.glue c.args.o.tab c.args.first c.args.s.now c.args.at c.blanks_at-b.result = blanks_before c.args.first c.requires.0 c.requires.4 c.blanks_at-b.ensures in
     rw (c.word_of.ensures, c.if-mail.false) (next_line _ _ _ _ _ (over) _ c.over_ink-w.ensures c.if-s-start.false _)

@@ -4,7 +4,6 @@ use mathlib.Core.Bool.{true, false}
 use Prim.Native.Nat.{◌+◌}
 use native.Mathlib.Omega.{arith}
 use borrow.Author.Rules.{rules}
-use borrow.Enum.Refused.{opened}
 use Rattle.text.proofs.Glyphs.{Here, blank_here}
 use Rattle.words.proofs.BlankRuns.{blanks_first, blanks_more, blanks_done, blanks_one, no_blank, no_blank_begins}
 use Rattle.lines.proofs.UsualBlanks.{tab_here}
@@ -31,7 +30,7 @@ pub returns-then-starts_ink : goal.returns-then-starts_ink
 returns-then-starts_ink c = λ glue. blanks_done _ (c.loop-b.invariant glue) (no_blank_begins _ _ _ (c.starts_ink.ensures c.if-starts_ink.true))
 
 pub returns-in_default : goal.returns-in_default
-returns-in_default c = λ glue. blanks_done _ (c.loop-b.invariant glue) (no_blank _ _ _ _ c.glyph_at.ensures (opened c.in_default.in_default-own.keys2))
+returns-in_default c = λ glue. blanks_done _ (c.loop-b.invariant glue) (no_blank _ _ _ _ c.glyph_at.ensures c.in_default.not-Blank)
 
 pub behind_blank-b-requires-else-starts_ink : goal.behind_blank-b-requires-else-starts_ink
 behind_blank-b-requires-else-starts_ink c = let i = c.loop-b.invariant false in omega arith

@@ -21,28 +21,28 @@ loop-w-init c = ink_first (search rules)
 pub returns-then-s-from : goal.returns-then-s-from
 returns-then-s-from c = ink_past _ c.loop-w.invariant c.if-s-from.true
 
-pub returns-then-columns-eq3 : goal.returns-then-columns-eq3
-returns-then-columns-eq3 c =
-    let long : Here (white_space c.in-Good.code) c.args.s.now c.loop-w.w.end c.in-Good.code c.in-Good.next = char_here _ _ _ _ (sym c.long_at.ensures ∙ c.in-Good.is) in
-    let least : 0x800 ≤ c.in-Good.code = long_code _ _ c.if-s-from.false c.if-a-ge224.true _ _ (sym c.long_at.ensures ∙ c.in-Good.is) in
-    ink_long_stop _ c.loop-w.invariant long least c.ink_width-columns.ensures c.if-columns-eq3.true
+pub returns-in_default : goal.returns-in_default
+returns-in_default c =
+    let long : Here (white_space c.in-Some.field-0.code) c.args.s.now c.loop-w.w.end c.in-Some.field-0.code c.in-Some.field-0.next = char_here _ _ _ _ (sym c.long_at.ensures ∙ c.in-Some.is) in
+    let least : 0x800 ≤ c.in-Some.field-0.code = long_code _ _ c.if-s-from.false c.if-a-ge224.true _ _ (sym c.long_at.ensures ∙ c.in-Some.is) in
+    ink_long_stop _ c.loop-w.invariant long least (sym c.in_default.is ∙ c.ink_width.ensures)
 
 pub overflow_add-w : goal.overflow_add-w
-overflow_add-w c = let h = narrow _ _ (ink_not_blank _ _ c.ink_width-columns.ensures c.if-columns-eq3.false).1 in let l = c.loop-w.invariant in omega (arith, l.narrow, l.within)
+overflow_add-w c = let h = narrow _ _ (ink_not_blank _ _ (sym c.in-Some-ink_width.is ∙ c.ink_width.ensures)).1 in let l = c.loop-w.invariant in omega (arith, l.narrow, l.within)
 
-pub loop-w-smaller-in-Good : goal.loop-w-smaller-in-Good
-loop-w-smaller-in-Good c =
-    let long : Here (white_space c.in-Good.code) c.args.s.now c.loop-w.w.end c.in-Good.code c.in-Good.next = char_here _ _ _ _ (sym c.long_at.ensures ∙ c.in-Good.is) in
+pub loop-w-smaller-in-Some : goal.loop-w-smaller-in-Some
+loop-w-smaller-in-Some c =
+    let long : Here (white_space c.in-Some.field-0.code) c.args.s.now c.loop-w.w.end c.in-Some.field-0.code c.in-Some.field-0.next = char_here _ _ _ _ (sym c.long_at.ensures ∙ c.in-Some.is) in
     let h = long in omega (arith, h.on, h.within)
 
-pub loop-w-preserved-in-Good : goal.loop-w-preserved-in-Good
-loop-w-preserved-in-Good c =
-    let long : Here (white_space c.in-Good.code) c.args.s.now c.loop-w.w.end c.in-Good.code c.in-Good.next = char_here _ _ _ _ (sym c.long_at.ensures ∙ c.in-Good.is) in
-    let least : 0x800 ≤ c.in-Good.code = long_code _ _ c.if-s-from.false c.if-a-ge224.true _ _ (sym c.long_at.ensures ∙ c.in-Good.is) in
-    ink_long _ _ c.loop-w.invariant long least c.ink_width-columns.ensures c.if-columns-eq3.false refl refl
+pub loop-w-preserved-in-Some : goal.loop-w-preserved-in-Some
+loop-w-preserved-in-Some c =
+    let long : Here (white_space c.in-Some.field-0.code) c.args.s.now c.loop-w.w.end c.in-Some.field-0.code c.in-Some.field-0.next = char_here _ _ _ _ (sym c.long_at.ensures ∙ c.in-Some.is) in
+    let least : 0x800 ≤ c.in-Some.field-0.code = long_code _ _ c.if-s-from.false c.if-a-ge224.true _ _ (sym c.long_at.ensures ∙ c.in-Some.is) in
+    ink_long _ _ c.loop-w.invariant long least (sym c.in-Some-ink_width.is ∙ c.ink_width.ensures) refl refl
 
-pub loop-w-preserved-in-Damaged : goal.loop-w-preserved-in-Damaged
-loop-w-preserved-in-Damaged c = ink_damaged _ c.loop-w.invariant c.if-s-from.false (char_damaged_here _ _ c.if-s-from.false (sym c.long_at.ensures ∙ c.in-Damaged.is))
+pub loop-w-preserved-in-None : goal.loop-w-preserved-in-None
+loop-w-preserved-in-None c = ink_damaged _ c.loop-w.invariant c.if-s-from.false (char_damaged_here _ _ c.if-s-from.false (sym c.long_at.ensures ∙ c.in-None.is))
 
 pub loop-w-preserved-then-is_plain : goal.loop-w-preserved-then-is_plain
 loop-w-preserved-then-is_plain c = ink_plain _ c.loop-w.invariant _ c.over_plain-w.ensures
@@ -79,4 +79,4 @@ loop-w-preserved-in-Ink c =
     ink_more _ _ c.loop-w.invariant read c.width.ensures refl c.is_punct.ensures
 
 pub loop-w-preserved : goal.loop-w-preserved
-loop-w-preserved c = ink_damaged _ c.loop-w.invariant c.if-s-from.false (damaged_here _ _ c.if-s-from.false (sym c.glyph_at.ensures ∙ c.in-Damaged-glyph_at.is))
+loop-w-preserved c = ink_damaged _ c.loop-w.invariant c.if-s-from.false (damaged_here _ _ c.if-s-from.false (sym c.glyph_at.ensures ∙ c.in-Damaged.is))

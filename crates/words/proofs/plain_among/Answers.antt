@@ -6,10 +6,10 @@ use borrow.Author.Rules.{rules}
 use Rattle.words.proofs.plain_among.Goals as goal
 
 pub overflow_add-clear : goal.overflow_add-clear
-overflow_add-clear c = record { fits = sum_fits c.args.s.now c.args.i (λ k. omega (arith, c.shared_slice_known-1.given k)) c.eight-x.result c.eight-x.ensures c.if-x-ne0.false }
+overflow_add-clear c = record { fits = sum_fits c.args.s.now c.args.i (λ k. omega (arith, c.type_inv.s k)) c.eight-x.result c.eight-x.ensures c.if-x-ne0.false }
 
 pub returns-then-clear-eq0 : goal.returns-then-clear-eq0
-returns-then-clear-eq0 c = (omega arith, all_plain c.args.s.now c.args.i (λ k. omega (arith, c.shared_slice_known-1.given k)) c.eight-x.result c.eight-x.ensures c.if-x-ne0.false c.if-clear-eq0.true (search rules))
+returns-then-clear-eq0 c = (omega arith, all_plain c.args.s.now c.args.i (λ k. omega (arith, c.type_inv.s k)) c.eight-x.result c.eight-x.ensures c.if-x-ne0.false c.if-clear-eq0.true (search rules))
 
 pub returns : goal.returns
-returns c = (zeros_few (clear_of 0x5F5F5F5F5F5F5F5F c.eight-x.result), plain_count c.args.s.now c.args.i (λ k. omega (arith, c.shared_slice_known-1.given k)) c.eight-x.result c.eight-x.ensures c.if-x-ne0.false (search rules))
+returns c = (zeros_few (clear_of 0x5F5F5F5F5F5F5F5F c.eight-x.result), plain_count c.args.s.now c.args.i (λ k. omega (arith, c.type_inv.s k)) c.eight-x.result c.eight-x.ensures c.if-x-ne0.false (search rules))

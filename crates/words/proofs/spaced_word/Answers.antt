@@ -1,11 +1,17 @@
 -- `words::spaced_word` meets its contract: a word after one space, or any.
+use Rattle.std.proofs.Common.{◌≡◌, ◌<◌, length, get_or}
+use Rattle.std.proofs.lemmas.Grind.{common_steps}
+use Rattle.std.proofs.lemmas.Option.{gets}
 use mathlib.Core.List.{[]}
 use native.Mathlib.Omega.{arith}
 use Rattle.options.specs.Opts.{meant}
 use Rattle.words.proofs.SpacedWords.{near_next}
 use Rattle.words.proofs.spaced_word.Goals as goal
 
-pub returns-then-end-ne0 : goal.returns-then-end-ne0
+pub returns-in-Some : goal.returns-in-Some
 unfolding meant
-returns-then-end-ne0 c =
-    near_next (meant [] c.args.o) c.args.first c.args.previous c.args.s.now c.args.at c.near_end-end.result c.near_word.result c.if-not-first.true c.if-s-at.false c.if-s-at-ne32.false (c.near_end-end.ensures (omega (arith, c.if-end-ne0.true))) (c.near_word.ensures (meant [] c.args.o).by_characters c.args.previous)
+returns-in-Some c =
+    let a = c.args in
+    let here : a.at < length a.s.now = grind (arith, common_steps, gets) in
+    let space : get_or a.s.now a.at 0 ≡ 32 = grind (arith, common_steps, gets) in
+    near_next (meant [] a.o) a.first a.previous a.s.now a.at c.in-Some.end c.near_word.result c.if-not-first.true here space c.in-Some.ensures (c.near_word.ensures (meant [] a.o).by_characters a.previous)

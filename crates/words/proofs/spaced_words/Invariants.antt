@@ -1,4 +1,3 @@
-use mathlib.Core.Path.{◌≡◌}
 use mathlib.Core.List.{[]}
 use Prim.Native.Nat.{ℕ, ◌-◌, ◌≤◌}
 use lib.ListN.{length, take}
@@ -13,7 +12,6 @@ invariant-loop-r l =
     × (l.start ≤ l.r.at)
     × (l.r.at ≤ l.next)
     × ((end : ℕ) → EndsAt (take l.next l.notes) l.start end → SpacedTo (meant [] l.o) l.mail l.notes l.start end l.n l.initial.table l.r l.table)
-    × (length l.table ≡ length l.initial.table)
 
 abbrev pub decreases-loop-r : goal.decreases-loop-r
 decreases-loop-r l = l.next - l.r.at

@@ -19,6 +19,6 @@ pub returns-then-r : goal.returns-then-r
 unfolding meant
 returns-then-r c = taken_over c.split_some-r.ensures c.if-r.true
 
-pub returns : goal.returns
+pub returns-else-r : goal.returns-else-r
 unfolding meant
-returns c = taken_all c.split_some-r.ensures c.if-r.false
+returns-else-r c = taken_all c.split_some-r.ensures c.if-r.false

@@ -1,5 +1,5 @@
 use mathlib.Core.Path.{◌≡◌}
-use mathlib.Core.Bool.{true}
+use mathlib.Core.Bool.{true, false}
 use mathlib.Core.List.{[], ◌++◌}
 use Prim.Native.Nat.{◌+◌, ◌-◌, ◌≤◌}
 use lib.ListN.{length, drop}
@@ -17,15 +17,14 @@ use Rattle.words.proofs.split_some.Given as goal
 
 abbrev pub invariant-loop-w : goal.invariant-loop-w
 invariant-loop-w l =
-    (l.at ≤ length l.s)
+    (l.r.at ≤ length l.s)
     × Filling l.most l.notes (words_in l.notes l.n l.initial.table ++ words_from (meant [] l.o) l.mail l.head l.punct (glyphs_behind (meant [] l.o).glue l.head (drop l.start l.s)))
-    (words_from (meant [] l.o) l.mail l.first l.previous (glyphs_behind (meant [] l.o).glue l.first (drop l.at l.s)))
-    (places_in l.n l.initial.table ++ places_from l.start (runs (glyphs_behind (meant [] l.o).glue l.head (drop l.start l.s)))) (places_from l.at (runs (glyphs_behind (meant [] l.o).glue l.first (drop l.at l.s)))) l.count l.table
-    × (length l.table ≡ length l.initial.table)
-    × (l.first ≡ true → while is_blank (ink_glyphs l.o.glue (drop l.at l.s)) ≡ [])
-    × (l.start ≤ l.at)
-    × (l.count + l.start ≤ l.n + l.at)
+    (words_from (meant [] l.o) l.mail l.r.first l.r.punct (glyphs_behind (meant [] l.o).glue l.r.first (drop l.r.at l.s)))
+    (places_in l.n l.initial.table ++ places_from l.start (runs (glyphs_behind (meant [] l.o).glue l.head (drop l.start l.s)))) (places_from l.r.at (runs (glyphs_behind (meant [] l.o).glue l.r.first (drop l.r.at l.s)))) l.r.count l.table
+    × (l.r.first ≡ true → while is_blank (ink_glyphs l.o.glue (drop l.r.at l.s)) ≡ [])
+    × (l.start ≤ l.r.at)
+    × (l.r.count + l.start ≤ l.n + l.r.at)
+    × (l.r.more ≡ false)
 
 abbrev pub decreases-loop-w : goal.decreases-loop-w
-decreases-loop-w l =
-    length l.s - l.at
+decreases-loop-w l = length l.s - l.r.at

@@ -2,7 +2,6 @@ use mathlib.Core.Path.{◌≡◌}
 use mathlib.Core.Bool.{false}
 use mathlib.Core.List.{[]}
 use Prim.Native.Nat.{◌-◌, ◌≤◌}
-use lib.ListN.{length}
 use lib.Seq.{slice}
 use Rattle.options.specs.Opts.{meant}
 use Rattle.lines.specs.Lines.{lines_of}
@@ -17,7 +16,6 @@ invariant-loop-i l =
     × (l.mail ≡ false → AllBegin (meant [] l.o).glue l.skip l.later (lines_of (slice l.i l.next l.notes)))
     × Filling l.most l.notes (words_at (meant [] l.o) l.mail l.start l.later (lines_of (slice l.at l.next l.notes))) (words_at (meant [] l.o) l.mail l.skip l.later (lines_of (slice l.i l.next l.notes)))
     (places_at (meant [] l.o).glue l.mail l.at l.start l.later (lines_of (slice l.at l.next l.notes))) (places_at (meant [] l.o).glue l.mail l.i l.skip l.later (lines_of (slice l.i l.next l.notes))) l.n l.table
-    × (length l.table ≡ length l.initial.table)
 
 abbrev pub decreases-loop-i : goal.decreases-loop-i
 decreases-loop-i l = l.next - l.i
