@@ -16,9 +16,11 @@ use Rattle.lists.proofs.Parts.{while_behind}
 use Rattle.widths.specs.WhiteSpace.{white_space}
 use Rattle.text.specs.Characters.{Glyph, glyph, no_break, glyphs, is_blank, extent}
 use Rattle.text.specs.Cited.Places.{seen_as, ink_glyphs}
+use Rattle.text.specs.contracts.Glyph.{the_type}
+use denote.Enum.Declared.{tag_of}
+use types.Run.{OneOf}
 use Rattle.text.specs.declared.Glyph.{Glyph as Seen}
-use Rattle.text.specs.declared.Glyph.TheVariants.{Blank}
-use Rattle.text.proofs.Glyphs.{Here, no_blank as not_blank, ascii_here}
+use Rattle.text.proofs.Glyphs.{Here, not_blank, ascii_here}
 use Rattle.text.proofs.Extents.{glyph_read}
 use Rattle.text.proofs.NoBreaks.{no_break_blank}
 use Rattle.text.proofs.Edges.{glyphs_past, ink_past, glyphs_first, ink_begins, blank_on}
@@ -103,7 +105,7 @@ module _ (glue : Bool) (s : List ℕ) (at : ℕ) where
   no_blank_begins b = no_blank_first b.within b.ink
 
   -- from an answer of glyph_at that is no blank
-  pub no_blank : (r : Seen) → r ≡ seen_as at (glyph (drop at s)) → ((code next : ℕ) → r ≡ Blank code next → ⊥) → NoBlank glue s at
+  pub no_blank : (r : Seen) → r ≡ seen_as at (glyph (drop at s)) → OneOf (0 ∷ 2 ∷ []) (tag_of the_type r) → NoBlank glue s at
   no_blank r e h = pick (ltb at (length s)) refl
     where
       pick : (t : Bool) → ltb at (length s) ≡ t → NoBlank glue s at

@@ -30,7 +30,7 @@ pub returns-then-starts_ink : goal.returns-then-starts_ink
 returns-then-starts_ink c = λ glue. blanks_done _ (c.loop-b.invariant glue) (no_blank_begins _ _ _ (c.starts_ink.ensures c.if-starts_ink.true))
 
 pub returns-in_default : goal.returns-in_default
-returns-in_default c = λ glue. blanks_done _ (c.loop-b.invariant glue) (no_blank _ _ _ _ c.glyph_at.ensures c.in_default.not-Blank)
+returns-in_default c = λ glue. blanks_done _ (c.loop-b.invariant glue) (no_blank _ _ _ _ c.glyph_at.ensures (search rules))
 
 pub behind_blank-b-requires-else-starts_ink : goal.behind_blank-b-requires-else-starts_ink
 behind_blank-b-requires-else-starts_ink c = let i = c.loop-b.invariant false in omega arith
