@@ -49,7 +49,7 @@ pub record Decides (L : Language) (M : Matcher) : Type 0 where
 
 -- a match is one or the other
 pub on_fault : {xs : List ℕ} {n m : ℕ} {A : Type 0} → on xs n ≡ fault m → A
-on_fault e = absurd (let z : ◌≡◌ {A = ℕ} 0 1 = cc in omega arith)
+on_fault e = absurd (cc)
 
 -- ---- bytes that have to stand there
 

@@ -3,7 +3,6 @@ use mathlib.Core.Path.{◌≡◌, refl, sym, ap, ◌∙◌, subst⁻¹}
 use mathlib.Core.Bool.{Bool, true, false, ◌||◌}
 use mathlib.Core.List.{List, [], ◌∷◌, map}
 use Prim.Native.Nat.{ℕ, suc, ◌<◌}
-use native.Mathlib.Omega.{arith}
 use lib.ListN.{length, take, drop}
 use Rattle.lists.specs.Runs.{every}
 use Rattle.lists.specs.Theorems.All.{All}
@@ -40,7 +39,7 @@ formatted_good o text s e = go (every is_good (glyphs o.glue text)) refl
   where
     go : (t : Bool) → every is_good (glyphs o.glue text) ≡ t → t ≡ true
     go true k = refl
-    go false k = absurd (let q = sym (damaged_plain o text k) ∙ e in let z : ◌≡◌ {A = ℕ} 0 1 = cc in omega arith)
+    go false k = absurd (let q = sym (damaged_plain o text k) ∙ e in cc)
 
 follow_good : (o : Opts) (test : Shape → Bool) (ls : List Line) → All (LineGood o) (take (follow o test ls) ls)
 unfolding follow

@@ -14,7 +14,7 @@ use Rattle.checker.specs.Matching.{Match, and_then, match_text, match_feed, matc
 use Rattle.checker.specs.Cited.Places.{SpotIn, Matches}
 use Rattle.checker.specs.declared.Spot.{Spot}
 use Rattle.checker.specs.declared.Fault.{Fault}
-use Rattle.checker.proofs.Spots.{on_in, on_is, then_fault, then_on, matches_same, part_slice}
+use Rattle.checker.proofs.Spots.{then_fault, then_on, matches_same, part_slice}
 
 -- a word of the table lies in the notes
 pub word_within : {size n : ℕ} {table : List ℕ} {i : ℕ} {w : Record} → AllWithin size n table → Got table i w → i < n → Within size w
@@ -37,14 +37,17 @@ module _ (glue : Bool) (indent notes table : List ℕ) (n : ℕ) (digest : List 
   rest_next i p w g h k = rw (words_drop notes n table i h, ← g.is, ← part_slice w.start w.end notes k)
 
   module _ (from : Spot) (i : ℕ) (p : Spot) (l : RestLeft from i p) where
-    module _ (w : Record) (g : Got table i w) (h : i < n) (k : w.start ≤ w.end) {r : Result Spot Fault} (a : Matches digest (match_next glue indent (take (w.end - w.start) (drop w.start notes)) (drop p.at digest) p.line) r) where
-      pub rest_fault : {f : Fault} → r ≡ Err f → Matches digest (rest_from 1 from) (Err f)
-      rest_fault e = matches_same (sym (rest_next i p w g h k) ∙ l.is) (then_fault a (match_rest glue indent (drop (i + 1) (words_in notes n table))) e)
+    module _ (w : Record) (g : Got table i w) (h : i < n) (k : w.start ≤ w.end) where
+      abbrev NextIs : Result Spot Fault → Type 0
+      NextIs r = Matches digest (match_next glue indent (take (w.end - w.start) (drop w.start notes)) (drop p.at digest) p.line) r
 
-      pub rest_more : {q : Spot} → r ≡ Ok q → RestLeft from (i + 1) q
-      rest_more {q} e = record {
-        inside = on_in a e;
-        is = sym (ap (λ (m : Match). and_then m (match_rest glue indent (drop (i + 1) (words_in notes n table)))) (on_is a e)) ∙ sym (rest_next i p w g h k) ∙ l.is;
+      pub rest_fault : {f : Fault} → NextIs (Err f) → Matches digest (rest_from 1 from) (Err f)
+      rest_fault a = matches_same (sym (rest_next i p w g h k) ∙ l.is) (then_fault (match_rest glue indent (drop (i + 1) (words_in notes n table))) a)
+
+      pub rest_more : {q : Spot} → NextIs (Ok q) → RestLeft from (i + 1) q
+      rest_more {q} a = record {
+        inside = a.inside;
+        is = ap (λ (m : Match). and_then m (match_rest glue indent (drop (i + 1) (words_in notes n table)))) a.is ∙ sym (rest_next i p w g h k) ∙ l.is;
         some = omega (arith, l.some);
         few = omega arith;
       }
@@ -59,9 +62,12 @@ module _ (glue : Bool) (indent notes table : List ℕ) (n : ℕ) (digest : List 
   unfolding match_words meaning
   words_first first p w g h k = rw (words_drop notes n table 0 h, ← g.is, ← part_slice w.start w.end notes k)
 
-  module _ (first : List ℕ) (p : Spot) (w : Record) (g : Got table 0 w) (h : 0 < n) (k : w.start ≤ w.end) {r : Result Spot Fault} (a : Matches digest (match_text (first ++ take (w.end - w.start) (drop w.start notes)) (drop p.at digest) p.line) r) where
-    pub words_fault : {f : Fault} → r ≡ Err f → Matches digest (match_words glue first indent (words_in notes n table) (drop p.at digest) p.line) (Err f)
-    words_fault e = matches_same (sym (words_first first p w g h k)) (then_fault a (match_rest glue indent (drop 1 (words_in notes n table))) e)
+  module _ (first : List ℕ) (p : Spot) (w : Record) (g : Got table 0 w) (h : 0 < n) (k : w.start ≤ w.end) where
+    abbrev FirstIs : Result Spot Fault → Type 0
+    FirstIs r = Matches digest (match_text (first ++ take (w.end - w.start) (drop w.start notes)) (drop p.at digest) p.line) r
 
-    pub words_rest : {q : Spot} {r' : Result Spot Fault} → r ≡ Ok q → Matches digest (rest_from 1 q) r' → Matches digest (match_words glue first indent (words_in notes n table) (drop p.at digest) p.line) r'
-    words_rest e b = matches_same (sym (words_first first p w g h k)) (then_on a (match_rest glue indent (drop 1 (words_in notes n table))) e b)
+    pub words_fault : {f : Fault} → FirstIs (Err f) → Matches digest (match_words glue first indent (words_in notes n table) (drop p.at digest) p.line) (Err f)
+    words_fault a = matches_same (sym (words_first first p w g h k)) (then_fault (match_rest glue indent (drop 1 (words_in notes n table))) a)
+
+    pub words_rest : {q : Spot} {r : Result Spot Fault} → FirstIs (Ok q) → Matches digest (rest_from 1 q) r → Matches digest (match_words glue first indent (words_in notes n table) (drop p.at digest) p.line) r
+    words_rest a b = matches_same (sym (words_first first p w g h k)) (then_on (match_rest glue indent (drop 1 (words_in notes n table))) a b)

@@ -18,31 +18,19 @@ use Rattle.text.specs.Characters.{extent}
 use Rattle.text.proofs.Forms.{rest_is}
 use Rattle.output.specs.Emission.{line_feed}
 use Rattle.checker.specs.Matching.{Match, on, fault, and_then, match_text, match_feed, spaces, parting, lead, match_spaced, match_next}
-use Rattle.checker.specs.Cited.Places.{SpotIn, matched, Matches, GapAt}
+use Rattle.checker.specs.Cited.Places.{SpotIn, Matches, GapAt}
 use Rattle.checker.specs.declared.Spot.{Spot}
 use Rattle.checker.specs.declared.Fault.{Fault}
 use Rattle.checker.specs.declared.Gap.{Gap}
 
 -- ---- one after the other
 
-module _ {digest : List ℕ} {m : Match} {r : Result Spot Fault} (a : Matches digest m r) where
-  pub fault_is : {f : Fault} → r ≡ Err f → m ≡ fault f.line
-  fault_is e = sym a.is ∙ ap (matched digest) e
+module _ {digest : List ℕ} {m : Match} (f : List ℕ → ℕ → Match) where
+  pub then_fault : {k : Fault} → Matches digest m (Err k) → Matches digest (and_then m f) (Err k)
+  then_fault a = record { is = ap (λ (x : Match). and_then x f) a.is; inside = a.inside }
 
-  pub fault_line : {f : Fault} → r ≡ Err f → f.line ≤ length digest
-  fault_line e = rw e at a.inside
-
-  pub on_is : {q : Spot} → r ≡ Ok q → m ≡ on (drop q.at digest) q.line
-  on_is e = sym a.is ∙ ap (matched digest) e
-
-  pub on_in : {q : Spot} → r ≡ Ok q → SpotIn digest q
-  on_in e = rw e at a.inside
-
-  pub then_fault : (f : List ℕ → ℕ → Match) {k : Fault} → r ≡ Err k → Matches digest (and_then m f) (Err k)
-  then_fault f e = record { is = sym (ap (λ (x : Match). and_then x f) (fault_is e)); inside = fault_line e }
-
-  pub then_on : (f : List ℕ → ℕ → Match) {q : Spot} {r' : Result Spot Fault} → r ≡ Ok q → Matches digest (f (drop q.at digest) q.line) r' → Matches digest (and_then m f) r'
-  then_on f e b = record { is = b.is ∙ sym (ap (λ (x : Match). and_then x f) (on_is e)); inside = b.inside }
+  pub then_on : {q : Spot} {r : Result Spot Fault} → Matches digest m (Ok q) → Matches digest (f (drop q.at digest) q.line) r → Matches digest (and_then m f) r
+  then_on a b = record { is = b.is ∙ ap (λ (x : Match). and_then x f) a.is; inside = b.inside }
 
 pub matches_same : {digest : List ℕ} {m m' : Match} {r : Result Spot Fault} → m ≡ m' → Matches digest m r → Matches digest m' r
 matches_same e a = record { is = a.is ∙ e; inside = a.inside }
@@ -81,12 +69,12 @@ text_append a b xs n = go (begins a xs) refl
     go true e = rw (e, begins_parts a b xs, e, drop-drop (length b) (length a) xs, length-append a b)
     go false e = rw (e, begins_parts a b xs, e)
 
-module _ (a b digest : List ℕ) (p : Spot) {r : Result Spot Fault} (m : Matches digest (match_text a (drop p.at digest) p.line) r) where
-  pub append_fault : {f : Fault} → r ≡ Err f → Matches digest (match_text (a ++ b) (drop p.at digest) p.line) (Err f)
-  append_fault e = matches_same (text_append a b (drop p.at digest) p.line) (then_fault m (match_text b) e)
+module _ (a b digest : List ℕ) (p : Spot) where
+  pub append_fault : {f : Fault} → Matches digest (match_text a (drop p.at digest) p.line) (Err f) → Matches digest (match_text (a ++ b) (drop p.at digest) p.line) (Err f)
+  append_fault m = matches_same (text_append a b (drop p.at digest) p.line) (then_fault (match_text b) m)
 
-  pub append_on : {q : Spot} {r' : Result Spot Fault} → r ≡ Ok q → Matches digest (match_text b (drop q.at digest) q.line) r' → Matches digest (match_text (a ++ b) (drop p.at digest) p.line) r'
-  append_on e n = matches_same (text_append a b (drop p.at digest) p.line) (then_on m (match_text b) e n)
+  pub append_on : {q : Spot} {r : Result Spot Fault} → Matches digest (match_text a (drop p.at digest) p.line) (Ok q) → Matches digest (match_text b (drop q.at digest) q.line) r → Matches digest (match_text (a ++ b) (drop p.at digest) p.line) r
+  append_on m n = matches_same (text_append a b (drop p.at digest) p.line) (then_on (match_text b) m n)
 
 -- what the code lends of the notes
 pub part_slice : (a b : ℕ) (s : List ℕ) → a ≤ b → take (b - a) (drop a s) ≡ slice a b s
@@ -137,23 +125,23 @@ module _ (glue : Bool) (w digest : List ℕ) (p : Spot) (s : SpotIn digest p) (g
 
 -- ---- the next word
 
-module _ (glue : Bool) (indent w digest : List ℕ) (p : Spot) {r : Result Spot Fault} (a : Matches digest (match_feed (drop p.at digest) p.line) r) where
-  pub next_fresh : {q : Spot} {r' : Result Spot Fault} → r ≡ Ok q → Matches digest (match_text (indent ++ w) (drop q.at digest) q.line) r' → Matches digest (match_next glue indent w (drop p.at digest) p.line) r'
+module _ (glue : Bool) (indent w digest : List ℕ) (p : Spot) where
+  pub next_fresh : {q : Spot} {r : Result Spot Fault} → Matches digest (match_feed (drop p.at digest) p.line) (Ok q) → Matches digest (match_text (indent ++ w) (drop q.at digest) q.line) r → Matches digest (match_next glue indent w (drop p.at digest) p.line) r
   unfolding match_next match_feed
-  next_fresh {q} {r'} e b = go (begins line_feed (drop p.at digest)) refl (on_is a e)
+  next_fresh {q} {r} a b = go (begins line_feed (drop p.at digest)) refl a.is
     where
-      go : (t : Bool) → begins line_feed (drop p.at digest) ≡ t → cond (begins line_feed (drop p.at digest)) (on (drop 1 (drop p.at digest)) (suc p.line)) (fault p.line) ≡ on (drop q.at digest) q.line
-          → Matches digest (match_next glue indent w (drop p.at digest) p.line) r'
-      go true t k = matches_same (rw t (sym (ap (λ (m : Match). and_then m (match_text (indent ++ w))) (rw t at k)))) b
-      go false t k = absurd (let q : fault p.line ≡ on (drop q.at digest) q.line = rw t at k in let z : ◌≡◌ {A = ℕ} 0 1 = cc in omega arith)
+      go : (t : Bool) → begins line_feed (drop p.at digest) ≡ t → on (drop q.at digest) q.line ≡ cond (begins line_feed (drop p.at digest)) (on (drop 1 (drop p.at digest)) (suc p.line)) (fault p.line)
+          → Matches digest (match_next glue indent w (drop p.at digest) p.line) r
+      go true t k = matches_same (rw t (ap (λ (m : Match). and_then m (match_text (indent ++ w))) (rw t at k))) b
+      go false t k = absurd (let q : on (drop q.at digest) q.line ≡ fault p.line = rw t at k in cc)
 
-  pub next_spaced : {f : Fault} {r' : Result Spot Fault} → r ≡ Err f → Matches digest (match_spaced glue w (drop p.at digest) p.line) r' → Matches digest (match_next glue indent w (drop p.at digest) p.line) r'
+  pub next_spaced : {f : Fault} {r : Result Spot Fault} → Matches digest (match_feed (drop p.at digest) p.line) (Err f) → Matches digest (match_spaced glue w (drop p.at digest) p.line) r → Matches digest (match_next glue indent w (drop p.at digest) p.line) r
   unfolding match_next match_feed
-  next_spaced {f} {r'} e b = go (begins line_feed (drop p.at digest)) refl (fault_is a e)
+  next_spaced {f} {r} a b = go (begins line_feed (drop p.at digest)) refl a.is
     where
-      go : (t : Bool) → begins line_feed (drop p.at digest) ≡ t → cond (begins line_feed (drop p.at digest)) (on (drop 1 (drop p.at digest)) (suc p.line)) (fault p.line) ≡ fault f.line
-          → Matches digest (match_next glue indent w (drop p.at digest) p.line) r'
-      go true t k = absurd (let q : on (drop 1 (drop p.at digest)) (suc p.line) ≡ fault f.line = rw t at k in let z : ◌≡◌ {A = ℕ} 0 1 = cc in omega arith)
+      go : (t : Bool) → begins line_feed (drop p.at digest) ≡ t → fault f.line ≡ cond (begins line_feed (drop p.at digest)) (on (drop 1 (drop p.at digest)) (suc p.line)) (fault p.line)
+          → Matches digest (match_next glue indent w (drop p.at digest) p.line) r
+      go true t k = absurd (let q : fault f.line ≡ on (drop 1 (drop p.at digest)) (suc p.line) = rw t at k in cc)
       go false t k = matches_same (rw t) b
 
 -- what std's `starts_with` says
@@ -168,5 +156,5 @@ starts_begins (x ∷ p) (y ∷ s) = go (eqb x y) (starts_begins p s)
     go false e = refl
 
 -- what the code lends of a digest is all of it from a place on
-pub part_begins : (text s : List ℕ) (at : ℕ) {r b : Bool} → r ≡ starts_with eqb (take (length s - at) (drop at s)) text → r ≡ b → begins text (drop at s) ≡ b
-part_begins text s at e k = ap (begins text) (sym (rest_is s at)) ∙ sym (starts_begins text (take (length s - at) (drop at s))) ∙ sym e ∙ k
+pub part_begins : (text s : List ℕ) (at : ℕ) {b : Bool} → b ≡ starts_with eqb (take (length s - at) (drop at s)) text → begins text (drop at s) ≡ b
+part_begins text s at e = ap (begins text) (sym (rest_is s at)) ∙ sym (starts_begins text (take (length s - at) (drop at s))) ∙ sym e

@@ -15,7 +15,7 @@ use Rattle.checker.proofs.Feeds.{feeds_append, first_behind, first_line, first_w
 use Rattle.checker.proofs.Decides.{Language, Matcher, Decides}
 
 accepted_at : {n : ℕ} {A : Type 0} → accepted ≡ at n → A
-accepted_at e = absurd (let z : ◌≡◌ {A = ℕ} 0 1 = cc in omega arith)
+accepted_at e = absurd (cc)
 
 module _ (L : Language) (M : Matcher) (d : Decides L M) (xs : List ℕ) where
   -- where the matching stopped: the lines up to there go on in the language, and with the next line none does
@@ -48,7 +48,7 @@ module _ (L : Language) (M : Matcher) (d : Decides L M) (xs : List ℕ) where
         never = λ body below h x others l.
             let a = f.never body below h x others 0 in
             let b = whole (f.up_to ++ (body ++ 10 ∷ others)) l in
-            absurd (let q = sym b ∙ a in let z : ◌≡◌ {A = ℕ} 0 1 = cc in omega arith);
+            absurd (let q = sym b ∙ a in cc);
       }
 
   left_stops : (y : ℕ) (ys : List ℕ) (n : ℕ) → M xs 0 ≡ on (y ∷ ys) n → Stops n

@@ -1,5 +1,5 @@
 -- Piece by piece: what is left to be matched, and of the search for a paragraph of too many words.
-use Rattle.std.proofs.Common.{Option, Some, None, Ok, Err}
+use Rattle.std.proofs.Common.{Option, Some, None, Result, Ok, Err}
 use mathlib.Core.Path.{◌≡◌, refl, sym, ap, ◌∙◌}
 use mathlib.Core.Bool.{Bool, true, false}
 use mathlib.Core.List.{List, [], ◌∷◌}
@@ -18,14 +18,13 @@ use Rattle.pieces.specs.Cited.Places.{piece_at}
 use Rattle.pieces.specs.Cited.Bounds.{AllBegin, MarginWithin, Bounded}
 use Rattle.pieces.specs.declared.Margin.{Margin}
 use Rattle.pieces.specs.declared.Paragraph.{Paragraph}
-use Rattle.pieces.specs.declared.Piece.{Piece as PieceAt}
 use Rattle.pieces.specs.declared.Piece.TheVariants.{Text}
 use Rattle.records.specs.Word.{Word}
 use Rattle.records.specs.Cited.Table.{words_in}
 use Rattle.words.specs.Words.{words_of}
 use Rattle.words.specs.Cited.Places.{words_at}
 use Rattle.words.specs.Cited.Split.{Split}
-use Rattle.words.specs.declared.Count.{Count}
+use Rattle.words.specs.declared.TooMany.{TooMany}
 use Rattle.words.proofs.Order.{paragraph_some}
 use Rattle.output.specs.Cited.Writers.{margin_of}
 use Rattle.paragraphs.proofs.Breaking.{split_many, split_few}
@@ -37,11 +36,11 @@ use Rattle.walk.proofs.Steps.{ready_kept, found_goes}
 use Rattle.walk.proofs.Loop.{none_left, all_pieces, sound_more}
 use Rattle.checker.specs.Matching.{Match, on, fault, and_then, match_line, match_words, match_piece, match_pieces}
 use Rattle.checker.specs.Cited.Places.{matched, MatchedIn, Matches, MarginFits, Matchable}
-use Rattle.checker.specs.declared.Matched.{Matched}
+use Rattle.checker.specs.declared.Spot.{Spot}
+use Rattle.checker.specs.declared.Fault.{Fault}
 use Rattle.checker.proofs.Spots.{matches_same, part_slice}
-use Rattle.judge.specs.Cited.Judging.{Took, long_behind, Stepped, Walked}
+use Rattle.judge.specs.Cited.Judging.{Took, long_behind, Walked}
 use Rattle.judge.specs.declared.Stand.{Stand}
-use Rattle.judge.specs.declared.Step.{Step}
 
 -- ---- the first paragraph of over so many words
 
@@ -51,18 +50,16 @@ module _ (most : ℕ) (o : Opts) (notes : List ℕ) (c : Stand) where
   long_none h = ap (long_paragraph most o c.at) (none_left o c.mail notes c.at h)
 
   module _ {kind : Kind} {state : Bool} {next : ℕ} (g : FirstPiece o c.mail notes c.at kind state next) where
-    long_as : (b : Bool) → too_many most o kind ≡ b → long_behind most o notes c ≡ elim b as (λ x. (Option ℕ)) [ true ↦ Some c.at | false ↦ long_paragraph most o next (pieces_from o state notes next) ]
+    long_as : (b : Bool) → too_many most o kind ≡ b → long_behind most o notes c ≡ elim b as (λ x. Option ℕ) [ true ↦ Some c.at | false ↦ long_paragraph most o next (pieces_from o state notes next) ]
     unfolding long_paragraph
     long_as b e =
         ap (long_paragraph most o c.at) g.pieces
-        ∙ ap (λ (n : ℕ). elim (too_many most o g.piece.kind) as (λ x. (Option ℕ)) [ true ↦ Some c.at | false ↦ long_paragraph most o n (pieces_from o state notes next) ]) g.extent
-        ∙ ap (λ (x : Bool). elim x as (λ y. (Option ℕ)) [ true ↦ Some c.at | false ↦ long_paragraph most o next (pieces_from o state notes next) ]) (ap (too_many most o) g.is ∙ e)
-
--- ---- after what is matched
+        ∙ ap (λ (n : ℕ). elim (too_many most o g.piece.kind) as (λ x. Option ℕ) [ true ↦ Some c.at | false ↦ long_paragraph most o n (pieces_from o state notes next) ]) g.extent
+        ∙ ap (λ (x : Bool). elim x as (λ y. Option ℕ) [ true ↦ Some c.at | false ↦ long_paragraph most o next (pieces_from o state notes next) ]) (ap (too_many most o) g.is ∙ e)
 
 -- ---- a piece
 
-module _ (most : ℕ) (o : Opts) (notes digest : List ℕ) (c : Stand) (next : ℕ) {r : Matched} where
+module _ (most : ℕ) (o : Opts) (notes digest : List ℕ) (c : Stand) (next : ℕ) {r : Result Spot Fault} where
   pub blank_took : FirstPiece o c.mail notes c.at blank_line true next → Matches digest (and_then (matched digest c.matched) (match_line (take (c.at - c.at) (drop c.at notes)))) r
       → Took most o notes digest c (record { at = next; mail = true; matched = r })
   unfolding match_piece
@@ -82,12 +79,12 @@ module _ (most : ℕ) (o : Opts) (notes digest : List ℕ) (c : Stand) (next : �
 
 -- a paragraph that `next_piece` found
 module _ (block notes : List ℕ) (o : Options) (c : Stand) (p : Paragraph) (ready : Admitted block notes o) (here : c.at < length notes)
-    {found : PieceAt} (is : (found ≡ piece_at (meant block o) c.mail notes c.at) × Bounded o.glue notes c.at found) (text : found ≡ Text p) where
+    (is : (Text p ≡ piece_at (meant block o) c.mail notes c.at) × Bounded o.glue notes c.at (Text p)) where
   abbrev words : List Word
   words = words_at (meant block o) p.mail p.start p.later (lines_of (slice c.at p.next notes))
 
   goes : TextGoes (meant block o) c.mail notes c.at p
-  goes = found_goes block notes o ready c.mail c.at found (Text p) here is text
+  goes = found_goes block notes o ready c.mail c.at (Text p) (Text p) here is refl
 
   words_are : words_of (meant block o) goes.paragraph_is ≡ words
   words_are = text_words (meant block o) notes c.at p goes.paragraph_is goes.text
@@ -106,32 +103,28 @@ module _ (block notes : List ℕ) (o : Options) (c : Stand) (p : Paragraph) (rea
       let b = goes.bounds in
       (omega (arith, b.on), b.within, ready.short, k.tab_least, k.tab_most, b.begins)
 
-  module _ {most : ℕ} {table : List ℕ} {k : Count} {es : List ℕ} (s : Split most notes words es table k) where
-    pub text_over : k ≡ (Err (record { })) → long_behind most (meant block o) notes c ≡ Some c.at
-    text_over e = long_as most (meant block o) notes c goes.goes true (lt-ltb most (length (words_of (meant block o) goes.paragraph_is)) (omega (arith, split_many s e, ap length words_are)))
+  module _ {most : ℕ} {table es : List ℕ} where
+    pub text_over : {t : TooMany} → Split most notes words es table (Err t) → long_behind most (meant block o) notes c ≡ Some c.at
+    text_over s = long_as most (meant block o) notes c goes.goes true (lt-ltb most (length (words_of (meant block o) goes.paragraph_is)) (omega (arith, split_many s refl, ap length words_are)))
 
-    module _ (n : ℕ) (e : k ≡ Ok n) where
+    module _ (n : ℕ) (s : Split most notes words es table (Ok n)) where
       pub text_matchable : Matchable notes table n p.indent × MarginFits notes p.first
       text_matchable =
-          let w = s.kept n e in
-          let f = split_few s n e in (
+          let w = s.kept n refl in
+          let f = split_few s n refl in (
             record { some = omega (arith, words_some, f.0); words = w.within; held = omega (arith, w.few, w.held); fits = margin_fits p.indent goes.bounds.indent },
             margin_fits p.first goes.bounds.first,
           )
 
-      pub text_took : {digest : List ℕ} {r : Matched} → Matches digest (and_then (matched digest c.matched) (match_words o.glue (margin_of notes p.first) (margin_of notes p.indent) (words_in notes n table))) r
+      pub text_took : {digest : List ℕ} {r : Result Spot Fault} → Matches digest (and_then (matched digest c.matched) (match_words o.glue (margin_of notes p.first) (margin_of notes p.indent) (words_in notes n table))) r
           → Took most (meant block o) notes digest c (record { at = p.next; mail = p.mail; matched = r })
       unfolding match_piece meant
       text_took m = record {
         kind = paragraph goes.paragraph_is;
         goes = goes.goes;
-        few = le-ltb most (length (words_of (meant block o) goes.paragraph_is)) (omega (arith, (split_few s n e).1, ap length words_are));
-        matches = rw (words_are, ← goes.text.first.bytes, ← goes.text.indent.bytes, ← s.words n e) m;
+        few = le-ltb most (length (words_of (meant block o) goes.paragraph_is)) (omega (arith, (split_few s n refl).1, ap length words_are));
+        matches = rw (words_are, ← goes.text.first.bytes, ← goes.text.indent.bytes, ← s.words n refl) m;
       }
-
-module _ (most : ℕ) (o : Opts) (notes digest : List ℕ) (c : Stand) {r : Step} (s : Stepped most o notes digest c r) where
-  pub stepped_on : {d : Stand} → r ≡ Ok d → Took most o notes digest c d
-  stepped_on e = rw e at s
 
 -- ---- the pieces from a place on
 
@@ -147,14 +140,14 @@ module _ (o : Opts) where
   match_none (fault n) = refl
 
 -- what is left where the work is at c, of what the digest had come to first
-pub record Going (most : ℕ) (o : Opts) (notes digest : List ℕ) (first : Matched) (c : Stand) : Type 0 where
+pub record Going (most : ℕ) (o : Opts) (notes digest : List ℕ) (first : Result Spot Fault) (c : Stand) : Type 0 where
   pub within : c.at ≤ length notes
   pub sound : SoundFrom notes c.at
   pub inside : MatchedIn digest c.matched
   pub left : and_then (matched digest c.matched) (match_pieces o (pieces_from o c.mail notes c.at)) ≡ and_then (matched digest first) (match_pieces o (pieces o notes))
   pub long : long_behind most o notes c ≡ long_paragraph most o 0 (pieces o notes)
 
-module _ (most : ℕ) (o : Opts) (notes digest : List ℕ) (first : Matched) where
+module _ (most : ℕ) (o : Opts) (notes digest : List ℕ) (first : Result Spot Fault) where
   pub going_first : MatchedIn digest first → Going most o notes digest first (record { at = 0; mail = true; matched = first })
   going_first h = record { within = omega arith; sound = lines_sound notes; inside = h; left = rw (all_pieces o notes); long = rw (all_pieces o notes) }
 

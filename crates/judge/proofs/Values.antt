@@ -1,6 +1,6 @@
 -- What an answer tells is small: places of the notes and the block are, and a digest that is matched has no more lines than bytes. So code and
 -- value can be read back from the number.
-use Rattle.std.proofs.Common.{Ok, Err}
+use Rattle.std.proofs.Common.{Result, Ok, Err}
 use mathlib.Core.Path.{◌≡◌, refl, ap}
 use mathlib.Core.Bool.{Bool, true, false, cond}
 use mathlib.Core.List.{List, [], ◌∷◌}
@@ -11,7 +11,8 @@ use lib.ListN.{length}
 use borrow.Author.Tests.{ltb-false}
 use Rattle.options.specs.Opts.{meant}
 use Rattle.options.specs.OptionBlock.{read_block}
-use Rattle.options.specs.declared.Block.{Block}
+use Rattle.options.specs.declared.Options.{Options}
+use Rattle.options.specs.declared.Fault.{Fault}
 use Rattle.lists.specs.Coded.{numbered}
 use Rattle.formatter.specs.Format.{Limits, Finding, found, stopped, finding, most_told}
 use Rattle.formatter.specs.declared.Refusal.TheVariants.{Work}
@@ -24,7 +25,7 @@ use Rattle.checker.specs.Matching.{Verdict, accepted, at, verdict}
 use Rattle.checker.proofs.Theorems.{the_line_told_is_the_line_named}
 use Rattle.judge.specs.Answers.{check_coded}
 use Rattle.judge.specs.Checking.{with_verdict, digest_within, after_notes, verdict_under, checking}
-use Rattle.judge.specs.declared.Judgement.{Judgement}
+use Rattle.judge.specs.declared.Unaccepted.{Unaccepted}
 use Rattle.judge.specs.declared.Unaccepted.TheVariants.{Refused, LongDigest, Line}
 
 -- ---- the line named
@@ -43,8 +44,8 @@ named_few : (Good : List ℕ → Type 0) (digest : List ℕ) (n : ℕ) → Named
 named_few Good digest zero h = omega arith
 named_few Good digest (suc n) h = let e = (h.before n (omega arith)).ended in let f = few_feeds digest in omega (arith, e, f)
 
-verdict_few : (block notes digest : List ℕ) (b : Block) → (check_coded (with_verdict (verdict_under block notes digest b))).value ≤ length digest
-verdict_few block notes digest (Err (record { at = place })) = omega arith
+verdict_few : (block notes digest : List ℕ) (b : Result Options Fault) → (check_coded (with_verdict (verdict_under block notes digest b))).value ≤ length digest
+verdict_few block notes digest (Err f) = omega arith
 verdict_few block notes digest (Ok o) = go (verdict (meant block o) notes digest) refl
   where
     go : (v : Verdict) → verdict (meant block o) notes digest ≡ v → (check_coded (with_verdict v)).value ≤ length digest
@@ -52,7 +53,7 @@ verdict_few block notes digest (Ok o) = go (verdict (meant block o) notes digest
     go (at n) e = named_few (Acceptable (meant block o) notes) digest n (the_line_told_is_the_line_named (meant block o) notes digest n e)
 
 module _ (l : Limits) (sound : Sound l) (block notes digest : List ℕ) where
-  digest_small : (b : Block) → (check_coded (digest_within l.bytes (length digest) (verdict_under block notes digest b))).value ≤ most_told
+  digest_small : (b : Result Options Fault) → (check_coded (digest_within l.bytes (length digest) (verdict_under block notes digest b))).value ≤ most_told
   digest_small b = go (ltb l.bytes (length digest)) refl
     where
       go : (t : Bool) → ltb l.bytes (length digest) ≡ t → (check_coded (cond t (Err LongDigest) (with_verdict (verdict_under block notes digest b)))).value ≤ most_told
@@ -69,7 +70,7 @@ module _ (l : Limits) (sound : Sound l) (block notes digest : List ℕ) where
       go (found d) e = digest_small (read_block block)
       go (stopped r) e = found_value l sound block notes r e
 
-code_most : (a : Judgement) → (check_coded a).code ≤ 12
+code_most : (a : Result (Unit {0}) Unaccepted) → (check_coded a).code ≤ 12
 code_most (Ok tt) = omega arith
 code_most (Err (Refused r)) = refusal_most r
 code_most (Err LongDigest) = omega arith
@@ -89,9 +90,9 @@ checking_tells_code_and_value l sound block notes digest = reads_back (check_cod
 -- what is refused for want of room is found so
 module _ (l : Limits) (block notes digest : List ℕ) (n : ℕ) where
   never_so : (b : Bool) (v : Verdict) → cond b (Err LongDigest) (with_verdict v) ≡ Err (Refused (Work n)) → ⊥
-  never_so true v e = let z : ◌≡◌ {A = ℕ} 0 1 = cc in omega arith
-  never_so false accepted e = let z : ◌≡◌ {A = ℕ} 0 1 = cc in omega arith
-  never_so false (at line) e = let z : ◌≡◌ {A = ℕ} 0 1 = cc in omega arith
+  never_so true v e = cc
+  never_so false accepted e = cc
+  never_so false (at line) e = cc
 
   found_so : checking l block notes digest ≡ Err (Refused (Work n)) → finding l block notes ≡ stopped (Work n)
   unfolding checking

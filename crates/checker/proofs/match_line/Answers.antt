@@ -6,8 +6,8 @@ use Rattle.checker.proofs.match_line.Goals as goal
 
 pub returns-in_err-q : goal.returns-in_err-q
 unfolding match_line
-returns-in_err-q c = search (rules, then_fault c.match_text.ensures match_feed c.in_err-q.was)
+returns-in_err-q c = search (rules, then_fault match_feed c.in_err-q.ensures)
 
 pub returns : goal.returns
 unfolding match_line
-returns c = then_on c.match_text.ensures match_feed c.in_ok-q.was c.match_feed.ensures
+returns c = then_on match_feed c.in_ok-q.ensures c.match_feed.ensures

@@ -9,15 +9,15 @@ use Rattle.judge.proofs.Answers.{begun_in, short_answer, lent_answer}
 use Rattle.judge.proofs.check_lent.Goals as goal
 
 pub match_pieces-requires : goal.match_pieces-requires
-match_pieces-requires c =
-    (c.requires, begun_in _ _ c.begin.ensures, room_holds _ _ _ c.room_for-most.ensures)
+match_pieces-requires c = (begun_in _ _ c.begin-first.ensures, room_holds _ _ _ c.room_for-most.ensures)
 
-pub returns-in-Stopped : goal.returns-in-Stopped
+pub returns-in_default : goal.returns-in_default
 unfolding meant
-returns-in-Stopped c =
-    short_answer (length c.args.work.now) (meant c.args.block.now c.args.o) c.args.notes.now c.args.digest.now c.begin.result c.room_for-most.result c.room_for-most.ensures c.match_pieces.result c.match_pieces.ensures c.in-Stopped.is (c.work_over.ensures ∙ ap (λ (k : ℕ). max k (work_for (meant c.args.block.now c.args.o) c.args.notes.now)) c.work-1.given)
+returns-in_default c =
+    let o = meant c.args.notes.block.now c.args.notes.options in
+    short_answer (length c.args.work.now) o c.args.notes.bytes.now c.args.digest.now c.begin-first.result c.room_for-most.result c.room_for-most.ensures c.in_default.ensures (c.work_over-needed.ensures ∙ ap (λ (k : ℕ). max k (work_for o c.args.notes.bytes.now)) c.match_pieces.auto.table)
 
-pub returns-in-Through : goal.returns-in-Through
+pub returns : goal.returns
 unfolding meant
-returns-in-Through c =
-    lent_answer (length c.args.work.now) (meant c.args.block.now c.args.o) c.args.notes.now c.args.digest.now c.begin.result c.room_for-most.result c.room_for-most.ensures c.match_pieces.result c.match_pieces.ensures c.in-Through.is c.begin.ensures c.judge.ensures
+returns c =
+    lent_answer (length c.args.work.now) (meant c.args.notes.block.now c.args.notes.options) c.args.notes.bytes.now c.args.digest.now c.begin-first.result c.room_for-most.result c.room_for-most.ensures c.in-Ok.ensures c.begin-first.ensures c.judge.ensures

@@ -3,5 +3,5 @@ use Rattle.formatter.specs.Format.{most_bytes}
 use Rattle.judge.proofs.Answers.{through_answer}
 use Rattle.judge.proofs.check_notes.Goals as goal
 
-pub returns-in-Through : goal.returns-in-Through
-returns-in-Through c = through_answer most_bytes _ _ _ _ c.begin.result c.match_pieces.result c.match_pieces.ensures c.in-Through.is c.begin.ensures c.judge.ensures
+pub returns : goal.returns
+returns c = through_answer most_bytes _ _ _ _ c.begin-first.result c.in_ok-m.ensures c.begin-first.ensures c.judge.ensures

@@ -1,4 +1,3 @@
-use mathlib.Core.Path.{◌≡◌}
 use Prim.Native.Nat.{◌-◌}
 use lib.ListN.{length}
 use Rattle.options.specs.Opts.{meant}
@@ -6,7 +5,7 @@ use Rattle.judge.proofs.Laws.{Going}
 use Rattle.judge.proofs.match_pieces.Given as goal
 
 abbrev pub invariant-loop-c : goal.invariant-loop-c
-invariant-loop-c l = Going l.most (meant l.block l.o) l.notes l.digest l.initial.c.matched l.c × (length l.table ≡ length l.initial.table)
+invariant-loop-c l = Going l.most (meant l.notes.block.now l.notes.options) l.notes.bytes.now l.digest l.initial.c.matched l.c
 
 abbrev pub decreases-loop-c : goal.decreases-loop-c
-decreases-loop-c l = length l.notes - l.c.at
+decreases-loop-c l = length l.notes.bytes.now - l.c.at
