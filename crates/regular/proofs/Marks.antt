@@ -2,16 +2,16 @@
 use mathlib.Core.Path.{◌≡◌, refl, sym, ◌∙◌}
 use mathlib.Core.Bool.{Bool, true, false, false≢true}
 use mathlib.Core.List.{List, [], ◌∷◌, ◌++◌}
-use Prim.Native.Nat.{ℕ, zero, suc, ◌+◌, ◌-◌, ◌<◌, ◌^◌}
+use Prim.Native.Nat.{ℕ, zero, suc, ◌+◌, ◌-◌, ◌≤◌, ◌<◌, ◌^◌}
 use native.Mathlib.Omega.{arith}
 use lib.ListN.{length, get_or}
 use lib.Seq.{slice, length-slice, slice_empty}
+use Rattle.spacing.specs.declared.Setting.{Setting}
 use Rattle.words.specs.Cited.Scan.{punct_code}
 use Rattle.output.proofs.Sink.{left_first}
-use Rattle.regular.specs.declared.page.Page.{Page}
 use Rattle.regular.specs.declared.Reached.{Reached}
 use Rattle.regular.specs.Cited.Regular.{stretch_words, lastly, fresh_punct, quick_on}
-use Rattle.regular.specs.Cited.Places.{indent_of, FirstSpace, Inked, Filled, Joined, Stands, Went}
+use Rattle.regular.specs.Cited.Places.{FirstSpace, Inked, Filled, Joined, Stands, Went}
 use Rattle.regular.proofs.Rest.{on_rest, on_fresh}
 use Rattle.regular.proofs.Fresh.{no_words}
 use Rattle.regular.proofs.Parts.{part_at, part_ink, part_spaced}
@@ -45,29 +45,29 @@ module _ (s : List ℕ) (p e : ℕ) (inked : Inked s p e) where
       let l : r < e = omega (arith, f.most, q) in
       rw (part_spaced s p e inked.within r f.on l (f.space l)) (sym lastly_at)
 
-module _ (page : Page) (from e : ℕ) (out : List ℕ) (t : Reached) where
-  pub went_none : from ≡ e → Stands t → Went page from e out t out t
+module _ (s : List ℕ) (from e : ℕ) (g : Setting) (indent : List ℕ) (out : List ℕ) (t : Reached) where
+  pub went_none : from ≡ e → Stands t → Went s from e g indent out t out t
   went_none q near = record {
-    left = λ o more same. rw (q, slice_empty e page.notes.now, no_words o true false) (left_first _ _ _);
+    left = λ o more same. rw (q, slice_empty e s, no_words o true false) (left_first _ _ _);
     most = omega arith;
     stands = near;
   }
 
-  pub went_some : t.begins ≡ false → Inked page.notes.now from e → (out' : List ℕ) (r : Reached) → Joined page from e t.punct t.column out t.written out' r → (punct : Bool) → punct ≡ punct_code (get_or page.notes.now (e - 1) 0)
-      → Went page from e out t out' (record { written = r.written; column = r.column; punct = punct; begins = false })
+  pub went_some : t.begins ≡ false → Inked s from e → length s ≤ 2 ^ 20 → g.indent < 2 ^ 31 → g.width < 2 ^ 31 → (out' : List ℕ) (r : Reached) → Joined s from e t.punct g indent t.column out t.written out' r → (punct : Bool) → punct ≡ punct_code (get_or s (e - 1) 0)
+      → Went s from e g indent out t out' (record { written = r.written; column = r.column; punct = punct; begins = false })
   unfolding quick_on
-  went_some begun inked out' r j punct q = record {
-    left = λ o more same. rw (on_rest page.setting (indent_of page) t.begins t.column t.punct (stretch_words o true false (slice from e page.notes.now) ++ more) begun, q, ← lastly_at page.notes.now from e inked) (j.left o more same);
+  went_some begun inked size ind wid out' r j punct q = record {
+    left = λ o more same. rw (on_rest g indent t.begins t.column t.punct (stretch_words o true false (slice from e s) ++ more) begun, q, ← lastly_at s from e inked) (j.left o more same);
     most = j.most;
     stands = (let h = j.reach in let w = inked.within in omega arith, λ b. absurd (false≢true b));
   }
 
   -- with the paragraph's first word
-  pub went_head : t.begins ≡ true → t.column < 2 ^ 31 → Inked page.notes.now from e → (out' : List ℕ) (r : Reached) → Filled page from e false t.column out t.written out' r → (punct : Bool) → punct ≡ fresh_punct false (slice from e page.notes.now)
-      → Went page from e out t out' (record { written = r.written; column = r.column; punct = punct; begins = false })
+  pub went_head : t.begins ≡ true → t.column < 2 ^ 31 → Inked s from e → length s ≤ 2 ^ 20 → g.indent < 2 ^ 31 → (out' : List ℕ) (r : Reached) → Filled s from e false g indent t.column out t.written out' r → (punct : Bool) → punct ≡ fresh_punct false (slice from e s)
+      → Went s from e g indent out t out' (record { written = r.written; column = r.column; punct = punct; begins = false })
   unfolding quick_on
-  went_head begins near inked out' r f punct q = record {
-    left = λ o more same. rw (on_fresh page.setting (indent_of page) t.begins t.column t.punct (stretch_words o true false (slice from e page.notes.now) ++ more) begins, q) (f.left o true false more same);
+  went_head begins near inked size ind out' r f punct q = record {
+    left = λ o more same. rw (on_fresh g indent t.begins t.column t.punct (stretch_words o true false (slice from e s) ++ more) begins, q) (f.left o true false more same);
     most = let h = f.most in omega arith;
     stands = (let h = f.reach in let w = inked.within in omega arith, λ b. absurd (false≢true b));
   }

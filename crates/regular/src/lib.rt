@@ -1,5 +1,7 @@
 // Quick, written as it is read. On a line of ASCII and letters of two bytes the columns are the bytes that begin a character, so that the
 // words that stay are those that end by one place, and the last space up to it is looked for; any other line goes word by word.
+//
+// The notes, the setting and the indent are handed on side by side: as one struct they are copied at each call, and prose took 60 to 80 % longer.
 #![tactic(auto)]
 
 ghost use Rattle.std.specs.Prelude.{◌≡◌, true, false, ◌||◌, List, [], ◌++◌, ℕ, ◌+◌, ◌-◌, ◌≤◌, ◌<◌, ◌^◌, length, get_or, replicate, IfSome};
@@ -18,12 +20,9 @@ ghost use Rattle.output.specs.Emission.{line_feed};
 ghost use Rattle.output.specs.Cited.Sink.{Wrote};
 ghost use Rattle.output.specs.Cited.Writers.{margin_of, MarginIn};
 ghost use Rattle.regular.specs.Cited.Regular.{column_of, is_even, evenly, fresh_punct, added};
-ghost use Rattle.regular.specs.Cited.Places.{indent_of, Spaceless, LastSpace, FirstSpace, OverSpaces, BeforeSpaces, Inked, Even, columns_in, Reaches, OverIs, CutIs, Filled, Joined, EachRegular, RegularTo, SpelledTo, RowIs, Went, Stands, GapIn, WordPut, Listed, Worded, RowPut, Rowed, PutIs};
-
-mod page;
+ghost use Rattle.regular.specs.Cited.Places.{Spaceless, LastSpace, FirstSpace, OverSpaces, BeforeSpaces, Inked, Even, columns_in, Reaches, OverIs, CutIs, Filled, Joined, EachRegular, RegularTo, SpelledTo, RowIs, Went, Stands, GapIn, WordPut, Listed, Worded, RowPut, Rowed, PutIs};
 
 use options::Options;
-use page::Page;
 use pieces::Margin;
 use records::Word;
 use spacing::Setting;
@@ -302,65 +301,67 @@ fn cut_line(s: &[u8], p: usize, e: usize, at: usize) -> Cut
 }
 
 // Bytes of the notes, written after k bytes.
-fn put_at(page: Page, from: usize, to: usize, out: &mut [u8], k: usize) -> usize
-    requires { (from ≤ to) × (to ≤ length page.notes.now) × (k < 2 ^ 63) }
-    ensures { Wrote out.old k (slice from to page.entry.notes.now) out.new result }
+fn put_at(s: &[u8], from: usize, to: usize, out: &mut [u8], k: usize) -> usize
+    requires { (from ≤ to) × (to ≤ length s.now) × (length s.now ≤ 2 ^ 20) × (k < 2 ^ 63) }
+    ensures { Wrote out.old k (slice from to s.now) out.new result }
 {
     let place = k.min(out.len());
-    k + output::put_text(page.notes, from, to, &mut out[place..])
+    k + output::put_text(s, from, to, &mut out[place..])
 }
 
 // A new line, after k bytes.
-fn break_at(page: Page, out: &mut [u8], k: usize) -> usize
-    requires { k < 2 ^ 63 }
-    ensures { Wrote out.old k (line_feed ++ indent_of page.entry) out.new result × (result ≤ k + 2 ^ 33) }
+fn break_at(s: &[u8], indent: Margin, out: &mut [u8], k: usize) -> usize
+    requires { MarginIn (length s.now) indent × (length s.now ≤ 2 ^ 20) × (k < 2 ^ 63) }
+    ensures { Wrote out.old k (line_feed ++ margin_of s.now indent) out.new result × (result ≤ k + 2 ^ 33) }
 {
     let place = k.min(out.len());
-    k + output::put_break(page.notes, page.indent, &mut out[place..])
+    k + output::put_break(s, indent, &mut out[place..])
 }
 
 // A line of output after k bytes: bytes of the notes, and a new line.
-fn put_line(page: Page, from: usize, to: usize, out: &mut [u8], k: usize) -> usize
-    requires { (from ≤ to) × (to ≤ length page.notes.now) × (k < 2 ^ 62 + 2 ^ 61) }
-    ensures { Wrote out.old k (slice from to page.entry.notes.now ++ (line_feed ++ indent_of page.entry)) out.new result × (result ≤ k + 2 ^ 34) }
+fn put_line(s: &[u8], from: usize, to: usize, indent: Margin, out: &mut [u8], k: usize) -> usize
+    requires { (from ≤ to) × (to ≤ length s.now) × MarginIn (length s.now) indent × (length s.now ≤ 2 ^ 20) × (k < 2 ^ 62 + 2 ^ 61) }
+    ensures { Wrote out.old k (slice from to s.now ++ (line_feed ++ margin_of s.now indent)) out.new result × (result ≤ k + 2 ^ 34) }
 {
-    let j = put_at(page, from, to, out, k);
-    break_at(page, out, j)
+    let j = put_at(s, from, to, out, k);
+    break_at(s, indent, out, j)
 }
 
 // A stretch of so many columns on fresh lines.
 fn fill(
-    page: Page,
+    s: &[u8],
     from: usize,
     e: usize,
     columns: usize,
     counts: bool,
+    g: Setting,
+    indent: Margin,
     t: Reached,
     out: &mut [u8],
 ) -> Reached
-    requires { Inked page.notes.now from e × (columns ≡ columns_in page.notes.now from e) × Even page.setting.uniform page.notes.now from e × (t.written < 2 ^ 62 + 2 ^ 60) × (t.column < 2 ^ 61) }
-    ensures { Filled page.entry from e counts t.column out.old t.written out.new result }
+    requires { Inked s.now from e × (columns ≡ columns_in s.now from e) × Even g.uniform s.now from e × MarginIn (length s.now) indent × (length s.now ≤ 2 ^ 20) × (t.written < 2 ^ 62 + 2 ^ 60) × (t.column < 2 ^ 61) × (g.indent < 2 ^ 61) }
+    ensures { Filled s.now from e counts g (margin_of s.now indent) t.column out.old t.written out.new result }
 {
     let mut p = from;
     let mut k = t.written;
     let mut column = t.column;
     let mut counting = counts;
     let mut left = columns;
-    while page.setting.width < column + left {
-        let room = page.setting.width.saturating_sub(column);
-        let at = place_of(page.notes, p, e, left, room);
-        let cut = cut_line(page.notes, p, e, at);
+    while g.width < column + left {
+        let room = g.width.saturating_sub(column);
+        let at = place_of(s, p, e, left, room);
+        let cut = cut_line(s, p, e, at);
         if cut.next == e {
             break;
         }
-        k = put_line(page, p, cut.end, out, k);
-        left -= columns_before(page.notes, p, e, left, at, room, cut.next);
+        k = put_line(s, p, cut.end, indent, out, k);
+        left -= columns_before(s, p, e, left, at, room, cut.next);
         p = cut.next;
-        column = page.setting.indent;
+        column = g.indent;
         counting = true;
     }
     Reached {
-        written: put_at(page, p, e, out, k),
+        written: put_at(s, p, e, out, k),
         column: column + left,
         ..t
     }
@@ -383,43 +384,52 @@ fn spaces_at(count: usize, out: &mut [u8], k: usize) -> usize
 }
 
 // The next line's stretch of so many columns, after a line of output that has begun.
-fn join(page: Page, p: usize, e: usize, columns: usize, t: Reached, out: &mut [u8]) -> Reached
-    requires { Inked page.notes.now p e × (columns ≡ columns_in page.notes.now p e) × Even page.setting.uniform page.notes.now p e × (t.written < 2 ^ 62 + 2 ^ 59) × (t.column < 2 ^ 60) }
-    ensures { Joined page.entry p e t.punct t.column out.old t.written out.new result }
+fn join(
+    s: &[u8],
+    p: usize,
+    e: usize,
+    columns: usize,
+    g: Setting,
+    indent: Margin,
+    t: Reached,
+    out: &mut [u8],
+) -> Reached
+    requires { Inked s.now p e × (columns ≡ columns_in s.now p e) × Even g.uniform s.now p e × MarginIn (length s.now) indent × (length s.now ≤ 2 ^ 20) × (t.written < 2 ^ 62 + 2 ^ 59) × (t.column < 2 ^ 60) × (g.indent < 2 ^ 60) × (g.width < 2 ^ 60) }
+    ensures { Joined s.now p e t.punct g (margin_of s.now indent) t.column out.old t.written out.new result }
 {
     let extra = added_of(t.punct);
     let begin = t.column + extra;
     let k = t.written;
-    if begin + columns <= page.setting.width {
+    if begin + columns <= g.width {
         let j = spaces_at(extra, out, k);
         return Reached {
-            written: put_at(page, p, e, out, j),
+            written: put_at(s, p, e, out, j),
             column: begin + columns,
             ..t
         };
     }
-    let room = page.setting.width.saturating_sub(begin);
-    let at = place_of(page.notes, p, e, columns, room);
-    let q = last_space(page.notes, p, at);
+    let room = g.width.saturating_sub(begin);
+    let at = place_of(s, p, e, columns, room);
+    let q = last_space(s, p, at);
     if p < q {
-        let end = before_spaces(page.notes, p, q);
-        let next = over_spaces(page.notes, q + 1, e);
-        let left = columns - columns_before(page.notes, p, e, columns, at, room, next);
+        let end = before_spaces(s, p, q);
+        let next = over_spaces(s, q + 1, e);
+        let left = columns - columns_before(s, p, e, columns, at, room, next);
         let i = spaces_at(extra, out, k);
-        let j = put_line(page, p, end, out, i);
+        let j = put_line(s, p, end, indent, out, i);
         let fresh = Reached {
             written: j,
-            column: page.setting.indent,
+            column: g.indent,
             ..t
         };
-        return fill(page, next, e, left, true, fresh, out);
+        return fill(s, next, e, left, true, g, indent, fresh, out);
     }
     let fresh = Reached {
-        written: break_at(page, out, k),
-        column: page.setting.indent,
+        written: break_at(s, indent, out, k),
+        column: g.indent,
         ..t
     };
-    fill(page, p, e, columns, true, fresh, out)
+    fill(s, p, e, columns, true, g, indent, fresh, out)
 }
 
 // The end of the regular bytes at a place, at the latest another place.
@@ -539,17 +549,15 @@ fn letters_after(s: &[u8], at: usize, next: usize) -> Letters
 }
 
 // The line at a place of a paragraph, if it is of regular bytes and letters of two, and its gaps are written as they are.
-fn row_at(page: Page, i: usize, next: usize, skip: usize, later: usize) -> Option<Row>
-    requires { (i < next) × (next ≤ length page.notes.now) × AllBegin page.options.glue skip later (lines_of (slice i next page.notes.now)) }
-    ensures { IfSome result (λ r. (block : List ℕ) → RowIs (meant block page.entry.options) skip later page.entry.notes.now next i r) }
+fn row_at(s: &[u8], i: usize, next: usize, skip: usize, later: usize, o: Options) -> Option<Row>
+    requires { (i < next) × (next ≤ length s.now) × (length s.now ≤ 2 ^ 20) × AllBegin o.glue skip later (lines_of (slice i next s.now)) }
+    ensures { IfSome result (λ r. (block : List ℕ) → RowIs (meant block o) skip later s.now next i r) }
 {
     let from = i + skip;
-    let at = regular_end(page.notes, from, next);
-    let letters = letters_after(page.notes, at, next);
-    let end = before_spaces(page.notes, from, letters.end);
-    if !ends_line(page.notes, letters.end, next)
-        || !are_as_written(page.notes, from, end, page.options.uniform)
-    {
+    let at = regular_end(s, from, next);
+    let letters = letters_after(s, at, next);
+    let end = before_spaces(s, from, letters.end);
+    if !ends_line(s, letters.end, next) || !are_as_written(s, from, end, o.uniform) {
         return None;
     }
     Some(Row {
@@ -601,26 +609,28 @@ fn is_punct(b: u8) -> bool
 
 // The stretch of a paragraph's next line, if it has a word.
 fn next_row(
-    page: Page,
+    s: &[u8],
     from: usize,
     e: usize,
     columns: usize,
+    g: Setting,
+    indent: Margin,
     t: Reached,
     out: &mut [u8],
 ) -> Reached
-    requires { (from ≤ e) × (e ≤ length page.notes.now) × (from < e → Inked page.notes.now from e) × (columns ≡ columns_in page.notes.now from e) × Even page.setting.uniform page.notes.now from e × (t.written < 2 ^ 62 + 2 ^ 59) × Stands t }
-    ensures { Went page.entry from e out.old t out.new result }
+    requires { (from ≤ e) × (e ≤ length s.now) × (from < e → Inked s.now from e) × (columns ≡ columns_in s.now from e) × Even g.uniform s.now from e × MarginIn (length s.now) indent × (length s.now ≤ 2 ^ 20) × (t.written < 2 ^ 62 + 2 ^ 59) × Stands t × (g.indent < 2 ^ 31) × (g.width < 2 ^ 31) }
+    ensures { Went s.now from e g (margin_of s.now indent) out.old t out.new result }
 {
     if from == e {
         return t;
     }
     if t.begins {
-        return head_row(page, from, e, columns, t, out);
+        return head_row(s, from, e, columns, g, indent, t, out);
     }
-    let r = join(page, from, e, columns, t, out);
+    let r = join(s, from, e, columns, g, indent, t, out);
     let last = e - 1;
     Reached {
-        punct: is_punct(page.notes[last]),
+        punct: is_punct(s[last]),
         begins: false,
         ..r
     }
@@ -628,19 +638,21 @@ fn next_row(
 
 // The stretch with a paragraph's first word.
 fn head_row(
-    page: Page,
+    s: &[u8],
     from: usize,
     e: usize,
     columns: usize,
+    g: Setting,
+    indent: Margin,
     t: Reached,
     out: &mut [u8],
 ) -> Reached
-    requires { Inked page.notes.now from e × (columns ≡ columns_in page.notes.now from e) × Even page.setting.uniform page.notes.now from e × (t.written < 2 ^ 62 + 2 ^ 59) × (t.begins ≡ true) × (t.column < 2 ^ 31) }
-    ensures { Went page.entry from e out.old t out.new result }
+    requires { Inked s.now from e × (columns ≡ columns_in s.now from e) × Even g.uniform s.now from e × MarginIn (length s.now) indent × (length s.now ≤ 2 ^ 20) × (t.written < 2 ^ 62 + 2 ^ 59) × (t.begins ≡ true) × (t.column < 2 ^ 31) × (g.indent < 2 ^ 31) }
+    ensures { Went s.now from e g (margin_of s.now indent) out.old t out.new result }
 {
-    let r = fill(page, from, e, columns, false, t, out);
+    let r = fill(s, from, e, columns, false, g, indent, t, out);
     Reached {
-        punct: head_punct(page.notes, from, e),
+        punct: head_punct(s, from, e),
         begins: false,
         ..r
     }
@@ -669,13 +681,13 @@ fn is_gap(s: &[u8], to: usize, from: usize, count: usize) -> bool
 
 // A word of any kind. Words wait for those after them, so that a line of output is copied at once.
 // In the original: `accum_words_simple`.
-fn put_word(page: Page, w: Word, t: Waiting, out: &mut [u8]) -> Waiting
-    requires { Within (length page.notes.now) w × Small w × (w.width ≤ length page.notes.now) × (t.from ≤ t.to) × (t.to ≤ length page.notes.now) × (t.reached.written < 2 ^ 62 + 2 ^ 59) × Stands t.reached }
-    ensures { WordPut page.entry w out.old t out.new result }
+fn put_word(s: &[u8], w: Word, g: Setting, indent: Margin, t: Waiting, out: &mut [u8]) -> Waiting
+    requires { Within (length s.now) w × Small w × (w.width ≤ length s.now) × Fair g × MarginIn (length s.now) indent × (length s.now ≤ 2 ^ 20) × (t.from ≤ t.to) × (t.to ≤ length s.now) × (t.reached.written < 2 ^ 62 + 2 ^ 59) × Stands t.reached × (g.indent < 2 ^ 31) × (g.width < 2 ^ 31) }
+    ensures { WordPut s.now w g (margin_of s.now indent) out.old t out.new result }
 {
     let r = t.reached;
     if r.begins {
-        let j = put_at(page, t.from, t.to, out, r.written);
+        let j = put_at(s, t.from, t.to, out, r.written);
         return Waiting {
             from: w.start,
             to: w.end,
@@ -687,15 +699,15 @@ fn put_word(page: Page, w: Word, t: Waiting, out: &mut [u8]) -> Waiting
             },
         };
     }
-    let column = quick::reach(page.setting, r.column, r.punct, w);
-    if page.setting.width < column {
-        let j = put_line(page, t.from, t.to, out, r.written);
+    let column = quick::reach(g, r.column, r.punct, w);
+    if g.width < column {
+        let j = put_line(s, t.from, t.to, indent, out, r.written);
         return Waiting {
             from: w.start,
             to: w.end,
             reached: Reached {
                 written: j,
-                column: page.setting.indent + w.width,
+                column: g.indent + w.width,
                 punct: w.punct,
                 begins: false,
             },
@@ -706,15 +718,15 @@ fn put_word(page: Page, w: Word, t: Waiting, out: &mut [u8]) -> Waiting
         punct: w.punct,
         ..r
     };
-    let added = spacing::added_space(page.setting.uniform, w.first, w.sentence, r.punct);
-    if is_gap(page.notes, t.to, w.from, added) {
+    let added = spacing::added_space(g.uniform, w.first, w.sentence, r.punct);
+    if is_gap(s, t.to, w.from, added) {
         return Waiting {
             from: t.from,
             to: w.end,
             reached: here,
         };
     }
-    let i = put_at(page, t.from, t.to, out, r.written);
+    let i = put_at(s, t.from, t.to, out, r.written);
     let j = spaces_at(added, out, i);
     Waiting {
         from: w.from,
@@ -725,13 +737,21 @@ fn put_word(page: Page, w: Word, t: Waiting, out: &mut [u8]) -> Waiting
 
 // The words of a table, one by one.
 // In the original: `break_simple`.
-fn put_listed(page: Page, table: &[u32], n: usize, t: Waiting, out: &mut [u8]) -> Waiting
-    requires { Kept n (length page.notes.now) n table.now × (n ≤ 2 ^ 20) × (t.from ≤ t.to) × (t.to ≤ length page.notes.now) × (t.reached.written < 2 ^ 62 + 2 ^ 58) × Stands t.reached }
-    ensures { Listed page.entry table.now n out.old t out.new n result }
+fn put_listed(
+    s: &[u8],
+    table: &[u32],
+    n: usize,
+    g: Setting,
+    indent: Margin,
+    t: Waiting,
+    out: &mut [u8],
+) -> Waiting
+    requires { Kept n (length s.now) n table.now × (n ≤ 2 ^ 20) × Fair g × MarginIn (length s.now) indent × (length s.now ≤ 2 ^ 20) × (t.from ≤ t.to) × (t.to ≤ length s.now) × (t.reached.written < 2 ^ 62 + 2 ^ 58) × Stands t.reached × (g.indent < 2 ^ 31) × (g.width < 2 ^ 31) }
+    ensures { Listed s.now table.now n g (margin_of s.now indent) out.old t out.new n result }
 {
     let mut v = t;
     for j in 0..n {
-        v = put_word(page, records::get(table, j), v, out);
+        v = put_word(s, records::get(table, j), g, indent, v, out);
     }
     v
 }
@@ -742,28 +762,42 @@ const WINDOW: usize = 112;
 const IN_WINDOW: usize = 16;
 
 // The words of a line from start up to end.
-fn put_words(page: Page, start: usize, end: usize, t: Reached, out: &mut [u8]) -> Reached
-    requires { (start ≤ end) × (end ≤ length page.notes.now) × (page.mail ≡ false → while is_blank (ink_glyphs page.options.glue (slice start end page.notes.now)) ≡ []) × (t.written < 2 ^ 62 + 2 ^ 57) × Stands t }
-    ensures { Worded page.entry start end out.old t out.new result }
+fn put_words(
+    s: &[u8],
+    start: usize,
+    end: usize,
+    mail: bool,
+    o: Options,
+    g: Setting,
+    indent: Margin,
+    t: Reached,
+    out: &mut [u8],
+) -> Reached
+    requires { (start ≤ end) × (end ≤ length s.now) × (length s.now ≤ 2 ^ 20) × (1 ≤ o.tab) × (o.tab ≤ 100) × (mail ≡ false → while is_blank (ink_glyphs o.glue (slice start end s.now)) ≡ []) × Fair g × MarginIn (length s.now) indent × (t.written < 2 ^ 62 + 2 ^ 57) × Stands t × (g.indent < 2 ^ 31) × (g.width < 2 ^ 31) }
+    ensures { Worded s.now start end mail o g (margin_of s.now indent) out.old t out.new result }
 {
     let mut table = [0u32; WINDOW];
-    put_through(page, start, end, t, out, &mut table)
+    put_through(s, start, end, mail, o, g, indent, t, out, &mut table)
 }
 
 // The same through a table of sixteen.
 fn put_through(
-    page: Page,
+    s: &[u8],
     start: usize,
     end: usize,
+    mail: bool,
+    o: Options,
+    g: Setting,
+    indent: Margin,
     t: Reached,
     out: &mut [u8],
     table: &mut [u32],
 ) -> Reached
-    requires { (start ≤ end) × (end ≤ length page.notes.now) × (page.mail ≡ false → while is_blank (ink_glyphs page.options.glue (slice start end page.notes.now)) ≡ []) × (t.written < 2 ^ 62 + 2 ^ 57) × Stands t × Holds 16 table.old }
-    ensures { Worded page.entry start end out.old t out.new result }
+    requires { (start ≤ end) × (end ≤ length s.now) × (length s.now ≤ 2 ^ 20) × (1 ≤ o.tab) × (o.tab ≤ 100) × (mail ≡ false → while is_blank (ink_glyphs o.glue (slice start end s.now)) ≡ []) × Fair g × MarginIn (length s.now) indent × (t.written < 2 ^ 62 + 2 ^ 57) × Stands t × (g.indent < 2 ^ 31) × (g.width < 2 ^ 31) × Holds 16 table.old }
+    ensures { Worded s.now start end mail o g (margin_of s.now indent) out.old t out.new result }
 {
     let mut at = start;
-    let mut first = !page.mail;
+    let mut first = !mail;
     let mut punct = false;
     let mut v = Waiting {
         from: start,
@@ -771,22 +805,11 @@ fn put_through(
         reached: t,
     };
     loop {
-        let r = words::split_some(
-            page.notes,
-            at,
-            end,
-            page.mail,
-            first,
-            punct,
-            page.options,
-            0,
-            IN_WINDOW,
-            table,
-        );
-        v = put_listed(page, table, r.count, v, out);
+        let r = words::split_some(s, at, end, mail, first, punct, o, 0, IN_WINDOW, table);
+        v = put_listed(s, table, r.count, g, indent, v, out);
         if !r.more {
             return Reached {
-                written: put_at(page, v.from, v.to, out, v.reached.written),
+                written: put_at(s, v.from, v.to, out, v.reached.written),
                 ..v.reached
             };
         }
@@ -798,69 +821,79 @@ fn put_through(
 
 // The line at a place of a paragraph, word by word.
 fn put_other(
-    page: Page,
+    s: &[u8],
     i: usize,
     next: usize,
+    mail: bool,
     skip: usize,
     later: usize,
+    o: Options,
+    g: Setting,
+    indent: Margin,
     t: Reached,
     out: &mut [u8],
 ) -> Progress
-    requires { (i < next) × (next ≤ length page.notes.now) × (page.mail ≡ false → AllBegin page.options.glue skip later (lines_of (slice i next page.notes.now))) × (t.written < 2 ^ 62 + 2 ^ 57) × Stands t }
-    ensures { RowPut page.entry i next skip later out.old t out.new result }
+    requires { (i < next) × (next ≤ length s.now) × (length s.now ≤ 2 ^ 20) × (1 ≤ o.tab) × (o.tab ≤ 100) × (mail ≡ false → AllBegin o.glue skip later (lines_of (slice i next s.now))) × Fair g × MarginIn (length s.now) indent × (t.written < 2 ^ 62 + 2 ^ 57) × Stands t × (g.indent < 2 ^ 31) × (g.width < 2 ^ 31) }
+    ensures { RowPut s.now i next mail skip later o g (margin_of s.now indent) out.old t out.new result }
 {
-    let part = &page.notes[..next];
+    let part = &s[..next];
     let line = lines::first_line(&part[i..]);
-    let start = words::begin(page.mail, i, skip);
+    let start = words::begin(mail, i, skip);
     let end = i + line.text;
     Progress {
         at: i + line.whole,
-        reached: put_words(page, start, end, t, out),
+        reached: put_words(s, start, end, mail, o, g, indent, t, out),
     }
 }
 
 // The line at a place of a paragraph: by its stretch if it is regular, as no line of mail is.
 fn put_row(
-    page: Page,
+    s: &[u8],
     i: usize,
     next: usize,
+    mail: bool,
     skip: usize,
     later: usize,
+    o: Options,
+    g: Setting,
+    indent: Margin,
     t: Reached,
     out: &mut [u8],
 ) -> Progress
-    requires { (i < next) × (next ≤ length page.notes.now) × (page.mail ≡ false → AllBegin page.options.glue skip later (lines_of (slice i next page.notes.now))) × (t.written < 2 ^ 62 + 2 ^ 57) × Stands t }
-    ensures { RowPut page.entry i next skip later out.old t out.new result }
+    requires { (i < next) × (next ≤ length s.now) × (length s.now ≤ 2 ^ 20) × (1 ≤ o.tab) × (o.tab ≤ 100) × (mail ≡ false → AllBegin o.glue skip later (lines_of (slice i next s.now))) × (g.uniform ≡ (o.uniform || mail)) × Fair g × MarginIn (length s.now) indent × (t.written < 2 ^ 62 + 2 ^ 57) × Stands t × (g.indent < 2 ^ 31) × (g.width < 2 ^ 31) }
+    ensures { RowPut s.now i next mail skip later o g (margin_of s.now indent) out.old t out.new result }
 {
-    if !page.mail
-        && let Some(row) = row_at(page, i, next, skip, later)
-    {
+    if !mail && let Some(row) = row_at(s, i, next, skip, later, o) {
         return Progress {
             at: row.next,
-            reached: next_row(page, row.from, row.end, row.columns, t, out),
+            reached: next_row(s, row.from, row.end, row.columns, g, indent, t, out),
         };
     }
-    put_other(page, i, next, skip, later, t, out)
+    put_other(s, i, next, mail, skip, later, o, g, indent, t, out)
 }
 
 // A paragraph's lines.
 fn put_rows(
-    page: Page,
+    s: &[u8],
     at: usize,
     next: usize,
+    mail: bool,
     start: usize,
     later: usize,
+    o: Options,
+    g: Setting,
+    indent: Margin,
     t: Reached,
     out: &mut [u8],
 ) -> Reached
-    requires { (at ≤ next) × (next ≤ length page.notes.now) × (page.mail ≡ false → AllBegin page.options.glue start later (lines_of (slice at next page.notes.now))) × (t.written < 2 ^ 62 + 2 ^ 56) × Stands t }
-    ensures { Rowed page.entry at next start later out.old t out.new result }
+    requires { (at ≤ next) × (next ≤ length s.now) × (length s.now ≤ 2 ^ 20) × (1 ≤ o.tab) × (o.tab ≤ 100) × (mail ≡ false → AllBegin o.glue start later (lines_of (slice at next s.now))) × (g.uniform ≡ (o.uniform || mail)) × Fair g × MarginIn (length s.now) indent × (t.written < 2 ^ 62 + 2 ^ 56) × Stands t × (g.indent < 2 ^ 31) × (g.width < 2 ^ 31) }
+    ensures { Rowed s.now at next mail start later o g (margin_of s.now indent) out.old t out.new result }
 {
     let mut i = at;
     let mut skip = start;
     let mut v = t;
     while i < next {
-        let r = put_row(page, i, next, skip, later, v, out);
+        let r = put_row(s, i, next, mail, skip, later, o, g, indent, v, out);
         v = r.reached;
         i = r.at;
         skip = later;
@@ -912,13 +945,6 @@ pub fn put_quick(
         punct: false,
         begins: true,
     };
-    let page = Page {
-        notes: s,
-        setting: g,
-        options: o,
-        mail,
-        indent,
-    };
-    let v = put_rows(page, at, next, start, later, t, out);
+    let v = put_rows(s, at, next, mail, start, later, o, g, indent, t, out);
     feed_at(out, v.written)
 }

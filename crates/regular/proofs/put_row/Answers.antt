@@ -11,8 +11,9 @@ unfolding meant
 next_row-requires c =
     let p = c.requires in
     let r = c.in-Some.ensures [] in
-    (r.some, omega (arith, r.within, r.most, p.1), r.inked, r.counts, λ u. r.even (gaps_same _ _ _ c.args.page.uniform c.if-not-page.true ∙ u), omega (arith, p.3), p.4)
+    (r.some, omega (arith, r.within, r.most, p.1), r.inked, r.counts, λ u. r.even (gaps_same _ _ _ p.6 c.if-not-mail.true ∙ u), p.8, p.2, omega (arith, p.9), p.10, p.11, p.12)
 
 pub returns : goal.returns
 returns c =
-    row_went _ _ _ _ _ _ _ c.if-not-page.true _ c.in-Some.ensures (gaps_same _ _ _ c.args.page.uniform c.if-not-page.true) _ _ c.next_row.ensures
+    let p = c.requires in
+    row_went _ _ _ _ _ _ _ _ _ _ _ c.if-not-mail.true _ c.in-Some.ensures (gaps_same _ _ _ p.6 c.if-not-mail.true) _ _ c.next_row.ensures

@@ -4,19 +4,19 @@ use Rattle.regular.proofs.put_word.Goals as goal
 
 pub returns-then-r : goal.returns-then-r
 returns-then-r c =
-    let p = c.requires in put_head _ _ _ _ p.0 p.3 p.4 c.if-r.true (p.6.1 c.if-r.true) p.2 _ _ c.put_at-j.ensures
+    let p = c.requires in put_head _ _ _ _ _ _ p.0 p.5 p.6 p.7 c.if-r.true (p.9.1 c.if-r.true) p.2 _ _ c.put_at-j.ensures
 
-pub returns-then-page-column : goal.returns-then-page-column
-returns-then-page-column c =
+pub returns-then-g-column : goal.returns-then-g-column
+returns-then-g-column c =
     let p = c.requires in
-    put_fresh _ _ _ _ p.0 p.3 p.4 c.if-r.false _ c.reach-column.ensures.0 c.if-page-column.true p.2 _ _ c.put_line-j.ensures.0 c.put_line-j.ensures.1
+    put_fresh _ _ _ _ _ _ p.0 p.5 p.6 p.7 c.if-r.false _ c.reach-column.ensures.0 c.if-g-column.true p.2 p.10 _ _ c.put_line-j.ensures.0 c.put_line-j.ensures.1
 
 pub returns-then-is_gap : goal.returns-then-is_gap
 returns-then-is_gap c =
     let p = c.requires in
-    put_on _ _ _ _ p.0 p.3 p.4 c.if-r.false _ c.reach-column.ensures.0 c.if-page-column.false _ c.added_space-added.ensures.is (c.is_gap.ensures c.if-is_gap.true)
+    put_on _ _ _ _ _ _ p.0 p.5 p.6 p.7 c.if-r.false _ c.reach-column.ensures.0 c.if-g-column.false p.11 _ c.added_space-added.ensures.is (c.is_gap.ensures c.if-is_gap.true)
 
 pub returns : goal.returns
 returns c =
     let p = c.requires in
-    put_stays _ _ _ _ p.0 p.3 p.4 c.if-r.false _ c.reach-column.ensures.0 c.if-page-column.false _ c.added_space-added.ensures.is _ _ _ _ c.put_at-i.ensures c.spaces_at-j.ensures.0 c.spaces_at-j.ensures.1
+    put_stays _ _ _ _ _ _ p.0 p.5 p.6 p.7 c.if-r.false _ c.reach-column.ensures.0 c.if-g-column.false p.11 _ c.added_space-added.ensures.is _ _ _ _ c.put_at-i.ensures c.spaces_at-j.ensures.0 c.spaces_at-j.ensures.1

@@ -16,12 +16,10 @@ use Rattle.regular.specs.declared.Over.{Over}
 use Rattle.regular.specs.declared.Reached.{Reached}
 use Rattle.regular.specs.declared.Progress.{Progress}
 use Rattle.regular.specs.declared.Waiting.{Waiting}
-use Rattle.regular.specs.declared.page.Page.{Page}
 use Rattle.options.specs.Opts.{meant}
 use Rattle.options.specs.declared.Options.{Options}
 use Rattle.output.specs.Emission.{line_feed, emit}
 use Rattle.output.specs.Cited.Sink.{Wrote}
-use Rattle.output.specs.Cited.Writers.{margin_of}
 use Rattle.quick.specs.Quick.{quick_breaks}
 use Rattle.lines.specs.Lines.{lines_of}
 use Rattle.pieces.specs.Cited.Bounds.{AllBegin}
@@ -110,34 +108,30 @@ pub record CutIs (s : List ℕ) (p e at : ℕ) (r : Cut) : Type 0 where
 
 -- ---- what is left of quick's output, whatever words follow
 
--- the indent of a page's later lines, in bytes
-abbrev pub indent_of : Page → List ℕ
-indent_of page = margin_of page.notes.now page.indent
-
 -- A stretch from `from` to e was to begin a line of output at a column: now that out and k are reached, its part from p on is, at another.
-pub record Along (page : Page) (from e : ℕ) (counts : Bool) (column : ℕ) (out : List ℕ) (k p : ℕ) (counts' : Bool) (column' : ℕ) (out' : List ℕ) (k' : ℕ) : Type 0 where
-  pub inked : Inked page.notes.now p e
-  pub even : Even page.setting.uniform page.notes.now p e
-  pub punct : fresh_punct counts' (slice p e page.notes.now) ≡ fresh_punct counts (slice from e page.notes.now)
-  pub left : (o : Opts) (new_line previous : Bool) (more : List Word) → o.uniform ≡ page.setting.uniform
-      → Left out k (quick_fresh page.setting (indent_of page) counts column (stretch_words o new_line previous (slice from e page.notes.now) ++ more))
-      out' k' (quick_fresh page.setting (indent_of page) counts' column' (stretch_words o false false (slice p e page.notes.now) ++ more))
+pub record Along (s : List ℕ) (from e : ℕ) (counts : Bool) (g : Setting) (indent : List ℕ) (column : ℕ) (out : List ℕ) (k p : ℕ) (counts' : Bool) (column' : ℕ) (out' : List ℕ) (k' : ℕ) : Type 0 where
+  pub inked : Inked s p e
+  pub even : Even g.uniform s p e
+  pub punct : fresh_punct counts' (slice p e s) ≡ fresh_punct counts (slice from e s)
+  pub left : (o : Opts) (new_line previous : Bool) (more : List Word) → o.uniform ≡ g.uniform
+      → Left out k (quick_fresh g indent counts column (stretch_words o new_line previous (slice from e s) ++ more))
+      out' k' (quick_fresh g indent counts' column' (stretch_words o false false (slice p e s) ++ more))
 
 -- It is written: what is left is the output of the words that follow.
-pub record Filled (page : Page) (p e : ℕ) (counts : Bool) (column : ℕ) (out : List ℕ) (k : ℕ) (out' : List ℕ) (r : Reached) : Type 0 where
-  pub left : (o : Opts) (new_line previous : Bool) (more : List Word) → o.uniform ≡ page.setting.uniform
-      → Left out k (quick_fresh page.setting (indent_of page) counts column (stretch_words o new_line previous (slice p e page.notes.now) ++ more))
-      out' r.written (quick_rest page.setting (indent_of page) r.column (fresh_punct counts (slice p e page.notes.now)) more)
+pub record Filled (s : List ℕ) (p e : ℕ) (counts : Bool) (g : Setting) (indent : List ℕ) (column : ℕ) (out : List ℕ) (k : ℕ) (out' : List ℕ) (r : Reached) : Type 0 where
+  pub left : (o : Opts) (new_line previous : Bool) (more : List Word) → o.uniform ≡ g.uniform
+      → Left out k (quick_fresh g indent counts column (stretch_words o new_line previous (slice p e s) ++ more))
+      out' r.written (quick_rest g indent r.column (fresh_punct counts (slice p e s)) more)
   pub most : r.written ≤ k + (e - p) * 2 ^ 34
-  pub reach : r.column ≤ column + page.setting.indent + (e - p)
+  pub reach : r.column ≤ column + g.indent + (e - p)
 
 -- The same of the next line's stretch, after a line of output that is at a column.
-pub record Joined (page : Page) (p e : ℕ) (punct : Bool) (column : ℕ) (out : List ℕ) (k : ℕ) (out' : List ℕ) (r : Reached) : Type 0 where
-  pub left : (o : Opts) (more : List Word) → o.uniform ≡ page.setting.uniform
-      → Left out k (quick_rest page.setting (indent_of page) column punct (stretch_words o true false (slice p e page.notes.now) ++ more))
-      out' r.written (quick_rest page.setting (indent_of page) r.column (lastly false (slice p e page.notes.now)) more)
+pub record Joined (s : List ℕ) (p e : ℕ) (punct : Bool) (g : Setting) (indent : List ℕ) (column : ℕ) (out : List ℕ) (k : ℕ) (out' : List ℕ) (r : Reached) : Type 0 where
+  pub left : (o : Opts) (more : List Word) → o.uniform ≡ g.uniform
+      → Left out k (quick_rest g indent column punct (stretch_words o true false (slice p e s) ++ more))
+      out' r.written (quick_rest g indent r.column (lastly false (slice p e s)) more)
   pub most : r.written ≤ k + (e - p + 1) * 2 ^ 34
-  pub reach : r.column ≤ page.setting.width + page.setting.indent + page.setting.indent + (e - p)
+  pub reach : r.column ≤ g.width + g.indent + g.indent + (e - p)
 
 -- ---- a paragraph's lines, which are in the notes up to next
 
@@ -183,9 +177,9 @@ abbrev pub Stands : Reached → Type 0
 Stands t = (t.column ≤ 2 ^ 33) × (t.begins ≡ true → t.column < 2 ^ 31)
 
 -- A stretch, that may be empty, is written.
-pub record Went (page : Page) (from e : ℕ) (out : List ℕ) (t : Reached) (out' : List ℕ) (r : Reached) : Type 0 where
-  pub left : (o : Opts) (more : List Word) → o.uniform ≡ page.setting.uniform
-      → Left out t.written (ahead page.setting (indent_of page) t (stretch_words o true false (slice from e page.notes.now) ++ more)) out' r.written (ahead page.setting (indent_of page) r more)
+pub record Went (s : List ℕ) (from e : ℕ) (g : Setting) (indent : List ℕ) (out : List ℕ) (t : Reached) (out' : List ℕ) (r : Reached) : Type 0 where
+  pub left : (o : Opts) (more : List Word) → o.uniform ≡ g.uniform
+      → Left out t.written (ahead g indent t (stretch_words o true false (slice from e s) ++ more)) out' r.written (ahead g indent r more)
   pub most : r.written ≤ t.written + (e - from + 1) * 2 ^ 34
   pub stands : Stands r
 
@@ -195,28 +189,28 @@ pub record GapIn (s : List ℕ) (to from count : ℕ) : Type 0 where
   pub spaces : slice to from s ≡ replicate count 32
 
 -- A word of any kind is written, but for bytes of the notes that wait.
-pub record WordPut (page : Page) (w : Record) (out : List ℕ) (t : Waiting) (out' : List ℕ) (r : Waiting) : Type 0 where
+pub record WordPut (s : List ℕ) (w : Record) (g : Setting) (indent : List ℕ) (out : List ℕ) (t : Waiting) (out' : List ℕ) (r : Waiting) : Type 0 where
   pub left : (more : List Word)
-      → Left out t.reached.written (slice t.from t.to page.notes.now ++ ahead page.setting (indent_of page) t.reached (meaning page.notes.now w ∷ more)) out' r.reached.written (slice r.from r.to page.notes.now ++ ahead page.setting (indent_of page) r.reached more)
+      → Left out t.reached.written (slice t.from t.to s ++ ahead g indent t.reached (meaning s w ∷ more)) out' r.reached.written (slice r.from r.to s ++ ahead g indent r.reached more)
   pub order : r.from ≤ r.to
-  pub within : r.to ≤ length page.notes.now
+  pub within : r.to ≤ length s
   pub most : r.reached.written ≤ t.reached.written + 2 ^ 34
   pub stands : Stands r.reached
 
 -- So are the words of a table up to the j-th.
-pub record Listed (page : Page) (table : List ℕ) (n : ℕ) (out : List ℕ) (t : Waiting) (out' : List ℕ) (j : ℕ) (r : Waiting) : Type 0 where
+pub record Listed (s table : List ℕ) (n : ℕ) (g : Setting) (indent : List ℕ) (out : List ℕ) (t : Waiting) (out' : List ℕ) (j : ℕ) (r : Waiting) : Type 0 where
   pub few : j ≤ n
   pub left : (more : List Word)
-      → Left out t.reached.written (slice t.from t.to page.notes.now ++ ahead page.setting (indent_of page) t.reached (words_in page.notes.now n table ++ more)) out' r.reached.written (slice r.from r.to page.notes.now ++ ahead page.setting (indent_of page) r.reached (drop j (words_in page.notes.now n table) ++ more))
+      → Left out t.reached.written (slice t.from t.to s ++ ahead g indent t.reached (words_in s n table ++ more)) out' r.reached.written (slice r.from r.to s ++ ahead g indent r.reached (drop j (words_in s n table) ++ more))
   pub order : r.from ≤ r.to
-  pub within : r.to ≤ length page.notes.now
+  pub within : r.to ≤ length s
   pub most : r.reached.written ≤ t.reached.written + j * 2 ^ 34
   pub stands : Stands r.reached
 
 -- So are the words of a line.
-pub record Worded (page : Page) (start end : ℕ) (out : List ℕ) (t : Reached) (out' : List ℕ) (r : Reached) : Type 0 where
+pub record Worded (s : List ℕ) (start end : ℕ) (mail : Bool) (o : Options) (g : Setting) (indent : List ℕ) (out : List ℕ) (t : Reached) (out' : List ℕ) (r : Reached) : Type 0 where
   pub left : (more : List Word)
-      → Left out t.written (ahead page.setting (indent_of page) t (words_between (meant [] page.options) page.mail (not page.mail) false page.notes.now start end ++ more)) out' r.written (ahead page.setting (indent_of page) r more)
+      → Left out t.written (ahead g indent t (words_between (meant [] o) mail (not mail) false s start end ++ more)) out' r.written (ahead g indent r more)
   pub most : r.written ≤ t.written + (end - start + 1) * 2 ^ 34
   pub stands : Stands r
 
@@ -225,23 +219,23 @@ abbrev pub words_on : List ℕ → Options → Bool → ℕ → ℕ → ℕ → 
 words_on block o mail start later next s i = words_at (meant block o) mail start later (lines_of (slice i next s))
 
 -- Lines are written up to a place: what is left is the output of the other lines' words, which begin so many bytes after.
-pub record Gone (page : Page) (at next start later : ℕ) (out : List ℕ) (t : Reached) (out' : List ℕ) (i skip : ℕ) (r : Reached) : Type 0 where
+pub record Gone (s : List ℕ) (at next : ℕ) (mail : Bool) (start later : ℕ) (o : Options) (g : Setting) (indent : List ℕ) (out : List ℕ) (t : Reached) (out' : List ℕ) (i skip : ℕ) (r : Reached) : Type 0 where
   pub on : at ≤ i
   pub most : i ≤ next
-  pub rest : page.mail ≡ false → AllBegin page.options.glue skip later (lines_of (slice i next page.notes.now))
+  pub rest : mail ≡ false → AllBegin o.glue skip later (lines_of (slice i next s))
   pub left : (block : List ℕ)
-      → Left out t.written (ahead page.setting (indent_of page) t (words_on block page.options page.mail start later next page.notes.now at)) out' r.written (ahead page.setting (indent_of page) r (words_on block page.options page.mail skip later next page.notes.now i))
+      → Left out t.written (ahead g indent t (words_on block o mail start later next s at)) out' r.written (ahead g indent r (words_on block o mail skip later next s i))
   pub few : r.written ≤ t.written + (i - at) * 2 ^ 35
   pub stands : Stands r
 
 -- One line is.
-pub record RowPut (page : Page) (i next skip later : ℕ) (out : List ℕ) (t : Reached) (out' : List ℕ) (r : Progress) : Type 0 where
+pub record RowPut (s : List ℕ) (i next : ℕ) (mail : Bool) (skip later : ℕ) (o : Options) (g : Setting) (indent : List ℕ) (out : List ℕ) (t : Reached) (out' : List ℕ) (r : Progress) : Type 0 where
   pub more : i < r.at
-  pub gone : Gone page i next skip later out t out' r.at later r.reached
+  pub gone : Gone s i next mail skip later o g indent out t out' r.at later r.reached
 
 -- All are: a line feed is left.
-pub record Rowed (page : Page) (at next start later : ℕ) (out : List ℕ) (t : Reached) (out' : List ℕ) (r : Reached) : Type 0 where
-  pub left : (block : List ℕ) → Left out t.written (ahead page.setting (indent_of page) t (words_on block page.options page.mail start later next page.notes.now at)) out' r.written line_feed
+pub record Rowed (s : List ℕ) (at next : ℕ) (mail : Bool) (start later : ℕ) (o : Options) (g : Setting) (indent : List ℕ) (out : List ℕ) (t : Reached) (out' : List ℕ) (r : Reached) : Type 0 where
+  pub left : (block : List ℕ) → Left out t.written (ahead g indent t (words_on block o mail start later next s at)) out' r.written line_feed
   pub most : r.written ≤ t.written + 2 ^ 55
 
 -- A paragraph is written, broken by quick.
