@@ -11,7 +11,9 @@ use lib.Seq.{slice, slice-cons}
 use borrow.Author.Tests.{ltb-true, ltb-false}
 use Rattle.lists.proofs.Joins.{slice_join}
 use Rattle.regular.specs.Cited.Regular.{spelled}
-use Rattle.regular.specs.Cited.Places.{NoSpace, LastSpace, FirstSpace, OverSpaces, BeforeSpaces, Inked, CutAt, CutIs}
+use Rattle.regular.specs.Cited.Places.{NoSpace, LastSpace, FirstSpace, OverSpaces, BeforeSpaces, Inked, columns_in, CutAt, CutIs}
+use Rattle.regular.specs.declared.Cut.{Cut}
+use Rattle.regular.proofs.Columns.{columns_join}
 use Rattle.regular.proofs.Searches.{down}
 use Rattle.regular.proofs.Spelling.{spelled_after}
 
@@ -113,3 +115,11 @@ module _ (s : List ℕ) (p e at : ℕ) (inked : Inked s p e) (from : p ≤ at) (
           };
           lone = λ x. absurd (omega arith);
         }
+
+-- a cut parts the columns of a stretch
+pub cut_columns : {s : List ℕ} {p e at : ℕ} {r : Cut} {columns before : ℕ} → CutAt s p e at r → columns ≡ columns_in s p e → before ≡ columns_in s p r.next → columns ≡ before + columns_in s r.next e
+cut_columns {s} {p} {e} {at} {r} cut whole front =
+    let a = cut.on in
+    let b = cut.gap in
+    let c = cut.rest.on in
+    omega (arith, whole, front, columns_join s p r.next e (omega arith) (omega arith) cut.rest.within)

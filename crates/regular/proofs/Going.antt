@@ -1,16 +1,20 @@
 -- A paragraph's lines, one after another: what is left is quick's output of the lines that are left.
-use mathlib.Core.Path.{◌≡◌, sym, ◌∙◌}
+use mathlib.Core.Path.{◌≡◌, sym, ap, ◌∙◌}
 use mathlib.Core.Bool.{Bool, true, false, cond, ◌||◌}
 use mathlib.Core.List.{List, []}
-use Prim.Native.Nat.{ℕ, ◌+◌, ◌≤◌, ◌^◌}
+use Prim.Native.Nat.{ℕ, ◌+◌, ◌-◌, ◌≤◌, ◌<◌, ◌^◌}
 use native.Mathlib.Omega.{arith}
+use lib.ListN.{length, take, drop}
 use lib.Seq.{slice}
+use Rattle.lists.proofs.Fronts.{part_to_end}
 use Rattle.options.specs.Opts.{meant}
 use Rattle.options.specs.declared.Options.{Options}
-use Rattle.lines.specs.Lines.{lines_of}
+use Rattle.lines.specs.Lines.{first_line, lines_of}
+use Rattle.lines.specs.Cited.Places.{lengths_of}
 use Rattle.lines.specs.declared.Extent.{Extent}
 use Rattle.spacing.specs.declared.Setting.{Setting}
-use Rattle.words.proofs.Rows.{LineAt, lines_end, words_same}
+use Rattle.pieces.specs.Cited.Bounds.{AllBegin}
+use Rattle.words.proofs.Rows.{LineAt, line_at, lines_end, words_same}
 use Rattle.regular.specs.declared.Row.{Row}
 use Rattle.regular.specs.declared.Reached.{Reached}
 use Rattle.regular.specs.Cited.Places.{RowIs, Went, Worded, Gone, RowPut, Rowed, words_on}
@@ -20,6 +24,12 @@ use Rattle.regular.proofs.Rest.{on_none}
 pub gaps_same : (a b c : Bool) → c ≡ (a || b) → b ≡ false → a ≡ c
 gaps_same true b c e f = sym e
 gaps_same false b c e f = sym (e ∙ f)
+
+-- the line that is found at a place of the paragraph
+pub line_of : (o : Options) (mail : Bool) (skip later : ℕ) (s : List ℕ) (next i : ℕ) (x : Extent) → i < next → next ≤ length s → (mail ≡ false → AllBegin o.glue skip later (lines_of (slice i next s)))
+    → x ≡ lengths_of (first_line (take (length (take next s) - i) (drop i (take next s)))) → LineAt (meant [] o) mail skip later s next i x
+unfolding meant
+line_of o mail skip later s next i x more fits begins is = line_at (meant [] o) mail skip later s next i x more fits (is ∙ ap (λ (l : List ℕ). lengths_of (first_line l)) (part_to_end i (take next s))) begins
 
 module _ (s : List ℕ) (i next : ℕ) (mail : Bool) (skip later : ℕ) (o : Options) (g : Setting) (indent : List ℕ) (out : List ℕ) (t : Reached) where
   -- a line by its stretch

@@ -1,11 +1,12 @@
 -- `regular::fill` meets its contract. Invariant: what is left of the output is that of the words from p on, on a fresh line, and of those that follow; left are their columns.
 use mathlib.Core.Path.{◌≡◌, refl, ◌∙◌}
 use mathlib.Core.Logic.{◌⊎◌, inl, inr}
-use Prim.Native.Nat.{ℕ, ◌+◌, ◌-◌, ◌≤◌, ◌<◌}
+use Prim.Native.Nat.{ℕ, ◌+◌, ◌≤◌, ◌<◌}
 use native.Mathlib.Omega.{arith}
 use Rattle.output.proofs.Sink.{wrote_length}
-use Rattle.regular.specs.Cited.Places.{NoSpace, CutAt, columns_in}
-use Rattle.regular.proofs.Columns.{columns_some, columns_size, columns_join}
+use Rattle.regular.specs.Cited.Places.{NoSpace, columns_in}
+use Rattle.regular.proofs.Columns.{columns_some, columns_size}
+use Rattle.regular.proofs.Cuts.{cut_columns}
 use Rattle.regular.proofs.Filling.{along_first, along_turn, along_done}
 use Rattle.regular.proofs.fill.Goals as goal
 use Rattle.regular.proofs.fill.Goals.{else-loop-column-test, then-loop-column-test+then-cut-e}
@@ -15,8 +16,10 @@ loop-column-init c = let pre = c.requires in (omega arith, omega arith, omega ar
 
 pub overflow_add-column : goal.overflow_add-column
 overflow_add-column c =
-    let few : c.loop-column.left ≤ c.args.e - c.loop-column.p = omega (arith, c.loop-column.invariant.5, columns_size c.args.s.now c.loop-column.p c.args.e c.loop-column.invariant.4.inked.within) in
-    let l = c.loop-column in let pre = c.requires in omega (arith, few, l.invariant.4.inked.within, pre.4, pre.6, pre.7, l.invariant.2)
+    let l = c.loop-column in
+    let few = columns_size c.args.s.now l.p c.args.e l.invariant.4.inked.within in
+    let pre = c.requires in
+    omega (arith, few, l.invariant.5, l.invariant.4.inked.within, pre.4, pre.6, pre.7, l.invariant.2)
 
 pub place_of-at-requires : goal.place_of-at-requires
 place_of-at-requires c =
@@ -30,19 +33,21 @@ place_of-at-requires c =
 
 pub overflow_add-result : goal.overflow_add-result
 overflow_add-result c =
-    let few : c.loop-column.left ≤ c.args.e - c.loop-column.p = omega (arith, c.loop-column.invariant.5, columns_size c.args.s.now c.loop-column.p c.args.e c.loop-column.invariant.4.inked.within) in
-    let l = c.loop-column in let pre = c.requires in omega (arith, few, l.invariant.4.inked.within, pre.4, pre.6, pre.7, l.invariant.2)
+    let l = c.loop-column in
+    let few = columns_size c.args.s.now l.p c.args.e l.invariant.4.inked.within in
+    let pre = c.requires in
+    omega (arith, few, l.invariant.5, l.invariant.4.inked.within, pre.4, pre.6, pre.7, l.invariant.2)
 
 pub overflow_sub-left : goal.overflow_sub-left
 overflow_sub-left c =
-    let found : CutAt c.args.s.now c.loop-column.p c.args.e c.place_of-at.result c.cut_line-cut.result = c.cut_line-cut.ensures.cut (omega (arith, c.cut_line-cut.ensures.most, c.if-cut-e.false)) in
-    let rest : c.loop-column.left ≡ c.columns_before-left.result + columns_in c.args.s.now c.cut_line-cut.result.next c.args.e = omega (arith, c.loop-column.invariant.5, c.columns_before-left.ensures, columns_join c.args.s.now c.loop-column.p c.cut_line-cut.result.next c.args.e (omega (arith, found.on, found.gap)) (omega (arith, found.rest.on)) found.rest.within) in
+    let found = c.cut_line-cut.ensures.cut (omega (arith, c.cut_line-cut.ensures.most, c.if-cut-e.false)) in
+    let rest = cut_columns found c.loop-column.invariant.5 c.columns_before-left.ensures in
     omega (arith, rest)
 
 pub loop-column-preserved : goal.loop-column-preserved
 loop-column-preserved c =
-    let found : CutAt c.args.s.now c.loop-column.p c.args.e c.place_of-at.result c.cut_line-cut.result = c.cut_line-cut.ensures.cut (omega (arith, c.cut_line-cut.ensures.most, c.if-cut-e.false)) in
-    let rest : c.loop-column.left ≡ c.columns_before-left.result + columns_in c.args.s.now c.cut_line-cut.result.next c.args.e = omega (arith, c.loop-column.invariant.5, c.columns_before-left.ensures, columns_join c.args.s.now c.loop-column.p c.cut_line-cut.result.next c.args.e (omega (arith, found.on, found.gap)) (omega (arith, found.rest.on)) found.rest.within) in
+    let found = c.cut_line-cut.ensures.cut (omega (arith, c.cut_line-cut.ensures.most, c.if-cut-e.false)) in
+    let rest = cut_columns found c.loop-column.invariant.5 c.columns_before-left.ensures in
     let l = c.loop-column in
     let put = c.put_line-k.ensures in (
       omega (arith, l.invariant.0, found.on, found.gap),

@@ -1,13 +1,11 @@
 -- `regular::row_at` meets its contract.
-use mathlib.Core.Path.{◌≡◌, refl}
+use mathlib.Core.Path.{refl}
 use mathlib.Core.List.{[]}
-use Prim.Native.Nat.{◌+◌, ◌-◌}
 use native.Mathlib.Omega.{arith}
 use lib.Seq.{slice}
 use Rattle.options.specs.Opts.{meant}
 use Rattle.lines.specs.Lines.{first_line}
 use Rattle.lines.specs.Cited.Places.{lengths_of}
-use Rattle.regular.specs.Cited.Places.{columns_in}
 use Rattle.regular.proofs.Rows.{row_begins, row_is}
 use Rattle.regular.proofs.Pairs.{row_on, row_spelled, row_columns}
 use Rattle.regular.proofs.row_at.Goals as goal
@@ -28,13 +26,13 @@ regular_end-at-requires c =
 
 pub overflow_sub-result-2 : goal.overflow_sub-result-2
 overflow_sub-result-2 c =
-    let counted : columns_in c.args.s.now (c.args.i + c.args.skip) c.before_spaces-end.result + c.letters_after-letters.result.count ≡ c.before_spaces-end.result - (c.args.i + c.args.skip) = row_columns _ _ _ _ c.requires.1 c.regular_end-at.ensures _ c.letters_after-letters.ensures _ c.before_spaces-end.ensures in
+    let counted = row_columns _ _ _ _ c.requires.1 c.regular_end-at.ensures _ c.letters_after-letters.ensures _ c.before_spaces-end.ensures in
     omega (arith, counted)
 
 pub returns : goal.returns
 unfolding meant
 returns c = λ block.
-    let counted : columns_in c.args.s.now (c.args.i + c.args.skip) c.before_spaces-end.result + c.letters_after-letters.result.count ≡ c.before_spaces-end.result - (c.args.i + c.args.skip) = row_columns _ _ _ _ c.requires.1 c.regular_end-at.ensures _ c.letters_after-letters.ensures _ c.before_spaces-end.ensures in
+    let counted = row_columns _ _ _ _ c.requires.1 c.regular_end-at.ensures _ c.letters_after-letters.ensures _ c.before_spaces-end.ensures in
     let p = c.requires in
     let regular = c.regular_end-at.ensures in
     let letters = c.letters_after-letters.ensures in
