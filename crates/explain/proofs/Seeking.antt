@@ -1,5 +1,5 @@
 -- The search over the pieces: what is left of the lines from a place on, and the line that is asked for.
-use Rattle.std.proofs.Common.{Option, Some, None, Ok, Err}
+use Rattle.std.proofs.Common.{Option, Some, None, Result, Ok, Err}
 use mathlib.Core.Path.{◌≡◌, refl, sym, ap, ◌∙◌}
 use mathlib.Core.Bool.{Bool, true, false, cond, ◌||◌}
 use mathlib.Core.List.{List, [], ◌∷◌, ◌++◌}
@@ -17,6 +17,7 @@ use Rattle.pieces.specs.Pieces.{Kind, blank_line, plain_line, paragraph, pieces}
 use Rattle.pieces.specs.declared.Paragraph.{Paragraph as ParagraphAt}
 use Rattle.records.specs.Word.{Word}
 use Rattle.words.specs.Words.{words_of}
+use Rattle.words.specs.declared.TooMany.{TooMany}
 use Rattle.spacing.specs.declared.Setting.{Setting}
 use Rattle.endings.specs.declared.Ending.{Ending}
 use Rattle.endings.specs.declared.Ending.TheVariants.{Paragraph, Plain, Blank}
@@ -24,18 +25,16 @@ use Rattle.endings.specs.Endings.{endings}
 use Rattle.paragraphs.specs.Cited.Steps.{setting_for, words_for}
 use Rattle.walk.specs.Digest.{too_many, long_paragraph}
 use Rattle.walk.specs.Cited.Course.{pieces_from, FirstPiece}
+use Rattle.walk.specs.declared.Stopped.{Stopped}
 use Rattle.walk.proofs.Loop.{none_left}
 use Rattle.walk.proofs.Meaning.{TextGoes}
 use Rattle.walk.proofs.Rows.{text_words}
 use Rattle.explain.specs.declared.Asked.{Asked}
 use Rattle.explain.specs.declared.Asked.TheVariants.{Told, Behind}
 use Rattle.explain.specs.declared.Seek.{Seek}
-use Rattle.explain.specs.declared.Passed.{Passed}
-use Rattle.explain.specs.declared.Course.{Course}
-use Rattle.explain.specs.declared.Sought.{Sought}
 use Rattle.explain.specs.Reasons.{lines_by, paragraph_endings, endings_of, piece_endings, line_endings}
 use Rattle.explain.specs.Cited.Asking.{passed}
-use Rattle.explain.specs.Cited.Seeking.{TextPassed, PieceBehind, NoRoom, PiecePassed, endings_from, long_behind, Seeking, SoughtIs, Coursed}
+use Rattle.explain.specs.Cited.Seeking.{TextPassed, PieceBehind, NoRoom, PiecePassed, endings_from, long_behind, Seeking, SoughtIs}
 
 -- ---- lines that are passed
 
@@ -123,11 +122,11 @@ module _ (most : ℕ) (o : Opts) (notes : List ℕ) where
   long_none s h = ap (long_paragraph most o s.at) (none_left o s.mail notes s.at h)
 
   module _ (s : Seek) {kind : Kind} {state : Bool} {next : ℕ} (g : FirstPiece o s.mail notes s.at kind state next) where
-    long_as : (b : Bool) → too_many most o kind ≡ b → long_behind most o notes s ≡ elim b as (λ x. (Option ℕ)) [ true ↦ Some s.at | false ↦ long_paragraph most o next (pieces_from o state notes next) ]
+    long_as : (b : Bool) → too_many most o kind ≡ b → long_behind most o notes s ≡ elim b as (λ x. Option ℕ) [ true ↦ Some s.at | false ↦ long_paragraph most o next (pieces_from o state notes next) ]
     unfolding long_paragraph
     long_as b e =
         ap (long_paragraph most o s.at) g.pieces
-        ∙ ap (λ (n : ℕ). elim (too_many most o g.piece.kind) as (λ x. (Option ℕ)) [ true ↦ Some s.at | false ↦ long_paragraph most o n (pieces_from o state notes next) ]) g.extent
+        ∙ ap (λ (n : ℕ). elim (too_many most o g.piece.kind) as (λ x. Option ℕ) [ true ↦ Some s.at | false ↦ long_paragraph most o n (pieces_from o state notes next) ]) g.extent
         ∙ ap (λ (x : Bool). elim x as (λ y. (Option ℕ)) [ true ↦ Some s.at | false ↦ long_paragraph most o next (pieces_from o state notes next) ]) (ap (too_many most o) g.is ∙ e)
 
 -- ---- the search
@@ -152,26 +151,13 @@ module _ (most : ℕ) (o : Opts) (notes : List ℕ) where
     )
 
     -- where it began does not matter
-    pub seeking_sought : (r : Sought) → SoughtIs most o notes t r → SoughtIs most o notes s r
+    pub seeking_sought : (r : Result Asked Stopped) → SoughtIs most o notes t r → SoughtIs most o notes s r
     seeking_sought (Ok a) k = (sym g.long ∙ k.0, k.1 ∙ g.asked)
-    seeking_sought (Err (record { at = place })) k = sym g.long ∙ k
+    seeking_sought (Err stopped) k = sym g.long ∙ k
 
     -- at last there is room for as many words as a paragraph may have
     pub seeking_stopped : {room : ℕ} (n : NoRoom room o notes t) → most < length (words_of o n.text) → SoughtIs most o notes s (Err (record { at = t.at }))
     seeking_stopped n many = sym g.long ∙ long_as most o notes t n.goes true (lt-ltb most (length (words_of o n.text)) many)
-
--- by how far the room reached
-module _ (most room : ℕ) (o : Opts) (notes : List ℕ) (s : Seek) (r : Course) (few : room ≤ most) (c : Coursed room o notes s r) where
-  pub course_end : {a : Asked} → r ≡ Ok a → SoughtIs most o notes s (Ok a)
-  course_end e = rw e at (c most few)
-
-  pub course_short : {t : Seek} → r ≡ Err (record { seek = t }) → Seeking most o notes s t × NoRoom room o notes t
-  course_short e = rw e at (c most few)
-
--- by what came of a piece
-module _ (room : ℕ) (o : Opts) (notes : List ℕ) (s : Seek) (r : Passed) (p : PiecePassed room o notes s r) where
-  pub piece_on : {t : Seek} → r ≡ Ok t → PieceBehind room o notes s t
-  piece_on e = rw e at p
 
 -- ---- a piece
 
@@ -194,7 +180,7 @@ module _ (room : ℕ) (block notes : List ℕ) (o : Options) (s : Seek) (p : Par
   unfolding endings_of paragraph_endings meant
   endings_are = rw (words_are, g.text.mail, g.text.first.columns, g.text.indent.columns)
 
-  pub text_passed : (r : Passed) → TextPassed room notes s.at o p s.asked r block → PiecePassed room (meant block o) notes s r
+  pub text_passed : (r : Result Seek TooMany) → TextPassed room notes s.at o p s.asked r block → PiecePassed room (meant block o) notes s r
   unfolding meant
   text_passed (Ok t) h = record {
     kind = paragraph g.paragraph_is;
@@ -202,7 +188,7 @@ module _ (room : ℕ) (block notes : List ℕ) (o : Options) (s : Seek) (p : Par
     few = rw words_are (le-ltb room (length (words_for block notes s.at o p)) h.few);
     asked = rw endings_are h.asked;
   }
-  text_passed (Err (record { })) h = record {
+  text_passed (Err many) h = record {
     text = g.paragraph_is;
     state = p.mail;
     next = p.next;

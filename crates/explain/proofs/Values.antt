@@ -1,5 +1,5 @@
 -- The number that a reply tells and the reason that it leaves are those of the answer, and the number fits.
-use Rattle.std.proofs.Common.{Ok, Err}
+use Rattle.std.proofs.Common.{Result, Ok, Err}
 use mathlib.Core.Path.{◌≡◌, refl, ap}
 use mathlib.Core.Bool.{Bool, true, false, cond}
 use mathlib.Core.List.{List}
@@ -10,7 +10,8 @@ use lib.Dec.{ltb}
 use lib.ListN.{length, get_or}
 use Rattle.options.specs.Opts.{Opts, meant}
 use Rattle.options.specs.OptionBlock.{read_block}
-use Rattle.options.specs.declared.Block.{Block}
+use Rattle.options.specs.declared.Options.{Options}
+use Rattle.options.specs.declared.Fault.{Fault}
 use Rattle.endings.specs.declared.Ending.{Ending}
 use Rattle.endings.specs.declared.Ending.TheVariants.{Paragraph}
 use Rattle.lists.specs.Coded.{numbered}
@@ -50,8 +51,8 @@ module _ (l : Limits) (sound : Sound l) (block notes : List ℕ) (line : ℕ) wh
   done_short digest o true h k = absurd (let z : ◌≡◌ {A = ℕ} 0 1 = cc in omega arith)
   done_short digest o false h k = ltb-false l.bytes (length notes) h
 
-  done_value : (digest : List ℕ) (b : Block) → with_block l block notes b ≡ found digest → (explain_coded (look_up_in line block notes b)).value ≤ most_told
-  done_value digest (Err (record { at = place })) e = absurd (let z : ◌≡◌ {A = ℕ} 0 1 = cc in omega arith)
+  done_value : (digest : List ℕ) (b : Result Options Fault) → with_block l block notes b ≡ found digest → (explain_coded (look_up_in line block notes b)).value ≤ most_told
+  done_value digest (Err fault) e = absurd (let z : ◌≡◌ {A = ℕ} 0 1 = cc in omega arith)
   done_value digest (Ok o) e =
       let s = done_short digest (meant block o) (ltb l.bytes (length notes)) refl e in
       look_value line (line_endings (meant block o) notes) (let f = lines_are_few (meant block o) notes in omega (arith, f, s, sound.short))
@@ -85,8 +86,8 @@ explaining_tells_code_and_value l sound block notes line = reads_back (explain_c
 
 -- what is refused for want of room is found so
 module _ (l : Limits) (block notes : List ℕ) (line n : ℕ) where
-  never_so : (b : Block) → look_up_in line block notes b ≡ refused (Work n) → ⊥
-  never_so (Err (record { at = place })) e = let z : ◌≡◌ {A = ℕ} 0 1 = cc in omega arith
+  never_so : (b : Result Options Fault) → look_up_in line block notes b ≡ refused (Work n) → ⊥
+  never_so (Err fault) e = let z : ◌≡◌ {A = ℕ} 0 1 = cc in omega arith
   never_so (Ok o) e = go (ltb line (length (line_endings (meant block o) notes))) e
     where
       go : (b : Bool) → cond b (because (get_or (line_endings (meant block o) notes) line Paragraph)) (no_line (length (line_endings (meant block o) notes))) ≡ refused (Work n) → ⊥

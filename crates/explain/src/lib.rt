@@ -86,6 +86,15 @@ struct Short {
     seek: Seek,
 }
 
+// Of that paragraph its first line's place is told.
+impl From<Short> for Stopped {
+    ghost from_gives = { λ short stopped. stopped.at ≡ short.seek.at };
+
+    fn from(short: Short) -> Stopped {
+        Stopped { at: short.seek.at }
+    }
+}
+
 // Why an output line ends, counted from 0: 1 to 4 are refused as measuring does, then 8.
 pub fn explain(block: &[u8], notes: &[u8], line: u64) -> Result<Ending, Unexplained>
     ensures { result ≡ told (explaining own_room block.now notes.now line) }
@@ -194,14 +203,14 @@ fn seek_in_two<const FEW: usize, const MOST: usize>(
 {
     match seek_in::<FEW>(notes, from) {
         Ok(a) => Ok(a),
-        Err(s) => { seek_in::<MOST>(notes, s.seek).map_err(|t| Stopped { at: t.seek.at }) }
+        Err(short) => Ok(seek_in::<MOST>(notes, short.seek)?),
     }
 }
 
 // In room of N numbers. As in measuring, each room is declared in a function of its own, so that the larger one is no part of the frame in
 // which notes of small paragraphs are sought through.
 fn seek_in<const N: usize>(notes: Notes, from: Seek) -> Result<Asked, Short>
-    requires { from.at ≤ length notes.bytes.now }
+    requires { (from.at ≤ length notes.bytes.now) × (room_for notes.options.quick N ≤ most_words) }
     ensures { Coursed (room_for notes.entry.options.quick N) (meant notes.entry.block.now notes.entry.options) notes.entry.bytes.now from result }
 {
     let mut work = [0u32; N];
@@ -244,6 +253,7 @@ fn pass_piece(notes: Notes, s: Seek, work: &mut [u32]) -> Result<Seek, TooMany>
 }
 
 // After one line that ends so.
+#[tactic(auto, using(crate::proofs::Seeking::passed_told, crate::proofs::Seeking::passed_one, crate::proofs::Seeking::passed_past))]
 fn pass_line(a: Asked, e: Ending) -> Asked
     ensures { result ≡ passed (e ∷ []) a }
 {

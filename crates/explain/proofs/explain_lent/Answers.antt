@@ -10,14 +10,17 @@ use Rattle.explain.proofs.explain_lent.Goals as goal
 pub found-requires : goal.found-requires
 unfolding meant
 found-requires c =
-    lent_ahead (length c.args.work.now) (meant c.args.block.now c.args.o) c.args.notes.now _ _ c.seek_with.ensures c.in-End.is
+    let n = c.args.notes in
+    lent_ahead (length c.args.work.now) (meant n.block.now n.options) n.bytes.now _ _ (rw c.begin.ensures at c.in-Ok.ensures)
 
-pub returns-in-Short : goal.returns-in-Short
+pub returns-in_default : goal.returns-in_default
 unfolding meant
-returns-in-Short c =
-    short_told (length c.args.work.now) (meant c.args.block.now c.args.o) c.args.notes.now _ _ c.seek_with.ensures c.in-Short.is (c.work_over.ensures ∙ ap (λ (k : ℕ). max k (work_for (meant c.args.block.now c.args.o) c.args.notes.now)) c.work-1.given)
+returns-in_default c =
+    let n = c.args.notes in
+    short_told (length c.args.work.now) (meant n.block.now n.options) n.bytes.now _ (rw c.begin.ensures at c.in_default.ensures) (c.work_over-needed.ensures ∙ ap (λ (k : ℕ). max k (work_for (meant n.block.now n.options) n.bytes.now)) c.seek_with.auto.work)
 
-pub returns-in-End : goal.returns-in-End
+pub returns : goal.returns
 unfolding meant
-returns-in-End c =
-    lent_told (length c.args.work.now) (meant c.args.block.now c.args.o) c.args.notes.now _ _ c.seek_with.ensures c.in-End.is c.found.ensures
+returns c =
+    let n = c.args.notes in
+    lent_told (length c.args.work.now) (meant n.block.now n.options) n.bytes.now _ _ (rw c.begin.ensures at c.in-Ok.ensures) c.found.ensures
