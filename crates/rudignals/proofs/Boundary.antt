@@ -41,7 +41,7 @@ unfolding long_paragraph
 long_short most o place [] h = tt
 long_short most o place (q ∷ qs) h = go (too_many most o q.kind) refl h (long_short most o (place + length (extent_of q)) qs)
   where
-    go : (b : Bool) → too_many most o q.kind ≡ b → elim b as (λ t. (Option ℕ)) [ true ↦ Some place | false ↦ long_paragraph most o (place + length (extent_of q)) qs ] ≡ None
+    go : (b : Bool) → too_many most o q.kind ≡ b → elim b as (λ t. Option ℕ) [ true ↦ Some place | false ↦ long_paragraph most o (place + length (extent_of q)) qs ] ≡ None
         → (long_paragraph most o (place + length (extent_of q)) qs ≡ None → All (Short most o) qs) → All (Short most o) (q ∷ qs)
     go true e h ih = (cc, absurd (let z : ◌≡◌ {A = ℕ} 0 1 = cc in omega arith))
     go false e h ih = (e, ih h)

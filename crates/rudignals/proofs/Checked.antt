@@ -1,5 +1,5 @@
 -- What the formatter writes, the checker accepts: from the order of its words (Order). So does the call, within 65,536 bytes.
-use Rattle.std.proofs.Common.{Ok, Err}
+use Rattle.std.proofs.Common.{Result, Ok, Err}
 use mathlib.Core.Path.{◌≡◌, refl}
 use mathlib.Core.List.{List, [], ◌∷◌}
 use Prim.Native.Nat.{ℕ, ◌≤◌}
@@ -10,7 +10,8 @@ use Rattle.lists.specs.Theorems.All.{All, ◌∈◌}
 use Rattle.lists.proofs.Parts.{joined_nil, joined_cons}
 use Rattle.options.specs.Opts.{Opts, meant}
 use Rattle.options.specs.OptionBlock.{read_block}
-use Rattle.options.specs.declared.Block.{Block}
+use Rattle.options.specs.declared.Options.{Options}
+use Rattle.options.specs.declared.Fault.{Fault}
 use Rattle.pieces.specs.Pieces.{Kind, Piece, blank_line, plain_line, paragraph, pieces}
 use Rattle.words.specs.Words.{words_of}
 use Rattle.walk.specs.Digest.{formatted, output_of, piece_output, digest}
@@ -45,12 +46,12 @@ pub what_is_written_is_accepted : (o : Opts) (notes : List ℕ) → verdict o no
 what_is_written_is_accepted o notes = what_is_acceptable_is_accepted o notes (digest o notes) (what_is_written_is_acceptable o notes)
 
 -- All that our formatter writes within the limit, 65,536 bytes in RULES 2.2, is accepted with the notes it was written for.
-pub what_is_written_the_call_accepts : (l : Limits) (block notes bytes : List ℕ) → finding l block notes ≡ found bytes → length bytes ≤ l.bytes → checking l block notes bytes ≡ (Ok tt)
+pub what_is_written_the_call_accepts : (l : Limits) (block notes bytes : List ℕ) → finding l block notes ≡ found bytes → length bytes ≤ l.bytes → checking l block notes bytes ≡ Ok tt
 unfolding finding
 what_is_written_the_call_accepts l block notes bytes e h = go (read_block block) refl e
   where
-    go : (b : Block) → read_block block ≡ b → with_block l block notes b ≡ found bytes → checking l block notes bytes ≡ (Ok tt)
-    go (Err (record { at = place })) q k = absurd (let z : ◌≡◌ {A = ℕ} 0 1 = cc in omega arith)
+    go : (b : Result Options Fault) → read_block block ≡ b → with_block l block notes b ≡ found bytes → checking l block notes bytes ≡ Ok tt
+    go (Err fault) q k = absurd (let z : ◌≡◌ {A = ℕ} 0 1 = cc in omega arith)
     go (Ok o) q k = what_is_acceptable_the_call_accepts l block notes bytes (record {
       options = o;
       accepted = q;

@@ -1,5 +1,5 @@
 -- RULES 12: what the indexed call answers for two parts with a blank line between them, and the index of the three.
-use Rattle.std.proofs.Common.{Ok}
+use Rattle.std.proofs.Common.{Result, Ok}
 use mathlib.Core.Path.{◌≡◌, refl, sym, ap, ◌∙◌}
 use mathlib.Core.Bool.{Bool, true, false, cond}
 use mathlib.Core.List.{List, [], ◌∷◌, ◌++◌, map, append-nil}
@@ -13,7 +13,7 @@ use Rattle.lists.specs.Runs.{while, every, joined}
 use Rattle.options.specs.Opts.{Opts, meant}
 use Rattle.options.specs.OptionBlock.{read_block}
 use Rattle.options.specs.declared.Options.{Options}
-use Rattle.options.specs.declared.Block.{Block}
+use Rattle.options.specs.declared.Fault.{Fault}
 use Rattle.lines.specs.Lines.{Line, no_feed, body, without_return, first_line, lines_of}
 use Rattle.lines.specs.Classes.{classify}
 use Rattle.lines.specs.declared.Class.TheVariants.{Blank}
@@ -91,13 +91,13 @@ pub indexed_done : (l : Limits) (block notes : List ℕ) (o : Options) (space re
     → IsDone (index_of (meant block o) notes) (finding l block notes) d i
 unfolding indexing
 indexed_done l block notes o space records d i b h =
-    in_done l.words space records (index_of (meant block o) notes) (finding l block notes) d i (ap (λ (x : Block). in_index l.words space records (index_under block notes x) (finding l block notes)) (sym b) ∙ h)
+    in_done l.words space records (index_of (meant block o) notes) (finding l block notes) d i (ap (λ (x : Result Options Fault). in_index l.words space records (index_under block notes x) (finding l block notes)) (sym b) ∙ h)
 
 pub done_indexed : (l : Limits) (block notes : List ℕ) (o : Options) (space records : ℕ) (d : List ℕ) → read_block block ≡ Ok o → finding l block notes ≡ found d → is_told l.words (length d) ≡ true
     → length d ≤ space → length (index_of (meant block o) notes) ≤ records → indexing l block notes space records ≡ done d (index_of (meant block o) notes)
 unfolding indexing
 done_indexed l block notes o space records d b m t r s =
-    ap (λ (x : Block). in_index l.words space records (index_under block notes x) (finding l block notes)) b ∙ ap (in_index l.words space records (index_of (meant block o) notes)) m
+    ap (λ (x : Result Options Fault). in_index l.words space records (index_under block notes x) (finding l block notes)) b ∙ ap (in_index l.words space records (index_of (meant block o) notes)) m
     ∙ rw (le-leb (length (index_of (meant block o) notes)) records s, t, le-leb (length d) space r)
 
 -- the room that suffices for the three is that of the outputs and one byte, and that of the indexes and one record

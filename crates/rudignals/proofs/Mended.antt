@@ -1,5 +1,5 @@
 -- RULES 14: formatting a mended copy never gives code 3. The mended copy is well formed by RFC 3629, and a text that is has no damaged place.
-use Rattle.std.proofs.Common.{Option, Some, None, Ok, Err}
+use Rattle.std.proofs.Common.{Option, Some, None, Result, Ok, Err}
 use mathlib.Core.Path.{◌≡◌, refl, sym, ap, ◌∙◌}
 use mathlib.Core.Bool.{Bool, true, false, cond, false≢true}
 use mathlib.Core.List.{List, ◌∷◌}
@@ -15,7 +15,8 @@ use Rattle.text.proofs.Decoder.{sound}
 use Rattle.text.proofs.Glyphs.{Bytes, characters_induct}
 use Rattle.options.specs.Opts.{Opts, meant}
 use Rattle.options.specs.OptionBlock.{read_block}
-use Rattle.options.specs.declared.Block.{Block}
+use Rattle.options.specs.declared.Options.{Options}
+use Rattle.options.specs.declared.Fault.{Fault}
 use Rattle.pieces.specs.Pieces.{pieces}
 use Rattle.walk.specs.Digest.{digest, long_paragraph}
 use Rattle.formatter.specs.Answers.{Answer, done, refused, room as lacking, answer_coded}
@@ -79,8 +80,8 @@ module _ (l : Limits) (notes : List ℕ) (undamaged : damage notes ≡ None) whe
       size true k = omega arith
       size false k = enough l.words (rw (nothing_found o.keep) at k)
 
-  block_three : (block : List ℕ) (b : Block) → NotThree (with_block l block notes b)
-  block_three block (Err (record { at = place })) then never h = omega arith
+  block_three : (block : List ℕ) (b : Result Options Fault) → NotThree (with_block l block notes b)
+  block_three block (Err fault) then never h = omega arith
   block_three block (Ok o) then never h = notes_three (meant block o) then never h
 
 -- nor is a digest, for want of room

@@ -56,8 +56,8 @@ module _ (most : ℕ) (o : Opts) where
   long_moved n place (q ∷ qs) = go (too_many most o q.kind) (long_moved n (place + length (extent_of q)) qs)
     where
       go : (t : Bool) → long_paragraph most o (n + (place + length (extent_of q))) qs ≡ later n (long_paragraph most o (place + length (extent_of q)) qs)
-          → elim t as (λ b. (Option ℕ)) [ true ↦ Some (n + place) | false ↦ long_paragraph most o (n + place + length (extent_of q)) qs ]
-          ≡ later n (elim t as (λ b. (Option ℕ)) [ true ↦ Some place | false ↦ long_paragraph most o (place + length (extent_of q)) qs ])
+          → elim t as (λ b. Option ℕ) [ true ↦ Some (n + place) | false ↦ long_paragraph most o (n + place + length (extent_of q)) qs ]
+          ≡ later n (elim t as (λ b. Option ℕ) [ true ↦ Some place | false ↦ long_paragraph most o (place + length (extent_of q)) qs ])
       go true ih = refl
       go false ih = let e : n + place + length (extent_of q) ≡ n + (place + length (extent_of q)) = omega arith in rw e ih
 
@@ -74,8 +74,8 @@ module _ (most : ℕ) (o : Opts) where
       size = omega (arith, ap length (joined_cons extent_of p ps) ∙ length-append (extent_of p) (joined extent_of ps))
 
       go : (t : Bool) → long_paragraph most o (place + length (extent_of p)) (ps ++ qs) ≡ or_later (place + length (extent_of p) + length (joined extent_of ps)) (long_paragraph most o (place + length (extent_of p)) ps) (long_paragraph most o 0 qs)
-          → elim t as (λ b. (Option ℕ)) [ true ↦ Some place | false ↦ long_paragraph most o (place + length (extent_of p)) (ps ++ qs) ]
-          ≡ or_later (place + length (joined extent_of (p ∷ ps))) (elim t as (λ b. (Option ℕ)) [ true ↦ Some place | false ↦ long_paragraph most o (place + length (extent_of p)) ps ]) (long_paragraph most o 0 qs)
+          → elim t as (λ b. Option ℕ) [ true ↦ Some place | false ↦ long_paragraph most o (place + length (extent_of p)) (ps ++ qs) ]
+          ≡ or_later (place + length (joined extent_of (p ∷ ps))) (elim t as (λ b. Option ℕ) [ true ↦ Some place | false ↦ long_paragraph most o (place + length (extent_of p)) ps ]) (long_paragraph most o 0 qs)
       go true ih = refl
       go false ih = rw size at ih
 

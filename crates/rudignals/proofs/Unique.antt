@@ -1,11 +1,14 @@
 -- A promise determines its answer: whatever two results keep it are equal, and so is every byte and every mark that was written.
 -- The public functions of all crates, and the law that each stands on:
 --
+--   lists         number, number_of                                                         an equation
 --   widths        width, ink_width, is_white_space, leaf, mid, top, row                     an equation
 --   text          decode_at, long_at, glyph_at, is_no_break, is_letter, first_damage        an equation: `equal_unique`
 --   text          glued_end                                                                 an equation, with a bound: `bounded_unique`
 --   options       read_block                                                                an equation
+--   options       byte_at                                                                   an equation, with a bound: `bounded_unique`
 --   lines         first_line, first_classed, begins                                         an equation
+--   lines         next_stop, column_behind                                                  an equation, with bounds: `bounded_unique`
 --   pieces        is_header                                                                 an equation
 --   pieces        next_piece                                                                an equation, with bounds: `bounded_unique`
 --   records       get                                                                       records/proofs/Unique: `got_unique`
@@ -28,7 +31,6 @@
 --   output        emit, emit_line                                                           `wrote_unique`, with a bound
 --   panel         draw, number_of                                                           an equation for the answer, one for the cells
 --   salvage       mend, restore                                                             salvage/proofs/Unique: `mends_unique`, `restores_unique`
---   salvage       mended_number, restored_number                                            an equation
 --   marks         mark                                                                      an equation for the marks
 --   marks         gap                                                                       an equation
 --   index         lookup                                                                    an equation
@@ -36,7 +38,7 @@
 --   index         tell                                                                      an equation for the answer, one for the part
 --   indexer       write_marked                                                              indexer/proofs/Unique: `indexes_unique`
 --   unflow        unflow                                                                    unflow/proofs/Unique: `reads_unique`
---   unflow        reading_number, is_dashes                                                 an equation
+--   unflow        is_dashes                                                                 an equation
 --   unflow        stuffing_of                                                               `spaces_unique`, with a bound
 --   unflow        put_end                                                                   output/proofs/Unique: `wrote_unique`
 --   flow          flow, flow_lent                                                           flow/proofs/Unique: `sends_unique`
@@ -49,8 +51,8 @@
 --   explain       tell                                                                      an equation for the answer, one for the reason
 --   walk          put_all                                                                   walk/proofs/Unique: `ended_unique`
 --   walk          put_all_lent                                                              output/proofs/Unique: `wrote_unique`
---   walk          clear, work_over, work_with                                               an equation
---   formatter     measure, measure_lent, number_of                                          an equation
+--   walk          work_over, work_with                                                      an equation
+--   formatter     measure, measure_lent                                                     an equation
 --   formatter     write, write_lent                                                         an equation for the reply, one for the output
 --   formatter     admit, admit_within, admit_lent                                           formatter/proofs/Unique: `admission_unique`, `admission_within_unique`,
 --                                                                                           `admission_lent_unique`
@@ -62,7 +64,7 @@
 --   rudignals     rudignals_flow, rudignals_flow_large                                      the same, and one for the count
 --
 -- What stays open is scratch that nobody reads afterwards: docs/VERIFY.md lists it.
-use Rattle.std.proofs.Common.{Ok}
+use Rattle.std.proofs.Common.{Result, Ok}
 use mathlib.Core.Path.{◌≡◌, sym, ap, ◌∙◌}
 use mathlib.Core.List.{List, []}
 use Prim.Native.Nat.{ℕ}
@@ -72,7 +74,7 @@ use Rattle.records.specs.Cited.Table.{words_in}
 use Rattle.records.specs.Cited.Marks.{MarkedBy}
 use Rattle.records.proofs.Unique.{marked_unique}
 use Rattle.words.specs.Cited.Split.{places_in, Split}
-use Rattle.words.specs.declared.Count.{Count}
+use Rattle.words.specs.declared.TooMany.{TooMany}
 use Rattle.words.proofs.Unique.{count_unique, split_unique}
 use Rattle.spacing.specs.declared.Setting.{Setting}
 use Rattle.quick.specs.Quick.{quick_breaks}
@@ -86,7 +88,7 @@ pub bounded_unique : {A : Type 0} (Bounds : A → Type 0) (x a b : A) → (a ≡
 bounded_unique Bounds x a b e f = e.0 ∙ sym f.0
 
 -- the count of a paragraph's words, the words that the table's first records are, and where they stand, whatever block the options came from
-pub words_unique : (most : ℕ) (notes : List ℕ) (ws : List ℕ → List Word) (ps t u : List ℕ) (r s : Count)
+pub words_unique : (most : ℕ) (notes : List ℕ) (ws : List ℕ → List Word) (ps t u : List ℕ) (r s : Result ℕ TooMany)
     → ((block : List ℕ) → Split most notes (ws block) ps t r) → ((block : List ℕ) → Split most notes (ws block) ps u s)
     → (r ≡ s) × ((n : ℕ) → r ≡ Ok n → (words_in notes n t ≡ words_in notes n u) × (places_in n t ≡ places_in n u))
 words_unique most notes ws ps t u r s a b =
