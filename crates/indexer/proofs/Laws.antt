@@ -1,5 +1,5 @@
 -- Piece by piece: written; and no more of them than bytes.
-use Rattle.std.proofs.Common.{Some, Ok, Err}
+use Rattle.std.proofs.Common.{Result, Ok, Err}
 use mathlib.Core.Path.{◌≡◌, refl, ap, ◌∙◌}
 use mathlib.Core.List.{List, [], ◌∷◌}
 use Prim.Native.Nat.{ℕ, ◌+◌, ◌-◌, ◌≤◌, ◌<◌}
@@ -14,9 +14,9 @@ use Rattle.pieces.specs.Pieces.{Piece, pieces}
 use Rattle.pieces.specs.declared.Paragraph.{Paragraph}
 use Rattle.paragraphs.specs.Cited.Steps.{words_for, takes, TextStepped}
 use Rattle.paragraphs.specs.declared.Cursor.{Cursor}
-use Rattle.paragraphs.specs.declared.Step.{Step}
+use Rattle.words.specs.declared.TooMany.{TooMany}
 use Rattle.walk.specs.Digest.{extent_of}
-use Rattle.walk.specs.Cited.Course.{Admitted, long_from, Put, CursorIn, TextAhead}
+use Rattle.walk.specs.Cited.Course.{Admitted, CursorIn, TextAhead}
 use Rattle.walk.proofs.Extents.{extents_are_notes, extents_some}
 use Rattle.walk.proofs.Loop.{going_first}
 use Rattle.walk.proofs.Steps.{begins_stepped, begins_over, begins_long}
@@ -26,20 +26,12 @@ use Rattle.indexer.specs.Cited.Noting.{PieceStepped}
 -- ---- a piece
 
 module _ (o : Options) (room : ℕ) where
-  pub text_stepped : (block notes : List ℕ) (c : Cursor) (p : Paragraph) → Admitted block notes o → CursorIn notes c → TextAhead block o notes c p → (out out' : List ℕ) (r : Step)
+  pub text_stepped : (block notes : List ℕ) (c : Cursor) (p : Paragraph) → Admitted block notes o → CursorIn notes c → TextAhead block o notes c p → (out out' : List ℕ) (r : Result Cursor TooMany)
       → TextStepped (takes o.quick (p.next - c.at) room room (length (words_for block notes c.at o p))) notes c.at o p out c.written out' r block → PieceStepped room (meant block o) notes out c out' r
   text_stepped block notes c p ready s b out out' (Ok d) w = begins_stepped block notes o c p ready b room room room out out' (Ok d) d (omega arith) (omega arith) w refl
-  text_stepped block notes c p ready s b out out' (Err (record { })) w =
-      let v = begins_over block notes o c p ready b room room out out' (Err (record { })) w refl in
+  text_stepped block notes c p ready s b out out' (Err many) w =
+      let v = begins_over block notes o c p ready b room room out out' (Err many) w refl in
       ((begins_long block notes o c p ready b room c out out (going_first room (meant block o) notes c out s) v.0).0, v.1)
-
--- in room for so many words
-module _ {room most : ℕ} (is : room ≡ most) (o : Opts) (notes out : List ℕ) (c : Cursor) (out' : List ℕ) (r : Step) (s : PieceStepped room o notes out c out' r) where
-  pub stepped_on : {d : Cursor} → r ≡ Ok d → Put most o notes out c d out'
-  stepped_on {d} e = let p : PieceStepped room o notes out c out' (Ok d) = rw e at s in rw (← is) p
-
-  pub stepped_over : r ≡ (Err (record { })) → (long_from most o c.mail notes c.at ≡ Some c.at) × (out' ≡ out)
-  stepped_over e = let p : PieceStepped room o notes out c out' (Err (record { })) = rw e at s in rw (← is) p
 
 -- ---- the number of records
 

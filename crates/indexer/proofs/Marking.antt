@@ -1,5 +1,5 @@
 -- What is spelled as the pieces are written: after the gaps of the pieces so far come those of the next.
-use Rattle.std.proofs.Common.{Some}
+use Rattle.std.proofs.Common.{Some, Ok}
 use mathlib.Core.Path.{◌≡◌, refl, sym, ap, ◌∙◌}
 use mathlib.Core.Bool.{Bool, true, false}
 use mathlib.Core.List.{List, [], ◌∷◌, ◌++◌, append_assoc, append-nil}
@@ -208,7 +208,7 @@ front_marks marks work few =
     ∙ marks_append (take marks work) (drop marks (front work))
 
 module _ (most : ℕ) (o : Opts) (notes out₀ : List ℕ) {c : Cursor} {out : List ℕ} (w : Going most o notes start out₀ c out) where
-  pub noted_all : {marks k line : ℕ} (work : List ℕ) → marks ≤ 65536 → Marking o notes (length out₀) marks c k line (take marks work) → length notes ≤ c.at → Noted most o notes out₀ out work (all_pieces c.written k)
+  pub noted_all : {marks k line : ℕ} (work : List ℕ) → marks ≤ 65536 → Marking o notes (length out₀) marks c k line (take marks work) → length notes ≤ c.at → Noted most o notes out₀ out work (Ok (record { written = c.written; pieces = k }))
   noted_all {marks} {k} {line} work few m h =
       let f = going_last most o notes w h in (
         sym (all_long most o notes) ∙ f.0,

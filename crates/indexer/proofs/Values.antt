@@ -1,5 +1,5 @@
 -- The number and the count of records that a reply tells, and that the number fits.
-use Rattle.std.proofs.Common.{Ok, Err}
+use Rattle.std.proofs.Common.{Result, Ok, Err}
 use mathlib.Core.Path.{◌≡◌, refl, ap, ◌∙◌}
 use mathlib.Core.Bool.{Bool, true, false, cond}
 use mathlib.Core.List.{List}
@@ -10,7 +10,8 @@ use lib.ListN.{length}
 use borrow.Author.Tests.{leb-true, ltb-false}
 use Rattle.options.specs.Opts.{Opts, meant}
 use Rattle.options.specs.OptionBlock.{read_block}
-use Rattle.options.specs.declared.Block.{Block}
+use Rattle.options.specs.declared.Options.{Options}
+use Rattle.options.specs.declared.Fault.{Fault}
 use Rattle.lists.specs.Coded.{numbered}
 use Rattle.formatter.specs.Answers.{done as written, room as noRoom, answer_coded}
 use Rattle.formatter.specs.Format.{Words, Limits, Finding, found, stopped, damage_in, with_text, with_block, finding, most_told, is_told, measured}
@@ -23,6 +24,7 @@ use Rattle.indexer.specs.Answers.{Indexed, done, refused, full, room, index_code
 use Rattle.indexer.specs.Indexing.{with_output, with_index, in_index, index_work, index_lending, index_under, indexing}
 use Rattle.indexer.specs.Cited.Noting.{told, filled_coded, told_filled, Indexes, Marked}
 use Rattle.indexer.specs.declared.Filled.{Filled}
+use Rattle.indexer.specs.declared.Unfilled.{Unfilled}
 use Rattle.indexer.specs.declared.Told.{Told}
 use Rattle.indexer.proofs.Laws.{few_records}
 
@@ -82,8 +84,8 @@ module _ (l : Limits) (sound : Sound l) (block notes : List ℕ) where
   notes_few d o true h k = absurd (let z : ◌≡◌ {A = ℕ} 0 1 = cc in omega arith)
   notes_few d o false h k = let f = ltb-false l.bytes (length notes) h in omega (arith, f, sound.short)
 
-  records_few : (d : List ℕ) (b : Block) → with_block l block notes b ≡ found d → length (index_under block notes b) ≤ most_told
-  records_few d (Err (record { at = place })) e = omega arith
+  records_few : (d : List ℕ) (b : Result Options Fault) → with_block l block notes b ≡ found d → length (index_under block notes b) ≤ most_told
+  records_few d (Err fault) e = omega arith
   records_few d (Ok o) e = let n = notes_few d (meant block o) (ltb l.bytes (length notes)) refl e in let f = few_records (meant block o) notes in omega (arith, n, f)
 
   pub indexed_value : (space records : ℕ) → (index_coded (indexing l block notes space records)).value ≤ most_told
@@ -153,12 +155,12 @@ module _ (block notes : List ℕ) where
 
 -- ---- what is told of an answer
 
-pub marked : {a : Indexed} {out out' table : List ℕ} {records filled' : ℕ} {r : Filled} {t : Told} → Indexes a out r out' table → filled_after a ≤ records
+pub marked : {a : Indexed} {out out' table : List ℕ} {records filled' : ℕ} {r : Result Filled Unfilled} {t : Told} → Indexes a out r out' table → filled_after a ≤ records
     → (t.answer ≡ numbered (filled_coded r)) × (t.records ≡ told_filled r) × (filled' ≡ told_filled r) → Marked a records out out' filled' table t
 marked {a} i h e =
     let count = e.1 ∙ ap told_filled i.is ∙ told_filled_law a in
     record {
-      answer = e.0 ∙ ap (λ (f : Filled). numbered (filled_coded f)) i.is ∙ ap numbered (told_coded a);
+      answer = e.0 ∙ ap (λ (q : Result Filled Unfilled). numbered (filled_coded q)) i.is ∙ ap numbered (told_coded a);
       output = i.output;
       filled = e.2 ∙ ap told_filled i.is ∙ told_filled_law a;
       count = count;

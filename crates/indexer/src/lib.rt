@@ -195,8 +195,7 @@ fn index_lent(
 {
     let marks = marks_for(notes.bytes.len());
     let Some(rest) = work.len().checked_sub(marks) else {
-        let needed = walk::work_over(notes, 0);
-        return Err(Unfilled::Refused(Refusal::Work(marks + needed)));
+        return Err(Unfilled::Refused(Refusal::Work(marks + walk::work_over(notes, 0))));
     };
     let needed = walk::work_over(notes, rest);
     if rest < needed {

@@ -10,21 +10,27 @@ use Rattle.indexer.proofs.index_lent.Goals as goal
 
 pub overflow_add-result : goal.overflow_add-result
 overflow_add-result c =
-    record { fits = lent_fits (meant c.args.block.now c.args.o) c.args.notes.now c.marks_for-marks.ensures (c.work_over.ensures ∙ zero-max (work_for (meant c.args.block.now c.args.o) c.args.notes.now)) c.requires.short }
+    let n = c.args.notes in
+    record { fits = lent_fits (meant n.block.now n.options) n.bytes.now c.marks_for-marks.ensures (c.work_over.ensures ∙ zero-max (work_for (meant n.block.now n.options) n.bytes.now)) n.admitted.short }
 
-pub returns-then-work-marks : goal.returns-then-work-marks
-returns-then-work-marks c =
-    lent_refused (meant c.args.block.now c.args.o) c.args.notes.now _ _ (length c.args.work.now) _ _ c.marks_for-marks.ensures _ _ (c.work_over.ensures ∙ zero-max (work_for (meant c.args.block.now c.args.o) c.args.notes.now)) (omega (arith, c.if-work-marks.true))
+pub returns-in_default : goal.returns-in_default
+returns-in_default c =
+    let n = c.args.notes in
+    lent_refused (meant n.block.now n.options) n.bytes.now _ _ (length c.args.work.now) _ _ c.marks_for-marks.ensures _ _ (c.work_over.ensures ∙ zero-max (work_for (meant n.block.now n.options) n.bytes.now)) (omega (arith, c.in_default.ensures))
 
 pub overflow_add-result-then-rest-needed : goal.overflow_add-result-then-rest-needed
 overflow_add-result-then-rest-needed c =
-    record { fits = lent_fits (meant c.args.block.now c.args.o) c.args.notes.now c.marks_for-marks.ensures (need_is _ _ _ c.work_over-needed.ensures c.if-rest-needed.true) c.requires.short }
+    let n = c.args.notes in
+    record { fits = lent_fits (meant n.block.now n.options) n.bytes.now c.marks_for-marks.ensures (need_is _ _ _ c.work_over-needed.ensures c.if-rest-needed.true) n.admitted.short }
 
 pub returns-then-rest-needed : goal.returns-then-rest-needed
 returns-then-rest-needed c =
-    lent_refused (meant c.args.block.now c.args.o) c.args.notes.now _ _ (length c.args.work.now) _ _ c.marks_for-marks.ensures _ _ (need_is _ _ _ c.work_over-needed.ensures c.if-rest-needed.true) (omega (arith, c.if-rest-needed.true, c.if-work-marks.false))
+    let n = c.args.notes in
+    lent_refused (meant n.block.now n.options) n.bytes.now _ _ (length c.args.work.now) _ _ c.marks_for-marks.ensures _ _ (need_is _ _ _ c.work_over-needed.ensures c.if-rest-needed.true) (omega (arith, c.if-rest-needed.true, c.in-Some.ensures))
 
 pub returns : goal.returns
 unfolding meant
 returns c =
-    lent_indexes (meant c.args.block.now c.args.o) c.args.notes.now _ _ (length c.args.work.now) _ _ c.marks_for-marks.ensures c.if-work-marks.false c.work_over-needed.ensures c.if-rest-needed.false c.index_with.ensures
+    let n = c.args.notes in
+    let e = c.in-Some.ensures in
+    lent_indexes (meant n.block.now n.options) n.bytes.now _ _ (length c.args.work.now) _ c.work_over-needed.result c.marks_for-marks.ensures e.0 (rw e.1 at c.work_over-needed.ensures) (omega (arith, c.if-rest-needed.false, e.1)) c.index_with.ensures

@@ -9,8 +9,10 @@ use Rattle.indexer.proofs.note_pieces.Given as goal
 
 abbrev pub invariant-loop-c : goal.invariant-loop-c
 invariant-loop-c l =
-    Going (room_for l.o.quick (l.end - l.marks)) (meant l.block l.o) l.notes start l.initial.out l.c l.out × Marking (meant l.block l.o) l.notes (length l.initial.out) l.marks l.c l.k l.line (take l.marks l.work)
-    × (length l.work ≡ length l.initial.work)
+    let n = l.notes in
+    let o = meant n.block.now n.options in
+    Going (room_for n.options.quick (l.end - l.marks)) o n.bytes.now start l.initial.out l.c l.out × Marking o n.bytes.now (length l.initial.out) l.marks l.c l.pieces l.line (take l.marks l.work)
+    × (length l.work ≡ length l.fn.work)
 
 abbrev pub decreases-loop-c : goal.decreases-loop-c
-decreases-loop-c l = length l.notes - l.c.at
+decreases-loop-c l = length l.notes.bytes.now - l.c.at

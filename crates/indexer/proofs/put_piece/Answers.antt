@@ -6,28 +6,30 @@ use Rattle.indexer.proofs.Laws.{text_stepped}
 use Rattle.indexer.proofs.put_piece.Goals as goal
 
 pub next_piece-requires : goal.next_piece-requires
-next_piece-requires c = let p = c.requires in (p.2, p.0.short, ready_usable _ _ _ p.0, ready_cleared _ _ _ p.0, λ k. p.1.sound (ready_sound _ _ _ p.0 k))
+next_piece-requires c =
+    let a = c.args.notes.admitted in
+    let p = c.requires in
+    (p.1, a.short, ready_usable _ _ _ a, ready_cleared _ _ _ a, λ k. p.0.sound (ready_sound _ _ _ a k))
 
 pub put_paragraph-requires : goal.put_paragraph-requires
 put_paragraph-requires c =
+    let a = c.args.notes.admitted in
     let p = c.requires in
-    let b = found_begins _ _ _ c.args.c _ p.2 c.next_piece.ensures c.in-Text.is in
-    (begins_placed _ _ _ _ _ p.0 b, omega (arith, p.0.short, p.1.within, p.1.bounded))
+    let b = found_begins _ _ _ c.args.c _ p.1 c.next_piece.ensures c.in-Text.is in
+    (begins_placed _ _ _ _ _ a b, omega (arith, a.short, p.0.within, p.0.bounded))
 
 pub returns-in-Blank : goal.returns-in-Blank
 returns-in-Blank c =
-    let p = c.requires in
-    let m = found_goes _ _ _ p.0 _ _ _ _ p.2 c.next_piece.ensures c.in-Blank.is in
+    let m = found_goes _ _ _ c.args.notes.admitted _ _ _ _ c.requires.1 c.next_piece.ensures c.in-Blank.is in
     blank_put _ _ _ _ _ _ _ _ m c.emit_line.ensures
 
 pub returns-in-Plain : goal.returns-in-Plain
 returns-in-Plain c =
-    let p = c.requires in
-    let m = found_goes _ _ _ p.0 _ _ _ _ p.2 c.next_piece.ensures c.in-Plain.is in
+    let m = found_goes _ _ _ c.args.notes.admitted _ _ _ _ c.requires.1 c.next_piece.ensures c.in-Plain.is in
     plain_put _ _ _ _ _ _ _ _ _ m c.emit_line-in-Plain.ensures refl (omega arith)
 
 pub returns-in-Text : goal.returns-in-Text
 returns-in-Text c =
-    let p = c.requires in
-    let b = found_begins _ _ _ c.args.c _ p.2 c.next_piece.ensures c.in-Text.is in
-    text_stepped _ _ _ _ _ _ p.0 p.1 b _ _ c.put_paragraph.result (rw c.room_for-most.ensures at (c.put_paragraph.ensures c.args.block.now))
+    let n = c.args.notes in
+    let b = found_begins _ _ _ c.args.c _ c.requires.1 c.next_piece.ensures c.in-Text.is in
+    text_stepped _ _ _ _ _ _ n.admitted c.requires.0 b _ _ c.put_paragraph.result (rw c.room_for-most.ensures at (c.put_paragraph.ensures n.block.now))

@@ -1,18 +1,15 @@
 -- `indexer::write_lent` meets its contract.
 use lib.ListN.{length}
-use Rattle.formatter.proofs.Refusals.{passed, refused}
+use Rattle.std.proofs.lemmas.Result.{err_from_is_err_and}
 use Rattle.indexer.specs.Indexing.{index_lending}
 use Rattle.indexer.proofs.Answers.{indexing_left, refused_answer}
 use Rattle.indexer.proofs.write_lent.Goals as goal
 
-pub index_lent-requires : goal.index_lent-requires
-index_lent-requires c =
-    let l = index_lending (length c.args.work.now) in (passed l _ _ (c.admit_within.ensures l.words) c.in-Passed.is).0
+pub returns-in_err-admitted : goal.returns-in_err-admitted
+returns-in_err-admitted c =
+    let l = index_lending (length c.args.work.now) in
+    let p = err_from_is_err_and c.from_residual.result c.from_residual.ensures.1 in
+    rw (p.1, p.2) (refused_answer l _ _ _ _ _ _ _ (c.in_err-admitted.ensures l.words))
 
-pub returns-in-Refused : goal.returns-in-Refused
-returns-in-Refused c =
-    let l = index_lending (length c.args.work.now) in refused_answer l _ _ _ _ _ _ _ (refused l _ _ (c.admit_within.ensures l.words) c.in-Refused.is)
-
-pub returns-in-Passed : goal.returns-in-Passed
-returns-in-Passed c =
-    let l = index_lending (length c.args.work.now) in rw (indexing_left l _ _ _ _ _ (passed l _ _ (c.admit_within.ensures l.words) c.in-Passed.is)) c.index_lent.ensures
+pub returns : goal.returns
+returns c = let l = index_lending (length c.args.work.now) in rw (indexing_left l _ _ c.in_ok-admitted.admitted _ _ (c.in_ok-admitted.ensures l.words)) c.index_lent.ensures
