@@ -81,7 +81,9 @@ def copied(crate, folder):
 
 
 def function(file, number):
-    """The function of a source file that a line belongs to."""
-    lines = file.read_text(encoding="utf-8").splitlines()[:number] if file.is_file() else []
-    names = [found.group(1) for found in (re.match(r"\s*(?:pub )?(?:extern \"C\" )?fn (\w+)", line) for line in lines) if found]
+    """The function of a source file that a line belongs to; an attribute belongs to the function below it."""
+    lines = file.read_text(encoding="utf-8").splitlines() if file.is_file() else []
+    while number <= len(lines) and lines[number - 1].lstrip().startswith("#["):
+        number += 1
+    names = [found.group(1) for found in (re.match(r"\s*(?:pub )?(?:extern \"C\" )?fn (\w+)", line) for line in lines[:number]) if found]
     return names[-1] if names else ""

@@ -35,12 +35,12 @@ pub struct Break {
 }
 
 // What a round goes by: its word and the word's number, the space that is added before it, what it weighs in the cost of a break after
-// it, and whether it is the last.
+// it, and whether it is the last. (With a space of eight bytes a round would be over 128, and be copied by `memcpy`, which a host may not have.)
 #[derive(Clone, Copy, Debug, PartialEq, Eq)]
 pub struct Turn {
     pub word: Word,
     pub number: usize,
-    pub space: usize,
+    pub space: u8,
     pub weight: u16,
     pub last: bool,
 }

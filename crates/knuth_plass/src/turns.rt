@@ -25,7 +25,7 @@ pub fn round_of(g: Goals, word: Word, number: usize, space: usize, last: bool) -
     let turn = Turn {
         word,
         number,
-        space,
+        space: space as u8,
         weight: demerits::word_term(g.stretch(), word.width),
         last,
     };
@@ -90,10 +90,10 @@ fn reach_by_tab(r: Round, b: Break) -> usize
 {
     let w = r.turn.word;
     if b.fresh {
-        return b.columns + r.turn.space + w.width;
+        return b.columns + usize::from(r.turn.space) + w.width;
     }
     let gap = spacing::gap_width(r.goals.setting.tab, b.columns, w.before, w.after);
-    b.columns + gap + r.turn.space + w.width
+    b.columns + gap + usize::from(r.turn.space) + w.width
 }
 
 // The columns of the line with the word on it. The added space counts on a fresh line too. Without a tab every line grows by the same.
@@ -105,7 +105,7 @@ pub fn reach(r: Round, b: Break) -> usize
     if w.before.is_some() {
         return reach_by_tab(r, b);
     }
-    let bare = r.turn.space + w.width;
+    let bare = usize::from(r.turn.space) + w.width;
     b.columns + either(b.fresh, bare, w.after + bare)
 }
 

@@ -1,13 +1,13 @@
 -- What is written after what: the copy and the list, a byte, a line, notes.
 use mathlib.Core.Path.{◌≡◌, refl, sym, ap, ◌∙◌}
 use mathlib.Core.Bool.{true}
-use mathlib.Core.List.{List, [], ◌∷◌, ◌++◌, map, append_assoc}
+use mathlib.Core.List.{List, [], ◌∷◌, ◌++◌, map}
 use Prim.Native.Nat.{ℕ, suc, ◌+◌, ◌-◌, ◌/◌, ◌%◌, ◌≤◌, ◌<◌}
 use native.Mathlib.Omega.{arith}
 use native.Mathlib.Nat.{add-zero, add-suc, suc-add}
 use native.Mathlib.Numerals.{add-one}
 use lib.ListN.{length, get_or, take, drop, set, length-append}
-use lib.Seq.{sets, sets-eq, length-sets, drop-drop}
+use lib.Seq.{sets, length-sets}
 use Rattle.lists.specs.Runs.{joined}
 use Rattle.lists.proofs.Parts.{joined_nil, joined_cons}
 use Rattle.lists.proofs.Views.{drop_here, drop_none}
@@ -22,11 +22,10 @@ pub sets_append : {A : Type 0} (l : List A) (k : ℕ) (xs ys : List A) → sets 
 sets_append l k [] ys = rw add-zero
 sets_append l k (x ∷ xs) ys = rw (add-suc k (length xs), ← suc-add k (length xs)) (sets_append (set l k x) (suc k) xs ys)
 
--- a part of a list, in whose place a text was copied
-pub text_stored : (text out ys : List ℕ) (at : ℕ) → at + length text ≤ length out → ys ≡ text → take at out ++ (ys ++ drop (at + length text - at) (drop at out)) ≡ sets out at text
-text_stored text out ys at h e =
-    let n : at + length text - at ≡ length text = omega arith in
-    rw (e, n, drop-drop (length text) at out) (sym (sets-eq text out at h ∙ append_assoc (take at out) text (drop (at + length text) out)))
+-- a text that is stored from its front on, up to its place i
+pub record Storing (text out₀ : List ℕ) (at : ℕ) (out : List ℕ) (i : ℕ) : Type 0 where
+  pub within : i ≤ length text
+  pub left : sets out (at + i) (drop i text) ≡ sets out₀ at text
 
 map_append : {A B : Type 0} (f : A → B) (xs ys : List A) → map f (xs ++ ys) ≡ map f xs ++ map f ys
 map_append f [] ys = refl

@@ -263,13 +263,14 @@ fn put_byte(
     n + 1
 }
 
-// A text, written as it is from a place on.
+// A text, written as it is from a place on: `copy_from_slice` would call `memmove`, which a host may not have.
 fn put_text(text: &[u8], out: &mut [u8], at: usize)
     requires { at + length text.now ≤ length out.old }
     ensures { out.new ≡ sets out.old at text.now }
 {
-    let end = at + text.len();
-    out[at..end].copy_from_slice(text);
+    for i in 0..text.len() {
+        out[at + i] = text[i];
+    }
 }
 
 // ---- the way back

@@ -92,8 +92,7 @@ fn put_from(text: Text, out: &mut [u8]) -> Result<usize, Stopped>
 pub fn measure_all(notes: Notes) -> Result<usize, Stopped>
     ensures { Finished most_words (meant notes.entry.block.now notes.entry.options) notes.entry.bytes.now [] [] result }
 {
-    let mut none = [0u8; 0];
-    put_all(notes, &mut none)
+    put_all(notes, &mut [])
 }
 
 // The same in room that is lent, of which there is enough for every paragraph.

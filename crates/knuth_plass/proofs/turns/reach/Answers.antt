@@ -6,5 +6,6 @@ use Rattle.knuth_plass.proofs.turns.reach.Goals as goal
 pub returns : goal.returns
 returns c =
     let a = c.args in
-    let h = plain_small a.b.fresh a.r.turn.space a.r.turn.word.width a.r.turn.word.after c.either.result c.either.ensures in
-    (line_plain a.r.goals.setting a.r.turn a.b _ (no_tab _ _ c.is_some.ensures c.if-is_some.false) c.either.ensures, omega arith)
+    let e = rw c.from.ensures at c.either.ensures in
+    let h = plain_small a.b.fresh a.r.turn.space a.r.turn.word.width a.r.turn.word.after c.either.result e in
+    (line_plain a.r.goals.setting a.r.turn a.b _ (no_tab _ _ c.is_some.ensures c.if-is_some.false) e, omega arith)
