@@ -92,9 +92,9 @@ fn first_least(breaks: &[u32], head: usize, size: usize) -> usize
 }
 
 // The best offer of a break after the word. Bases ascend: after a line that is too short to end here all are.
-fn best_offer(breaks: &[u32], r: Round, x: usize, head: usize, size: usize) -> Best
-    requires { I.Stay r.goals.setting r.turn x head size (T.table_in breaks.now) }
-    ensures { I.BestOffered r.goals.setting r.turn x head size (T.table_in breaks.now) result }
+fn best_offer(breaks: &[u32], r: &Round, x: usize, head: usize, size: usize) -> Best
+    requires { I.Stay r.now.goals.setting r.now.turn x head size (T.table_in breaks.now) }
+    ensures { I.BestOffered r.now.goals.setting r.now.turn x head size (T.table_in breaks.now) result }
 {
     let minimum = r.goals.minimum();
     let end = x + r.goals.setting.indent;
@@ -143,9 +143,9 @@ fn base_of(before: bool, x: usize, width: usize, gap: usize) -> usize
 
 // Nothing stays: the break that begins again, from the first least one. On the endless line p columns were before the word.
 // In the original: `restart_active_breaks`.
-fn again(breaks: &[u32], r: Round, s: Interval, x: usize, gap: usize) -> Break
-    requires { I.Leaves r.goals.setting r.turn x gap s (T.table_in breaks.now) }
-    ensures { I.AgainIs r.goals.setting r.turn x gap s (T.table_in breaks.now) result }
+fn again(breaks: &[u32], r: &Round, s: Interval, x: usize, gap: usize) -> Break
+    requires { I.Leaves r.now.goals.setting r.now.turn x gap s (T.table_in breaks.now) }
+    ensures { I.AgainIs r.now.goals.setting r.now.turn x gap s (T.table_in breaks.now) result }
 {
     let w = r.turn.word;
     let n = first_least(breaks, s.head, s.size);
@@ -192,7 +192,7 @@ fn round(
     let head = pass(breaks, g, line, s.head, size);
     if head == size {
         let r = round_of(g, word, i, space, last);
-        let b = again(breaks, r, s, line, gap);
+        let b = again(breaks, &r, s, line, gap);
         store_break(breaks, size, b);
         return Interval {
             head: size,
@@ -208,7 +208,7 @@ fn round(
         return Interval { head, size, line };
     }
     let r = round_of(g, word, i, space, last);
-    let best = best_offer(breaks, r, line, head, size);
+    let best = best_offer(breaks, &r, line, head, size);
     let b = made(best, i, line + gap);
     store_break(breaks, size, b);
     Interval {

@@ -72,9 +72,9 @@ fn keep(breaks: &mut [u32], n: usize, b: Break, t: usize, s: State, best: Best) 
 // One turn of a round: the k-th active break loses the reduction and gets the word on its line. It stays active, and may offer, where
 // the line is no longer than the width.
 // In the original: `find_kp_breakpoints`.
-fn visit(r: Round, st: Standing, breaks: &mut [u32], k: usize, s: State) -> State
-    requires { R.Fit r.turn st k (T.table_in breaks.old) (T.active_in breaks.old) s × (k < st.count) }
-    ensures { R.Fit r.turn st (k + 1) (T.table_in breaks.new) (T.active_in breaks.new) result × ((z : R.Outcome) → R.RoundGoes r.goals.setting r.turn st z k (T.table_in breaks.old) (T.active_in breaks.old) s → R.RoundGoes r.goals.setting r.turn st z (k + 1) (T.table_in breaks.new) (T.active_in breaks.new) result) }
+fn visit(r: &Round, st: Standing, breaks: &mut [u32], k: usize, s: State) -> State
+    requires { R.Fit r.now.turn st k (T.table_in breaks.old) (T.active_in breaks.old) s × (k < st.count) }
+    ensures { R.Fit r.now.turn st (k + 1) (T.table_in breaks.new) (T.active_in breaks.new) result × ((z : R.Outcome) → R.RoundGoes r.now.goals.setting r.now.turn st z k (T.table_in breaks.old) (T.active_in breaks.old) s → R.RoundGoes r.now.goals.setting r.now.turn st z (k + 1) (T.table_in breaks.new) (T.active_in breaks.new) result) }
 {
     let n = active(breaks, k);
     let b = lessened(get_break(breaks, n), st.reduction);
@@ -93,9 +93,9 @@ fn visit(r: Round, st: Standing, breaks: &mut [u32], k: usize, s: State) -> Stat
 
 // A round over all active breaks.
 // In the original: `find_kp_breakpoints`.
-pub fn advance(r: Round, st: Standing, breaks: &mut [u32]) -> State
-    requires { (r.turn.number < length (T.table_in breaks.old)) × R.RoundReady r.turn.number st (T.table_in breaks.old) (T.active_in breaks.old) }
-    ensures { R.Fit r.turn st st.count (T.table_in breaks.new) (T.active_in breaks.new) result × ((notes : List ℕ) → R.Done r.goals.setting r.turn st (map (reduced st.reduction) (R.breaks_listed st.count (T.table_in breaks.old) (T.active_in breaks.old))) (T.table_in breaks.new) (T.active_in breaks.new) result notes) }
+pub fn advance(r: &Round, st: Standing, breaks: &mut [u32]) -> State
+    requires { (r.now.turn.number < length (T.table_in breaks.old)) × R.RoundReady r.now.turn.number st (T.table_in breaks.old) (T.active_in breaks.old) }
+    ensures { R.Fit r.now.turn st st.count (T.table_in breaks.new) (T.active_in breaks.new) result × ((notes : List ℕ) → R.Done r.now.goals.setting r.now.turn st (map (reduced st.reduction) (R.breaks_listed st.count (T.table_in breaks.old) (T.active_in breaks.old))) (T.table_in breaks.new) (T.active_in breaks.new) result notes) }
 {
     let first = active(breaks, 0);
     let b = lessened(get_break(breaks, first), st.reduction);
@@ -122,9 +122,9 @@ fn append(breaks: &mut [u32], size: usize, kept: usize, b: Break)
 
 // The end of a round: the best offer becomes one break more; where nothing stays, one break begins again.
 // In the original: `find_kp_breakpoints`.
-pub fn settle(r: Round, st: Standing, breaks: &mut [u32], s: State) -> Standing
-    requires { R.Fit r.turn st st.count (T.table_in breaks.old) (T.active_in breaks.old) s }
-    ensures { R.Settled r.goals.setting r.turn st (T.table_in breaks.old) (T.active_in breaks.old) s (T.table_in breaks.new) (T.active_in breaks.new) result }
+pub fn settle(r: &Round, st: Standing, breaks: &mut [u32], s: State) -> Standing
+    requires { R.Fit r.now.turn st st.count (T.table_in breaks.old) (T.active_in breaks.old) s }
+    ensures { R.Settled r.now.goals.setting r.now.turn st (T.table_in breaks.old) (T.active_in breaks.old) s (T.table_in breaks.new) (T.active_in breaks.new) result }
 {
     let kept = s.kept;
     let best = s.best;
@@ -180,8 +180,8 @@ fn round(
     // Not the spacing that is written later: the previous word's punctuation does not count here.
     let space = spacing::added_space(g.setting.uniform, word.first, sentence, false);
     let r = round_of(g, word, i, space, last);
-    let s = advance(r, st, breaks);
-    settle(r, st, breaks, s)
+    let s = advance(&r, st, breaks);
+    settle(&r, st, breaks, s)
 }
 
 // The paragraph's start: its one break is active, and the line that it begins has the first word.

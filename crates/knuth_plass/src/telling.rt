@@ -52,9 +52,9 @@ fn chosen(g: Goals, weight: u16, breaks: &[u32], kept: usize, total: u64) -> End
 }
 
 // The break that begins again where nothing stays is before the word or after it.
-fn forced(r: Round, st: Standing, breaks: &[u32], from: usize) -> Ending
-    requires { W.From r.turn st from (T.table_in breaks.now) }
-    ensures { W.ForcedIs r.goals.setting r.turn (R.lessened st.reduction (T.break_in (T.table_in breaks.now) from)) result }
+fn forced(r: &Round, st: Standing, breaks: &[u32], from: usize) -> Ending
+    requires { W.From r.now.turn st from (T.table_in breaks.now) }
+    ensures { W.ForcedIs r.now.goals.setting r.now.turn (R.lessened st.reduction (T.break_in (T.table_in breaks.now) from)) result }
 {
     let least = lessened(get_break(breaks, from), st.reduction);
     let b = restarted(r, from, least);
@@ -66,9 +66,9 @@ fn forced(r: Round, st: Standing, breaks: &[u32], from: usize) -> Ending
 }
 
 // What makes the break of a round, when all active breaks have the word on their lines.
-fn maker(r: Round, st: Standing, breaks: &[u32], s: State) -> Ending
-    requires { R.Fit r.turn st st.count (T.table_in breaks.now) (T.active_in breaks.now) s }
-    ensures { W.MakerIs r.goals.setting r.turn st (T.table_in breaks.now) (T.active_in breaks.now) s result }
+fn maker(r: &Round, st: Standing, breaks: &[u32], s: State) -> Ending
+    requires { R.Fit r.now.turn st st.count (T.table_in breaks.now) (T.active_in breaks.now) s }
+    ensures { W.MakerIs r.now.goals.setting r.now.turn st (T.table_in breaks.now) (T.active_in breaks.now) s result }
 {
     if s.best.total < NOTHING {
         if r.turn.last {
@@ -98,10 +98,10 @@ fn told_round(
 {
     let space = spacing::added_space(g.setting.uniform, word.first, sentence, false);
     let r = round_of(g, word, i, space, last);
-    let s = advance(r, st, breaks);
-    let ending = maker(r, st, breaks, s);
+    let s = advance(&r, st, breaks);
+    let ending = maker(&r, st, breaks, s);
     Told {
-        st: settle(r, st, breaks, s),
+        st: settle(&r, st, breaks, s),
         ending,
     }
 }

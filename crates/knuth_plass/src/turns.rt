@@ -84,9 +84,9 @@ fn better(best: Best, previous: usize, total: u64, ratio: f32) -> Best
 }
 
 // The columns of the line with the word on it, where a tab is in the gap before the word.
-fn reach_by_tab(r: Round, b: Break) -> usize
+fn reach_by_tab(r: &Round, b: Break) -> usize
     requires { b.columns < 2 ^ 32 }
-    ensures { (result ≡ R.line_at r.goals.setting r.turn b) × (result < 2 ^ 36) }
+    ensures { (result ≡ R.line_at r.now.goals.setting r.now.turn b) × (result < 2 ^ 36) }
 {
     let w = r.turn.word;
     if b.fresh {
@@ -97,9 +97,9 @@ fn reach_by_tab(r: Round, b: Break) -> usize
 }
 
 // The columns of the line with the word on it. The added space counts on a fresh line too. Without a tab every line grows by the same.
-pub fn reach(r: Round, b: Break) -> usize
+pub fn reach(r: &Round, b: Break) -> usize
     requires { b.columns < 2 ^ 32 }
-    ensures { (result ≡ R.line_at r.goals.setting r.turn b) × (result < 2 ^ 36) }
+    ensures { (result ≡ R.line_at r.now.goals.setting r.now.turn b) × (result < 2 ^ 36) }
 {
     let w = r.turn.word;
     if w.before.is_some() {
@@ -124,9 +124,9 @@ fn floor(stretch: usize, weight: u16) -> u64
 
 // What break n, with the word on its line of t columns, no less than the least that may end, makes of the best offer so far.
 // In the original: `find_kp_breakpoints`.
-pub fn offered(r: Round, n: usize, b: Break, t: usize, best: Best) -> Best
-    requires { R.Offers r.goals.setting r.turn b t × (minimum_of r.goals.setting ≤ t) }
-    ensures { R.OfferedIs r.goals.setting r.turn n b t best result }
+pub fn offered(r: &Round, n: usize, b: Break, t: usize, best: Best) -> Best
+    requires { R.Offers r.now.goals.setting r.now.turn b t × (minimum_of r.now.goals.setting ≤ t) }
+    ensures { R.OfferedIs r.now.goals.setting r.now.turn n b t best result }
 {
     if r.turn.last {
         // The last line costs nothing, but a break that is not among the least offers none.
@@ -147,9 +147,9 @@ pub fn offered(r: Round, n: usize, b: Break, t: usize, best: Best) -> Best
 
 // The break that begins again where nothing stays, from break n: before the word where that is the lesser evil, and never on a fresh line.
 // In the original: `restart_active_breaks`.
-pub fn restarted(r: Round, n: usize, least: Break) -> Break
+pub fn restarted(r: &Round, n: usize, least: Break) -> Break
     requires { least.columns < 2 ^ 32 }
-    ensures { R.Restarted r.goals.setting r.turn n least result }
+    ensures { R.Restarted r.now.goals.setting r.now.turn n least result }
 {
     let g = r.goals;
     let t = reach(r, least);

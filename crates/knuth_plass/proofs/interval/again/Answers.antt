@@ -6,5 +6,5 @@ use Rattle.knuth_plass.proofs.interval.again.Goals as goal
 pub returns : goal.returns
 returns c =
     let a = c.args in
-    again_from a.r.goals.setting a.r.turn a.x a.gap a.s (table_in a.breaks.now) c.requires _ c.first_least-n.ensures _ _ _ _ _
+    again_from a.r.now.goals.setting a.r.now.turn a.x a.gap a.s (table_in a.breaks.now) c.requires _ c.first_least-n.ensures _ _ _ _ _
     c.get_break.ensures c.viewed-least.ensures c.restarted-b.ensures c.base_of.ensures c.extended.ensures

@@ -11,7 +11,7 @@ pub loop-k-init : goal.loop-k-init
 loop-k-init c =
     let a = c.args in
     let p = c.requires in
-    (λ h. absurd (omega arith), λ notes gap. offers_begin (a.x + gap) a.r.turn.number (table_in a.breaks.now) _ (omega arith) _)
+    (λ h. absurd (omega arith), λ notes gap. offers_begin (a.x + gap) a.r.now.turn.number (table_in a.breaks.now) _ (omega arith) _)
 
 pub returns-then-t-minimum : goal.returns-then-t-minimum
 returns-then-t-minimum c =
@@ -23,7 +23,7 @@ returns-then-t-minimum c =
     let e = columns_meant table l.k _ c.get_break-b.ensures in
     let h = c.if-t-minimum.true in
     record {
-      is = λ notes gap. sym (offers_stop a.r.goals.setting table a.x l.k a.size t a.r.turn.number gap (meaning notes a.r.turn.word) _ (omega arith)) ∙ v.1 notes gap;
+      is = λ notes gap. sym (offers_stop a.r.now.goals.setting table a.x l.k a.size t a.r.now.turn.number gap (meaning notes a.r.now.turn.word) _ (omega arith)) ∙ v.1 notes gap;
       fits = v.0;
     }
 
@@ -40,7 +40,7 @@ loop-k-preserved c =
     let h = c.if-t-minimum.false in
     let o = c.offered-best.ensures in (
       o.fits a.size t v.0,
-      λ notes gap. offers_next a.r.goals.setting a.r.turn table a.x l.k a.size t p.inner notes gap l.best c.offered-best.result _ _ c.get_break-b.ensures (omega arith) (omega arith) o ∙ v.1 notes gap,
+      λ notes gap. offers_next a.r.now.goals.setting a.r.now.turn table a.x l.k a.size t p.inner notes gap l.best c.offered-best.result _ _ c.get_break-b.ensures (omega arith) (omega arith) o ∙ v.1 notes gap,
     )
 
 pub returns : goal.returns
@@ -49,6 +49,6 @@ returns c =
     let l = c.loop-k in
     let v = l.invariant in
     record {
-      is = λ notes gap. sym (offers_end (table_in a.breaks.now) l.k a.size c.loop-k-test.false a.r.goals.setting a.r.turn.number a.x gap (meaning notes a.r.turn.word) _) ∙ v.1 notes gap;
+      is = λ notes gap. sym (offers_end (table_in a.breaks.now) l.k a.size c.loop-k-test.false a.r.now.goals.setting a.r.now.turn.number a.x gap (meaning notes a.r.now.turn.word) _) ∙ v.1 notes gap;
       fits = v.0;
     }

@@ -6,14 +6,14 @@ use Rattle.knuth_plass.proofs.Over.{first_room, fit_first, goes_first, fit_end, 
 use Rattle.knuth_plass.proofs.listed.advance.Goals as goal
 
 pub get_break-requires : goal.get_break-requires
-get_break-requires c = let a = c.args in let p = c.requires in first_room a.r.goals.setting a.r.turn a.st (table_in a.breaks.now) (active_in a.breaks.now) p.0 p.1 _ c.active-first.ensures
+get_break-requires c = let a = c.args in let p = c.requires in first_room a.r.now.goals.setting a.r.now.turn a.st (table_in a.breaks.now) (active_in a.breaks.now) p.0 p.1 _ c.active-first.ensures
 
 pub loop-k-init : goal.loop-k-init
 loop-k-init c =
     let a = c.args in
     let p = c.requires in
     let is = c.lessened-b.ensures ∙ ap (lessened a.st.reduction) c.get_break.ensures in
-    (refl, fit_first a.r.goals.setting a.r.turn a.st (table_in a.breaks.now) (active_in a.breaks.now) p.0 p.1 _ c.active-first.ensures _ _ is, goes_first a.r.goals.setting a.r.turn a.st (table_in a.breaks.now) (active_in a.breaks.now) p.0 p.1 _ c.active-first.ensures _ _ is)
+    (refl, fit_first a.r.now.goals.setting a.r.now.turn a.st (table_in a.breaks.now) (active_in a.breaks.now) p.0 p.1 _ c.active-first.ensures _ _ is, goes_first a.r.now.goals.setting a.r.now.turn a.st (table_in a.breaks.now) (active_in a.breaks.now) p.0 p.1 _ c.active-first.ensures _ _ is)
 
 pub returns : goal.returns
 returns c =

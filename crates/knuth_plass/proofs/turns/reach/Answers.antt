@@ -7,5 +7,5 @@ pub returns : goal.returns
 returns c =
     let a = c.args in
     let e = rw c.from.ensures at c.either.ensures in
-    let h = plain_small a.b.fresh a.r.turn.space a.r.turn.word.width a.r.turn.word.after c.either.result e in
-    (line_plain a.r.goals.setting a.r.turn a.b _ (no_tab _ _ c.is_some.ensures c.if-is_some.false) e, omega arith)
+    let h = plain_small a.b.fresh a.r.now.turn.space a.r.now.turn.word.width a.r.now.turn.word.after c.either.result e in
+    (line_plain a.r.now.goals.setting a.r.now.turn a.b _ (no_tab _ _ c.is_some.ensures c.if-is_some.false) e, omega arith)
