@@ -11,7 +11,7 @@ ghost use Rattle.formatter.specs.Format.{Words, own_room, damage_in, with_digest
 ghost use Rattle.formatter.specs.Work.{lending};
 ghost use Rattle.formatter.specs.declared.Refusal.TheVariants.{Options as Faulty, Words as Many};
 ghost use Rattle.formatter.specs.declared.Unwritten.TheVariants.{Refused};
-ghost use Rattle.formatter.specs.Cited.Call.{told, unwritten_coded, Answers, left_of, AdmitsNotes, Admits, AdmitsWithin, AdmitsLent};
+ghost use Rattle.formatter.specs.Cited.Call.{told, unwritten_coded, Answers, left_of, AdmitsNotes, Admits, AdmitsWithin, AdmitsLent, Given};
 
 use lists::Refusing;
 use options::{Fault, Options};
@@ -111,7 +111,8 @@ pub fn write(block: &[u8], notes: &[u8], out: &mut [u8]) -> Result<usize, Unwrit
 
 // Codes 1 to 3, or the notes with the options with which they are to be formatted.
 pub fn admit<'a>(block: &'a [u8], notes: &'a [u8]) -> Result<Notes<'a>, Refusal>
-    ensures { Admits own_room block.now notes.now result }
+    ensures admits { Admits own_room block.now notes.now result }
+    ensures given { Given block.entry notes.entry result }
 {
     admit_within(block, notes, MOST_BYTES)
 }
@@ -124,7 +125,8 @@ pub const MOST_LARGE: usize = 1048576;
 // The same with notes of up to so many bytes.
 pub fn admit_within<'a>(block: &'a [u8], notes: &'a [u8], most: usize) -> Result<Notes<'a>, Refusal>
     requires { most ≤ most_large }
-    ensures { AdmitsWithin most block.now notes.now result }
+    ensures admits { AdmitsWithin most block.now notes.now result }
+    ensures given { Given block.entry notes.entry result }
 {
     let options = options::read_block(block)?;
     refuse_notes(options, notes, most)?;
@@ -206,7 +208,8 @@ pub fn write_lent(
 
 // Codes 1 to 3 and 12, or the notes with the options with which they are to be formatted, in so many numbers. All of it before a byte is written.
 pub fn admit_lent<'a>(block: &'a [u8], notes: &'a [u8], lends: usize) -> Result<Notes<'a>, Refusal>
-    ensures { AdmitsLent lends block.now notes.now result }
+    ensures admits { AdmitsLent lends block.now notes.now result }
+    ensures given { Given block.entry notes.entry result }
 {
     let admitted = admit_within(block, notes, MOST_LARGE)?;
     let needed = walk::work_over(admitted, lends);

@@ -14,12 +14,12 @@ returns-then-is_unfit c =
 pub returns-in_err-admitted : goal.returns-in_err-admitted
 returns-in_err-admitted c =
     let p = err_from_is_err_and c.from_residual.result c.from_residual.ensures.1 in
-    rw (p.1, p.2) (refused_answer own_room own_room_sound _ _ (sym c.is_unfit.ensures ∙ c.if-is_unfit.false) _ c.admit.ensures c.in_err-admitted.was)
+    rw (p.1, p.2) (refused_answer own_room own_room_sound _ _ (sym c.is_unfit.ensures ∙ c.if-is_unfit.false) _ c.admit.ensures.admits c.in_err-admitted.was)
 
 pub send_notes-requires : goal.send_notes-requires
 send_notes-requires c =
-    rw c.mailed.ensures (passed_ready own_room own_room_sound _ _ (sym c.is_unfit.ensures ∙ c.if-is_unfit.false) c.admit.ensures c.in_ok-admitted.was)
+    rw c.mailed.ensures (passed_ready own_room own_room_sound _ _ (sym c.is_unfit.ensures ∙ c.if-is_unfit.false) c.admit.ensures.admits c.in_ok-admitted.was)
 
 pub returns : goal.returns
 returns c =
-    passed_answer own_room own_room_sound _ _ (sym c.is_unfit.ensures ∙ c.if-is_unfit.false) c.admit.ensures c.in_ok-admitted.was _ _ (rw c.mailed.ensures at c.send_notes.ensures)
+    passed_answer own_room own_room_sound _ _ (sym c.is_unfit.ensures ∙ c.if-is_unfit.false) c.admit.ensures.admits c.in_ok-admitted.was _ _ (rw c.mailed.ensures at c.send_notes.ensures)

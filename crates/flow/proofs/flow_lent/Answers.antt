@@ -15,12 +15,12 @@ returns-then-is_unfit c =
 pub returns-in_err-admitted : goal.returns-in_err-admitted
 returns-in_err-admitted c =
     let p = err_from_is_err_and c.from_residual.result c.from_residual.ensures.1 in
-    rw (p.1, p.2) (refused_answer (lending (length c.args.work.now)) (lending_sound (length c.args.work.now)) _ _ (sym c.is_unfit.ensures ∙ c.if-is_unfit.false) _ (c.admit_within.ensures (lending (length c.args.work.now)).words) c.in_err-admitted.was)
+    rw (p.1, p.2) (refused_answer (lending (length c.args.work.now)) (lending_sound (length c.args.work.now)) _ _ (sym c.is_unfit.ensures ∙ c.if-is_unfit.false) _ (c.admit_within.ensures.admits (lending (length c.args.work.now)).words) c.in_err-admitted.was)
 
 pub send_large-requires : goal.send_large-requires
 send_large-requires c =
-    rw c.mailed.ensures (passed_ready (lending (length c.args.work.now)) (lending_sound (length c.args.work.now)) _ _ (sym c.is_unfit.ensures ∙ c.if-is_unfit.false) (c.admit_within.ensures (lending (length c.args.work.now)).words) c.in_ok-admitted.was)
+    rw c.mailed.ensures (passed_ready (lending (length c.args.work.now)) (lending_sound (length c.args.work.now)) _ _ (sym c.is_unfit.ensures ∙ c.if-is_unfit.false) (c.admit_within.ensures.admits (lending (length c.args.work.now)).words) c.in_ok-admitted.was)
 
 pub returns : goal.returns
 returns c =
-    passed_answer (lending (length c.args.work.now)) (lending_sound (length c.args.work.now)) _ _ (sym c.is_unfit.ensures ∙ c.if-is_unfit.false) (c.admit_within.ensures (lending (length c.args.work.now)).words) c.in_ok-admitted.was _ _ (rw c.mailed.ensures at c.send_large.ensures)
+    passed_answer (lending (length c.args.work.now)) (lending_sound (length c.args.work.now)) _ _ (sym c.is_unfit.ensures ∙ c.if-is_unfit.false) (c.admit_within.ensures.admits (lending (length c.args.work.now)).words) c.in_ok-admitted.was _ _ (rw c.mailed.ensures at c.send_large.ensures)

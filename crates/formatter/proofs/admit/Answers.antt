@@ -2,5 +2,5 @@
 use Rattle.formatter.specs.Format.{own_room}
 use Rattle.formatter.proofs.admit.Goals as goal
 
-pub returns : goal.returns
-returns c = c.admit_within.ensures own_room.words
+pub returns-clause-admits : goal.returns-clause-admits
+returns-clause-admits c = c.admit_within.ensures.admits own_room.words

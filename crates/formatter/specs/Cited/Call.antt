@@ -1,4 +1,5 @@
 -- What the functions of the calls answer for: the code's answer, and what is told before any piece is looked at.
+use denote.Bor.{Bor}
 use Rattle.std.specs.Prelude.{◌≡◌, false, List, ℕ, ◌≤◌, length, None, Result, Ok, Err}
 use Rattle.lists.specs.Coded.{Coded, coded}
 use Rattle.text.specs.Characters.{damage}
@@ -48,7 +49,7 @@ abbrev pub AdmitsNotes : Limits → List ℕ → Options → List ℕ → Result
 AdmitsNotes l block o notes (Err r) = Refuses 3 (with_notes l (meant block o) notes) r
 AdmitsNotes l block o notes (Ok t) = (length notes ≤ l.bytes) × (with_notes l (meant block o) notes ≡ within l.words (meant block o) notes) × (o.keep ≡ false → damage notes ≡ None)
 
--- these are the block and the notes that were given
+-- these are the bytes of the block and the notes that were given
 abbrev pub Of : List ℕ → List ℕ → Notes → Type 0
 Of block notes n = (n.block.now ≡ block) × (n.bytes.now ≡ notes)
 
@@ -66,3 +67,9 @@ abbrev pub AdmitsLent : ℕ → List ℕ → List ℕ → Result Notes Refusal �
 AdmitsLent lends block notes (Err r) = Refuses 12 (with_block (lending lends) block notes (read_block block)) r
 AdmitsLent lends block notes (Ok n) =
     Of block notes n × (with_block (lending lends) block notes (read_block block) ≡ found (digest (meant block n.options) notes)) × (work_for (meant block n.options) notes ≤ lends)
+
+-- ---- the slices that are passed on are themselves those that were given, and no others of the same bytes
+
+abbrev pub Given : Bor (List ℕ) → Bor (List ℕ) → Result Notes Refusal → Type 0
+Given block notes (Err r) = Unit {0}
+Given block notes (Ok n) = (n.block ≡ block) × (n.bytes ≡ notes)

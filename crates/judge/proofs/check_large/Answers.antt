@@ -8,8 +8,8 @@ use Rattle.judge.proofs.check_large.Goals as goal
 
 pub returns-in_err-admitted : goal.returns-in_err-admitted
 returns-in_err-admitted c =
-    let l = lending (length c.args.work.now) in search (rules, refused_answer l _ _ c.args.digest.now (c.in_err-admitted.ensures l.words))
+    let l = lending (length c.args.work.now) in search (rules, refused_answer l _ _ c.args.digest.now (c.in_err-admitted.ensures.admits l.words))
 
 pub returns : goal.returns
 returns c =
-    let l = lending (length c.args.work.now) in c.check_lent.ensures ∙ sym (checking_left l _ _ _ c.in_ok-admitted.admitted (c.in_ok-admitted.ensures l.words))
+    let l = lending (length c.args.work.now) in c.check_lent.ensures ∙ sym (checking_left l _ _ _ c.in_ok-admitted.admitted (c.in_ok-admitted.ensures.admits l.words))
