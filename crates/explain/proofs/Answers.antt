@@ -55,7 +55,7 @@ module _ (most : ℕ) (o : Opts) (notes : List ℕ) (line : ℕ) where
   all_long : long_behind most o notes (begin line) ≡ long_paragraph most o 0 (pieces o notes)
   all_long = ap (long_paragraph most o 0) (all_pieces o notes)
 
-  stopped_of : {stopped : Stopped} → SoughtIs most o notes (begin line) (Err stopped) → long_paragraph most o 0 (pieces o notes) ≡ Some stopped.at
+  pub stopped_of : {stopped : Stopped} → SoughtIs most o notes (begin line) (Err stopped) → long_paragraph most o 0 (pieces o notes) ≡ Some stopped.at
   stopped_of s = sym all_long ∙ s
 
   -- with a limit on words
@@ -63,7 +63,7 @@ module _ (most : ℕ) (o : Opts) (notes : List ℕ) (line : ℕ) where
   stopped_told bytes s = rw (stopped_of s)
 
   module _ (a : Asked) (s : SoughtIs most o notes (begin line) (Ok a)) where
-    all_of : (long_paragraph most o 0 (pieces o notes) ≡ None) × (a ≡ passed (line_endings o notes) (Behind line))
+    pub all_of : (long_paragraph most o 0 (pieces o notes) ≡ None) × (a ≡ passed (line_endings o notes) (Behind line))
     all_of = (sym all_long ∙ s.0, s.1 ∙ ap (λ (es : List Ending). passed es (Behind line)) (all_endings o notes))
 
     pub all_ahead : lines_ahead a ≤ line

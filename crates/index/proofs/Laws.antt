@@ -10,6 +10,7 @@ use lib.ListN.{length, take}
 use borrow.Author.Tests.{ltb-true, ltb-false, lt-ltb, le-ltb, le-leb, lt-leb}
 use Rattle.index.specs.declared.Record.{Record}
 use Rattle.index.specs.Lookup.{holds, part_in, part_under, lookup}
+use Rattle.index.specs.Cited.Lists.{no_record}
 use Rattle.std.specs.List.{find}
 use Rattle.std.specs.Option.{option_and_then}
 
@@ -28,6 +29,10 @@ module _ (r : Record) (line : ℕ) where
       go : (b : Bool) → ltb (line - r.first) r.count ≡ b → ltb line (r.first + r.count) ≡ b
       go true e = lt-ltb line (r.first + r.count) (omega (arith, h, ltb-true (line - r.first) r.count e))
       go false e = le-ltb line (r.first + r.count) (omega (arith, h, ltb-false (line - r.first) r.count e))
+
+pub none_holds : (line : ℕ) → holds line no_record ≡ false
+unfolding holds
+none_holds line = rw (le-leb 0 line (omega arith), le-ltb line 0 (omega arith))
 
 module _ (r : Record) (size : ℕ) where
   pub part_past : size < r.place → None ≡ part_in size r

@@ -46,7 +46,7 @@ use Rattle.indexer.specs.declared.Unfilled.TheVariants.{Refused, Full, Room}
 -- ---- from what the pieces came to
 
 module _ (most : ℕ) (o : Opts) (notes out : List ℕ) where
-  words_answer : (records place size : ℕ) (out'' work' : List ℕ) → long_paragraph most o 0 (pieces o notes) ≡ Some place → size ≡ length out → out'' ≡ replicate size 0
+  pub words_answer : (records place size : ℕ) (out'' work' : List ℕ) → long_paragraph most o 0 (pieces o notes) ≡ Some place → size ≡ length out → out'' ≡ replicate size 0
       → Indexes (found_of most o notes (length out) records) out (Err (Refused (Words place))) out'' work'
   unfolding index_output_after read_from
   words_answer records place size out'' work' e l z = record { is = rw e; output = rw e (z ∙ ap (λ (k : ℕ). replicate k 0) l); read = rw e }
@@ -65,14 +65,14 @@ module _ (most : ℕ) (o : Opts) (notes out : List ℕ) where
       left_is : found_of most o notes (length out) records ≡ with_index numbering (length out) records (index_of o notes) (digest o notes)
       left_is = rw noted.0
 
-      full_answer : (out'' : List ℕ) → records < k → out'' ≡ replicate (length out') 0 → Indexes (found_of most o notes (length out) records) out (Err (Full k)) out'' work'
+      pub full_answer : (out'' : List ℕ) → records < k → out'' ≡ replicate (length out') 0 → Indexes (found_of most o notes (length out) records) out (Err (Full k)) out'' work'
       unfolding index_output_after read_from
       full_answer out'' h z =
           let a : found_of most o notes (length out) records ≡ full (length (index_of o notes)) = left_is ∙ rw (lt-leb (length (index_of o notes)) records (omega (arith, h, count_is))) in
           record { is = rw (a, count_is); output = rw a (z ∙ ap (λ (m : ℕ). replicate m 0) same_out); read = rw a }
 
       -- the digest's length is more than N can tell
-      untold_answer : (out'' : List ℕ) → k ≤ records → most_told < n → out'' ≡ replicate (length out') 0 → Indexes (found_of most o notes (length out) records) out (Err (Room most_told)) out'' work'
+      pub untold_answer : (out'' : List ℕ) → k ≤ records → most_told < n → out'' ≡ replicate (length out') 0 → Indexes (found_of most o notes (length out) records) out (Err (Room most_told)) out'' work'
       unfolding index_output_after read_from
       untold_answer out'' h g z =
           let a : found_of most o notes (length out) records ≡ room most_told =
@@ -83,13 +83,13 @@ module _ (most : ℕ) (o : Opts) (notes out : List ℕ) where
         told_is : found_of most o notes (length out) records ≡ cond (leb (length (digest o notes)) (length out)) (done (digest o notes) (index_of o notes)) (room (length (digest o notes)))
         told_is = left_is ∙ rw (le-leb (length (index_of o notes)) records (omega (arith, few, count_is)), le-leb (length (digest o notes)) most_told (omega (arith, short, length_is)))
 
-        room_answer : (out'' : List ℕ) → length out < n → out'' ≡ replicate (length out') 0 → Indexes (found_of most o notes (length out) records) out (Err (Room n)) out'' work'
+        pub room_answer : (out'' : List ℕ) → length out < n → out'' ≡ replicate (length out') 0 → Indexes (found_of most o notes (length out) records) out (Err (Room n)) out'' work'
         unfolding index_output_after read_from
         room_answer out'' g z =
             let a : found_of most o notes (length out) records ≡ room (length (digest o notes)) = told_is ∙ rw (lt-leb (length (digest o notes)) (length out) (omega (arith, g, length_is))) in
             record { is = rw (a, length_is); output = rw a (z ∙ ap (λ (m : ℕ). replicate m 0) same_out); read = rw a }
 
-        done_answer : n ≤ length out → Indexes (found_of most o notes (length out) records) out (Ok (record { written = n; records = k })) out' work'
+        pub done_answer : n ≤ length out → Indexes (found_of most o notes (length out) records) out (Ok (record { written = n; records = k })) out' work'
         unfolding index_output_after
         done_answer g =
             let a : found_of most o notes (length out) records ≡ done (digest o notes) (index_of o notes) = told_is ∙ rw (le-leb (length (digest o notes)) (length out) (omega (arith, g, length_is))) in

@@ -48,15 +48,15 @@ module _ (line : List ℕ) (depth : ℕ) (e : depth ≡ quote_depth line) where
   unfolding quote_depth
   behind_depth = rw e (sym (drop_while is_mark line))
 
-  content_none : depth ≡ length line → content_of line ≡ drop depth line
+  pub content_none : depth ≡ length line → content_of line ≡ drop depth line
   unfolding content_of unstuffed
   content_none h = rw (behind_depth, drop_none 0 line depth (omega arith))
 
-  content_stuffed : depth < length line → get_or line depth 0 ≡ 32 → content_of line ≡ drop (depth + 1) line
+  pub content_stuffed : depth < length line → get_or line depth 0 ≡ 32 → content_of line ≡ drop (depth + 1) line
   unfolding content_of unstuffed
   content_stuffed h k = rw (behind_depth, drop_here 0 line depth h, k)
 
-  content_bare : depth < length line → (get_or line depth 0 ≡ 32 → ⊥) → content_of line ≡ drop depth line
+  pub content_bare : depth < length line → (get_or line depth 0 ≡ 32 → ⊥) → content_of line ≡ drop depth line
   unfolding content_of unstuffed
   content_bare h k = rw (behind_depth, drop_here 0 line depth h, ne_eqb (get_or line depth 0) 32 k)
 
