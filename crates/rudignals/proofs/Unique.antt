@@ -2,6 +2,8 @@
 -- The public functions of all crates, and the law that each stands on:
 --
 --   lists         number, number_of                                                         an equation
+--   lists         `Refusing`: number, of the errors of explain, fold, formatter (two),
+--                 indexer, judge, salvage (two) and unflow                                  an equation
 --   widths        width, ink_width, is_white_space, leaf, mid, top, row                     an equation
 --   text          decode_at, long_at, glyph_at, is_no_break, is_letter, first_damage        an equation: `equal_unique`
 --   text          glued_end                                                                 an equation, with a bound: `bounded_unique`
