@@ -4,7 +4,7 @@
 // lists of wrong rows are the same but for one fault each: of them none may be answered so.
 #![tactic(auto)]
 
-ghost use Rattle.std.specs.Prelude.{◌+◌, ◌<◌, ◌≤◌, length, IfOk};
+ghost use Rattle.std.specs.Prelude.{◌≡◌, ◌+◌, ◌*◌, ◌/◌, ◌<◌, ◌≤◌, min, length, IfOk};
 
 use std::io::Read;
 use std::rt::Files;
@@ -42,7 +42,9 @@ fn byte_of(pair: &[u8; 2]) -> u8 {
 }
 
 // The bytes that hex spells, as many as out has room for.
-fn decode<'a>(hex: &[u8], out: &'a mut [u8]) -> &'a [u8] {
+fn decode<'a>(hex: &[u8], out: &'a mut [u8]) -> &'a [u8]
+    ensures { length result.now ≡ min (length hex.now / 2) (length out.old) }
+{
     let pairs = hex.as_chunks().0;
     let size = pairs.len().min(out.len());
     for (byte, pair) in out.iter_mut().zip(pairs) {
@@ -72,7 +74,9 @@ fn read_number(field: &[u8]) -> u64 {
 }
 
 // Whether a field spells the bytes of the output.
-fn spells(field: &[u8], output: &[u8]) -> bool {
+fn spells(field: &[u8], output: &[u8]) -> bool
+    requires { 2 * length output.now ≤ length field.now }
+{
     output
         .iter()
         .zip(field.as_chunks().0)
