@@ -25,10 +25,10 @@ pub record Taken (t : ℕ) (block : List ℕ) (at previous : ℕ) (part : Option
   pub whole : found part (part_of t (rest block at previous)) ≡ part_of t (fields block)
   pub ahead : previous < t → part ≡ None
 
-taken_first : (t : ℕ) (block : List ℕ) (part : Option Part) → part ≡ None → Taken t block 0 0 part
+pub taken_first : (t : ℕ) (block : List ℕ) (part : Option Part) → part ≡ None → Taken t block 0 0 part
 taken_first t block part e = record { whole = ap₂ (λ (p : Option Part) (fs : List Field). found p (part_of t fs)) e (rest_all block); ahead = λ h. e }
 
-taken_last : (t : ℕ) (block : List ℕ) (at previous : ℕ) (part : Option Part) → length block ≤ at → Taken t block at previous part → part ≡ part_of t (fields block)
+pub taken_last : (t : ℕ) (block : List ℕ) (at previous : ℕ) (part : Option Part) → length block ≤ at → Taken t block at previous part → part ≡ part_of t (fields block)
 taken_last t block at previous None h k = sym (part_none block at previous t h) ∙ k.whole
 taken_last t block at previous (Some part) h k = k.whole
 
@@ -45,7 +45,7 @@ module _ {t : ℕ} {block : List ℕ} {at previous : ℕ} {part : Option Part} (
     ahead = λ h. k.ahead (let u = ascends block at previous more tag end tags ends well in omega arith);
   }
 
-  taken_then : Taken t block end tag (cond (eqb tag t) (between (at + 3) end) part)
+  pub taken_then : Taken t block end tag (cond (eqb tag t) (between (at + 3) end) part)
   taken_then = pick (eqb tag t) refl
     where
       pick : (b : Bool) → eqb tag t ≡ b → Taken t block end tag (cond b (between (at + 3) end) part)

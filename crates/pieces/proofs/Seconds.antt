@@ -43,10 +43,10 @@ module _ (o : Opts) (a : Shape) (notes : List ℕ) (at : ℕ) where
       shaped : second_place place (cond (second_rule o.tagged a s) (joins (first_line (drop at notes)).text s) alone) ≡ second_at o a notes at
       shaped = ap (λ (k : Class). second_place place (second_as o a (first_line (drop at notes)).text k)) (sym shape) ∙ second_is
 
-      second_not : second_rule o.tagged a s ≡ false → None ≡ second_at o a notes at
+      pub second_not : second_rule o.tagged a s ≡ false → None ≡ second_at o a notes at
       second_not h = ap (λ (t : Bool). second_place place (cond t (joins (first_line (drop at notes)).text s) alone)) (sym h) ∙ shaped
 
-      second_joins : second_rule o.tagged a s ≡ true → joining line.next s ≡ second_at o a notes at
+      pub second_joins : second_rule o.tagged a s ≡ true → joining line.next s ≡ second_at o a notes at
       unfolding place
       second_joins h = ap (λ (n : ℕ). joining n s) here.next ∙ ap (λ (t : Bool). second_place place (cond t (joins (first_line (drop at notes)).text s) alone)) (sym h) ∙ shaped
 

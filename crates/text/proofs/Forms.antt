@@ -77,7 +77,7 @@ missed xs never = pick (decode xs) refl
     pick (front k n) e = let s = (sound xs k n e).stands in absurd (never k (scalar_plain k s.is_scalar) (octets_of k xs (drop n xs) s))
 
 module _ (at : ℕ) (xs : List ℕ) (a : ℕ) (at0 : a ≡ get_or xs 0 0) where
-  stray : 0x80 ≤ a → a < 0xC2 → None ≡ read_as at (decode xs)
+  pub stray : 0x80 ≤ a → a < 0xC2 → None ≡ read_as at (decode xs)
   stray lo hi = rw (missed xs pick)
     where
       pick : (k : ℕ) → Scalar k → Octets k xs → ⊥

@@ -185,7 +185,7 @@ joined_whole xs j = whole (suc (length xs)) 0 0 0 xs (omega arith) (omega arith)
 
 -- ---- as the code looks at a text, from the front
 
-joined_begin : (s : List ℕ) → 3 ≤ length s
+pub joined_begin : (s : List ℕ) → 3 ≤ length s
     → (joins 0 0 0 (get_or s 0 0) && joins 0 0 (get_or s 0 0) (get_or s 1 0) && joins 0 (get_or s 0 0) (get_or s 1 0) (get_or s 2 0)) ≡ true → JoinedFrom s 3 → Joined 0 0 0 s
 joined_begin [] h e j = absurd (omega arith)
 joined_begin (a ∷ []) h e j = absurd (omega arith)
@@ -195,7 +195,7 @@ joined_begin (a ∷ b ∷ c ∷ xs) h e j =
     let v = (and-eq-true_iff (joins 0 0 0 a) (joins 0 0 a b)).0 u.0 in
     (v.0, (v.1, (u.1, j)))
 
-joined_more : (s : List ℕ) (i : ℕ) → 3 ≤ i → i < length s → joins_at s i ≡ true → JoinedFrom s (i + 1) → JoinedFrom s i
+pub joined_more : (s : List ℕ) (i : ℕ) → 3 ≤ i → i < length s → joins_at s i ≡ true → JoinedFrom s (i + 1) → JoinedFrom s i
 joined_more s i h k e j =
     let x : i + 1 - 3 ≡ i - 2 = omega arith in
     let y : i + 1 - 2 ≡ i - 1 = omega arith in
@@ -203,7 +203,7 @@ joined_more s i h k e j =
     rw (drop_here 0 s i k) (e, rw (x, y, z) at j)
 
 -- where each octet from a place on joins, and none is missing at the end
-joined_each : (s : List ℕ) (n i : ℕ) → i + n ≡ length s → 3 ≤ i → EachJoins s i (length s) → JoinedFrom s (length s) → JoinedFrom s i
+pub joined_each : (s : List ℕ) (n i : ℕ) → i + n ≡ length s → 3 ≤ i → EachJoins s i (length s) → JoinedFrom s (length s) → JoinedFrom s i
 joined_each s zero i e h all j = let q : length s ≡ i = omega arith in rw q at j
 joined_each s (suc n) i e h all j =
     joined_more s i h (omega arith) (all.each i (omega arith) (omega arith))
