@@ -84,11 +84,11 @@ module _ (s : List ℕ) (p e : ℕ) (punct : Bool) (g : Setting) (indent : List 
   join_off room at is reaches none out' k' wrote o more same = left_then (rw (next_off s o g indent same more p e inked even column punct room at is reaches none) (left_first _ _ _)) wrote
 
 -- the searches found where it is cut
-pub join_found : (s : List ℕ) (p e room at q : ℕ) → Inked s p e → Reaches s p e room at → LastSpace s p at q → (end next : ℕ) → p < q → BeforeSpaces s p q end → OverSpaces s (q + 1) e next → CutAt s p e at (record { end = end; next = next })
-join_found s p e room at q inked reaches last end next l before over = pick (ltb next e) refl
+pub join_found : (s : List ℕ) (p e at q : ℕ) → Inked s p e → p ≤ at → at < e → LastSpace s p at q → (end next : ℕ) → p < q → BeforeSpaces s p q end → OverSpaces s (q + 1) e next → CutAt s p e at (record { end = end; next = next })
+join_found s p e at q inked from short last end next l before over = pick (ltb next e) refl
   where
     is_cut : CutIs s p e at (record { end = end; next = next })
-    is_cut = cut_found s p e at inked reaches.on reaches.most q end next last l before over
+    is_cut = cut_found s p e at inked from short q end next last l before over
 
     pick : (t : Bool) → ltb next e ≡ t → CutAt s p e at (record { end = end; next = next })
     pick true h = is_cut.cut (ltb-true next e h)

@@ -29,20 +29,20 @@ place_of-at-requires c =
 
 pub overflow_sub-left : goal.overflow_sub-left
 overflow_sub-left c =
-    let found = join_found _ _ _ _ _ _ c.requires.0 c.place_of-at.ensures c.last_space-q.ensures _ _ c.if-p-q.true c.before_spaces-end.ensures c.over_spaces-next.ensures in
+    let found = join_found _ _ _ _ _ c.requires.0 c.place_of-at.ensures.on c.place_of-at.ensures.most c.last_space-q.ensures _ _ c.if-p-q.true c.before_spaces-end.ensures c.over_spaces-next.ensures in
     let rest = cut_columns found c.requires.1 c.columns_before.ensures in
     omega (arith, rest)
 
 pub fill-requires : goal.fill-requires
 fill-requires c =
-    let found = join_found _ _ _ _ _ _ c.requires.0 c.place_of-at.ensures c.last_space-q.ensures _ _ c.if-p-q.true c.before_spaces-end.ensures c.over_spaces-next.ensures in
+    let found = join_found _ _ _ _ _ c.requires.0 c.place_of-at.ensures.on c.place_of-at.ensures.most c.last_space-q.ensures _ _ c.if-p-q.true c.before_spaces-end.ensures c.over_spaces-next.ensures in
     let rest = cut_columns found c.requires.1 c.columns_before.ensures in
     let pre = c.requires in
     (found.rest, omega (arith, rest), λ u. rest_even c.args.s.now c.args.p c.over_spaces-next.result c.args.e (omega (arith, found.on, found.gap)) found.rest.on found.rest.within found.rest.first (pre.2 u), pre.3, pre.4, omega (arith, c.put_line-j.ensures.1, c.spaces_at-i.ensures.1, pre.5), omega (arith, pre.7), omega (arith, pre.7))
 
 pub returns-then-p-q : goal.returns-then-p-q
 returns-then-p-q c =
-    let found = join_found _ _ _ _ _ _ c.requires.0 c.place_of-at.ensures c.last_space-q.ensures _ _ c.if-p-q.true c.before_spaces-end.ensures c.over_spaces-next.ensures in
+    let found = join_found _ _ _ _ _ c.requires.0 c.place_of-at.ensures.on c.place_of-at.ensures.most c.last_space-q.ensures _ _ c.if-p-q.true c.before_spaces-end.ensures c.over_spaces-next.ensures in
     let pre = c.requires in
     let extra = c.added_of-extra.ensures.0 in
     let put = c.put_line-j.ensures in
