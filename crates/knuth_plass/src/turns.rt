@@ -124,6 +124,8 @@ fn floor(stretch: usize, weight: u16) -> u64
 
 // What break n, with the word on its line of t columns, no less than the least that may end, makes of the best offer so far.
 // In the original: `find_kp_breakpoints`.
+// Part of both loops over the active breaks: a call for each offer takes half as long again.
+#[inline(always)]
 pub fn offered(r: &Round, n: usize, b: Break, t: usize, best: Best) -> Best
     requires { R.Offers r.now.goals.setting r.now.turn b t × (minimum_of r.now.goals.setting ≤ t) }
     ensures { R.OfferedIs r.now.goals.setting r.now.turn n b t best result }

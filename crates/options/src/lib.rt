@@ -62,29 +62,20 @@ struct Parts {
 }
 
 impl Parts {
-    // These, and a field's part under its tag.
+    // A field's part, kept under its tag. The parts are changed in place: made anew for each field they would be copied, 144 bytes.
     #[tactic(auto, unfolding(crate::specs::Cited::Places::parts_with))]
-    fn with(self, tag: usize, part: Part) -> Parts
-        ensures { result ≡ parts_with tag part self }
+    fn put(&mut self, tag: usize, part: Part)
+        ensures { self.new ≡ parts_with tag part self.old }
     {
         let part = Some(part);
         match tag {
-            FLAGS => Parts {
-                flags: part,
-                ..self
-            },
-            WIDTH => Parts {
-                width: part,
-                ..self
-            },
-            GOAL => Parts { goal: part, ..self },
-            TAB => Parts { tab: part, ..self },
-            PREFIX => Parts {
-                prefix: part,
-                ..self
-            },
-            SKIP => Parts { skip: part, ..self },
-            _ => self,
+            FLAGS => self.flags = part,
+            WIDTH => self.width = part,
+            GOAL => self.goal = part,
+            TAB => self.tab = part,
+            PREFIX => self.prefix = part,
+            SKIP => self.skip = part,
+            _ => {}
         }
     }
 }
@@ -132,7 +123,7 @@ pub fn read_block(block: &[u8]) -> Result<Options, Fault>
         }
         let tag = byte_at(block, at);
         let end = field_end(block, at);
-        parts = parts.with(tag, Part { start: at + 3, end });
+        parts.put(tag, Part { start: at + 3, end });
         previous = tag;
         at = end;
     }

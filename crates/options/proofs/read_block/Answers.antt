@@ -11,4 +11,4 @@ loop-at-init c = search (rules, reading_first)
 pub loop-at-preserved : goal.loop-at-preserved
 loop-at-preserved c =
     let w = sym c.well_formed-in-loop-at.ensures ∙ c.if-not-well_formed.false in
-    reading_more _ _ _ _ c.loop-at.invariant _ _ c.loop-at-test.true c.byte_at-tag.ensures.value c.field_end-end.ensures w _ c.with-parts.ensures
+    reading_more _ _ _ _ c.loop-at.invariant _ _ c.loop-at-test.true c.byte_at-tag.ensures.value c.field_end-end.ensures w _ c.put.ensures
