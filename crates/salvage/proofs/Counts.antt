@@ -1,17 +1,16 @@
 -- The bytes from 80 on: their two octets, their changes, and how many they are; of a line, of lines, of notes from a place on.
-use Rattle.std.specs.Prelude.{count_by}
-use Rattle.std.proofs.lemmas.List.Recursion.{is_count_by}
 use mathlib.Core.Path.{◌≡◌, refl, ap, ◌∙◌}
 use mathlib.Core.Bool.{Bool, true, false}
-use mathlib.Core.List.{List, [], ◌∷◌, ◌++◌}
+use mathlib.Core.List.{List, [], ◌∷◌, ◌++◌, append-nil}
 use Prim.Native.Nat.{ℕ, suc, ◌+◌, ◌-◌, ◌/◌, ◌%◌, ◌≤◌, ◌<◌}
 use native.Mathlib.Nat.{zero-add}
 use native.Mathlib.Omega.{arith}
-use lib.Dec.{ltb, leb}
+use lib.Dec.{ltb}
 use lib.ListN.{length, get_or, take, drop, length-append, length-take, length-drop, drop_of_length-le}
-use borrow.Author.Tests.{lt-ltb, le-ltb, ltb-true, ltb-false, le-leb, lt-leb}
+use borrow.Author.Tests.{lt-ltb, le-ltb, ltb-true, ltb-false}
 use Rattle.lists.specs.Runs.{joined}
 use Rattle.lists.proofs.Parts.{joined_nil, joined_cons}
+use Rattle.lists.proofs.Views.{drop_here}
 use Rattle.text.specs.Rfc3629.{encode}
 use Rattle.salvage.specs.Lines.{is_utf8, whole_lines}
 use Rattle.salvage.specs.Mending.{mended_line, mended, high_bytes, line_changes, changes_from, changes}
@@ -65,28 +64,45 @@ high_anywhere at at' (b ∷ bs) =
     (λ h. rw (high_low at b bs h, high_low at' b bs h) e)
     (λ h. rw (high_high at b bs h, high_high at' b bs h) (ap suc e))
 
--- each makes the line one byte longer
-high_longer : (line : List ℕ) → ((i : ℕ) → get_or line i 0 < 256) → length (joined encode line) ≡ length line + length (high_bytes 0 line)
-high_longer [] small = rw (joined_nil encode, high_nil 0)
-high_longer (b ∷ bs) small =
-    let r = high_longer bs (λ i. small (suc i)) in
-    let e = high_anywhere 1 0 bs in
-    low_or_high b
-    (λ h. rw (joined_cons encode b bs, encode_low b h, high_low 0 b bs h) (omega arith))
-    (λ h. rw (joined_cons encode b bs, encode_high b h (small 0), high_high 0 b bs h) (omega arith))
+pub one_low : (b : ℕ) → b < 0x80 → HighCounted (b ∷ []) 0
+one_low b h = record { count = rw (high_low 0 b [] h, high_nil 1); mended = rw (joined_cons, joined_nil, encode_low b h) }
 
-high_count : (line : List ℕ) → length (high_bytes 0 line) ≡ count_by (leb 0x80) line
-high_count =
-    is_count_by (λ line. length (high_bytes 0 line)) (leb 0x80)
-    (rw (high_nil 0))
-    (λ b bs.
-    let e = high_anywhere 1 0 bs in
-    low_or_high b
-    (λ h. rw (high_low 0 b bs h, lt-leb 0x80 b h) (omega arith))
-    (λ h. rw (high_high 0 b bs h, le-leb 0x80 b h) (omega arith)))
+pub one_high : (b : ℕ) → 0x80 ≤ b → b < 256 → HighCounted (b ∷ []) 1
+one_high b h k = record { count = rw (high_high 0 b [] h, high_nil 1); mended = rw (joined_cons, joined_nil, encode_high b h k) }
 
-pub high_counted : (line : List ℕ) (n : ℕ) → ((i : ℕ) → get_or line i 0 < 256) → n ≡ count_by (leb 0x80) line → HighCounted line n
-high_counted line n small e = let c = high_count line in record { count = omega arith; mended = omega (arith, high_longer line small) }
+pub counted_cons : (b : ℕ) (bs : List ℕ) (m n : ℕ) → HighCounted (b ∷ []) m → HighCounted bs n → HighCounted (b ∷ bs) (m + n)
+counted_cons b bs m n p q =
+    let l = length-append (high_bytes 0 (b ∷ [])) (high_bytes 1 bs) in
+    let j = length-append (encode b) (joined encode bs) in
+    let e : length (encode b) ≡ 1 + m = rw (joined_cons encode b [], joined_nil encode, append-nil (encode b)) at p.mended in
+    record {
+      count = rw (high_cons 0 b bs) (omega (arith, high_anywhere 1 0 bs, p.count, q.count));
+      mended = rw (joined_cons) (omega (arith, q.mended));
+    }
+
+pub counted_nil : HighCounted [] 0
+counted_nil = record { count = rw (high_nil 0); mended = rw joined_nil }
+
+-- n are counted up to place i of a line: what the line has is n and what is left
+pub record CountLeft (line : List ℕ) (n i : ℕ) : Type 0 where
+  pub within : i ≤ length line
+  pub few : n ≤ i
+  pub count : (m : ℕ) → HighCounted (drop i line) m → HighCounted line (n + m)
+
+pub count_more : (line : List ℕ) (n i r : ℕ) → i < length line → CountLeft line n i → HighCounted (get_or line i 0 ∷ []) r → CountLeft line (n + r) (i + 1)
+count_more line n i r h p q =
+    let f : r ≤ 1 = low_or_high (get_or line i 0) (λ l. omega (arith, q.count, ap length (high_low 0 (get_or line i 0) [] l), ap length (high_nil 1))) (λ l. omega (arith, q.count, ap length (high_high 0 (get_or line i 0) [] l), ap length (high_nil 1))) in
+    record {
+      within = omega arith;
+      few = omega (arith, p.few);
+      count = λ m k. let e : n + (r + m) ≡ n + r + m = omega arith in rw e at (p.count (r + m) (rw (drop_here 0 line i h) (counted_cons (get_or line i 0) (drop (i + 1) line) r m q k)));
+    }
+
+pub count_last : (line : List ℕ) (n i : ℕ) → length line ≤ i → CountLeft line n i → HighCounted line n
+count_last line n i h p = let e : n + 0 ≡ n = omega arith in rw e at (p.count 0 (rw (drop_none_nil h) counted_nil))
+  where
+    drop_none_nil : length line ≤ i → drop i line ≡ []
+    drop_none_nil k = drop_of_length-le line {i = i} k
 
 -- ---- of a line, mended or left
 

@@ -192,9 +192,15 @@ fn is_ink(s: &[u8], at: usize) -> bool
 pub fn is_letter(s: &[u8], at: usize) -> bool
     ensures { result ≡ letter_at s.now at }
 {
-    // CC and CD begin accents, which take none. Byte by byte: a slice of both costs a letter a third more.
-    matches!(s.get(at), Some(0xC3..=0xCB | 0xCE..=0xD1))
-        && matches!(s.get(at + 1), Some(0x80..=0xBF))
+    // CC and CD begin accents, which take none. Byte by byte and by one sum: a slice of both bytes, or a range for each side of the
+    // accents, costs a letter a fifth to a third more.
+    match s.get(at) {
+        Some(a) => {
+            (0xC3 <= *a) & (*a <= 0xD1) & (*a / 2 != 0x66)
+                && matches!(s.get(at + 1), Some(0x80..=0xBF))
+        }
+        None => false,
+    }
 }
 
 // The first place at which no character begins. Most texts are seen at once to have none.
