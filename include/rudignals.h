@@ -11,7 +11,7 @@
  * - A pointer must point to as many elements as the call is given. What a call writes must not overlap any other slice of the same call.
  *   This holds for every slice of every call. Slices that are only read may overlap each other.
  * - A call keeps no state, takes no memory from a heap and calls nothing back. Any number of threads may call at the same time.
- * - A call works on the stack. At most 80,471 bytes were measured for a call on x86-64, and docs/FIGURES.md has each call. Give a thread
+ * - A call works on the stack. At most 80,407 bytes were measured for a call on x86-64, and docs/FIGURES.md has each call. Give a thread
  *   256 KiB: the tests fail above that.
  * - Offsets are counted in bytes from 0, lines and records from 0. Columns count by Unicode 15.0.0.
  */
