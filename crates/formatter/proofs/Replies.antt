@@ -148,6 +148,12 @@ module _ (lends : ℕ) (block notes : List ℕ) where
       let k : work_for o notes ≤ lends = omega (arith, m) in
       (f.0, f.1 ∙ rw (within, with_work, le-ltb lends (work_for o notes) k), k)
 
+  -- codes 1 to 3 are due as without it
+  pub within_refused : (r : Refusal) → AdmitsWithin most_lent block notes (Err r) → AdmitsLent lends block notes (Err r)
+  within_refused r admits =
+      let f = admits (lending lends).words in
+      record { whole_is = f.whole_is; untouched = f.untouched; early = omega (arith, f.early) }
+
   module _ (a : Result Notes Refusal) (admits : AdmitsLent lends block notes a) where
     pub lent_passed : {n : Notes} → a ≡ Ok n → AdmitsLent lends block notes (Ok n)
     lent_passed e = rw e at admits

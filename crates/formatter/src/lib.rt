@@ -207,6 +207,7 @@ pub fn write_lent(
 }
 
 // Codes 1 to 3 and 12, or the notes with the options with which they are to be formatted, in so many numbers. All of it before a byte is written.
+#[tactic(auto, using(crate::proofs::Replies::within_refused))]
 pub fn admit_lent<'a>(block: &'a [u8], notes: &'a [u8], lends: usize) -> Result<Notes<'a>, Refusal>
     ensures admits { AdmitsLent lends block.now notes.now result }
     ensures given { Given block.entry notes.entry result }
