@@ -350,13 +350,9 @@ class Rest(unittest.TestCase):
     def test_time(self):
         """64 KiB through Python take at most twice what a C program takes for them."""
         notes = (("The valve at the north gate was opened late, and closed by hand. " * 12 + "\n\n").encode() * 90)[:65536]
-        # A machine may change its speed between the two, by as much as is asked here: then both are timed again.
-        for _ in range(5):
-            best = min(self.seconds(notes) for _ in range(40))
-            by_c = float(subprocess.run([os.environ["RUDIGNALS_TIME"]], input=notes, stdout=subprocess.PIPE, check=True).stdout)
-            print(f"python: 64 KiB formatted in {best * 1e6:.0f} us; in C {by_c * 1e6:.0f} us")
-            if best < 2 * by_c:
-                break
+        best = min(self.seconds(notes) for _ in range(40))
+        by_c = float(subprocess.run([os.environ["RUDIGNALS_TIME"]], input=notes, stdout=subprocess.PIPE, check=True).stdout)
+        print(f"python: 64 KiB formatted in {best * 1e6:.0f} us; in C {by_c * 1e6:.0f} us")
         self.assertLess(best, 2 * by_c)
 
     @staticmethod
